@@ -1,0 +1,94 @@
+-- Worked examples of the machine, as facts.
+use Rattle.std.specs.Prelude.{◌≡◌, ℕ, List, [], ◌∷◌, pos, None, Some, codes}
+use Rattle.cell_model.specs.declared.cell.Cell.{Cell}
+use Rattle.cell_model.specs.declared.cell.Cell.TheVariants.{Num, Text}
+use Rattle.isolation_spec.specs.Machine.{opening, answers_from}
+use Rattle.isolation_spec.specs.declared.command.Command.{Command}
+use Rattle.isolation_spec.specs.declared.command.Act.{Act}
+use Rattle.isolation_spec.specs.declared.command.Act.TheVariants as act
+use Rattle.isolation_spec.specs.declared.command.Answer.{Answer}
+use Rattle.isolation_spec.specs.declared.command.Answer.TheVariants as answer
+
+-- a session asks
+abbrev pub asks : ℕ → Act → Command
+asks session act = record { session = session; act = act }
+
+-- the row of a key and a text
+abbrev pub row_of : ℕ → List ℕ → List Cell
+row_of key text = Num (pos key) ∷ Text text ∷ []
+
+abbrev pub insert : ℕ → ℕ → List ℕ → Command
+insert session key text = asks session (act.Insert 0 (row_of key text))
+
+abbrev pub update : ℕ → ℕ → List ℕ → Command
+update session key text = asks session (act.Update 0 (row_of key text))
+
+abbrev pub delete : ℕ → ℕ → Command
+delete session key = asks session (act.Delete 0 (pos key))
+
+abbrev pub scan : ℕ → Command
+scan session = asks session (act.Scan 0)
+
+abbrev pub get : ℕ → ℕ → Command
+get session key = asks session (act.Get 0 (pos key))
+
+abbrev pub begin : ℕ → Command
+begin session = asks session act.Begin
+
+abbrev pub commit : ℕ → Command
+commit session = asks session act.Commit
+
+abbrev pub abort : ℕ → Command
+abort session = asks session act.Abort
+
+-- the commands are answered so by a machine where nothing has happened
+abbrev pub Answers : List Command → List Answer → Type 0
+Answers commands answers = answers_from opening commands ≡ answers
+
+abbrev pub older_snapshot : Type 0
+older_snapshot = Answers
+    (begin 1 ∷ begin 2 ∷ insert 2 5 (codes "x") ∷ commit 2 ∷ get 1 5 ∷ [])
+    (answer.At 0 ∷ answer.At 0 ∷ answer.Accepted ∷ answer.Committed (Some 1) ∷ answer.Found None ∷ [])
+
+abbrev pub open_rival : Type 0
+open_rival = Answers
+    (begin 1 ∷ insert 1 7 (codes "x") ∷ begin 2 ∷ insert 2 7 (codes "y") ∷ abort 1 ∷ insert 2 7 (codes "y") ∷ [])
+    (answer.At 0 ∷ answer.Accepted ∷ answer.At 0 ∷ answer.ConflictSession 1 ∷ answer.Aborted ∷ answer.Accepted ∷ [])
+
+-- although the key is missing at the snapshot
+abbrev pub later_commit : Type 0
+later_commit = Answers
+    (begin 1 ∷ begin 2 ∷ insert 2 5 (codes "x") ∷ commit 2 ∷ update 1 5 (codes "z") ∷ [])
+    (answer.At 0 ∷ answer.At 0 ∷ answer.Accepted ∷ answer.Committed (Some 1) ∷ answer.ConflictCommit 1 ∷ [])
+
+abbrev pub last_commit : Type 0
+last_commit = Answers
+    (begin 1 ∷ begin 2 ∷ insert 2 5 (codes "x") ∷ commit 2 ∷ begin 2 ∷ delete 2 5 ∷ commit 2 ∷ begin 2 ∷ insert 2 6 (codes "x") ∷ commit 2 ∷ insert 1 5 (codes "z") ∷ [])
+    (answer.At 0 ∷ answer.At 0 ∷ answer.Accepted ∷ answer.Committed (Some 1) ∷ answer.At 1 ∷ answer.Accepted ∷ answer.Committed (Some 2) ∷ answer.At 2 ∷ answer.Accepted ∷ answer.Committed (Some 3) ∷ answer.ConflictCommit 2 ∷ [])
+
+abbrev pub session_first : Type 0
+session_first = Answers
+    (begin 1 ∷ begin 2 ∷ insert 2 5 (codes "x") ∷ commit 2 ∷ begin 3 ∷ update 3 5 (codes "y") ∷ update 1 5 (codes "z") ∷ [])
+    (answer.At 0 ∷ answer.At 0 ∷ answer.Accepted ∷ answer.Committed (Some 1) ∷ answer.At 1 ∷ answer.Accepted ∷ answer.ConflictSession 3 ∷ [])
+
+abbrev pub gone_is_a_write : Type 0
+gone_is_a_write = Answers
+    (begin 1 ∷ insert 1 7 (codes "x") ∷ delete 1 7 ∷ begin 2 ∷ insert 2 7 (codes "y") ∷ commit 1 ∷ insert 2 7 (codes "y") ∷ [])
+    (answer.At 0 ∷ answer.Accepted ∷ answer.Accepted ∷ answer.At 0 ∷ answer.ConflictSession 1 ∷ answer.Committed (Some 1) ∷ answer.ConflictCommit 1 ∷ [])
+
+abbrev pub one_key_thrice : Type 0
+one_key_thrice = Answers
+    (begin 1 ∷ insert 1 3 (codes "x") ∷ insert 1 3 (codes "w") ∷ delete 1 3 ∷ delete 1 3 ∷ insert 1 3 (codes "y") ∷ commit 1 ∷ begin 1 ∷ get 1 3 ∷ [])
+    (answer.At 0 ∷ answer.Accepted ∷ answer.Exists ∷ answer.Accepted ∷ answer.Missing ∷ answer.Accepted ∷ answer.Committed (Some 1) ∷ answer.At 1 ∷ answer.Found (Some (row_of 3 (codes "y"))) ∷ [])
+
+abbrev pub own_writes : Type 0
+own_writes = Answers
+    (begin 1 ∷ insert 1 2 (codes "x") ∷ insert 1 1 (codes "y") ∷ commit 1 ∷ begin 1 ∷ delete 1 2 ∷ insert 1 3 (codes "z") ∷ scan 1 ∷ abort 1 ∷ begin 1 ∷ scan 1 ∷ [])
+    (answer.At 0 ∷ answer.Accepted ∷ answer.Accepted ∷ answer.Committed (Some 1) ∷ answer.At 1 ∷ answer.Accepted ∷ answer.Accepted
+    ∷ answer.Rows (row_of 1 (codes "y") ∷ row_of 3 (codes "z") ∷ []) ∷ answer.Aborted ∷ answer.At 1
+    ∷ answer.Rows (row_of 1 (codes "y") ∷ row_of 2 (codes "x") ∷ []) ∷ [])
+
+abbrev pub no_transaction : Type 0
+no_transaction = Answers
+    (get 1 1 ∷ begin 1 ∷ begin 1 ∷ commit 1 ∷ begin 1 ∷ abort 1 ∷ commit 1 ∷ [])
+    (answer.NoTransaction ∷ answer.At 0 ∷ answer.InTransaction ∷ answer.Committed None ∷ answer.At 0 ∷ answer.Aborted ∷ answer.NoTransaction ∷ [])

@@ -1,0 +1,4 @@
+pub mod Contents
+pub mod Machine
+pub mod Store
+pub mod Examples

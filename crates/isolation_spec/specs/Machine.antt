@@ -1,0 +1,129 @@
+-- The snapshot-isolation machine: transactions that see the commits before them and their own writes, where
+-- the first to write a key wins.
+use Rattle.std.specs.Prelude.{ℕ, ◌+◌, Bool, ◌&&◌, not, ◌==◌, List, [], ◌∷◌, ◌++◌, map, length, drop, filter, find, if◌then◌else◌, Option, None, Some, is_some, is_none, unwrap_or, option_map}
+use Rattle.std.specs.Option.{option_or}
+use Rattle.std.specs.BTreeMap.{insert_entry}
+use Rattle.cell_model.specs.declared.cell.Cell.{Cell}
+use Rattle.isolation_spec.specs.Contents.{place_cmp, at_place, Rows, WriteSet, History, laid_over, state_at, contents_of, place_at, place_of}
+use Rattle.isolation_spec.specs.declared.place.Place.{Place}
+use Rattle.isolation_spec.specs.declared.command.Command.{Command}
+use Rattle.isolation_spec.specs.declared.command.Act.{Act}
+use Rattle.isolation_spec.specs.declared.command.Act.TheVariants as act
+use Rattle.isolation_spec.specs.declared.command.Answer.{Answer}
+use Rattle.isolation_spec.specs.declared.command.Answer.TheVariants as answer
+
+-- An open transaction: its session, its snapshot (how many commits it sees), and what it wrote.
+pub record Transaction : Type 0 where
+  pub session : ℕ
+  pub snapshot : ℕ
+  pub own : WriteSet
+
+-- The committed write sets and the open transactions.
+pub record IsolationMachine : Type 0 where
+  pub history : History
+  pub open_transactions : List Transaction
+
+-- nothing was committed, and no transaction is open
+abbrev pub opening : IsolationMachine
+opening = record { history = []; open_transactions = [] }
+
+-- the open transaction of a session
+abbrev pub transaction_of : ℕ → IsolationMachine → Option Transaction
+transaction_of session machine = find (λ t. t.session == session) machine.open_transactions
+
+-- What a transaction sees: its own writes laid over the state at its snapshot.
+abbrev pub seen_rows : IsolationMachine → Transaction → Rows
+seen_rows machine t = laid_over (state_at machine.history t.snapshot) t.own
+
+-- the write set has the place, with a row or gone
+abbrev pub writes_place : Place → WriteSet → Bool
+writes_place place writes = is_some (at_place writes place)
+
+-- another session's open transaction that wrote the place
+abbrev pub rival_of : IsolationMachine → ℕ → Place → Option Transaction
+rival_of machine session place = find (λ t. not (t.session == session) && writes_place place t.own) machine.open_transactions
+
+-- the number of the last of these write sets that has the place, where the first has number `at`
+abbrev pub last_writer : Place → ℕ → List WriteSet → Option ℕ
+last_writer place at [] = None
+last_writer place at (writes ∷ later) = option_or (last_writer place (at + 1) later) (if writes_place place writes then Some at else None)
+
+-- A write conflict: another open transaction wrote the place, else a commit after the snapshot did, the
+-- last of which is named.
+abbrev pub conflict_of : IsolationMachine → Transaction → Place → Option Answer
+conflict_of machine t place = option_or
+    (option_map (λ rival. answer.ConflictSession rival.session) (rival_of machine t.session place))
+    (option_map (λ number. answer.ConflictCommit number) (last_writer place (t.snapshot + 1) (drop t.snapshot machine.history)))
+
+-- Why a write is refused: a conflict goes first, then an insert finds the row there, or another write finds none.
+abbrev pub refusal_of_insert : IsolationMachine → Transaction → Place → Option Answer
+refusal_of_insert machine t place = option_or (conflict_of machine t place)
+    (if is_some (at_place (seen_rows machine t) place) then Some answer.Exists else None)
+
+abbrev pub refusal_of_change : IsolationMachine → Transaction → Place → Option Answer
+refusal_of_change machine t place = option_or (conflict_of machine t place)
+    (if is_none (at_place (seen_rows machine t) place) then Some answer.Missing else None)
+
+-- the machine without the transaction of a session
+abbrev pub without : ℕ → IsolationMachine → IsolationMachine
+without session machine = record machine { open_transactions = filter (λ t. not (t.session == session)) machine.open_transactions }
+
+-- the transaction with a write entered into its own
+abbrev pub entered : Place → Option (List Cell) → Transaction → Transaction
+entered place change t = record t { own = insert_entry place_cmp t.own place change }
+
+-- the machine with a write entered into a session's own
+abbrev pub with_own : ℕ → Place → Option (List Cell) → IsolationMachine → IsolationMachine
+with_own session place change machine = record machine {
+  open_transactions =
+      map (λ t. if t.session == session then entered place change t else t) machine.open_transactions;
+}
+
+-- a write that may be refused: if it is, nothing changes, and else the write enters the transaction's own
+abbrev pub write : IsolationMachine → Transaction → Place → Option (List Cell) → Option Answer → Answer × IsolationMachine
+write machine t place change refusal =
+    (unwrap_or refusal answer.Accepted, (if is_some refusal then machine else with_own t.session place change machine))
+
+-- a commit appends what the transaction wrote to the history, and answers its number; where it wrote nothing, no number
+abbrev pub commit : IsolationMachine → Transaction → WriteSet → Answer × IsolationMachine
+commit machine t [] = (answer.Committed None, without t.session machine)
+commit machine t (first ∷ rest) =
+    (answer.Committed (Some (length machine.history + 1)), record (without t.session machine) { history = machine.history ++ t.own ∷ [] })
+
+-- what a session with an open transaction is answered, and the machine after it
+abbrev pub step_within : IsolationMachine → Transaction → Act → Answer × IsolationMachine
+step_within machine t act.Begin = (answer.InTransaction, machine)
+step_within machine t (act.Get table key) = (answer.Found (at_place (seen_rows machine t) (place_at table key)), machine)
+step_within machine t (act.Scan table) = (answer.Rows (contents_of table (seen_rows machine t)), machine)
+step_within machine t (act.Insert table row) =
+    write machine t (place_of table row) (Some row) (refusal_of_insert machine t (place_of table row))
+step_within machine t (act.Update table row) =
+    write machine t (place_of table row) (Some row) (refusal_of_change machine t (place_of table row))
+step_within machine t (act.Delete table key) =
+    write machine t (place_at table key) None (refusal_of_change machine t (place_at table key))
+step_within machine t act.Commit = commit machine t t.own
+step_within machine t act.Abort = (answer.Aborted, without t.session machine)
+
+-- what a session without one is answered: it begins one, which sees all commits, and else nothing happens
+abbrev pub step_without : IsolationMachine → ℕ → Act → Answer × IsolationMachine
+step_without machine session act.Begin = (
+  answer.At (length machine.history),
+  record machine {
+    open_transactions =
+        machine.open_transactions ++ record { session = session; snapshot = length machine.history; own = [] } ∷ [];
+  },
+)
+step_without machine session _ = (answer.NoTransaction, machine)
+
+abbrev pub step_of : IsolationMachine → Command → Option Transaction → Answer × IsolationMachine
+step_of machine command None = step_without machine command.session command.act
+step_of machine command (Some t) = step_within machine t command.act
+
+-- The answer to a command, and the machine after it.
+abbrev pub step : IsolationMachine → Command → Answer × IsolationMachine
+step machine command = step_of machine command (transaction_of command.session machine)
+
+-- the answers to commands in order
+abbrev pub answers_from : IsolationMachine → List Command → List Answer
+answers_from machine [] = []
+answers_from machine (command ∷ commands) = (step machine command).0 ∷ answers_from (step machine command).1 commands

@@ -1,0 +1,60 @@
+-- A store under the machine: it may refuse what the machine would accept, and then nothing changes.
+use Rattle.std.specs.Prelude.{◌≡◌, ◌⊎◌}
+use Rattle.isolation_spec.specs.Machine.{IsolationMachine, step}
+use Rattle.isolation_spec.specs.declared.command.Command.{Command}
+use Rattle.isolation_spec.specs.declared.command.Act.{Act}
+use Rattle.isolation_spec.specs.declared.command.Act.TheVariants as act
+use Rattle.isolation_spec.specs.declared.command.Answer.{Answer}
+use Rattle.isolation_spec.specs.declared.command.Answer.TheVariants as answer
+
+-- What a store says to a command: the machine's answer, or a refusal of its own: the row's block is
+-- freezing, the table is full, or memory is wanting.
+pub data Outcome : Type 0 where
+  Answered : Answer → Outcome
+  Freezing : Outcome
+  Full : Outcome
+  Memory : Outcome
+
+-- the act changes a row that stands
+abbrev pub IsChange : Act → Type 0
+IsChange (act.Update table row) = Unit {0}
+IsChange (act.Delete table key) = Unit {0}
+IsChange act.Begin = ⊥
+IsChange (act.Get table key) = ⊥
+IsChange (act.Scan table) = ⊥
+IsChange (act.Insert table row) = ⊥
+IsChange act.Commit = ⊥
+IsChange act.Abort = ⊥
+
+abbrev pub IsInsert : Act → Type 0
+IsInsert (act.Insert table row) = Unit {0}
+IsInsert act.Begin = ⊥
+IsInsert (act.Get table key) = ⊥
+IsInsert (act.Scan table) = ⊥
+IsInsert (act.Update table row) = ⊥
+IsInsert (act.Delete table key) = ⊥
+IsInsert act.Commit = ⊥
+IsInsert act.Abort = ⊥
+
+abbrev pub IsRead : Act → Type 0
+IsRead (act.Get table key) = Unit {0}
+IsRead (act.Scan table) = Unit {0}
+IsRead act.Begin = ⊥
+IsRead (act.Insert table row) = ⊥
+IsRead (act.Update table row) = ⊥
+IsRead (act.Delete table key) = ⊥
+IsRead act.Commit = ⊥
+IsRead act.Abort = ⊥
+
+-- the machine accepts the command's write
+abbrev pub IsAccepted : IsolationMachine → Command → Type 0
+IsAccepted machine command = (step machine command).0 ≡ answer.Accepted
+
+-- What a store over the machine may say to a command, and the machine after it: the machine's answer and
+-- step; or `Freezing` to a change and `Full` to an insert that the machine accepts, or `Memory` to a read or
+-- a write, and then nothing changes.
+abbrev pub Allows : IsolationMachine → Command → Outcome → IsolationMachine → Type 0
+Allows machine command (Answered said) after = step machine command ≡ (said, after)
+Allows machine command Freezing after = IsChange command.act × IsAccepted machine command × (after ≡ machine)
+Allows machine command Full after = IsInsert command.act × IsAccepted machine command × (after ≡ machine)
+Allows machine command Memory after = (IsRead command.act ⊎ (IsChange command.act ⊎ IsInsert command.act)) × (after ≡ machine)

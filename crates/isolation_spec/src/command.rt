@@ -1,0 +1,54 @@
+//! What a session asks of the store, and what it is answered.
+
+use cell_model::{Row, Rows};
+
+/// A command of a session.
+#[derive(Debug, Drop)]
+pub struct Command {
+    /// The session, counted from 1.
+    pub session: u32,
+    pub act: Act,
+}
+
+/// What a session asks. Tables are counted from 0 as they are declared.
+#[derive(Debug, Drop)]
+pub enum Act {
+    Begin,
+    Get { table: u32, key: i64 },
+    Scan { table: u32 },
+    Insert { table: u32, row: Row },
+    Update { table: u32, row: Row },
+    Delete { table: u32, key: i64 },
+    Commit,
+    Abort,
+}
+
+/// What the machine answers.
+#[derive(Debug, Drop)]
+pub enum Answer {
+    /// The transaction began; so many transactions that wrote had committed before.
+    At(u64),
+    /// The session has a transaction already.
+    InTransaction,
+    /// The session has no transaction.
+    NoTransaction,
+    /// The row of the key, or that there is none.
+    Found(Option<Row>),
+    /// The rows of the table, in the order of their keys.
+    Rows(Rows),
+    /// The write was accepted.
+    Accepted,
+    /// Another open transaction, this session's, wrote the key.
+    ConflictSession(u32),
+    /// The transaction that committed with this number wrote the key after the snapshot.
+    ConflictCommit(u64),
+    /// An insert of a key that has a row.
+    Exists,
+    /// An update or a delete of a key that has none.
+    Missing,
+    /// The transaction committed, with this number where it wrote something.
+    Committed(Option<u64>),
+    Aborted,
+    /// Memory was refused, and nothing has changed.
+    Memory,
+}

@@ -1,0 +1,10 @@
+//! Snapshot isolation over keys and values: what each answer of a transactional store has to be. It knows
+//! no block, version, stamp, thread or byte.
+#![tactic(auto)]
+
+pub mod command;
+pub mod examples;
+pub mod place;
+
+pub use command::{Act, Answer, Command};
+pub use place::Place;
