@@ -1,0 +1,8 @@
+use Rattle.std.proofs.Common.{refl}
+use Rattle.std.specs.Fmt.{digits}
+use Rattle.std.specs.Str.{is_utf8, chars}
+use Rattle.workload_spec.proofs.examples.replies_are_printed_line_by_line.Goals as goal
+
+pub returns : goal.returns
+unfolding digits is_utf8 chars
+returns c = refl

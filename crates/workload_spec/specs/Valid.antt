@@ -1,0 +1,111 @@
+-- Which scripts are workloads: names, limits, cells that fit, and at most one export.
+use Rattle.std.specs.Prelude.{ℕ, ◌%◌, Bool, true, false, ◌&&◌, ◌||◌, not, ◌==◌, nat_lt, nat_le, List, [], ◌∷◌, length, flat_map, count_by, is_some, is_none, slice_get, bytes_eq, ℤ}
+use Rattle.std.specs.List.{list_all, list_any}
+use Rattle.std.specs.Option.{option_map_or}
+use Rattle.cell_model.specs.declared.cell.Cell.{Cell}
+use Rattle.cell_model.specs.declared.column.Column.{Column}
+use Rattle.cell_model.specs.declared.table.TableDecl.{TableDecl}
+use Rattle.cell_model.specs.Rows.{fits}
+use Rattle.cell_model.specs.Values.{is_integer_of}
+use Rattle.cell_model.specs.declared.kind.Kind.TheVariants.{I64}
+use Rattle.cell_model.specs.Schemas.{begins_with_key, first_twins, most_columns, most_slots_of}
+use Rattle.workload_spec.specs.declared.command.Command.{Command}
+use Rattle.workload_spec.specs.declared.command.Command.TheVariants as command
+use Rattle.workload_spec.specs.declared.script.Line.{Line}
+use Rattle.workload_spec.specs.declared.script.Script.{Script}
+
+-- the number lies between these two, both counted
+abbrev pub is_within : ℕ → ℕ → ℕ → Bool
+is_within low high number = nat_le low number && nat_le number high
+
+abbrev pub is_lower_case : ℕ → Bool
+is_lower_case byte = is_within 97 122 byte
+
+-- a byte of a name after its first: a lower-case letter, a digit or an underscore
+abbrev pub is_name_byte : ℕ → Bool
+is_name_byte byte = is_lower_case byte || is_within 48 57 byte || byte == 95
+
+-- A name: a lower-case letter, and then lower-case letters, digits and underscores, at most 32 bytes in all.
+abbrev pub is_name : List ℕ → Bool
+is_name [] = false
+is_name (first ∷ rest) = is_lower_case first && list_all is_name_byte rest && nat_lt (length rest) 32
+
+-- how many slots a block of these columns may have: 8 or more, a multiple of 8, and no more than fit
+abbrev pub are_slots : List Column → ℕ → Bool
+are_slots columns slots = is_within 8 (most_slots_of columns) slots && slots % 8 == 0
+
+abbrev pub are_blocks : ℕ → Bool
+are_blocks blocks = is_within 1 1024 blocks
+
+-- The columns are a table's: the key first, at most 32, names that are names and differ.
+abbrev pub are_columns : List Column → Bool
+are_columns columns = begins_with_key columns && nat_le (length columns) most_columns
+    && is_none (first_twins 0 columns) && list_all (λ column. is_name column.name) columns
+
+abbrev pub is_table : TableDecl → Bool
+is_table table = is_name table.name && are_columns table.schema && are_slots table.schema table.slots && are_blocks table.blocks
+
+-- one of the tables has this name
+abbrev pub is_declared : List ℕ → List TableDecl → Bool
+is_declared name tables = list_any (λ table. bytes_eq table.name name) tables
+
+-- no two tables have one name
+abbrev pub have_own_names : List TableDecl → Bool
+have_own_names [] = true
+have_own_names (table ∷ tables) = not (is_declared table.name tables) && have_own_names tables
+
+-- the row fits the table at this place
+abbrev pub fits_table : List TableDecl → ℕ → List Cell → Bool
+fits_table tables place row = option_map_or (λ table. fits table.schema row) (slice_get tables place) false
+
+abbrev pub is_table_place : List TableDecl → ℕ → Bool
+is_table_place tables place = is_some (slice_get tables place)
+
+abbrev pub is_block_of : List TableDecl → ℕ → ℕ → Bool
+is_block_of tables place block = option_map_or (λ table. nat_lt block table.blocks) (slice_get tables place) false
+
+abbrev pub is_key_number : ℤ → Bool
+is_key_number key = is_integer_of I64 key
+
+-- The command names tables and blocks that there are, keys that are 64-bit numbers, and rows that fit.
+abbrev pub is_command : List TableDecl → Command → Bool
+is_command tables command.Begin = true
+is_command tables (command.Get table key) = is_table_place tables table && is_key_number key
+is_command tables (command.Scan table) = is_table_place tables table
+is_command tables (command.Insert table row) = fits_table tables table row
+is_command tables (command.Update table row) = fits_table tables table row
+is_command tables (command.Delete table key) = is_table_place tables table && is_key_number key
+is_command tables command.Commit = true
+is_command tables command.Abort = true
+is_command tables command.Observe = true
+is_command tables command.Prune = true
+is_command tables (command.Compact table) = is_table_place tables table
+is_command tables (command.Seal table block) = is_block_of tables table block
+is_command tables (command.Gather table block) = is_block_of tables table block
+is_command tables (command.Export table) = is_table_place tables table
+
+abbrev pub is_export : Command → Bool
+is_export (command.Export table) = true
+is_export _ = false
+
+-- a line of a round: one of the sessions, and a command of these tables
+abbrev pub is_line : Script → Line → Bool
+is_line script line = is_within 1 script.sessions line.session && is_command script.tables line.command
+
+-- all lines of a script, round after round
+abbrev pub all_lines : Script → List Line
+all_lines script = flat_map (λ round. round) script.rounds
+
+-- The head of a workload: version 1, 1 to 16 tables of their own names, 1 to 64 sessions, at most 16 workers
+-- and at most 100 turns.
+abbrev pub has_head : Script → Bool
+has_head script = script.version == 1
+    && is_within 1 16 (length script.tables) && list_all is_table script.tables && have_own_names script.tables
+    && is_within 1 64 script.sessions && nat_le script.workers 16 && nat_le script.turns 100
+
+-- The script is a workload: its head is one, there is a round, each line is a session's command, and there is
+-- at most one export.
+abbrev pub is_valid : Script → Bool
+is_valid script = has_head script && nat_lt 0 (length script.rounds)
+    && list_all (is_line script) (all_lines script)
+    && nat_le (count_by (λ line. is_export line.command) (all_lines script)) 1

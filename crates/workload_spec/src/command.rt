@@ -1,0 +1,36 @@
+//! The commands of a workload.
+
+use cell_model::Row;
+
+/// A command of a session. Tables are counted from 0 as they are declared, blocks from 0 within their table.
+#[derive(Debug, Drop)]
+pub enum Command {
+    /// Opens a transaction.
+    Begin,
+    /// Asks for the row of a key.
+    Get { table: u32, key: i64 },
+    /// Asks for all rows of a table, in the order of their keys.
+    Scan { table: u32 },
+    /// Adds a row whose key has none.
+    Insert { table: u32, row: Row },
+    /// Changes the row of a key that has one.
+    Update { table: u32, row: Row },
+    /// Removes the row of a key.
+    Delete { table: u32, key: i64 },
+    /// Ends the transaction, whose writes become visible to later ones.
+    Commit,
+    /// Ends the transaction and drops its writes.
+    Abort,
+    /// Counts a round in which blocks were not modified.
+    Observe,
+    /// Drops the versions that no snapshot needs.
+    Prune,
+    /// Moves rows of cold blocks into gaps.
+    Compact { table: u32 },
+    /// Closes a cold block for gathering.
+    Seal { table: u32, block: u32 },
+    /// Makes the Arrow image of a sealed block.
+    Gather { table: u32, block: u32 },
+    /// Writes the table as an Arrow stream.
+    Export { table: u32 },
+}

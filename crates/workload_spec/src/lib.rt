@@ -1,0 +1,12 @@
+//! Workloads and replies as data, with their texts: the script of a workload, which bytes are one, and the
+//! lines that answer it.
+#![tactic(auto)]
+
+pub mod command;
+pub mod examples;
+pub mod reply;
+pub mod script;
+
+pub use command::Command;
+pub use reply::{ReplyLine, Said, SealCause, Who};
+pub use script::{Cause, Line, Round, Rounds, Script, Tables};

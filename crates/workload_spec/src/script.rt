@@ -1,0 +1,129 @@
+//! The script of a workload.
+
+use crate::command::Command;
+use cell_model::TableDecl;
+use std::marker::Model;
+
+/// A workload: the tables, how many sessions and workers run, and what each session asks in each round.
+#[derive(Debug, Drop)]
+pub struct Script {
+    /// The version of the workload format, which is 1.
+    pub version: u32,
+    pub tables: Tables,
+    pub sessions: u32,
+    pub workers: u32,
+    /// How many turns each worker makes in each round.
+    pub turns: u32,
+    pub rounds: Rounds,
+}
+
+/// The declared tables, in order.
+#[derive(Debug, Drop)]
+pub struct Tables {
+    tables: Vec<TableDecl>,
+}
+
+impl Model for Tables {
+    ghost use Rattle.std.specs.Prelude.{List};
+    ghost use Rattle.std.specs.Coded.{coded_list};
+    ghost use Rattle.cell_model.specs.declared.table.TableDecl.{TableDecl as Declared};
+    ghost use Rattle.cell_model.specs.contracts.table.TableDecl.{the_row};
+
+    ghost Value = { List Declared };
+
+    ghost coded = { coded_list the_row.coded };
+
+    ghost view = { λ t. t.tables.items };
+}
+
+/// A line of a round: a session, counted from 1, and its command.
+#[derive(Debug, Drop)]
+pub struct Line {
+    pub session: u32,
+    pub command: Command,
+}
+
+/// The lines of a round, in order.
+#[derive(Debug, Drop)]
+pub struct Round {
+    lines: Vec<Line>,
+}
+
+impl Model for Round {
+    ghost use Rattle.std.specs.Prelude.{List};
+    ghost use Rattle.std.specs.Coded.{coded_list};
+    ghost use Rattle.workload_spec.specs.declared.script.Line.{Line as LineValue};
+    ghost use Rattle.workload_spec.specs.contracts.script.Line.{the_row};
+
+    ghost Value = { List LineValue };
+
+    ghost coded = { coded_list the_row.coded };
+
+    ghost view = { λ r. r.lines.items };
+}
+
+/// The rounds of a workload, in order.
+#[derive(Debug, Drop)]
+pub struct Rounds {
+    rounds: Vec<Round>,
+}
+
+impl Model for Rounds {
+    ghost use Rattle.std.specs.Prelude.{List};
+    ghost use Rattle.std.specs.Coded.{coded_list};
+    ghost use Rattle.workload_spec.specs.declared.script.Line.{Line as LineValue};
+    ghost use Rattle.workload_spec.specs.contracts.script.Line.{the_row};
+
+    ghost Value = { List (List LineValue) };
+
+    ghost coded = { coded_list (coded_list the_row.coded) };
+
+    ghost view = { λ r. r.rounds.items };
+}
+
+/// Why a line is none of a workload: the first word or rule on it that fails.
+#[derive(Clone, Copy, Debug, PartialEq, Eq)]
+pub enum Cause {
+    /// The first line is not `store 1`.
+    Version,
+    /// A table line is wanting, or there is one too many.
+    Table,
+    /// A table's or a column's name is none.
+    Name,
+    /// A table's or a column's name stands twice.
+    Twice,
+    /// The first column is not `key:i64`.
+    Key,
+    /// A column's kind is none.
+    Kind,
+    /// There are more than 32 columns.
+    Columns,
+    /// The slots of a block are out of their limits.
+    Slots,
+    /// The blocks of a table are out of their limits.
+    Blocks,
+    /// The sessions line is none.
+    Sessions,
+    /// The workers line is none.
+    Workers,
+    /// The line `go` is wanting.
+    Go,
+    /// A line of a round does not begin with a session.
+    Session,
+    /// A command is none, or has too many or too few words.
+    Command,
+    /// A command names no declared table.
+    Unknown,
+    /// A key is no number.
+    Number,
+    /// A cell does not fit its column.
+    Cell,
+    /// A command's block is none of its table.
+    Block,
+    /// A second export.
+    Export,
+    /// The last line does not end.
+    Line,
+    /// The line that parts a workload from its output is wanting.
+    Parting,
+}
