@@ -1,0 +1,7 @@
+pub mod Bytes
+pub mod Arrays
+pub mod Batches
+pub mod Flatbuffers
+pub mod Metadata
+pub mod Streams
+pub mod Examples
