@@ -1,0 +1,198 @@
+//! The word of a block: its state, the stamp of its last freeze and the count of its readers, in 64 bits.
+#![tactic(auto)]
+
+ghost use Rattle.std.specs.Prelude.{◌≡◌, ℕ, ◌+◌, ◌<◌, ◌^◌, ◌↔◌, IsTrue, bit_and};
+ghost use Rattle.block_word.specs.Word.{Enters, IsInRange, IsLawfulMove, Turns, packed, state_number, unpacked, word_of};
+ghost use Rattle.block_word.specs.declared.State.TheVariants.{Hot, Cooling, Freezing, Frozen};
+ghost use Rattle.block_word.specs.declared.Word.{Word};
+
+/// What `fetch_add` adds to raise a word's state by one.
+pub const RAISE: u64 = 0x4000_0000_0000_0000;
+
+/// What `fetch_add` adds to make a cooling word freezing with the next stamp.
+pub const SEAL: u64 = 0x4000_0001_0000_0000;
+
+/// What `fetch_add` adds to make a hot word frozen again with the same stamp.
+pub const REFREEZE: u64 = 0xc000_0000_0000_0000;
+
+/// The bits that `fetch_and` keeps to make a word of any state hot.
+pub const CLEAR: u64 = 0x3fff_ffff_ffff_ffff;
+
+/// What `fetch_add` adds, or `fetch_sub` takes off, for one reader.
+pub const READER: u64 = 1;
+
+/// How many stamps there are: each is below this.
+pub const STAMPS: u32 = 0x4000_0000;
+
+const STAMP: u64 = 0x1_0000_0000;
+
+/// How a block may be used.
+#[derive(Clone, Copy, Debug, PartialEq, Eq)]
+pub enum State {
+    /// Rows change in place.
+    Hot,
+    /// Rows change in place, and the block was not written of late.
+    Cooling,
+    /// Rows stay, until their Arrow buffers are gathered.
+    Freezing,
+    /// Rows stay, and their Arrow buffers are read in place.
+    Frozen,
+}
+
+impl State {
+    fn number(self) -> u64
+        ensures { result ≡ state_number self }
+    {
+        match self {
+            State::Hot => 0,
+            State::Cooling => 1,
+            State::Freezing => 2,
+            State::Frozen => 3,
+        }
+    }
+}
+
+/// The word of a block.
+#[derive(Clone, Copy, Debug, PartialEq, Eq)]
+pub struct Word {
+    pub state: State,
+    /// How often the block has been sealed, below [`STAMPS`].
+    pub stamp: u32,
+    /// How many readers are in the block.
+    pub readers: u32,
+}
+
+/// The number that stands for a word: from the top two bits of state, 30 of stamp and 32 of readers. The stamp is below
+/// [`STAMPS`].
+pub fn pack(word: Word) -> u64
+    requires { word.stamp < STAMPS }
+    ensures value { result ≡ packed word }
+    ensures inverse { unpacked result ≡ word }
+{
+    word.state.number() * RAISE + u64::from(word.stamp) * STAMP + u64::from(word.readers)
+}
+
+/// The word that a number stands for.
+pub fn unpack(number: u64) -> Word
+    ensures value { result ≡ unpacked number }
+    ensures inverse { packed result ≡ number }
+    ensures in_range { IsInRange result }
+{
+    let state = match number / RAISE {
+        0 => State::Hot,
+        1 => State::Cooling,
+        2 => State::Freezing,
+        _ => State::Frozen,
+    };
+    Word {
+        state,
+        stamp: (number / STAMP % u64::from(STAMPS)) as u32,
+        readers: (number % STAMP) as u32,
+    }
+}
+
+/// What each atomic step makes of the number of a word: the word that the move leads to.
+pub fn atomic_steps()
+    ensures cools { (stamp readers : ℕ) →
+        packed (word_of Hot stamp readers) + RAISE ≡ packed (word_of Cooling stamp readers) }
+    ensures seals { (stamp readers : ℕ) →
+        packed (word_of Cooling stamp readers) + SEAL ≡ packed (word_of Freezing (stamp + 1) readers) }
+    ensures gathers { (stamp readers : ℕ) →
+        packed (word_of Freezing stamp readers) + RAISE ≡ packed (word_of Frozen stamp readers) }
+    ensures refreezes { (stamp readers : ℕ) →
+        packed (word_of Hot stamp readers) + REFREEZE ≡ packed (word_of Frozen stamp readers) }
+    ensures clears { (w : Word) → IsInRange w →
+        bit_and (packed w) CLEAR ≡ packed (record w { state = Hot }) }
+    ensures enters { (w : Word) → packed w + READER ≡ packed (record w { readers = w.readers + 1 }) }
+{}
+
+/// A freezing word, and what may follow it, in numbers.
+pub fn worked_words()
+    ensures freezing { packed (word_of Freezing 1 0) ≡ 0x8000_0001_0000_0000 }
+    ensures frozen { packed (word_of Frozen 1 2) ≡ 0xc000_0001_0000_0002 }
+    ensures gathered { IsLawfulMove (unpacked 0x8000_0001_0000_0000) (unpacked 0xc000_0001_0000_0000) }
+    ensures thawed { ¬ IsLawfulMove (unpacked 0x8000_0001_0000_0000) (unpacked 0x0000_0001_0000_0000) }
+{}
+
+/// Whether a block word may move in one step from one number to another: by one of the six turns of its state, or by
+/// one reader that comes or leaves.
+pub fn lawful(before: u64, after: u64) -> bool
+    ensures { IsTrue result ↔ IsLawfulMove (unpacked before) (unpacked after) }
+{
+    let from = unpack(before);
+    let to = unpack(after);
+    turns(from, to) || enters(from, to) || enters(to, from)
+}
+
+fn turns(from: Word, to: Word) -> bool
+    ensures { IsTrue result ↔ Turns from to }
+{
+    let taken = match (from.state, to.state) {
+        (State::Hot, State::Cooling | State::Frozen) => 0,
+        (State::Cooling, State::Hot) => 0,
+        (State::Cooling, State::Freezing) => 1,
+        (State::Freezing, State::Frozen) => 0,
+        (State::Frozen, State::Hot) => 0,
+        _ => return false,
+    };
+    to.stamp.checked_sub(from.stamp) == Some(taken) && to.readers == from.readers
+}
+
+fn enters(from: Word, to: Word) -> bool
+    ensures { IsTrue result ↔ Enters from to }
+{
+    to.state == from.state
+        && to.stamp == from.stamp
+        && to.readers.checked_sub(from.readers) == Some(1)
+}
+
+#[cfg(test)]
+mod tests {
+    use super::*;
+
+    const FREEZING: u64 = 0x8000_0001_0000_0000;
+
+    #[test]
+    fn words_have_their_numbers(rt: HostRuntime) {
+        let cases = [
+            (State::Hot, 0, 0, 0x0000_0000_0000_0000),
+            (State::Hot, 1, 1, 0x0000_0001_0000_0001),
+            (State::Cooling, 0, 0, 0x4000_0000_0000_0000),
+            (State::Freezing, 1, 0, FREEZING),
+            (State::Frozen, 1, 2, 0xc000_0001_0000_0002),
+            (State::Hot, 0x3fff_ffff, 0, 0x3fff_ffff_0000_0000),
+            (
+                State::Frozen,
+                0x3fff_ffff,
+                0xffff_ffff,
+                0xffff_ffff_ffff_ffff,
+            ),
+        ];
+        for (state, stamp, readers, number) in cases {
+            let word = Word {
+                state,
+                stamp,
+                readers,
+            };
+            assert!(rt; stamp < STAMPS);
+            assert_eq!(rt; pack(word), number, "{word:?}");
+            assert_eq!(rt; unpack(number), word, "{number:x}");
+        }
+    }
+
+    #[test]
+    fn a_freezing_word_may_become_frozen_and_not_hot(rt: HostRuntime) {
+        let cases = [
+            (FREEZING, 0xc000_0001_0000_0000, true),
+            (FREEZING, 0x0000_0001_0000_0000, false),
+            (FREEZING, 0x8000_0001_0000_0001, true),
+            (0x8000_0001_ffff_ffff, 0x8000_0002_0000_0000, false),
+            (0x8000_0001_0000_0000, 0x8000_0000_ffff_ffff, false),
+            (0x7fff_ffff_0000_0000, 0xbfff_ffff_0000_0000, false),
+            (0x7fff_fffe_0000_0000, 0xbfff_ffff_0000_0000, true),
+        ];
+        for (before, after, want) in cases {
+            assert_eq!(rt; lawful(before, after), want, "{before:x} to {after:x}");
+        }
+    }
+}
