@@ -1,0 +1,11 @@
+//! Columns of fixed width in the layout of the Arrow columnar format: bitmaps and numbers.
+#![tactic(auto)]
+
+mod bit_list;
+mod number_list;
+
+pub use bit_list::Bits;
+pub use number_list::Fixed;
+
+#[cfg(test)]
+mod tests;

@@ -1,0 +1,11 @@
+//! The version chain of a slot: the before-images of its changes, from which each reader gets its own row.
+#![tactic(auto)]
+
+mod chain;
+mod undo;
+
+pub use chain::{Chain, Newer};
+pub use undo::{Undo, UndoKind};
+
+#[cfg(test)]
+mod tests;
