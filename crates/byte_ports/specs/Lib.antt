@@ -1,0 +1,4 @@
+pub mod Calls
+pub mod Doubles
+pub mod FaultPlan
+pub mod InputFault

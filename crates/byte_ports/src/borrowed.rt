@@ -1,0 +1,36 @@
+// A lent source, sink or outlet is one too.
+ghost use Rattle.std.specs.Prelude.{Some};
+
+use crate::{Failed, Outlet, Sink, Source};
+
+impl<S: Source> Source for &mut S {
+    ghost left = { λ s. S.left s.now };
+
+    ghost faults = { λ s. S.faults s.now };
+
+    fn read(&mut self, buf: &mut [u8]) -> Result<usize, Failed> {
+        Source::read(&mut **self, buf)
+    }
+}
+
+impl<S: Sink> Sink for &mut S {
+    ghost written = { λ s. S.written s.now };
+
+    ghost started = { λ s. S.started s.now };
+
+    ghost loan = { λ s. Some s.ghost_name };
+
+    ghost faults = { λ s. S.faults s.now };
+
+    fn write(&mut self, piece: &[u8]) -> Result<usize, Failed> {
+        Sink::write(&mut **self, piece)
+    }
+}
+
+impl<X: Outlet> Outlet for &mut X {
+    fn start(&mut self, name: &str) -> Result<(), Failed> {
+        Outlet::start(&mut **self, name)
+    }
+
+    ghost names_told = { λ x. X.names_told x.now };
+}
