@@ -37,6 +37,7 @@ impl Buffers {
         buffers
     }
 
+    /// The buffers, lent.
     pub fn as_slice(&self) -> &[Bytes]
         ensures { result.now ≡ self.now }
     {

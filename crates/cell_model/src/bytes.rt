@@ -46,6 +46,7 @@ impl Bytes {
         bytes
     }
 
+    /// The bytes, lent.
     pub fn as_slice(&self) -> &[u8]
         ensures { result.now ≡ self.now }
     {
@@ -59,6 +60,7 @@ impl Bytes {
         self.bytes.len()
     }
 
+    /// Whether there are none.
     pub fn is_empty(&self) -> bool
         ensures { result ≡ (length self.now == 0) }
     {

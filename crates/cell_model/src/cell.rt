@@ -37,6 +37,7 @@ impl Clone for Cell {
 }
 
 impl Cell {
+    /// Whether there is no value.
     pub fn is_null(&self) -> bool
         ensures { result ≡ is_null self.now }
     {

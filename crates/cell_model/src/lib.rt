@@ -5,6 +5,7 @@ pub mod buffers;
 pub mod bytes;
 pub mod cell;
 pub mod column;
+pub mod examples;
 pub mod kind;
 pub mod row;
 pub mod rows;

@@ -1,5 +1,5 @@
 //! A row: its cells in the order of the columns.
-ghost use Rattle.std.specs.Prelude.{◌≡◌, ◌++◌, ◌∷◌, [], IfOk, OnErr, OnOk, length, ◌==◌, slice_get, option_copied};
+ghost use Rattle.std.specs.Prelude.{◌≡◌, ◌++◌, ◌∷◌, [], IfErr, OnErr, OnOk, length, ◌==◌, slice_get, option_copied};
 
 use crate::cell::Cell;
 use std::alloc::{AllocError, AllocFailed, Global};
@@ -52,14 +52,16 @@ impl Row {
         cells
     }
 
-    /// Adds a cell behind the others; where memory is refused, the row is as it was.
+    /// Adds a cell behind the others; where memory is refused, the row is as it was and the cell comes back.
     pub fn push(&mut self, cell: Cell) -> Result<(), AllocFailed<Cell>>
         ensures ok { OnOk result (self.new ≡ self.old ++ cell ∷ []) }
         ensures err { OnErr result (self.new ≡ self.old) }
+        ensures back { IfErr result (λ refused. refused.value ≡ cell) }
     {
         self.cells.push(cell)
     }
 
+    /// The cells, lent.
     pub fn as_slice(&self) -> &[Cell]
         ensures { result.now ≡ self.now }
     {
@@ -80,6 +82,7 @@ impl Row {
         self.cells.len()
     }
 
+    /// Whether there are none.
     pub fn is_empty(&self) -> bool
         ensures { result ≡ (length self.now == 0) }
     {

@@ -42,6 +42,7 @@ impl Rows {
         rows
     }
 
+    /// The rows, lent.
     pub fn as_slice(&self) -> &[Row]
         ensures { result.now ≡ self.now }
     {

@@ -1,4 +1,4 @@
--- Rows of several tables as finite maps, and what write sets make of them.
+-- State of several tables as finite maps, and what write sets make of them.
 use Rattle.std.specs.Prelude.{ℕ, Bool, ◌==◌, List, [], ◌∷◌, ℤ, pos, take, fold, filter_map, if◌then◌else◌, Option, None, Some}
 use Rattle.std.specs.Ordering.{nat_cmp, int_cmp, ordering_then, is_eq}
 use Rattle.std.specs.declared.cmp.Ordering.{Ordering}
@@ -25,8 +25,8 @@ abbrev pub at_place : {X : Type 0} → PlaceMap X → Place → Option X
 at_place entries place = lookup (is_place place) entries
 
 -- The rows of all tables.
-abbrev pub Rows : Type 0
-Rows = PlaceMap (List Cell)
+abbrev pub State : Type 0
+State = PlaceMap (List Cell)
 
 -- A write set: at each place that a transaction wrote, the row that it left there, or none where the row is gone.
 abbrev pub WriteSet : Type 0
@@ -37,20 +37,20 @@ abbrev pub History : Type 0
 History = List WriteSet
 
 -- the rows after one write: the row stands at the place, or none does
-abbrev pub with_write : Rows → Place → Option (List Cell) → Rows
+abbrev pub with_write : State → Place → Option (List Cell) → State
 with_write rows place (Some row) = insert_entry place_cmp rows place row
 with_write rows place None = remove_entry (is_place place) rows
 
 -- the rows with a write set laid over them
-abbrev pub laid_over : Rows → WriteSet → Rows
+abbrev pub laid_over : State → WriteSet → State
 laid_over rows writes = fold (λ before write. with_write before write.0 write.1) rows writes
 
 -- The state after n commits: what the first n write sets leave, laid over each other in order.
-abbrev pub state_at : History → ℕ → Rows
+abbrev pub state_at : History → ℕ → State
 state_at history n = fold laid_over [] (take n history)
 
 -- The contents of a table: its rows, in the order of their keys.
-abbrev pub contents_of : ℕ → Rows → List (List Cell)
+abbrev pub contents_of : ℕ → State → List (List Cell)
 contents_of table rows = filter_map (λ entry. if entry.0.table == table then Some entry.1 else None) rows
 
 -- the key of a row, the number in its first cell

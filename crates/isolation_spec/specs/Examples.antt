@@ -2,7 +2,8 @@
 use Rattle.std.specs.Prelude.{◌≡◌, ℕ, List, [], ◌∷◌, pos, None, Some, codes}
 use Rattle.cell_model.specs.declared.cell.Cell.{Cell}
 use Rattle.cell_model.specs.declared.cell.Cell.TheVariants.{Num, Text}
-use Rattle.isolation_spec.specs.Machine.{opening, answers_from}
+use Rattle.isolation_spec.specs.Machine.{IsolationMachine, opening, step, answers_from}
+use Rattle.isolation_spec.specs.Store.{Allows, Freezing, Full, Memory}
 use Rattle.isolation_spec.specs.declared.command.Command.{Command}
 use Rattle.isolation_spec.specs.declared.command.Act.{Act}
 use Rattle.isolation_spec.specs.declared.command.Act.TheVariants as act
@@ -45,50 +46,88 @@ abort session = asks session act.Abort
 abbrev pub Answers : List Command → List Answer → Type 0
 Answers commands answers = answers_from opening commands ≡ answers
 
-abbrev pub older_snapshot : Type 0
-older_snapshot = Answers
+abbrev pub OlderSnapshot : Type 0
+OlderSnapshot = Answers
     (begin 1 ∷ begin 2 ∷ insert 2 5 (codes "x") ∷ commit 2 ∷ get 1 5 ∷ [])
     (answer.At 0 ∷ answer.At 0 ∷ answer.Accepted ∷ answer.Committed (Some 1) ∷ answer.Found None ∷ [])
 
-abbrev pub open_rival : Type 0
-open_rival = Answers
+abbrev pub OpenRival : Type 0
+OpenRival = Answers
     (begin 1 ∷ insert 1 7 (codes "x") ∷ begin 2 ∷ insert 2 7 (codes "y") ∷ abort 1 ∷ insert 2 7 (codes "y") ∷ [])
     (answer.At 0 ∷ answer.Accepted ∷ answer.At 0 ∷ answer.ConflictSession 1 ∷ answer.Aborted ∷ answer.Accepted ∷ [])
 
 -- although the key is missing at the snapshot
-abbrev pub later_commit : Type 0
-later_commit = Answers
+abbrev pub LaterCommit : Type 0
+LaterCommit = Answers
     (begin 1 ∷ begin 2 ∷ insert 2 5 (codes "x") ∷ commit 2 ∷ update 1 5 (codes "z") ∷ [])
     (answer.At 0 ∷ answer.At 0 ∷ answer.Accepted ∷ answer.Committed (Some 1) ∷ answer.ConflictCommit 1 ∷ [])
 
-abbrev pub last_commit : Type 0
-last_commit = Answers
+abbrev pub LastCommit : Type 0
+LastCommit = Answers
     (begin 1 ∷ begin 2 ∷ insert 2 5 (codes "x") ∷ commit 2 ∷ begin 2 ∷ delete 2 5 ∷ commit 2 ∷ begin 2 ∷ insert 2 6 (codes "x") ∷ commit 2 ∷ insert 1 5 (codes "z") ∷ [])
     (answer.At 0 ∷ answer.At 0 ∷ answer.Accepted ∷ answer.Committed (Some 1) ∷ answer.At 1 ∷ answer.Accepted ∷ answer.Committed (Some 2) ∷ answer.At 2 ∷ answer.Accepted ∷ answer.Committed (Some 3) ∷ answer.ConflictCommit 2 ∷ [])
 
-abbrev pub session_first : Type 0
-session_first = Answers
+abbrev pub SessionFirst : Type 0
+SessionFirst = Answers
     (begin 1 ∷ begin 2 ∷ insert 2 5 (codes "x") ∷ commit 2 ∷ begin 3 ∷ update 3 5 (codes "y") ∷ update 1 5 (codes "z") ∷ [])
     (answer.At 0 ∷ answer.At 0 ∷ answer.Accepted ∷ answer.Committed (Some 1) ∷ answer.At 1 ∷ answer.Accepted ∷ answer.ConflictSession 3 ∷ [])
 
-abbrev pub gone_is_a_write : Type 0
-gone_is_a_write = Answers
+abbrev pub GoneIsAWrite : Type 0
+GoneIsAWrite = Answers
     (begin 1 ∷ insert 1 7 (codes "x") ∷ delete 1 7 ∷ begin 2 ∷ insert 2 7 (codes "y") ∷ commit 1 ∷ insert 2 7 (codes "y") ∷ [])
     (answer.At 0 ∷ answer.Accepted ∷ answer.Accepted ∷ answer.At 0 ∷ answer.ConflictSession 1 ∷ answer.Committed (Some 1) ∷ answer.ConflictCommit 1 ∷ [])
 
-abbrev pub one_key_thrice : Type 0
-one_key_thrice = Answers
+abbrev pub OneKeyThrice : Type 0
+OneKeyThrice = Answers
     (begin 1 ∷ insert 1 3 (codes "x") ∷ insert 1 3 (codes "w") ∷ delete 1 3 ∷ delete 1 3 ∷ insert 1 3 (codes "y") ∷ commit 1 ∷ begin 1 ∷ get 1 3 ∷ [])
     (answer.At 0 ∷ answer.Accepted ∷ answer.Exists ∷ answer.Accepted ∷ answer.Missing ∷ answer.Accepted ∷ answer.Committed (Some 1) ∷ answer.At 1 ∷ answer.Found (Some (row_of 3 (codes "y"))) ∷ [])
 
-abbrev pub own_writes : Type 0
-own_writes = Answers
+abbrev pub OwnWrites : Type 0
+OwnWrites = Answers
     (begin 1 ∷ insert 1 2 (codes "x") ∷ insert 1 1 (codes "y") ∷ commit 1 ∷ begin 1 ∷ delete 1 2 ∷ insert 1 3 (codes "z") ∷ scan 1 ∷ abort 1 ∷ begin 1 ∷ scan 1 ∷ [])
     (answer.At 0 ∷ answer.Accepted ∷ answer.Accepted ∷ answer.Committed (Some 1) ∷ answer.At 1 ∷ answer.Accepted ∷ answer.Accepted
     ∷ answer.Rows (row_of 1 (codes "y") ∷ row_of 3 (codes "z") ∷ []) ∷ answer.Aborted ∷ answer.At 1
     ∷ answer.Rows (row_of 1 (codes "y") ∷ row_of 2 (codes "x") ∷ []) ∷ [])
 
-abbrev pub no_transaction : Type 0
-no_transaction = Answers
+abbrev pub NoTransaction : Type 0
+NoTransaction = Answers
     (get 1 1 ∷ begin 1 ∷ begin 1 ∷ commit 1 ∷ begin 1 ∷ abort 1 ∷ commit 1 ∷ [])
     (answer.NoTransaction ∷ answer.At 0 ∷ answer.InTransaction ∷ answer.Committed None ∷ answer.At 0 ∷ answer.Aborted ∷ answer.NoTransaction ∷ [])
+
+-- an update stands until it is committed, and an older snapshot scans the row as it was
+abbrev pub OlderScan : Type 0
+OlderScan = Answers
+    (begin 1 ∷ insert 1 5 (codes "x") ∷ commit 1 ∷ begin 1 ∷ begin 2 ∷ update 2 5 (codes "y") ∷ get 2 5 ∷ commit 2 ∷ scan 1 ∷ commit 1 ∷ begin 1 ∷ get 1 5 ∷ [])
+    (answer.At 0 ∷ answer.Accepted ∷ answer.Committed (Some 1) ∷ answer.At 1 ∷ answer.At 1 ∷ answer.Accepted ∷ answer.Found (Some (row_of 5 (codes "y")))
+    ∷ answer.Committed (Some 2) ∷ answer.Rows (row_of 5 (codes "x") ∷ []) ∷ answer.Committed None ∷ answer.At 2 ∷ answer.Found (Some (row_of 5 (codes "y"))) ∷ [])
+
+-- although the key has a row at the snapshot
+abbrev pub ConflictBeforeExists : Type 0
+ConflictBeforeExists = Answers
+    (begin 1 ∷ insert 1 5 (codes "x") ∷ commit 1 ∷ begin 1 ∷ begin 2 ∷ update 2 5 (codes "y") ∷ insert 1 5 (codes "z") ∷ [])
+    (answer.At 0 ∷ answer.Accepted ∷ answer.Committed (Some 1) ∷ answer.At 1 ∷ answer.At 1 ∷ answer.Accepted ∷ answer.ConflictSession 2 ∷ [])
+
+-- one key in two tables
+abbrev pub TwoTables : Type 0
+TwoTables = Answers
+    (begin 1 ∷ insert 1 5 (codes "x") ∷ asks 1 (act.Insert 1 (row_of 5 (codes "y"))) ∷ commit 1 ∷ begin 1 ∷ scan 1 ∷ asks 1 (act.Scan 1) ∷ asks 1 (act.Delete 1 (pos 5)) ∷ scan 1 ∷ asks 1 (act.Scan 1) ∷ [])
+    (answer.At 0 ∷ answer.Accepted ∷ answer.Accepted ∷ answer.Committed (Some 1) ∷ answer.At 1 ∷ answer.Rows (row_of 5 (codes "x") ∷ []) ∷ answer.Rows (row_of 5 (codes "y") ∷ [])
+    ∷ answer.Accepted ∷ answer.Rows (row_of 5 (codes "x") ∷ []) ∷ answer.Rows [] ∷ [])
+
+-- the machine after a command
+abbrev pub after : Command → IsolationMachine → IsolationMachine
+after command machine = (step machine command).1
+
+-- a store that has answered `begin` may be full, or refuse memory to an insert, and nothing changes
+abbrev pub FullIsAllowed : Type 0
+FullIsAllowed = Allows (after (begin 1) opening) (insert 1 5 (codes "x")) Full (after (begin 1) opening)
+
+abbrev pub MemoryIsAllowed : Type 0
+MemoryIsAllowed = Allows (after (begin 1) opening) (get 1 5) Memory (after (begin 1) opening)
+
+-- without a transaction there is no want of memory, an insert is not refused as freezing, and what is missing not as full
+abbrev pub OthersAreNot : Type 0
+OthersAreNot =
+    ¬ Allows opening (get 1 5) Memory opening
+    × ¬ Allows (after (begin 1) opening) (insert 1 5 (codes "x")) Freezing (after (begin 1) opening)
+    × ¬ Allows (after (begin 1) opening) (update 1 5 (codes "x")) Freezing (after (begin 1) opening)

@@ -4,7 +4,7 @@ use Rattle.std.specs.Prelude.{ℕ, ◌+◌, Bool, ◌&&◌, not, ◌==◌, List,
 use Rattle.std.specs.Option.{option_or}
 use Rattle.std.specs.BTreeMap.{insert_entry}
 use Rattle.cell_model.specs.declared.cell.Cell.{Cell}
-use Rattle.isolation_spec.specs.Contents.{place_cmp, at_place, Rows, WriteSet, History, laid_over, state_at, contents_of, place_at, place_of}
+use Rattle.isolation_spec.specs.Contents.{place_cmp, at_place, State, WriteSet, History, laid_over, state_at, contents_of, place_at, place_of}
 use Rattle.isolation_spec.specs.declared.place.Place.{Place}
 use Rattle.isolation_spec.specs.declared.command.Command.{Command}
 use Rattle.isolation_spec.specs.declared.command.Act.{Act}
@@ -32,7 +32,7 @@ abbrev pub transaction_of : ℕ → IsolationMachine → Option Transaction
 transaction_of session machine = find (λ t. t.session == session) machine.open_transactions
 
 -- What a transaction sees: its own writes laid over the state at its snapshot.
-abbrev pub seen_rows : IsolationMachine → Transaction → Rows
+abbrev pub seen_rows : IsolationMachine → Transaction → State
 seen_rows machine t = laid_over (state_at machine.history t.snapshot) t.own
 
 -- the write set has the place, with a row or gone
@@ -60,6 +60,7 @@ abbrev pub refusal_of_insert : IsolationMachine → Transaction → Place → Op
 refusal_of_insert machine t place = option_or (conflict_of machine t place)
     (if is_some (at_place (seen_rows machine t) place) then Some answer.Exists else None)
 
+-- the same of an update or a delete
 abbrev pub refusal_of_change : IsolationMachine → Transaction → Place → Option Answer
 refusal_of_change machine t place = option_or (conflict_of machine t place)
     (if is_none (at_place (seen_rows machine t) place) then Some answer.Missing else None)
@@ -113,8 +114,15 @@ step_without machine session act.Begin = (
         machine.open_transactions ++ record { session = session; snapshot = length machine.history; own = [] } ∷ [];
   },
 )
-step_without machine session _ = (answer.NoTransaction, machine)
+step_without machine session (act.Get table key) = (answer.NoTransaction, machine)
+step_without machine session (act.Scan table) = (answer.NoTransaction, machine)
+step_without machine session (act.Insert table row) = (answer.NoTransaction, machine)
+step_without machine session (act.Update table row) = (answer.NoTransaction, machine)
+step_without machine session (act.Delete table key) = (answer.NoTransaction, machine)
+step_without machine session act.Commit = (answer.NoTransaction, machine)
+step_without machine session act.Abort = (answer.NoTransaction, machine)
 
+-- the step of a session with this open transaction, or with none
 abbrev pub step_of : IsolationMachine → Command → Option Transaction → Answer × IsolationMachine
 step_of machine command None = step_without machine command.session command.act
 step_of machine command (Some t) = step_within machine t command.act

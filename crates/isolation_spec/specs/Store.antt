@@ -1,6 +1,6 @@
 -- A store under the machine: it may refuse what the machine would accept, and then nothing changes.
-use Rattle.std.specs.Prelude.{◌≡◌, ◌⊎◌}
-use Rattle.isolation_spec.specs.Machine.{IsolationMachine, step}
+use Rattle.std.specs.Prelude.{◌≡◌, ◌⊎◌, IsSome}
+use Rattle.isolation_spec.specs.Machine.{IsolationMachine, step, transaction_of}
 use Rattle.isolation_spec.specs.declared.command.Command.{Command}
 use Rattle.isolation_spec.specs.declared.command.Act.{Act}
 use Rattle.isolation_spec.specs.declared.command.Act.TheVariants as act
@@ -26,6 +26,7 @@ IsChange (act.Insert table row) = ⊥
 IsChange act.Commit = ⊥
 IsChange act.Abort = ⊥
 
+-- the act adds a row
 abbrev pub IsInsert : Act → Type 0
 IsInsert (act.Insert table row) = Unit {0}
 IsInsert act.Begin = ⊥
@@ -36,6 +37,7 @@ IsInsert (act.Delete table key) = ⊥
 IsInsert act.Commit = ⊥
 IsInsert act.Abort = ⊥
 
+-- the act asks for rows
 abbrev pub IsRead : Act → Type 0
 IsRead (act.Get table key) = Unit {0}
 IsRead (act.Scan table) = Unit {0}
@@ -52,9 +54,12 @@ IsAccepted machine command = (step machine command).0 ≡ answer.Accepted
 
 -- What a store over the machine may say to a command, and the machine after it: the machine's answer and
 -- step; or `Freezing` to a change and `Full` to an insert that the machine accepts, or `Memory` to a read or
--- a write, and then nothing changes.
+-- a write of an open transaction, and then nothing changes.
 abbrev pub Allows : IsolationMachine → Command → Outcome → IsolationMachine → Type 0
 Allows machine command (Answered said) after = step machine command ≡ (said, after)
 Allows machine command Freezing after = IsChange command.act × IsAccepted machine command × (after ≡ machine)
 Allows machine command Full after = IsInsert command.act × IsAccepted machine command × (after ≡ machine)
-Allows machine command Memory after = (IsRead command.act ⊎ (IsChange command.act ⊎ IsInsert command.act)) × (after ≡ machine)
+Allows machine command Memory after =
+    (IsRead command.act ⊎ IsChange command.act ⊎ IsInsert command.act)
+    × IsSome (transaction_of command.session machine)
+    × (after ≡ machine)

@@ -13,13 +13,21 @@ pub struct Command {
 /// What a session asks. Tables are counted from 0 as they are declared.
 #[derive(Debug, Drop)]
 pub enum Act {
+    /// Opens a transaction.
     Begin,
+    /// Asks for the row of a key.
     Get { table: u32, key: i64 },
+    /// Asks for all rows of a table.
     Scan { table: u32 },
+    /// Adds a row whose key has none.
     Insert { table: u32, row: Row },
+    /// Changes the row of a key that has one.
     Update { table: u32, row: Row },
+    /// Removes the row of a key.
     Delete { table: u32, key: i64 },
+    /// Ends the transaction, whose writes become visible to later ones.
     Commit,
+    /// Ends the transaction and drops its writes.
     Abort,
 }
 
@@ -48,7 +56,8 @@ pub enum Answer {
     Missing,
     /// The transaction committed, with this number where it wrote something.
     Committed(Option<u64>),
+    /// The transaction was dropped.
     Aborted,
-    /// Memory was refused, and nothing has changed.
+    /// A program that runs the machine was refused memory, and nothing has changed. The machine itself never answers so.
     Memory,
 }

@@ -1,6 +1,6 @@
 -- Which bytes are a workload, line by line, and else the first line that is none, with the first word or rule
 -- on it that fails.
-use Rattle.std.specs.Prelude.{ℕ, ◌+◌, ◌-◌, ◌%◌, Bool, true, false, ◌&&◌, ◌||◌, not, ◌==◌, nat_lt, List, [], ◌∷◌, ◌++◌, ℤ, length, take, drop, find, position, take_while, Option, None, Some, option_map, is_none, slice_get, bytes_eq, codes, Result, Ok, Err}
+use Rattle.std.specs.Prelude.{ℕ, ◌+◌, ◌-◌, ◌%◌, Bool, true, false, ◌&&◌, ◌||◌, not, ◌==◌, nat_lt, List, [], ◌∷◌, ◌++◌, ℤ, length, take, drop, find, position, take_while, Option, None, Some, option_map, is_none, slice_get, bytes_eq, codes, decimal, Result, Ok, Err}
 use Rattle.std.specs.List.{list_any, join_with_byte}
 use Rattle.std.specs.Option.{option_map_or, option_or}
 use Rattle.cell_model.specs.declared.cell.Cell.{Cell}
@@ -18,8 +18,8 @@ use Rattle.workload_spec.specs.declared.script.Line.{Line}
 use Rattle.workload_spec.specs.declared.script.Script.{Script}
 use Rattle.workload_spec.specs.Reading.{onto_first, parts, words_of, natural_of, natural_within, integer_of, cell_of}
 use Rattle.workload_spec.specs.ScriptText.{kind_text}
-use Rattle.workload_spec.specs.Valid.{is_name, is_declared, is_key_number, is_block_of, is_export}
-use Rattle.workload_spec.specs.Words.{line_feed}
+use Rattle.workload_spec.specs.Valid.{most_tables, most_blocks, most_sessions, most_workers, most_turns, least_slots, is_name, is_declared, is_key_number, is_block_of, is_export}
+use Rattle.workload_spec.specs.Words.{line_feed, spaced, lines_text}
 
 -- what is read, and then what is read with it; the first failure stands
 infixl 10 ◌>>=◌
@@ -73,12 +73,14 @@ kind_of word = option_or
     (option_map (λ kind. (kind, false)) (find (λ kind. bytes_eq (kind_text kind) word) kinds))
     (option_map (λ kind. (kind, true)) (find (λ kind. bytes_eq (kind_text kind ++ codes "?") word) kinds))
 
+-- what parts a column's name from its kind
 abbrev pub colon : ℕ
 colon = 58
 
 abbrev pub has_colon : List ℕ → Bool
 has_colon word = list_any (λ byte. byte == colon) word
 
+-- the bytes before the word's first colon, and those after it
 abbrev pub before_colon : List ℕ → List ℕ
 before_colon word = take_while (λ byte. not (byte == colon)) word
 
@@ -117,10 +119,10 @@ table_of tables words = do
   key ← keyword cause.Key (codes "key:i64") name.1
   columns ← columns_from (key_column ∷ []) key
   slots_word ← keyword cause.Slots (codes "slots") columns.1
-  slots ← number cause.Slots 8 (most_slots_of columns.0) slots_word
+  slots ← number cause.Slots least_slots (most_slots_of columns.0) slots_word
   eighths ← rule cause.Slots (slots.0 % 8 == 0)
   blocks_word ← keyword cause.Blocks (codes "blocks") slots.1
-  blocks ← number cause.Blocks 1 1024 blocks_word
+  blocks ← number cause.Blocks 1 most_blocks blocks_word
   end ← no_word cause.Blocks blocks.1
   Ok (record { name = name.0; schema = columns.0; slots = slots.0; blocks = blocks.0 })
 
@@ -142,6 +144,7 @@ forms = (codes "begin", Alone command.Begin) ∷ (codes "get", OfKey command.Get
     ∷ (codes "prune", Alone command.Prune) ∷ (codes "compact", OfTable command.Compact) ∷ (codes "seal", OfBlock command.Seal)
     ∷ (codes "gather", OfBlock command.Gather) ∷ (codes "export", OfTable command.Export) ∷ []
 
+-- the form of the command whose first word this is
 abbrev pub form_of : List ℕ → Option Form
 form_of word = option_map (λ entry. entry.1) (find (λ entry. bytes_eq entry.0 word) forms)
 
@@ -156,6 +159,7 @@ key_in word = do
   fits ← rule cause.Number (is_key_number key)
   Ok key
 
+-- the columns of the table at a place
 abbrev pub schema_at : List TableDecl → ℕ → List Column
 schema_at tables place = option_map_or (λ table. table.schema) (slice_get tables place) []
 
@@ -221,6 +225,34 @@ pub record Fault : Type 0 where
   pub line : ℕ
   pub cause : Cause
 
+-- the name of a cause
+abbrev pub cause_word : Cause → List ℕ
+cause_word cause.Version = codes "version"
+cause_word cause.Table = codes "table"
+cause_word cause.Name = codes "name"
+cause_word cause.Twice = codes "twice"
+cause_word cause.Key = codes "key"
+cause_word cause.Kind = codes "kind"
+cause_word cause.Columns = codes "columns"
+cause_word cause.Slots = codes "slots"
+cause_word cause.Blocks = codes "blocks"
+cause_word cause.Sessions = codes "sessions"
+cause_word cause.Workers = codes "workers"
+cause_word cause.Go = codes "go"
+cause_word cause.Session = codes "session"
+cause_word cause.Command = codes "command"
+cause_word cause.Unknown = codes "unknown"
+cause_word cause.Number = codes "number"
+cause_word cause.Cell = codes "cell"
+cause_word cause.Block = codes "block"
+cause_word cause.Export = codes "export"
+cause_word cause.Line = codes "line"
+cause_word cause.Parting = codes "parting"
+
+-- The text of a refusal: `refused`, the line and the cause.
+abbrev pub refused_text : Fault → List ℕ
+refused_text fault = lines_text (spaced (codes "refused" ∷ decimal fault.line ∷ cause_word fault.cause ∷ []) ∷ [])
+
 -- the result of a line's words
 abbrev pub on_line : {A : Type 0} → ℕ → Result A Cause → Result A Fault
 on_line line (Ok value) = Ok value
@@ -242,7 +274,7 @@ abbrev pub tables_from : ℕ → List TableDecl → List (List ℕ) → Result (
 tables_from at tables [] = Ok (tables, [])
 tables_from at tables (last ∷ []) = Ok (tables, last ∷ [])
 tables_from at tables (line ∷ next ∷ rest) = elim (is_table_line line) [
-  | true ↦ on_line at (rule cause.Table (nat_lt (length tables) 16)) >>= λ room.
+  | true ↦ on_line at (rule cause.Table (nat_lt (length tables) most_tables)) >>= λ room.
       on_line at (table_of tables (words_of line)) >>= λ table. tables_from (at + 1) (tables ++ table ∷ []) (next ∷ rest)
   | false ↦ Ok (tables, line ∷ next ∷ rest)
 ]
@@ -258,10 +290,11 @@ rounds_from tables sessions at exported (line ∷ next ∷ rest) = elim (bytes_e
       rounds_from tables sessions (at + 1) (exported || is_export read.command) (next ∷ rest) >>= λ rounds. Ok (onto_first read rounds)
 ]
 
+-- how many sessions there are
 abbrev pub sessions_of : List (List ℕ) → Result ℕ Cause
 sessions_of words = do
   rest ← keyword cause.Sessions (codes "sessions") words
-  sessions ← number cause.Sessions 1 64 rest
+  sessions ← number cause.Sessions 1 most_sessions rest
   end ← no_word cause.Sessions sessions.1
   Ok sessions.0
 
@@ -269,8 +302,8 @@ sessions_of words = do
 abbrev pub workers_of : List (List ℕ) → Result (ℕ × ℕ) Cause
 workers_of words = do
   rest ← keyword cause.Workers (codes "workers") words
-  workers ← number cause.Workers 0 16 rest
-  turns ← number cause.Workers 0 100 workers.1
+  workers ← number cause.Workers 0 most_workers rest
+  turns ← number cause.Workers 0 most_turns workers.1
   end ← no_word cause.Workers turns.1
   Ok (workers.0, turns.0)
 

@@ -50,6 +50,7 @@ is_outside WithinText = false
 is_outside BehindBackslash = false
 is_outside WithinWord = true
 
+-- the words from a byte in this position on
 abbrev pub words_from : Position → List ℕ → List (List ℕ)
 words_from position [] = [] ∷ []
 words_from position (byte ∷ bytes) =
@@ -63,10 +64,14 @@ words_of line = words_from AtStart line
 abbrev pub value_of_digits : List ℕ → ℕ
 value_of_digits digits = fold (λ value digit. value * 10 + digit_value digit) 0 digits
 
+-- the sign before a negative number
+abbrev pub minus : ℕ
+minus = 45
+
 -- the number that a word would stand for: behind a `-` the negative one
 abbrev pub integer_in : List ℕ → ℤ
 integer_in [] = pos 0
-integer_in (first ∷ rest) = if first == 45 then neg_ℤ (pos (value_of_digits rest)) else pos (value_of_digits (first ∷ rest))
+integer_in (first ∷ rest) = if first == minus then neg_ℤ (pos (value_of_digits rest)) else pos (value_of_digits (first ∷ rest))
 
 -- the value, where the word is its spelling
 abbrev pub spelled : {X : Type 0} → (X → List ℕ) → List ℕ → X → Option X
@@ -91,16 +96,21 @@ pub data Spelling : Type 0 where
   FirstDigit : Spelling
   SecondDigit : ℕ → Spelling
 
+-- the letter behind a backslash before two hexadecimal digits
+abbrev pub hex_mark : ℕ
+hex_mark = 120
+
+-- where the next byte of a text stands
 abbrev pub spelling_after : Spelling → ℕ → Spelling
 spelling_after Itself byte = if byte == backslash then Escape else Itself
-spelling_after Escape byte = if byte == 120 then FirstDigit else Itself
+spelling_after Escape byte = if byte == hex_mark then FirstDigit else Itself
 spelling_after FirstDigit byte = SecondDigit (digit_value byte)
 spelling_after (SecondDigit high) byte = Itself
 
 -- the byte that ends with this one, if one does
 abbrev pub unescaped_at : Spelling → ℕ → List ℕ
 unescaped_at Itself byte = if byte == backslash then [] else byte ∷ []
-unescaped_at Escape byte = if byte == 120 then [] else byte ∷ []
+unescaped_at Escape byte = if byte == hex_mark then [] else byte ∷ []
 unescaped_at FirstDigit byte = []
 unescaped_at (SecondDigit high) byte = (high * 16 + digit_value byte) ∷ []
 
@@ -111,6 +121,7 @@ unescaped_from spelling (byte ∷ []) = []
 unescaped_from spelling (byte ∷ next ∷ bytes) =
     unescaped_at spelling byte ++ unescaped_from (spelling_after spelling byte) (next ∷ bytes)
 
+-- the bytes that a word between quotes spells
 abbrev pub text_in : List ℕ → List ℕ
 text_in [] = []
 text_in (first ∷ rest) = unescaped_from Itself rest
@@ -121,6 +132,7 @@ bytes_of_digits [] = []
 bytes_of_digits (digit ∷ []) = []
 bytes_of_digits (high ∷ low ∷ rest) = (digit_value high * 16 + digit_value low) ∷ bytes_of_digits rest
 
+-- the bytes that a word behind its `x` spells
 abbrev pub blob_in : List ℕ → List ℕ
 blob_in [] = []
 blob_in (mark ∷ digits) = bytes_of_digits digits
@@ -130,7 +142,14 @@ abbrev pub value_in : Kind → List ℕ → Cell
 value_in kind.Bool word = Truth (bytes_eq word (codes "true"))
 value_in kind.Utf8 word = Text (text_in word)
 value_in kind.Binary word = Blob (blob_in word)
-value_in _ word = Num (integer_in word)
+value_in kind.I8 word = Num (integer_in word)
+value_in kind.I16 word = Num (integer_in word)
+value_in kind.I32 word = Num (integer_in word)
+value_in kind.I64 word = Num (integer_in word)
+value_in kind.U8 word = Num (integer_in word)
+value_in kind.U16 word = Num (integer_in word)
+value_in kind.U32 word = Num (integer_in word)
+value_in kind.U64 word = Num (integer_in word)
 
 -- the cell of a column that a word would stand for
 abbrev pub cell_in : Column → List ℕ → Cell

@@ -18,12 +18,39 @@ use Rattle.workload_spec.specs.declared.script.Script.{Script}
 abbrev pub is_within : ℕ → ℕ → ℕ → Bool
 is_within low high number = nat_le low number && nat_le number high
 
+-- the most tables of a workload, blocks of a table, sessions, workers, and turns of a worker in a round
+abbrev pub most_tables : ℕ
+most_tables = 16
+
+abbrev pub most_blocks : ℕ
+most_blocks = 1024
+
+abbrev pub most_sessions : ℕ
+most_sessions = 64
+
+abbrev pub most_workers : ℕ
+most_workers = 16
+
+abbrev pub most_turns : ℕ
+most_turns = 100
+
+-- the least slots of a block
+abbrev pub least_slots : ℕ
+least_slots = 8
+
+-- a letter from `a` to `z`, and a digit
 abbrev pub is_lower_case : ℕ → Bool
 is_lower_case byte = is_within 97 122 byte
 
+abbrev pub is_digit : ℕ → Bool
+is_digit byte = is_within 48 57 byte
+
+abbrev pub underscore : ℕ
+underscore = 95
+
 -- a byte of a name after its first: a lower-case letter, a digit or an underscore
 abbrev pub is_name_byte : ℕ → Bool
-is_name_byte byte = is_lower_case byte || is_within 48 57 byte || byte == 95
+is_name_byte byte = is_lower_case byte || is_digit byte || byte == underscore
 
 -- A name: a lower-case letter, and then lower-case letters, digits and underscores, at most 32 bytes in all.
 abbrev pub is_name : List ℕ → Bool
@@ -32,16 +59,18 @@ is_name (first ∷ rest) = is_lower_case first && list_all is_name_byte rest && 
 
 -- how many slots a block of these columns may have: 8 or more, a multiple of 8, and no more than fit
 abbrev pub are_slots : List Column → ℕ → Bool
-are_slots columns slots = is_within 8 (most_slots_of columns) slots && slots % 8 == 0
+are_slots columns slots = is_within least_slots (most_slots_of columns) slots && slots % 8 == 0
 
+-- how many blocks a table may have
 abbrev pub are_blocks : ℕ → Bool
-are_blocks blocks = is_within 1 1024 blocks
+are_blocks blocks = is_within 1 most_blocks blocks
 
 -- The columns are a table's: the key first, at most 32, names that are names and differ.
 abbrev pub are_columns : List Column → Bool
 are_columns columns = begins_with_key columns && nat_le (length columns) most_columns
     && is_none (first_twins 0 columns) && list_all (λ column. is_name column.name) columns
 
+-- A table: its name, its columns, its slots and its blocks are of their forms and within their limits.
 abbrev pub is_table : TableDecl → Bool
 is_table table = is_name table.name && are_columns table.schema && are_slots table.schema table.slots && are_blocks table.blocks
 
@@ -58,12 +87,14 @@ have_own_names (table ∷ tables) = not (is_declared table.name tables) && have_
 abbrev pub fits_table : List TableDecl → ℕ → List Cell → Bool
 fits_table tables place row = option_map_or (λ table. fits table.schema row) (slice_get tables place) false
 
+-- there is a table at this place, and it has this block
 abbrev pub is_table_place : List TableDecl → ℕ → Bool
 is_table_place tables place = is_some (slice_get tables place)
 
 abbrev pub is_block_of : List TableDecl → ℕ → ℕ → Bool
 is_block_of tables place block = option_map_or (λ table. nat_lt block table.blocks) (slice_get tables place) false
 
+-- a key is a signed number of 64 bits
 abbrev pub is_key_number : ℤ → Bool
 is_key_number key = is_integer_of I64 key
 
@@ -84,6 +115,7 @@ is_command tables (command.Seal table block) = is_block_of tables table block
 is_command tables (command.Gather table block) = is_block_of tables table block
 is_command tables (command.Export table) = is_table_place tables table
 
+-- the command exports a table
 abbrev pub is_export : Command → Bool
 is_export (command.Export table) = true
 is_export _ = false
@@ -100,8 +132,8 @@ all_lines script = flat_map (λ round. round) script.rounds
 -- and at most 100 turns.
 abbrev pub has_head : Script → Bool
 has_head script = script.version == 1
-    && is_within 1 16 (length script.tables) && list_all is_table script.tables && have_own_names script.tables
-    && is_within 1 64 script.sessions && nat_le script.workers 16 && nat_le script.turns 100
+    && is_within 1 most_tables (length script.tables) && list_all is_table script.tables && have_own_names script.tables
+    && is_within 1 most_sessions script.sessions && nat_le script.workers most_workers && nat_le script.turns most_turns
 
 -- The script is a workload: its head is one, there is a round, each line is a session's command, and there is
 -- at most one export.

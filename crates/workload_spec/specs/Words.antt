@@ -25,7 +25,7 @@ is_control byte = nat_lt byte 0x20 || byte == 0x7f
 
 -- two lower-case hexadecimal digits
 abbrev pub hex_digits : ℕ → List ℕ
-hex_digits byte = digit_char (byte / 16) ∷ digit_char (byte % 16) ∷ []
+hex_digits byte = digit_char (byte / 16 % 16) ∷ digit_char (byte % 16) ∷ []
 
 -- A byte of a text: a quote and a backslash stand behind a backslash, a control byte is `\x` and its
 -- hexadecimal digits, and any other byte stands for itself.

@@ -1,4 +1,5 @@
 //! The script of a workload.
+ghost use Rattle.std.specs.Prelude.{◌≡◌, length};
 
 use crate::command::Command;
 use cell_model::TableDecl;
@@ -36,6 +37,39 @@ impl Model for Tables {
     ghost view = { λ t. t.tables.items };
 }
 
+impl From<Vec<TableDecl>> for Tables {
+    ghost use Rattle.std.specs.Prelude.{◌≡◌};
+
+    ghost from_gives = { λ items t. t ≡ items.items };
+
+    fn from(tables: Vec<TableDecl>) -> Tables {
+        Tables { tables }
+    }
+}
+
+impl Tables {
+    /// Gives the vector back.
+    pub fn into_vec(self) -> Vec<TableDecl>
+        ensures { result.items ≡ self }
+    {
+        let Tables { tables } = self;
+        tables
+    }
+
+    pub fn as_slice(&self) -> &[TableDecl]
+        ensures { result.now ≡ self.now }
+    {
+        self.tables.as_slice()
+    }
+
+    /// How many tables there are.
+    pub fn len(&self) -> usize
+        ensures { result ≡ length self.now }
+    {
+        self.tables.len()
+    }
+}
+
 /// A line of a round: a session, counted from 1, and its command.
 #[derive(Debug, Drop)]
 pub struct Line {
@@ -62,6 +96,39 @@ impl Model for Round {
     ghost view = { λ r. r.lines.items };
 }
 
+impl From<Vec<Line>> for Round {
+    ghost use Rattle.std.specs.Prelude.{◌≡◌};
+
+    ghost from_gives = { λ items t. t ≡ items.items };
+
+    fn from(lines: Vec<Line>) -> Round {
+        Round { lines }
+    }
+}
+
+impl Round {
+    /// Gives the vector back.
+    pub fn into_vec(self) -> Vec<Line>
+        ensures { result.items ≡ self }
+    {
+        let Round { lines } = self;
+        lines
+    }
+
+    pub fn as_slice(&self) -> &[Line]
+        ensures { result.now ≡ self.now }
+    {
+        self.lines.as_slice()
+    }
+
+    /// How many lines there are.
+    pub fn len(&self) -> usize
+        ensures { result ≡ length self.now }
+    {
+        self.lines.len()
+    }
+}
+
 /// The rounds of a workload, in order.
 #[derive(Debug, Drop)]
 pub struct Rounds {
@@ -79,6 +146,39 @@ impl Model for Rounds {
     ghost coded = { coded_list (coded_list the_row.coded) };
 
     ghost view = { λ r. r.rounds.items };
+}
+
+impl From<Vec<Round>> for Rounds {
+    ghost use Rattle.std.specs.Prelude.{◌≡◌};
+
+    ghost from_gives = { λ items t. t ≡ items.items };
+
+    fn from(rounds: Vec<Round>) -> Rounds {
+        Rounds { rounds }
+    }
+}
+
+impl Rounds {
+    /// Gives the vector back.
+    pub fn into_vec(self) -> Vec<Round>
+        ensures { result.items ≡ self }
+    {
+        let Rounds { rounds } = self;
+        rounds
+    }
+
+    pub fn as_slice(&self) -> &[Round]
+        ensures { result.now ≡ self.now }
+    {
+        self.rounds.as_slice()
+    }
+
+    /// How many rounds there are.
+    pub fn len(&self) -> usize
+        ensures { result ≡ length self.now }
+    {
+        self.rounds.len()
+    }
 }
 
 /// Why a line is none of a workload: the first word or rule on it that fails.

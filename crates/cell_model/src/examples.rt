@@ -1,0 +1,32 @@
+//! Worked examples: each is a fact that the definitions compute.
+ghost use Rattle.cell_model.specs.Examples.{SlotsFitABlock, KindsHaveWidths, KindsHaveEnds, RowsAreJudged, LongValueIsRefused, SchemasAreJudged};
+
+/// How many rows of 195 and of 4,065 bits a block takes.
+pub fn slots_fit_a_block_of_2_to_the_20_bytes()
+    ensures { SlotsFitABlock }
+{}
+
+/// The bits of each kind.
+pub fn each_kind_has_its_width()
+    ensures { KindsHaveWidths }
+{}
+
+/// The numbers at the ends of the integer kinds, and those beyond.
+pub fn each_integer_kind_has_its_ends()
+    ensures { KindsHaveEnds }
+{}
+
+/// Rows are refused by their first fault.
+pub fn rows_are_refused_by_their_first_fault()
+    ensures { RowsAreJudged }
+{}
+
+/// A value of 65,536 bytes is too long.
+pub fn a_value_of_65536_bytes_is_too_long()
+    ensures { LongValueIsRefused }
+{}
+
+/// Columns are refused by their first fault.
+pub fn columns_are_refused_by_their_first_fault()
+    ensures { SchemasAreJudged }
+{}
