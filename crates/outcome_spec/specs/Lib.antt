@@ -1,0 +1,16 @@
+pub mod Lines
+pub mod Reading
+pub mod Tables
+pub mod Entries
+pub mod Forms
+pub mod Runs
+pub mod Numbers
+pub mod Answers
+pub mod Conflicts
+pub mod Upkeep
+pub mod Explained
+pub mod Opened
+pub mod Samples
+pub mod Scripts
+pub mod Examples
+pub mod Refusals
