@@ -1,7 +1,7 @@
-//! The word of a block: its state, the stamp of its last freeze and the count of its readers, in 64 bits.
+//! The word of a block, in 64 bits: its state, the stamp of its last freeze and its readers.
 #![tactic(auto)]
 
-ghost use Rattle.std.specs.Prelude.{◌≡◌, ℕ, ◌+◌, ◌<◌, ◌^◌, ◌↔◌, IsTrue, bit_and};
+ghost use Rattle.std.specs.Prelude.{◌≡◌, ℕ, ◌+◌, ◌<◌, ◌↔◌, IsTrue, bit_and};
 ghost use Rattle.block_word.specs.Word.{Enters, IsInRange, IsLawfulMove, Turns, packed, state_number, unpacked, word_of};
 ghost use Rattle.block_word.specs.declared.State.TheVariants.{Hot, Cooling, Freezing, Frozen};
 ghost use Rattle.block_word.specs.declared.Word.{Word};
@@ -62,8 +62,8 @@ pub struct Word {
     pub readers: u32,
 }
 
-/// The number that stands for a word: from the top two bits of state, 30 of stamp and 32 of readers. The stamp is below
-/// [`STAMPS`].
+/// The number that stands for a word: from the top two bits of state, 30 of stamp and 32 of
+/// readers. The stamp is below [`STAMPS`].
 pub fn pack(word: Word) -> u64
     requires { word.stamp < STAMPS }
     ensures value { result ≡ packed word }
@@ -114,8 +114,8 @@ pub fn worked_words()
     ensures thawed { ¬ IsLawfulMove (unpacked 0x8000_0001_0000_0000) (unpacked 0x0000_0001_0000_0000) }
 {}
 
-/// Whether a block word may move in one step from one number to another: by one of the six turns of its state, or by
-/// one reader that comes or leaves.
+/// Whether a block word may move in one step from one number to another: by one of the six turns
+/// of its state, or by one reader that comes or leaves.
 pub fn lawful(before: u64, after: u64) -> bool
     ensures { IsTrue result ↔ IsLawfulMove (unpacked before) (unpacked after) }
 {

@@ -7,7 +7,8 @@ ghost use Rattle.flat_column.specs.Bitmap.{AreBytes, PutsBit, bitmap_bytes};
 use std::alloc::{AllocError, Global};
 use std::marker::Model;
 
-/// A list of bits, eight a byte, the first in the lowest place (Arrow columnar format, "Validity bitmaps").
+/// A list of bits, eight a byte, the first in the lowest place (Arrow columnar format,
+/// "Validity bitmaps").
 #[derive(Drop)]
 pub struct Bits {
     bytes: Vec<u8>,
@@ -96,7 +97,8 @@ impl Bits {
         self.count() == self.len
     }
 
-    /// Appends the bitmap of the first `n` bits, with zeros after the last. Without memory `out` stays.
+    /// Appends the bitmap of the first `n` bits, with zeros after the last. Without memory `out`
+    /// stays.
     pub fn copy_to(&self, n: usize, out: &mut Vec<u8>) -> Result<(), AllocError>
         requires { n ≤ length self.now }
         ensures ok { OnOk result (out.new.items ≡ out.old.items ++ bitmap_bytes (take n self.now)) }

@@ -1,15 +1,14 @@
 //! A list of numbers of one width as Arrow data.
 
 ghost use Rattle.std.specs.Prelude.{◌≡◌, ◌+◌, ◌<◌, ◌≤◌, ◌/◌, ◌++◌, ◌↔◌, pos, IfOk, IsTrue, OnErr, OnOk, Some, drop, length, replicate, slice_get, slice_set, take};
-ghost use Rattle.byteorder.specs.Endian.{little_number};
 ghost use Rattle.flat_column.specs.Numbers.{IsInRange, IsWidth, first_value, number_bytes, numbers_bytes};
 
 use byteorder::{ByteOrder, LittleEndian};
 use std::alloc::{AllocError, Global};
 use std::marker::Model;
 
-/// A list of numbers of one width, signed or not, each in its two's complement with the lowest byte first (Arrow
-/// columnar format, "Fixed-size primitive layout").
+/// A list of numbers of one width, signed or not, each in its two's complement with the lowest
+/// byte first (Arrow columnar format, "Fixed-size primitive layout").
 #[derive(Drop)]
 pub struct Fixed {
     bytes: Vec<u8>,
@@ -22,7 +21,11 @@ impl Model for Fixed {
 
     ghost Value = { Numbers };
 
-    ghost view = { λ f. record { width = f.width; signed = f.signed; values = values_in f.width f.signed f.bytes.items } };
+    ghost view = { λ f. record {
+      width = f.width;
+      signed = f.signed;
+      values = values_in f.width f.signed f.bytes.items;
+    } };
 
     ghost invariant = { λ f. IsStored f.width f.signed f.bytes.items };
 }
@@ -31,7 +34,8 @@ impl Fixed {
     /// A list of `n` zeros of a width in bits. An empty one takes no memory.
     pub fn new(alloc: Global, width: u32, signed: bool, n: usize) -> Result<Fixed, AllocError>
         requires { IsWidth width }
-        ensures { IfOk result (λ f. f ≡ record { width = width; signed = signed; values = replicate n (pos 0) }) }
+        ensures { IfOk result (λ f.
+            f ≡ record { width = width; signed = signed; values = replicate n (pos 0) }) }
     {
         let mut numbers = Fixed {
             bytes: Vec::new(alloc),
@@ -121,7 +125,8 @@ impl Fixed {
 
     /// Adds `n` zeros at the end. Without memory the list stays.
     pub fn extend(&mut self, n: usize) -> Result<(), AllocError>
-        ensures ok { OnOk result (self.new ≡ record self.old { values = self.old.values ++ replicate n (pos 0) }) }
+        ensures ok { OnOk result (
+            self.new ≡ record self.old { values = self.old.values ++ replicate n (pos 0) }) }
         ensures err { OnErr result (self.new ≡ self.old) }
     {
         let Some(len) = self.len().checked_add(n) else {
@@ -184,7 +189,8 @@ fn put_number_at(bytes: &mut [u8], at: usize, width: u32, signed: bool, value: i
     requires known { IsWidth width }
     requires room { at + width / 8 ≤ length bytes.old }
     requires in_range { IsInRange width signed value }
-    ensures { bytes.new ≡ take at bytes.old ++ (number_bytes width value ++ drop (width / 8) (drop at bytes.old)) }
+    ensures { bytes.new ≡
+        take at bytes.old ++ (number_bytes width value ++ drop (width / 8) (drop at bytes.old)) }
 {
     put_number(&mut bytes[at..], width, signed, value);
 }
