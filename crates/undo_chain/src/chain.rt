@@ -1,4 +1,4 @@
-ghost use Rattle.std.specs.Prelude.{◌≡◌, ◌≢◌, ◌<◌, ◌≤◌, ◌++◌, [], ◌∷◌, not, false, OnOk, IsTrue, OnSome, IfSome, IsSome, ◌↔◌, ℕ, IfNone, IsOk, is_some, length, drop, map, filter, count_by, reverse, option_to_list};
+ghost use Rattle.std.specs.Prelude.{◌≡◌, ◌≢◌, ◌<◌, ◌≤◌, ◌++◌, [], ◌∷◌, not, false, OnOk, IsTrue, OnSome, IfSome, IsSome, ◌↔◌, ℕ, IfNone, IsOk, is_some, length, drop, take, map, filter, count_by, reverse, option_to_list};
 ghost use Rattle.std.specs.List.{list_any};
 ghost use Rattle.undo_chain.specs.Entry.{is_own, is_stamped_by, is_in_view};
 ghost use Rattle.undo_chain.specs.Visible.{images_laid_back};
@@ -110,7 +110,9 @@ impl<D> Chain<D> {
 
     /// How many entries a reader with the snapshot `stamp` in the session lays back.
     pub fn passed(&self, stamp: u64, session: u32) -> usize
-        ensures { result ≡ length (images_laid_back self.now.entries stamp session) }
+        ensures count { result ≡ length (images_laid_back self.now.entries stamp session) }
+        ensures images { images_laid_back self.now.entries stamp session ≡
+            map (λ undo. undo.before) (take result self.now.entries) }
     {
         let mut passed = 0;
         let mut older = self.oldest_first.as_slice();

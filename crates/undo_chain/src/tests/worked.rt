@@ -27,7 +27,7 @@ pub fn a_commit_shows_the_last_of_several_writes()
     ensures later { seen (Some 31) (committed 1 1 Put None ∷ committed 1 1 Gone (Some 30) ∷ committed 1 1 Put None ∷ []) 1 2 ≡ Some 31 }
 {}
 
-// The row 1 was committed with stamp 1 and changed to 2 with stamp 2; pruning at 1, where a transaction
+// A slot's row was put as 1 with stamp 1 and changed to 2 with stamp 2; pruning at 1, where a transaction
 // is still open, drops the first entry alone.
 pub fn pruning_keeps_what_an_open_snapshot_needs()
     ensures before { seen (Some 2) (committed 2 2 Change (Some 1) ∷ committed 1 1 Put None ∷ []) 1 1 ≡ Some 1 }
@@ -35,7 +35,7 @@ pub fn pruning_keeps_what_an_open_snapshot_needs()
     ensures newer { seen (Some 2) (committed 2 2 Change (Some 1) ∷ []) 2 1 ≡ Some 2 }
 {}
 
-// The row 16 is moved with stamp 4; session 1 began at 2, session 2 begins at 4. Each sees it once.
+// The key 16 and its row are moved with stamp 4; session 1 began at 2, session 2 begins at 4. Each sees it once.
 pub fn a_moved_row_is_seen_once()
     ensures older_at_source { seen None (moved 4 MoveOut (Some 16) ∷ []) 2 1 ≡ Some 16 }
     ensures older_at_target { seen (Some 16) (moved 4 MoveIn None ∷ []) 2 1 ≡ None }
