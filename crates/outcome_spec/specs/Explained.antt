@@ -1,5 +1,5 @@
 -- An explained output: what its lines must be, and the first that isn't so.
-use Rattle.std.specs.Prelude.{ℕ, ◌+◌, Bool, true, false, ◌&&◌, not, List, [], take, length, find, Option, Some, is_none, is_some, IsTrue, option_map, unwrap_or}
+use Rattle.std.specs.Prelude.{ℕ, ◌+◌, Bool, true, false, ◌&&◌, not, List, [], take, length, find, ◌≡◌, ◌↔◌, Option, None, Some, is_none, is_some, IsTrue, option_map, unwrap_or}
 use Rattle.std.specs.List.{list_all, range_with_len}
 use Rattle.workload_spec.specs.declared.script.Script.{Script}
 use Rattle.outcome_spec.specs.Lines.{lines_of}
@@ -47,12 +47,12 @@ is_sound run entry =
     commit_numbers_hold run entry && snapshot_numbers_hold run entry && reads_hold run entry && writes_hold run entry
     && conflicts_hold run entry && freezing_holds run entry && full_holds run entry && exports_hold run entry && upkeep_holds run entry
 
--- no output that has the forms begins with the first so many lines
+-- the first so many lines can't be read, not even as those of a text that is cut off behind them
 abbrev pub breaks_forms : Script → List ℕ → ℕ → Bool
 breaks_forms script text number = is_none (reading true script.tables (dues_of script) [] (take number (lines_of text)))
 
--- The line at which the forms fail: the first with which no output that has them begins, or the line after the
--- last where lines are missing.
+-- The line at which the forms fail: the first up to which the lines are the front of no output that has them, or
+-- the line after the last where lines are missing.
 abbrev pub unformed_line : Script → List ℕ → ℕ
 unformed_line script text = unwrap_or (find (breaks_forms script text) (range_with_len 1 (length (lines_of text)))) (1 + length (lines_of text))
 
@@ -64,3 +64,7 @@ unsound_line run = option_map (λ entry. entry.number) (find (λ entry. not (is_
 -- another condition; none where it is explained.
 abbrev pub failing_line : Script → List ℕ → Option ℕ
 failing_line script text = elim (has_forms script text) [ true ↦ unsound_line (run_in script text) | false ↦ Some (unformed_line script text) ]
+
+-- An output is explained exactly where it fails at no line.
+abbrev pub ExplainedWhereNoLineFails : Type 0
+ExplainedWhereNoLineFails = (script : Script) (text : List ℕ) → Explained script text ↔ (failing_line script text ≡ None)

@@ -34,16 +34,16 @@ abbrev pub stamp_count : ℕ → ℕ → ℕ → List Entry → ℕ
 stamp_count table block stamp entries = count_by (λ shown. shown == stamp) (shown_in (stamp_in table block) entries)
 
 -- `freezing T b g`: `sealed T b g` is one line, not after this reply, and fewer than g lines `frozen T b` are before it.
-abbrev pub is_freezing : Run → Entry → Said → Bool
-is_freezing run entry (said.Freezing table block stamp) =
+abbrev pub freezing_reply_holds : Run → Entry → Said → Bool
+freezing_reply_holds run entry (said.Freezing table block stamp) =
     stamp_count table block stamp run.entries == 1
     && stamp_count table block stamp (not_after run.entries entry) == 1
     && nat_lt (freezes_in table block (before run.entries entry)) stamp
-is_freezing run entry _ = true
+freezing_reply_holds run entry _ = true
 
 -- Freezing.
 abbrev pub freezing_holds : Run → Entry → Bool
-freezing_holds run entry = is_freezing run entry entry.reply.said
+freezing_holds run entry = freezing_reply_holds run entry entry.reply.said
 
 -- an accepted insert into the table
 abbrev pub is_accepted_insert : ℕ → Command → Said → Bool
@@ -51,14 +51,14 @@ is_accepted_insert table (command.Insert into row) told = into == table && is_ac
 is_accepted_insert table _ told = false
 
 -- `full`: at least as many accepted inserts into the table as its blocks have slots are not after this reply.
-abbrev pub is_full : Run → Entry → Command → Said → Bool
-is_full run entry (command.Insert table row) said.Full = nat_le (blocks_at run.tables table * slots_at run.tables table)
+abbrev pub full_reply_holds : Run → Entry → Command → Said → Bool
+full_reply_holds run entry (command.Insert table row) said.Full = nat_le (blocks_at run.tables table * slots_at run.tables table)
     (count_by (λ other. is_accepted_insert table other.command other.reply.said) (not_after run.entries entry))
-is_full run entry _ _ = true
+full_reply_holds run entry _ _ = true
 
 -- Full tables.
 abbrev pub full_holds : Run → Entry → Bool
-full_holds run entry = is_full run entry entry.command entry.reply.said
+full_holds run entry = full_reply_holds run entry entry.command entry.reply.said
 
 -- the least key of the table in a write set
 abbrev pub least_key : ℕ → WriteSet → Option ℤ
@@ -70,42 +70,42 @@ frozen_blocks run table entries = count_by (λ block. nat_lt 0 (freezes_in table
 
 -- `export n rows R batches B frozen F`: n is the transaction's, R the rows of the table at n, F at most B, B at most
 -- R, R at most B times the slots, B at most the table's blocks, and F at most those with a `frozen` not after.
-abbrev pub is_summary : Run → Transaction → Entry → ℕ → ℕ → ℕ → ℕ → ℕ → Bool
-is_summary run t entry table number rows batches frozen =
+abbrev pub summary_holds : Run → Transaction → Entry → ℕ → ℕ → ℕ → ℕ → ℕ → Bool
+summary_holds run t entry table number rows batches frozen =
     number == t.snapshot && rows == length (contents_of table (state_at run.history number))
     && nat_le frozen batches && nat_le batches rows && nat_le rows (batches * slots_at run.tables table)
     && nat_le batches (blocks_at run.tables table)
     && nat_le frozen (frozen_blocks run table (not_after run.entries entry))
 
 -- an export is done where the transaction has no accepted write in the table before it, and else shows the least key of these
-abbrev pub is_export : Run → Transaction → Entry → Command → Said → Bool
-is_export run t entry (command.Export table) (said.Exported number rows batches frozen) =
-    is_none (least_key table (writes_in (before t.replies entry))) && is_summary run t entry table number rows batches frozen
-is_export run t entry (command.Export table) (said.Dirty key) = option_map_or (int_eq key) (least_key table (writes_in (before t.replies entry))) false
-is_export run t entry _ _ = true
+abbrev pub export_holds : Run → Transaction → Entry → Command → Said → Bool
+export_holds run t entry (command.Export table) (said.Exported number rows batches frozen) =
+    is_none (least_key table (writes_in (before t.replies entry))) && summary_holds run t entry table number rows batches frozen
+export_holds run t entry (command.Export table) (said.Dirty key) = option_map_or (int_eq key) (least_key table (writes_in (before t.replies entry))) false
+export_holds run t entry _ _ = true
 
 -- Exports.
 abbrev pub exports_hold : Run → Entry → Bool
-exports_hold run entry = option_map_or (λ t. is_export run t entry entry.command entry.reply.said) (transaction_of run entry) true
+exports_hold run entry = option_map_or (λ t. export_holds run t entry entry.command entry.reply.said) (transaction_of run entry) true
 
 -- `sealed T b g`: g is 1 to the count of lines `sealed T b`, on no other of them, and above that of each of them before.
-abbrev pub is_seal : Run → Entry → ℕ → ℕ → ℕ → Bool
-is_seal run entry table block stamp =
+abbrev pub seal_holds : Run → Entry → ℕ → ℕ → ℕ → Bool
+seal_holds run entry table block stamp =
     nat_le 1 stamp && nat_le stamp (seals_in table block run.entries)
     && stamp_count table block stamp run.entries == 1
     && list_all (λ earlier. nat_lt earlier stamp) (shown_in (stamp_in table block) (before run.entries entry))
 
 -- `frozen T b rows`: 1 to so many rows as a block has slots; it and the `frozen T b` before it are no more than the `sealed T b` not after.
-abbrev pub is_freeze : Run → Entry → ℕ → ℕ → ℕ → Bool
-is_freeze run entry table block rows =
+abbrev pub freeze_holds : Run → Entry → ℕ → ℕ → ℕ → Bool
+freeze_holds run entry table block rows =
     nat_le 1 rows && nat_le rows (slots_at run.tables table)
     && nat_le (1 + freezes_in table block (before run.entries entry)) (seals_in table block (not_after run.entries entry))
 
 -- `not frozen` of T b: the `frozen T b` not after are no fewer than the `sealed T b` before.
-abbrev pub is_no_freeze : Run → Entry → Command → Bool
-is_no_freeze run entry (command.Gather table block) =
+abbrev pub idle_gather_holds : Run → Entry → Command → Bool
+idle_gather_holds run entry (command.Gather table block) =
     nat_le (seals_in table block (before run.entries entry)) (freezes_in table block (not_after run.entries entry))
-is_no_freeze run entry _ = true
+idle_gather_holds run entry _ = true
 
 -- the count that a line `pruned` shows, and that a line `moved` does
 abbrev pub pruned_in : Said → Option ℕ
@@ -124,23 +124,23 @@ writes_committed entry t =
 
 -- `pruned c`: c and all pruned before are no more than the accepted writes of the transactions whose commit isn't
 -- after, and twice the moved not after.
-abbrev pub is_pruned : Run → Entry → ℕ → Bool
-is_pruned run entry count = nat_le (count + sum (shown_in pruned_in (before run.entries entry)))
+abbrev pub prune_holds : Run → Entry → ℕ → Bool
+prune_holds run entry count = nat_le (count + sum (shown_in pruned_in (before run.entries entry)))
     (sum_by (writes_committed entry) run.transactions + 2 * sum (shown_in moved_in (not_after run.entries entry)))
 
--- the most rows that one compaction moves
+-- the most rows that one compaction may move
 abbrev pub most_moved : ℕ
 most_moved = 64
 
--- what upkeep may show; a compaction moves at most 64 rows
-abbrev pub is_upkeep_done : Run → Entry → Said → Bool
-is_upkeep_done run entry (said.Sealed table block stamp) = is_seal run entry table block stamp
-is_upkeep_done run entry (said.Frozen table block rows) = is_freeze run entry table block rows
-is_upkeep_done run entry said.NotFrozen = is_no_freeze run entry entry.command
-is_upkeep_done run entry (said.Moved count) = nat_le count most_moved
-is_upkeep_done run entry (said.Pruned count) = is_pruned run entry count
-is_upkeep_done run entry _ = true
+-- what each reply to upkeep shows; `moved c` shows at most 64
+abbrev pub upkeep_reply_holds : Run → Entry → Said → Bool
+upkeep_reply_holds run entry (said.Sealed table block stamp) = seal_holds run entry table block stamp
+upkeep_reply_holds run entry (said.Frozen table block rows) = freeze_holds run entry table block rows
+upkeep_reply_holds run entry said.NotFrozen = idle_gather_holds run entry entry.command
+upkeep_reply_holds run entry (said.Moved count) = nat_le count most_moved
+upkeep_reply_holds run entry (said.Pruned count) = prune_holds run entry count
+upkeep_reply_holds run entry _ = true
 
 -- Upkeep.
 abbrev pub upkeep_holds : Run → Entry → Bool
-upkeep_holds run entry = is_upkeep_done run entry entry.reply.said
+upkeep_holds run entry = upkeep_reply_holds run entry entry.reply.said
