@@ -1,0 +1,71 @@
+-- Cells of bytes that are read have bytes.
+use Rattle.std.proofs.Common.{◌≡◌, ℕ, ◌+◌, ◌*◌, ◌/◌, ◌%◌, ◌<◌, Bool, true, false, List, [], ◌∷◌, refl, sym, ap, ◌∙◌, arith}
+use Rattle.std.specs.Prelude.{nat_lt, flat_map, bytes_eq, codes, Some, None, if◌then◌else◌}
+use Rattle.std.specs.List.{list_all}
+use Rattle.std.specs.Char.{digit_value, digit_char}
+use Rattle.std.proofs.lemmas.Str.{digit_value-digit_char}
+use Rattle.std.proofs.lemmas.Bool.{lt-ltb}
+use Rattle.cell_model.specs.declared.cell.Cell.{Cell}
+use Rattle.cell_model.specs.declared.cell.Cell.TheVariants.{Null}
+use Rattle.cell_model.specs.declared.kind.Kind.{Kind}
+use Rattle.cell_model.specs.declared.kind.Kind.TheVariants as kind
+use Rattle.cell_model.specs.declared.column.Column.{Column}
+use Rattle.workload_spec.specs.Words.{hex_digits, cell_text}
+use Rattle.workload_spec.specs.Reading.{spelled, bytes_of_digits, value_in, cell_in}
+use Rattle.workload_laws.specs.Bytes.{has_only_bytes}
+use Rattle.workload_laws.proofs.Lists.{joined}
+
+-- digits that spell their value have values below 16
+pair_small : (high low value : ℕ) → value ≡ high * 16 + low → value / 16 % 16 ≡ high → value % 16 ≡ low → value < 256
+pair_small high low value e h l = omega arith
+
+byte_small : (high low : ℕ) → digit_char ((digit_value high * 16 + digit_value low) / 16 % 16) ≡ high → digit_char ((digit_value high * 16 + digit_value low) % 16) ≡ low → digit_value high * 16 + digit_value low < 256
+byte_small high low h l =
+    let value : ℕ = digit_value high * 16 + digit_value low in
+    let a : value / 16 % 16 ≡ digit_value high = sym (digit_value-digit_char (value / 16 % 16) (omega arith)) ∙ ap digit_value h in
+    let b : value % 16 ≡ digit_value low = sym (digit_value-digit_char (value % 16) (omega arith)) ∙ ap digit_value l in
+    pair_small (digit_value high) (digit_value low) value refl a b
+
+pub digits_small : (digits : List ℕ) → flat_map hex_digits (bytes_of_digits digits) ≡ digits → list_all (λ byte. nat_lt byte 256) (bytes_of_digits digits) ≡ true
+digits_small [] e = refl
+digits_small (digit ∷ []) e = refl
+digits_small (high ∷ low ∷ rest) e =
+    let value : ℕ = digit_value high * 16 + digit_value low in
+    let h : digit_char (value / 16 % 16) ≡ high = cc in
+    let l : digit_char (value % 16) ≡ low = cc in
+    let r : flat_map hex_digits (bytes_of_digits rest) ≡ rest = cc in
+    joined (lt-ltb value 256 (byte_small high low h l)) (digits_small rest r)
+
+blob_small : (word : List ℕ) → cell_text (value_in kind.Binary word) ≡ word → has_only_bytes (value_in kind.Binary word) ≡ true
+blob_small [] e = refl
+blob_small (mark ∷ digits) e = let r : flat_map hex_digits (bytes_of_digits digits) ≡ digits = cc in digits_small digits r
+
+value_bytes : (k : Kind) (word : List ℕ) → cell_text (value_in k word) ≡ word → has_only_bytes (value_in k word) ≡ true
+value_bytes kind.Binary word e = blob_small word e
+value_bytes kind.I8 word e = refl
+value_bytes kind.I16 word e = refl
+value_bytes kind.I32 word e = refl
+value_bytes kind.I64 word e = refl
+value_bytes kind.U8 word e = refl
+value_bytes kind.U16 word e = refl
+value_bytes kind.U32 word e = refl
+value_bytes kind.U64 word e = refl
+value_bytes kind.Bool word e = refl
+value_bytes kind.Utf8 word e = refl
+
+cell_by : (b : Bool) (k : Kind) (word : List ℕ) → cell_text (if b then Null else value_in k word) ≡ word → has_only_bytes (if b then Null else value_in k word) ≡ true
+cell_by true k word e = refl
+cell_by false k word e = value_bytes k word e
+
+found_is : {X : Type 0} (text_of : X → List ℕ) (word : List ℕ) (value found : X) → spelled text_of word value ≡ Some found → value ≡ found
+found_is text_of word value found e = by (bytes_eq (text_of value) word) e
+  where
+    by : (b : Bool) → (if b then Some value else None) ≡ Some found → value ≡ found
+    by true is = cc
+    by false is = absurd cc
+
+-- the cell that a word spells has bytes
+pub cell_bytes : (column : Column) (word : List ℕ) (cell : Cell) → spelled cell_text word (cell_in column word) ≡ Some cell → cell_text cell ≡ word → has_only_bytes cell ≡ true
+cell_bytes column word cell e text =
+    let same = found_is cell_text word (cell_in column word) cell e in
+    ap has_only_bytes (sym same) ∙ cell_by (bytes_eq word (codes "null")) column.kind word (ap cell_text same ∙ text)

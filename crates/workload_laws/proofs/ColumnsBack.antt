@@ -1,0 +1,157 @@
+-- Columns are read back from their words.
+use Rattle.std.proofs.Common.{◌≡◌, ℕ, ◌+◌, ◌<◌, ◌⊎◌, inl, inr, Bool, true, false, List, [], ◌∷◌, ◌++◌, drop, length, suc, map, refl, sym, ap, ◌∙◌, arith, add-one, subst, append_assoc, length-append}
+use Rattle.std.specs.Prelude.{◌&&◌, ◌||◌, ◌==◌, not, Some, is_none, bytes_eq, nat_le, nat_lt, codes, Ok, if◌then◌else◌}
+use Rattle.std.specs.List.{list_all, list_any, prefix_len}
+use Rattle.std.proofs.lemmas.Bool.{eqb-true, lt-ltb, leb-true, ne_eqb}
+use Rattle.std.proofs.lemmas.List.{append-nil}
+use Rattle.std.proofs.lemmas.List.Folds.{list_all-append}
+use Rattle.cell_model.specs.declared.column.Column.{Column}
+use Rattle.cell_model.specs.declared.kind.Kind.{Kind}
+use Rattle.cell_model.specs.declared.kind.Kind.TheVariants as kind
+use Rattle.cell_model.specs.Schemas.{begins_with_key, place_of_name, first_twins, most_columns}
+use Rattle.workload_spec.specs.declared.script.Cause.TheVariants as cause
+use Rattle.workload_spec.specs.Valid.{is_within, is_lower_case, is_digit, underscore, is_name_byte, is_name, are_columns}
+use Rattle.workload_spec.specs.ScriptText.{kind_text, column_text}
+use Rattle.workload_spec.specs.Grammar.{◌>>=◌, or_cause, rule, kind_of, colon, has_colon, before_colon, after_colon, column_of, columns_from}
+use Rattle.workload_laws.proofs.Results.{gives, rule_back, chosen, passed}
+use Rattle.workload_laws.proofs.Lists.{both, either, joined, own_names-before, none_position}
+use Rattle.workload_laws.proofs.Columns.{own_from}
+use Rattle.workload_laws.proofs.Apart.{is_plain}
+
+-- a byte of a name is plain, and no colon
+abbrev pub NoColon : ℕ → Type 0
+NoColon byte = (is_plain byte ≡ true) × (not (byte == 58) ≡ true)
+
+within_no_colon : (low high byte : ℕ) → 34 < low → (58 < low) ⊎ (high < 58) → is_within low high byte ≡ true → NoColon byte
+within_no_colon low high byte above beside within =
+    let w = both (nat_le low byte) (nat_le byte high) within in
+    let l = leb-true low byte w.0 in
+    let h = leb-true byte high w.1 in
+    let n : byte == 58 ≡ false = ne_eqb byte 58 (λ e. elim beside [ inl b ↦ omega (arith, b, l, e) | inr b ↦ omega (arith, b, h, e) ]) in
+    (lt-ltb 34 byte (omega (arith, l, above)), ap not n)
+
+name_byte : (byte : ℕ) → is_name_byte byte ≡ true → NoColon byte
+name_byte byte is = elim (either (is_lower_case byte || is_digit byte) (byte == underscore) is) [
+  | inl letter ↦ elim (either (is_lower_case byte) (is_digit byte) letter) [
+    | inl lower ↦ within_no_colon 97 122 byte (omega arith) (inl (omega arith)) lower
+    | inr digit ↦ within_no_colon 48 57 byte (omega arith) (inr (omega arith)) digit
+  ]
+  | inr e ↦ let same : byte ≡ 95 = eqb-true byte 95 e in subst NoColon (sym same) (refl, refl)
+]
+
+-- a name's bytes
+pub record NameBytes (name : List ℕ) : Type 0 where
+  pub plain : list_all is_plain name ≡ true
+  pub no_colon : list_all (λ byte. not (byte == 58)) name ≡ true
+
+rest_bytes : (name : List ℕ) → list_all is_name_byte name ≡ true → NameBytes name
+rest_bytes [] all = record { plain = refl; no_colon = refl }
+rest_bytes (byte ∷ bytes) all =
+    let b = both (is_name_byte byte) (list_all is_name_byte bytes) all in
+    let one = name_byte byte b.0 in
+    let rest = rest_bytes bytes b.1 in
+    record { plain = joined one.0 rest.plain; no_colon = joined one.1 rest.no_colon }
+
+pub name_bytes : (name : List ℕ) → is_name name ≡ true → NameBytes name
+name_bytes [] is = absurd cc
+name_bytes (first ∷ rest) is =
+    let parts = both (is_lower_case first) (list_all is_name_byte rest) (both (is_lower_case first && list_all is_name_byte rest) (nat_lt (length rest) 32) is).0 in
+    let one = within_no_colon 97 122 first (omega arith) (inl (omega arith)) parts.0 in
+    let others = rest_bytes rest parts.1 in
+    record { plain = joined one.0 others.plain; no_colon = joined one.1 others.no_colon }
+
+pub before_back : (name after : List ℕ) → list_all (λ byte. not (byte == 58)) name ≡ true → before_colon (name ++ colon ∷ after) ≡ name
+before_back [] after none = refl
+before_back (byte ∷ bytes) after none =
+    let n = both (not (byte == 58)) (list_all (λ b. not (b == 58)) bytes) none in
+    let one : 1 + prefix_len (λ b. not (b == 58)) (bytes ++ 58 ∷ after) ≡ suc (prefix_len (λ b. not (b == 58)) (bytes ++ 58 ∷ after)) = omega arith in
+    rw (n.0, one) (ap (λ (bs : List ℕ). byte ∷ bs) (before_back bytes after n.1))
+
+drop_name : (name after : List ℕ) → drop (length name + 1) (name ++ colon ∷ after) ≡ after
+drop_name [] after = refl
+drop_name (byte ∷ bytes) after = let rest = rw add-one at (drop_name bytes after) in rw add-one rest
+
+pub after_back : (name after : List ℕ) → list_all (λ byte. not (byte == 58)) name ≡ true → after_colon (name ++ colon ∷ after) ≡ after
+after_back name after none = ap (λ (n : List ℕ). drop (length n + 1) (name ++ colon ∷ after)) (before_back name after none) ∙ drop_name name after
+
+pub has_back : (name after : List ℕ) → has_colon (name ++ colon ∷ after) ≡ true
+has_back [] after = refl
+has_back (byte ∷ bytes) after = or_right (byte == 58) (has_colon (bytes ++ colon ∷ after)) (has_back bytes after)
+  where
+    or_right : (s t : Bool) → t ≡ true → (s || t) ≡ true
+    or_right true t e = refl
+    or_right false t e = e
+
+pub kind_back : (k : Kind) (nullable : Bool) → kind_of (kind_text k ++ (if nullable then codes "?" else [])) ≡ Some (k, nullable)
+kind_back kind.I8 true = refl
+kind_back kind.I8 false = refl
+kind_back kind.I16 true = refl
+kind_back kind.I16 false = refl
+kind_back kind.I32 true = refl
+kind_back kind.I32 false = refl
+kind_back kind.I64 true = refl
+kind_back kind.I64 false = refl
+kind_back kind.U8 true = refl
+kind_back kind.U8 false = refl
+kind_back kind.U16 true = refl
+kind_back kind.U16 false = refl
+kind_back kind.U32 true = refl
+kind_back kind.U32 false = refl
+kind_back kind.U64 true = refl
+kind_back kind.U64 false = refl
+kind_back kind.Bool true = refl
+kind_back kind.Bool false = refl
+kind_back kind.Utf8 true = refl
+kind_back kind.Utf8 false = refl
+kind_back kind.Binary true = refl
+kind_back kind.Binary false = refl
+
+-- a column's word, with its colon apart
+pub column_word : (column : Column) → column_text column ≡ column.name ++ colon ∷ (kind_text column.kind ++ (if column.nullable then codes "?" else []))
+column_word column = append_assoc (column.name ++ colon ∷ []) (kind_text column.kind) (if column.nullable then codes "?" else []) ∙ append_assoc column.name (colon ∷ []) (kind_text column.kind ++ (if column.nullable then codes "?" else []))
+
+-- a column that may stand behind others
+pub record MayFollow (columns : List Column) (column : Column) : Type 0 where
+  pub named : is_name column.name ≡ true
+  pub own : list_any (λ other. bytes_eq other.name column.name) columns ≡ false
+  pub room : nat_lt (length columns) most_columns ≡ true
+
+pub column_back : (columns : List Column) (column : Column) → MayFollow columns column → column_of columns (column_text column) ≡ Ok column
+column_back columns column may =
+    let bytes = name_bytes column.name may.named in
+    let before : before_colon (column_text column) ≡ column.name = ap before_colon (column_word column) ∙ before_back column.name (kind_text column.kind ++ (if column.nullable then codes "?" else [])) bytes.no_colon in
+    let after : after_colon (column_text column) ≡ kind_text column.kind ++ (if column.nullable then codes "?" else []) = ap after_colon (column_word column) ∙ after_back column.name (kind_text column.kind ++ (if column.nullable then codes "?" else [])) bytes.no_colon in
+    gives (rule cause.Name (is_name (before_colon (column_text column)))) _ (Ok column) tt (rule_back cause.Name _ (ap is_name before ∙ may.named))
+    (gives (rule cause.Twice (is_none (place_of_name (before_colon (column_text column)) columns))) _ (Ok column) tt
+    (rule_back cause.Twice _ (ap (λ (name : List ℕ). is_none (place_of_name name columns)) before ∙ none_position (λ (other : Column). bytes_eq other.name column.name) columns may.own))
+    (gives (or_cause cause.Kind (kind_of (after_colon (column_text column)))) _ (Ok column) (column.kind, column.nullable) (ap (λ (word : List ℕ). or_cause cause.Kind (kind_of word)) after ∙ ap (or_cause cause.Kind) (kind_back column.kind column.nullable))
+    (gives (rule cause.Columns (nat_lt (length columns) most_columns)) _ (Ok column) tt (rule_back cause.Columns _ may.room)
+    (ap (λ (name : List ℕ). Ok (record { name = name; kind = column.kind; nullable = column.nullable })) before))))
+
+-- of a table's columns each may follow those before it
+pub may_follow : (columns : List Column) (column : Column) (more : List Column) → are_columns (columns ++ column ∷ more) ≡ true → MayFollow columns column
+may_follow columns column more are =
+    let a = both (begins_with_key (columns ++ column ∷ more) && nat_le (length (columns ++ column ∷ more)) most_columns && is_none (first_twins 0 (columns ++ column ∷ more))) (list_all (λ c. is_name c.name) (columns ++ column ∷ more)) are in
+    let b = both (begins_with_key (columns ++ column ∷ more) && nat_le (length (columns ++ column ∷ more)) most_columns) (is_none (first_twins 0 (columns ++ column ∷ more))) a.0 in
+    let c = both (begins_with_key (columns ++ column ∷ more)) (nat_le (length (columns ++ column ∷ more)) most_columns) b.0 in
+    let n = both (list_all (λ c. is_name c.name) columns) (list_all (λ c. is_name c.name) (column ∷ more)) (sym (list_all-append (λ (c : Column). is_name c.name) columns (column ∷ more)) ∙ a.1) in
+    record {
+      named = (both (is_name column.name) (list_all (λ c. is_name c.name) more) n.1).0;
+      own = own_names-before (λ (c : Column). c.name) columns column more (own_from (columns ++ column ∷ more) 0 b.1);
+      room = lt-ltb (length columns) 32 (omega (arith, leb-true (length (columns ++ column ∷ more)) 32 c.1, length-append columns (column ∷ more)));
+    }
+
+columns_none : (columns : List Column) (word : List ℕ) (words : List (List ℕ)) → has_colon word ≡ false → columns_from columns (word ∷ words) ≡ Ok (columns, word ∷ words)
+columns_none columns word words none = passed (has_colon word) (column_of columns word >>= (λ column. columns_from (columns ++ column ∷ []) words)) (Ok (columns, word ∷ words)) none
+
+columns_next : (columns : List Column) (word : List ℕ) (column : Column) (words : List (List ℕ)) → has_colon word ≡ true → column_of columns word ≡ Ok column → columns_from columns (word ∷ words) ≡ columns_from (columns ++ column ∷ []) words
+columns_next columns word column words has read =
+    chosen (has_colon word) (column_of columns word >>= (λ made. columns_from (columns ++ made ∷ []) words)) (Ok (columns, word ∷ words)) has
+    ∙ gives (column_of columns word) (λ made. columns_from (columns ++ made ∷ []) words) (columns_from (columns ++ column ∷ []) words) column read refl
+
+pub columns_back : (more columns : List Column) (word : List ℕ) (words : List (List ℕ)) → has_colon word ≡ false → are_columns (columns ++ more) ≡ true → columns_from columns (map column_text more ++ word ∷ words) ≡ Ok (columns ++ more, word ∷ words)
+columns_back [] columns word words none are = columns_none columns word words none ∙ ap (λ (cs : List Column). Ok (cs, word ∷ words)) (sym (append-nil columns))
+columns_back (column ∷ more) columns word words none are =
+    columns_next columns (column_text column) column (map column_text more ++ word ∷ words) (ap has_colon (column_word column) ∙ has_back column.name (kind_text column.kind ++ (if column.nullable then codes "?" else []))) (column_back columns column (may_follow columns column more are))
+    ∙ columns_back more (columns ++ column ∷ []) word words none (ap are_columns (append_assoc columns (column ∷ []) more) ∙ are)
+    ∙ ap (λ (cs : List Column). Ok (cs, word ∷ words)) (append_assoc columns (column ∷ []) more)
