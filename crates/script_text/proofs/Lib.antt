@@ -1,0 +1,13 @@
+pub mod WordEnds
+pub mod Decimals
+pub mod Taken
+pub mod Spaces
+pub mod LineEnds
+pub mod Narrowing
+pub mod NextLines
+pub mod Inserts
+pub mod RoundLines
+pub mod Supports
+pub mod SupportedRounds
+pub mod SupportedScripts
+pub mod ValidScripts

@@ -1,0 +1,4 @@
+pub mod Cursor
+pub mod Answers
+pub mod Numbers
+pub mod Supported

@@ -1,0 +1,134 @@
+//! Columns of a table line: `NAME:KIND`, as far as words have a colon.
+ghost use Rattle.std.specs.Prelude.{◌≡◌, ◌≤◌, ◌∷◌, [], length, take, bytes_eq, IfOk};
+ghost use Rattle.std.specs.List.{list_all, list_any};
+ghost use Rattle.workload_spec.specs.Valid.{is_name, is_name_byte, is_lower_case};
+ghost use Rattle.workload_spec.specs.Grammar.{has_colon, before_colon, after_colon, column_of, columns_from, key_column};
+ghost use Rattle.script_text.specs.Cursor.{words_behind};
+ghost use Rattle.script_text.specs.Answers.{Gives};
+
+use crate::fault::WordFault;
+use crate::kinds::kind_of;
+use crate::words::word_behind;
+use cell_model::{Bytes, Column, Kind, MOST_COLUMNS};
+use std::alloc::{AllocError, Global};
+use workload_spec::Cause;
+
+/// Whether the bytes are a name: a lower-case letter, and then at most 31 lower-case letters, digits and underscores.
+pub fn is_name(bytes: &[u8]) -> bool
+    ensures { result ≡ is_name bytes.now }
+{
+    match bytes {
+        [] => false,
+        [first, rest @ ..] => { is_lower_case(*first) && are_name_bytes(rest) && rest.len() < 32 }
+    }
+}
+
+fn are_name_bytes(bytes: &[u8]) -> bool
+    ensures { result ≡ list_all is_name_byte bytes.now }
+{
+    bytes.iter().all(|byte| is_name_byte(*byte))
+}
+
+fn is_lower_case(byte: u8) -> bool
+    ensures { result ≡ is_lower_case byte }
+{
+    b'a' <= byte && byte <= b'z'
+}
+
+fn is_name_byte(byte: u8) -> bool
+    ensures { result ≡ is_name_byte byte }
+{
+    is_lower_case(byte) || (b'0' <= byte && byte <= b'9') || byte == b'_'
+}
+
+/// Whether a colon stands in the word.
+pub fn has_colon(word: &[u8]) -> bool
+    ensures { result ≡ has_colon word.now }
+{
+    word.iter().any(|byte| *byte == b':')
+}
+
+/// What stands before the word's first colon, and what stands behind it.
+fn split_colon(word: &[u8]) -> (&[u8], &[u8])
+    ensures before { result.0.now ≡ before_colon word.now }
+    ensures after { result.1.now ≡ after_colon word.now }
+{
+    let (before, behind) = word.split_at(colon_place(word));
+    match behind {
+        [] => (before, behind),
+        [_, after @ ..] => (before, after),
+    }
+}
+
+fn colon_place(word: &[u8]) -> usize
+    ensures within { result ≤ length word.now }
+    ensures before { before_colon word.now ≡ take result word.now }
+{
+    for (at, byte) in word.iter().enumerate() {
+        if *byte == b':' {
+            return at;
+        }
+    }
+    word.len()
+}
+
+/// A column behind others: a name that none of them has, a colon and a kind.
+#[tactic(auto, using(crate::proofs::Taken::taken_name))]
+pub fn column_of(alloc: Global, columns: &[Column], word: &[u8]) -> Result<Column, WordFault>
+    ensures { Gives (λ column. column) result (column_of columns.now word.now) }
+{
+    let (name, kind) = split_colon(word);
+    if !is_name(name) {
+        return Err(WordFault::Bad(Cause::Name));
+    }
+    if is_taken(name, columns) {
+        return Err(WordFault::Bad(Cause::Twice));
+    }
+    let Some((kind, nullable)) = kind_of(kind) else {
+        return Err(WordFault::Bad(Cause::Kind));
+    };
+    if columns.len() >= MOST_COLUMNS {
+        return Err(WordFault::Bad(Cause::Columns));
+    }
+    Ok(Column {
+        name: Bytes::from_slice(alloc, name)?,
+        kind,
+        nullable,
+    })
+}
+
+/// Whether one of the columns has the name.
+fn is_taken(name: &[u8], columns: &[Column]) -> bool
+    ensures { result ≡ list_any (λ column. bytes_eq column.name name.now) columns.now }
+{
+    columns.iter().any(|column| column.name.as_slice() == name)
+}
+
+/// The key's column and those of the words that have a colon, and what stands behind the last of them.
+pub fn columns_of(alloc: Global, words: &[u8]) -> Result<(Vec<Column>, &[u8]), WordFault>
+    ensures { Gives (λ x. (x.0.items, words_behind x.1.now)) result (columns_from (key_column ∷ []) (words_behind words.now)) }
+{
+    let mut columns = Vec::new(alloc);
+    columns.push(key_column(alloc)?)?;
+    let mut rest = words;
+    while let Some((word, behind)) = word_behind(rest) {
+        if !has_colon(word) {
+            break;
+        }
+        let column = column_of(alloc, &columns, word)?;
+        columns.push(column)?;
+        rest = behind;
+    }
+    Ok((columns, rest))
+}
+
+/// The key's column.
+pub fn key_column(alloc: Global) -> Result<Column, AllocError>
+    ensures { IfOk result (λ column. column ≡ key_column) }
+{
+    Ok(Column {
+        name: Bytes::from_slice(alloc, b"key")?,
+        kind: Kind::I64,
+        nullable: false,
+    })
+}

@@ -1,0 +1,369 @@
+//! The text of a script.
+ghost use Rattle.std.specs.Prelude.{◌≡◌, ◌++◌, ◌∷◌, [], codes, decimal, flat_map, map, OnOk, IfOk, length, ◌<◌};
+ghost use Rattle.std.specs.Fmt.{signed_decimal};
+ghost use Rattle.std.specs.Char.{digit_char};
+ghost use Rattle.workload_spec.specs.Words.{escaped, quoted, hex_digits, cell_text, cell_words, spaced, lines_text};
+ghost use Rattle.workload_spec.specs.ScriptText.{kind_text, column_text, table_text, name_of_table, command_words, line_text, round_lines, script_text};
+ghost use Rattle.script_text.specs.Cursor.{behind_spaces, rounds_behind};
+
+use cell_model::{Bytes, Cell, Column, Kind, Row, TableDecl};
+use itoa::Buffer;
+use std::alloc::{AllocError, Global};
+use workload_spec::{Command, Line, Round, Script};
+
+/// The digits of a number.
+pub fn put_natural(out: &mut Vec<u8>, number: u64) -> Result<(), AllocError>
+    ensures { OnOk result (out.new.items ≡ out.old.items ++ decimal number) }
+{
+    let mut buffer = Buffer::new();
+    out.extend_from_slice(buffer.format(number).as_bytes())
+}
+
+fn put_integer(out: &mut Vec<u8>, number: i128) -> Result<(), AllocError>
+    ensures { OnOk result (out.new.items ≡ out.old.items ++ signed_decimal number) }
+{
+    let mut buffer = Buffer::new();
+    out.extend_from_slice(buffer.format(number).as_bytes())
+}
+
+/// Two lower-case hexadecimal digits.
+fn put_hex(out: &mut Vec<u8>, byte: u8) -> Result<(), AllocError>
+    ensures { OnOk result (out.new.items ≡ out.old.items ++ hex_digits byte) }
+{
+    out.push(hex_digit(byte / 16))?;
+    out.push(hex_digit(byte % 16))?;
+    Ok(())
+}
+
+fn hex_digit(digit: u8) -> u8
+    requires { digit < 16 }
+    ensures { result ≡ digit_char digit }
+{
+    if digit < 10 {
+        b'0' + digit
+    } else {
+        b'a' - 10 + digit
+    }
+}
+
+fn put_escaped(out: &mut Vec<u8>, byte: u8) -> Result<(), AllocError>
+    ensures { OnOk result (out.new.items ≡ out.old.items ++ escaped byte) }
+{
+    if byte == b'"' || byte == b'\\' {
+        out.push(b'\\')?;
+        out.push(byte)?;
+    } else if byte < 0x20 || byte == 0x7f {
+        out.extend_from_slice(b"\\x")?;
+        put_hex(out, byte)?;
+    } else {
+        out.push(byte)?;
+    }
+    Ok(())
+}
+
+/// A text between quotes.
+fn put_quoted(out: &mut Vec<u8>, text: &[u8]) -> Result<(), AllocError>
+    ensures { OnOk result (out.new.items ≡ out.old.items ++ quoted text.now) }
+{
+    out.push(b'"')?;
+    for byte in text {
+        put_escaped(out, *byte)?;
+    }
+    out.push(b'"')?;
+    Ok(())
+}
+
+fn put_blob(out: &mut Vec<u8>, bytes: &[u8]) -> Result<(), AllocError>
+    ensures { OnOk result (out.new.items ≡ out.old.items ++ 120 ∷ flat_map hex_digits bytes.now) }
+{
+    out.push(b'x')?;
+    for byte in bytes {
+        put_hex(out, *byte)?;
+    }
+    Ok(())
+}
+
+fn put_cell(out: &mut Vec<u8>, cell: &Cell) -> Result<(), AllocError>
+    ensures { OnOk result (out.new.items ≡ out.old.items ++ cell_text cell.now) }
+{
+    match cell {
+        Cell::Null => out.extend_from_slice(b"null"),
+        Cell::Num(number) => put_integer(out, *number),
+        Cell::Truth(true) => out.extend_from_slice(b"true"),
+        Cell::Truth(false) => out.extend_from_slice(b"false"),
+        Cell::Text(text) => put_quoted(out, text.as_slice()),
+        Cell::Blob(bytes) => put_blob(out, bytes.as_slice()),
+    }
+}
+
+/// The cells, each behind a space.
+pub fn put_cells(out: &mut Vec<u8>, cells: &[Cell]) -> Result<(), AllocError>
+    ensures { OnOk result (out.new.items ≡ out.old.items ++ behind_spaces (cell_words cells.now)) }
+{
+    for cell in cells {
+        out.push(b' ')?;
+        put_cell(out, cell)?;
+    }
+    Ok(())
+}
+
+fn put_word(out: &mut Vec<u8>, word: &[u8]) -> Result<(), AllocError>
+    ensures { OnOk result (out.new.items ≡ out.old.items ++ 32 ∷ word.now) }
+{
+    out.push(b' ')?;
+    out.extend_from_slice(word)
+}
+
+/// A number behind a space.
+pub fn put_number(out: &mut Vec<u8>, number: u64) -> Result<(), AllocError>
+    ensures { OnOk result (out.new.items ≡ out.old.items ++ 32 ∷ decimal number) }
+{
+    out.push(b' ')?;
+    put_natural(out, number)
+}
+
+/// A key behind a space.
+pub fn put_key(out: &mut Vec<u8>, key: i64) -> Result<(), AllocError>
+    ensures { OnOk result (out.new.items ≡ out.old.items ++ 32 ∷ signed_decimal key) }
+{
+    out.push(b' ')?;
+    put_integer(out, key as i128)
+}
+
+/// The name of a table by its place, behind a space; nothing more than the space where no table has this place.
+pub fn put_table_name(out: &mut Vec<u8>, tables: &[TableDecl], place: u32) -> Result<(), AllocError>
+    ensures { OnOk result (out.new.items ≡ out.old.items ++ 32 ∷ name_of_table tables.now place) }
+{
+    out.push(b' ')?;
+    match tables.get(place as usize) {
+        Some(table) => out.extend_from_slice(table.name.as_slice()),
+        None => Ok(()),
+    }
+}
+
+fn put_of_table(
+    out: &mut Vec<u8>,
+    command: &[u8],
+    tables: &[TableDecl],
+    table: u32,
+) -> Result<(), AllocError>
+    ensures { OnOk result (out.new.items ≡ out.old.items ++ behind_spaces (command.now ∷ name_of_table tables.now table ∷ [])) }
+{
+    put_word(out, command)?;
+    put_table_name(out, tables, table)
+}
+
+fn put_of_key(
+    out: &mut Vec<u8>,
+    command: &[u8],
+    tables: &[TableDecl],
+    table: u32,
+    key: i64,
+) -> Result<(), AllocError>
+    ensures { OnOk result (out.new.items ≡ out.old.items ++ behind_spaces (command.now ∷ name_of_table tables.now table ∷ signed_decimal key ∷ [])) }
+{
+    put_word(out, command)?;
+    put_table_name(out, tables, table)?;
+    put_key(out, key)
+}
+
+fn put_of_row(
+    out: &mut Vec<u8>,
+    command: &[u8],
+    tables: &[TableDecl],
+    table: u32,
+    row: &Row,
+) -> Result<(), AllocError>
+    ensures { OnOk result (out.new.items ≡ out.old.items ++ behind_spaces (command.now ∷ name_of_table tables.now table ∷ cell_words row.now)) }
+{
+    put_word(out, command)?;
+    put_table_name(out, tables, table)?;
+    put_cells(out, row.as_slice())
+}
+
+fn put_of_block(
+    out: &mut Vec<u8>,
+    command: &[u8],
+    tables: &[TableDecl],
+    table: u32,
+    block: u32,
+) -> Result<(), AllocError>
+    ensures { OnOk result (out.new.items ≡ out.old.items ++ behind_spaces (command.now ∷ name_of_table tables.now table ∷ decimal block ∷ [])) }
+{
+    put_word(out, command)?;
+    put_table_name(out, tables, table)?;
+    put_number(out, block as u64)
+}
+
+/// The words of a command, each behind a space.
+fn put_command(out: &mut Vec<u8>, tables: &[TableDecl], command: &Command) -> Result<(), AllocError>
+    ensures { OnOk result (out.new.items ≡ out.old.items ++ behind_spaces (command_words tables.now command.now)) }
+{
+    match command {
+        Command::Begin => put_word(out, b"begin"),
+        Command::Get { table, key } => put_of_key(out, b"get", tables, *table, *key),
+        Command::Scan { table } => put_of_table(out, b"scan", tables, *table),
+        Command::Insert { table, row } => put_of_row(out, b"insert", tables, *table, row),
+        Command::Update { table, row } => put_of_row(out, b"update", tables, *table, row),
+        Command::Delete { table, key } => put_of_key(out, b"delete", tables, *table, *key),
+        Command::Commit => put_word(out, b"commit"),
+        Command::Abort => put_word(out, b"abort"),
+        Command::Observe => put_word(out, b"observe"),
+        Command::Prune => put_word(out, b"prune"),
+        Command::Compact { table } => put_of_table(out, b"compact", tables, *table),
+        Command::Seal { table, block } => put_of_block(out, b"seal", tables, *table, *block),
+        Command::Gather { table, block } => put_of_block(out, b"gather", tables, *table, *block),
+        Command::Export { table } => put_of_table(out, b"export", tables, *table),
+    }
+}
+
+fn put_line(out: &mut Vec<u8>, tables: &[TableDecl], line: &Line) -> Result<(), AllocError>
+    ensures { OnOk result (out.new.items ≡ out.old.items ++ (line_text tables.now line.now ++ 10 ∷ [])) }
+{
+    put_natural(out, line.session as u64)?;
+    put_command(out, tables, &line.command)?;
+    out.push(b'\n')?;
+    Ok(())
+}
+
+fn put_lines(out: &mut Vec<u8>, tables: &[TableDecl], lines: &[Line]) -> Result<(), AllocError>
+    ensures { OnOk result (out.new.items ≡ out.old.items ++ lines_text (map (line_text tables.now) lines.now)) }
+{
+    for line in lines {
+        put_line(out, tables, line)?;
+    }
+    Ok(())
+}
+
+/// The lines of rounds, a line `--` between each two.
+fn put_rounds(out: &mut Vec<u8>, tables: &[TableDecl], rounds: &[Round]) -> Result<(), AllocError>
+    ensures { OnOk result (out.new.items ≡ out.old.items ++ lines_text (round_lines tables.now rounds.now)) }
+{
+    match rounds {
+        [] => Ok(()),
+        [first, others @ ..] => {
+            put_lines(out, tables, first.as_slice())?;
+            put_further_rounds(out, tables, others)
+        }
+    }
+}
+
+/// The lines of rounds, each behind a line `--`.
+fn put_further_rounds(
+    out: &mut Vec<u8>,
+    tables: &[TableDecl],
+    rounds: &[Round],
+) -> Result<(), AllocError>
+    ensures { OnOk result (out.new.items ≡ out.old.items ++ rounds_behind tables.now rounds.now) }
+{
+    for round in rounds {
+        out.extend_from_slice(b"--\n")?;
+        put_lines(out, tables, round.as_slice())?;
+    }
+    Ok(())
+}
+
+fn kind_text(kind: Kind) -> &'static [u8]
+    ensures { result.now ≡ kind_text kind }
+{
+    match kind {
+        Kind::I8 => b"i8",
+        Kind::I16 => b"i16",
+        Kind::I32 => b"i32",
+        Kind::I64 => b"i64",
+        Kind::U8 => b"u8",
+        Kind::U16 => b"u16",
+        Kind::U32 => b"u32",
+        Kind::U64 => b"u64",
+        Kind::Bool => b"bool",
+        Kind::Utf8 => b"utf8",
+        Kind::Binary => b"binary",
+    }
+}
+
+fn put_column(out: &mut Vec<u8>, column: &Column) -> Result<(), AllocError>
+    ensures { OnOk result (out.new.items ≡ out.old.items ++ column_text column.now) }
+{
+    out.extend_from_slice(column.name.as_slice())?;
+    out.push(b':')?;
+    out.extend_from_slice(kind_text(column.kind))?;
+    if column.nullable {
+        out.push(b'?')?;
+    }
+    Ok(())
+}
+
+/// The columns, each behind a space.
+fn put_columns(out: &mut Vec<u8>, columns: &[Column]) -> Result<(), AllocError>
+    ensures { OnOk result (out.new.items ≡ out.old.items ++ behind_spaces (map column_text columns.now)) }
+{
+    for column in columns {
+        out.push(b' ')?;
+        put_column(out, column)?;
+    }
+    Ok(())
+}
+
+fn put_table(out: &mut Vec<u8>, table: &TableDecl) -> Result<(), AllocError>
+    ensures { OnOk result (out.new.items ≡ out.old.items ++ (table_text table.now ++ 10 ∷ [])) }
+{
+    out.extend_from_slice(b"table")?;
+    put_word(out, table.name.as_slice())?;
+    put_columns(out, table.schema.columns())?;
+    put_limits(out, table.slots, table.blocks)?;
+    out.push(b'\n')?;
+    Ok(())
+}
+
+fn put_limits(out: &mut Vec<u8>, slots: u32, blocks: u32) -> Result<(), AllocError>
+    ensures { OnOk result (out.new.items ≡ out.old.items ++ behind_spaces (codes "slots" ∷ decimal slots ∷ codes "blocks" ∷ decimal blocks ∷ [])) }
+{
+    put_word(out, b"slots")?;
+    put_number(out, slots as u64)?;
+    put_word(out, b"blocks")?;
+    put_number(out, blocks as u64)
+}
+
+fn put_tables(out: &mut Vec<u8>, tables: &[TableDecl]) -> Result<(), AllocError>
+    ensures { OnOk result (out.new.items ≡ out.old.items ++ lines_text (map table_text tables.now)) }
+{
+    for table in tables {
+        put_table(out, table)?;
+    }
+    Ok(())
+}
+
+/// A line of a word and a number.
+fn put_count(out: &mut Vec<u8>, word: &[u8], count: u32) -> Result<(), AllocError>
+    ensures { OnOk result (out.new.items ≡ out.old.items ++ (spaced (word.now ∷ decimal count ∷ []) ++ 10 ∷ [])) }
+{
+    out.extend_from_slice(word)?;
+    put_number(out, count as u64)?;
+    out.push(b'\n')?;
+    Ok(())
+}
+
+fn put_workers(out: &mut Vec<u8>, workers: u32, turns: u32) -> Result<(), AllocError>
+    ensures { OnOk result (out.new.items ≡ out.old.items ++ (spaced (codes "workers" ∷ decimal workers ∷ decimal turns ∷ []) ++ 10 ∷ [])) }
+{
+    out.extend_from_slice(b"workers")?;
+    put_number(out, workers as u64)?;
+    put_number(out, turns as u64)?;
+    out.push(b'\n')?;
+    Ok(())
+}
+
+/// The text of a script.
+pub fn print(alloc: Global, script: &Script) -> Result<Bytes, AllocError>
+    ensures { IfOk result (λ b. b ≡ script_text script.now) }
+{
+    let mut out = Vec::new(alloc);
+    let tables = script.tables.as_slice();
+    put_count(&mut out, b"store", script.version)?;
+    put_tables(&mut out, tables)?;
+    put_count(&mut out, b"sessions", script.sessions)?;
+    put_workers(&mut out, script.workers, script.turns)?;
+    out.extend_from_slice(b"go\n")?;
+    put_rounds(&mut out, tables, script.rounds.as_slice())?;
+    Ok(Bytes::from(out))
+}

@@ -1,0 +1,118 @@
+//! The words of a line, split off one by one.
+ghost use Rattle.std.specs.Prelude.{◌≡◌, ◌≤◌, ◌<◌, ◌+◌, [], ◌∷◌, length, drop, IfSome, IfNone};
+ghost use Rattle.workload_spec.specs.Reading.{words_of, AtStart, WithinText, WithinWord};
+ghost use Rattle.workload_spec.specs.Grammar.{word, no_word, keyword};
+ghost use Rattle.script_text.specs.Cursor.{words_behind, word_end};
+ghost use Rattle.script_text.specs.Answers.{Gives};
+
+use crate::fault::WordFault;
+use workload_spec::Cause;
+
+/// The line's first word, and what stands behind it: nothing, or a space and the further words.
+pub fn split_word(line: &[u8]) -> (&[u8], &[u8])
+    ensures words { words_of line.now ≡ result.0.now ∷ words_behind result.1.now }
+    ensures within { length result.1.now ≤ length line.now }
+{
+    line.split_at(word_length(line))
+}
+
+fn word_length(line: &[u8]) -> usize
+    ensures value { result ≡ word_end AtStart line.now }
+    ensures within { result ≤ length line.now }
+{
+    match line {
+        [b'"', text @ ..] => {
+            let inner = text_length(text);
+            let (_, behind) = text.split_at(inner);
+            1 + inner + bare_length(behind)
+        }
+        _ => bare_length(line),
+    }
+}
+
+/// How many bytes of a text, behind its quote, stand up to its closing quote with it; all where none closes it.
+fn text_length(text: &[u8]) -> usize
+    ensures value { word_end WithinText text.now ≡ result + word_end WithinWord (drop result text.now) }
+    ensures within { result ≤ length text.now }
+{
+    let mut is_escaped = false;
+    for (at, byte) in text.iter().enumerate() {
+        match (is_escaped, *byte) {
+            (true, _) => is_escaped = false,
+            (false, b'"') => return at + 1,
+            (false, b'\\') => is_escaped = true,
+            (false, _) => {}
+        }
+    }
+    text.len()
+}
+
+/// How many bytes stand before the next space; all where there is none.
+fn bare_length(bytes: &[u8]) -> usize
+    ensures value { result ≡ word_end WithinWord bytes.now }
+    ensures within { result ≤ length bytes.now }
+{
+    for (at, byte) in bytes.iter().enumerate() {
+        if *byte == b' ' {
+            return at;
+        }
+    }
+    bytes.len()
+}
+
+/// The first of the words that stand behind a word, and what stands behind it; none where no word is left.
+pub fn word_behind(words: &[u8]) -> Option<(&[u8], &[u8])>
+    ensures none { IfNone result (words_behind words.now ≡ []) }
+    ensures some { IfSome result (λ x. words_behind words.now ≡ x.0.now ∷ words_behind x.1.now) }
+    ensures within { IfSome result (λ x. length x.1.now < length words.now) }
+{
+    match words {
+        [] => None,
+        [_, line @ ..] => Some(split_word(line)),
+    }
+}
+
+/// The same, where a word is to be there.
+pub fn next_word(cause: Cause, words: &[u8]) -> Result<(&[u8], &[u8]), WordFault>
+    ensures { Gives (λ x. (x.0.now, words_behind x.1.now)) result (word cause (words_behind words.now)) }
+{
+    match word_behind(words) {
+        Some((first, rest)) => Ok((first, rest)),
+        None => Err(WordFault::Bad(cause)),
+    }
+}
+
+/// That no word stands behind the last one.
+#[tactic(auto, using(crate::proofs::WordEnds::words_some))]
+pub fn no_word(cause: Cause, words: &[u8]) -> Result<(), WordFault>
+    ensures { Gives (λ _. tt) result (no_word cause (words_behind words.now)) }
+{
+    match words {
+        [] => Ok(()),
+        [_, ..] => Err(WordFault::Bad(cause)),
+    }
+}
+
+/// What stands behind the next word, which is this one.
+pub fn keyword<'a>(cause: Cause, text: &[u8], words: &'a [u8]) -> Result<&'a [u8], WordFault>
+    ensures { Gives (λ x. words_behind x.now) result (keyword cause text.now (words_behind words.now)) }
+{
+    let (first, rest) = next_word(cause, words)?;
+    if first == text {
+        Ok(rest)
+    } else {
+        Err(WordFault::Bad(cause))
+    }
+}
+
+/// What stands behind the line's first word, which is this one.
+pub fn first_keyword<'a>(cause: Cause, text: &[u8], line: &'a [u8]) -> Result<&'a [u8], WordFault>
+    ensures { Gives (λ x. words_behind x.now) result (keyword cause text.now (words_of line.now)) }
+{
+    let (first, rest) = split_word(line);
+    if first == text {
+        Ok(rest)
+    } else {
+        Err(WordFault::Bad(cause))
+    }
+}
