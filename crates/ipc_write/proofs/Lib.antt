@@ -1,0 +1,6 @@
+mod ArrayLemmas
+mod BitmapLemmas
+mod BodyLemmas
+mod CellLemmas
+pub mod PieceLemmas
+mod ValueLemmas

@@ -1,0 +1,15 @@
+use Rattle.std.proofs.Common.{◌≡◌, ◌≤◌, take}
+use Rattle.std.specs.Prelude.{flat_map}
+use Rattle.arrow_spec.specs.Bytes.{padded}
+use Rattle.byte_ports.specs.Calls.{TellsAlike}
+use Rattle.ipc_write.specs.Calls.{WroteAll}
+use Rattle.ipc_write.proofs.writer.Writer.buffers.Given as goal
+
+abbrev pub invariant-loop-buffer : goal.invariant-loop-buffer
+invariant-loop-buffer g l = record {
+  wrote : WroteAll g.W.Sink.written l.initial.self l.self (flat_map padded (take l.buffer-index l.buffers));
+  told : TellsAlike (g.W.Sink.written l.initial.self.0) (g.W.Sink.written l.self.0);
+  started : g.W.Sink.started l.self.0 ≡ g.W.Sink.started l.initial.self.0;
+  loan : g.W.Sink.loan l.self.0 ≡ g.W.Sink.loan l.initial.self.0;
+  counted : g.W.Sink.faults l.initial.self.0 ≤ g.W.Sink.faults l.self.0;
+}

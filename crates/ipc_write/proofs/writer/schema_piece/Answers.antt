@@ -1,0 +1,5 @@
+use Rattle.std.proofs.Common.{length, ap, arith}
+use Rattle.ipc_write.proofs.writer.schema_piece.Goals as goal
+
+pub framed-requires : goal.framed-requires
+framed-requires c = omega (arith, ap length c.as_slice.ensures, c.in_ok-metadata.ensures.short)

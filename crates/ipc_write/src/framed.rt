@@ -1,0 +1,22 @@
+// The bytes of a message before its body.
+ghost use Rattle.std.specs.Prelude.{◌≡◌, ◌++◌, ◌<◌, ◌^◌, IfOk, length};
+ghost use Rattle.std.specs.Int.{w32, to_le_bytes};
+ghost use Rattle.arrow_spec.specs.Bytes.{padded};
+ghost use Rattle.arrow_spec.specs.Streams.{continuation};
+
+use std::alloc::{AllocError, Global};
+
+// Four bytes FF, the size of the metadata with its padding, and the metadata with its padding.
+pub fn framed(alloc: Global, metadata: &[u8]) -> Result<Vec<u8>, AllocError>
+    requires { length metadata.now < 2 ^ 31 }
+    ensures { IfOk result (λ bytes. bytes.items
+        ≡ continuation ++ to_le_bytes w32 (length (padded metadata.now)) ++ padded metadata.now) }
+{
+    let size = metadata.len().next_multiple_of(8);
+    let mut bytes = Vec::new(alloc);
+    bytes.extend_from_slice(&[0xff; 4])?;
+    bytes.extend_from_slice(&(size as u32).to_le_bytes())?;
+    bytes.extend_from_slice(metadata)?;
+    bytes.resize(8 + size, 0)?;
+    Ok(bytes)
+}

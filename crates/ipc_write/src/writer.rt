@@ -1,0 +1,301 @@
+ghost use Rattle.std.specs.Prelude.{◌≡◌, ◌++◌, ◌+◌, ◌<◌, ◌≤◌, ◌^◌, false, pos, All, IfOk, length, map, flat_map};
+ghost use Rattle.std.specs.Int.{w32, to_le_bytes};
+ghost use Rattle.arrow_spec.specs.Batches.{batch_of_arrays};
+ghost use Rattle.arrow_spec.specs.Bytes.{padded};
+ghost use Rattle.arrow_spec.specs.Streams.{schema_message, message_of_batch, batch_message, end_word, stream_of};
+ghost use Rattle.byte_ports.specs.Calls.{TellsAlike};
+ghost use Rattle.cell_model.specs.Rows.{Fits};
+ghost use Rattle.ipc_write.specs.Batches.{IsBlock};
+ghost use Rattle.ipc_write.specs.Calls.{WritesPiece, MakesPiece, MakesStream};
+
+use crate::arrays::build;
+use crate::batch::{Array, Batch};
+use crate::body::Body;
+use crate::faults::{PieceFault, SinkFault};
+use crate::framed::framed;
+use byte_ports::{Failed, Sink, write_all};
+use cell_model::{Bytes, Row, Rows, Schema};
+use std::alloc::{AllocError, Global};
+use std::marker::Model;
+
+/// Writes the pieces of a stream to a sink.
+///
+/// Once a call of the sink has failed, each call answers `SinkFault { earlier: true }` and writes
+/// nothing.
+#[derive(Drop)]
+pub struct Writer<W> {
+    sink: W,
+    failed: bool,
+}
+
+impl<W> Model for Writer<W> {
+    ghost use Rattle.std.specs.Prelude.{Bool};
+
+    ghost Value = { W × Bool };
+
+    ghost view = { λ w. (w.sink, w.failed) };
+}
+
+impl<W: Sink> Writer<W> {
+    /// A writer to this sink, none of whose calls has failed.
+    pub fn new(sink: W) -> Writer<W>
+        ensures { result ≡ (sink, false) }
+    {
+        Writer {
+            sink,
+            failed: false,
+        }
+    }
+
+    /// Gives the sink back. Who lent the sink learns by this what was written to it.
+    pub fn into_inner(self) -> W
+        ensures { result ≡ self.0 }
+    {
+        let Writer { sink, failed: _ } = self;
+        sink
+    }
+
+    /// Writes the message of a schema, with which a stream begins.
+    pub fn schema(&mut self, alloc: Global, schema: &Schema) -> Result<(), PieceFault>
+        ensures answer { MakesPiece W.written W.faults self.old self.new (schema_message schema.now) result }
+        ensures told { TellsAlike (W.written self.old.0) (W.written self.new.0) }
+        ensures started { W.started self.new.0 ≡ W.started self.old.0 }
+        ensures loan { W.loan self.new.0 ≡ W.loan self.old.0 }
+        ensures counted { W.faults self.old.0 ≤ W.faults self.new.0 }
+    {
+        if self.failed {
+            return Err(PieceFault::Sink(SinkFault { earlier: true }));
+        }
+        let piece = schema_piece(alloc, schema)?;
+        match self.write(piece.as_slice()) {
+            Ok(()) => Ok(()),
+            Err(fault) => Err(PieceFault::Sink(fault)),
+        }
+    }
+
+    /// Writes a whole stream: the message of the schema, one record batch for each block of rows, and
+    /// the end word.
+    pub fn stream(
+        &mut self,
+        alloc: Global,
+        schema: &Schema,
+        blocks: &[Rows],
+    ) -> Result<(), PieceFault>
+        requires { All (IsBlock schema.now) blocks.now }
+        ensures answer { MakesStream W.written W.faults self.old self.new (stream_of schema.now blocks.now) result }
+        ensures told { TellsAlike (W.written self.old.0) (W.written self.new.0) }
+        ensures started { W.started self.new.0 ≡ W.started self.old.0 }
+        ensures loan { W.loan self.new.0 ≡ W.loan self.old.0 }
+        ensures counted { W.faults self.old.0 ≤ W.faults self.new.0 }
+    {
+        match self.schema(alloc, schema) {
+            Ok(()) => {}
+            Err(fault) => return Err(fault),
+        }
+        for block in blocks {
+            match self.rows(alloc, schema, block.as_slice()) {
+                Ok(()) => {}
+                Err(fault) => return Err(fault),
+            }
+        }
+        match self.finish() {
+            Ok(()) => Ok(()),
+            Err(fault) => Err(PieceFault::Sink(fault)),
+        }
+    }
+
+    /// Writes the message of a record batch of these rows.
+    pub fn rows(&mut self, alloc: Global, schema: &Schema, rows: &[Row]) -> Result<(), PieceFault>
+        requires fits { All (λ row. Fits schema.now row) rows.now }
+        requires few { length rows.now ≤ 2 ^ 15 }
+        ensures answer { MakesPiece
+            W.written
+            W.faults
+            self.old
+            self.new
+            (batch_message schema.now rows.now)
+            result }
+        ensures told { TellsAlike (W.written self.old.0) (W.written self.new.0) }
+        ensures started { W.started self.new.0 ≡ W.started self.old.0 }
+        ensures loan { W.loan self.new.0 ≡ W.loan self.old.0 }
+        ensures counted { W.faults self.old.0 ≤ W.faults self.new.0 }
+    {
+        if self.failed {
+            return Err(PieceFault::Sink(SinkFault { earlier: true }));
+        }
+        let batch = build(alloc, schema, rows)?;
+        self.batch(alloc, &batch)
+    }
+
+    /// Writes the message of a record batch.
+    ///
+    /// Its buffers go to the sink from where they lie, each in calls of its own.
+    pub fn batch(&mut self, alloc: Global, batch: &Batch) -> Result<(), PieceFault>
+        ensures answer { MakesPiece
+            W.written
+            W.faults
+            self.old
+            self.new
+            (message_of_batch (batch_of_arrays batch.now.0 batch.now.1))
+            result }
+        ensures told { TellsAlike (W.written self.old.0) (W.written self.new.0) }
+        ensures started { W.started self.new.0 ≡ W.started self.old.0 }
+        ensures loan { W.loan self.new.0 ≡ W.loan self.old.0 }
+        ensures counted { W.faults self.old.0 ≤ W.faults self.new.0 }
+    {
+        if self.failed {
+            return Err(PieceFault::Sink(SinkFault { earlier: true }));
+        }
+        let head = batch_head(alloc, batch)?;
+        match self.message(head.as_slice(), batch.arrays()) {
+            Ok(()) => Ok(()),
+            Err(fault) => Err(PieceFault::Sink(fault)),
+        }
+    }
+
+    /// Writes the word that ends a stream.
+    pub fn finish(&mut self) -> Result<(), SinkFault>
+        ensures answer { WritesPiece W.written W.faults self.old self.new end_word result }
+        ensures told { TellsAlike (W.written self.old.0) (W.written self.new.0) }
+        ensures started { W.started self.new.0 ≡ W.started self.old.0 }
+        ensures loan { W.loan self.new.0 ≡ W.loan self.old.0 }
+        ensures counted { W.faults self.old.0 ≤ W.faults self.new.0 }
+    {
+        self.write(&[0xff, 0xff, 0xff, 0xff, 0, 0, 0, 0])
+    }
+
+    // Writes what stands before a body, and then the body of these columns.
+    fn message(&mut self, head: &[u8], arrays: &[Array]) -> Result<(), SinkFault>
+        requires { self.old.1 ≡ false }
+        ensures answer { WritesPiece
+            W.written
+            W.faults
+            self.old
+            self.new
+            (head.now ++ flat_map padded (flat_map (λ array. array.buffers) arrays.now))
+            result }
+        ensures told { TellsAlike (W.written self.old.0) (W.written self.new.0) }
+        ensures started { W.started self.new.0 ≡ W.started self.old.0 }
+        ensures loan { W.loan self.new.0 ≡ W.loan self.old.0 }
+        ensures counted { W.faults self.old.0 ≤ W.faults self.new.0 }
+    {
+        match self.write(head) {
+            Ok(()) => self.body(arrays),
+            Err(fault) => Err(fault),
+        }
+    }
+
+    // Writes the body of these columns.
+    fn body(&mut self, arrays: &[Array]) -> Result<(), SinkFault>
+        requires { self.old.1 ≡ false }
+        ensures answer { WritesPiece
+            W.written
+            W.faults
+            self.old
+            self.new
+            (flat_map padded (flat_map (λ array. array.buffers) arrays.now))
+            result }
+        ensures told { TellsAlike (W.written self.old.0) (W.written self.new.0) }
+        ensures started { W.started self.new.0 ≡ W.started self.old.0 }
+        ensures loan { W.loan self.new.0 ≡ W.loan self.old.0 }
+        ensures counted { W.faults self.old.0 ≤ W.faults self.new.0 }
+    {
+        for array in arrays {
+            match self.buffers(array.buffers().as_slice()) {
+                Ok(()) => {}
+                Err(fault) => return Err(fault),
+            }
+        }
+        Ok(())
+    }
+
+    // Writes buffers one after another, each padded.
+    fn buffers(&mut self, buffers: &[Bytes]) -> Result<(), SinkFault>
+        requires { self.old.1 ≡ false }
+        ensures answer { WritesPiece W.written W.faults self.old self.new (flat_map padded buffers.now) result }
+        ensures told { TellsAlike (W.written self.old.0) (W.written self.new.0) }
+        ensures started { W.started self.new.0 ≡ W.started self.old.0 }
+        ensures loan { W.loan self.new.0 ≡ W.loan self.old.0 }
+        ensures counted { W.faults self.old.0 ≤ W.faults self.new.0 }
+    {
+        for buffer in buffers {
+            match self.padded(buffer.as_slice()) {
+                Ok(()) => {}
+                Err(fault) => return Err(fault),
+            }
+        }
+        Ok(())
+    }
+
+    // Writes a buffer and its padding.
+    fn padded(&mut self, buffer: &[u8]) -> Result<(), SinkFault>
+        ensures answer { WritesPiece W.written W.faults self.old self.new (padded buffer.now) result }
+        ensures told { TellsAlike (W.written self.old.0) (W.written self.new.0) }
+        ensures started { W.started self.new.0 ≡ W.started self.old.0 }
+        ensures loan { W.loan self.new.0 ≡ W.loan self.old.0 }
+        ensures counted { W.faults self.old.0 ≤ W.faults self.new.0 }
+    {
+        let zeros = [0u8; 8];
+        let (padding, _) = zeros.split_at(buffer.len().next_multiple_of(8) - buffer.len());
+        match self.write(buffer) {
+            Ok(()) => self.write(padding),
+            Err(fault) => Err(fault),
+        }
+    }
+
+    // Writes a piece, unless a call of the sink has failed.
+    fn write(&mut self, piece: &[u8]) -> Result<(), SinkFault>
+        ensures answer { WritesPiece W.written W.faults self.old self.new piece.now result }
+        ensures told { TellsAlike (W.written self.old.0) (W.written self.new.0) }
+        ensures started { W.started self.new.0 ≡ W.started self.old.0 }
+        ensures loan { W.loan self.new.0 ≡ W.loan self.old.0 }
+        ensures counted { W.faults self.old.0 ≤ W.faults self.new.0 }
+    {
+        if self.failed {
+            return Err(SinkFault { earlier: true });
+        }
+        match write_all(&mut self.sink, piece) {
+            Ok(()) => Ok(()),
+            Err(Failed) => {
+                self.failed = true;
+                Err(SinkFault { earlier: false })
+            }
+        }
+    }
+}
+
+// The message of a schema.
+fn schema_piece(alloc: Global, schema: &Schema) -> Result<Vec<u8>, AllocError>
+    ensures { IfOk result (λ bytes. bytes.items ≡ schema_message schema.now) }
+{
+    let metadata = arrow_meta::schema_message(alloc, schema)?;
+    framed(alloc, metadata.as_slice())
+}
+
+// What stands before the body in the message of a record batch.
+fn batch_head(alloc: Global, batch: &Batch) -> Result<Vec<u8>, AllocError>
+    ensures { IfOk result (λ head.
+        head.items ++ flat_map padded (flat_map (λ array. array.buffers) batch.now.1)
+        ≡ message_of_batch (batch_of_arrays batch.now.0 batch.now.1)) }
+{
+    let nodes = nodes(alloc, batch.rows(), batch.arrays())?;
+    let body = Body::of_arrays(alloc, batch.arrays())?;
+    let metadata = arrow_meta::batch_message(
+        alloc,
+        u64::from(batch.rows()),
+        nodes.as_slice(),
+        body.places.as_slice(),
+        body.size,
+    )?;
+    framed(alloc, metadata.as_slice())
+}
+
+// A node for each column: the rows and the nulls.
+fn nodes(alloc: Global, rows: u32, arrays: &[Array]) -> Result<Vec<(i64, i64)>, AllocError>
+    ensures { IfOk result (λ nodes. nodes.items ≡ map (λ array. (pos rows, pos array.nulls)) arrays.now) }
+{
+    arrays
+        .iter()
+        .map(|array| (i64::from(rows), i64::from(array.nulls())))
+        .collect(alloc)
+}
