@@ -1,0 +1,11 @@
+pub mod Ends
+pub mod Replies
+pub mod Begins
+pub mod Lookups
+pub mod Inserted
+pub mod Committed
+pub mod Sending
+pub mod Exported
+pub mod Placed
+pub mod Running
+pub mod Scripts

@@ -1,0 +1,56 @@
+use Rattle.std.proofs.Common.{◌≡◌, ℕ, ap, sym, ◌∙◌, subst, arith, min, length}
+use Rattle.arrow_spec.specs.Streams.{schema_message, batch_message}
+use Rattle.mainline.proofs.Sending.{Sending, schema_fails, sending_begins, sending_goes_on, sending_ends, batches_bound, block_fails, small_count}
+use Rattle.mainline.proofs.export.write_rows.Goals as goal
+
+pub returns-in-Err-clause-err : goal.returns-in-Err-clause-err
+returns-in-Err-clause-err g c =
+    schema_fails (Unit {0}) g.W.Sink.written g.W.Sink.faults c.args.writer.now c.schema.new.self c.args.table.now.schema c.args.rows.now
+    (schema_message c.args.table.now.schema) c.in-Err.fault c.requires.fresh c.in-Err.ensures.answer
+
+pub loop-block-init : goal.loop-block-init
+loop-block-init g c =
+    let made = c.into_iter-block-iterator.ensures.into_iter_gives in
+    let rest : c.into_iter-block-iterator.result.rest.now ≡ c.args.rows.now =
+    ap (λ chunks. chunks.rest.now) made ∙ c.chunks-block-items.ensures.rest in
+    record {
+      sending = subst (Sending c.args.table.now.schema c.args.table.now.slots c.args.rows.now (g.W.Sink.written c.args.writer.now.0) (g.W.Sink.written c.schema.new.self.0) 0) (sym rest)
+          (sending_begins c.args.table.now.schema c.args.table.now.slots c.args.rows.now _ _ c.requires.slots c.in_default.ensures.answer.bytes);
+      size = ap (λ chunks. chunks.size) made ∙ c.chunks-block-items.ensures.size;
+      fresh = c.in_default.ensures.answer.after;
+      started = c.schema.ensures.started;
+      loan = c.schema.ensures.loan;
+      counted = c.schema.ensures.counted;
+    }
+
+pub returns-in-Err-rows-clause-err : goal.returns-in-Err-rows-clause-err
+returns-in-Err-rows-clause-err g c =
+    let inv = c.loop-block.invariant in
+    block_fails (Unit {0}) g.W.Sink.written g.W.Sink.faults c.args.writer.now c.loop-block.writer c.rows.new.self c.args.table.now.schema c.args.table.now.slots c.args.rows.now
+    c.loop-block.batches c.loop-block.block-iterator.rest.now (batch_message c.args.table.now.schema c.in-Some.block.now) c.in-Err-rows.fault
+    inv.fresh inv.sending c.in-Some.ensures.steps.1.2 inv.counted c.in-Err-rows.ensures.answer
+
+pub overflow_add-batches : goal.overflow_add-batches
+overflow_add-batches g c =
+    let inv = c.loop-block.invariant in
+    let bound = batches_bound c.args.table.now.schema c.args.table.now.slots _ c.args.rows.now _ _ c.loop-block.batches _ inv.sending c.in-Some.ensures.steps.1.2 c.requires.room in
+    small_count c.loop-block.batches _ bound c.requires.limit
+
+pub loop-block-preserved : goal.loop-block-preserved
+loop-block-preserved g c =
+    let inv = c.loop-block.invariant in
+    let steps = c.in-Some.ensures.steps in
+    record {
+      sending = sending_goes_on c.args.table.now.schema c.args.table.now.slots c.args.rows.now _ _ _ c.loop-block.batches _ c.in-Some.block.now _ inv.sending c.requires.slots
+          steps.1.0 (steps.1.1 ∙ ap (λ (size : ℕ). min size (length c.loop-block.block-iterator.rest.now)) inv.size) steps.1.2 c.in_default-rows.ensures.answer.bytes;
+      size = steps.0 ∙ inv.size;
+      fresh = c.in_default-rows.ensures.answer.after;
+      started = c.rows.ensures.started ∙ inv.started;
+      loan = c.rows.ensures.loan ∙ inv.loan;
+      counted = omega (arith, inv.counted, c.rows.ensures.counted);
+    }
+
+pub returns-in-Ok-clause-ok : goal.returns-in-Ok-clause-ok
+returns-in-Ok-clause-ok g c =
+    let inv = c.loop-block.invariant in
+    sending_ends c.args.table.now.schema c.args.table.now.slots _ c.args.rows.now _ _ _ c.loop-block.batches _ inv.sending c.in-None.ensures.steps.1.0 c.requires.room c.in-Ok.ensures.answer.bytes

@@ -1,0 +1,45 @@
+use Rattle.std.proofs.Common.{◌≡◌, ◌≤◌, true, ap, sym, ◌∙◌, subst, List, [], ◌∷◌, ◌++◌, map, count_by, Option, ℕ, option_map, if◌then◌else◌}
+use Rattle.std.specs.List.{list_all, list_any}
+use Rattle.std.specs.Io.KnownBytes.{Appends}
+use Rattle.cell_model.specs.declared.table.TableDecl.{TableDecl}
+use Rattle.workload_spec.specs.Valid.{is_export}
+use Rattle.workload_spec.specs.declared.script.Line.{Line}
+use Rattle.outcome_laws.specs.Laws.{commands_in}
+use Rattle.mainline.specs.Sent.{RunsRound, runs_today}
+use Rattle.mainline.proofs.Scripts.{parts_of_script, run_is, popped_round}
+use Rattle.mainline.proofs.perform.run_script.Goals as goal
+
+pub run_round-requires-clause-table : goal.run_round-requires-clause-table
+run_round-requires-clause-table g c κs within =
+    let parts = parts_of_script c.args.script c.requires.valid c.requires.supported in
+    (parts.table, c.as_slice.ensures ∙ parts.tables_are, parts.is_table)
+
+pub run_round-requires-clause-lines : goal.run_round-requires-clause-lines
+run_round-requires-clause-lines g c κs within =
+    let parts = parts_of_script c.args.script c.requires.valid c.requires.supported in
+    let round = popped_round c.args.script parts c.into_vec.result.items c.pop.new.self.items c.pop.result c.in-Some.round c.into_vec.ensures c.pop.ensures.items c.in-Some.is in
+    let tables : c.as_slice.result.now ≡ c.args.script.tables = c.as_slice.ensures in
+    let lines : list_all (λ (line : Line). runs_today c.as_slice.result.now line.command) c.in-Some.round ≡ true =
+    ap (λ (tables : List TableDecl). list_all (λ (line : Line). runs_today tables line.command) c.in-Some.round) tables
+    ∙ ap (list_all (λ (line : Line). runs_today c.args.script.tables line.command)) round ∙ parts.lines in
+    lines
+
+pub run_round-requires-clause-once : goal.run_round-requires-clause-once
+run_round-requires-clause-once g c κs within =
+    let parts = parts_of_script c.args.script c.requires.valid c.requires.supported in
+    let round = popped_round c.args.script parts c.into_vec.result.items c.pop.new.self.items c.pop.result c.in-Some.round c.into_vec.ensures c.pop.ensures.items c.in-Some.is in
+    subst (λ (lines : List Line). count_by (λ (line : Line). is_export line.command) lines ≤ 1) (sym round) parts.once
+
+pub returns-in-Ok-write_all-clause-done : goal.returns-in-Ok-write_all-clause-done
+returns-in-Ok-write_all-clause-done g c = λ left_old left_new.
+    let parts = parts_of_script c.args.script c.requires.valid c.requires.supported in
+    let round = popped_round c.args.script parts c.into_vec.result.items c.pop.new.self.items c.pop.result c.in-Some.round c.into_vec.ensures c.pop.ensures.items c.in-Some.is in
+    let lines = round ∙ sym parts.lines_are in
+    let runs : RunsRound c.args.script.tables (commands_in c.args.script) c.in-Ok.text.items (g.X.Sink.written c.args.export.now) (g.X.Sink.written c.run_round.new.export) =
+    subst (λ (before : Option (List ℕ)). RunsRound c.args.script.tables (commands_in c.args.script) c.in-Ok.text.items before (g.X.Sink.written c.run_round.new.export)) c.start_export.ensures.written
+    (subst (λ (tables : List TableDecl). RunsRound tables (commands_in c.args.script) c.in-Ok.text.items (g.X.Sink.written c.start_export.new.export) (g.X.Sink.written c.run_round.new.export)) c.as_slice.ensures
+    (subst (λ (lines : List Line). RunsRound c.as_slice.result.now (map (λ (line : Line). line.command) lines) c.in-Ok.text.items (g.X.Sink.written c.start_export.new.export) (g.X.Sink.written c.run_round.new.export)) lines c.in-Ok.ensures.ok)) in
+    run_is c.args.path.now c.args.script c.in-Ok.text.items left_old left_new _ _ _ _ _ _ c.requires.valid c.requires.supported runs
+    (subst (Appends (g.O.Sink.written c.args.out.now) (g.O.Sink.written c.write_all.new.sink)) c.as_slice-in-Ok.ensures.value c.in-Ok-write_all.ensures.bytes)
+    (c.run_round.ensures.started ∙ c.in_default-start_export.ensures.started
+    ∙ ap (λ (lines : List Line). if list_any (λ (line : Line). is_export line.command) lines then option_map (λ names. names ++ c.args.path.now ∷ []) (g.X.Sink.started c.args.export.now) else g.X.Sink.started c.args.export.now) lines)

@@ -1,0 +1,179 @@
+-- What a run of the program reads, prints and sends, as its status says.
+use Rattle.std.specs.Prelude.{◌≡◌, ℕ, true, false, List, [], ◌∷◌, ◌++◌, Option, None, Some, option_map, Err, IsSome, if◌then◌else◌}
+use Rattle.std.specs.List.{list_any}
+use Rattle.std.specs.Io.KnownBytes.{Appends, Consumes, IsAtEnd}
+use Rattle.isolation_spec.specs.Contents.{contents_of, state_at}
+use Rattle.workload_spec.specs.declared.command.Command.{Command}
+use Rattle.workload_spec.specs.declared.command.Command.TheVariants as command
+use Rattle.workload_spec.specs.declared.reply.Said.{Said}
+use Rattle.workload_spec.specs.declared.reply.Said.TheVariants as said
+use Rattle.workload_spec.specs.declared.script.Script.{Script}
+use Rattle.workload_spec.specs.Grammar.{Fault, refused_text}
+use Rattle.workload_spec.specs.ScriptText.{script_text}
+use Rattle.workload_spec.specs.Supported.{is_supported}
+use Rattle.workload_spec.specs.Valid.{is_valid, is_export, all_lines}
+use Rattle.outcome_spec.specs.Entries.{Entry}
+use Rattle.outcome_spec.specs.Explained.{Explained, run_in}
+use Rattle.outcome_spec.specs.Runs.{Run, Transaction, transaction_of}
+use Rattle.outcome_spec.specs.Tables.{columns_at}
+use Rattle.mainline.specs.Sent.{IsStreamOf, IsFrontOf}
+use Rattle.mainline.specs.Words.{usage_line}
+use Rattle.script_text.specs.Supported.{supported_of}
+use Rattle.script_text.specs.declared.fault.ScriptFault.{ScriptFault}
+use Rattle.script_text.specs.declared.fault.ScriptFault.TheVariants as fault
+use Rattle.mainline.specs.declared.status.Status.{Status}
+use Rattle.mainline.specs.declared.status.Status.TheVariants as status
+
+-- Bytes of a front of the canonical stream of the table's rows at the snapshot of the reply's transaction.
+pub record IsFrontAt (run : Run) (entry : Entry) (table : ℕ) (bytes : List ℕ) : Type 0 where
+  pub transaction : Transaction
+  pub within : transaction_of run entry ≡ Some transaction
+  pub front : IsFrontOf (columns_at run.tables table) (contents_of table (state_at run.history transaction.snapshot)) bytes
+
+-- What a reply in a run says of the bytes that went to the outlet. An export `export n rows R batches B frozen F` sent
+-- the canonical stream of the rows of the table after n commits, each once, R in all, in B batches of which none is
+-- empty; with refused memory a front of one; and with any other reply nothing. No other command says anything.
+abbrev pub SaysOfBytes : Run → Entry → Command → Said → List ℕ → Type 0
+SaysOfBytes run entry (command.Export table) (said.Exported number rows batches frozen) bytes =
+    IsStreamOf (columns_at run.tables table) (contents_of table (state_at run.history number)) rows batches bytes
+SaysOfBytes run entry (command.Export table) said.Memory bytes = IsFrontAt run entry table bytes
+SaysOfBytes run entry (command.Export table) _ bytes = bytes ≡ []
+SaysOfBytes run entry _ told bytes = Unit {0}
+
+-- each of these replies says what went to the outlet
+abbrev pub EachSays : Run → List ℕ → List Entry → Type 0
+EachSays run bytes [] = Unit {0}
+EachSays run bytes (entry ∷ entries) = SaysOfBytes run entry entry.command entry.reply.said bytes × EachSays run bytes entries
+
+-- What is told of the outside at one moment: the bytes left to read, those written to the output and to the outlet, and
+-- the names that the outlet was started with.
+pub record Outside : Type 0 where
+  pub left : Option (List ℕ)
+  pub printed : Option (List ℕ)
+  pub exported : Option (List ℕ)
+  pub started : Option (List (List ℕ))
+
+abbrev pub outside : Option (List ℕ) → Option (List ℕ) → Option (List ℕ) → Option (List (List ℕ)) → Outside
+outside left printed exported started = record { left = left; printed = printed; exported = exported; started = started }
+
+-- The bytes are the text of this workload, which runs today.
+pub record IsWorkload (bytes : List ℕ) (script : Script) : Type 0 where
+  pub text : script_text script ≡ bytes
+  pub valid : is_valid script ≡ true
+  pub supported : is_supported script ≡ true
+
+-- The bytes were read, to the end of the input.
+pub record IsRead (bytes : List ℕ) (before now : Outside) : Type 0 where
+  pub read : Consumes before.left now.left bytes
+  pub ended : IsAtEnd now.left
+
+-- the names with which an outlet was started, after a run with this path: once, where the workload has an export
+abbrev pub started_by : List ℕ → Script → Option (List (List ℕ)) → Option (List (List ℕ))
+started_by path script names =
+    if list_any (λ line. is_export line.command) (all_lines script) then option_map (λ before. before ++ path ∷ []) names else names
+
+-- A workload was run: its output is explained by snapshot isolation, and its export is as the output says.
+pub record IsRun (path : List ℕ) (script : Script) (before now : Outside) : Type 0 where
+  pub output : List ℕ
+  pub printed : Appends before.printed now.printed output
+  pub explained : Explained script output
+  pub sent : List ℕ
+  pub exported : Appends before.exported now.exported sent
+  pub says : EachSays (run_in script output) sent (run_in script output).entries
+  pub quiet : list_any (λ line. is_export line.command) (all_lines script) ≡ false → sent ≡ []
+  pub started : now.started ≡ started_by path script before.started
+
+-- The input is a workload, and it was run.
+pub record IsDone (path : List ℕ) (before now : Outside) : Type 0 where
+  pub bytes : List ℕ
+  pub input : IsRead bytes before now
+  pub script : Script
+  pub workload : IsWorkload bytes script
+  pub run : IsRun path script before now
+
+-- The input is the text of no workload that runs today, and its first bad line is printed with the cause.
+pub record IsRefused (before now : Outside) : Type 0 where
+  pub bytes : List ℕ
+  pub input : IsRead bytes before now
+  pub none : (script : Script) → ¬ IsWorkload bytes script
+  pub fault : Fault
+  pub first : supported_of bytes ≡ Err fault
+  pub printed : Appends before.printed now.printed (refused_text fault)
+  pub exported : now.exported ≡ before.exported
+  pub started : now.started ≡ before.started
+
+-- The input is a workload that asks for an export.
+pub record AsksExport (before now : Outside) : Type 0 where
+  pub bytes : List ℕ
+  pub input : IsRead bytes before now
+  pub script : Script
+  pub workload : IsWorkload bytes script
+  pub asked : list_any (λ line. is_export line.command) (all_lines script) ≡ true
+
+-- The words ask for nothing; the line that tells how the program is used is printed, and nothing is read or sent.
+pub record IsUsage (before now : Outside) : Type 0 where
+  pub printed : Appends before.printed now.printed usage_line
+  pub left : now.left ≡ before.left
+  pub exported : now.exported ≡ before.exported
+  pub started : now.started ≡ before.started
+
+-- the run ended so, and then the fact holds
+abbrev pub OnDone : Status → Type 0 → Type 0
+OnDone status.Done fact = fact
+OnDone _ fact = Unit {0}
+
+abbrev pub OnUsage : Status → Type 0 → Type 0
+OnUsage status.Usage fact = fact
+OnUsage _ fact = Unit {0}
+
+abbrev pub OnRefused : Status → Type 0 → Type 0
+OnRefused status.Refused fact = fact
+OnRefused _ fact = Unit {0}
+
+abbrev pub OnReadFault : Status → Type 0 → Type 0
+OnReadFault status.ReadFault fact = fact
+OnReadFault _ fact = Unit {0}
+
+abbrev pub OnOutFault : Status → Type 0 → Type 0
+OnOutFault status.OutFault fact = fact
+OnOutFault _ fact = Unit {0}
+
+abbrev pub OnExportFault : Status → Type 0 → Type 0
+OnExportFault status.ExportFault fact = fact
+OnExportFault _ fact = Unit {0}
+
+abbrev pub OnTooLong : Status → Type 0 → Type 0
+OnTooLong status.TooLong fact = fact
+OnTooLong _ fact = Unit {0}
+
+-- the statuses with which the run of a workload ends, a refusal, and the line of usage
+abbrev pub EndsRun : Status → Type 0
+EndsRun status.Done = Unit {0}
+EndsRun status.OutFault = Unit {0}
+EndsRun status.ExportFault = Unit {0}
+EndsRun status.Memory = Unit {0}
+EndsRun _ = ⊥
+
+abbrev pub EndsRefusal : Status → Type 0
+EndsRefusal status.Refused = Unit {0}
+EndsRefusal status.OutFault = Unit {0}
+EndsRefusal status.Memory = Unit {0}
+EndsRefusal _ = ⊥
+
+abbrev pub EndsUsage : Status → Type 0
+EndsUsage status.Usage = Unit {0}
+EndsUsage status.OutFault = Unit {0}
+EndsUsage _ = ⊥
+
+-- Whether the words ask for an export's path: with the status Usage they do not; with OutFault they may or may not,
+-- since the line of usage may have failed; with any other they do. No run ends as one that shows a stream.
+abbrev pub WordsAsk : Option (List ℕ) → Status → Type 0
+WordsAsk path status.Usage = path ≡ None
+WordsAsk path status.OutFault = Unit {0}
+WordsAsk path status.NotAStream = ⊥
+WordsAsk path _ = IsSome path
+
+-- The line of a refusal was printed: where the fault is a bad line, that and its cause.
+abbrev pub TellsFault : ScriptFault → Option (List ℕ) → Option (List ℕ) → Type 0
+TellsFault (fault.Bad line cause) before now = Appends before now (refused_text (record { line = line; cause = cause }))
+TellsFault (fault.Memory refused) before now = ⊥

@@ -1,0 +1,52 @@
+//! Runs workloads over the store: `mainline run --export PATH` reads one from standard input, prints the replies, and
+//! writes the export as an Arrow stream to the path.
+#![tactic(auto)]
+
+mod export;
+mod fault;
+mod perform;
+mod round;
+mod status;
+mod store;
+#[cfg(test)]
+mod tests;
+mod words;
+
+use byte_ports::{FileOutlet, OpenGate, StdSink, StdSource};
+use perform::perform;
+use status::Status;
+use std::alloc::AllocError;
+use std::env;
+use std::io::ErrorKind;
+use std::process::ExitCode;
+
+fn main(rt: HostRuntime) -> ExitCode {
+    let alloc = rt.alloc();
+    let Ok(words) = told_words(&rt) else {
+        return ExitCode::from(Status::Memory.code());
+    };
+    let mut source = StdSource::new(rt.stdin());
+    let mut out = StdSink::new(rt.stdout());
+    let mut export = FileOutlet::new(rt);
+    let status = perform(
+        &rt,
+        alloc,
+        words,
+        &mut source,
+        &mut out,
+        &mut export,
+        &OpenGate,
+    );
+    ExitCode::from(status.code())
+}
+
+/// The program's name and words; none where one is not UTF-8, since such words ask for nothing that the program does.
+fn told_words(rt: &HostRuntime) -> Result<Vec<String>, AllocError> {
+    match env::args(rt) {
+        Ok(words) => words.collect(rt.alloc()),
+        Err(fault) => match fault.kind() {
+            ErrorKind::InvalidData => Ok(Vec::new(rt.alloc())),
+            _ => Err(AllocError),
+        },
+    }
+}

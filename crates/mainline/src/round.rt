@@ -1,0 +1,84 @@
+//! A round of one session: its commands in order, and the text of the replies.
+ghost use Rattle.std.specs.Prelude.{◌≡◌, ◌≤◌, ◌∷◌, [], true, map, count_by, length, ◌++◌, IfOk, IfErr, OnOk, IsErrOf};
+ghost use Rattle.workload_spec.specs.ReplyText.{reply_text};
+ghost use Rattle.outcome_laws.specs.Alone.{reply_of};
+ghost use Rattle.std.specs.List.{list_all, list_any};
+ghost use Rattle.byte_ports.specs.Calls.{Rose};
+ghost use Rattle.cell_model.specs.declared.table.TableDecl.{TableDecl as Table};
+ghost use Rattle.workload_spec.specs.Valid.{is_export};
+ghost use Rattle.mainline.specs.Sent.{IsTable, RunsRound, runs_today};
+
+use crate::export::export_table;
+use crate::fault::RunFault;
+use crate::store::Store;
+use byte_ports::{Gate, Outlet};
+use cell_model::TableDecl;
+use reply_text::put_line;
+use std::alloc::{AllocError, Global};
+use std::sync::Wait;
+use std::thread::Threads;
+use workload_spec::{Command, ReplyLine, Round, Said, Who};
+
+/// Runs the commands of a round one after another over an empty store, and gives the text of their replies.
+///
+/// The gate is passed before each command. An export goes to the outlet.
+pub fn run_round<R: Wait + Threads + Sync, X: Outlet, G: Gate>(
+    rt: &R,
+    alloc: Global,
+    tables: &[TableDecl],
+    round: Round,
+    export: &mut X,
+    gate: &G,
+) -> Result<Vec<u8>, RunFault>
+    requires table { (table : Table) × (tables.now ≡ table ∷ []) × IsTable table }
+    requires lines { list_all (λ line. runs_today tables.now line.command) round ≡ true }
+    requires once { count_by (λ line. is_export line.command) round ≤ 1 }
+    ensures ok { IfOk result (λ text. RunsRound tables.now (map (λ line. line.command) round) text.items
+        (X.written export.old) (X.written export.new)) }
+    ensures fault { IsErrOf result RunFault.Export → Rose (X.faults export.old) (X.faults export.new) }
+    ensures asked { IsErrOf result RunFault.Export → list_any (λ line. is_export line.command) round ≡ true }
+    ensures started { X.started export.new ≡ X.started export.old }
+    ensures counted { X.faults export.old ≤ X.faults export.new }
+{
+    let table = &tables[0];
+    let mut store = Store::new(alloc, table.blocks as usize * table.slots as usize);
+    let mut text = Vec::new(alloc);
+    let mut index = 0;
+    for line in round.into_vec() {
+        index += 1;
+        gate.pass(rt, 1, u32::try_from(index).unwrap_or(u32::MAX));
+        let said = match line.command {
+            Command::Export { table: _ } => match export_table(alloc, &store, table, export) {
+                Ok(said) => said,
+                Err(_) => return Err(RunFault::Export),
+            },
+            command => store.answer(command),
+        };
+        if let Err(fault) = put_reply(&mut text, tables, index, said) {
+            return Err(fault);
+        }
+    }
+    Ok(text)
+}
+
+/// Puts the line of the session's reply of this index behind the text.
+fn put_reply(
+    text: &mut Vec<u8>,
+    tables: &[TableDecl],
+    index: u64,
+    said: Said,
+) -> Result<(), RunFault>
+    ensures ok { OnOk result (text.new.items ≡ text.old.items ++ reply_text tables.now (reply_of index said)) }
+    ensures err { IfErr result (λ fault. fault ≡ RunFault.Memory) }
+{
+    let reply = ReplyLine {
+        round: 1,
+        who: Who::Session(1),
+        index,
+        said,
+    };
+    match put_line(text, tables, &reply) {
+        Ok(()) => Ok(()),
+        Err(AllocError) => Err(RunFault::Memory),
+    }
+}

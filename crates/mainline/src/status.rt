@@ -1,0 +1,35 @@
+//! How a run of the program ends.
+ghost use Rattle.std.specs.Prelude.{◌≡◌};
+ghost use Rattle.mainline.specs.Codes.{status_code};
+
+/// How a run ends; the program ends with its number.
+#[derive(Clone, Copy, Debug, PartialEq, Eq)]
+pub enum Status {
+    /// The work is done.
+    Done = 0,
+    /// The words ask for nothing that the program does.
+    Usage = 1,
+    /// The input is no workload.
+    Refused = 2,
+    /// The input could not be read.
+    ReadFault = 3,
+    /// The output could not be written.
+    OutFault = 4,
+    /// The export could not be started or written.
+    ExportFault = 5,
+    /// Memory was refused outside of a command.
+    Memory = 6,
+    /// The input is no stream.
+    NotAStream = 7,
+    /// 2^32 bytes were read without the end of the input.
+    TooLong = 8,
+}
+
+impl Status {
+    /// The number of the status.
+    pub fn code(self) -> u8
+        ensures { result ≡ status_code self }
+    {
+        self as u8
+    }
+}

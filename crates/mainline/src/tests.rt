@@ -1,0 +1,535 @@
+//! Whole runs: what the words and the input give.
+use crate::perform::perform;
+use crate::status::Status;
+use byte_ports::{Gate, ListOutlet, ListSink, ListSource, OpenGate};
+use std::alloc::{AllocError, Global};
+use std::process::Abort;
+use std::sync::Wait;
+use std::sync::atomic::{AtomicU32, Ordering};
+use std::test::Fail;
+
+// A workload with this text behind `go`, over a table of one block of eight rows.
+const HEAD: &str = "store 1\ntable b key:i64 slots 8 blocks 1\nsessions 1\nworkers 0 0\ngo\n";
+
+const RUN: [&str; 4] = ["mainline", "run", "--export", "e"];
+
+const USAGE: &str = "usage: mainline run [--export PATH] | show | check | bench SEED SIZE\n";
+
+// A round over the table, what it prints, and how many bytes its export sends.
+struct Round {
+    commands: &'static str,
+    printed: &'static str,
+    exported: usize,
+}
+
+const ROUNDS: [Round; 8] = [
+    Round {
+        commands: "",
+        printed: "",
+        exported: 0,
+    },
+    Round {
+        commands: "1 begin\n1 insert b 1\n1 insert b 2\n1 insert b 3\n1 insert b 4\n1 insert b 5\n1 insert b 6\n\
+            1 insert b 7\n1 insert b 8\n1 insert b 9\n",
+        printed: "1 1 1 at 0\n1 1 2 ok\n1 1 3 ok\n1 1 4 ok\n1 1 5 ok\n1 1 6 ok\n1 1 7 ok\n1 1 8 ok\n1 1 9 ok\n\
+            1 1 10 full\n",
+        exported: 0,
+    },
+    Round {
+        commands: "1 begin\n1 insert b 1\n1 get b 1\n1 get b 2\n",
+        printed: "1 1 1 at 0\n1 1 2 ok\n1 1 3 row 1\n1 1 4 none\n",
+        exported: 0,
+    },
+    Round {
+        commands: "1 get b 1\n1 insert b 1\n1 commit\n1 export b\n1 begin\n1 begin\n",
+        printed: "1 1 1 no transaction\n1 1 2 no transaction\n1 1 3 no transaction\n1 1 4 no transaction\n\
+            1 1 5 at 0\n1 1 6 in transaction\n",
+        exported: 0,
+    },
+    Round {
+        commands: "1 begin\n1 get b 1\n1 commit\n1 begin\n1 insert b -9223372036854775808\n1 commit\n1 get b 1\n\
+            1 begin\n1 get b -9223372036854775808\n1 insert b -9223372036854775808\n",
+        printed: "1 1 1 at 0\n1 1 2 none\n1 1 3 committed -\n1 1 4 at 0\n1 1 5 ok\n1 1 6 committed 1\n\
+            1 1 7 no transaction\n1 1 8 at 1\n1 1 9 row -9223372036854775808\n1 1 10 exists\n",
+        exported: 0,
+    },
+    Round {
+        commands: "1 begin\n1 insert b 7\n1 insert b 4\n1 export b\n",
+        printed: "1 1 1 at 0\n1 1 2 ok\n1 1 3 ok\n1 1 4 dirty 4\n",
+        exported: 0,
+    },
+    Round {
+        commands: "1 begin\n1 export b\n",
+        printed: "1 1 1 at 0\n1 1 2 export 0 rows 0 batches 0 frozen 0\n",
+        exported: 168,
+    },
+    Round {
+        commands: "1 begin\n1 insert b 1\n1 insert b 2\n1 insert b 3\n1 commit\n1 begin\n1 export b\n",
+        printed: "1 1 1 at 0\n1 1 2 ok\n1 1 3 ok\n1 1 4 ok\n1 1 5 committed 1\n1 1 6 at 1\n\
+            1 1 7 export 1 rows 3 batches 1 frozen 0\n",
+        exported: 344,
+    },
+];
+
+// An input, and its refusal.
+const REFUSALS: [(&str, &str); 15] = [
+    ("", "refused 1 version\n"),
+    ("store 9\n", "refused 1 version\n"),
+    ("store 1\nsessions 1\n", "refused 2 table\n"),
+    (
+        "store 1\ntable b key:i64 n:u8 slots 8 blocks 1\n",
+        "refused 2 columns\n",
+    ),
+    (
+        "store 1\ntable b key:i64 slots 9 blocks 1\n",
+        "refused 2 slots\n",
+    ),
+    (
+        "store 1\ntable b key:i64 slots 8 blocks 1\ntable c key:i64 slots 8 blocks 1\n",
+        "refused 3 table\n",
+    ),
+    (
+        "store 1\ntable b key:i64 slots 8 blocks 1\nsessions 2\n",
+        "refused 3 sessions\n",
+    ),
+    (
+        "store 1\ntable b key:i64 slots 8 blocks 1\nsessions 65\n",
+        "refused 3 sessions\n",
+    ),
+    (
+        "store 1\ntable b key:i64 slots 8 blocks 1\nsessions 1\nworkers 1 1\n",
+        "refused 4 workers\n",
+    ),
+    (
+        "store 1\ntable b key:i64 slots 8 blocks 1\nsessions 1\nworkers 1 0\n",
+        "refused 4 workers\n",
+    ),
+    (
+        "store 1\ntable b key:i64 slots 8 blocks 1\nsessions 1\nworkers 0 0\nstop\n",
+        "refused 5 go\n",
+    ),
+    (
+        "store 1\ntable b key:i64 slots 8 blocks 1\nsessions 1\nworkers 0 0\ngo\n--\n",
+        "refused 6 session\n",
+    ),
+    (
+        "store 1\ntable b key:i64 slots 8 blocks 1\nsessions 1\nworkers 0 0\ngo\n3 begin\n",
+        "refused 6 session\n",
+    ),
+    (
+        "store 1\ntable b key:i64 slots 8 blocks 1\nsessions 1\nworkers 0 0\ngo\n1 begin\n1 scan b\n",
+        "refused 7 command\n",
+    ),
+    (
+        "store 1\ntable b key:i64 slots 8 blocks 1\nsessions 1\nworkers 0 0\ngo\n1 begin",
+        "refused 6 line\n",
+    ),
+];
+
+// The commands that do not run yet.
+const LATER: [&str; 9] = [
+    "update b 1",
+    "delete b 1",
+    "scan b",
+    "abort",
+    "observe b",
+    "prune",
+    "compact b",
+    "seal b 0",
+    "gather b 0",
+];
+
+const EXPORT: &str = "1 begin\n1 export b\n";
+
+// Words, commands, and the calls of the source, the output and the outlet that fail; the status, what was printed, how
+// many names the outlet was started with, and how many bytes it was sent.
+struct Fault {
+    words: &'static [&'static str],
+    commands: &'static str,
+    source: &'static [u64],
+    out: &'static [u64],
+    outlet: &'static [u64],
+    status: Status,
+    printed: &'static str,
+    started: usize,
+    exported: usize,
+}
+
+const FAULTS: [Fault; 9] = [
+    Fault {
+        words: &["mainline", "walk"],
+        commands: EXPORT,
+        source: &[],
+        out: &[],
+        outlet: &[],
+        status: Status::Usage,
+        printed: USAGE,
+        started: 0,
+        exported: 0,
+    },
+    Fault {
+        words: &["mainline", "run", "--export", "-e"],
+        commands: EXPORT,
+        source: &[],
+        out: &[],
+        outlet: &[],
+        status: Status::Usage,
+        printed: USAGE,
+        started: 0,
+        exported: 0,
+    },
+    Fault {
+        words: &["mainline", "run", "--export", ""],
+        commands: EXPORT,
+        source: &[],
+        out: &[],
+        outlet: &[],
+        status: Status::Usage,
+        printed: USAGE,
+        started: 0,
+        exported: 0,
+    },
+    Fault {
+        words: &["mainline"],
+        commands: EXPORT,
+        source: &[],
+        out: &[1],
+        outlet: &[],
+        status: Status::OutFault,
+        printed: "",
+        started: 0,
+        exported: 0,
+    },
+    Fault {
+        words: &RUN,
+        commands: EXPORT,
+        source: &[1],
+        out: &[],
+        outlet: &[],
+        status: Status::ReadFault,
+        printed: "",
+        started: 0,
+        exported: 0,
+    },
+    Fault {
+        words: &RUN,
+        commands: EXPORT,
+        source: &[],
+        out: &[1],
+        outlet: &[],
+        status: Status::OutFault,
+        printed: "",
+        started: 1,
+        exported: 168,
+    },
+    Fault {
+        words: &RUN,
+        commands: "1 walk\n",
+        source: &[],
+        out: &[1],
+        outlet: &[],
+        status: Status::OutFault,
+        printed: "",
+        started: 0,
+        exported: 0,
+    },
+    Fault {
+        words: &RUN,
+        commands: EXPORT,
+        source: &[],
+        out: &[],
+        outlet: &[1],
+        status: Status::ExportFault,
+        printed: "",
+        started: 0,
+        exported: 0,
+    },
+    Fault {
+        words: &RUN,
+        commands: EXPORT,
+        source: &[],
+        out: &[],
+        outlet: &[2],
+        status: Status::ExportFault,
+        printed: "",
+        started: 1,
+        exported: 0,
+    },
+];
+
+fn owned(alloc: Global, words: &[&str]) -> Result<Vec<String>, AllocError> {
+    let mut strings = Vec::new(alloc);
+    for word in words {
+        strings.push(String::from_str(alloc, word)?)?;
+    }
+    Ok(strings)
+}
+
+fn workload(alloc: Global, commands: &str) -> Result<String, AllocError> {
+    let mut text = String::from_str(alloc, HEAD)?;
+    text.push_str(commands)?;
+    Ok(text)
+}
+
+#[test]
+fn rounds_are_answered(rt: HostRuntime) -> Result<(), Fail> {
+    let alloc = rt.alloc();
+    for round in &ROUNDS {
+        let text = workload(alloc, round.commands)?;
+        let mut source = ListSource::new(alloc, text.as_bytes(), &[])?;
+        let mut out = ListSink::new(alloc, &[])?;
+        let mut outlet = ListOutlet::new(alloc, &[])?;
+        let words = owned(alloc, &RUN)?;
+        let status = perform(
+            &rt,
+            alloc,
+            words,
+            &mut source,
+            &mut out,
+            &mut outlet,
+            &OpenGate,
+        );
+        assert_eq!(rt; status, Status::Done, "{}", round.commands);
+        assert_eq!(rt;
+            out.written(),
+            round.printed.as_bytes(),
+            "{}",
+            round.commands
+        );
+        assert_eq!(rt;
+            outlet.written().len(),
+            round.exported,
+            "{}",
+            round.commands
+        );
+    }
+    Ok(())
+}
+
+#[test]
+fn inputs_are_refused(rt: HostRuntime) -> Result<(), Fail> {
+    let alloc = rt.alloc();
+    for (input, refusal) in &REFUSALS {
+        let mut source = ListSource::new(alloc, input.as_bytes(), &[])?;
+        let mut out = ListSink::new(alloc, &[])?;
+        let mut outlet = ListOutlet::new(alloc, &[])?;
+        let words = owned(alloc, &RUN)?;
+        let status = perform(
+            &rt,
+            alloc,
+            words,
+            &mut source,
+            &mut out,
+            &mut outlet,
+            &OpenGate,
+        );
+        assert_eq!(rt; status, Status::Refused, "{input}");
+        assert_eq!(rt; out.written(), refusal.as_bytes(), "{input}");
+        assert_eq!(rt; outlet.started().len(), 0, "{input}");
+    }
+    Ok(())
+}
+
+#[test]
+fn commands_that_do_not_run_yet_are_refused(rt: HostRuntime) -> Result<(), Fail> {
+    let alloc = rt.alloc();
+    for command in &LATER {
+        let mut text = workload(alloc, "1 begin\n1 ")?;
+        text.push_str(command)?;
+        text.push_str("\n")?;
+        let mut source = ListSource::new(alloc, text.as_bytes(), &[])?;
+        let mut out = ListSink::new(alloc, &[])?;
+        let mut outlet = ListOutlet::new(alloc, &[])?;
+        let words = owned(alloc, &RUN)?;
+        let status = perform(
+            &rt,
+            alloc,
+            words,
+            &mut source,
+            &mut out,
+            &mut outlet,
+            &OpenGate,
+        );
+        assert_eq!(rt; status, Status::Refused, "{command}");
+        assert_eq!(rt;
+            out.written(),
+            b"refused 7 command\n".as_slice(),
+            "{command}"
+        );
+    }
+    Ok(())
+}
+
+// Holds the index of the last pass while session 1 passes with 1, 2 and so on.
+#[derive(Drop)]
+struct CountingGate {
+    passed: AtomicU32,
+}
+
+impl Gate for CountingGate {
+    fn pass<R: Wait>(&self, _rt: &R, session: u32, index: u32) {
+        let next = self.passed.load(Ordering::Relaxed).wrapping_add(1);
+        let in_order = session == 1 && index == next;
+        self.passed
+            .store(if in_order { index } else { u32::MAX }, Ordering::Relaxed);
+    }
+}
+
+#[test]
+fn the_gate_is_passed_before_each_command(rt: HostRuntime) -> Result<(), Fail> {
+    let alloc = rt.alloc();
+    let text = workload(alloc, "1 begin\n1 insert b 1\n1 get b 1\n1 commit\n")?;
+    let mut source = ListSource::new(alloc, text.as_bytes(), &[])?;
+    let mut out = ListSink::new(alloc, &[])?;
+    let mut outlet = ListOutlet::new(alloc, &[])?;
+    let words = owned(alloc, &RUN)?;
+    let gate = CountingGate {
+        passed: AtomicU32::new(0),
+    };
+    let status = perform(&rt, alloc, words, &mut source, &mut out, &mut outlet, &gate);
+    assert_eq!(rt; status, Status::Done);
+    assert_eq!(rt; gate.passed.load(Ordering::Relaxed), 4);
+    Ok(())
+}
+
+#[test]
+fn faults_are_told(rt: HostRuntime) -> Result<(), Fail> {
+    let alloc = rt.alloc();
+    for fault in &FAULTS {
+        let text = workload(alloc, fault.commands)?;
+        let mut source = ListSource::new(alloc, text.as_bytes(), fault.source)?;
+        let mut out = ListSink::new(alloc, fault.out)?;
+        let mut outlet = ListOutlet::new(alloc, fault.outlet)?;
+        let words = owned(alloc, fault.words)?;
+        let status = perform(
+            &rt,
+            alloc,
+            words,
+            &mut source,
+            &mut out,
+            &mut outlet,
+            &OpenGate,
+        );
+        assert_eq!(rt; status, fault.status, "{}", fault.words.len());
+        assert_eq!(rt;
+            out.written(),
+            fault.printed.as_bytes(),
+            "{}",
+            fault.words.len()
+        );
+        assert_eq!(rt;
+            outlet.started().len(),
+            fault.started,
+            "{}",
+            fault.words.len()
+        );
+        assert_eq!(rt;
+            outlet.written().len(),
+            fault.exported,
+            "{}",
+            fault.words.len()
+        );
+    }
+    Ok(())
+}
+
+#[test]
+fn blocks_are_batches(rt: HostRuntime) -> Result<(), Fail> {
+    let alloc = rt.alloc();
+    let mut source = ListSource::new(
+        alloc,
+        b"store 1\ntable b key:i64 slots 8 blocks 2\nsessions 1\nworkers 0 0\ngo\n1 begin\n1 insert b 9\n1 insert b 8\n\
+            1 insert b 7\n1 insert b 6\n1 insert b 5\n1 insert b 4\n1 insert b 3\n1 insert b 2\n1 insert b 1\n1 commit\n\
+            1 begin\n1 export b\n",
+        &[],
+    )?;
+    let mut out = ListSink::new(alloc, &[])?;
+    let mut outlet = ListOutlet::new(alloc, &[])?;
+    let words = owned(alloc, &RUN)?;
+    let status = perform(
+        &rt,
+        alloc,
+        words,
+        &mut source,
+        &mut out,
+        &mut outlet,
+        &OpenGate,
+    );
+    assert_eq!(rt; status, Status::Done);
+    let printed = out.written();
+    assert!(rt; printed.ends_with(b"1 1 13 export 1 rows 9 batches 2 frozen 0\n"));
+    // 160 of schema, 152 and 8 rows, 152 and 1 row, 8 of the end word.
+    assert_eq!(rt; outlet.written().len(), 160 + (152 + 64) + (152 + 8) + 8);
+    assert_eq!(rt; outlet.started().len(), 1);
+    Ok(())
+}
+
+// The keys 1, 2 and 3 of a table of that one column.
+const THREE_KEYS: &[u8; 344] = b"\xff\xff\xff\xff\x98\x00\x00\x00\
+    \x18\x00\x00\x00\x00\x00\x00\x00\
+    \x0c\x00\x14\x00\x10\x00\x12\x00\
+    \x04\x00\x08\x00\x00\x00\x00\x00\
+    \x10\x00\x00\x00\x1c\x00\x00\x00\
+    \x00\x00\x00\x00\x00\x00\x00\x00\
+    \x04\x00\x01\x00\x00\x00\x00\x00\
+    \x08\x00\x0a\x00\x08\x00\x04\x00\
+    \x08\x00\x00\x00\x08\x00\x00\x00\
+    \x00\x00\x00\x00\x01\x00\x00\x00\
+    \x18\x00\x00\x00\x00\x00\x00\x00\
+    \x10\x00\x12\x00\x04\x00\x10\x00\
+    \x11\x00\x08\x00\x00\x00\x0c\x00\
+    \x10\x00\x00\x00\x10\x00\x00\x00\
+    \x20\x00\x00\x00\x28\x00\x00\x00\
+    \x00\x02\x00\x00\x03\x00\x00\x00\
+    \x6b\x65\x79\x00\x00\x00\x00\x00\
+    \x08\x00\x09\x00\x04\x00\x08\x00\
+    \x08\x00\x00\x00\x40\x00\x00\x00\
+    \x01\x00\x00\x00\x00\x00\x00\x00\
+    \xff\xff\xff\xff\x90\x00\x00\x00\
+    \x18\x00\x00\x00\x00\x00\x00\x00\
+    \x0c\x00\x14\x00\x10\x00\x12\x00\
+    \x04\x00\x08\x00\x00\x00\x00\x00\
+    \x10\x00\x00\x00\x24\x00\x00\x00\
+    \x18\x00\x00\x00\x00\x00\x00\x00\
+    \x04\x00\x03\x00\x00\x00\x00\x00\
+    \x0a\x00\x14\x00\x08\x00\x04\x00\
+    \x10\x00\x00\x00\x00\x00\x00\x00\
+    \x10\x00\x00\x00\x10\x00\x00\x00\
+    \x03\x00\x00\x00\x00\x00\x00\x00\
+    \x1c\x00\x00\x00\x01\x00\x00\x00\
+    \x03\x00\x00\x00\x00\x00\x00\x00\
+    \x00\x00\x00\x00\x00\x00\x00\x00\
+    \x00\x00\x00\x00\x02\x00\x00\x00\
+    \x00\x00\x00\x00\x00\x00\x00\x00\
+    \x00\x00\x00\x00\x00\x00\x00\x00\
+    \x00\x00\x00\x00\x00\x00\x00\x00\
+    \x18\x00\x00\x00\x00\x00\x00\x00\
+    \x01\x00\x00\x00\x00\x00\x00\x00\
+    \x02\x00\x00\x00\x00\x00\x00\x00\
+    \x03\x00\x00\x00\x00\x00\x00\x00\
+    \xff\xff\xff\xff\x00\x00\x00\x00";
+
+#[test]
+fn three_keys_make_344_bytes(rt: HostRuntime) -> Result<(), Fail> {
+    let alloc = rt.alloc();
+    let text = workload(
+        alloc,
+        "1 begin\n1 insert b 1\n1 insert b 2\n1 insert b 3\n1 commit\n1 begin\n1 export b\n",
+    )?;
+    let mut source = ListSource::new(alloc, text.as_bytes(), &[])?;
+    let mut out = ListSink::new(alloc, &[])?;
+    let mut outlet = ListOutlet::new(alloc, &[])?;
+    let words = owned(alloc, &RUN)?;
+    let status = perform(
+        &rt,
+        alloc,
+        words,
+        &mut source,
+        &mut out,
+        &mut outlet,
+        &OpenGate,
+    );
+    assert_eq!(rt; status, Status::Done);
+    assert_eq!(rt; outlet.written(), THREE_KEYS.as_slice());
+    Ok(())
+}
