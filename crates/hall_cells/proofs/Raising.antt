@@ -1,0 +1,58 @@
+-- What becomes of the hand when a mark is raised.
+use Rattle.std.proofs.Common.{◌≡◌, ◌≢◌, ℕ, zero, suc, ◌+◌, ◌<◌, List, [], ◌∷◌, Option, None, Some, length, set, length-set, refl, sym, ap, subst, ◌∙◌, arith}
+use Rattle.std.specs.Prelude.{slice_get, slice_index}
+use Rattle.hall_cells.specs.Laws.{index_of_get}
+use Rattle.hall_rule.specs.Hands.{Agrees, Holds, SameRoom}
+use Rattle.hall_rule.proofs.Lists.{by_cases}
+
+module _ {A : Type 0} where
+  get_below : (l : List A) (k : ℕ) (a : A) → slice_get l k ≡ Some a → k < length l
+  get_below [] k a e = absurd (cc)
+  get_below (x ∷ xs) zero a e = omega arith
+  get_below (x ∷ xs) (suc k) a e = let h : k < length xs = get_below xs k a e in omega (arith, h)
+
+  get_set_here : (l : List A) (k : ℕ) (a : A) → k < length l → slice_get (set l k a) k ≡ Some a
+  get_set_here [] k a lt = absurd (omega (arith, lt))
+  get_set_here (x ∷ xs) zero a lt = refl
+  get_set_here (x ∷ xs) (suc k) a lt = get_set_here xs k a (omega (arith, lt))
+
+  get_set_else : (l : List A) (k i : ℕ) (a : A) → i ≢ k → slice_get (set l k a) i ≡ slice_get l i
+  get_set_else [] k i a ne = refl
+  get_set_else (x ∷ xs) zero zero a ne = absurd (ne refl)
+  get_set_else (x ∷ xs) zero (suc i) a ne = refl
+  get_set_else (x ∷ xs) (suc k) zero a ne = refl
+  get_set_else (x ∷ xs) (suc k) (suc i) a ne = get_set_else xs k i a (λ e. ne (ap suc e))
+
+pub raise_room : (h h' : List (Option ℕ)) (p x y : ℕ) → slice_get h p ≡ Some (Some y) → h' ≡ set h p (Some x) → SameRoom h h'
+raise_room h h' p x y there is =
+    let lt = get_below h p (Some y) there in
+    subst (SameRoom h) (sym is) (record {
+      places = length-set h p (Some x);
+      away = λ k none'. by_cases k p (slice_get (set h p (Some x)) k ≡ Some None)
+          (λ e. let f : Some None ≡ Some (Some y) = sym none' ∙ (ap (slice_get h) e ∙ there) in absurd (cc))
+          (λ ne. get_set_else h p k (Some x) ne ∙ none');
+      held = λ k old. by_cases k p (Holds (set h p (Some x)) k)
+          (λ e. subst (Holds (set h p (Some x))) (sym e) (x, get_set_here h p (Some x) lt))
+          (λ ne. (old.0, get_set_else h p k (Some x) ne ∙ old.1));
+    })
+
+pub raise_meets : (h h' : List (Option ℕ)) (s : List ℕ) (p was by : ℕ) → Agrees h s → slice_get h p ≡ Some (Some was) → h' ≡ set h p (Some (was + by)) → Agrees h' (set s p (slice_index s p + by)) × (was ≡ slice_index s p)
+raise_meets h h' s p was by agrees there is =
+    let lt = get_below h p (Some was) there in
+    let there' = agrees.1 p was there in
+    let value : slice_index s p ≡ was = index_of_get s p was there' in
+    let low = get_below s p was there' in
+    let t = set s p (slice_index s p + by) in (
+      (
+        ap length is ∙ (length-set h p (Some (was + by)) ∙ (agrees.0 ∙ sym (length-set s p (slice_index s p + by)))),
+        λ k v e.
+            let f : slice_get (set h p (Some (was + by))) k ≡ Some (Some v) = ap (λ x. slice_get x k) (sym is) ∙ e in
+            by_cases k p (slice_get t k ≡ Some v)
+            (λ same.
+            let a : Some (Some (was + by)) ≡ Some (Some v) = sym (get_set_here h p (Some (was + by)) lt) ∙ (ap (slice_get (set h p (Some (was + by)))) (sym same) ∙ f) in
+            let b : Some (was + by) ≡ Some v = cc in
+            ap (slice_get t) same ∙ (get_set_here s p (slice_index s p + by) low ∙ (ap (λ x. Some (x + by)) value ∙ b)))
+            (λ ne. get_set_else s p k (slice_index s p + by) ne ∙ agrees.1 k v (sym (get_set_else h p k (Some (was + by)) ne) ∙ f)),
+      ),
+      sym value,
+    )

@@ -1,0 +1,15 @@
+//! A small core of marks that only grow, on which halls are tested.
+#![tactic(auto)]
+
+mod calls;
+mod deed;
+mod marks;
+
+pub use calls::{
+    begin, open, raise, raise_all, raise_both, raise_often, raised_by_two, raised_while_held,
+};
+pub use deed::{Deed, Least};
+pub use marks::Marks;
+
+#[cfg(test)]
+mod tests;

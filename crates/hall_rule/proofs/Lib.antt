@@ -1,0 +1,12 @@
+pub mod Closes
+pub mod Events
+pub mod Joins
+pub mod Latches
+pub mod Lists
+pub mod Logs
+pub mod Moved
+pub mod Numbers
+pub mod OfParts
+pub mod Opens
+pub mod Quiet
+pub mod Splits

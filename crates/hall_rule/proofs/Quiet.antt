@@ -1,0 +1,92 @@
+-- The steps that make no event, and what becomes of one part by them.
+use Rattle.std.proofs.Common.{◌≡◌, ◌≢◌, ℕ, zero, suc, ◌+◌, ◌*◌, ◌^◌, ◌<◌, ◌≤◌, Bool, true, false, List, [], ◌∷◌, ◌++◌, Option, Some, None, length, set, get_or, get_or-set_same, get_or-set_other, refl, sym, ap, subst, ◌∙◌, ◌⊎◌, inl, inr, ⊎_elim, length-append, length-set, append-nil, arith}
+use Rattle.std.specs.Prelude.{slice_index}
+use mathlib.Core.Option as maybe
+use lib.ListN.{get_elem?}
+use Rattle.atomic_table.specs.Table.{State}
+use Rattle.hall_rule.specs.EventLog.{LawfulFrom, Spares, has, own}
+use Rattle.hall_rule.specs.HallInvariant.{AtHome, GoesOn, HallInvariant, HoldsParts, Owners, hands_of, since, stage}
+use Rattle.hall_rule.specs.Meaning.{Laws, Meaning}
+use Rattle.hall_rule.specs.declared.view.Entry.{Entry}
+use Rattle.hall_rule.specs.declared.view.View.{View}
+use Rattle.hall_rule.proofs.Logs.{goes_on_whole, rest_is, since_whole}
+use Rattle.hall_rule.proofs.Moved.{Homes, Moves, after_move, moved, with_parts}
+
+module _ {P E T F : Type 0} (M : Meaning P E T F) where
+  -- What a step owes that makes no event: the view's log stays, or becomes the whole log.
+  pub record Stirs (log : List (Entry E)) (o : Owners) (part : ℕ → ℕ) (s : State (Option P) (View E)) (words : List ℕ) (homes : Homes M) (id : ℕ) (v w : View E) : Type 0 where
+    pub joined : w.joined ≡ v.joined
+    pub sessions : w.sessions ≡ v.sessions
+    pub heard : w.heard ≡ v.heard
+    pub before : (w.before ≡ v.before) ⊎ (w.before ≡ log)
+    pub mine : w.mine ≡ v.mine
+    pub made : w.made ≡ v.made
+    pub live : w.spent ≡ false
+    pub seen : (w.log ≡ v.log) ⊎ (w.log ≡ log)
+    pub counted : slice_index words 0 ≡ slice_index s.words 0
+    pub wide : length words ≡ length s.words
+    pub deep : length homes ≡ length s.homes
+    pub idle : hands_of v ≡ 0 → (k : ℕ) → stage w k ≡ 0
+    pub same : (k : ℕ) → k < length M.start → stage v k ≡ 0 → stage w k ≡ 0 → (slice_index words (suc k) ≡ slice_index s.words (suc k)) × (get_elem? homes k ≡ get_elem? s.homes k) × (part k ≡ o.part k)
+    pub fresh : (k : ℕ) → stage v k ≡ 0 → stage w k ≢ 0 → slice_index s.words (suc k) ≡ 0
+    pub free : (k : ℕ) → k < length M.start → (stage v k ≢ 0) ⊎ (stage w k ≢ 0) → slice_index words (suc k) ≡ 0 → AtHome M log homes k
+    pub latched : (k : ℕ) → k < length M.start → (stage v k ≢ 0) ⊎ (stage w k ≢ 0) → slice_index words (suc k) ≢ 0 → (part k ≡ id) × (stage w k ≢ 0)
+    pub parts : HoldsParts M log part words homes id w
+
+  module _ (laws : Laws M) (log : List (Entry E)) (o : Owners) (part : ℕ → ℕ) (s : State (Option P) (View E)) (words : List ℕ) (homes : Homes M) (id : ℕ) (v w : View E)
+      (kept : HallInvariant M log o s) (at : get_elem? s.views id ≡ maybe.some v) (live : v.spent ≡ false) (q : Stirs log o part s words homes id v w) where
+    same_log : (w' : View E) (l : List (Entry E)) → w.log ≡ l → (R : List (Entry E) → Type 0) → R l → R w.log
+    same_log w' l e R r = subst R (sym e) r
+
+    goes_on : GoesOn w log
+    goes_on = ⊎_elim
+        (λ e. subst (λ l. log ≡ l ++ Rattle.std.proofs.Common.drop (length l) log) (sym e) (kept.one_log.each id v at live).goes_on)
+        (λ e. goes_on_whole w log e) q.seen
+
+    before : log ≡ w.before ++ Rattle.std.proofs.Common.drop (length w.before) log
+    before = ⊎_elim
+        (λ e. subst (λ l. log ≡ l ++ Rattle.std.proofs.Common.drop (length l) log) (sym e) (kept.one_log.each id v at live).before)
+        (λ e. (sym e ∙ sym (append-nil w.before)) ∙ ap (λ l. w.before ++ l) (sym (rest_is w.before [] log (sym e ∙ sym (append-nil w.before))))) q.before
+
+    seen : own (id ∷ v.joined) w.log ≡ v.mine ++ []
+    seen = ⊎_elim
+        (λ e. ap (own (id ∷ v.joined)) e ∙ ((kept.one_log.each id v at live).seen ∙ sym (append-nil v.mine)))
+        (λ e. ap (own (id ∷ v.joined)) e ∙ ((kept.one_log.each id v at live).mine ∙ sym (append-nil v.mine))) q.seen
+
+    spared : (x : ℕ) → has x v.sessions ≡ true → Spares M x (since w log)
+    spared x h = ⊎_elim
+        (λ e. subst (λ l. Spares M x (Rattle.std.proofs.Common.drop (length l) log)) (sym e) ((kept.lawful.each id v at live).spared x h))
+        (λ e. subst (Spares M x) (sym (since_whole w log e)) tt) q.seen
+
+    owed : Moves M log [] o part s words homes id v w
+    owed =
+        let nil : log ++ [] ≡ log = append-nil log in
+        record {
+          joined = q.joined;
+          sessions = q.sessions;
+          before = subst (λ l. l ≡ w.before ++ Rattle.std.proofs.Common.drop (length w.before) l) (sym nil) before;
+          heard = q.heard;
+          live = q.live;
+          by = tt;
+          names = tt;
+          lawful = subst (LawfulFrom M M.start) (sym nil) kept.lawful.lawful;
+          goes_on = subst (GoesOn w) (sym nil) goes_on;
+          mine = q.mine ∙ sym (append-nil v.mine);
+          made = let d = q.made in omega (arith, d);
+          seen = seen;
+          few = let f = kept.hands.few id v at in omega (arith, f);
+          spared = λ x h. subst (λ l. Spares M x (since w l)) (sym nil) (spared x h);
+          counted = q.counted ∙ (kept.one_log.counted ∙ ap length (sym nil));
+          wide = q.wide;
+          deep = q.deep;
+          idle = q.idle;
+          same = q.same;
+          fresh = q.fresh;
+          untouched = λ k none'. tt;
+          free = λ k lt held zero'. subst (λ l. AtHome M l homes k) (sym nil) (q.free k lt held zero');
+          latched = q.latched;
+          parts = subst (λ l. HoldsParts M l part words homes id w) (sym nil) q.parts;
+        }
+
+    pub stirred : HallInvariant M log (with_parts M o part) (after_move M log [] o part s words homes id v w)
+    stirred = subst (λ l. HallInvariant M l (with_parts M o part) (after_move M log [] o part s words homes id v w)) (append-nil log) (moved M log [] o part s words homes id v w kept at live owed laws)

@@ -1,0 +1,213 @@
+-- A new pass, which has seen what another has and takes some of its hands, keeps the invariant.
+use Rattle.std.proofs.Common.{◌≡◌, ◌≢◌, ℕ, zero, suc, ◌+◌, ◌*◌, ◌^◌, ◌<◌, ◌≤◌, eqb, true, false, cond, List, [], ◌∷◌, ◌++◌, Option, length, set, refl, sym, ap, subst, ◌∙◌, ◌⊎◌, inl, inr, ⊎_elim, true≢false, length-append, length-set, eq-eqb, ne_eqb, arith}
+use Rattle.std.specs.Prelude.{slice_index}
+use mathlib.Core.Option as maybe
+use lib.ListN.{get_elem?}
+use Rattle.atomic_table.specs.Table.{Splits, State}
+use Rattle.atomic_table.proofs.Lists.{at_longer, at_set, set_else, set_here}
+use Rattle.hall_rule.specs.EventLog.{Distinct, MadeBelow, has, own, replay}
+use Rattle.hall_rule.specs.HallInvariant.{EachLive, HallInvariant, HoldsParts, Owners, OwnsSessions, Rule, SeesLog, entries_of, hands_of, since, stage}
+use Rattle.hall_rule.specs.Meaning.{Meaning}
+use Rattle.hall_rule.specs.Views.{dealt, greatest, newcomer, without}
+use Rattle.hall_rule.specs.declared.view.Entry.{Entry}
+use Rattle.hall_rule.specs.declared.view.View.{View}
+use Rattle.hall_rule.proofs.Lists.{at_below, by_cases, each_set, not_true, total_set, total_snoc}
+use Rattle.hall_rule.proofs.Logs.{made_more}
+use Rattle.hall_rule.proofs.Numbers.{greatest_in, has_cons, has_without, without_distinct, without_gone, without_length}
+use Rattle.hall_rule.proofs.Opens.{zeros}
+
+pub at_snoc_index : {A : Type 0} (l : List A) (a b : A) (j : ℕ) → get_elem? (l ++ a ∷ []) j ≡ maybe.some b → (get_elem? l j ≡ maybe.some b) ⊎ ((j ≡ length l) × (a ≡ b))
+at_snoc_index [] a b zero e = inr (refl, maybe.some-injective a b e)
+at_snoc_index [] a b (suc j) e = absurd (maybe.some-ne-none b (sym e))
+at_snoc_index (x ∷ xs) a b zero e = inl e
+at_snoc_index (x ∷ xs) a b (suc j) e = ⊎_elim (λ t. inl t) (λ t. inr (ap suc t.0, t.1)) (at_snoc_index xs a b j e)
+
+module _ {E : Type 0} where
+  pub own_unmade : (n : ℕ) (es : List (Entry E)) → MadeBelow n es → own (n ∷ []) es ≡ []
+  own_unmade n [] made = refl
+  own_unmade n (e ∷ es) made =
+      let b : has e.pass (n ∷ []) ≡ false = not_true (has e.pass (n ∷ [])) (λ h. ⊎_elim (λ same. absurd (let lt = made.0 in omega (arith, lt, same))) (λ z. true≢false (sym z)) (has_cons e.pass n [] h)) in
+      ap (λ c. cond c (e ∷ own (n ∷ []) es) (own (n ∷ []) es)) b ∙ own_unmade n es made.1
+
+  pub made_front : (n : ℕ) (xs ys : List (Entry E)) → MadeBelow n (xs ++ ys) → MadeBelow n xs
+  made_front n [] ys a = tt
+  made_front n (x ∷ xs) ys a = (a.0, made_front n xs ys a.1)
+
+module _ {P E T F : Type 0} (M : Meaning P E T F) (log : List (Entry E)) (o : Owners) (s : State (Option P) (View E)) (kept : HallInvariant M log o s) (id : ℕ) (v : View E)
+    (at : get_elem? s.views id ≡ maybe.some v) (live : v.spent ≡ false) (ls rs : List ℕ)
+    (in_left : (q : ℕ) → has q ls ≡ true → has q v.sessions ≡ true) (in_right : (q : ℕ) → has q rs ≡ true → has q v.sessions ≡ true)
+    (apart : (q : ℕ) → has q ls ≡ true → has q rs ≡ true → ⊥) (distinct_left : Distinct ls) (distinct_right : Distinct rs)
+    (count : length ls + length rs ≤ length v.sessions) (few : length v.mine ≤ 2 ^ 56 * length ls) (idle : length ls ≡ 0 → (k : ℕ) → stage v k ≡ 0) where
+  abbrev left : View E
+  left = record v { sessions = ls }
+
+  abbrev right : View E
+  right = newcomer v rs
+
+  abbrev n : ℕ
+  n = length s.views
+
+  abbrev views : List (View E)
+  views = set s.views id left ++ right ∷ []
+
+  abbrev number : ℕ → ℕ
+  number i = cond (eqb i n) n (o.number i)
+
+  abbrev session : ℕ → ℕ
+  session q = cond (has q rs) n (o.session q)
+
+  longer_by_one : length views ≡ n + 1
+  longer_by_one = let a : length views ≡ length (set s.views id left) + 1 = length-append (set s.views id left) (right ∷ []) in let b : length (set s.views id left) ≡ n = length-set s.views id left in omega (arith, a, b)
+
+  each : (A B : ℕ → View E → Type 0) → EachLive A s.views → ((j : ℕ) (u : View E) → j ≢ id → get_elem? s.views j ≡ maybe.some u → u.spent ≡ false → A j u → B j u) → B id left → B n right → EachLive B views
+  each A B all others here there j u found alive = ⊎_elim
+      (λ t. each_set s.views id left A B all others (λ _. here) j u t alive)
+      (λ t. subst (λ i. B i u) (sym (t.0 ∙ length-set s.views id left)) (subst (B n) t.1 there))
+      (at_snoc_index (set s.views id left) right u j found)
+
+  old_number : (i j : ℕ) → (o.number i ≡ j) × (i < n) → (number i ≡ j) × (i < length views)
+  old_number i j t =
+      let ne : i ≢ n = λ e. absurd (let lt = t.1 in omega (arith, lt, e)) in
+      (ap (λ b. cond b n (o.number i)) (ne_eqb i n ne) ∙ t.0, let l = longer_by_one in let lt = t.1 in omega (arith, l, lt))
+
+  sees_other : (j : ℕ) (u : View E) → SeesLog M log o.number n j u → SeesLog M log number (length views) j u
+  sees_other j u l = record { goes_on = l.goes_on; before = l.before; heard = l.heard; mine = l.mine; seen = l.seen; total = l.total; numbers = λ i h. old_number i j (l.numbers i h) }
+
+  mine : SeesLog M log o.number n id v
+  mine = kept.one_log.each id v at live
+
+  sees_right : SeesLog M log number (length views) n right
+  sees_right =
+      let front : MadeBelow n v.log = made_front n v.log (since v log) (subst (MadeBelow n) mine.goes_on kept.one_log.made) in
+      record {
+        goes_on = mine.goes_on;
+        before = refl;
+        heard = refl;
+        mine = own_unmade n log kept.one_log.made;
+        seen = own_unmade n v.log front;
+        total = refl;
+        numbers = λ i h. ⊎_elim
+            (λ e. (subst (λ (x : ℕ). number x ≡ n) (sym e) (ap (λ b. cond b n (o.number n)) (eq-eqb n n refl)), let l = longer_by_one in omega (arith, l, e)))
+            (λ z. absurd (true≢false (sym z))) (has_cons i n [] h);
+      }
+
+  none_held : (k : ℕ) → stage right k ≡ 0
+  none_held k = zeros (length v.stages) k
+
+  parts : HoldsParts M log o.part s.words s.homes id v
+  parts = kept.at_home.each id v at live
+
+  latched : (k : ℕ) → k < length M.start → slice_index s.words (suc k) ≢ 0 → (u : View E) × (get_elem? views (o.part k) ≡ maybe.some u) × (u.spent ≡ false) × (stage u k ≢ 0)
+  latched k lt taken =
+      let h = kept.at_home.latched k lt taken in
+      by_cases (o.part k) id ((u : View E) × (get_elem? views (o.part k) ≡ maybe.some u) × (u.spent ≡ false) × (stage u k ≢ 0))
+      (λ e.
+      let same : h.0 ≡ v = maybe.some-injective h.0 v (sym h.1 ∙ (ap (get_elem? s.views) e ∙ at)) in (
+        left,
+        ap (get_elem? views) e ∙ at_longer (set s.views id left) (right ∷ []) id left (set_here s.views id left (at_below s.views id v at)),
+        live,
+        (λ z. h.3 (ap (λ u. stage u k) same ∙ z)),
+      ))
+      (λ ne. (h.0, at_longer (set s.views id left) (right ∷ []) (o.part k) h.0 (set_else s.views id (o.part k) left ne ∙ h.1), h.2, h.3))
+
+  sessions : OwnsSessions M log o.session id v
+  sessions = kept.lawful.each id v at live
+
+  session_other : (j : ℕ) (u : View E) → j ≢ id → OwnsSessions M log o.session j u → OwnsSessions M log session j u
+  session_other j u ne a = record {
+    sessions = λ q h.
+        let b : has q rs ≡ false = not_true (has q rs) (λ r. ne (sym (a.sessions q h) ∙ sessions.sessions q (in_right q r))) in
+        ap (λ c. cond c n (o.session q)) b ∙ a.sessions q h;
+    distinct = a.distinct;
+    spared = a.spared;
+    transactions = a.transactions;
+  }
+
+  all_views : (B : View E → Type 0) → B left → B right → ((j : ℕ) (u : View E) → get_elem? s.views j ≡ maybe.some u → B u) → (j : ℕ) (u : View E) → get_elem? views j ≡ maybe.some u → B u
+  all_views B here there others j u found = ⊎_elim
+      (λ t. ⊎_elim (λ a. subst B a.1 here) (λ a. others j u a.1) (at_set s.views id j left u t))
+      (λ t. subst B t.1 there)
+      (at_snoc_index (set s.views id left) right u j found)
+
+  pub split_kept : HallInvariant M log record { part = o.part; number = number; session = session } record { words = s.words; homes = s.homes; views = views }
+  split_kept = record {
+    one_log = record {
+      counted = kept.one_log.counted;
+      made = made_more n (length views) log (let l = longer_by_one in omega (arith, l)) kept.one_log.made;
+      each = each (SeesLog M log o.number n) (SeesLog M log number (length views)) kept.one_log.each (λ j u ne there alive l. sees_other j u l)
+          (record { goes_on = mine.goes_on; before = mine.before; heard = mine.heard; mine = mine.mine; seen = mine.seen; total = mine.total; numbers = λ i h. old_number i id (mine.numbers i h) }) sees_right;
+    };
+    at_home = record {
+      wide = kept.at_home.wide;
+      deep = kept.at_home.deep;
+      free = kept.at_home.free;
+      latched = latched;
+      each = each (HoldsParts M log o.part s.words s.homes) (HoldsParts M log o.part s.words s.homes) kept.at_home.each (λ j u ne there alive h. h)
+          (record { holds = parts.holds; taken = parts.taken; loaded = parts.loaded; kept = parts.kept; in_hand = parts.in_hand; out = parts.out })
+          (record {
+            holds = λ k held. absurd (held (none_held k));
+            taken = λ k one. absurd (let z = none_held k in omega (arith, z, one));
+            loaded = λ k two. absurd (let z = none_held k in omega (arith, z, two));
+            kept = λ k two. absurd (let z = none_held k in omega (arith, z, two));
+            in_hand = λ k two. absurd (let z = none_held k in omega (arith, z, two));
+            out = λ k e. absurd (omega (arith, e));
+          });
+    };
+    lawful = record {
+      begins = kept.lawful.begins;
+      lawful = kept.lawful.lawful;
+      each = each (OwnsSessions M log o.session) (OwnsSessions M log session) kept.lawful.each (λ j u ne there alive a. session_other j u ne a)
+          (record {
+            sessions = λ q h. ap (λ c. cond c n (o.session q)) (not_true (has q rs) (apart q h)) ∙ sessions.sessions q (in_left q h);
+            distinct = distinct_left;
+            spared = λ q h. sessions.spared q (in_left q h);
+            transactions = λ q h. sessions.transactions q (in_left q h);
+          })
+          (record {
+            sessions = λ q h. ap (λ c. cond c n (o.session q)) h;
+            distinct = distinct_right;
+            spared = λ q h. sessions.spared q (in_right q h);
+            transactions = λ q h. sessions.transactions q (in_right q h);
+          });
+    };
+    facts = record {
+      each = each (λ j u. (f : F) → M.fact f (replay M u.log) → M.fact f (replay M log)) (λ j u. (f : F) → M.fact f (replay M u.log) → M.fact f (replay M log)) kept.facts.each (λ j u ne there alive h. h)
+          (kept.facts.each id v at live) (kept.facts.each id v at live);
+    };
+    hands = record {
+      limit = kept.hands.limit;
+      handed = let t = total_set hands_of s.views id v left at in let u = total_snoc hands_of (set s.views id left) right in let h = kept.hands.handed in omega (arith, t, u, h, count);
+      entries = let t = total_set entries_of s.views id v left at in let u = total_snoc entries_of (set s.views id left) right in let h = kept.hands.entries in omega (arith, t, u, h);
+      few = all_views (λ u. entries_of u ≤ 2 ^ 56 * hands_of u) few (omega arith) kept.hands.few;
+      idle = all_views (λ u. hands_of u ≡ 0 → (k : ℕ) → stage u k ≡ 0) idle (λ _ k. none_held k) kept.hands.idle;
+    };
+  }
+
+pub greatest_there : (qs : List ℕ) → 0 < length qs → has (greatest qs) qs ≡ true
+greatest_there [] h = absurd (omega (arith, h))
+greatest_there (q ∷ qs) h = greatest_in q qs
+
+module _ {P E T F : Type 0} (M : Meaning P E T F) (id : ℕ) (v : View E) (live : v.spent ≡ false) where
+  -- The hand of the greatest session goes to a new pass.
+  pub splits : Distinct v.sessions → 2 ≤ hands_of v → length v.mine ≤ 2 ^ 56 → Splits (Rule M) id v (dealt v) (newcomer v (greatest v.sessions ∷ []))
+  splits distinct two few s held at =
+      let g : ℕ = greatest v.sessions in
+      let there : has g v.sessions ≡ true = greatest_there v.sessions (omega (arith, two)) in
+      let n = without_length g v.sessions there in
+      let some' : 1 ≤ length (without g v.sessions) = omega (arith, n, two) in (
+        held.0,
+        record { part = held.1.part; number = (λ i. cond (eqb i (length s.views)) (length s.views) (held.1.number i)); session = (λ q. cond (has q (g ∷ [])) (length s.views) (held.1.session q)) },
+        split_kept M held.0 held.1 s held.2 id v at live (without g v.sessions) (g ∷ []) (λ q h. has_without g q v.sessions h)
+            (λ q h. ⊎_elim (λ e. ap (λ i. has i v.sessions) e ∙ there) (λ z. absurd (true≢false (sym z))) (has_cons q g [] h))
+            (λ q a b. ⊎_elim (λ e. without_gone g v.sessions distinct (ap (λ i. has i (without g v.sessions)) (sym e) ∙ a)) (λ z. true≢false (sym z)) (has_cons q g [] b))
+            (without_distinct g v.sessions distinct) (refl, tt) (omega (arith, n)) (omega (arith, few, some')) (λ none'. absurd (omega (arith, none', some'))),
+      )
+
+  -- A new pass without a hand.
+  pub notes : Splits (Rule M) id v v (newcomer v [])
+  notes s held at = (
+    held.0,
+    record { part = held.1.part; number = (λ i. cond (eqb i (length s.views)) (length s.views) (held.1.number i)); session = (λ q. cond (has q []) (length s.views) (held.1.session q)) },
+    split_kept M held.0 held.1 s held.2 id v at live v.sessions [] (λ q h. h) (λ q h. absurd (true≢false (sym h))) (λ q a b. true≢false (sym b)) (held.2.lawful.each id v at live).distinct tt
+        (omega arith) (held.2.hands.few id v at) (held.2.hands.idle id v at),
+  )

@@ -1,0 +1,6 @@
+pub mod EventLog
+pub mod HallInvariant
+pub mod Hands
+pub mod Meaning
+pub mod Opening
+pub mod Views

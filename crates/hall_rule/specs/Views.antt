@@ -1,0 +1,140 @@
+-- How a view changes by each kind of step, and what the step tells.
+use Rattle.std.specs.Prelude.{◌≡◌, ℕ, suc, ◌+◌, ◌≤◌, ◌==◌, min, max, Bool, true, false, cond, List, [], ◌∷◌, ◌++◌, Option, None, Some, drop, length, fold, replicate, slice_get, slice_set, ltb}
+use Rattle.atomic_table.specs.Table.{Me}
+use Rattle.hall_rule.specs.EventLog.{Distinct, LawfulFrom, Spares, has, own, replay}
+use Rattle.hall_rule.specs.HallInvariant.{GoesOn, since, stage}
+use Rattle.hall_rule.specs.Meaning.{Meaning}
+use Rattle.hall_rule.specs.declared.view.Entry.{Entry}
+use Rattle.hall_rule.specs.declared.view.View.{View}
+
+-- The least of some sessions, 0 where there are none.
+abbrev pub least : List ℕ → ℕ
+least [] = 0
+least (q ∷ qs) = fold min q qs
+
+-- The greatest of some sessions, 0 where there are none.
+abbrev pub greatest : List ℕ → ℕ
+greatest [] = 0
+greatest (q ∷ qs) = max q (greatest qs)
+
+-- The sessions but for q, which stands there once.
+abbrev pub without : ℕ → List ℕ → List ℕ
+without q [] = []
+without q (r ∷ rs) = cond (q == r) rs (r ∷ without q rs)
+
+module _ {E : Type 0} where
+  -- The part k gets to the stage n.
+  abbrev pub staged : View E → ℕ → ℕ → View E
+  staged v k n = record v { stages = slice_set v.stages k n }
+
+  -- The whole log is seen, and the slot of the part k goes out.
+  abbrev pub loaded : View E → ℕ → List (Entry E) → View E
+  loaded v k log = record v { log = log; before = log; stages = slice_set v.stages k 2; out = suc k }
+
+  -- The slot that is out is given home.
+  abbrev pub homed : View E → View E
+  homed v = record v { out = 0 }
+
+  -- The slot of the part k goes out.
+  abbrev pub drawn : View E → ℕ → View E
+  drawn v k = record v { out = suc k }
+
+  -- The slot that is out is given home with the part k, and the latch is free.
+  abbrev pub given : View E → ℕ → View E
+  given v k = record v { stages = slice_set v.stages k 0; out = 0 }
+
+  -- An event of a pass: its entry.
+  abbrev pub entry_of : ℕ → View E → Bool → E → Entry E
+  entry_of id v refused event = record { pass = id; session = least v.sessions; count = length v.mine; refused = refused; event = event }
+
+  -- The log was seen up to `before`, and an entry was added to it.
+  abbrev pub added : View E → List (Entry E) → Entry E → View E
+  added v before e = record v { log = before ++ e ∷ []; before = before ++ e ∷ []; mine = v.mine ++ e ∷ []; made = v.made + 1 }
+
+  -- A new pass, which has seen what another has, with these sessions.
+  abbrev pub newcomer : View E → List ℕ → View E
+  newcomer v sessions = record {
+    joined = [];
+    log = v.log;
+    before = [];
+    heard = [];
+    mine = [];
+    made = 0;
+    stages = replicate (length v.stages) 0;
+    out = 0;
+    sessions = sessions;
+    spent = false;
+  }
+
+  -- The hand of the greatest session was dealt out.
+  abbrev pub dealt : View E → View E
+  dealt v = record v { sessions = without (greatest v.sessions) v.sessions }
+
+  -- The longer of two logs.
+  abbrev pub longer : List (Entry E) → List (Entry E) → List (Entry E)
+  longer xs ys = cond (ltb (length xs) (length ys)) ys xs
+
+  -- The numbers, entries and hands of the pass `other` are added to those of a pass.
+  abbrev pub joined_by : ℕ → ℕ → View E → View E → View E
+  joined_by id other v u = record v {
+    joined = v.joined ++ other ∷ u.joined;
+    log = longer v.log u.log;
+    before = v.log;
+    heard = u.log;
+    mine = own (id ∷ v.joined ++ other ∷ u.joined) (longer v.log u.log);
+    made = v.made + u.made;
+    sessions = v.sessions ++ u.sessions;
+  }
+
+  -- What is left of a pass that was joined into another.
+  abbrev pub spent_view : View E
+  spent_view = record { joined = []; log = []; before = []; heard = []; mine = []; made = 0; stages = []; out = 0; sessions = []; spent = true }
+
+module _ {P E T F : Type 0} (M : Meaning P E T F) where
+  -- What a pass learns when it sees a longer log: that it is lawful, has of the pass's events those that it made,
+  -- and leaves the parts in its hand, the transactions of its sessions and all lasting facts as they were.
+  pub record Learned (id : ℕ) (v : View E) (log : List (Entry E)) : Type 0 where
+    pub goes_on : GoesOn v log
+    pub before : log ≡ v.before ++ drop (length v.before) log
+    pub heard : log ≡ v.heard ++ drop (length v.heard) log
+    pub begins : M.sound M.start
+    pub mine : own (id ∷ v.joined) log ≡ v.mine
+    pub total : length v.mine ≡ v.made
+    pub sound : M.sound (replay M log)
+    pub lawful : LawfulFrom M M.start log
+    pub spared : (q : ℕ) → has q v.sessions ≡ true → Spares M q (since v log)
+    pub parts : (k : ℕ) → stage v k ≡ 2 → slice_get (replay M log) k ≡ slice_get (replay M v.log) k
+    pub kept : (k : ℕ) → stage v k ≡ 2 → slice_get (replay M log) k ≡ slice_get (replay M v.before) k
+    pub few_hands : length v.sessions ≤ 128
+    pub transactions : (q : ℕ) → has q v.sessions ≡ true → M.transaction (replay M log) q ≡ M.transaction (replay M v.log) q
+    pub distinct : Distinct v.sessions
+    pub facts : (f : F) → M.fact f (replay M v.log) → M.fact f (replay M log)
+    pub room : length (replay M log) ≡ length M.start
+
+  -- A try at the latch of the part k found the number n there.
+  abbrev pub Latches : View E → ℕ → ℕ → Me (Option P) (View E) → Type 0
+  Latches v k n me = (me.0 ≡ cond (n == 0) (staged v k 1) v) × (me.1 ≡ [])
+
+  -- The log was seen, and the part k, as it leaves it, is out.
+  abbrev pub Loads : ℕ → View E → ℕ → ℕ → Me (Option P) (View E) → Type 0
+  Loads id v k n me = (log : List (Entry E)) × (p : P) × Learned id v log × (slice_get (replay M log) k ≡ Some p) × (me.0 ≡ loaded v k log) × (me.1 ≡ (k, Some p) ∷ [])
+
+  -- The slot that was out is home.
+  abbrev pub Homes : View E → ℕ → Me (Option P) (View E) → Type 0
+  Homes v n me = (me.0 ≡ homed v) × (me.1 ≡ [])
+
+  -- The empty slot of the part k is out.
+  abbrev pub Draws : View E → ℕ → ℕ → Me (Option P) (View E) → Type 0
+  Draws v k n me = (me.0 ≡ drawn v k) × (me.1 ≡ (k, None) ∷ [])
+
+  -- The part k is home, and its latch is free.
+  abbrev pub Gives : View E → ℕ → ℕ → Me (Option P) (View E) → Type 0
+  Gives v k n me = (me.0 ≡ given v k) × (me.1 ≡ [])
+
+  -- The log was seen, and an event is its last entry now.
+  abbrev pub Adds : ℕ → View E → Entry E → ℕ → Me (Option P) (View E) → Type 0
+  Adds id v e n me = (before : List (Entry E)) × Learned id v before × (me.0 ≡ added v before e) × (me.1 ≡ [])
+
+  -- The log was seen.
+  abbrev pub Sees : ℕ → View E → ℕ → Me (Option P) (View E) → Type 0
+  Sees id v n me = (log : List (Entry E)) × Learned id v log × (me.0 ≡ record v { log = log }) × (me.1 ≡ [])

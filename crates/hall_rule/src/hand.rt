@@ -1,0 +1,72 @@
+//! The parts that a pass has in hand.
+ghost use Rattle.std.specs.Prelude.{◌≡◌, ◌<◌, ℕ, List, Option, None, Some, IfOk, length, map, replicate, slice_get, slice_set, vec_capacity, vec_len};
+ghost use Rattle.hall_rule.specs.Hands.{Holds};
+
+use std::alloc::{AllocError, AllocFailed, Global};
+use std::marker::Model;
+
+/// A place for each part of a core, in which the part lies or not. Contracts see the list of places.
+#[derive(Drop)]
+pub struct Hand<P> {
+    places: Vec<Option<P>>,
+}
+
+impl<P> Model for Hand<P> {
+    ghost use Rattle.std.specs.Prelude.{List, Option};
+
+    ghost Value = { List (Option P) };
+
+    ghost view = { λ hand. hand.places.items };
+}
+
+impl<P> Hand<P> {
+    /// A hand with these places.
+    pub fn of(places: Vec<Option<P>>) -> Hand<P>
+        ensures { result ≡ places.items }
+    {
+        Hand { places }
+    }
+
+    /// The places, as they lie in the hand.
+    pub fn into_places(self) -> Vec<Option<P>>
+        ensures { result.items ≡ self }
+    {
+        let Hand { places } = self;
+        places
+    }
+
+    /// For how many parts it has a place.
+    pub fn len(&self) -> usize
+        ensures { result ≡ length self.now }
+    {
+        self.places.len()
+    }
+
+    /// The place of a part.
+    pub fn get(&self, part: u32) -> &Option<P>
+        requires { part < length self.now }
+        ensures { slice_get self.now part ≡ Some result.now }
+    {
+        &self.places[part as usize]
+    }
+
+    /// The part in its place.
+    pub fn part(&self, part: u32) -> &P
+        requires { Holds self.now part }
+        ensures { slice_get self.now part ≡ Some (Some result.now) }
+    {
+        match &self.places[part as usize] {
+            Some(held) => held,
+            None => unreachable!(),
+        }
+    }
+
+    /// Lays something into the place of a part, and returns what lay there.
+    pub fn replace(&mut self, part: u32, new: Option<P>) -> Option<P>
+        requires { part < length self.old }
+        ensures place { slice_get self.old part ≡ Some result }
+        ensures others { self.new ≡ slice_set self.old part new }
+    {
+        std::mem::replace(&mut self.places[part as usize], new)
+    }
+}

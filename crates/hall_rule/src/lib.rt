@@ -1,0 +1,14 @@
+//! The rule of a hall: what parts of a core are, what threads know of them, and what holds between any two steps.
+#![tactic(auto)]
+
+mod hand;
+mod parts;
+mod rule;
+mod steps;
+mod view;
+
+pub use hand::Hand;
+pub use parts::Parts;
+pub use rule::{HallRule, Plan};
+pub use steps::Steps;
+pub use view::{Entry, View};

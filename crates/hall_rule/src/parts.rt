@@ -1,0 +1,127 @@
+//! A core in parts, on which a hall lets threads work.
+ghost use Rattle.std.specs.Prelude.{◌≡◌, ◌≢◌, ◌+◌, ◌<◌, ◌≤◌, ℕ, Bool, true, List, Option, None, Some, MatchBool, IfOk, length, map};
+ghost use Rattle.hall_rule.specs.Hands.{Agrees, Covers, OnlyHeld, SameRoom, all_in};
+
+use crate::hand::Hand;
+use crate::steps::Steps;
+use std::alloc::AllocError;
+use std::sync::ledger::Ledger;
+
+/// A core whose state is a list of parts, and whose events each work on a few of them.
+///
+/// The laws speak of sound states alone: an opening state is sound, and a lawful event leaves a sound state sound.
+/// An event is lawful where it stands and fits: it *stands* by its session's open transaction and by lasting facts,
+/// and *fits* by the parts that it touches.
+pub trait Parts: Sized {
+    /// What one thread holds at a time.
+    type Part: Send + Drop;
+
+    type Event;
+
+    type Reply;
+    /// What numbers the parts. No event changes it.
+    type Shape: Send + Sync + Drop;
+    /// What a session has open: its snapshot and its own writes.
+    type Transaction;
+    /// What a reply can teach for good, as that no snapshot is older than some stamp.
+    type Fact;
+
+    // The shape of a core, and its parts.
+    ghost shape_of: { Self → Self.Shape };
+
+    ghost state_of: { Self → List Self.Part };
+
+    // No event was made on it.
+    ghost opening: { Self.Shape → List Self.Part → Type 0 };
+
+    // What holds of every state that lawful events reach.
+    ghost sound: { Self.Shape → List Self.Part → Type 0 };
+
+    // Whether an event touches a part, as the parts in the hand tell.
+    ghost touching: { Self.Shape → Self.Event → List (Option Self.Part) → ℕ → Bool };
+
+    // The session that an event is of.
+    ghost names: { Self.Event → Option ℕ };
+
+    // What an event asks of its session's open transaction and of lasting facts.
+    ghost stands: { Self.Shape → Self.Event → List Self.Part → Type 0 };
+
+    // What it asks of the parts that it touches.
+    ghost fits: { Self.Shape → Self.Event → List Self.Part → Type 0 };
+
+    ghost effect: { Self.Shape → Self.Event → List Self.Part → List Self.Part };
+
+    ghost reply: { Self.Shape → Self.Event → List Self.Part → Self.Reply };
+
+    // The most steps that an event takes.
+    ghost cost: { Self.Shape → Self.Event → List Self.Part → ℕ };
+
+    // Whether a reply says that memory was refused.
+    ghost refused: { Self.Reply → Bool };
+
+    // The open transaction of a session.
+    ghost transaction: { Self.Shape → List Self.Part → ℕ → Option Self.Transaction };
+
+    // What a lasting fact says of a state.
+    ghost fact: { Self.Shape → Self.Fact → List Self.Part → Type 0 };
+
+    // Which lasting facts the reply to an event teaches.
+    ghost teaches: { Self.Shape → Self.Event → Self.Reply → Self.Fact → Type 0 };
+
+    /// How many parts the core has.
+    fn parts(&self) -> u32
+        ensures { result ≡ length (state_of self.now) };
+
+    /// Takes the core apart. All its parts lie in the hand.
+    fn into_parts(self) -> Result<(Self::Shape, Hand<Self::Part>), AllocError>
+        ensures { IfOk result (λ r. (r.0 ≡ shape_of self) × (r.1 ≡ all_in (state_of self))) };
+
+    /// Whether the event touches a part, as the parts held before it tell.
+    fn touches(shape: &Self::Shape, event: &Self::Event, held: &Hand<Self::Part>, part: u32) -> bool
+        requires { part < length held.now }
+        ensures { result ≡ touching shape.now event.now held.now part };
+
+    /// Runs an event on the parts in the hand, which has each part that it touches. What it makes of
+    /// them and what it replies is the same for every sound state that has these parts. Where memory
+    /// is refused the hand stays as it was.
+    fn run<L: Ledger>(
+        shape: &Self::Shape,
+        event: Self::Event,
+        held: &mut Hand<Self::Part>,
+        steps: &mut Steps<L>,
+    ) -> Self::Reply
+        requires covered { Covers (touching shape.now event) held.old }
+        requires lawful { (s : List Self.Part) × sound shape.now s × Agrees held.old s × stands shape.now event s × fits shape.now event s }
+        ensures room { SameRoom held.old held.new }
+        ensures meets { (s : List Self.Part) → sound shape.now s → Agrees held.old s → stands shape.now event s → fits shape.now event s
+            → MatchBool (refused result) (held.new ≡ held.old) (Agrees held.new (effect shape.now event s) × (result ≡ reply shape.now event s)) }
+        ensures steps { (s : List Self.Part) → sound shape.now s → Agrees held.old s → stands shape.now event s → fits shape.now event s → steps.new ≤ steps.old + cost shape.now event s };
+
+    // An opening state is sound, and no session has a transaction in it.
+    ghost opens: { (sh : Self.Shape) (s : List Self.Part) → opening sh s → sound sh s };
+
+    ghost rests: { (sh : Self.Shape) (s : List Self.Part) (q : ℕ) → opening sh s → transaction sh s q ≡ None };
+
+    // A lawful event leaves a sound state sound.
+    ghost keeps: { (sh : Self.Shape) (e : Self.Event) (s : List Self.Part) → sound sh s → stands sh e s → fits sh e s → sound sh (effect sh e s) };
+
+    // It changes only the parts that it touches, and never how many there are.
+    ghost frame: { (sh : Self.Shape) (e : Self.Event) (h : List (Option Self.Part)) (s : List Self.Part) → sound sh s → Covers (touching sh e) h → Agrees h s → stands sh e s → fits sh e s → OnlyHeld h s (effect sh e s) };
+
+    ghost room: { (sh : Self.Shape) (e : Self.Event) (s : List Self.Part) → sound sh s → length (effect sh e s) ≡ length s };
+
+    // What it asks of its parts depends on these alone.
+    ghost local: { (sh : Self.Shape) (e : Self.Event) (h : List (Option Self.Part)) (s t : List Self.Part) → sound sh s → sound sh t → Covers (touching sh e) h → Agrees h s → Agrees h t → stands sh e s → fits sh e s → fits sh e t };
+
+    // What it asks besides depends on its session's open transaction and on lasting facts alone.
+    ghost depends: { (sh : Self.Shape) (e : Self.Event) (s t : List Self.Part) → sound sh s → sound sh t
+        → ((q : ℕ) → names e ≡ Some q → transaction sh t q ≡ transaction sh s q) → ((f : Self.Fact) → fact sh f s → fact sh f t) → stands sh e s → stands sh e t };
+
+    // It leaves every other session's transaction as it was.
+    ghost leaves: { (sh : Self.Shape) (e : Self.Event) (s : List Self.Part) (q : ℕ) → sound sh s → stands sh e s → fits sh e s → names e ≢ Some q → transaction sh (effect sh e s) q ≡ transaction sh s q };
+
+    // A lasting fact outlives every lawful event, and what a reply teaches holds after it.
+    ghost outlives: { (sh : Self.Shape) (e : Self.Event) (f : Self.Fact) (s : List Self.Part) → sound sh s → stands sh e s → fits sh e s → fact sh f s → fact sh f (effect sh e s) };
+
+    ghost learns: { (sh : Self.Shape) (e : Self.Event) (f : Self.Fact) (s : List Self.Part) → sound sh s → stands sh e s → fits sh e s → teaches sh e (reply sh e s) f → fact sh f (effect sh e s) };
+}

@@ -1,0 +1,39 @@
+//! What the passes know, as plain data of proofs. No value of these types is made.
+use std::collections::LinkedList;
+
+/// One event of the log.
+pub struct Entry<E> {
+    /// The number of the pass that made it.
+    pub pass: u64,
+    /// The least session of that pass's hands.
+    pub session: u64,
+    /// How many events that pass had made before.
+    pub count: u64,
+    /// Whether memory was refused, so that nothing changed.
+    pub refused: bool,
+    pub event: E,
+}
+
+/// What a pass knows.
+pub struct View<E> {
+    /// The numbers of the passes that were joined into it.
+    pub joined: LinkedList<u64>,
+    /// The log as far as it was seen.
+    pub log: LinkedList<Entry<E>>,
+    /// The log when the pass last took a part, made an event or joined another.
+    pub before: LinkedList<Entry<E>>,
+    /// The log of the pass that was last joined into it.
+    pub heard: LinkedList<Entry<E>>,
+    /// Its own entries, and those of the passes joined into it.
+    pub mine: LinkedList<Entry<E>>,
+    /// How many these are.
+    pub made: u64,
+    /// Of each part: 0 where it is not held, 1 from its take, and 2 once the event word was loaded since.
+    pub stages: LinkedList<u64>,
+    /// One more than the number of the slot that is out with the pass, 0 where none is.
+    pub out: u64,
+    /// The sessions of its hands.
+    pub sessions: LinkedList<u64>,
+    /// Whether it was joined into another.
+    pub spent: bool,
+}

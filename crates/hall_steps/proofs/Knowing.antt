@@ -1,0 +1,272 @@
+-- What a pass knows after a take, a give and an event.
+use Rattle.std.proofs.Common.{◌≡◌, ◌≢◌, ℕ, zero, suc, ◌+◌, ◌<◌, ◌≤◌, Bool, true, false, cond, List, [], ◌∷◌, ◌++◌, Option, None, Some, length, set, refl, sym, ap, subst, ◌∙◌, ◌⊎◌, inl, inr, ⊎_elim, length-set, length-append, arith}
+use Rattle.std.specs.Prelude.{MatchBool, slice_get, slice_index}
+use Rattle.atomic_table.specs.Table.{Me}
+use Rattle.hall_rule.specs.EventLog.{after, own, replay}
+use Rattle.hall_rule.specs.HallInvariant.{stage}
+use Rattle.hall_rule.specs.Hands.{Agrees, Holds, SameRoom}
+use Rattle.hall_rule.specs.Meaning.{Laws, Meaning, meaning}
+use Rattle.hall_rule.specs.declared.parts.Parts.{Ghosts}
+use Rattle.hall_rule.specs.Views.{Adds, Learned, added, entry_of, given, homed, loaded, staged}
+use Rattle.hall_rule.specs.declared.view.Entry.{Entry}
+use Rattle.hall_rule.specs.declared.view.View.{View}
+use Rattle.hall_rule.proofs.Events.{Asks, stays_lawful}
+use Rattle.hall_rule.proofs.Latches.{stage_else, stage_here}
+use Rattle.hall_rule.proofs.Lists.{by_cases}
+use Rattle.hall_rule.proofs.Logs.{after_is, has_head, lawful_append, own_all, own_append, replay_append}
+use Rattle.atomic_table.specs.Seated.{TableId}
+use Rattle.atomic_table.specs.declared.shared.Seat.{Seat}
+use Rattle.hall_steps.specs.Hall.{EndsWith, Extends, IsOf, IsSameSeat, Knows, Looks, LooksOn}
+
+module _ {A : Type 0} where
+  pub get_below : (l : List A) (k : ℕ) (a : A) → slice_get l k ≡ Some a → k < length l
+  get_below [] k a e = absurd (cc)
+  get_below (x ∷ xs) zero a e = omega arith
+  get_below (x ∷ xs) (suc k) a e = let h : k < length xs = get_below xs k a e in omega (arith, h)
+
+  pub get_set_here : (l : List A) (k : ℕ) (a : A) → k < length l → slice_get (set l k a) k ≡ Some a
+  get_set_here [] k a lt = absurd (omega (arith, lt))
+  get_set_here (x ∷ xs) zero a lt = refl
+  get_set_here (x ∷ xs) (suc k) a lt = get_set_here xs k a (omega (arith, lt))
+
+  pub get_set_else : (l : List A) (k i : ℕ) (a : A) → i ≢ k → slice_get (set l k a) i ≡ slice_get l i
+  get_set_else [] k i a ne = refl
+  get_set_else (x ∷ xs) zero zero a ne = absurd (ne refl)
+  get_set_else (x ∷ xs) zero (suc i) a ne = refl
+  get_set_else (x ∷ xs) (suc k) zero a ne = refl
+  get_set_else (x ∷ xs) (suc k) (suc i) a ne = get_set_else xs k i a (λ e. ne (ap suc e))
+
+  pub some_is : (a b : A) → Some a ≡ Some b → a ≡ b
+  some_is a b e = cc
+
+  pub not_none : (a : A) (Q : Type 0) → Some a ≡ None → Q
+  not_none a Q e = absurd (cc)
+
+module _ {P : Type 0} where
+  -- a part lies in its place, or the place is empty
+  pub place : (h : List (Option P)) (k : ℕ) → k < length h → (slice_get h k ≡ Some None) ⊎ Holds h k
+  place [] k lt = absurd (omega (arith, lt))
+  place (None ∷ hs) zero lt = inl refl
+  place (Some p ∷ hs) zero lt = inr (p, refl)
+  place (h ∷ hs) (suc k) lt = place hs k (omega (arith, lt))
+
+  pub same_holds : (g h : List (Option P)) → SameRoom g h → (k : ℕ) → Holds h k → Holds g k
+  same_holds g h same k held =
+      let lt = get_below h k (Some held.0) held.1 in
+      let n = same.places in
+      ⊎_elim (λ e. not_none held.0 (Holds g k) (some_is (Some held.0) None (sym held.1 ∙ same.away k e))) (λ x. x) (place g k (omega (arith, lt, n)))
+
+module _ {P E T F : Type 0} (M : Meaning P E T F) where
+  -- what is learned by a pass that has a latch besides
+  pub less : (id : ℕ) (v : View E) (k : ℕ) (log : List (Entry E)) → stage v k ≡ 0 → Learned M id (staged v k 1) log → Learned M id v log
+  less id v k log away l = record {
+    goes_on = l.goes_on;
+    before = l.before;
+    heard = l.heard;
+    kept = λ i two. l.kept i (stage_else v k 1 i (λ e. absurd (let h = subst (λ (x : ℕ). stage v x ≡ 2) e two in omega (arith, h, away))) ∙ two);
+    few_hands = l.few_hands;
+    begins = l.begins;
+    mine = l.mine;
+    total = l.total;
+    sound = l.sound;
+    lawful = l.lawful;
+    spared = l.spared;
+    parts = λ i two. l.parts i (stage_else v k 1 i (λ e. absurd (let h = subst (λ (x : ℕ). stage v x ≡ 2) e two in omega (arith, h, away))) ∙ two);
+    transactions = l.transactions;
+    distinct = l.distinct;
+    facts = l.facts;
+    room = l.room;
+  }
+
+  -- a part came into the hand
+  pub took : (id : ℕ) (v : View E) (hand : List (Option P)) (k : ℕ) (p : P) (log : List (Entry E)) → Knows M id (v, []) hand → k < length M.start → slice_get hand k ≡ Some None
+      → Learned M id (staged v k 1) log → slice_get (replay M log) k ≡ Some p → Knows M id (homed (loaded (staged v k 1) k log), []) (set hand k (Some p)) × LooksOn M id v (homed (loaded (staged v k 1) k log))
+  took id v hand k p log knows lt none' l value =
+      let away : stage v k ≡ 0 = knows.away k (λ h. not_none h.0 ⊥ (some_is (Some h.0) None (sym h.1 ∙ none'))) in
+      let new = less id v k log away l in
+      let w : View E = homed (loaded (staged v k 1) k log) in
+      let n = knows.stages in
+      let room1 : k < length v.stages = omega (arith, n, lt) in
+      let room2 : k < length (set v.stages k 1) = let m : length (set v.stages k 1) ≡ length v.stages = length-set v.stages k 1 in omega (arith, m, room1) in
+      let here : stage w k ≡ 2 = stage_here (staged v k 1) k 2 room2 in
+      let else : (i : ℕ) → i ≢ k → stage w i ≡ stage v i = λ (i : ℕ) ne. stage_else (staged v k 1) k 2 i ne ∙ stage_else v k 1 i ne in
+      let in_hand : k < length hand = get_below hand k None none' in (
+        record {
+          none_out = refl;
+          home = refl;
+          live = knows.live;
+          stages = length-set (set v.stages k 1) k 2 ∙ (length-set v.stages k 1 ∙ knows.stages);
+          begins = l.begins;
+          few_hands = l.few_hands;
+          sound = l.sound;
+          lawful = l.lawful;
+          mine = l.mine;
+          total = l.total;
+          distinct = l.distinct;
+          room = l.room;
+          agrees = λ i q e. by_cases i k (slice_get (replay M log) i ≡ Some q)
+              (λ same.
+              let f : slice_get (set hand k (Some p)) k ≡ Some (Some q) = subst (λ (x : ℕ). slice_get (set hand k (Some p)) x ≡ Some (Some q)) same e in
+              let r : Some p ≡ Some q = some_is (Some p) (Some q) (sym (get_set_here hand k (Some p) in_hand) ∙ f) in
+              ap (slice_get (replay M log)) same ∙ (value ∙ r))
+              (λ ne.
+              let f : slice_get hand i ≡ Some (Some q) = sym (get_set_else hand k i (Some p) ne) ∙ e in
+              new.parts i (knows.held i (q, f)) ∙ knows.agrees i q f);
+          held = λ i h. by_cases i k (stage w i ≡ 2) (λ same. ap (stage w) same ∙ here) (λ ne. else i ne ∙ knows.held i (h.0, sym (get_set_else hand k i (Some p) ne) ∙ h.1));
+          away = λ i h. by_cases i k (stage w i ≡ 0)
+              (λ same. absurd (h (subst (λ (x : ℕ). Holds (set hand k (Some p)) x) (sym same) (p, get_set_here hand k (Some p) in_hand))))
+              (λ ne. else i ne ∙ knows.away i (λ x. h (x.0, get_set_else hand k i (Some p) ne ∙ x.1)));
+        },
+        record { joined = refl; sessions = refl; mine = refl; learned = new },
+      )
+
+  -- a part left the hand
+  pub gave : (id : ℕ) (v : View E) (hand : List (Option P)) (k : ℕ) (p : P) → Knows M id (v, []) hand → slice_get hand k ≡ Some (Some p) → Knows M id (given v k, []) (set hand k None)
+  gave id v hand k p knows there =
+      let in_hand : k < length hand = get_below hand k (Some p) there in
+      let two : stage v k ≡ 2 = knows.held k (p, there) in
+      let else : (i : ℕ) → i ≢ k → stage (given v k) i ≡ stage v i = λ (i : ℕ) ne. stage_else v k 0 i ne in
+      let room : k < length v.stages = staged_below v.stages k two in
+      record {
+        none_out = refl;
+        home = refl;
+        live = knows.live;
+        stages = length-set v.stages k 0 ∙ knows.stages;
+        begins = knows.begins;
+        few_hands = knows.few_hands;
+        sound = knows.sound;
+        lawful = knows.lawful;
+        mine = knows.mine;
+        total = knows.total;
+        distinct = knows.distinct;
+        room = knows.room;
+        agrees = λ i q e. by_cases i k (slice_get (replay M v.log) i ≡ Some q)
+            (λ same.
+            let f : slice_get (set hand k None) k ≡ Some (Some q) = subst (λ (x : ℕ). slice_get (set hand k None) x ≡ Some (Some q)) same e in
+            not_none q (slice_get (replay M v.log) i ≡ Some q) (some_is (Some q) None (sym f ∙ get_set_here hand k None in_hand)))
+            (λ ne. knows.agrees i q (sym (get_set_else hand k i None ne) ∙ e));
+        held = λ i h. by_cases i k (stage (given v k) i ≡ 2)
+            (λ same.
+            let f : slice_get (set hand k None) k ≡ Some (Some h.0) = subst (λ (x : ℕ). slice_get (set hand k None) x ≡ Some (Some h.0)) same h.1 in
+            not_none h.0 (stage (given v k) i ≡ 2) (some_is (Some h.0) None (sym f ∙ get_set_here hand k None in_hand)))
+            (λ ne. else i ne ∙ knows.held i (h.0, sym (get_set_else hand k i None ne) ∙ h.1));
+        away = λ i h. by_cases i k (stage (given v k) i ≡ 0) (λ same. ap (stage (given v k)) same ∙ stage_here v k 0 room) (λ ne. else i ne ∙ knows.away i (λ x. h (x.0, get_set_else hand k i None ne ∙ x.1)));
+      }
+    where
+      staged_below : (l : List ℕ) (i : ℕ) → slice_index l i ≡ 2 → i < length l
+      staged_below [] i e = absurd (omega (arith, e))
+      staged_below (x ∷ xs) zero e = omega arith
+      staged_below (x ∷ xs) (suc i) e = let h : i < length xs = staged_below xs i e in omega (arith, h)
+
+  -- an event was made
+  pub made : (laws : Laws M) (id : ℕ) (v : View E) (hand hand' : List (Option P)) (e : Entry E) (before : List (Entry E)) → Knows M id (v, []) hand → Asks M laws hand v e.event → e.pass ≡ id
+      → SameRoom hand hand'
+      → ((s : List P) → M.sound s → Agrees hand s → M.stands e.event s → M.fits e.event s → MatchBool e.refused (hand' ≡ hand) (Agrees hand' (M.effect e.event s)))
+      → Learned M id v before → Knows M id (added v before e, []) hand' × EndsWith M id v before e (added v before e)
+  made laws id v hand hand' e before knows asks pass same meets new =
+      let still = stays_lawful M laws id hand v e.event before knows.sound knows.room asks knows.held new in
+      let t : List P = replay M before in
+      let m = meets t new.sound still.0 still.1 still.2 in
+      let after' : replay M (before ++ e ∷ []) ≡ after M e t = replay_append M M.start before (e ∷ []) in
+      let agrees : (k : ℕ) (p : P) → slice_get hand' k ≡ Some (Some p) → slice_get (after M e t) k ≡ Some p = λ (k : ℕ) (p : P) at. matched e.refused hand hand' t (M.effect e.event t) m still.0 k p at in (
+        record {
+          none_out = refl;
+          home = knows.home;
+          live = knows.live;
+          stages = knows.stages;
+          begins = knows.begins;
+          few_hands = knows.few_hands;
+          sound = subst M.sound (sym after') (after_is M M.sound e t new.sound (laws.keeps e.event t new.sound still.1 still.2));
+          lawful = lawful_append M M.start before (e ∷ []) new.lawful (still.1, still.2, tt);
+          mine = own_append (id ∷ v.joined) before (e ∷ []) ∙ (ap (λ (x : List (Entry E)). x ++ own (id ∷ v.joined) (e ∷ [])) new.mine ∙ ap (λ (x : List (Entry E)). v.mine ++ x) (own_all (id ∷ v.joined) id (e ∷ []) (has_head id v.joined) (pass, tt)));
+          total = (let n : length (v.mine ++ e ∷ []) ≡ length v.mine + 1 = length-append v.mine (e ∷ []) in let t = knows.total in omega (arith, n, t));
+          distinct = knows.distinct;
+          room = ap length after' ∙ after_is M (λ (x : List P). length x ≡ length M.start) e t new.room (laws.room e.event t new.sound ∙ new.room);
+          agrees = λ k p at. ap (λ (x : List P). slice_get x k) after' ∙ agrees k p at;
+          held = λ k h. knows.held k (same_holds hand hand' same k h);
+          away = λ k h. knows.away k (λ x. h (same.held k x));
+        },
+        record { joined = refl; sessions = refl; learned = new; log = refl; mine = refl },
+      )
+    where
+      matched : (b : Bool) (hand hand' : List (Option P)) (s s' : List P) → MatchBool b (hand' ≡ hand) (Agrees hand' s') → Agrees hand s → (k : ℕ) (p : P) → slice_get hand' k ≡ Some (Some p) → slice_get (cond b s s') k ≡ Some p
+      matched true hand hand' s s' e a k p at = a.1 k p (ap (λ h. slice_get h k) (sym e) ∙ at)
+      matched false hand hand' s s' e a k p at = e.1 k p at
+
+  at_rest : (id : ℕ) (me : Me (Option P) (View E)) (hand : List (Option P)) → Knows M id me hand → Knows M id (me.0, []) hand
+  at_rest id me hand knows = subst (λ (cs : List (ℕ × Option P)). Knows M id (me.0, cs) hand) knows.none_out knows
+
+  known_at : (id id' : ℕ) (me me' : Me (Option P) (View E)) (hand hand' : List (Option P)) → id' ≡ id → me' ≡ me → hand' ≡ hand → Knows M id me hand → Knows M id' me' hand'
+  known_at id id' me me' hand hand' a b c knows =
+      subst (λ (i : ℕ). Knows M i me' hand') (sym a) (subst (λ (m : Me (Option P) (View E)). Knows M id m hand') (sym b) (subst (λ (h : List (Option P)). Knows M id me h) (sym c) knows))
+
+  -- the same of seats: s at first, l with the latch, t at the end
+  pub took_at : (z : TableId) (s l t : Seat (Option P) (View E)) (hand hand' : List (Option P)) (k : ℕ) (p : P) (log : List (Entry E)) → IsOf M z s hand → k < length M.start → slice_get hand k ≡ Some None
+      → IsSameSeat s l → IsSameSeat l t → l.me ≡ (staged s.me.0 k 1, []) → Learned M l.id l.me.0 log → slice_get (replay M log) k ≡ Some p → t.me ≡ (homed (loaded l.me.0 k log), [])
+      → hand' ≡ set hand k (Some p) → IsOf M z t hand' × Looks M s t
+  took_at z s l t hand hand' k p log pass lt none' sl lt' latched learned value after' hands =
+      let v = s.me.0 in
+      let first : l.me.0 ≡ staged v k 1 = ap (λ (m : Me (Option P) (View E)). m.0) latched in
+      let new : Learned M s.id (staged v k 1) log = subst (λ (x : View E). Learned M s.id x log) first (subst (λ (i : ℕ). Learned M i l.me.0 log) sl.1 learned) in
+      let end' : t.me ≡ (homed (loaded (staged v k 1) k log), []) = after' ∙ ap (λ (x : View E). let y : Me (Option P) (View E) = (homed (loaded x k log), []) in y) first in
+      let r = took s.id v hand k p log (at_rest s.id s.me hand pass.1) lt none' new value in (
+        (lt'.0 ∙ (sl.0 ∙ pass.0), known_at s.id t.id (homed (loaded (staged v k 1) k log), []) t.me (set hand k (Some p)) hand' (lt'.1 ∙ sl.1) end' hands r.0),
+        ((lt'.0 ∙ sl.0, lt'.1 ∙ sl.1), subst (λ (x : View E). LooksOn M s.id v x) (sym (ap (λ (m : Me (Option P) (View E)). m.0) end')) r.1),
+      )
+
+  pub gave_at : (z : TableId) (s t : Seat (Option P) (View E)) (hand hand' : List (Option P)) (k : ℕ) (p : P) → IsOf M z s hand → slice_get hand k ≡ Some (Some p)
+      → IsSameSeat s t → t.me ≡ (given s.me.0 k, []) → hand' ≡ set hand k None → IsOf M z t hand'
+  gave_at z s t hand hand' k p pass there st after' hands =
+      (st.0 ∙ pass.0, known_at s.id t.id (given s.me.0 k, []) t.me (set hand k None) hand' st.1 after' hands (gave s.id s.me.0 hand k p (at_rest s.id s.me hand pass.1) there))
+
+  pub made_at : (laws : Laws M) (z : TableId) (s t : Seat (Option P) (View E)) (hand hand' : List (Option P)) (e : Entry E) (before : List (Entry E)) → IsOf M z s hand → Asks M laws hand s.me.0 e.event → e.pass ≡ s.id
+      → SameRoom hand hand'
+      → ((x : List P) → M.sound x → Agrees hand x → M.stands e.event x → M.fits e.event x → MatchBool e.refused (hand' ≡ hand) (Agrees hand' (M.effect e.event x)))
+      → Learned M s.id s.me.0 before → IsSameSeat s t → t.me ≡ (added s.me.0 before e, []) → IsOf M z t hand' × Extends M s before e t
+  made_at laws z s t hand hand' e before pass asks by same meets new st after' =
+      let r = made laws s.id s.me.0 hand hand' e before (at_rest s.id s.me hand pass.1) asks by same meets new in (
+        (st.0 ∙ pass.0, known_at s.id t.id (added s.me.0 before e, []) t.me hand' hand' st.1 after' refl r.0),
+        (st, subst (λ (x : View E). EndsWith M s.id s.me.0 before e x) (sym (ap (λ (m : Me (Option P) (View E)). m.0) after')) r.1),
+      )
+
+pub match_first : (P Q R : Type 0) (b : Bool) → MatchBool b P (Q × R) → MatchBool b P Q
+match_first P Q R true m = m
+match_first P Q R false m = m.0
+
+pub match_second : (P Q R : Type 0) (b : Bool) → MatchBool b P (Q × R) → MatchBool b P R
+match_second P Q R true m = m
+match_second P Q R false m = m.1
+
+-- An event as a whole: what it made of the hand, and where it stands in the log.
+module _ {C P E R S T F : Type 0} (t : Ghosts C P E R S T F) (core : C) (passes : ℕ) (laws : Laws (meaning t core passes)) (z : TableId) (s u : Seat (Option P) (View E)) (hand hand' : List (Option P)) (event : E) (reply : R) (old new : ℕ) where
+  abbrev M : Meaning P E T F
+  M = meaning t core passes
+
+  abbrev Lawful : S → List P → Type 0
+  Lawful sh x = t.sound sh x × Agrees hand x × t.stands sh event x × t.fits sh event x
+
+  abbrev pub Meets : S → Type 0
+  Meets sh = (x : List P) → t.sound sh x → Agrees hand x → t.stands sh event x → t.fits sh event x → MatchBool (t.refused reply) (hand' ≡ hand) (Agrees hand' (t.effect sh event x) × (reply ≡ t.reply sh event x))
+
+  abbrev pub Costs : S → Type 0
+  Costs sh = (x : List P) → t.sound sh x → Agrees hand x → t.stands sh event x → t.fits sh event x → new ≤ old + t.cost sh event x
+
+  abbrev pub Done : S → Type 0
+  Done sh = (before : List (Entry E)) × Extends M s before (entry_of s.id s.me.0 (t.refused reply) event) u × MatchBool (t.refused reply) (hand' ≡ hand) (reply ≡ t.reply sh event (replay M before)) × (new ≤ old + t.cost sh event (replay M before))
+
+  pub finish : (sh : S) → sh ≡ t.shape_of core → IsOf M z s hand → Asks M laws hand s.me.0 event → SameRoom hand hand' → Meets sh → Costs sh → (n : ℕ) → Adds M s.id s.me.0 (entry_of s.id s.me.0 (t.refused reply) event) n u.me → IsSameSeat s u
+      → IsOf M z u hand' × Done sh
+  finish sh is pass asks same meets costs n told st =
+      let before : List (Entry E) = told.0 in
+      let still = stays_lawful M laws s.id hand s.me.0 event before pass.1.sound pass.1.room asks pass.1.held told.1 in
+      let meets' : Meets (t.shape_of core) = subst Meets is meets in
+      let costs' : Costs (t.shape_of core) = subst Costs is costs in
+      let x : List P = replay M before in
+      let here = meets' x told.1.sound still.0 still.1 still.2 in
+      let e : Entry E = entry_of s.id s.me.0 (t.refused reply) event in
+      let end' : u.me ≡ (added s.me.0 before e, []) = λ i. (told.2 i, told.3 i) in
+      let r = made_at M laws z s u hand hand' e before pass asks refl same
+      (λ y ok agrees stands fits. match_first (hand' ≡ hand) (Agrees hand' (t.effect (t.shape_of core) event y)) (reply ≡ t.reply (t.shape_of core) event y) (t.refused reply) (meets' y ok agrees stands fits)) told.1 st end' in (
+        r.0,
+        subst Done (sym is) (before, r.1, match_second (hand' ≡ hand) (Agrees hand' (t.effect (t.shape_of core) event x)) (reply ≡ t.reply (t.shape_of core) event x) (t.refused reply) here, costs' x told.1.sound still.0 still.1 still.2),
+      )

@@ -1,0 +1,4 @@
+pub mod Closing
+pub mod Dividing
+pub mod Handing
+pub mod Knowing

@@ -1,0 +1,115 @@
+-- What a pass is to its hall, and what the calls tell.
+use Rattle.std.specs.Prelude.{◌≡◌, ℕ, suc, ◌+◌, ◌<◌, ◌≤◌, false, List, [], ◌∷◌, ◌++◌, Option, Some, length, slice_get}
+use Rattle.atomic_table.specs.Seated.{TableId}
+use Rattle.atomic_table.specs.Table.{Me}
+use Rattle.atomic_table.specs.declared.shared.Seat.{Seat}
+use Rattle.hall_rule.specs.EventLog.{Distinct, LawfulFrom, own, replay}
+use Rattle.hall_rule.specs.HallInvariant.{GoesOn, hands_of, stage}
+use Rattle.hall_rule.specs.Hands.{Holds}
+use Rattle.hall_rule.specs.Meaning.{Meaning}
+use Rattle.hall_rule.specs.Views.{Learned}
+use Rattle.hall_rule.specs.declared.view.Entry.{Entry}
+use Rattle.hall_rule.specs.declared.view.View.{View}
+
+-- The same seat of the same table, whatever it knows.
+abbrev pub IsSameSeat : {S V : Type 0} → Seat S V → Seat S V → Type 0
+IsSameSeat s t = (t.table_id ≡ s.table_id) × (t.id ≡ s.id)
+
+-- The first of a pass's hands, in which its parts lie. A pass without a hand has one without places.
+abbrev pub first_of : {P : Type 0} → List (List (Option P)) → List (Option P)
+first_of [] = []
+first_of (hand ∷ hands) = hand
+
+-- It holds of each hand.
+abbrev pub EachHand : {P : Type 0} → (List (Option P) → Type 0) → List (List (Option P)) → Type 0
+EachHand holds [] = Unit {0}
+EachHand holds (hand ∷ hands) = holds hand × EachHand holds hands
+
+-- The hands behind the first.
+abbrev pub spares_of : {P : Type 0} → List (List (Option P)) → List (List (Option P))
+spares_of [] = []
+spares_of (hand ∷ hands) = hands
+
+module _ {P E T F : Type 0} (M : Meaning P E T F) where
+  -- The event word, a latch word for each part and the block words; and a slot for each part.
+  pub record IsSized (z : TableId) : Type 0 where
+    pub words : z.words ≡ suc (length M.start + M.blocks)
+    pub slots : z.slots ≡ length M.start
+
+  -- A seat of the table z that was not joined into another, which can step on the part k.
+  pub record IsAt (z : TableId) (seat : Seat (Option P) (View E)) (k : ℕ) : Type 0 where
+    pub sized : IsSized z
+    pub table : seat.table_id ≡ z
+    pub live : seat.me.0.spent ≡ false
+    pub below : k < length M.start
+    pub room : k < length seat.me.0.stages
+
+  -- What the pass id knows between two calls, whose first hand this is: its log is lawful, has of its events exactly those that it made,
+  -- and leaves the parts in the hand as they are there.
+  pub record Knows (id : ℕ) (me : Me (Option P) (View E)) (hand : List (Option P)) : Type 0 where
+    pub none_out : me.1 ≡ []
+    pub home : me.0.out ≡ 0
+    pub live : me.0.spent ≡ false
+    pub stages : length me.0.stages ≡ length M.start
+    pub begins : M.sound M.start
+    pub few_hands : length me.0.sessions ≤ 128
+    pub sound : M.sound (replay M me.0.log)
+    pub lawful : LawfulFrom M M.start me.0.log
+    pub mine : own (id ∷ me.0.joined) me.0.log ≡ me.0.mine
+    pub total : length me.0.mine ≡ me.0.made
+    pub distinct : Distinct me.0.sessions
+    pub room : length (replay M me.0.log) ≡ length M.start
+    pub agrees : (k : ℕ) (p : P) → slice_get hand k ≡ Some (Some p) → slice_get (replay M me.0.log) k ≡ Some p
+    pub held : (k : ℕ) → Holds hand k → stage me.0 k ≡ 2
+    pub away : (k : ℕ) → ¬ Holds hand k → stage me.0 k ≡ 0
+
+  -- A pass of the table z, and its first hand.
+  abbrev pub IsOf : TableId → Seat (Option P) (View E) → List (Option P) → Type 0
+  IsOf z seat hand = (seat.table_id ≡ z) × Knows seat.id seat.me hand
+
+  -- A pass of the table z with these hands: each has a place for every part, and only the first has parts.
+  pub record IsPass (z : TableId) (seat : Seat (Option P) (View E)) (hands : List (List (Option P))) : Type 0 where
+    pub of : IsOf z seat (first_of hands)
+    pub count : length hands ≡ hands_of seat.me.0
+    pub places : EachHand (λ hand. length hand ≡ length M.start) hands
+    pub spares : EachHand (λ hand. (k : ℕ) → ¬ Holds hand k) (spares_of hands)
+
+  -- The view goes on from all that was seen, with no event of the pass's in it that is new.
+  pub record LooksOn (id : ℕ) (v w : View E) : Type 0 where
+    pub joined : w.joined ≡ v.joined
+    pub sessions : w.sessions ≡ v.sessions
+    pub mine : w.mine ≡ v.mine
+    pub learned : Learned M id v w.log
+
+  -- The same pass, which has seen no less and made no event.
+  abbrev pub Looks : Seat (Option P) (View E) → Seat (Option P) (View E) → Type 0
+  Looks s t = IsSameSeat s t × LooksOn s.id s.me.0 t.me.0
+
+  -- The view's log goes on from all that was seen, up to `before`, and ends with the entry, which is one more of the pass's.
+  pub record EndsWith (id : ℕ) (v : View E) (before : List (Entry E)) (e : Entry E) (w : View E) : Type 0 where
+    pub joined : w.joined ≡ v.joined
+    pub sessions : w.sessions ≡ v.sessions
+    pub learned : Learned M id v before
+    pub log : w.log ≡ before ++ e ∷ []
+    pub mine : w.mine ≡ v.mine ++ e ∷ []
+
+  -- The same pass, whose log ends with one event more.
+  abbrev pub Extends : Seat (Option P) (View E) → List (Entry E) → Entry E → Seat (Option P) (View E) → Type 0
+  Extends s before e t = IsSameSeat s t × EndsWith s.id s.me.0 before e t.me.0
+
+module _ {E : Type 0} where
+  -- A new pass with these sessions, which has seen no less than another and made no event.
+  pub record IsNew (v w : View E) (sessions : List ℕ) : Type 0 where
+    pub joined : w.joined ≡ []
+    pub mine : w.mine ≡ []
+    pub hands : w.sessions ≡ sessions
+    pub goes_on : GoesOn v w.log
+
+  -- Two passes became one: it has the numbers, the entries and the hands of both, and has seen no less than either.
+  pub record Joined (id other : ℕ) (v u w : View E) : Type 0 where
+    pub joined : w.joined ≡ v.joined ++ other ∷ u.joined
+    pub sessions : w.sessions ≡ v.sessions ++ u.sessions
+    pub mine : w.mine ≡ own (id ∷ w.joined) w.log
+    pub entries : length w.mine ≡ length v.mine + length u.mine
+    pub goes_on : GoesOn v w.log
+    pub theirs : GoesOn u w.log

@@ -1,0 +1,157 @@
+//! The hall and its passes.
+ghost use Rattle.std.specs.Prelude.{◌≡◌, ◌≢◌, ℕ, ◌+◌, ◌*◌, ◌^◌, ◌<◌, ◌≤◌, true, List, [], ◌∷◌, None, Some, MatchBool, length, slice_get, slice_set};
+ghost use Rattle.hall_rule.specs.EventLog.{has, replay};
+ghost use Rattle.hall_rule.specs.HallInvariant.{hands_of};
+ghost use Rattle.hall_rule.specs.Hands.{Covers, Holds, IsAboveAll, SameRoom};
+ghost use Rattle.hall_rule.specs.Meaning.{meaning};
+ghost use Rattle.hall_rule.specs.Views.{entry_of, given};
+ghost use Rattle.hall_rule.specs.declared.view.Entry.{Entry};
+ghost use Rattle.hall_steps.specs.Hall.{Extends, IsPass, IsSameSeat, Looks, first_of};
+
+use crate::events::make;
+use crate::hands::Hands;
+use crate::latches::{give_from, take_from};
+use crate::telling::Place;
+use atomic_table::Table;
+use hall_rule::{HallRule, Hand, Parts, Plan, Steps, View};
+use std::alloc::Global;
+use std::marker::Model;
+use std::sync::Wait;
+use std::sync::atomic::AtomicU64;
+use std::sync::ledger::Ledger;
+
+/// The parts of a core, each behind a latch, and the word that counts the events. Threads share it by reference.
+///
+/// Contracts see the core and the number of passes that it was built for, which table it is, and the core's shape.
+#[derive(Drop)]
+pub struct Hall<C: Parts> {
+    pub(crate) table: Table<Option<C::Part>, View<C::Event>, Plan<C>, HallRule<C>, Global>,
+    pub(crate) shape: C::Shape,
+    // How many threads wait for each part.
+    pub(crate) waiting: Vec<AtomicU64>,
+    pub(crate) alloc: Global,
+}
+
+impl<C: Parts> Model for Hall<C> {
+    ghost use Rattle.std.specs.Prelude.{◌≡◌, ℕ, length, vec_len};
+    ghost use Rattle.atomic_table.specs.Seated.{TableId};
+    ghost use Rattle.hall_rule.specs.Meaning.{meaning};
+    ghost use Rattle.hall_steps.specs.Hall.{IsSized};
+
+    ghost Value = { C × ℕ × TableId × C.Shape };
+
+    ghost view = { λ hall. (hall.table.shared.key.core.value, hall.table.shared.key.passes, hall.table.shared.table_id, hall.shape) };
+
+    ghost invariant = { λ hall. IsSized (meaning C.Parts hall.table.shared.key.core.value hall.table.shared.key.passes) hall.table.shared.table_id
+        × (hall.shape ≡ C.shape_of hall.table.shared.key.core.value) × (vec_len hall.waiting ≡ length (C.state_of hall.table.shared.key.core.value)) };
+}
+
+/// What one thread works with: its seat at the hall's table, and its hands.
+#[derive(Drop)]
+pub struct Pass<C: Parts> {
+    pub(crate) seat: Place<C>,
+    pub(crate) hands: Hands<C::Part>,
+}
+
+impl<C: Parts> Pass<C> {
+    /// The hand in which the parts lie that are held.
+    pub fn hand(&self) -> &Hand<C::Part>
+        requires { 0 < length self.now.hands }
+        ensures { result.now ≡ first_of self.now.hands }
+    {
+        self.hands.first()
+    }
+
+    /// A part that is held.
+    pub fn part(&self, part: u32) -> &C::Part
+        requires { Holds (first_of self.now.hands) part }
+        ensures { slice_get (first_of self.now.hands) part ≡ Some (Some result.now) }
+    {
+        self.hands.first().part(part)
+    }
+}
+
+impl<C: Parts> Hall<C> {
+    /// What numbers the parts.
+    pub fn shape(&self) -> &C::Shape
+        ensures { result.now ≡ self.now.3 }
+    {
+        &self.shape
+    }
+
+    /// Takes a part into the hand, and waits until no other pass holds it. The part is above all that are held.
+    pub fn take<R: Wait>(&self, rt: &R, pass: &mut Pass<C>, part: u32)
+        requires pass { IsPass (meaning C.Parts self.now.0 self.now.1) self.now.2 pass.old.seat pass.old.hands }
+        requires part { part < length (C.state_of self.now.0) }
+        requires above { IsAboveAll part (first_of pass.old.hands) }
+        requires hand { 0 < hands_of pass.old.seat.me.0 }
+        ensures pass { IsPass (meaning C.Parts self.now.0 self.now.1) self.now.2 pass.new.seat pass.new.hands }
+        ensures seen { Looks (meaning C.Parts self.now.0 self.now.1) pass.old.seat pass.new.seat }
+        ensures hand { (p : C.Part) × (first_of pass.new.hands ≡ slice_set (first_of pass.old.hands) part (Some p)) }
+    {
+        let mut hand = pass.hands.exchange(Hand::of(Vec::new(self.alloc)));
+        take_from(
+            rt,
+            &self.table.shared,
+            self.waiting.as_slice(),
+            &mut pass.seat,
+            &mut hand,
+            part,
+        );
+        pass.hands.exchange(hand);
+    }
+
+    /// Gives a part back, and wakes a thread that waits for it, if there is one.
+    pub fn give(&self, pass: &mut Pass<C>, part: u32)
+        requires pass { IsPass (meaning C.Parts self.now.0 self.now.1) self.now.2 pass.old.seat pass.old.hands }
+        requires held { Holds (first_of pass.old.hands) part }
+        ensures pass { IsPass (meaning C.Parts self.now.0 self.now.1) self.now.2 pass.new.seat pass.new.hands }
+        ensures seat { IsSameSeat pass.old.seat pass.new.seat }
+        ensures view { pass.new.seat.me ≡ (given pass.old.seat.me.0 part, []) }
+        ensures hand { first_of pass.new.hands ≡ slice_set (first_of pass.old.hands) part None }
+    {
+        let mut hand = pass.hands.exchange(Hand::of(Vec::new(self.alloc)));
+        give_from(
+            &self.table.shared,
+            self.waiting.as_slice(),
+            &mut pass.seat,
+            &mut hand,
+            part,
+        );
+        pass.hands.exchange(hand);
+    }
+
+    /// Makes an event on parts that are held, and replies. The log goes on from all that the pass had seen and ends
+    /// with this event. The reply is that of the state which the log before it leaves. Where memory is refused
+    /// the parts stay as they were.
+    pub fn event<L: Ledger>(
+        &self,
+        pass: &mut Pass<C>,
+        event: C::Event,
+        steps: &mut Steps<L>,
+    ) -> C::Reply
+        requires pass { IsPass (meaning C.Parts self.now.0 self.now.1) self.now.2 pass.old.seat pass.old.hands }
+        requires covered { Covers (C.touching self.now.3 event) (first_of pass.old.hands) }
+        requires stands { C.stands self.now.3 event (replay (meaning C.Parts self.now.0 self.now.1) pass.old.seat.me.0.log) }
+        requires fits { C.fits self.now.3 event (replay (meaning C.Parts self.now.0 self.now.1) pass.old.seat.me.0.log) }
+        requires named { (q : ℕ) → C.names event ≡ Some q → has q pass.old.seat.me.0.sessions ≡ true }
+        requires few { length pass.old.seat.me.0.mine < 2 ^ 56 * hands_of pass.old.seat.me.0 }
+        ensures pass { IsPass (meaning C.Parts self.now.0 self.now.1) self.now.2 pass.new.seat pass.new.hands }
+        ensures room { SameRoom (first_of pass.old.hands) (first_of pass.new.hands) }
+        ensures log { (before : List (Entry C.Event)) × Extends (meaning C.Parts self.now.0 self.now.1) pass.old.seat before (entry_of pass.old.seat.id pass.old.seat.me.0 (C.refused result) event) pass.new.seat
+            × MatchBool (C.refused result) (first_of pass.new.hands ≡ first_of pass.old.hands) (result ≡ C.reply self.now.3 event (replay (meaning C.Parts self.now.0 self.now.1) before))
+            × (steps.new ≤ steps.old + C.cost self.now.3 event (replay (meaning C.Parts self.now.0 self.now.1) before)) }
+    {
+        let mut hand = pass.hands.exchange(Hand::of(Vec::new(self.alloc)));
+        let reply = make(
+            &self.table.shared,
+            &self.shape,
+            &mut pass.seat,
+            &mut hand,
+            event,
+            steps,
+        );
+        pass.hands.exchange(hand);
+        reply
+    }
+}

@@ -1,0 +1,197 @@
+//! Taking a part and giving it back.
+ghost use Rattle.std.specs.Prelude.{◌≡◌, ◌≢◌, ℕ, ◌+◌, ◌<◌, ◌==◌, List, [], ◌∷◌, Option, None, Some, IsTrue, MatchBool, cond, length, slice_get, slice_set};
+ghost use Rattle.hall_rule.specs.HallInvariant.{hands_of, stage};
+ghost use Rattle.hall_rule.specs.EventLog.{replay};
+ghost use Rattle.hall_rule.specs.Hands.{Holds};
+ghost use Rattle.hall_rule.specs.declared.view.Entry.{Entry};
+ghost use Rattle.hall_rule.specs.Meaning.{meaning};
+ghost use Rattle.hall_rule.specs.Views.{Learned, Loads, drawn, given, homed, loaded, staged};
+ghost use Rattle.hall_steps.specs.Hall.{IsAt, IsOf, IsSameSeat, IsSized, Looks};
+
+use crate::telling::{Board, Place, free_as, latch_as, load_as};
+use hall_rule::{Hand, Parts};
+use std::marker::Brand;
+use std::sync::Wait;
+use std::sync::atomic::{AtomicU64, Ordering};
+
+// Tries the latch of a part once.
+fn try_latch<C: Parts>(board: &Board<C>, seat: &mut Place<C>, part: u32) -> bool
+    requires at { IsAt (meaning C.Parts board.now.key.core.value board.now.key.passes) board.now.table_id seat.old part }
+    requires none_out { seat.old.me.1 ≡ [] }
+    requires away { stage seat.old.me.0 part ≡ 0 }
+    requires hand { hands_of seat.old.me.0 ≢ 0 }
+    ensures seat { IsSameSeat seat.old seat.new }
+    ensures taken { seat.new.me ≡ (cond result (staged seat.old.me.0 part 1) seat.old.me.0, []) }
+{
+    latch_as::<C, Brand>(board, seat, part) == 0
+}
+
+// Sleeps until the latch of a part is taken.
+fn wait_latch<C: Parts, R: Wait>(rt: &R, board: &Board<C>, seat: &mut Place<C>, part: u32)
+    requires at { IsAt (meaning C.Parts board.now.key.core.value board.now.key.passes) board.now.table_id seat.old part }
+    requires none_out { seat.old.me.1 ≡ [] }
+    requires away { stage seat.old.me.0 part ≡ 0 }
+    requires hand { hands_of seat.old.me.0 ≢ 0 }
+    ensures seat { IsSameSeat seat.old seat.new }
+    ensures taken { seat.new.me ≡ (staged seat.old.me.0 part 1, []) }
+{
+    for _ in rt.forever() {
+        if try_latch(board, seat, part) {
+            return;
+        }
+        board.park(rt, part as usize + 1, 1);
+    }
+    unreachable!()
+}
+
+// Takes the latch of a part. Who has to wait for it is counted from before its first try, so that who gives
+// the part back after that try sees the count.
+fn latch<C: Parts, R: Wait>(
+    rt: &R,
+    board: &Board<C>,
+    waiting: &[AtomicU64],
+    seat: &mut Place<C>,
+    part: u32,
+)
+    requires at { IsAt (meaning C.Parts board.now.key.core.value board.now.key.passes) board.now.table_id seat.old part }
+    requires none_out { seat.old.me.1 ≡ [] }
+    requires waiting { length waiting.now ≡ length (C.state_of board.now.key.core.value) }
+    requires away { stage seat.old.me.0 part ≡ 0 }
+    requires hand { hands_of seat.old.me.0 ≢ 0 }
+    ensures seat { IsSameSeat seat.old seat.new }
+    ensures taken { seat.new.me ≡ (staged seat.old.me.0 part 1, []) }
+{
+    if try_latch(board, seat, part) {
+        return;
+    }
+    waiting[part as usize].fetch_add(1, Ordering::SeqCst);
+    wait_latch(rt, board, seat, part);
+    waiting[part as usize].fetch_sub(1, Ordering::SeqCst);
+}
+
+// Loads the event word, and takes out the slot of a part whose latch is taken.
+fn learn<C: Parts>(board: &Board<C>, seat: &mut Place<C>, part: u32)
+    requires at { IsAt (meaning C.Parts board.now.key.core.value board.now.key.passes) board.now.table_id seat.old part }
+    requires none_out { seat.old.me.1 ≡ [] }
+    requires taken { (stage seat.old.me.0 part ≡ 1) × (seat.old.me.0.out ≡ 0) }
+    ensures seat { IsSameSeat seat.old seat.new }
+    ensures learned { (n : ℕ) × Loads (meaning C.Parts board.now.key.core.value board.now.key.passes) seat.old.id seat.old.me.0 part n seat.new.me }
+{
+    load_as::<C, Brand>(board, seat, part);
+}
+
+// Gives the empty slot of a part home.
+fn put_back<C: Parts>(board: &Board<C>, seat: &mut Place<C>, part: u32)
+    requires at { IsAt (meaning C.Parts board.now.key.core.value board.now.key.passes) board.now.table_id seat.old part }
+    requires empty { seat.old.me.1 ≡ (part, None) ∷ [] }
+    requires held { (stage seat.old.me.0 part ≡ 2) × (seat.old.me.0.out ≡ part + 1) }
+    ensures seat { IsSameSeat seat.old seat.new }
+    ensures home { seat.new.me ≡ (homed seat.old.me.0, []) }
+{
+    load_as::<C, Brand>(board, seat, part);
+}
+
+// Takes out the empty slot of a part that is held.
+fn draw<C: Parts>(board: &Board<C>, seat: &mut Place<C>, part: u32)
+    requires at { IsAt (meaning C.Parts board.now.key.core.value board.now.key.passes) board.now.table_id seat.old part }
+    requires none_out { seat.old.me.1 ≡ [] }
+    requires held { (stage seat.old.me.0 part ≡ 2) × (seat.old.me.0.out ≡ 0) }
+    ensures seat { IsSameSeat seat.old seat.new }
+    ensures out { seat.new.me ≡ (drawn seat.old.me.0 part, (part, None) ∷ []) }
+{
+    load_as::<C, Brand>(board, seat, part);
+}
+
+// Gives the slot of a part home, with the part in it, and frees its latch.
+fn release<C: Parts>(board: &Board<C>, seat: &mut Place<C>, part: u32)
+    requires at { IsAt (meaning C.Parts board.now.key.core.value board.now.key.passes) board.now.table_id seat.old part }
+    requires value { (p : C.Part) × (seat.old.me.1 ≡ (part, Some p) ∷ []) × (slice_get (replay (meaning C.Parts board.now.key.core.value board.now.key.passes) seat.old.me.0.log) part ≡ Some p) }
+    requires held { (stage seat.old.me.0 part ≡ 2) × (seat.old.me.0.out ≡ part + 1) }
+    ensures seat { IsSameSeat seat.old seat.new }
+    ensures given { seat.new.me ≡ (given seat.old.me.0 part, []) }
+{
+    free_as::<C, Brand>(board, seat, part);
+}
+
+// Loads the event word and carries a part, whose latch is taken, out of its slot, which goes home empty.
+fn carry_out<C: Parts>(board: &Board<C>, seat: &mut Place<C>, part: u32) -> C::Part
+    requires at { IsAt (meaning C.Parts board.now.key.core.value board.now.key.passes) board.now.table_id seat.old part }
+    requires none_out { seat.old.me.1 ≡ [] }
+    requires taken { (stage seat.old.me.0 part ≡ 1) × (seat.old.me.0.out ≡ 0) }
+    ensures seat { IsSameSeat seat.old seat.new }
+    ensures learned { (log : List (Entry C.Event)) × Learned (meaning C.Parts board.now.key.core.value board.now.key.passes) seat.old.id seat.old.me.0 log
+        × (slice_get (replay (meaning C.Parts board.now.key.core.value board.now.key.passes) log) part ≡ Some result) × (seat.new.me ≡ (homed (loaded seat.old.me.0 part log), [])) }
+{
+    learn(board, seat, part);
+    let out = board.exchange(seat, part as usize, None);
+    put_back(board, seat, part);
+    match out {
+        Some(held) => held,
+        None => unreachable!(),
+    }
+}
+
+// Carries a part back into its slot, and frees its latch.
+fn carry_in<C: Parts>(board: &Board<C>, seat: &mut Place<C>, part: u32, held: C::Part)
+    requires at { IsAt (meaning C.Parts board.now.key.core.value board.now.key.passes) board.now.table_id seat.old part }
+    requires none_out { seat.old.me.1 ≡ [] }
+    requires held { (stage seat.old.me.0 part ≡ 2) × (seat.old.me.0.out ≡ 0) }
+    requires value { slice_get (replay (meaning C.Parts board.now.key.core.value board.now.key.passes) seat.old.me.0.log) part ≡ Some held }
+    ensures seat { IsSameSeat seat.old seat.new }
+    ensures given { seat.new.me ≡ (given seat.old.me.0 part, []) }
+{
+    draw(board, seat, part);
+    drop(board.exchange(seat, part as usize, Some(held)));
+    release(board, seat, part);
+}
+
+/// Takes a part into the hand, and waits for it.
+pub(crate) fn take_from<C: Parts, R: Wait>(
+    rt: &R,
+    board: &Board<C>,
+    waiting: &[AtomicU64],
+    seat: &mut Place<C>,
+    hand: &mut Hand<C::Part>,
+    part: u32,
+)
+    requires sized { IsSized (meaning C.Parts board.now.key.core.value board.now.key.passes) board.now.table_id }
+    requires waiting { length waiting.now ≡ length (C.state_of board.now.key.core.value) }
+    requires pass { IsOf (meaning C.Parts board.now.key.core.value board.now.key.passes) board.now.table_id seat.old hand.old }
+    requires room { length hand.old ≡ length (C.state_of board.now.key.core.value) }
+    requires away { slice_get hand.old part ≡ Some None }
+    requires has_hand { hands_of seat.old.me.0 ≢ 0 }
+    ensures pass { IsOf (meaning C.Parts board.now.key.core.value board.now.key.passes) board.now.table_id seat.new hand.new }
+    ensures seen { Looks (meaning C.Parts board.now.key.core.value board.now.key.passes) seat.old seat.new }
+    ensures hand { (p : C.Part) × (hand.new ≡ slice_set hand.old part (Some p)) }
+{
+    latch(rt, board, waiting, seat, part);
+    let held = carry_out(board, seat, part);
+    hand.replace(part, Some(held));
+}
+
+/// Gives a part back from the hand, and wakes a thread where one waits for it.
+pub(crate) fn give_from<C: Parts>(
+    board: &Board<C>,
+    waiting: &[AtomicU64],
+    seat: &mut Place<C>,
+    hand: &mut Hand<C::Part>,
+    part: u32,
+)
+    requires sized { IsSized (meaning C.Parts board.now.key.core.value board.now.key.passes) board.now.table_id }
+    requires waiting { length waiting.now ≡ length (C.state_of board.now.key.core.value) }
+    requires pass { IsOf (meaning C.Parts board.now.key.core.value board.now.key.passes) board.now.table_id seat.old hand.old }
+    requires room { length hand.old ≡ length (C.state_of board.now.key.core.value) }
+    requires held { Holds hand.old part }
+    ensures pass { IsOf (meaning C.Parts board.now.key.core.value board.now.key.passes) board.now.table_id seat.new hand.new }
+    ensures seat { IsSameSeat seat.old seat.new }
+    ensures view { seat.new.me ≡ (given seat.old.me.0 part, []) }
+    ensures hand { hand.new ≡ slice_set hand.old part None }
+{
+    match hand.replace(part, None) {
+        Some(held) => carry_in(board, seat, part, held),
+        None => unreachable!(),
+    }
+    if waiting[part as usize].load(Ordering::SeqCst) > 0 {
+        board.wake_one(part as usize + 1);
+    }
+}

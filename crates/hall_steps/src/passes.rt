@@ -1,0 +1,79 @@
+//! Making passes, and joining them.
+ghost use Rattle.std.specs.Prelude.{◌≡◌, ◌+◌, ◌^◌, ◌<◌, ◌≤◌, ℕ, List, [], ◌∷◌, false, length};
+ghost use Rattle.hall_rule.specs.HallInvariant.{hands_of};
+ghost use Rattle.hall_rule.specs.Hands.{Holds};
+ghost use Rattle.hall_rule.specs.Meaning.{meaning};
+ghost use Rattle.hall_rule.specs.Views.{Sees, dealt, greatest};
+ghost use Rattle.hall_steps.specs.Hall.{IsNew, IsPass, IsSameSeat, IsSized, Joined, first_of};
+
+use crate::hall::{Hall, Pass};
+use crate::hands::Hands;
+use crate::telling::{Board, Deal, Note, Place, join_as, load_as};
+use hall_rule::Parts;
+use std::marker::Brand;
+
+// Sees the whole log.
+fn see<C: Parts>(board: &Board<C>, seat: &mut Place<C>)
+    requires sized { IsSized (meaning C.Parts board.now.key.core.value board.now.key.passes) board.now.table_id }
+    requires table { seat.old.table_id ≡ board.now.table_id }
+    requires live { seat.old.me.0.spent ≡ false }
+    requires none_out { seat.old.me.1 ≡ [] }
+    ensures seat { IsSameSeat seat.old seat.new }
+    ensures seen { (n : ℕ) × Sees (meaning C.Parts board.now.key.core.value board.now.key.passes) seat.old.id seat.old.me.0 n seat.new.me }
+{
+    load_as::<C, Brand>(board, seat, 0);
+}
+
+impl<C: Parts> Hall<C> {
+    /// Gives the hand of the pass's greatest session to a new pass, which has seen no less. What is held stays with the pass.
+    pub fn split(&self, pass: &mut Pass<C>) -> Pass<C>
+        requires pass { IsPass (meaning C.Parts self.now.0 self.now.1) self.now.2 pass.old.seat pass.old.hands }
+        requires two { 2 ≤ hands_of pass.old.seat.me.0 }
+        requires few { length pass.old.seat.me.0.mine ≤ 2 ^ 56 }
+        ensures pass { IsPass (meaning C.Parts self.now.0 self.now.1) self.now.2 pass.new.seat pass.new.hands }
+        ensures seat { IsSameSeat pass.old.seat pass.new.seat × (pass.new.seat.me.0 ≡ dealt pass.old.seat.me.0) }
+        ensures hand { first_of pass.new.hands ≡ first_of pass.old.hands }
+        ensures given { IsPass (meaning C.Parts self.now.0 self.now.1) self.now.2 result.seat result.hands }
+        ensures new { IsNew pass.old.seat.me.0 result.seat.me.0 (greatest pass.old.seat.me.0.sessions ∷ []) }
+        ensures empty { (k : ℕ) → ¬ Holds (first_of result.hands) k }
+    {
+        let mut seat = self.table.shared.split_seat::<Deal>(&mut pass.seat);
+        see(&self.table.shared, &mut seat);
+        let hands = pass.hands.split_last();
+        Pass { seat, hands }
+    }
+
+    /// Makes a pass without a hand, which has seen no less.
+    pub fn note(&self, pass: &mut Pass<C>) -> Pass<C>
+        requires pass { IsPass (meaning C.Parts self.now.0 self.now.1) self.now.2 pass.old.seat pass.old.hands }
+        ensures pass { IsPass (meaning C.Parts self.now.0 self.now.1) self.now.2 pass.new.seat pass.new.hands }
+        ensures seat { IsSameSeat pass.old.seat pass.new.seat × (pass.new.seat.me.0 ≡ pass.old.seat.me.0) }
+        ensures hand { pass.new.hands ≡ pass.old.hands }
+        ensures given { IsPass (meaning C.Parts self.now.0 self.now.1) self.now.2 result.seat result.hands }
+        ensures new { IsNew pass.old.seat.me.0 result.seat.me.0 [] }
+    {
+        let mut seat = self.table.shared.split_seat::<Note>(&mut pass.seat);
+        see(&self.table.shared, &mut seat);
+        Pass {
+            seat,
+            hands: Hands::none(self.alloc),
+        }
+    }
+
+    /// Adds the numbers, the entries and the hands of a pass that has ended. That pass holds no part.
+    pub fn join(&self, pass: &mut Pass<C>, ended: Pass<C>)
+        requires pass { IsPass (meaning C.Parts self.now.0 self.now.1) self.now.2 pass.old.seat pass.old.hands }
+        requires ended { IsPass (meaning C.Parts self.now.0 self.now.1) self.now.2 ended.seat ended.hands }
+        requires empty { (k : ℕ) → ¬ Holds (first_of ended.hands) k }
+        ensures pass { IsPass (meaning C.Parts self.now.0 self.now.1) self.now.2 pass.new.seat pass.new.hands }
+        ensures seat { IsSameSeat pass.old.seat pass.new.seat }
+        ensures joined { Joined pass.old.seat.id ended.seat.id pass.old.seat.me.0 ended.seat.me.0 pass.new.seat.me.0 }
+        ensures holds { (k : ℕ) → Holds (first_of pass.old.hands) k → Holds (first_of pass.new.hands) k }
+        ensures only { (k : ℕ) → Holds (first_of pass.new.hands) k → Holds (first_of pass.old.hands) k }
+    {
+        let Pass { seat, hands } = ended;
+        join_as::<C, Brand>(&self.table.shared, &mut pass.seat, seat);
+        see(&self.table.shared, &mut pass.seat);
+        pass.hands.append(hands);
+    }
+}
