@@ -2,5 +2,5 @@ mod ArrayLemmas
 mod BitmapLemmas
 mod BodyLemmas
 mod CellLemmas
-pub mod PieceLemmas
+mod PieceLemmas
 mod ValueLemmas

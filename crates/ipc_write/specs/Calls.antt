@@ -1,4 +1,6 @@
--- What a call of a writer did to its sink. A writer is seen as its sink and whether a call of the sink has failed.
+-- What a call of a writer did to its sink. A writer is seen as its sink and whether a call of the sink has failed. A
+-- piece of a stream is the message of a schema or of a record batch, or the end word (Arrow columnar format, "IPC
+-- Streaming Format").
 use Rattle.std.specs.Prelude.{◌≡◌, ℕ, Bool, true, false, List, Option, Result, Ok, Err}
 use Rattle.std.specs.Io.KnownBytes.{Appends}
 use Rattle.byte_ports.specs.Calls.{Rose, AppendsFront}
@@ -32,12 +34,3 @@ abbrev pub MakesPiece :
 MakesPiece written faults old new piece (Ok done) = WroteAll written old new piece
 MakesPiece written faults old new piece (Err (Sink fault)) = SinkFailed written faults old new piece fault.earlier
 MakesPiece written faults old new piece (Err (Memory refused)) = (old.1 ≡ false) × (new ≡ old)
-
--- The answer of a call that writes a stream piece by piece, each made first: where there was no memory for a piece,
--- only those before it were written, and no call of the sink has failed.
-abbrev pub MakesStream :
-    {W T : Type 0} → (W → Option (List ℕ)) → (W → ℕ) → (W × Bool) → (W × Bool) → List ℕ → Result T PieceFault → Type 0
-MakesStream written faults old new stream (Ok done) = WroteAll written old new stream
-MakesStream written faults old new stream (Err (Sink fault)) = SinkFailed written faults old new stream fault.earlier
-MakesStream written faults old new stream (Err (Memory refused)) =
-    (old.1 ≡ false) × (new.1 ≡ false) × AppendsFront (written old.0) (written new.0) stream

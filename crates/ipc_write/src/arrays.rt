@@ -3,16 +3,16 @@ ghost use Rattle.std.specs.Prelude.{◌≡◌, ◌≤◌, ◌↔◌, ◌<◌, �
 ghost use Rattle.arrow_spec.specs.Arrays.{column_buffers, data_buffers, layout_of, null_count, validity};
 ghost use Rattle.arrow_spec.specs.Batches.{arrays_of, column_cells};
 ghost use Rattle.cell_model.specs.Rows.{Fits};
-ghost use Rattle.ipc_write.specs.Batches.{IsBlock, cell_at, is_slot_of};
+ghost use Rattle.ipc_write.specs.Batches.{cell_at, is_slot_of};
 
 use crate::batch::{Array, Batch};
 use crate::bitmaps::{Bit, bitmap};
 use crate::cells::null_count;
 use crate::values::{numbers, offsets, values};
-use cell_model::{Buffers, Bytes, Kind, MOST_SLOTS, Row, Rows, Schema};
+use cell_model::{Buffers, Bytes, Kind, Row, Schema};
 use std::alloc::{AllocError, Global};
 
-/// The batch of these rows.
+/// The batch of these rows (Arrow columnar format, "RecordBatch message").
 ///
 /// Only want of memory is refused.
 pub fn build(alloc: Global, schema: &Schema, rows: &[Row]) -> Result<Batch, AllocError>
@@ -35,19 +35,6 @@ pub fn all_fit(schema: &Schema, rows: &[Row]) -> bool
     rows.iter().all(|row| schema.fits(row).is_ok())
 }
 
-/// Whether each block's rows can be those of a batch: they fit the schema, and are at most 2^15.
-pub fn are_blocks(schema: &Schema, blocks: &[Rows]) -> bool
-    ensures { IsTrue result ↔ All (IsBlock schema.now) blocks.now }
-{
-    blocks.iter().all(|block| is_block(schema, block))
-}
-
-fn is_block(schema: &Schema, block: &Rows) -> bool
-    ensures { IsTrue result ↔ IsBlock schema.now block.now }
-{
-    block.len() <= MOST_SLOTS as usize && all_fit(schema, block.as_slice())
-}
-
 // The column of a kind of the rows' cells at a place.
 fn array(alloc: Global, kind: Kind, place: usize, rows: &[Row]) -> Result<Array, AllocError>
     requires few { length rows.now ≤ 2 ^ 15 }
@@ -64,7 +51,8 @@ fn array(alloc: Global, kind: Kind, place: usize, rows: &[Row]) -> Result<Array,
     Ok(Array::new(nulls, Buffers::from(buffers)))
 }
 
-// The validity of a column with so many nulls: nothing where there is none.
+// The validity of a column with so many nulls: nothing where there is none (Arrow columnar format,
+// "Validity bitmaps").
 fn validity(alloc: Global, nulls: u32, place: usize, rows: &[Row]) -> Result<Vec<u8>, AllocError>
     requires { nulls ≡ null_count (column_cells place rows.now) }
     ensures { IfOk result (λ bytes. bytes.items ≡ validity (column_cells place rows.now)) }

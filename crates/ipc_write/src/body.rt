@@ -1,4 +1,4 @@
-// Where the buffers of a record batch lie in its body.
+// Where the buffers of a record batch lie in its body (Arrow columnar format, "RecordBatch message").
 ghost use Rattle.std.specs.Prelude.{◌≡◌, ◌<◌, ◌^◌, ◌+◌, ◌++◌, ◌∷◌, [], pos, IfOk, OnOk, length, flat_map};
 ghost use Rattle.arrow_spec.specs.Batches.{buffer_places};
 ghost use Rattle.arrow_spec.specs.Bytes.{padded};

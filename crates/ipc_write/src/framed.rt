@@ -1,9 +1,10 @@
-// The bytes of a message before its body.
+// The bytes of a message before its body (Arrow columnar format, "Encapsulated message format").
 ghost use Rattle.std.specs.Prelude.{◌≡◌, ◌++◌, ◌<◌, ◌^◌, IfOk, length};
 ghost use Rattle.std.specs.Int.{w32, to_le_bytes};
 ghost use Rattle.arrow_spec.specs.Bytes.{padded};
 ghost use Rattle.arrow_spec.specs.Streams.{continuation};
 
+use crate::little_endian::add_u32;
 use std::alloc::{AllocError, Global};
 
 // Four bytes FF, the size of the metadata with its padding, and the metadata with its padding.
@@ -15,7 +16,7 @@ pub fn framed(alloc: Global, metadata: &[u8]) -> Result<Vec<u8>, AllocError>
     let size = metadata.len().next_multiple_of(8);
     let mut bytes = Vec::new(alloc);
     bytes.extend_from_slice(&[0xff; 4])?;
-    bytes.extend_from_slice(&(size as u32).to_le_bytes())?;
+    add_u32(&mut bytes, size as u32)?;
     bytes.extend_from_slice(metadata)?;
     bytes.resize(8 + size, 0)?;
     Ok(bytes)

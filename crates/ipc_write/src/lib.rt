@@ -8,10 +8,11 @@ mod body;
 mod cells;
 mod faults;
 mod framed;
+mod little_endian;
 mod values;
 mod writer;
 
-pub use arrays::{all_fit, are_blocks, build};
+pub use arrays::{all_fit, build};
 pub use batch::{Array, Batch};
 pub use faults::{PieceFault, SinkFault};
 pub use writer::Writer;

@@ -1,7 +1,7 @@
 // Whole streams, byte by byte, and faults in turn.
-use crate::{Array, Batch, PieceFault, SinkFault, Writer, all_fit, are_blocks, build};
+use crate::{PieceFault, SinkFault, Writer, all_fit, build};
 use byte_ports::ListSink;
-use cell_model::{Buffers, Bytes, Cell, Column, Kind, Row, Rows, Schema, are_named};
+use cell_model::{Bytes, Cell, Column, Kind, Row, Schema, are_named};
 use std::alloc::Global;
 use std::test::Fail;
 
@@ -80,6 +80,18 @@ const THREE_KEYS: &[u8; 344] = b"\xff\xff\xff\xff\x98\x00\x00\x00\
     \x02\x00\x00\x00\x00\x00\x00\x00\
     \x03\x00\x00\x00\x00\x00\x00\x00\
     \xff\xff\xff\xff\x00\x00\x00\x00";
+
+// The body of the rows `1 -3 true x00ff` and `2 null null null` of `key:i64 p:i8? q:bool? r:binary?`.
+const MIXED_BODY: &[u8; 80] = b"\x01\x00\x00\x00\x00\x00\x00\x00\
+    \x02\x00\x00\x00\x00\x00\x00\x00\
+    \x01\x00\x00\x00\x00\x00\x00\x00\
+    \xfd\x00\x00\x00\x00\x00\x00\x00\
+    \x01\x00\x00\x00\x00\x00\x00\x00\
+    \x01\x00\x00\x00\x00\x00\x00\x00\
+    \x01\x00\x00\x00\x00\x00\x00\x00\
+    \x00\x00\x00\x00\x02\x00\x00\x00\
+    \x02\x00\x00\x00\x00\x00\x00\x00\
+    \x00\xff\x00\x00\x00\x00\x00\x00";
 
 // Which calls of the sink fail, what the calls `schema`, `rows` and `finish` answer, and how many bytes
 // went out.
@@ -204,20 +216,17 @@ fn a_batch_of_mixed_columns_is_written(rt: HostRuntime) -> Result<(), Fail> {
 fn nine_rows_are_written_in_two_batches(rt: HostRuntime) -> Result<(), Fail> {
     let alloc = rt.alloc();
     let schema = schema(alloc, &[("key", Kind::I64, false), ("v", Kind::Utf8, true)])?;
-    let mut blocks = Vec::new(alloc);
-    for keys in [[1, 2, 3, 4, 5, 6, 7, 8].as_slice(), [9].as_slice()] {
-        let mut rows = Vec::new(alloc);
-        for key in keys {
-            let text = Cell::Text(Bytes::from_slice(alloc, b"x".as_slice())?);
-            rows.push(Row::from(vec![in alloc; Cell::Num(*key), text]?))?;
-        }
-        blocks.push(Rows::from(rows))?;
-    }
-    if !are_blocks(&schema, blocks.as_slice()) {
-        return Err(Fail::from("the rows do not fit"));
-    }
     let mut writer = Writer::new(ListSink::new(alloc, &[])?);
-    writer.stream(alloc, &schema, blocks.as_slice())?;
+    writer.schema(alloc, &schema)?;
+    for keys in [[1, 2, 3, 4, 5, 6, 7, 8].as_slice(), [9].as_slice()] {
+        let rows = x_rows(alloc, keys)?;
+        let small = rows.len() <= 32_768;
+        if !small || !all_fit(&schema, rows.as_slice()) {
+            return Err(Fail::from("the rows do not fit"));
+        }
+        writer.rows(alloc, &schema, rows.as_slice())?;
+    }
+    writer.finish()?;
     let sink = writer.into_inner();
     assert_eq!(rt; sink.written().len(), 800);
     for place in [48, 272, 600] {
@@ -227,27 +236,15 @@ fn nine_rows_are_written_in_two_batches(rt: HostRuntime) -> Result<(), Fail> {
 }
 
 #[test]
-fn a_batch_is_made_of_columns(rt: HostRuntime) -> Result<(), Fail> {
+fn a_stream_of_no_batch_is_written(rt: HostRuntime) -> Result<(), Fail> {
     let alloc = rt.alloc();
-    let batch = Batch::new(0, Vec::new(alloc));
-    assert_eq!(rt; batch.arrays().len(), 0);
-    let buffers = Buffers::from(vec![in alloc; Bytes::from(Vec::new(alloc))]?);
-    let array = Array::new(1, buffers);
-    assert_eq!(rt; array.nulls(), 1);
-    assert_eq!(rt; array.buffers().len(), 1);
+    let schema = schema(alloc, &[("key", Kind::I64, false), ("v", Kind::Utf8, true)])?;
+    let mut writer = Writer::new(ListSink::new(alloc, &[])?);
+    writer.schema(alloc, &schema)?;
+    writer.finish()?;
+    assert_eq!(rt; writer.into_inner().written(), STREAM.as_slice());
     Ok(())
 }
-// The body of the rows `1 -3 true x00ff` and `2 null null null` of `key:i64 p:i8? q:bool? r:binary?`.
-const MIXED_BODY: &[u8; 80] = b"\x01\x00\x00\x00\x00\x00\x00\x00\
-    \x02\x00\x00\x00\x00\x00\x00\x00\
-    \x01\x00\x00\x00\x00\x00\x00\x00\
-    \xfd\x00\x00\x00\x00\x00\x00\x00\
-    \x01\x00\x00\x00\x00\x00\x00\x00\
-    \x01\x00\x00\x00\x00\x00\x00\x00\
-    \x01\x00\x00\x00\x00\x00\x00\x00\
-    \x00\x00\x00\x00\x02\x00\x00\x00\
-    \x02\x00\x00\x00\x00\x00\x00\x00\
-    \x00\xff\x00\x00\x00\x00\x00\x00";
 
 fn schema(alloc: Global, columns: &[(&'static str, Kind, bool)]) -> Result<Schema, Fail> {
     let mut named = Vec::new(alloc);
@@ -273,13 +270,12 @@ fn key_rows(alloc: Global, keys: &[i64]) -> Result<Vec<Row>, Fail> {
     Ok(rows)
 }
 
-#[test]
-fn a_stream_of_no_batch_is_written(rt: HostRuntime) -> Result<(), Fail> {
-    let alloc = rt.alloc();
-    let schema = schema(alloc, &[("key", Kind::I64, false), ("v", Kind::Utf8, true)])?;
-    let mut writer = Writer::new(ListSink::new(alloc, &[])?);
-    writer.schema(alloc, &schema)?;
-    writer.finish()?;
-    assert_eq!(rt; writer.into_inner().written(), STREAM.as_slice());
-    Ok(())
+// Rows of these keys, each with the text "x".
+fn x_rows(alloc: Global, keys: &[i128]) -> Result<Vec<Row>, Fail> {
+    let mut rows = Vec::new(alloc);
+    for key in keys {
+        let text = Cell::Text(Bytes::from_slice(alloc, b"x".as_slice())?);
+        rows.push(Row::from(vec![in alloc; Cell::Num(*key), text]?))?;
+    }
+    Ok(rows)
 }

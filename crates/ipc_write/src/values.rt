@@ -1,5 +1,5 @@
 // The data of a column: its numbers, or its texts and bytes with their offsets.
-ghost use Rattle.std.specs.Prelude.{◌≡◌, ◌++◌, ◌+◌, ◌*◌, ◌<◌, ◌≤◌, ◌^◌, ◌-◌, All, IfOk, IsTrue, OnOk, length, true, flat_map};
+ghost use Rattle.std.specs.Prelude.{◌≡◌, ◌<◌, ◌≤◌, ◌^◌, All, IfOk, length, true, flat_map};
 ghost use Rattle.std.specs.Int.{w32, to_le_bytes};
 ghost use Rattle.arrow_spec.specs.Arrays.{number_of, offsets, value_of};
 ghost use Rattle.arrow_spec.specs.Batches.{column_cells};
@@ -7,10 +7,12 @@ ghost use Rattle.cell_model.specs.Values.{is_integer_of};
 ghost use Rattle.ipc_write.specs.Batches.{cell_at, kind_bytes};
 
 use crate::cells::{number_at, value_at};
+use crate::little_endian::{add_number, add_u32};
 use cell_model::{Kind, Row};
 use std::alloc::{AllocError, Global};
 
-// The numbers of a column of this integer kind, one after another.
+// The numbers of a column of this integer kind, one after another (Arrow columnar format, "Fixed-size
+// Primitive Layout").
 pub fn numbers(alloc: Global, kind: Kind, place: usize, rows: &[Row]) -> Result<Vec<u8>, AllocError>
     requires few { length rows.now ≤ 2 ^ 15 }
     requires in_range { All (λ row. is_integer_of kind (number_of (cell_at place row)) ≡ true) rows.now }
@@ -24,25 +26,8 @@ pub fn numbers(alloc: Global, kind: Kind, place: usize, rows: &[Row]) -> Result<
     Ok(bytes)
 }
 
-// Adds a number of this integer kind.
-fn add_number(bytes: &mut Vec<u8>, kind: Kind, number: i128) -> Result<(), AllocError>
-    requires { is_integer_of kind number ≡ true }
-    ensures { OnOk result (bytes.new.items ≡ bytes.old.items ++ kind_bytes kind number) }
-{
-    match kind {
-        Kind::I8 => bytes.extend_from_slice(&(number as i8).to_le_bytes()),
-        Kind::I16 => bytes.extend_from_slice(&(number as i16).to_le_bytes()),
-        Kind::I32 => bytes.extend_from_slice(&(number as i32).to_le_bytes()),
-        Kind::I64 => bytes.extend_from_slice(&(number as i64).to_le_bytes()),
-        Kind::U8 => bytes.extend_from_slice(&(number as u8).to_le_bytes()),
-        Kind::U16 => bytes.extend_from_slice(&(number as u16).to_le_bytes()),
-        Kind::U32 => bytes.extend_from_slice(&(number as u32).to_le_bytes()),
-        Kind::U64 => bytes.extend_from_slice(&(number as u64).to_le_bytes()),
-        Kind::Bool | Kind::Utf8 | Kind::Binary => Ok(()),
-    }
-}
-
-// The offsets of a column of texts or bytes.
+// The offsets of a column of texts or bytes, one more than its rows (Arrow columnar format,
+// "Variable-size Binary Layout").
 pub fn offsets(alloc: Global, place: usize, rows: &[Row]) -> Result<Vec<u8>, AllocError>
     requires few { length rows.now ≤ 2 ^ 15 }
     requires short { All (λ row. length (value_of (cell_at place row)) < 2 ^ 16) rows.now }
@@ -52,10 +37,10 @@ pub fn offsets(alloc: Global, place: usize, rows: &[Row]) -> Result<Vec<u8>, All
     let mut bytes = Vec::with_capacity(alloc, 4 * (rows.len() + 1))?;
     let mut end = 0u32;
     for row in rows {
-        bytes.extend_from_slice(&end.to_le_bytes())?;
+        add_u32(&mut bytes, end)?;
         end += value_at(place, row).len() as u32;
     }
-    bytes.extend_from_slice(&end.to_le_bytes())?;
+    add_u32(&mut bytes, end)?;
     Ok(bytes)
 }
 

@@ -2,11 +2,10 @@ ghost use Rattle.std.specs.Prelude.{◌≡◌, ◌++◌, ◌+◌, ◌<◌, ◌�
 ghost use Rattle.std.specs.Int.{w32, to_le_bytes};
 ghost use Rattle.arrow_spec.specs.Batches.{batch_of_arrays};
 ghost use Rattle.arrow_spec.specs.Bytes.{padded};
-ghost use Rattle.arrow_spec.specs.Streams.{schema_message, message_of_batch, batch_message, end_word, stream_of};
+ghost use Rattle.arrow_spec.specs.Streams.{schema_message, message_of_batch, batch_message, end_word};
 ghost use Rattle.byte_ports.specs.Calls.{TellsAlike};
 ghost use Rattle.cell_model.specs.Rows.{Fits};
-ghost use Rattle.ipc_write.specs.Batches.{IsBlock};
-ghost use Rattle.ipc_write.specs.Calls.{WritesPiece, MakesPiece, MakesStream};
+ghost use Rattle.ipc_write.specs.Calls.{WritesPiece, MakesPiece};
 
 use crate::arrays::build;
 use crate::batch::{Array, Batch};
@@ -14,11 +13,12 @@ use crate::body::Body;
 use crate::faults::{PieceFault, SinkFault};
 use crate::framed::framed;
 use byte_ports::{Failed, Sink, write_all};
-use cell_model::{Bytes, Row, Rows, Schema};
+use cell_model::{Bytes, Row, Schema};
 use std::alloc::{AllocError, Global};
 use std::marker::Model;
 
-/// Writes the pieces of a stream to a sink.
+/// Writes the pieces of a stream to a sink: the message of a schema, those of record batches, and the
+/// end word (Arrow columnar format, "IPC Streaming Format").
 ///
 /// Once a call of the sink has failed, each call answers `SinkFault { earlier: true }` and writes
 /// nothing.
@@ -68,37 +68,6 @@ impl<W: Sink> Writer<W> {
         }
         let piece = schema_piece(alloc, schema)?;
         match self.write(piece.as_slice()) {
-            Ok(()) => Ok(()),
-            Err(fault) => Err(PieceFault::Sink(fault)),
-        }
-    }
-
-    /// Writes a whole stream: the message of the schema, one record batch for each block of rows, and
-    /// the end word.
-    pub fn stream(
-        &mut self,
-        alloc: Global,
-        schema: &Schema,
-        blocks: &[Rows],
-    ) -> Result<(), PieceFault>
-        requires { All (IsBlock schema.now) blocks.now }
-        ensures answer { MakesStream W.written W.faults self.old self.new (stream_of schema.now blocks.now) result }
-        ensures told { TellsAlike (W.written self.old.0) (W.written self.new.0) }
-        ensures started { W.started self.new.0 ≡ W.started self.old.0 }
-        ensures loan { W.loan self.new.0 ≡ W.loan self.old.0 }
-        ensures counted { W.faults self.old.0 ≤ W.faults self.new.0 }
-    {
-        match self.schema(alloc, schema) {
-            Ok(()) => {}
-            Err(fault) => return Err(fault),
-        }
-        for block in blocks {
-            match self.rows(alloc, schema, block.as_slice()) {
-                Ok(()) => {}
-                Err(fault) => return Err(fault),
-            }
-        }
-        match self.finish() {
             Ok(()) => Ok(()),
             Err(fault) => Err(PieceFault::Sink(fault)),
         }
