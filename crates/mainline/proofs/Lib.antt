@@ -9,3 +9,5 @@ pub mod Exported
 pub mod Placed
 pub mod Running
 pub mod Scripts
+pub mod Statuses
+pub mod Stopped

@@ -1,10 +1,11 @@
 -- The one table stands at the first place.
-use Rattle.std.proofs.Common.{◌≡◌, ℕ, zero, suc, true, Option, None, Some, is_some, is_none, List, [], ◌∷◌, refl, sym, subst, ℤ, slice_get}
+use Rattle.std.proofs.Common.{◌≡◌, ℕ, zero, suc, true, Option, None, Some, is_some, is_none, List, [], ◌∷◌, refl, ap, sym, ◌∙◌, subst, ℤ, slice_get}
 use Rattle.std.proofs.lemmas.Bool.{and_parts}
 use Rattle.cell_model.specs.declared.cell.Cell.{Cell}
 use Rattle.cell_model.specs.declared.table.TableDecl.{TableDecl}
 use Rattle.cell_model.specs.Rows.{Fits, row_fault}
 use Rattle.workload_spec.specs.Valid.{is_command, is_table_place, is_key_number, fits_table}
+use Rattle.workload_spec.specs.declared.command.Command.{Command}
 use Rattle.workload_spec.specs.declared.command.Command.TheVariants as command
 use Rattle.workload_spec.specs.declared.reply.Said.{Said}
 use Rattle.outcome_laws.specs.Alone.{Alone}
@@ -39,5 +40,6 @@ placed_insert table alone place row told store valid answers =
     let at = first_fits table place row valid in
     subst (λ (place : ℕ). Answers (table ∷ []) alone (command.Insert place row) told store) (sym at.0) (answers at.1)
 
-pub placed_export : (table : TableDecl) (place : ℕ) → is_command (table ∷ []) (command.Export place) ≡ true → place ≡ 0
-placed_export table place valid = first_place table place valid
+pub placed_export : (table : TableDecl) (asked : Command) (place : ℕ) → asked ≡ command.Export place → is_command (table ∷ []) asked ≡ true → asked ≡ command.Export 0
+placed_export table asked place is valid =
+    is ∙ ap (λ (at : ℕ). command.Export at) (first_place table place (ap (is_command (table ∷ [])) (sym is) ∙ valid))

@@ -1,11 +1,11 @@
 -- A round on its way: what its first commands were answered.
-use Rattle.std.proofs.Common.{◌≡◌, ℕ, suc, Bool, true, false, not, ◌||◌, ◌+◌, ◌≤◌, Option, List, [], ◌∷◌, ◌++◌, map, length, count_by, cond, refl, ap, sym, ◌∙◌, subst, arith, add-zero, length-append, get_or}
+use Rattle.std.proofs.Common.{◌≡◌, ℕ, suc, Bool, true, false, ◌||◌, ◌+◌, ◌≤◌, Option, List, [], ◌∷◌, ◌++◌, map, length, count_by, cond, refl, ap, sym, ◌∙◌, subst, arith, add-zero, length-append, get_or}
 use Rattle.std.specs.List.{list_any, list_all}
 use Rattle.std.specs.Io.KnownBytes.{Appends}
 use Rattle.std.proofs.KnownBytes.{Appends-nil, Appends-trans}
 use Rattle.std.proofs.lemmas.Grind.{flat_map-append}
-use Rattle.std.proofs.lemmas.Bool.{or_parts, and_parts, and_from, not_from_false, false_from_ne_true}
-use Rattle.std.proofs.lemmas.List.{append-nil, map-append}
+use Rattle.std.proofs.lemmas.Bool.{or_parts, and_parts, and_from, false_from_ne_true}
+use Rattle.std.proofs.lemmas.List.{append-nil, append_assoc, map-append}
 use Rattle.std.proofs.lemmas.List.Folds.{list_any-append}
 use Rattle.std.proofs.lemmas.List.Sums.{sum_by-append, sum_by-cons}
 use Rattle.cell_model.specs.declared.table.TableDecl.{TableDecl}
@@ -20,9 +20,8 @@ use Rattle.outcome_laws.specs.Alone.{Alone, opening, IsAnswer, Served, after_all
 use Rattle.mainline.specs.declared.store.Store.{Store}
 use Rattle.workload_spec.specs.Valid.{is_command}
 use Rattle.workload_spec.specs.Supported.{is_supported_command}
-use Rattle.mainline.specs.Stands.{Stands, Answers, is_answered}
-use Rattle.mainline.proofs.Placed.{placed_export}
-use Rattle.mainline.specs.Sent.{SendsAt, SendsAll, Exports, RunsRound, runs_today}
+use Rattle.mainline.specs.Stands.{Stands, Answers}
+use Rattle.mainline.specs.Sent.{SendsAt, SendsAll, Serves, RunsRound, StopsRound, runs_today}
 
 -- one more command is answered
 served-push : (tables : List TableDecl) (alone : Alone) (commands : List Command) (saids : List Said) (asked : Command) (told : Said)
@@ -123,51 +122,52 @@ printed-push tables text saids told printed =
     ∙ ap (replies_text tables) (ap (λ (at : ℕ). replies_from 1 saids ++ reply_of at told ∷ []) (let e : length saids + 1 ≡ 1 + length saids = omega arith in e)
     ∙ sym (replies_from-push 1 saids told))
 
--- one more command is answered, which is no export
-pub running_answers : (tables : List TableDecl) (commands : List Command) (asked : Command) (told : Said) (store after : Store) (text new_text : List ℕ) (index : ℕ) (before now : Option (List ℕ))
-    → (running : Running tables commands store text index before now)
-    → Answers tables (after_all opening commands running.saids) asked told after
-    → is_export asked ≡ false
-    → new_text ≡ text ++ reply_text tables (reply_of (index + 1) told)
-    → Running tables (commands ++ asked ∷ []) after new_text (index + 1) before now
-running_answers tables commands asked told store after text new_text index before now running answers other grown =
-    let same : index ≡ length running.saids = running.counted ∙ sym (served-length tables opening commands running.saids running.served) in
-    record {
-      saids = running.saids ++ told ∷ [];
-      served = served-push tables opening commands running.saids asked told running.served answers.answer;
-      stands = subst (Stands tables after) (sym (after_all-push tables opening commands running.saids asked told running.served)) answers.stands;
-      printed = grown ∙ ap (λ (at : ℕ). text ++ reply_text tables (reply_of (at + 1) told)) same ∙ printed-push tables text running.saids told running.printed;
-      counted = ap (λ (at : ℕ). at + 1) running.counted ∙ sym (length-append commands (asked ∷ []));
-      bytes = running.bytes;
-      sent = running.sent;
-      says = sends-push tables opening commands running.saids asked told running.bytes running.served running.says
-          (says_nothing tables (after_all opening commands running.saids) asked told running.bytes other);
-      quiet = λ quiet. running.quiet (or_parts (list_any is_export commands) (list_any is_export (asked ∷ []))
-          (sym (list_any-append is_export commands (asked ∷ [])) ∙ quiet)).0;
-    }
+-- a command that is no export is served where it is answered
+pub serves_quietly : (tables : List TableDecl) (alone : Alone) (asked : Command) (told : Said) (store : Store) (before : Option (List ℕ))
+    → Answers tables alone asked told store → is_export asked ≡ false → Serves tables alone asked told store before before
+serves_quietly tables alone asked told store before answers other = record {
+  answers = answers;
+  bytes = [];
+  sent = Appends-nil before;
+  says = says_nothing tables alone asked told [] other;
+  quiet = λ quiet. refl;
+}
 
--- the export is answered
-pub running_exports : (tables : List TableDecl) (commands : List Command) (told : Said) (store : Store) (text new_text : List ℕ) (index : ℕ) (before now after : Option (List ℕ))
+-- what was sent before a command and by it is as all replies say
+says_all : (tables : List TableDecl) (commands : List Command) (saids : List Said) (asked : Command) (told : Said) (before own : List ℕ) (b : Bool)
+    → is_export asked ≡ b → Served tables opening commands saids → SendsAll tables opening commands saids before
+    → (list_any is_export commands ≡ false → before ≡ []) → (is_export asked ≡ true → list_any is_export commands ≡ false)
+    → SendsAt tables (after_all opening commands saids) asked told own → (is_export asked ≡ false → own ≡ [])
+    → SendsAll tables opening (commands ++ asked ∷ []) (saids ++ told ∷ []) (before ++ own)
+says_all tables commands saids asked told before own true is served says quiet once own_says own_quiet =
+    let first = once is in
+    subst (λ (bytes : List ℕ). SendsAll tables opening (commands ++ asked ∷ []) (saids ++ told ∷ []) bytes) (ap (λ (front : List ℕ). front ++ own) (sym (quiet first)))
+    (sends-push tables opening commands saids asked told own served (quiet_says tables opening commands saids own first) own_says)
+says_all tables commands saids asked told before own false is served says quiet once own_says own_quiet =
+    subst (λ (bytes : List ℕ). SendsAll tables opening (commands ++ asked ∷ []) (saids ++ told ∷ []) bytes) (sym (append-nil before) ∙ ap (λ (behind : List ℕ). before ++ behind) (sym (own_quiet is)))
+    (sends-push tables opening commands saids asked told before served says (says_nothing tables (after_all opening commands saids) asked told before is))
+
+-- one more command is served
+running_serves : (tables : List TableDecl) (commands : List Command) (asked : Command) (told : Said) (store after : Store) (text new_text : List ℕ) (index : ℕ) (before now later : Option (List ℕ))
     → (running : Running tables commands store text index before now)
-    → Exports tables (after_all opening commands running.saids) told store now after
-    → list_any is_export commands ≡ false
+    → Serves tables (after_all opening commands running.saids) asked told after now later
+    → (is_export asked ≡ true → list_any is_export commands ≡ false)
     → new_text ≡ text ++ reply_text tables (reply_of (index + 1) told)
-    → Running tables (commands ++ command.Export 0 ∷ []) store new_text (index + 1) before after
-running_exports tables commands told store text new_text index before now after running exports first grown =
-    let asked : Command = command.Export 0 in
+    → Running tables (commands ++ asked ∷ []) after new_text (index + 1) before later
+running_serves tables commands asked told store after text new_text index before now later running serves once grown =
     let same : index ≡ length running.saids = running.counted ∙ sym (served-length tables opening commands running.saids running.served) in
-    let sent : Appends before now [] = subst (Appends before now) (running.quiet first) running.sent in
     record {
       saids = running.saids ++ told ∷ [];
-      served = served-push tables opening commands running.saids asked told running.served exports.answers.answer;
-      stands = subst (Stands tables store) (sym (after_all-push tables opening commands running.saids asked told running.served)) exports.answers.stands;
+      served = served-push tables opening commands running.saids asked told running.served serves.answers.answer;
+      stands = subst (Stands tables after) (sym (after_all-push tables opening commands running.saids asked told running.served)) serves.answers.stands;
       printed = grown ∙ ap (λ (at : ℕ). text ++ reply_text tables (reply_of (at + 1) told)) same ∙ printed-push tables text running.saids told running.printed;
       counted = ap (λ (at : ℕ). at + 1) running.counted ∙ sym (length-append commands (asked ∷ []));
-      bytes = exports.bytes;
-      sent = Appends-trans before now after [] exports.bytes sent exports.sent;
-      says = sends-push tables opening commands running.saids asked told exports.bytes running.served
-          (quiet_says tables opening commands running.saids exports.bytes first) exports.says;
-      quiet = λ quiet. absurd (let last = (or_parts (list_any is_export commands) true (sym (list_any-append is_export commands (asked ∷ [])) ∙ quiet)).1 in cc);
+      bytes = running.bytes ++ serves.bytes;
+      sent = Appends-trans before now later running.bytes serves.bytes running.sent serves.sent;
+      says = says_all tables commands running.saids asked told running.bytes serves.bytes (is_export asked) refl running.served running.says running.quiet once serves.says serves.quiet;
+      quiet = λ quiet.
+          let parts = or_parts (list_any is_export commands) (list_any is_export (asked ∷ [])) (sym (list_any-append is_export commands (asked ∷ [])) ∙ quiet) in
+          ap (λ (front : List ℕ). front ++ serves.bytes) (running.quiet parts.0) ∙ serves.quiet (or_parts (is_export asked) false parts.1).0;
     }
 
 -- all commands are answered
@@ -241,52 +241,47 @@ turn_valid tables table round front line behind turn =
     let parts = and_parts (is_command tables line.command) (is_supported_command line.command) passes in
     (ap (λ (ts : List TableDecl). is_command ts line.command) (sym turn.tables_are) ∙ parts.0, parts.1)
 
--- a command that is no export is one that the store answers
-pub turn_answered : (tables : List TableDecl) (table : TableDecl) (round front : List Line) (line : Line) (behind : List Line) → Turn tables table round front line behind
-    → is_export line.command ≡ false → is_answered line.command ≡ true
-turn_answered tables table round front line behind turn other =
-    and_from (is_supported_command line.command) (not (is_export line.command)) (turn_valid tables table round front line behind turn).1 (not_from_false (is_export line.command) other)
+pub turn_runs : (tables : List TableDecl) (table : TableDecl) (round front : List Line) (line : Line) (behind : List Line) → Turn tables table round front line behind
+    → runs_today (table ∷ []) line.command ≡ true
+turn_runs tables table round front line behind turn =
+    let valid = turn_valid tables table round front line behind turn in
+    and_from (is_command (table ∷ []) line.command) (is_supported_command line.command) valid.0 valid.1
 
--- it is answered
-pub turn_answers : (tables : List TableDecl) (table : TableDecl) (round front : List Line) (line : Line) (behind : List Line) (told : Said) (store after : Store) (text new_text : List ℕ) (index : ℕ) (before now : Option (List ℕ))
+-- it is served
+pub turn_serves : (tables : List TableDecl) (table : TableDecl) (round front : List Line) (line : Line) (behind : List Line) (told : Said) (store after : Store) (text new_text : List ℕ) (index : ℕ) (before now later : Option (List ℕ))
     → Turn tables table round front line behind
     → Running tables (map (λ (line : Line). line.command) front) store text index before now
-    → ((table : TableDecl) (alone : Alone) → Stands (table ∷ []) store alone → is_command (table ∷ []) line.command ≡ true → Answers (table ∷ []) alone line.command told after)
-    → is_export line.command ≡ false
+    → ((alone : Alone) → Stands (table ∷ []) store alone → Serves (table ∷ []) alone line.command told after now later)
     → new_text ≡ text ++ reply_text tables (reply_of (index + 1) told)
-    → Running tables (map (λ (line : Line). line.command) (front ++ line ∷ [])) after new_text (index + 1) before now
-turn_answers tables table round front line behind told store after text new_text index before now turn running answers other grown =
+    → Running tables (map (λ (line : Line). line.command) (front ++ line ∷ [])) after new_text (index + 1) before later
+turn_serves tables table round front line behind told store after text new_text index before now later turn running serves grown =
     let commands : List Command = map (λ (line : Line). line.command) front in
     let alone : Alone = after_all opening commands running.saids in
-    let answered : Answers tables alone line.command told after =
-    subst (λ (ts : List TableDecl). Answers ts alone line.command told after) (sym turn.tables_are)
-    (answers table alone (subst (λ (ts : List TableDecl). Stands ts store alone) turn.tables_are running.stands) (turn_valid tables table round front line behind turn).0) in
-    subst (λ (asked : List Command). Running tables asked after new_text (index + 1) before now) (sym (commands-push front line))
-    (running_answers tables commands line.command told store after text new_text index before now running answered other grown)
-
--- it exports
-pub turn_exports : (tables : List TableDecl) (table : TableDecl) (round front : List Line) (line : Line) (behind : List Line) (place : ℕ) (told : Said) (store : Store) (text new_text : List ℕ) (index : ℕ) (before now after : Option (List ℕ))
-    → Turn tables table round front line behind
-    → Running tables (map (λ (line : Line). line.command) front) store text index before now
-    → ((alone : Alone) → Stands (table ∷ []) store alone → Exports (table ∷ []) alone told store now after)
-    → line.command ≡ command.Export place
-    → new_text ≡ text ++ reply_text tables (reply_of (index + 1) told)
-    → Running tables (map (λ (line : Line). line.command) (front ++ line ∷ [])) store new_text (index + 1) before after
-turn_exports tables table round front line behind place told store text new_text index before now after turn running exports is grown =
-    let commands : List Command = map (λ (line : Line). line.command) front in
-    let alone : Alone = after_all opening commands running.saids in
-    let first : place ≡ 0 = placed_export table place (ap (is_command (table ∷ [])) (sym is) ∙ (turn_valid tables table round front line behind turn).0) in
-    let command_is : line.command ≡ command.Export 0 = is ∙ ap (λ (at : ℕ). command.Export at) first in
-    let quiet : list_any is_export commands ≡ false =
+    let once : is_export line.command ≡ true → list_any is_export commands ≡ false = λ is.
     any_command front
-    ∙ none_before (λ (line : Line). is_export line.command) front line behind (subst (λ (lines : List Line). count_by (λ (line : Line). is_export line.command) lines ≤ 1) (sym turn.split) turn.once)
-    (ap is_export command_is) in
-    let exported : Exports tables alone told store now after =
-    subst (λ (ts : List TableDecl). Exports ts alone told store now after) (sym turn.tables_are)
-    (exports alone (subst (λ (ts : List TableDecl). Stands ts store alone) turn.tables_are running.stands)) in
-    subst (λ (asked : List Command). Running tables asked store new_text (index + 1) before after)
-    (ap (λ (asked : Command). commands ++ asked ∷ []) (sym command_is) ∙ sym (commands-push front line))
-    (running_exports tables commands told store text new_text index before now after running exported quiet grown)
+    ∙ none_before (λ (line : Line). is_export line.command) front line behind (subst (λ (lines : List Line). count_by (λ (line : Line). is_export line.command) lines ≤ 1) (sym turn.split) turn.once) is in
+    let served : Serves tables alone line.command told after now later =
+    subst (λ (ts : List TableDecl). Serves ts alone line.command told after now later) (sym turn.tables_are)
+    (serves alone (subst (λ (ts : List TableDecl). Stands ts store alone) turn.tables_are running.stands)) in
+    subst (λ (asked : List Command). Running tables asked after new_text (index + 1) before later) (sym (commands-push front line))
+    (running_serves tables commands line.command told store after text new_text index before now later running served once grown)
+
+-- it stops the round
+pub turn_stops : (tables : List TableDecl) (table : TableDecl) (round front : List Line) (line : Line) (behind : List Line) (told : Said) (store after : Store) (text : List ℕ) (index : ℕ) (before now later : Option (List ℕ))
+    → Turn tables table round front line behind
+    → Running tables (map (λ (line : Line). line.command) front) store text index before now
+    → ((alone : Alone) → Stands (table ∷ []) store alone → Serves (table ∷ []) alone line.command told after now later)
+    → StopsRound tables round before later
+turn_stops tables table round front line behind told store after text index before now later turn running serves =
+    let more : List ℕ = text ++ reply_text tables (reply_of (index + 1) told) in
+    record {
+      lines = front ++ line ∷ [];
+      rest = behind;
+      first = sym turn.split ∙ sym (append_assoc front (line ∷ []) behind);
+      text = more;
+      runs = running_ends tables (map (λ (line : Line). line.command) (front ++ line ∷ [])) after more (index + 1) before later
+          (turn_serves tables table round front line behind told store after text more index before now later turn running serves refl);
+    }
 
 -- the first of the tables is the one table
 pub first_table : (tables : List TableDecl) (table first : TableDecl) → tables ≡ table ∷ [] → first ≡ get_or tables 0 first → first ≡ table

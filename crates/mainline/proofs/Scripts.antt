@@ -1,7 +1,7 @@
 -- What a workload that runs today is made of, and what its run shows.
 use Rattle.std.proofs.Common.{◌≡◌, ℕ, true, ◌+◌, ◌*◌, ◌^◌, ◌/◌, ◌%◌, ◌≤◌, ◌==◌, min, Option, None, Some, unwrap_or, List, [], ◌∷◌, ◌++◌, length, count_by, refl, ap, sym, ◌∙◌, subst, arith, nat_le, nat_lt, is_none, option_to_list, Err}
 use Rattle.std.specs.List.{list_all, flat_map}
-use Rattle.std.specs.Io.KnownBytes.{Appends}
+use Rattle.std.specs.Io.KnownBytes.{Consumes, IsAtEnd}
 use Rattle.std.proofs.lemmas.Bool.{and_parts, and_from, leb-true}
 use Rattle.std.proofs.lemmas.List.{append-nil, append_assoc}
 use Rattle.cell_model.specs.declared.column.Column.{Column}
@@ -30,13 +30,11 @@ use Rattle.outcome_laws.proofs.Stood.{Stood, open_at, stood-open, stood-state}
 use Rattle.outcome_laws.proofs.Walk.{entry_of}
 use Rattle.mainline.specs.Sent.{IsTable, IsStreamOf, IsFrontOf, SendsAt, SendsAll, RunsRound, runs_today}
 use Rattle.mainline.proofs.Running.{any_command}
-use Rattle.mainline.specs.Outcome.{SaysOfBytes, EachSays, IsRun, IsWorkload, OnDone, OnRefused, OnExportFault, TellsFault, outside, started_by}
+use Rattle.mainline.specs.Outcome.{SaysOfBytes, EachSays, IsRefused, IsRun, IsWorkload, TellsFault, outside}
 use Rattle.script_text.specs.Answers.{OnBad, LineFails}
 use Rattle.script_text.specs.declared.fault.ScriptFault.{ScriptFault}
 use Rattle.script_text.specs.declared.fault.ScriptFault.TheVariants as fault
 use Rattle.workload_spec.specs.Grammar.{Fault, refused_text}
-use Rattle.mainline.specs.declared.status.Status.{Status}
-use Rattle.mainline.specs.declared.status.Status.TheVariants as status
 use Rattle.script_text.specs.Supported.{Spells, supported_of}
 use Rattle.workload_laws.proofs.OneGrammar.{supported_grammar}
 
@@ -147,14 +145,13 @@ each_says run only number front alone (asked ∷ commands) (told ∷ saids) byte
       (whole ∙ sym (append_assoc front (entry_of number asked told ∷ []) (entries_from (number + 1) commands saids))) last,
 )
 
--- the run of a whole workload
-pub run_is : (path : List ℕ) (script : Script) (text : List ℕ) (left_old left_new printed_old printed_new exported_old exported_new : Option (List ℕ)) (started_old started_new : Option (List (List ℕ)))
+-- the run of a whole workload, however much of its text is printed
+pub run_is : (Prints : Option (List ℕ) → Option (List ℕ) → List ℕ → Type 0) (script : Script) (text : List ℕ) (left_old left_new printed_old printed_new exported_old exported_new : Option (List ℕ)) (started_old started_new : Option (List (List ℕ)))
     → is_valid script ≡ true → is_supported script ≡ true
     → RunsRound script.tables (commands_in script) text exported_old exported_new
-    → Appends printed_old printed_new text
-    → started_new ≡ started_by path script started_old
-    → IsRun path script (outside left_old printed_old exported_old started_old) (outside left_new printed_new exported_new started_new)
-run_is path script text left_old left_new printed_old printed_new exported_old exported_new started_old started_new valid supported runs printed started =
+    → Prints printed_old printed_new text
+    → IsRun Prints script (outside left_old printed_old exported_old started_old) (outside left_new printed_new exported_new started_new)
+run_is Prints script text left_old left_new printed_old printed_new exported_old exported_new started_old started_new valid supported runs printed =
     let commands : List Command = commands_in script in
     let read = served_is_read script runs.saids valid supported runs.served in
     let run_shown : run_in script text ≡ run_of script.tables (entries_from 1 commands runs.saids) =
@@ -171,7 +168,6 @@ run_is path script text left_old left_new printed_old printed_new exported_old e
       exported = runs.sent;
       says = subst (λ (run : Run). EachSays run runs.bytes run.entries) (sym run_shown) says;
       quiet = λ quiet. runs.quiet (any_command (all_lines script) ∙ quiet);
-      started = started;
     }
 
 -- the last of a list of one
@@ -186,19 +182,6 @@ pub popped_round : (script : Script) (parts : Parts script) (items front : List 
 popped_round script parts items front popped round items_are split is =
     last_of_one front round parts.round (ap (λ (last : Option (List Line)). front ++ option_to_list last) (sym is) ∙ sym split ∙ items_are ∙ parts.rounds_are)
 
--- what holds at a status holds there of what follows from it
-pub on_done : {A B : Type 0} (ended : Status) → (A → B) → OnDone ended A → OnDone ended B
-on_done status.Done follows fact = follows fact
-on_done _ follows fact = tt
-
-pub on_refused : {A B : Type 0} (ended : Status) → (A → B) → OnRefused ended A → OnRefused ended B
-on_refused status.Refused follows fact = follows fact
-on_refused _ follows fact = tt
-
-pub on_export_fault : {A B : Type 0} (ended : Status) → (A → B) → OnExportFault ended A → OnExportFault ended B
-on_export_fault status.ExportFault follows fact = follows fact
-on_export_fault _ follows fact = tt
-
 -- bytes that are read as a workload of today are its text
 pub spelled_workload : (bytes : List ℕ) (script : Script) → Spells bytes script → IsWorkload bytes script
 spelled_workload bytes script spells =
@@ -211,9 +194,25 @@ workload_spelled bytes script workload = record {
   supported = workload.supported;
 }
 
+-- bytes that are read as no workload of today are refused
+pub refused_is : (Prints : Option (List ℕ) → Option (List ℕ) → List ℕ → Type 0) (bytes read : List ℕ) (told : Fault) (left_old left_new printed_old printed_new exported : Option (List ℕ)) (started : Option (List (List ℕ)))
+    → read ≡ bytes → Consumes left_old left_new bytes → IsAtEnd left_new
+    → ((script : Script) → Spells read script → ⊥) → supported_of read ≡ Err told → Prints printed_old printed_new (refused_text told)
+    → IsRefused Prints (outside left_old printed_old exported started) (outside left_new printed_new exported started)
+refused_is Prints bytes read told left_old left_new printed_old printed_new exported started same consumes ended none first printed = record {
+  bytes = bytes;
+  input = record { read = consumes; ended = ended };
+  none = λ script workload. none script (subst (λ (bs : List ℕ). Spells bs script) (sym same) (workload_spelled bytes script workload));
+  fault = told;
+  first = ap supported_of (sym same) ∙ first;
+  printed = printed;
+  exported = refl;
+  started = refl;
+}
+
 -- a fault that is told is a bad line, the first of the bytes
-pub told_fault : (X : Type 0) (bad : ScriptFault) (fact : Type 0) (bytes : List ℕ) (before now : Option (List ℕ))
-    → OnBad {X = X} (Err bad) fact → LineFails bad (supported_of bytes) → TellsFault bad before now
-    → fact × ((told : Fault) × ((supported_of bytes ≡ Err told) × Appends before now (refused_text told)))
-told_fault X (fault.Bad line cause) fact bytes before now none first told = (none, (record { line = line; cause = cause }, (first, told)))
-told_fault X (fault.Memory refused) fact bytes before now none first told = absurd told
+pub told_fault : (Prints : Option (List ℕ) → Option (List ℕ) → List ℕ → Type 0) (X : Type 0) (bad : ScriptFault) (fact : Type 0) (bytes : List ℕ) (before now : Option (List ℕ))
+    → OnBad {X = X} (Err bad) fact → LineFails bad (supported_of bytes) → TellsFault Prints bad before now
+    → fact × ((told : Fault) × ((supported_of bytes ≡ Err told) × Prints before now (refused_text told)))
+told_fault Prints X (fault.Bad line cause) fact bytes before now none first told = (none, (record { line = line; cause = cause }, (first, told)))
+told_fault Prints X (fault.Memory refused) fact bytes before now none first told = absurd told

@@ -1,5 +1,5 @@
 -- A table's rows on their way to a sink, block by block.
-use Rattle.std.proofs.Common.{◌≡◌, ℕ, zero, suc, Bool, true, false, ◌+◌, ◌*◌, ◌^◌, ◌<◌, ◌≤◌, min, Option, Err, List, [], ◌∷◌, ◌++◌, length, refl, ap, sym, ◌∙◌, subst, arith, length-append, append_assoc, get_or, Fits, w32, rules}
+use Rattle.std.proofs.Common.{◌≡◌, ℕ, zero, suc, Bool, true, false, ◌+◌, ◌*◌, ◌^◌, ◌<◌, ◌≤◌, min, Option, Err, List, [], ◌∷◌, ◌++◌, length, refl, ap, sym, ◌∙◌, subst, arith, length-append, append_assoc, get_or, take, drop, take-append-drop, Fits, w32, rules}
 use Rattle.std.specs.Prelude.{All}
 use Rattle.std.specs.List.{flat_map}
 use Rattle.std.specs.Io.KnownBytes.{Appends}
@@ -11,14 +11,14 @@ use Rattle.std.proofs.Math.Nat.{lt_of_mul-lt-mul_right}
 use Rattle.cell_model.specs.declared.cell.Cell.{Cell}
 use Rattle.cell_model.specs.declared.column.Column.{Column}
 use Rattle.arrow_spec.specs.Streams.{schema_message, batch_message, end_word, stream_of}
-use Rattle.byte_ports.specs.Calls.{Rose}
+use Rattle.byte_ports.specs.Calls.{AppendsFront, Rose}
 use Rattle.ipc_write.specs.Calls.{MakesPiece, WritesPiece, SinkFailed}
 use Rattle.ipc_write.specs.declared.faults.PieceFault.{PieceFault}
 use Rattle.ipc_write.specs.declared.faults.PieceFault.TheVariants.{Sink, Memory}
 use Rattle.ipc_write.specs.declared.faults.SinkFault.{SinkFault}
 use Rattle.isolation_laws.specs.Inserts.{all_rows}
 use Rattle.isolation_laws.proofs.Writes.{all_rows-push}
-use Rattle.mainline.specs.Sent.{IsGrouped, SendsRows, FailsToSend}
+use Rattle.mainline.specs.Sent.{IsGrouped, SendsFront, SendsRows, FailsToSend}
 
 -- the pieces of a stream without its end
 abbrev pub pieces_of : List Column → List (List (List Cell)) → List ℕ
@@ -69,13 +69,6 @@ pieces_of-push columns groups group =
     (ap (λ bytes. flat_map (batch_message columns) groups ++ bytes) (sym (append-nil (batch_message columns group)))
     ∙ sym (flat_map-append (batch_message columns) groups (group ∷ [])))
 
--- the pieces so far are a front of the stream in which what is left is one more batch
-front_of_stream : (columns : List Column) (groups : List (List (List Cell))) (left : List (List Cell))
-    → pieces_of columns groups ++ (batch_message columns left ++ end_word) ≡ stream_of columns (groups ++ left ∷ [])
-front_of_stream columns groups left =
-    sym (append_assoc (pieces_of columns groups) (batch_message columns left) end_word)
-    ∙ ap (λ bytes. bytes ++ end_word) (pieces_of-push columns groups left)
-
 -- one more block has gone
 pub sending_goes_on : (columns : List Column) (slots : ℕ) (rows : List (List Cell)) (before now after : Option (List ℕ)) (batches : ℕ)
     (rest block behind : List (List Cell))
@@ -106,13 +99,23 @@ sending_goes_on columns slots rows before now after batches rest block behind se
       least = omega arith;
     }
 
+no_rows : (rest : List (List Cell)) → length rest ≡ 0 → rest ≡ []
+no_rows [] none = refl
+no_rows (row ∷ rest) none = cc
+
+-- where no rows are left, all have gone
+all_sent : (columns : List Column) (slots : ℕ) (rows : List (List Cell)) (before now : Option (List ℕ)) (batches : ℕ) (rest : List (List Cell))
+    → (sending : Sending columns slots rows before now batches rest) → length rest ≡ 0 → all_rows sending.groups ≡ rows
+all_sent columns slots rows before now batches rest sending done =
+    sym (append-nil (all_rows sending.groups)) ∙ ap (λ left. all_rows sending.groups ++ left) (sym (no_rows rest done)) ∙ sending.whole
+
 -- the last block has gone, and then the word that ends the stream
 pub sending_ends : (columns : List Column) (slots blocks : ℕ) (rows : List (List Cell)) (before now after : Option (List ℕ)) (batches : ℕ) (rest : List (List Cell))
     → Sending columns slots rows before now batches rest → length rest ≡ 0 → length rows ≤ blocks * slots
     → Appends now after end_word
     → SendsRows columns slots blocks rows before after batches
 sending_ends columns slots blocks rows before now after batches rest sending done room sent =
-    let all : all_rows sending.groups ≡ rows = sym (append-nil (all_rows sending.groups)) ∙ ap (λ left. all_rows sending.groups ++ left) (sym (no_rows rest done)) ∙ sending.whole in
+    let all = all_sent columns slots rows before now batches rest sending done in
     let bound : batches * slots < (blocks + 1) * slots = omega (arith, sending.least, ap length all) in
     record {
       groups = sending.groups;
@@ -123,10 +126,6 @@ sending_ends columns slots blocks rows before now after batches rest sending don
       most = omega (arith, sending.most, ap length all);
       blocks_bound = (let less : batches < blocks + 1 = lt_of_mul-lt-mul_right slots bound in omega arith);
     }
-  where
-    no_rows : (rest : List (List Cell)) → length rest ≡ 0 → rest ≡ []
-    no_rows [] none = refl
-    no_rows (row ∷ rest) none = cc
 
 -- one more batch is one of the blocks
 pub batches_bound : (columns : List Column) (slots blocks : ℕ) (rows : List (List Cell)) (before now : Option (List ℕ)) (batches : ℕ) (rest : List (List Cell))
@@ -147,16 +146,55 @@ grouped_whole (row ∷ rows) = ((row ∷ rows) ∷ [], record { whole = append-n
 
 -- a call of the sink failed, of a writer that had not failed
 sink_fails : {W : Type 0} (written : W → Option (List ℕ)) (faults : W → ℕ) (old new : W × Bool) (piece : List ℕ) (earlier : Bool)
-    → old.1 ≡ false → SinkFailed written faults old new piece earlier → Rose (faults old.0) (faults new.0)
-sink_fails written faults old new piece true fresh failed = let both : true ≡ false = sym failed.0 ∙ fresh in cc
-sink_fails written faults old new piece false fresh failed = failed.3
+    → old.1 ≡ false → SinkFailed written faults old new piece earlier
+    → Rose (faults old.0) (faults new.0) × AppendsFront (written old.0) (written new.0) piece
+sink_fails written faults old new piece true fresh failed = absurd (let both : true ≡ false = sym failed.0 ∙ fresh in cc)
+sink_fails written faults old new piece false fresh failed = (failed.3, failed.2)
+
+-- the pieces with more batches
+pieces_of-append : (columns : List Column) (groups more : List (List (List Cell)))
+    → pieces_of columns groups ++ flat_map (batch_message columns) more ≡ pieces_of columns (groups ++ more)
+pieces_of-append columns groups more =
+    append_assoc (schema_message columns) (flat_map (batch_message columns) groups) (flat_map (batch_message columns) more)
+    ∙ ap (λ bytes. schema_message columns ++ bytes) (sym (flat_map-append (batch_message columns) groups more))
+
+-- the rows of more groups
+all_rows-append : (groups more : List (List (List Cell))) → all_rows (groups ++ more) ≡ all_rows groups ++ all_rows more
+all_rows-append [] more = refl
+all_rows-append (group ∷ groups) more = ap (λ rows. group ++ rows) (all_rows-append groups more) ∙ sym (append_assoc group (all_rows groups) (all_rows more))
+
+-- what was written up to the front of a piece is a front of a stream that goes on with the piece
+breaks_off : (columns : List Column) (rows : List (List Cell)) (before between now : Option (List ℕ)) (front piece behind : List ℕ) (groups : List (List (List Cell)))
+    → Appends before between front → AppendsFront between now piece
+    → front ++ (piece ++ behind) ≡ stream_of columns groups → IsGrouped rows groups
+    → SendsFront columns rows before now
+breaks_off columns rows before between now front piece behind groups sent broken whole grouped =
+    let cut = take broken.0 piece in
+    let left = drop broken.0 piece in
+    record {
+      groups = groups;
+      front = front ++ cut;
+      rest = left ++ behind;
+      sent = Appends-trans before between now front cut sent broken.2;
+      whole = append_assoc front cut (left ++ behind)
+          ∙ ap (λ bytes. front ++ bytes) (sym (append_assoc cut left behind) ∙ ap (λ bytes. bytes ++ behind) (take-append-drop broken.0 piece))
+          ∙ whole;
+      grouped = grouped;
+    }
 
 -- the first piece fails
-pub schema_fails : {W : Type 0} (T : Type 0) (written : W → Option (List ℕ)) (faults : W → ℕ) (old new : W × Bool) (columns : List Column) (rows : List (List Cell)) (piece : List ℕ) (fault : PieceFault)
-    → old.1 ≡ false → MakesPiece {T = T} written faults old new piece (Err fault)
+pub schema_fails : {W : Type 0} (T : Type 0) (written : W → Option (List ℕ)) (faults : W → ℕ) (old new : W × Bool) (columns : List Column) (rows : List (List Cell)) (fault : PieceFault)
+    → old.1 ≡ false → MakesPiece {T = T} written faults old new (schema_message columns) (Err fault)
     → FailsToSend columns rows (written old.0) (written new.0) (faults old.0) (faults new.0) fault
-schema_fails T written faults old new columns rows piece (Sink fault) fresh failed = sink_fails written faults old new piece fault.earlier fresh failed
-schema_fails {W} T written faults old new columns rows piece (Memory refused) fresh failed =
+schema_fails T written faults old new columns rows (Sink fault) fresh failed =
+    let fails = sink_fails written faults old new (schema_message columns) fault.earlier fresh failed in
+    let grouped = grouped_whole rows in
+    let batches = flat_map (batch_message columns) grouped.0 in (
+      fails.0,
+      breaks_off columns rows (written old.0) (written old.0) (written new.0) [] (schema_message columns) (batches ++ end_word) grouped.0
+          (Appends-nil (written old.0)) fails.1 (sym (append_assoc (schema_message columns) batches end_word)) grouped.1,
+    )
+schema_fails {W} T written faults old new columns rows (Memory refused) fresh failed =
     let grouped = grouped_whole rows in
     record {
       groups = grouped.0;
@@ -167,32 +205,66 @@ schema_fails {W} T written faults old new columns rows piece (Memory refused) fr
       grouped = grouped.1;
     }
 
+-- the batches so far, this one, and the rows behind it in one more
+block_grouped : (columns : List Column) (slots : ℕ) (rows : List (List Cell)) (before now : Option (List ℕ)) (batches : ℕ) (left block behind : List (List Cell))
+    → (sending : Sending columns slots rows before now batches left) → left ≡ block ++ behind → 0 < length block
+    → IsGrouped rows (sending.groups ++ block ∷ (grouped_whole behind).0)
+block_grouped columns slots rows before now batches left block behind sending split some =
+    let tail = grouped_whole behind in
+    record {
+      whole = all_rows-append sending.groups (block ∷ tail.0)
+          ∙ ap (λ behind. all_rows sending.groups ++ (block ++ behind)) tail.1.whole
+          ∙ ap (λ left. all_rows sending.groups ++ left) (sym split)
+          ∙ sending.whole;
+      filled = All-append (λ (group : List (List Cell)). 0 < length group) sending.groups (block ∷ tail.0) sending.filled
+          (All-append (λ (group : List (List Cell)). 0 < length group) (block ∷ []) tail.0 (one_filled block some) tail.1.filled);
+    }
+
 -- a later piece fails
 pub block_fails : {W : Type 0} (T : Type 0) (written : W → Option (List ℕ)) (faults : W → ℕ) (start old new : W × Bool) (columns : List Column) (slots : ℕ) (rows : List (List Cell))
-    (batches : ℕ) (left : List (List Cell)) (piece : List ℕ) (fault : PieceFault)
-    → old.1 ≡ false → Sending columns slots rows (written start.0) (written old.0) batches left → 0 < length left
-    → faults start.0 ≤ faults old.0 → MakesPiece {T = T} written faults old new piece (Err fault)
+    (batches : ℕ) (left block behind : List (List Cell)) (fault : PieceFault)
+    → old.1 ≡ false → Sending columns slots rows (written start.0) (written old.0) batches left
+    → left ≡ block ++ behind → 0 < length block
+    → faults start.0 ≤ faults old.0 → MakesPiece {T = T} written faults old new (batch_message columns block) (Err fault)
     → FailsToSend columns rows (written start.0) (written new.0) (faults start.0) (faults new.0) fault
-block_fails T written faults start old new columns slots rows batches left piece (Sink fault) fresh sending some counted failed =
-    rose_since (faults start.0) (faults old.0) (faults new.0) counted (sink_fails written faults old new piece fault.earlier fresh failed)
-block_fails {W} T written faults start old new columns slots rows batches left piece (Memory refused) fresh sending some counted failed = record {
-  groups = sending.groups ++ left ∷ [];
-  front = pieces_of columns sending.groups;
-  rest = batch_message columns left ++ end_word;
-  sent = subst (λ (now : W × Bool). Appends (written start.0) (written now.0) (pieces_of columns sending.groups)) (sym failed.1) sending.sent;
-  whole = front_of_stream columns sending.groups left;
-  grouped = record {
-    whole = all_rows-push sending.groups left ∙ sending.whole;
-    filled = All-append (λ (group : List (List Cell)). 0 < length group) sending.groups (left ∷ []) sending.filled (one_filled left some);
-  };
-}
+block_fails T written faults start old new columns slots rows batches left block behind (Sink fault) fresh sending split some counted failed =
+    let fails = sink_fails written faults old new (batch_message columns block) fault.earlier fresh failed in
+    let tail = (grouped_whole behind).0 in
+    let more = flat_map (batch_message columns) tail in (
+      rose_since (faults start.0) (faults old.0) (faults new.0) counted fails.0,
+      breaks_off columns rows (written start.0) (written old.0) (written new.0) (pieces_of columns sending.groups) (batch_message columns block) (more ++ end_word) (sending.groups ++ block ∷ tail)
+          sending.sent fails.1
+          (ap (λ bytes. pieces_of columns sending.groups ++ bytes) (sym (append_assoc (batch_message columns block) more end_word))
+          ∙ sym (append_assoc (pieces_of columns sending.groups) (batch_message columns block ++ more) end_word)
+          ∙ ap (λ bytes. bytes ++ end_word) (pieces_of-append columns sending.groups (block ∷ tail)))
+          (block_grouped columns slots rows _ _ batches left block behind sending split some),
+    )
+block_fails {W} T written faults start old new columns slots rows batches left block behind (Memory refused) fresh sending split some counted failed =
+    let tail = (grouped_whole behind).0 in
+    let more = flat_map (batch_message columns) (block ∷ tail) in
+    record {
+      groups = sending.groups ++ block ∷ tail;
+      front = pieces_of columns sending.groups;
+      rest = more ++ end_word;
+      sent = subst (λ (now : W × Bool). Appends (written start.0) (written now.0) (pieces_of columns sending.groups)) (sym failed.1) sending.sent;
+      whole = sym (append_assoc (pieces_of columns sending.groups) more end_word)
+          ∙ ap (λ bytes. bytes ++ end_word) (pieces_of-append columns sending.groups (block ∷ tail));
+      grouped = block_grouped columns slots rows _ _ batches left block behind sending split some;
+    }
 
 -- the last piece fails
-pub end_fails : {W : Type 0} (T : Type 0) (written : W → Option (List ℕ)) (faults : W → ℕ) (start old new : W × Bool) (piece : List ℕ) (fault : SinkFault)
-    → old.1 ≡ false → faults start.0 ≤ faults old.0 → WritesPiece {T = T} written faults old new piece (Err fault)
-    → Rose (faults start.0) (faults new.0)
-end_fails T written faults start old new piece fault fresh counted failed =
-    rose_since (faults start.0) (faults old.0) (faults new.0) counted (sink_fails written faults old new piece fault.earlier fresh failed)
+pub end_fails : {W : Type 0} (T : Type 0) (written : W → Option (List ℕ)) (faults : W → ℕ) (start old new : W × Bool) (columns : List Column) (slots : ℕ) (rows : List (List Cell))
+    (batches : ℕ) (left : List (List Cell)) (fault : SinkFault)
+    → old.1 ≡ false → Sending columns slots rows (written start.0) (written old.0) batches left → length left ≡ 0
+    → faults start.0 ≤ faults old.0 → WritesPiece {T = T} written faults old new end_word (Err fault)
+    → FailsToSend columns rows (written start.0) (written new.0) (faults start.0) (faults new.0) (Sink fault)
+end_fails T written faults start old new columns slots rows batches left fault fresh sending done counted failed =
+    let fails = sink_fails written faults old new end_word fault.earlier fresh failed in (
+      rose_since (faults start.0) (faults old.0) (faults new.0) counted fails.0,
+      breaks_off columns rows (written start.0) (written old.0) (written new.0) (pieces_of columns sending.groups) end_word [] sending.groups
+          sending.sent fails.1 (ap (λ bytes. pieces_of columns sending.groups ++ bytes) (append-nil end_word))
+          (record { whole = all_sent columns slots rows _ _ batches left sending done; filled = sending.filled }),
+    )
 
 -- a count of batches fits 32 bits
 pub small_count : (batches blocks : ℕ) → batches < blocks → blocks ≤ 1024 → Fits w32 (batches + 1)

@@ -1,12 +1,14 @@
 -- What a run of the program reads, prints and sends, as its status says.
-use Rattle.std.specs.Prelude.{◌≡◌, ℕ, true, false, List, [], ◌∷◌, ◌++◌, Option, None, Some, option_map, Err, IsSome, if◌then◌else◌}
+use Rattle.std.specs.Prelude.{◌≡◌, ◌⊎◌, ℕ, true, false, List, [], ◌∷◌, ◌++◌, Option, None, Some, option_map, Err, IsSome, if◌then◌else◌}
 use Rattle.std.specs.List.{list_any}
 use Rattle.std.specs.Io.KnownBytes.{Appends, Consumes, IsAtEnd}
+use Rattle.byte_ports.specs.Calls.{AppendsFront}
 use Rattle.isolation_spec.specs.Contents.{contents_of, state_at}
 use Rattle.workload_spec.specs.declared.command.Command.{Command}
 use Rattle.workload_spec.specs.declared.command.Command.TheVariants as command
 use Rattle.workload_spec.specs.declared.reply.Said.{Said}
 use Rattle.workload_spec.specs.declared.reply.Said.TheVariants as said
+use Rattle.workload_spec.specs.declared.script.Line.{Line}
 use Rattle.workload_spec.specs.declared.script.Script.{Script}
 use Rattle.workload_spec.specs.Grammar.{Fault, refused_text}
 use Rattle.workload_spec.specs.ScriptText.{script_text}
@@ -72,33 +74,59 @@ abbrev pub started_by : List ℕ → Script → Option (List (List ℕ)) → Opt
 started_by path script names =
     if list_any (λ line. is_export line.command) (all_lines script) then option_map (λ before. before ++ path ∷ []) names else names
 
--- A workload was run: its output is explained by snapshot isolation, and its export is as the output says.
-pub record IsRun (path : List ℕ) (script : Script) (before now : Outside) : Type 0 where
+-- How a text that was due is printed: whole (`Appends`), only a front of it where the output failed (`AppendsFront`), or
+-- not at all.
+abbrev pub Withholds : Option (List ℕ) → Option (List ℕ) → List ℕ → Type 0
+Withholds before now text = now ≡ before
+
+-- A workload was run: the output that was due is explained by snapshot isolation, and what was sent is as its replies say.
+pub record IsRun (Prints : Option (List ℕ) → Option (List ℕ) → List ℕ → Type 0) (script : Script) (before now : Outside) : Type 0 where
   pub output : List ℕ
-  pub printed : Appends before.printed now.printed output
+  pub printed : Prints before.printed now.printed output
   pub explained : Explained script output
   pub sent : List ℕ
   pub exported : Appends before.exported now.exported sent
   pub says : EachSays (run_in script output) sent (run_in script output).entries
   pub quiet : list_any (λ line. is_export line.command) (all_lines script) ≡ false → sent ≡ []
-  pub started : now.started ≡ started_by path script before.started
 
 -- The input is a workload, and it was run.
-pub record IsDone (path : List ℕ) (before now : Outside) : Type 0 where
+pub record IsDone (Prints : Option (List ℕ) → Option (List ℕ) → List ℕ → Type 0) (path : List ℕ) (before now : Outside) : Type 0 where
   pub bytes : List ℕ
   pub input : IsRead bytes before now
   pub script : Script
   pub workload : IsWorkload bytes script
-  pub run : IsRun path script before now
+  pub run : IsRun Prints script before now
+  pub started : now.started ≡ started_by path script before.started
+
+-- the workload with these lines as its one round
+abbrev pub with_lines : List Line → Script → Script
+with_lines lines script = record script { rounds = lines ∷ [] }
+
+-- A run of the workload stopped before anything was printed: of its lines these first ones were run, as a workload of
+-- their own. An export at which it stopped counts as answered `memory`, so what was sent is a front of its stream.
+pub record StopsRun (path : List ℕ) (script : Script) (before now : Outside) : Type 0 where
+  pub lines : List Line
+  pub rest : List Line
+  pub first : all_lines script ≡ lines ++ rest
+  pub run : IsRun Withholds (with_lines lines script) before now
+  pub started : (now.started ≡ before.started) ⊎ (now.started ≡ started_by path script before.started)
+
+-- The input is a workload, whose run stopped.
+pub record IsStopped (path : List ℕ) (before now : Outside) : Type 0 where
+  pub bytes : List ℕ
+  pub input : IsRead bytes before now
+  pub script : Script
+  pub workload : IsWorkload bytes script
+  pub stop : StopsRun path script before now
 
 -- The input is the text of no workload that runs today, and its first bad line is printed with the cause.
-pub record IsRefused (before now : Outside) : Type 0 where
+pub record IsRefused (Prints : Option (List ℕ) → Option (List ℕ) → List ℕ → Type 0) (before now : Outside) : Type 0 where
   pub bytes : List ℕ
   pub input : IsRead bytes before now
   pub none : (script : Script) → ¬ IsWorkload bytes script
   pub fault : Fault
   pub first : supported_of bytes ≡ Err fault
-  pub printed : Appends before.printed now.printed (refused_text fault)
+  pub printed : Prints before.printed now.printed (refused_text fault)
   pub exported : now.exported ≡ before.exported
   pub started : now.started ≡ before.started
 
@@ -110,12 +138,24 @@ pub record AsksExport (before now : Outside) : Type 0 where
   pub workload : IsWorkload bytes script
   pub asked : list_any (λ line. is_export line.command) (all_lines script) ≡ true
 
+-- Nothing was printed or sent, and the outlet was not started.
+pub record IsSilent (before now : Outside) : Type 0 where
+  pub printed : now.printed ≡ before.printed
+  pub exported : now.exported ≡ before.exported
+  pub started : now.started ≡ before.started
+
 -- The words ask for nothing; the line that tells how the program is used is printed, and nothing is read or sent.
-pub record IsUsage (before now : Outside) : Type 0 where
-  pub printed : Appends before.printed now.printed usage_line
+pub record IsUsage (Prints : Option (List ℕ) → Option (List ℕ) → List ℕ → Type 0) (before now : Outside) : Type 0 where
+  pub printed : Prints before.printed now.printed usage_line
   pub left : now.left ≡ before.left
   pub exported : now.exported ≡ before.exported
   pub started : now.started ≡ before.started
+
+-- The output failed, and a front was printed of what was due: the line of usage where the words ask for nothing, else a
+-- refusal or the replies of a run.
+abbrev pub IsCutOff : Option (List ℕ) → Outside → Outside → Type 0
+IsCutOff None before now = IsUsage AppendsFront before now
+IsCutOff (Some path) before now = IsRefused AppendsFront before now ⊎ IsDone AppendsFront path before now
 
 -- the run ended so, and then the fact holds
 abbrev pub OnDone : Status → Type 0 → Type 0
@@ -141,6 +181,10 @@ OnOutFault _ fact = Unit {0}
 abbrev pub OnExportFault : Status → Type 0 → Type 0
 OnExportFault status.ExportFault fact = fact
 OnExportFault _ fact = Unit {0}
+
+abbrev pub OnMemory : Status → Type 0 → Type 0
+OnMemory status.Memory fact = fact
+OnMemory _ fact = Unit {0}
 
 abbrev pub OnTooLong : Status → Type 0 → Type 0
 OnTooLong status.TooLong fact = fact
@@ -173,7 +217,7 @@ WordsAsk path status.OutFault = Unit {0}
 WordsAsk path status.NotAStream = ⊥
 WordsAsk path _ = IsSome path
 
--- The line of a refusal was printed: where the fault is a bad line, that and its cause.
-abbrev pub TellsFault : ScriptFault → Option (List ℕ) → Option (List ℕ) → Type 0
-TellsFault (fault.Bad line cause) before now = Appends before now (refused_text (record { line = line; cause = cause }))
-TellsFault (fault.Memory refused) before now = ⊥
+-- The line of a refusal is printed: where the fault is a bad line, that and its cause.
+abbrev pub TellsFault : (Option (List ℕ) → Option (List ℕ) → List ℕ → Type 0) → ScriptFault → Option (List ℕ) → Option (List ℕ) → Type 0
+TellsFault Prints (fault.Bad line cause) before now = Prints before now (refused_text (record { line = line; cause = cause }))
+TellsFault Prints (fault.Memory refused) before now = ⊥

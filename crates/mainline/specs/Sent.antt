@@ -1,5 +1,5 @@
 -- What an export sends of a table's rows.
-use Rattle.std.specs.Prelude.{◌≡◌, ◌==◌, ◌&&◌, Bool, ℕ, ◌*◌, ◌^◌, ◌<◌, ◌≤◌, true, false, List, [], ◌∷◌, ◌++◌, length, All, Option}
+use Rattle.std.specs.Prelude.{◌≡◌, ◌==◌, ◌&&◌, Bool, ℕ, ◌*◌, ◌^◌, ◌<◌, ◌≤◌, true, false, List, [], ◌∷◌, ◌++◌, length, map, All, Option}
 use Rattle.std.specs.Io.KnownBytes.{Appends}
 use Rattle.std.specs.List.Sorted.{IsPermutation}
 use Rattle.cell_model.specs.declared.cell.Cell.{Cell}
@@ -24,6 +24,7 @@ use Rattle.workload_spec.specs.declared.command.Command.{Command}
 use Rattle.workload_spec.specs.declared.command.Command.TheVariants as command
 use Rattle.workload_spec.specs.declared.reply.Said.{Said}
 use Rattle.workload_spec.specs.declared.reply.Said.TheVariants as said
+use Rattle.workload_spec.specs.declared.script.Line.{Line}
 
 -- the rows in groups, none of them empty
 pub record IsGrouped (rows : List (List Cell)) (groups : List (List (List Cell))) : Type 0 where
@@ -50,9 +51,9 @@ pub record SendsFront (columns : List Column) (rows : List (List Cell)) (before 
   pub whole : front ++ rest ≡ stream_of columns groups
   pub grouped : IsGrouped rows groups
 
--- Why the rows are not sent: memory was refused, and then a front was; or a call of the outlet failed.
+-- Why only a front of the stream was sent: a call of the outlet failed, or memory was refused.
 abbrev pub FailsToSend : List Column → List (List Cell) → Option (List ℕ) → Option (List ℕ) → ℕ → ℕ → PieceFault → Type 0
-FailsToSend columns rows before now faults_before faults_now (Sink fault) = Rose faults_before faults_now
+FailsToSend columns rows before now faults_before faults_now (Sink fault) = Rose faults_before faults_now × SendsFront columns rows before now
 FailsToSend columns rows before now faults_before faults_now (Memory refused) = SendsFront columns rows before now
 
 -- The bytes are the canonical stream of these rows of a table: so many rows in so many batches, none of them empty, each
@@ -93,12 +94,13 @@ SendsAll tables alone (asked ∷ commands) [] bytes = Unit {0}
 SendsAll tables alone (asked ∷ commands) (told ∷ saids) bytes =
     SendsAt tables alone asked told bytes × SendsAll tables (after_answer alone asked told) commands saids bytes
 
--- An export is answered, and sends what its answer says.
-pub record Exports (tables : List TableDecl) (alone : Alone) (told : Said) (store : Store) (before now : Option (List ℕ)) : Type 0 where
-  pub answers : Answers tables alone (command.Export 0) told store
+-- The store serves a command: it is answered, and sends what its answer says; none but an export sends anything.
+pub record Serves (tables : List TableDecl) (alone : Alone) (asked : Command) (told : Said) (store : Store) (before now : Option (List ℕ)) : Type 0 where
+  pub answers : Answers tables alone asked told store
   pub bytes : List ℕ
   pub sent : Appends before now bytes
-  pub says : SendsAt tables alone (command.Export 0) told bytes
+  pub says : SendsAt tables alone asked told bytes
+  pub quiet : is_export asked ≡ false → bytes ≡ []
 
 -- A round of commands is answered in this text, and its export, if there is one, sends what its answer says.
 pub record RunsRound (tables : List TableDecl) (commands : List Command) (text : List ℕ) (before now : Option (List ℕ)) : Type 0 where
@@ -109,6 +111,14 @@ pub record RunsRound (tables : List TableDecl) (commands : List Command) (text :
   pub sent : Appends before now bytes
   pub says : SendsAll tables opening commands saids bytes
   pub quiet : list_any is_export commands ≡ false → bytes ≡ []
+
+-- The round stopped: its first lines were answered, and what was sent is as these answers say.
+pub record StopsRound (tables : List TableDecl) (round : List Line) (before now : Option (List ℕ)) : Type 0 where
+  pub lines : List Line
+  pub rest : List Line
+  pub first : round ≡ lines ++ rest
+  pub text : List ℕ
+  pub runs : RunsRound tables (map (λ line. line.command) lines) text before now
 
 -- a table's limits: 1 to 32,768 rows a block, at most 1,024 blocks, and the key is the one column
 pub record IsTable (table : TableDecl) : Type 0 where

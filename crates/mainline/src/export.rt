@@ -4,28 +4,34 @@ ghost use Rattle.cell_model.specs.Rows.{Fits};
 ghost use Rattle.isolation_laws.specs.Inserts.{least_of};
 ghost use Rattle.byte_ports.specs.Calls.{Rose};
 ghost use Rattle.outcome_laws.specs.Alone.{Alone};
+ghost use Rattle.workload_spec.specs.declared.command.Command.TheVariants as command;
 ghost use Rattle.mainline.specs.Stands.{IsStore, Stands};
-ghost use Rattle.mainline.specs.Sent.{SendsRows, FailsToSend, IsTable, Exports};
+ghost use Rattle.mainline.specs.Sent.{SendsRows, FailsToSend, IsTable, Serves};
 
 use crate::store::{Store, key_of};
-use byte_ports::{Outlet, Sink};
+use byte_ports::{Failed, Outlet, Sink};
 use cell_model::{Row, TableDecl};
-use ipc_write::{PieceFault, SinkFault, Writer};
+use ipc_write::{PieceFault, Writer};
 use std::alloc::{AllocError, Global};
 use workload_spec::Said;
 
 /// Exports the table of a store, as its open transaction sees it, unless the transaction wrote it.
+///
+/// Where a call of the outlet fails, what went out is what an export that is answered `memory` may send: a front of the
+/// stream.
 pub fn export_table<X: Outlet>(
     alloc: Global,
     store: &Store,
     table: &TableDecl,
     outlet: &mut X,
-) -> Result<Said, SinkFault>
+) -> Result<Said, Failed>
     requires table { IsTable table.now }
     requires store { IsStore (table.now ∷ []) store.now }
     ensures ok { IfOk result (λ told. (alone : Alone) → Stands (table.now ∷ []) store.now alone
-        → Exports (table.now ∷ []) alone told store.now (X.written outlet.old) (X.written outlet.new)) }
+        → Serves (table.now ∷ []) alone (command.Export 0) told store.now (X.written outlet.old) (X.written outlet.new)) }
     ensures err { OnErr result (Rose (X.faults outlet.old) (X.faults outlet.new)) }
+    ensures front { OnErr result ((alone : Alone) → Stands (table.now ∷ []) store.now alone
+        → Serves (table.now ∷ []) alone (command.Export 0) Said.Memory store.now (X.written outlet.old) (X.written outlet.new)) }
     ensures started { X.started outlet.new ≡ X.started outlet.old }
     ensures counted { X.faults outlet.old ≤ X.faults outlet.new }
 {
@@ -43,7 +49,7 @@ pub fn export_table<X: Outlet>(
             batches,
             frozen: 0,
         }),
-        Err(PieceFault::Sink(fault)) => Err(fault),
+        Err(PieceFault::Sink(_)) => Err(Failed),
         Err(PieceFault::Memory(AllocError)) => Ok(Said::Memory),
     }
 }

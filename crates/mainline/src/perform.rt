@@ -1,12 +1,12 @@
 //! What the program does with its words, its input, its output and its outlet.
-ghost use Rattle.std.specs.Prelude.{◌≡◌, ◌≤◌, ◌^◌, ℕ, List, Option, Some, map, true, string_bytes, option_map, OnOk, OnErr, if◌then◌else◌, ◌++◌, ◌∷◌, []};
+ghost use Rattle.std.specs.Prelude.{◌≡◌, ◌⊎◌, ◌≤◌, ◌^◌, ℕ, List, Option, Some, map, true, string_bytes, option_map, OnOk, OnErr, if◌then◌else◌, ◌++◌, ◌∷◌, []};
 ghost use Rattle.std.specs.List.{list_any};
 ghost use Rattle.std.specs.Io.KnownBytes.{Appends};
-ghost use Rattle.byte_ports.specs.Calls.{Rose, ConsumesAtLeast};
+ghost use Rattle.byte_ports.specs.Calls.{AppendsFront, Rose, ConsumesAtLeast};
 ghost use Rattle.workload_spec.specs.Valid.{is_valid, is_export, all_lines};
 ghost use Rattle.workload_spec.specs.Supported.{is_supported};
 ghost use Rattle.mainline.specs.Words.{export_path, usage_line};
-ghost use Rattle.mainline.specs.Outcome.{IsDone, IsRun, IsUsage, IsRefused, AsksExport, WordsAsk, OnDone, OnUsage, OnRefused, OnReadFault, OnOutFault, OnExportFault, OnTooLong, TellsFault, EndsRun, EndsRefusal, EndsUsage, outside};
+ghost use Rattle.mainline.specs.Outcome.{IsDone, IsRun, IsUsage, IsRefused, IsSilent, IsCutOff, IsStopped, StopsRun, AsksExport, WordsAsk, OnDone, OnUsage, OnRefused, OnReadFault, OnOutFault, OnExportFault, OnMemory, OnTooLong, TellsFault, EndsRun, EndsRefusal, EndsUsage, outside, started_by};
 
 use crate::fault::RunFault;
 use crate::round::run_round;
@@ -40,15 +40,16 @@ pub fn perform<R: Wait + Threads + Sync, S: Source, O: Sink, X: Outlet + Send, G
     gate: &G,
 ) -> Status
     ensures words { WordsAsk (export_path (map string_bytes words.items)) result }
-    ensures done { OnDone result ((path : List ℕ) × (export_path (map string_bytes words.items) ≡ Some path) × IsDone path
+    ensures done { OnDone result ((path : List ℕ) × (export_path (map string_bytes words.items) ≡ Some path) × IsDone Appends path
         (outside (S.left source.old) (O.written out.old) (X.written export.old) (X.started export.old))
         (outside (S.left source.new) (O.written out.new) (X.written export.new) (X.started export.new))) }
-    ensures usage { OnUsage result (IsUsage
+    ensures usage { OnUsage result (IsUsage Appends
         (outside (S.left source.old) (O.written out.old) (X.written export.old) (X.started export.old))
         (outside (S.left source.new) (O.written out.new) (X.written export.new) (X.started export.new))) }
-    ensures refused { OnRefused result (IsRefused
+    ensures refused { OnRefused result (IsRefused Appends
         (outside (S.left source.old) (O.written out.old) (X.written export.old) (X.started export.old))
         (outside (S.left source.new) (O.written out.new) (X.written export.new) (X.started export.new))) }
+
     ensures read_fault { OnReadFault result (Rose (S.faults source.old) (S.faults source.new)) }
     ensures out_fault { OnOutFault result (Rose (O.faults out.old) (O.faults out.new)) }
     ensures export_fault { OnExportFault result (Rose (X.faults export.old) (X.faults export.new)) }
@@ -56,6 +57,26 @@ pub fn perform<R: Wait + Threads + Sync, S: Source, O: Sink, X: Outlet + Send, G
         (outside (S.left source.old) (O.written out.old) (X.written export.old) (X.started export.old))
         (outside (S.left source.new) (O.written out.new) (X.written export.new) (X.started export.new))) }
     ensures too_long { OnTooLong result (ConsumesAtLeast (S.left source.old) (S.left source.new) (2 ^ 32)) }
+
+    // What has gone out where the run did not come to its end.
+    ensures unread { OnReadFault result (IsSilent
+        (outside (S.left source.old) (O.written out.old) (X.written export.old) (X.started export.old))
+        (outside (S.left source.new) (O.written out.new) (X.written export.new) (X.started export.new))) }
+    ensures unended { OnTooLong result (IsSilent
+        (outside (S.left source.old) (O.written out.old) (X.written export.old) (X.started export.old))
+        (outside (S.left source.new) (O.written out.new) (X.written export.new) (X.started export.new))) }
+    ensures cut_off { OnOutFault result (IsCutOff (export_path (map string_bytes words.items))
+        (outside (S.left source.old) (O.written out.old) (X.written export.old) (X.started export.old))
+        (outside (S.left source.new) (O.written out.new) (X.written export.new) (X.started export.new))) }
+    ensures stopped { OnExportFault result ((path : List ℕ) × (export_path (map string_bytes words.items) ≡ Some path) × IsStopped path
+        (outside (S.left source.old) (O.written out.old) (X.written export.old) (X.started export.old))
+        (outside (S.left source.new) (O.written out.new) (X.written export.new) (X.started export.new))) }
+    ensures memory { OnMemory result (IsSilent
+        (outside (S.left source.old) (O.written out.old) (X.written export.old) (X.started export.old))
+        (outside (S.left source.new) (O.written out.new) (X.written export.new) (X.started export.new))
+        ⊎ ((path : List ℕ) × (export_path (map string_bytes words.items) ≡ Some path) × IsStopped path
+        (outside (S.left source.old) (O.written out.old) (X.written export.old) (X.started export.old))
+        (outside (S.left source.new) (O.written out.new) (X.written export.new) (X.started export.new)))) }
 {
     let Some(path) = export_path(&words) else {
         return tell_usage(out);
@@ -66,7 +87,10 @@ pub fn perform<R: Wait + Threads + Sync, S: Source, O: Sink, X: Outlet + Send, G
         Err(InputFault::TooLong) => return Status::TooLong,
         Err(InputFault::Memory) => return Status::Memory,
     };
-    match parse(alloc, &bytes) {
+    let parsed = parse(alloc, &bytes);
+    // The run needs the memory of the text more than the text.
+    drop(bytes);
+    match parsed {
         Ok(script) => run_script(rt, alloc, script, path, out, export, gate),
         Err(fault) => refuse(alloc, fault, out),
     }
@@ -76,6 +100,7 @@ pub fn perform<R: Wait + Threads + Sync, S: Source, O: Sink, X: Outlet + Send, G
 fn tell_usage<O: Sink>(out: &mut O) -> Status
     ensures ends { EndsUsage result }
     ensures usage { OnUsage result (Appends (O.written out.old) (O.written out.new) usage_line) }
+    ensures cut_off { OnOutFault result (AppendsFront (O.written out.old) (O.written out.new) usage_line) }
     ensures out_fault { OnOutFault result (Rose (O.faults out.old) (O.faults out.new)) }
 {
     match write_all(out, USAGE) {
@@ -87,7 +112,9 @@ fn tell_usage<O: Sink>(out: &mut O) -> Status
 /// Prints at which line and for which cause the input is refused.
 fn refuse<O: Sink>(alloc: Global, fault: ScriptFault, out: &mut O) -> Status
     ensures ends { EndsRefusal result }
-    ensures refused { OnRefused result (TellsFault fault (O.written out.old) (O.written out.new)) }
+    ensures refused { OnRefused result (TellsFault Appends fault (O.written out.old) (O.written out.new)) }
+    ensures cut_off { OnOutFault result (TellsFault AppendsFront fault (O.written out.old) (O.written out.new)) }
+    ensures memory { OnMemory result (O.written out.new ≡ O.written out.old) }
     ensures out_fault { OnOutFault result (Rose (O.faults out.old) (O.faults out.new)) }
 {
     let ScriptFault::Bad { line, cause } = fault else {
@@ -117,7 +144,18 @@ fn run_script<R: Wait + Threads + Sync, O: Sink, X: Outlet, G: Gate>(
     requires valid { is_valid script ≡ true }
     requires supported { is_supported script ≡ true }
     ensures ends { EndsRun result }
-    ensures done { (left_old left_new : Option (List ℕ)) → OnDone result (IsRun path.now script
+    ensures done { (left_old left_new : Option (List ℕ)) → OnDone result (IsRun Appends script
+        (outside left_old (O.written out.old) (X.written export.old) (X.started export.old))
+        (outside left_new (O.written out.new) (X.written export.new) (X.started export.new))
+        × (X.started export.new ≡ started_by path.now script (X.started export.old))) }
+    ensures cut_off { (left_old left_new : Option (List ℕ)) → OnOutFault result (IsRun AppendsFront script
+        (outside left_old (O.written out.old) (X.written export.old) (X.started export.old))
+        (outside left_new (O.written out.new) (X.written export.new) (X.started export.new))
+        × (X.started export.new ≡ started_by path.now script (X.started export.old))) }
+    ensures stopped { (left_old left_new : Option (List ℕ)) → OnExportFault result (StopsRun path.now script
+        (outside left_old (O.written out.old) (X.written export.old) (X.started export.old))
+        (outside left_new (O.written out.new) (X.written export.new) (X.started export.new))) }
+    ensures memory { (left_old left_new : Option (List ℕ)) → OnMemory result (StopsRun path.now script
         (outside left_old (O.written out.old) (X.written export.old) (X.started export.old))
         (outside left_new (O.written out.new) (X.written export.new) (X.started export.new))) }
     ensures out_fault { OnOutFault result (Rose (O.faults out.old) (O.faults out.new)) }
@@ -153,6 +191,7 @@ fn start_export<X: Outlet>(round: &Round, path: &str, export: &mut X) -> Result<
     ensures written { X.written export.new ≡ X.written export.old }
     ensures started { OnOk result (X.started export.new ≡ (if list_any (λ line. is_export line.command) round.now
         then option_map (λ names. names ++ path.now ∷ []) (X.started export.old) else X.started export.old)) }
+    ensures kept { OnErr result (X.started export.new ≡ X.started export.old) }
     ensures cause { OnErr result (Rose (X.faults export.old) (X.faults export.new)) }
     ensures asked { OnErr result (list_any (λ line. is_export line.command) round.now ≡ true) }
     ensures counted { X.faults export.old ≤ X.faults export.new }

@@ -1,17 +1,18 @@
 //! A round of one session: its commands in order, and the text of the replies.
-ghost use Rattle.std.specs.Prelude.{◌≡◌, ◌≤◌, ◌∷◌, [], true, map, count_by, length, ◌++◌, IfOk, IfErr, OnOk, IsErrOf};
+ghost use Rattle.std.specs.Prelude.{◌≡◌, ◌≤◌, ◌∷◌, [], true, map, count_by, length, ◌++◌, IfOk, IfErr, OnOk, OnErr, IsErrOf};
 ghost use Rattle.workload_spec.specs.ReplyText.{reply_text};
-ghost use Rattle.outcome_laws.specs.Alone.{reply_of};
+ghost use Rattle.outcome_laws.specs.Alone.{Alone, reply_of};
 ghost use Rattle.std.specs.List.{list_all, list_any};
 ghost use Rattle.byte_ports.specs.Calls.{Rose};
 ghost use Rattle.cell_model.specs.declared.table.TableDecl.{TableDecl as Table};
 ghost use Rattle.workload_spec.specs.Valid.{is_export};
-ghost use Rattle.mainline.specs.Sent.{IsTable, RunsRound, runs_today};
+ghost use Rattle.mainline.specs.Sent.{IsTable, RunsRound, Serves, StopsRound, runs_today};
+ghost use Rattle.mainline.specs.Stands.{IsStore, Stands};
 
 use crate::export::export_table;
 use crate::fault::RunFault;
 use crate::store::Store;
-use byte_ports::{Gate, Outlet};
+use byte_ports::{Failed, Gate, Outlet};
 use cell_model::TableDecl;
 use reply_text::put_line;
 use std::alloc::{AllocError, Global};
@@ -35,6 +36,7 @@ pub fn run_round<R: Wait + Threads + Sync, X: Outlet, G: Gate>(
     requires once { count_by (λ line. is_export line.command) round ≤ 1 }
     ensures ok { IfOk result (λ text. RunsRound tables.now (map (λ line. line.command) round) text.items
         (X.written export.old) (X.written export.new)) }
+    ensures stopped { OnErr result (StopsRound tables.now round (X.written export.old) (X.written export.new)) }
     ensures fault { IsErrOf result RunFault.Export → Rose (X.faults export.old) (X.faults export.new) }
     ensures asked { IsErrOf result RunFault.Export → list_any (λ line. is_export line.command) round ≡ true }
     ensures started { X.started export.new ≡ X.started export.old }
@@ -47,18 +49,42 @@ pub fn run_round<R: Wait + Threads + Sync, X: Outlet, G: Gate>(
     for line in round.into_vec() {
         index += 1;
         gate.pass(rt, 1, u32::try_from(index).unwrap_or(u32::MAX));
-        let said = match line.command {
-            Command::Export { table: _ } => match export_table(alloc, &store, table, export) {
-                Ok(said) => said,
-                Err(_) => return Err(RunFault::Export),
-            },
-            command => store.answer(command),
+        let Ok(said) = answer(alloc, &mut store, table, line.command, export) else {
+            return Err(RunFault::Export);
         };
         if let Err(fault) = put_reply(&mut text, tables, index, said) {
             return Err(fault);
         }
     }
     Ok(text)
+}
+
+/// Answers a command. An export goes to the outlet.
+///
+/// Where a call of the outlet fails, what went out is what an export that is answered `memory` may send.
+fn answer<X: Outlet>(
+    alloc: Global,
+    store: &mut Store,
+    table: &TableDecl,
+    command: Command,
+    outlet: &mut X,
+) -> Result<Said, Failed>
+    requires table { IsTable table.now }
+    requires store { IsStore (table.now ∷ []) store.old }
+    requires command { runs_today (table.now ∷ []) command ≡ true }
+    ensures ok { IfOk result (λ told. (alone : Alone) → Stands (table.now ∷ []) store.old alone
+        → Serves (table.now ∷ []) alone command told store.new (X.written outlet.old) (X.written outlet.new)) }
+    ensures front { OnErr result ((alone : Alone) → Stands (table.now ∷ []) store.old alone
+        → Serves (table.now ∷ []) alone command Said.Memory store.new (X.written outlet.old) (X.written outlet.new)) }
+    ensures err { OnErr result (Rose (X.faults outlet.old) (X.faults outlet.new)) }
+    ensures asked { OnErr result (is_export command ≡ true) }
+    ensures started { X.started outlet.new ≡ X.started outlet.old }
+    ensures counted { X.faults outlet.old ≤ X.faults outlet.new }
+{
+    match command {
+        Command::Export { table: _ } => export_table(alloc, store, table, outlet),
+        command => Ok(store.answer(command)),
+    }
 }
 
 /// Puts the line of the session's reply of this index behind the text.

@@ -7,6 +7,7 @@ use std::process::Abort;
 use std::sync::Wait;
 use std::sync::atomic::{AtomicU32, Ordering};
 use std::test::Fail;
+use std::thread::Threads;
 
 // A workload with this text behind `go`, over a table of one block of eight rows.
 const HEAD: &str = "store 1\ntable b key:i64 slots 8 blocks 1\nsessions 1\nworkers 0 0\ngo\n";
@@ -141,27 +142,37 @@ const LATER: [&str; 9] = [
 
 const EXPORT: &str = "1 begin\n1 export b\n";
 
-// Words, commands, and the calls of the source, the output and the outlet that fail; the status, what was printed, how
-// many names the outlet was started with, and how many bytes it was sent.
-struct Fault {
-    words: &'static [&'static str],
-    commands: &'static str,
+// The calls of the source, of the output and of the outlet that fail.
+#[derive(Clone, Copy)]
+struct Failing {
     source: &'static [u64],
     out: &'static [u64],
     outlet: &'static [u64],
+}
+
+const NOTHING_FAILS: Failing = Failing {
+    source: &[],
+    out: &[],
+    outlet: &[],
+};
+
+// Words, commands, and what fails; the status, what was printed, how many names the outlet was started with, and how
+// many bytes it was sent.
+struct Fault {
+    words: &'static [&'static str],
+    commands: &'static str,
+    failing: Failing,
     status: Status,
     printed: &'static str,
     started: usize,
     exported: usize,
 }
 
-const FAULTS: [Fault; 9] = [
+const FAULTS: [Fault; 11] = [
     Fault {
         words: &["mainline", "walk"],
         commands: EXPORT,
-        source: &[],
-        out: &[],
-        outlet: &[],
+        failing: NOTHING_FAILS,
         status: Status::Usage,
         printed: USAGE,
         started: 0,
@@ -170,9 +181,7 @@ const FAULTS: [Fault; 9] = [
     Fault {
         words: &["mainline", "run", "--export", "-e"],
         commands: EXPORT,
-        source: &[],
-        out: &[],
-        outlet: &[],
+        failing: NOTHING_FAILS,
         status: Status::Usage,
         printed: USAGE,
         started: 0,
@@ -181,9 +190,7 @@ const FAULTS: [Fault; 9] = [
     Fault {
         words: &["mainline", "run", "--export", ""],
         commands: EXPORT,
-        source: &[],
-        out: &[],
-        outlet: &[],
+        failing: NOTHING_FAILS,
         status: Status::Usage,
         printed: USAGE,
         started: 0,
@@ -192,9 +199,10 @@ const FAULTS: [Fault; 9] = [
     Fault {
         words: &["mainline"],
         commands: EXPORT,
-        source: &[],
-        out: &[1],
-        outlet: &[],
+        failing: Failing {
+            out: &[1],
+            ..NOTHING_FAILS
+        },
         status: Status::OutFault,
         printed: "",
         started: 0,
@@ -203,9 +211,10 @@ const FAULTS: [Fault; 9] = [
     Fault {
         words: &RUN,
         commands: EXPORT,
-        source: &[1],
-        out: &[],
-        outlet: &[],
+        failing: Failing {
+            source: &[1],
+            ..NOTHING_FAILS
+        },
         status: Status::ReadFault,
         printed: "",
         started: 0,
@@ -214,9 +223,22 @@ const FAULTS: [Fault; 9] = [
     Fault {
         words: &RUN,
         commands: EXPORT,
-        source: &[],
-        out: &[1],
-        outlet: &[],
+        failing: Failing {
+            source: &[2],
+            ..NOTHING_FAILS
+        },
+        status: Status::ReadFault,
+        printed: "",
+        started: 0,
+        exported: 0,
+    },
+    Fault {
+        words: &RUN,
+        commands: EXPORT,
+        failing: Failing {
+            out: &[1],
+            ..NOTHING_FAILS
+        },
         status: Status::OutFault,
         printed: "",
         started: 1,
@@ -225,9 +247,10 @@ const FAULTS: [Fault; 9] = [
     Fault {
         words: &RUN,
         commands: "1 walk\n",
-        source: &[],
-        out: &[1],
-        outlet: &[],
+        failing: Failing {
+            out: &[1],
+            ..NOTHING_FAILS
+        },
         status: Status::OutFault,
         printed: "",
         started: 0,
@@ -236,9 +259,10 @@ const FAULTS: [Fault; 9] = [
     Fault {
         words: &RUN,
         commands: EXPORT,
-        source: &[],
-        out: &[],
-        outlet: &[1],
+        failing: Failing {
+            outlet: &[1],
+            ..NOTHING_FAILS
+        },
         status: Status::ExportFault,
         printed: "",
         started: 0,
@@ -247,13 +271,26 @@ const FAULTS: [Fault; 9] = [
     Fault {
         words: &RUN,
         commands: EXPORT,
-        source: &[],
-        out: &[],
-        outlet: &[2],
+        failing: Failing {
+            outlet: &[2],
+            ..NOTHING_FAILS
+        },
         status: Status::ExportFault,
         printed: "",
         started: 1,
         exported: 0,
+    },
+    Fault {
+        words: &RUN,
+        commands: EXPORT,
+        failing: Failing {
+            outlet: &[3],
+            ..NOTHING_FAILS
+        },
+        status: Status::ExportFault,
+        printed: "",
+        started: 1,
+        exported: 160,
     },
 ];
 
@@ -271,92 +308,111 @@ fn workload(alloc: Global, commands: &str) -> Result<String, AllocError> {
     Ok(text)
 }
 
+// How a run ended, and what it printed and sent.
+#[derive(Drop)]
+struct Ended {
+    status: Status,
+    out: ListSink,
+    outlet: ListOutlet,
+}
+
+fn run<R: Wait + Threads + Sync>(
+    rt: &R,
+    alloc: Global,
+    words: &[&str],
+    input: &str,
+    failing: Failing,
+) -> Result<Ended, AllocError> {
+    let mut source = ListSource::new(alloc, input.as_bytes(), failing.source)?;
+    let mut out = ListSink::new(alloc, failing.out)?;
+    let mut outlet = ListOutlet::new(alloc, failing.outlet)?;
+    let words = owned(alloc, words)?;
+    let status = perform(
+        rt,
+        alloc,
+        words,
+        &mut source,
+        &mut out,
+        &mut outlet,
+        &OpenGate,
+    );
+    Ok(Ended {
+        status,
+        out,
+        outlet,
+    })
+}
+
 #[test]
 fn rounds_are_answered(rt: HostRuntime) -> Result<(), Fail> {
-    let alloc = rt.alloc();
     for round in &ROUNDS {
-        let text = workload(alloc, round.commands)?;
-        let mut source = ListSource::new(alloc, text.as_bytes(), &[])?;
-        let mut out = ListSink::new(alloc, &[])?;
-        let mut outlet = ListOutlet::new(alloc, &[])?;
-        let words = owned(alloc, &RUN)?;
-        let status = perform(
-            &rt,
-            alloc,
-            words,
-            &mut source,
-            &mut out,
-            &mut outlet,
-            &OpenGate,
-        );
-        assert_eq!(rt; status, Status::Done, "{}", round.commands);
-        assert_eq!(rt;
-            out.written(),
-            round.printed.as_bytes(),
-            "{}",
-            round.commands
-        );
-        assert_eq!(rt;
-            outlet.written().len(),
-            round.exported,
-            "{}",
-            round.commands
-        );
+        let commands = round.commands;
+        let input = workload(rt.alloc(), commands)?;
+        let ended = run(&rt, rt.alloc(), &RUN, input.as_str(), NOTHING_FAILS)?;
+        assert_eq!(rt; ended.status, Status::Done, "{commands}");
+        assert_eq!(rt; ended.out.written(), round.printed.as_bytes(), "{commands}");
+        assert_eq!(rt; ended.outlet.written().len(), round.exported, "{commands}");
     }
     Ok(())
 }
 
 #[test]
 fn inputs_are_refused(rt: HostRuntime) -> Result<(), Fail> {
-    let alloc = rt.alloc();
     for (input, refusal) in &REFUSALS {
-        let mut source = ListSource::new(alloc, input.as_bytes(), &[])?;
-        let mut out = ListSink::new(alloc, &[])?;
-        let mut outlet = ListOutlet::new(alloc, &[])?;
-        let words = owned(alloc, &RUN)?;
-        let status = perform(
-            &rt,
-            alloc,
-            words,
-            &mut source,
-            &mut out,
-            &mut outlet,
-            &OpenGate,
-        );
-        assert_eq!(rt; status, Status::Refused, "{input}");
-        assert_eq!(rt; out.written(), refusal.as_bytes(), "{input}");
-        assert_eq!(rt; outlet.started().len(), 0, "{input}");
+        let ended = run(&rt, rt.alloc(), &RUN, input, NOTHING_FAILS)?;
+        assert_eq!(rt; ended.status, Status::Refused, "{input}");
+        assert_eq!(rt; ended.out.written(), refusal.as_bytes(), "{input}");
+        assert_eq!(rt; ended.outlet.started().len(), 0, "{input}");
     }
     Ok(())
 }
 
 #[test]
 fn commands_that_do_not_run_yet_are_refused(rt: HostRuntime) -> Result<(), Fail> {
-    let alloc = rt.alloc();
     for command in &LATER {
-        let mut text = workload(alloc, "1 begin\n1 ")?;
-        text.push_str(command)?;
-        text.push_str("\n")?;
-        let mut source = ListSource::new(alloc, text.as_bytes(), &[])?;
-        let mut out = ListSink::new(alloc, &[])?;
-        let mut outlet = ListOutlet::new(alloc, &[])?;
-        let words = owned(alloc, &RUN)?;
-        let status = perform(
-            &rt,
-            alloc,
-            words,
-            &mut source,
-            &mut out,
-            &mut outlet,
-            &OpenGate,
-        );
-        assert_eq!(rt; status, Status::Refused, "{command}");
+        let mut input = workload(rt.alloc(), "1 begin\n1 ")?;
+        input.push_str(command)?;
+        input.push_str("\n")?;
+        let ended = run(&rt, rt.alloc(), &RUN, input.as_str(), NOTHING_FAILS)?;
+        assert_eq!(rt; ended.status, Status::Refused, "{command}");
         assert_eq!(rt;
-            out.written(),
+            ended.out.written(),
             b"refused 7 command\n".as_slice(),
             "{command}"
         );
     }
+    Ok(())
+}
+
+#[test]
+fn faults_are_told(rt: HostRuntime) -> Result<(), Fail> {
+    for (at, fault) in FAULTS.iter().enumerate() {
+        let input = workload(rt.alloc(), fault.commands)?;
+        let ended = run(&rt, rt.alloc(), fault.words, input.as_str(), fault.failing)?;
+        assert_eq!(rt; ended.status, fault.status, "case {at}");
+        assert_eq!(rt; ended.out.written(), fault.printed.as_bytes(), "case {at}");
+        assert_eq!(rt; ended.outlet.started().len(), fault.started, "case {at}");
+        assert_eq!(rt; ended.outlet.written().len(), fault.exported, "case {at}");
+    }
+    Ok(())
+}
+
+#[test]
+fn blocks_are_batches(rt: HostRuntime) -> Result<(), Fail> {
+    let input =
+        "store 1\ntable b key:i64 slots 8 blocks 2\nsessions 1\nworkers 0 0\ngo\n1 begin\n1 insert b 9\n1 insert b 8\n\
+        1 insert b 7\n1 insert b 6\n1 insert b 5\n1 insert b 4\n1 insert b 3\n1 insert b 2\n1 insert b 1\n1 commit\n\
+        1 begin\n1 export b\n";
+    let ended = run(&rt, rt.alloc(), &RUN, input, NOTHING_FAILS)?;
+    assert_eq!(rt; ended.status, Status::Done);
+    let printed = ended.out.written();
+    assert!(rt; printed.ends_with(b"1 1 13 export 1 rows 9 batches 2 frozen 0\n"));
+    // 160 of schema, 152 and 8 rows, 152 and 1 row, 8 of the end word.
+    assert_eq!(rt;
+        ended.outlet.written().len(),
+        160 + (152 + 64) + (152 + 8) + 8
+    );
+    assert_eq!(rt; ended.outlet.started().len(), 1);
     Ok(())
 }
 
@@ -378,8 +434,8 @@ impl Gate for CountingGate {
 #[test]
 fn the_gate_is_passed_before_each_command(rt: HostRuntime) -> Result<(), Fail> {
     let alloc = rt.alloc();
-    let text = workload(alloc, "1 begin\n1 insert b 1\n1 get b 1\n1 commit\n")?;
-    let mut source = ListSource::new(alloc, text.as_bytes(), &[])?;
+    let input = workload(alloc, "1 begin\n1 insert b 1\n1 get b 1\n1 commit\n")?;
+    let mut source = ListSource::new(alloc, input.as_bytes(), &[])?;
     let mut out = ListSink::new(alloc, &[])?;
     let mut outlet = ListOutlet::new(alloc, &[])?;
     let words = owned(alloc, &RUN)?;
@@ -389,78 +445,6 @@ fn the_gate_is_passed_before_each_command(rt: HostRuntime) -> Result<(), Fail> {
     let status = perform(&rt, alloc, words, &mut source, &mut out, &mut outlet, &gate);
     assert_eq!(rt; status, Status::Done);
     assert_eq!(rt; gate.passed.load(Ordering::Relaxed), 4);
-    Ok(())
-}
-
-#[test]
-fn faults_are_told(rt: HostRuntime) -> Result<(), Fail> {
-    let alloc = rt.alloc();
-    for fault in &FAULTS {
-        let text = workload(alloc, fault.commands)?;
-        let mut source = ListSource::new(alloc, text.as_bytes(), fault.source)?;
-        let mut out = ListSink::new(alloc, fault.out)?;
-        let mut outlet = ListOutlet::new(alloc, fault.outlet)?;
-        let words = owned(alloc, fault.words)?;
-        let status = perform(
-            &rt,
-            alloc,
-            words,
-            &mut source,
-            &mut out,
-            &mut outlet,
-            &OpenGate,
-        );
-        assert_eq!(rt; status, fault.status, "{}", fault.words.len());
-        assert_eq!(rt;
-            out.written(),
-            fault.printed.as_bytes(),
-            "{}",
-            fault.words.len()
-        );
-        assert_eq!(rt;
-            outlet.started().len(),
-            fault.started,
-            "{}",
-            fault.words.len()
-        );
-        assert_eq!(rt;
-            outlet.written().len(),
-            fault.exported,
-            "{}",
-            fault.words.len()
-        );
-    }
-    Ok(())
-}
-
-#[test]
-fn blocks_are_batches(rt: HostRuntime) -> Result<(), Fail> {
-    let alloc = rt.alloc();
-    let mut source = ListSource::new(
-        alloc,
-        b"store 1\ntable b key:i64 slots 8 blocks 2\nsessions 1\nworkers 0 0\ngo\n1 begin\n1 insert b 9\n1 insert b 8\n\
-            1 insert b 7\n1 insert b 6\n1 insert b 5\n1 insert b 4\n1 insert b 3\n1 insert b 2\n1 insert b 1\n1 commit\n\
-            1 begin\n1 export b\n",
-        &[],
-    )?;
-    let mut out = ListSink::new(alloc, &[])?;
-    let mut outlet = ListOutlet::new(alloc, &[])?;
-    let words = owned(alloc, &RUN)?;
-    let status = perform(
-        &rt,
-        alloc,
-        words,
-        &mut source,
-        &mut out,
-        &mut outlet,
-        &OpenGate,
-    );
-    assert_eq!(rt; status, Status::Done);
-    let printed = out.written();
-    assert!(rt; printed.ends_with(b"1 1 13 export 1 rows 9 batches 2 frozen 0\n"));
-    // 160 of schema, 152 and 8 rows, 152 and 1 row, 8 of the end word.
-    assert_eq!(rt; outlet.written().len(), 160 + (152 + 64) + (152 + 8) + 8);
-    assert_eq!(rt; outlet.started().len(), 1);
     Ok(())
 }
 
@@ -511,25 +495,12 @@ const THREE_KEYS: &[u8; 344] = b"\xff\xff\xff\xff\x98\x00\x00\x00\
 
 #[test]
 fn three_keys_make_344_bytes(rt: HostRuntime) -> Result<(), Fail> {
-    let alloc = rt.alloc();
-    let text = workload(
-        alloc,
+    let input = workload(
+        rt.alloc(),
         "1 begin\n1 insert b 1\n1 insert b 2\n1 insert b 3\n1 commit\n1 begin\n1 export b\n",
     )?;
-    let mut source = ListSource::new(alloc, text.as_bytes(), &[])?;
-    let mut out = ListSink::new(alloc, &[])?;
-    let mut outlet = ListOutlet::new(alloc, &[])?;
-    let words = owned(alloc, &RUN)?;
-    let status = perform(
-        &rt,
-        alloc,
-        words,
-        &mut source,
-        &mut out,
-        &mut outlet,
-        &OpenGate,
-    );
-    assert_eq!(rt; status, Status::Done);
-    assert_eq!(rt; outlet.written(), THREE_KEYS.as_slice());
+    let ended = run(&rt, rt.alloc(), &RUN, input.as_str(), NOTHING_FAILS)?;
+    assert_eq!(rt; ended.status, Status::Done);
+    assert_eq!(rt; ended.outlet.written(), THREE_KEYS.as_slice());
     Ok(())
 }

@@ -1,12 +1,11 @@
 use Rattle.std.proofs.Common.{◌≡◌, ℕ, ap, sym, ◌∙◌, subst, arith, min, length}
-use Rattle.arrow_spec.specs.Streams.{schema_message, batch_message}
-use Rattle.mainline.proofs.Sending.{Sending, schema_fails, sending_begins, sending_goes_on, sending_ends, batches_bound, block_fails, small_count}
+use Rattle.mainline.proofs.Sending.{Sending, schema_fails, sending_begins, sending_goes_on, sending_ends, batches_bound, block_fails, end_fails, small_count}
 use Rattle.mainline.proofs.export.write_rows.Goals as goal
 
 pub returns-in-Err-clause-err : goal.returns-in-Err-clause-err
 returns-in-Err-clause-err g c =
     schema_fails (Unit {0}) g.W.Sink.written g.W.Sink.faults c.args.writer.now c.schema.new.self c.args.table.now.schema c.args.rows.now
-    (schema_message c.args.table.now.schema) c.in-Err.fault c.requires.fresh c.in-Err.ensures.answer
+    c.in-Err.fault c.requires.fresh c.in-Err.ensures.answer
 
 pub loop-block-init : goal.loop-block-init
 loop-block-init g c =
@@ -26,9 +25,19 @@ loop-block-init g c =
 pub returns-in-Err-rows-clause-err : goal.returns-in-Err-rows-clause-err
 returns-in-Err-rows-clause-err g c =
     let inv = c.loop-block.invariant in
+    let steps = c.in-Some.ensures.steps in
+    let size = steps.1.1 ∙ ap (λ (size : ℕ). min size (length c.loop-block.block-iterator.rest.now)) inv.size in
+    let some = c.requires.slots in
+    let left = steps.1.2 in
     block_fails (Unit {0}) g.W.Sink.written g.W.Sink.faults c.args.writer.now c.loop-block.writer c.rows.new.self c.args.table.now.schema c.args.table.now.slots c.args.rows.now
-    c.loop-block.batches c.loop-block.block-iterator.rest.now (batch_message c.args.table.now.schema c.in-Some.block.now) c.in-Err-rows.fault
-    inv.fresh inv.sending c.in-Some.ensures.steps.1.2 inv.counted c.in-Err-rows.ensures.answer
+    c.loop-block.batches c.loop-block.block-iterator.rest.now c.in-Some.block.now _ c.in-Err-rows.fault
+    inv.fresh inv.sending steps.1.0 (omega (arith, size, some, left)) inv.counted c.in-Err-rows.ensures.answer
+
+pub returns-in-Err-finish-clause-err : goal.returns-in-Err-finish-clause-err
+returns-in-Err-finish-clause-err g c =
+    let inv = c.loop-block.invariant in
+    end_fails (Unit {0}) g.W.Sink.written g.W.Sink.faults c.args.writer.now c.loop-block.writer c.finish.new.self c.args.table.now.schema c.args.table.now.slots c.args.rows.now
+    c.loop-block.batches _ c.in-Err-finish.fault inv.fresh inv.sending c.in-None.ensures.steps.1.0 inv.counted c.in-Err-finish.ensures.answer
 
 pub overflow_add-batches : goal.overflow_add-batches
 overflow_add-batches g c =

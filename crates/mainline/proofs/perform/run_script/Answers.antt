@@ -1,12 +1,13 @@
-use Rattle.std.proofs.Common.{◌≡◌, ◌≤◌, true, ap, sym, ◌∙◌, subst, List, [], ◌∷◌, ◌++◌, map, count_by, Option, ℕ, option_map, if◌then◌else◌}
+use Rattle.std.proofs.Common.{◌≡◌, ◌≤◌, true, ap, sym, ◌∙◌, subst, List, [], ◌∷◌, ◌++◌, count_by, option_map, if◌then◌else◌, inl, inr}
 use Rattle.std.specs.List.{list_all, list_any}
 use Rattle.std.specs.Io.KnownBytes.{Appends}
 use Rattle.cell_model.specs.declared.table.TableDecl.{TableDecl}
 use Rattle.workload_spec.specs.Valid.{is_export}
 use Rattle.workload_spec.specs.declared.script.Line.{Line}
-use Rattle.outcome_laws.specs.Laws.{commands_in}
-use Rattle.mainline.specs.Sent.{RunsRound, runs_today}
+use Rattle.byte_ports.specs.Calls.{AppendsFront}
+use Rattle.mainline.specs.Sent.{runs_today}
 use Rattle.mainline.proofs.Scripts.{parts_of_script, run_is, popped_round}
+use Rattle.mainline.proofs.Stopped.{run_stops, runs_whole, stops_at_once, stops_whole}
 use Rattle.mainline.proofs.perform.run_script.Goals as goal
 
 pub run_round-requires-clause-table : goal.run_round-requires-clause-table
@@ -34,12 +35,47 @@ pub returns-in-Ok-write_all-clause-done : goal.returns-in-Ok-write_all-clause-do
 returns-in-Ok-write_all-clause-done g c = λ left_old left_new.
     let parts = parts_of_script c.args.script c.requires.valid c.requires.supported in
     let round = popped_round c.args.script parts c.into_vec.result.items c.pop.new.self.items c.pop.result c.in-Some.round c.into_vec.ensures c.pop.ensures.items c.in-Some.is in
-    let lines = round ∙ sym parts.lines_are in
-    let runs : RunsRound c.args.script.tables (commands_in c.args.script) c.in-Ok.text.items (g.X.Sink.written c.args.export.now) (g.X.Sink.written c.run_round.new.export) =
-    subst (λ (before : Option (List ℕ)). RunsRound c.args.script.tables (commands_in c.args.script) c.in-Ok.text.items before (g.X.Sink.written c.run_round.new.export)) c.start_export.ensures.written
-    (subst (λ (tables : List TableDecl). RunsRound tables (commands_in c.args.script) c.in-Ok.text.items (g.X.Sink.written c.start_export.new.export) (g.X.Sink.written c.run_round.new.export)) c.as_slice.ensures
-    (subst (λ (lines : List Line). RunsRound c.as_slice.result.now (map (λ (line : Line). line.command) lines) c.in-Ok.text.items (g.X.Sink.written c.start_export.new.export) (g.X.Sink.written c.run_round.new.export)) lines c.in-Ok.ensures.ok)) in
-    run_is c.args.path.now c.args.script c.in-Ok.text.items left_old left_new _ _ _ _ _ _ c.requires.valid c.requires.supported runs
-    (subst (Appends (g.O.Sink.written c.args.out.now) (g.O.Sink.written c.write_all.new.sink)) c.as_slice-in-Ok.ensures.value c.in-Ok-write_all.ensures.bytes)
-    (c.run_round.ensures.started ∙ c.in_default-start_export.ensures.started
-    ∙ ap (λ (lines : List Line). if list_any (λ (line : Line). is_export line.command) lines then option_map (λ names. names ++ c.args.path.now ∷ []) (g.X.Sink.started c.args.export.now) else g.X.Sink.started c.args.export.now) lines)
+    let lines = round ∙ sym parts.lines_are in (
+      run_is Appends c.args.script c.in-Ok.text.items left_old left_new _ _ _ _ _ _ c.requires.valid c.requires.supported
+          (runs_whole c.args.script c.in-Some.round c.as_slice.result.now c.in-Ok.text.items _ _ _ c.start_export.ensures.written c.as_slice.ensures lines c.in-Ok.ensures.ok)
+          (subst (Appends (g.O.Sink.written c.args.out.now) (g.O.Sink.written c.write_all.new.sink)) c.as_slice-in-Ok.ensures.value c.in-Ok-write_all.ensures.bytes),
+      c.run_round.ensures.started ∙ c.in_default-start_export.ensures.started
+          ∙ ap (λ (lines : List Line). if list_any (λ (line : Line). is_export line.command) lines then option_map (λ names. names ++ c.args.path.now ∷ []) (g.X.Sink.started c.args.export.now) else g.X.Sink.started c.args.export.now) lines,
+    )
+
+pub returns-in-Ok-clause-cut_off : goal.returns-in-Ok-clause-cut_off
+returns-in-Ok-clause-cut_off g c = λ left_old left_new.
+    let parts = parts_of_script c.args.script c.requires.valid c.requires.supported in
+    let round = popped_round c.args.script parts c.into_vec.result.items c.pop.new.self.items c.pop.result c.in-Some.round c.into_vec.ensures c.pop.ensures.items c.in-Some.is in
+    let lines = round ∙ sym parts.lines_are in (
+      run_is AppendsFront c.args.script c.in-Ok.text.items left_old left_new _ _ _ _ _ _ c.requires.valid c.requires.supported
+          (runs_whole c.args.script c.in-Some.round c.as_slice.result.now c.in-Ok.text.items _ _ _ c.start_export.ensures.written c.as_slice.ensures lines c.in-Ok.ensures.ok)
+          (subst (AppendsFront (g.O.Sink.written c.args.out.now) (g.O.Sink.written c.write_all.new.sink)) c.as_slice-in-Ok.ensures.value c.in-Err-write_all.ensures.bytes),
+      c.run_round.ensures.started ∙ c.in_default-start_export.ensures.started
+          ∙ ap (λ (lines : List Line). if list_any (λ (line : Line). is_export line.command) lines then option_map (λ names. names ++ c.args.path.now ∷ []) (g.X.Sink.started c.args.export.now) else g.X.Sink.started c.args.export.now) lines,
+    )
+
+pub returns-in-Err-Export-clause-stopped : goal.returns-in-Err-Export-clause-stopped
+returns-in-Err-Export-clause-stopped g c = λ left_old left_new.
+    let parts = parts_of_script c.args.script c.requires.valid c.requires.supported in
+    let round = popped_round c.args.script parts c.into_vec.result.items c.pop.new.self.items c.pop.result c.in-Some.round c.into_vec.ensures c.pop.ensures.items c.in-Some.is in
+    run_stops c.args.path.now c.args.script parts c.in-Some.round left_old left_new _ _ _ _ _ c.requires.valid c.requires.supported round
+    (stops_whole c.args.script c.in-Some.round c.as_slice.result.now _ _ _ c.start_export.ensures.written c.as_slice.ensures c.in-Err-Export.ensures.stopped)
+    (inr (c.run_round.ensures.started ∙ c.in_default-start_export.ensures.started
+    ∙ ap (λ (lines : List Line). if list_any (λ (line : Line). is_export line.command) lines then option_map (λ names. names ++ c.args.path.now ∷ []) (g.X.Sink.started c.args.export.now) else g.X.Sink.started c.args.export.now) (round ∙ sym parts.lines_are)))
+
+pub returns-clause-memory : goal.returns-clause-memory
+returns-clause-memory g c = λ left_old left_new.
+    let parts = parts_of_script c.args.script c.requires.valid c.requires.supported in
+    let round = popped_round c.args.script parts c.into_vec.result.items c.pop.new.self.items c.pop.result c.in-Some.round c.into_vec.ensures c.pop.ensures.items c.in-Some.is in
+    run_stops c.args.path.now c.args.script parts c.in-Some.round left_old left_new _ _ _ _ _ c.requires.valid c.requires.supported round
+    (stops_whole c.args.script c.in-Some.round c.as_slice.result.now _ _ _ c.start_export.ensures.written c.as_slice.ensures c.in-Err-Memory.ensures.stopped)
+    (inr (c.run_round.ensures.started ∙ c.in_default-start_export.ensures.started
+    ∙ ap (λ (lines : List Line). if list_any (λ (line : Line). is_export line.command) lines then option_map (λ names. names ++ c.args.path.now ∷ []) (g.X.Sink.started c.args.export.now) else g.X.Sink.started c.args.export.now) (round ∙ sym parts.lines_are)))
+
+pub returns-in-Err-clause-stopped : goal.returns-in-Err-clause-stopped
+returns-in-Err-clause-stopped g c = λ left_old left_new.
+    let parts = parts_of_script c.args.script c.requires.valid c.requires.supported in
+    let round = popped_round c.args.script parts c.into_vec.result.items c.pop.new.self.items c.pop.result c.in-Some.round c.into_vec.ensures c.pop.ensures.items c.in-Some.is in
+    run_stops c.args.path.now c.args.script parts c.in-Some.round left_old left_new _ _ _ _ _ c.requires.valid c.requires.supported round
+    (stops_at_once c.args.script.tables c.in-Some.round _ _ c.start_export.ensures.written) (inl c.in-Err.ensures.kept)
