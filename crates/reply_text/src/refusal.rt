@@ -2,7 +2,7 @@
 ghost use Rattle.std.specs.Prelude.{◌≡◌, ◌++◌, OnOk};
 ghost use Rattle.workload_spec.specs.Grammar.{cause_word, refused_text};
 
-use script_text::printing::put_number;
+use script_text::put_number;
 use std::alloc::AllocError;
 use workload_spec::Cause;
 

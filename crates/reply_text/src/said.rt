@@ -8,7 +8,7 @@ ghost use Rattle.script_text.specs.Cursor.{behind_spaces};
 ghost use Rattle.reply_text.specs.Upkeep.{is_upkeep};
 
 use cell_model::{Row, TableDecl};
-use script_text::printing::{put_cells, put_key, put_natural, put_number, put_table_name};
+use script_text::{put_cells, put_key, put_natural, put_number, put_table_name};
 use std::alloc::AllocError;
 use workload_spec::{Said, SealCause};
 

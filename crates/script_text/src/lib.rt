@@ -2,21 +2,21 @@
 //! one text of a script.
 #![tactic(auto)]
 
-pub mod columns;
-pub mod commands;
-pub mod fault;
-pub mod head;
-pub mod kinds;
-pub mod lines;
-pub mod numbers;
+mod columns;
+mod commands;
+mod fault;
+mod head;
+mod kinds;
+mod lines;
+mod numbers;
 mod parsing;
-pub mod printing;
-pub mod table;
-pub mod words;
+mod printing;
+mod table;
+mod words;
 
-pub use fault::{ScriptFault, WordFault};
+pub use fault::ScriptFault;
 pub use parsing::parse;
-pub use printing::print;
+pub use printing::{print, put_cells, put_key, put_natural, put_number, put_table_name};
 
 #[cfg(test)]
 mod tests;
