@@ -183,6 +183,24 @@ running_ends tables commands store text index before now running = record {
   quiet = running.quiet;
 }
 
+-- a round stops before its first line
+pub stops_at_once : (tables : List TableDecl) (round : List Line) (before now : Option (List ℕ)) → now ≡ before → StopsRound tables round before now
+stops_at_once tables round before now same = subst (StopsRound tables round before) (sym same) (record {
+  lines = [];
+  rest = round;
+  first = refl;
+  text = [];
+  runs = record {
+    saids = [];
+    served = tt;
+    printed = refl;
+    bytes = [];
+    sent = Appends-nil before;
+    says = tt;
+    quiet = λ quiet. refl;
+  };
+})
+
 -- none passes where none is counted
 none_counted_by : {X : Type 0} (test : X → Bool) (x : X) (xs : List X) (b : Bool)
     → (count_by test xs ≡ 0 → list_any test xs ≡ false) → cond b 1 0 + count_by test xs ≡ 0 → (b || list_any test xs) ≡ false

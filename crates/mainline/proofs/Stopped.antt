@@ -1,7 +1,6 @@
 -- The run of a workload that stopped: that of a workload of its first lines.
 use Rattle.std.proofs.Common.{◌≡◌, ◌⊎◌, ℕ, Bool, true, ◌+◌, ◌≤◌, ◌==◌, nat_le, nat_lt, cond, Option, List, [], ◌++◌, map, length, count_by, refl, ap, sym, ◌∙◌, subst, arith}
 use Rattle.std.specs.List.{list_all}
-use Rattle.std.proofs.KnownBytes.{Appends-nil}
 use Rattle.std.proofs.lemmas.Bool.{and_parts, and_from, leb-true, le-leb}
 use Rattle.std.proofs.lemmas.List.{append-nil}
 use Rattle.std.proofs.lemmas.List.Folds.{list_all-append}
@@ -45,24 +44,6 @@ first_supported script lines rest first supported =
     let checked = all_first runs (all_lines script) lines rest first whole.6 in
     and_from _ _ (and_from _ _ (and_from _ _ (and_from _ _ (and_from _ _ (and_from _ _ whole.0 whole.1) whole.2) whole.3) whole.4) refl)
     (ap (list_all runs) own ∙ checked)
-
--- a round stops before its first line
-pub stops_at_once : (tables : List TableDecl) (round : List Line) (before now : Option (List ℕ)) → now ≡ before → StopsRound tables round before now
-stops_at_once tables round before now same = subst (StopsRound tables round before) (sym same) (record {
-  lines = [];
-  rest = round;
-  first = refl;
-  text = [];
-  runs = record {
-    saids = [];
-    served = tt;
-    printed = refl;
-    bytes = [];
-    sent = Appends-nil before;
-    says = tt;
-    quiet = λ quiet. refl;
-  };
-})
 
 -- the round of a script, as a round of its own
 pub runs_whole : (script : Script) (round : List Line) (tables : List TableDecl) (text : List ℕ) (before between now : Option (List ℕ))

@@ -20,6 +20,9 @@ use std::sync::Wait;
 use std::thread::Threads;
 use workload_spec::{Command, ReplyLine, Round, Said, Who};
 
+// Room for the line of a reply. Most lines are shorter, so the text of a round hardly ever grows.
+const LINE_BYTES: usize = 32;
+
 /// Runs the commands of a round one after another over an empty store, and gives the text of their replies.
 ///
 /// The gate is passed before each command. An export goes to the outlet.
@@ -44,9 +47,12 @@ pub fn run_round<R: Wait + Threads + Sync, X: Outlet, G: Gate>(
 {
     let table = &tables[0];
     let mut store = Store::new(alloc, table.blocks as usize * table.slots as usize);
-    let mut text = Vec::new(alloc);
+    let lines = round.into_vec();
+    let Ok(mut text) = Vec::with_capacity(alloc, lines.len().saturating_mul(LINE_BYTES)) else {
+        return Err(RunFault::Memory);
+    };
     let mut index = 0;
-    for line in round.into_vec() {
+    for line in lines {
         index += 1;
         gate.pass(rt, 1, u32::try_from(index).unwrap_or(u32::MAX));
         let Ok(said) = answer(alloc, &mut store, table, line.command, export) else {

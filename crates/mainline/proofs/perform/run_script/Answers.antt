@@ -7,7 +7,8 @@ use Rattle.workload_spec.specs.declared.script.Line.{Line}
 use Rattle.byte_ports.specs.Calls.{AppendsFront}
 use Rattle.mainline.specs.Sent.{runs_today}
 use Rattle.mainline.proofs.Scripts.{parts_of_script, run_is, popped_round}
-use Rattle.mainline.proofs.Stopped.{run_stops, runs_whole, stops_at_once, stops_whole}
+use Rattle.mainline.proofs.Running.{stops_at_once}
+use Rattle.mainline.proofs.Stopped.{run_stops, runs_whole, stops_whole}
 use Rattle.mainline.proofs.perform.run_script.Goals as goal
 
 pub run_round-requires-clause-table : goal.run_round-requires-clause-table
