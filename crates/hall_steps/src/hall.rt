@@ -89,16 +89,17 @@ impl<C: Parts> Hall<C> {
         ensures seen { Looks (meaning C.Parts self.now.0 self.now.1) pass.old.seat pass.new.seat }
         ensures hand { (p : C.Part) × (first_of pass.new.hands ≡ slice_set (first_of pass.old.hands) part (Some p)) }
     {
-        let mut hand = pass.hands.exchange(Hand::of(Vec::new(self.alloc)));
+        let Some(hand) = pass.hands.list.front_mut() else {
+            unreachable!()
+        };
         take_from(
             rt,
             &self.table.shared,
             self.waiting.as_slice(),
             &mut pass.seat,
-            &mut hand,
+            hand,
             part,
         );
-        pass.hands.exchange(hand);
     }
 
     /// Gives a part back, and wakes a thread that waits for it, if there is one.
@@ -110,15 +111,16 @@ impl<C: Parts> Hall<C> {
         ensures view { pass.new.seat.me ≡ (given pass.old.seat.me.0 part, []) }
         ensures hand { first_of pass.new.hands ≡ slice_set (first_of pass.old.hands) part None }
     {
-        let mut hand = pass.hands.exchange(Hand::of(Vec::new(self.alloc)));
+        let Some(hand) = pass.hands.list.front_mut() else {
+            unreachable!()
+        };
         give_from(
             &self.table.shared,
             self.waiting.as_slice(),
             &mut pass.seat,
-            &mut hand,
+            hand,
             part,
         );
-        pass.hands.exchange(hand);
     }
 
     /// Makes an event on parts that are held, and replies. The log goes on from all that the pass had seen and ends
@@ -142,16 +144,16 @@ impl<C: Parts> Hall<C> {
             × MatchBool (C.refused result) (first_of pass.new.hands ≡ first_of pass.old.hands) (result ≡ C.reply self.now.3 event (replay (meaning C.Parts self.now.0 self.now.1) before))
             × (steps.new ≤ steps.old + C.cost self.now.3 event (replay (meaning C.Parts self.now.0 self.now.1) before)) }
     {
-        let mut hand = pass.hands.exchange(Hand::of(Vec::new(self.alloc)));
-        let reply = make(
+        let Some(hand) = pass.hands.list.front_mut() else {
+            unreachable!()
+        };
+        make(
             &self.table.shared,
             &self.shape,
             &mut pass.seat,
-            &mut hand,
+            hand,
             event,
             steps,
-        );
-        pass.hands.exchange(hand);
-        reply
+        )
     }
 }

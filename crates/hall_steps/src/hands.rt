@@ -9,7 +9,7 @@ use std::marker::Model;
 /// A list of hands. Parts lie in the first alone. Contracts see the list.
 #[derive(Drop)]
 pub(crate) struct Hands<P> {
-    list: LinkedList<Hand<P>>,
+    pub(crate) list: LinkedList<Hand<P>>,
 }
 
 impl<P> Model for Hands<P> {
@@ -47,18 +47,6 @@ impl<P> Hands<P> {
     {
         match self.list.front() {
             Some(hand) => hand,
-            None => unreachable!(),
-        }
-    }
-
-    /// Exchanges the first hand.
-    pub(crate) fn exchange(&mut self, hand: Hand<P>) -> Hand<P>
-        requires { 0 < length self.old }
-        ensures was { self.old ≡ result ∷ drop 1 self.old }
-        ensures now { self.new ≡ hand ∷ drop 1 self.old }
-    {
-        match self.list.front_mut() {
-            Some(first) => std::mem::replace(first, hand),
             None => unreachable!(),
         }
     }
