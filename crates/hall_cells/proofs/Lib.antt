@@ -1,2 +1,3 @@
+pub mod Making
 pub mod Raising
 pub mod Taking

@@ -21,11 +21,11 @@ index_of_get (x ∷ xs) zero p e = cc
 index_of_get (x ∷ xs) (suc k) p e = index_of_get xs k p e
 
 -- the session 0 has no transaction, and another has it where the part 0 names it
-opened : (sh : ℕ) (s : List ℕ) (q : ℕ) → slice_index s 0 ≡ q → 0 < q → open_of sh s q ≡ Some q
+pub opened : (sh : ℕ) (s : List ℕ) (q : ℕ) → slice_index s 0 ≡ q → 0 < q → open_of sh s q ≡ Some q
 opened sh s zero e lt = absurd (omega (arith, lt))
 opened sh s (suc q) e lt = ap (λ b. cond b (Some (suc q)) None) (eq-eqb (slice_index s 0) (suc q) e)
 
-opened_is : (sh : ℕ) (s : List ℕ) (q : ℕ) → open_of sh s q ≡ Some q → slice_index s 0 ≡ q
+pub opened_is : (sh : ℕ) (s : List ℕ) (q : ℕ) → open_of sh s q ≡ Some q → slice_index s 0 ≡ q
 opened_is sh s zero e = absurd (cc)
 opened_is sh s (suc q) e = by_cases (slice_index s 0) (suc q) (slice_index s 0 ≡ suc q) (λ x. x)
     (λ ne. let f : None ≡ Some (suc q) = ap (λ b. cond b (Some (suc q)) None) (sym (ne_eqb (slice_index s 0) (suc q) ne)) ∙ e in absurd (cc))
@@ -33,6 +33,18 @@ opened_is sh s (suc q) e = by_cases (slice_index s 0) (suc q) (slice_index s 0 �
 closed : (sh : ℕ) (s : List ℕ) (q : ℕ) → slice_index s 0 ≢ q → open_of sh s q ≡ None
 closed sh s zero ne = refl
 closed sh s (suc q) ne = ap (λ b. cond b (Some (suc q)) None) (ne_eqb (slice_index s 0) (suc q) ne)
+
+-- who has an open transaction, or is none, may raise a mark
+pub opened_stands : (sh : ℕ) (s : List ℕ) (q p by : ℕ) → ((r : ℕ) → session_of (Raise q p by) ≡ Some r → open_of sh s r ≡ Some r) → Stands sh (Raise q p by) s
+opened_stands sh s zero p by open' = tt
+opened_stands sh s (suc q) p by open' = opened_is sh s (suc q) (open' (suc q) refl)
+
+-- a raised mark leaves each transaction as it was
+pub raise_leaves : (sh : ℕ) (s : List ℕ) (p x q : ℕ) → 0 < p → open_of sh (set s p x) q ≡ open_of sh s q
+raise_leaves sh s p x zero lt = refl
+raise_leaves sh s p x (suc q) lt =
+    let n : slice_index (set s p x) 0 ≡ slice_index s 0 = get_or-set_other s p 0 x 0 (λ e. absurd (omega (arith, e, lt))) in
+    ap (λ y. cond (eqb y (suc q)) (Some (suc q)) None) n
 
 pub rests : (sh : ℕ) (s : List ℕ) (q : ℕ) → IsOpening sh s → open_of sh s q ≡ None
 rests sh s zero o = refl

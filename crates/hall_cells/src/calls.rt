@@ -1,7 +1,9 @@
 //! What a session does with the marks of a hall.
-ghost use Rattle.std.specs.Prelude.{◌≡◌, ◌+◌, ◌*◌, ◌^◌, ◌<◌, ◌≤◌, ℕ, true, [], IfOk, length, vec_len};
-ghost use Rattle.hall_rule.specs.EventLog.{has};
-ghost use Rattle.hall_cells.specs.Marks.{IsEmpty, meaning_of};
+ghost use Rattle.std.specs.Prelude.{◌≡◌, ◌≢◌, ◌+◌, ◌*◌, ◌^◌, ◌<◌, ◌≤◌, ℕ, true, [], IfOk, IsTrue, MatchBool, MatchOption, Some, length, slice_index, vec_len};
+ghost use Rattle.hall_rule.specs.EventLog.{has, replay};
+ghost use Rattle.hall_cells.specs.Made.{MakesDeed, MakesNone};
+ghost use Rattle.hall_cells.specs.Marks.{IsEmpty, Stands, meaning_of, open_of, session_of};
+ghost use Rattle.hall_cells.specs.declared.deed.Deed.TheVariants.{Begin, Raise};
 ghost use Rattle.std.specs.Thread.{IsSync};
 ghost use Rattle.hall_rule.specs.HallInvariant.{hands_of};
 ghost use Rattle.hall_rule.specs.Hands.{Holds, SameRoom};
@@ -11,7 +13,6 @@ ghost use Rattle.hall_steps.specs.Hall.{IsPass, first_of};
 
 use crate::deed::Deed;
 use crate::marks::Marks;
-use crossbeam_utils::atomic::AtomicCell;
 use hall_rule::{Parts, Steps};
 use hall_steps::{Hall, Pass};
 use std::alloc::{AllocError, Global};
@@ -28,13 +29,16 @@ fn try_begin<L: Ledger>(
     steps: &mut Steps<L>,
 ) -> bool
     requires pass { IsPass (meaning ⟦<Marks as Parts>⟧ hall.now.0 hall.now.1) hall.now.2 pass.old.seat pass.old.hands }
-    requires shape { 0 < hall.now.3 }
+    requires shape { (hall.now.3 ≡ length (⟦<Marks as Parts>⟧.state_of hall.now.0)) × (0 < hall.now.3) }
     requires held { Holds (first_of pass.old.hands) 0 }
     requires session { (0 < session) × (has session pass.old.seat.me.0.sessions ≡ true) }
     requires few { length pass.old.seat.me.0.mine < 2 ^ 56 * hands_of pass.old.seat.me.0 }
     ensures pass { IsPass (meaning ⟦<Marks as Parts>⟧ hall.now.0 hall.now.1) hall.now.2 pass.new.seat pass.new.hands }
     ensures room { SameRoom (first_of pass.old.hands) (first_of pass.new.hands) }
     ensures sessions { pass.new.seat.me.0.sessions ≡ pass.old.seat.me.0.sessions }
+    ensures grows { length pass.new.seat.me.0.mine ≤ length pass.old.seat.me.0.mine + 1 }
+    ensures begun { MatchBool result (MakesDeed (meaning ⟦<Marks as Parts>⟧ hall.now.0 hall.now.1) (Begin session) (λ s. slice_index s 0 ≡ 0) pass.old.seat.me.0 pass.new.seat.me.0) (MakesNone (meaning ⟦<Marks as Parts>⟧ hall.now.0 hall.now.1) (λ s. slice_index s 0 ≢ 0) pass.old.seat.me.0 pass.new.seat.me.0) }
+    ensures opens { IsTrue result → open_of hall.now.3 (replay (meaning ⟦<Marks as Parts>⟧ hall.now.0 hall.now.1) pass.new.seat.me.0.log) session ≡ Some session }
 {
     if *pass.part(0) != 0 {
         return false;
@@ -59,6 +63,9 @@ pub fn begin<R: Wait, L: Ledger>(
     ensures pass { IsPass (meaning ⟦<Marks as Parts>⟧ hall.now.0 hall.now.1) hall.now.2 pass.new.seat pass.new.hands }
     ensures empty { IsEmpty (first_of pass.new.hands) }
     ensures sessions { pass.new.seat.me.0.sessions ≡ pass.old.seat.me.0.sessions }
+    ensures grows { length pass.new.seat.me.0.mine ≤ length pass.old.seat.me.0.mine + 1 }
+    ensures begun { MatchBool result (MakesDeed (meaning ⟦<Marks as Parts>⟧ hall.now.0 hall.now.1) (Begin session) (λ s. slice_index s 0 ≡ 0) pass.old.seat.me.0 pass.new.seat.me.0) (MakesNone (meaning ⟦<Marks as Parts>⟧ hall.now.0 hall.now.1) (λ s. slice_index s 0 ≢ 0) pass.old.seat.me.0 pass.new.seat.me.0) }
+    ensures opens { IsTrue result → open_of hall.now.3 (replay (meaning ⟦<Marks as Parts>⟧ hall.now.0 hall.now.1) pass.new.seat.me.0.log) session ≡ Some session }
 {
     hall.take(rt, pass, 0);
     let free = try_begin(hall, pass, session, steps);
@@ -66,15 +73,18 @@ pub fn begin<R: Wait, L: Ledger>(
     free
 }
 
-// Raises a mark, where it stays in range. The part is held.
+// Raises a mark, for a session or for none, where it stays in range. The part is held.
 fn try_raise<L: Ledger>(
     hall: &Hall<Marks>,
     pass: &mut Pass<Marks>,
+    session: u64,
     part: u32,
     by: u64,
     steps: &mut Steps<L>,
 ) -> Option<u64>
     requires pass { IsPass (meaning ⟦<Marks as Parts>⟧ hall.now.0 hall.now.1) hall.now.2 pass.old.seat pass.old.hands }
+    requires stands { Stands hall.now.3 (Raise session part by) (replay (meaning ⟦<Marks as Parts>⟧ hall.now.0 hall.now.1) pass.old.seat.me.0.log) }
+    requires named { (q : ℕ) → session_of (Raise session part by) ≡ Some q → has q pass.old.seat.me.0.sessions ≡ true }
     requires part { (0 < part) × (part < hall.now.3) }
     requires held { Holds (first_of pass.old.hands) part }
     requires few { length pass.old.seat.me.0.mine < 2 ^ 56 * hands_of pass.old.seat.me.0 }
@@ -82,19 +92,42 @@ fn try_raise<L: Ledger>(
     ensures room { SameRoom (first_of pass.old.hands) (first_of pass.new.hands) }
     ensures sessions { pass.new.seat.me.0.sessions ≡ pass.old.seat.me.0.sessions }
     ensures grows { length pass.new.seat.me.0.mine ≤ length pass.old.seat.me.0.mine + 1 }
+    ensures raised { MatchOption result (MakesNone (meaning ⟦<Marks as Parts>⟧ hall.now.0 hall.now.1) (λ s. 2 ^ 64 ≤ slice_index s part + by) pass.old.seat.me.0 pass.new.seat.me.0) (λ was. MakesDeed (meaning ⟦<Marks as Parts>⟧ hall.now.0 hall.now.1) (Raise session part by) (λ s. was ≡ slice_index s part) pass.old.seat.me.0 pass.new.seat.me.0) }
+    ensures opened { (q : ℕ) → has q pass.old.seat.me.0.sessions ≡ true → open_of hall.now.3 (replay (meaning ⟦<Marks as Parts>⟧ hall.now.0 hall.now.1) pass.new.seat.me.0.log) q ≡ open_of hall.now.3 (replay (meaning ⟦<Marks as Parts>⟧ hall.now.0 hall.now.1) pass.old.seat.me.0.log) q }
 {
     if *pass.part(part) > u64::MAX - by {
         return None;
     }
-    Some(hall.event(
-        pass,
-        Deed::Raise {
-            session: 0,
-            part,
-            by,
-        },
-        steps,
-    ))
+    Some(hall.event(pass, Deed::Raise { session, part, by }, steps))
+}
+
+// Raises a mark, for a session whose transaction is open or for none, where it stays in range.
+fn raise_for<R: Wait, L: Ledger>(
+    rt: &R,
+    hall: &Hall<Marks>,
+    pass: &mut Pass<Marks>,
+    session: u64,
+    part: u32,
+    by: u64,
+    steps: &mut Steps<L>,
+) -> Option<u64>
+    requires pass { IsPass (meaning ⟦<Marks as Parts>⟧ hall.now.0 hall.now.1) hall.now.2 pass.old.seat pass.old.hands }
+    requires shape { hall.now.3 ≡ length (⟦<Marks as Parts>⟧.state_of hall.now.0) }
+    requires part { (0 < part) × (part < hall.now.3) }
+    requires session { (q : ℕ) → session_of (Raise session part by) ≡ Some q → (has q pass.old.seat.me.0.sessions ≡ true) × (open_of hall.now.3 (replay (meaning ⟦<Marks as Parts>⟧ hall.now.0 hall.now.1) pass.old.seat.me.0.log) q ≡ Some q) }
+    requires empty { IsEmpty (first_of pass.old.hands) }
+    requires few { length pass.old.seat.me.0.mine < 2 ^ 56 * hands_of pass.old.seat.me.0 }
+    ensures pass { IsPass (meaning ⟦<Marks as Parts>⟧ hall.now.0 hall.now.1) hall.now.2 pass.new.seat pass.new.hands }
+    ensures empty { IsEmpty (first_of pass.new.hands) }
+    ensures sessions { pass.new.seat.me.0.sessions ≡ pass.old.seat.me.0.sessions }
+    ensures grows { length pass.new.seat.me.0.mine ≤ length pass.old.seat.me.0.mine + 1 }
+    ensures raised { MatchOption result (MakesNone (meaning ⟦<Marks as Parts>⟧ hall.now.0 hall.now.1) (λ s. 2 ^ 64 ≤ slice_index s part + by) pass.old.seat.me.0 pass.new.seat.me.0) (λ was. MakesDeed (meaning ⟦<Marks as Parts>⟧ hall.now.0 hall.now.1) (Raise session part by) (λ s. was ≡ slice_index s part) pass.old.seat.me.0 pass.new.seat.me.0) }
+    ensures opened { (q : ℕ) → has q pass.old.seat.me.0.sessions ≡ true → open_of hall.now.3 (replay (meaning ⟦<Marks as Parts>⟧ hall.now.0 hall.now.1) pass.new.seat.me.0.log) q ≡ open_of hall.now.3 (replay (meaning ⟦<Marks as Parts>⟧ hall.now.0 hall.now.1) pass.old.seat.me.0.log) q }
+{
+    hall.take(rt, pass, part);
+    let raised = try_raise(hall, pass, session, part, by, steps);
+    hall.give(pass, part);
+    raised
 }
 
 /// Raises a mark, for no session, where it stays in range. Answers the mark before.
@@ -115,11 +148,38 @@ pub fn raise<R: Wait, L: Ledger>(
     ensures empty { IsEmpty (first_of pass.new.hands) }
     ensures sessions { pass.new.seat.me.0.sessions ≡ pass.old.seat.me.0.sessions }
     ensures grows { length pass.new.seat.me.0.mine ≤ length pass.old.seat.me.0.mine + 1 }
+    ensures raised { MatchOption result (MakesNone (meaning ⟦<Marks as Parts>⟧ hall.now.0 hall.now.1) (λ s. 2 ^ 64 ≤ slice_index s part + by) pass.old.seat.me.0 pass.new.seat.me.0) (λ was. MakesDeed (meaning ⟦<Marks as Parts>⟧ hall.now.0 hall.now.1) (Raise 0 part by) (λ s. was ≡ slice_index s part) pass.old.seat.me.0 pass.new.seat.me.0) }
+    ensures opened { (q : ℕ) → has q pass.old.seat.me.0.sessions ≡ true → open_of hall.now.3 (replay (meaning ⟦<Marks as Parts>⟧ hall.now.0 hall.now.1) pass.new.seat.me.0.log) q ≡ open_of hall.now.3 (replay (meaning ⟦<Marks as Parts>⟧ hall.now.0 hall.now.1) pass.old.seat.me.0.log) q }
 {
-    hall.take(rt, pass, part);
-    let raised = try_raise(hall, pass, part, by, steps);
-    hall.give(pass, part);
-    raised
+    raise_for(rt, hall, pass, 0, part, by, steps)
+}
+
+/// Raises a mark as a part of a session's open transaction, where it stays in range. Answers the mark before.
+/// Whatever other passes did since the session began, its transaction is open.
+pub fn raise_within<R: Wait, L: Ledger>(
+    rt: &R,
+    hall: &Hall<Marks>,
+    pass: &mut Pass<Marks>,
+    session: u64,
+    part: u32,
+    by: u64,
+    steps: &mut Steps<L>,
+) -> Option<u64>
+    requires pass { IsPass (meaning ⟦<Marks as Parts>⟧ hall.now.0 hall.now.1) hall.now.2 pass.old.seat pass.old.hands }
+    requires shape { hall.now.3 ≡ length (⟦<Marks as Parts>⟧.state_of hall.now.0) }
+    requires part { (0 < part) × (part < hall.now.3) }
+    requires session { has session pass.old.seat.me.0.sessions ≡ true }
+    requires opened { open_of hall.now.3 (replay (meaning ⟦<Marks as Parts>⟧ hall.now.0 hall.now.1) pass.old.seat.me.0.log) session ≡ Some session }
+    requires empty { IsEmpty (first_of pass.old.hands) }
+    requires few { length pass.old.seat.me.0.mine < 2 ^ 56 * hands_of pass.old.seat.me.0 }
+    ensures pass { IsPass (meaning ⟦<Marks as Parts>⟧ hall.now.0 hall.now.1) hall.now.2 pass.new.seat pass.new.hands }
+    ensures empty { IsEmpty (first_of pass.new.hands) }
+    ensures sessions { pass.new.seat.me.0.sessions ≡ pass.old.seat.me.0.sessions }
+    ensures grows { length pass.new.seat.me.0.mine ≤ length pass.old.seat.me.0.mine + 1 }
+    ensures raised { MatchOption result (MakesNone (meaning ⟦<Marks as Parts>⟧ hall.now.0 hall.now.1) (λ s. 2 ^ 64 ≤ slice_index s part + by) pass.old.seat.me.0 pass.new.seat.me.0) (λ was. MakesDeed (meaning ⟦<Marks as Parts>⟧ hall.now.0 hall.now.1) (Raise session part by) (λ s. was ≡ slice_index s part) pass.old.seat.me.0 pass.new.seat.me.0) }
+    ensures opened { open_of hall.now.3 (replay (meaning ⟦<Marks as Parts>⟧ hall.now.0 hall.now.1) pass.new.seat.me.0.log) session ≡ Some session }
+{
+    raise_for(rt, hall, pass, session, part, by, steps)
 }
 
 /// Raises a mark by 1, so many times.
@@ -218,104 +278,4 @@ pub fn open(
 {
     let (hall, pass) = Hall::build(alloc, Marks::new(alloc, parts)?, passes)?;
     Ok((hall, pass))
-}
-
-/// What two threads raise a mark to, by 1 so many times each.
-pub fn raised_by_two<R: Threads + Wait + Sync>(
-    rt: &R,
-    alloc: Global,
-    times: u32,
-) -> Result<u64, AllocError> {
-    let (hall, mut pass) = open(alloc, 3, 2)?;
-    let mut other = hall.split(&mut pass);
-    raise_both(rt, &hall, &mut pass, &mut other, 1, times);
-    hall.join(&mut pass, other);
-    let closed = hall.close(pass);
-    Ok(*closed.part(1))
-}
-
-// Takes the part 1 and holds it until the flag is set, for at most 2^28 turns. Says whether it was.
-fn hold<R: Wait>(
-    rt: &R,
-    hall: &Hall<Marks>,
-    pass: &mut Pass<Marks>,
-    flag: &AtomicCell<bool>,
-) -> bool
-    requires pass { IsPass (meaning ⟦<Marks as Parts>⟧ hall.now.0 hall.now.1) hall.now.2 pass.old.seat pass.old.hands }
-    requires shape { hall.now.3 ≡ length (⟦<Marks as Parts>⟧.state_of hall.now.0) }
-    requires part { 1 < hall.now.3 }
-    requires empty { IsEmpty (first_of pass.old.hands) }
-    requires hand { 0 < hands_of pass.old.seat.me.0 }
-{
-    hall.take(rt, pass, 1);
-    let seen = wait_for(flag);
-    hall.give(pass, 1);
-    seen
-}
-
-// Whether the flag is set within 2^28 turns.
-fn wait_for(flag: &AtomicCell<bool>) -> bool {
-    for _ in 0..1u32 << 28 {
-        if flag.load() {
-            return true;
-        }
-    }
-    false
-}
-
-// Raises the part 2, and sets the flag.
-fn raise_and_tell<R: Wait>(
-    rt: &R,
-    hall: &Hall<Marks>,
-    pass: &mut Pass<Marks>,
-    flag: &AtomicCell<bool>,
-)
-    requires pass { IsPass (meaning ⟦<Marks as Parts>⟧ hall.now.0 hall.now.1) hall.now.2 pass.old.seat pass.old.hands }
-    requires shape { hall.now.3 ≡ length (⟦<Marks as Parts>⟧.state_of hall.now.0) }
-    requires part { 2 < hall.now.3 }
-    requires empty { IsEmpty (first_of pass.old.hands) }
-    requires few { length pass.old.seat.me.0.mine + 1 < 2 ^ 56 * hands_of pass.old.seat.me.0 }
-{
-    raise_all(rt, hall, pass, 2, 1);
-    flag.store(true);
-}
-
-/// Whether one pass makes an event on a part while another holds a second part.
-pub fn raised_while_held<R: Threads + Wait + Sync>(
-    rt: &R,
-    alloc: Global,
-) -> Result<bool, AllocError> {
-    let (hall, mut pass) = open(alloc, 3, 2)?;
-    let mut other = hall.split(&mut pass);
-    let flag = AtomicCell::new(false);
-    let (seen, _) = both_sides(rt, &hall, &mut pass, &mut other, &flag);
-    Ok(seen)
-}
-
-fn both_sides<R: Threads + Wait + Sync>(
-    rt: &R,
-    hall: &Hall<Marks>,
-    one: &mut Pass<Marks>,
-    two: &mut Pass<Marks>,
-    flag: &AtomicCell<bool>,
-) -> (bool, ())
-    requires pass_one { IsPass (meaning ⟦<Marks as Parts>⟧ hall.now.0 hall.now.1) hall.now.2 one.old.seat one.old.hands }
-    requires pass_two { IsPass (meaning ⟦<Marks as Parts>⟧ hall.now.0 hall.now.1) hall.now.2 two.old.seat two.old.hands }
-    requires shape { (hall.now.3 ≡ length (⟦<Marks as Parts>⟧.state_of hall.now.0)) × (2 < hall.now.3) }
-    requires empty_one { IsEmpty (first_of one.old.hands) }
-    requires empty_two { IsEmpty (first_of two.old.hands) }
-    requires hand_one { 0 < hands_of one.old.seat.me.0 }
-    requires few_two { length two.old.seat.me.0.mine + 1 < 2 ^ 56 * hands_of two.old.seat.me.0 }
-{
-    join_mut(
-        rt,
-        &mut || -> bool
-            requires { IsSync R.row × IsPass (meaning_of (vec_len hall.now.0.marks) hall.now.0.marks.items hall.now.1) hall.now.2 one.now.seat one.now.hands × (hall.now.3 ≡ length hall.now.0.marks.items) × (2 < hall.now.3) × (IsEmpty (first_of one.now.hands)) × (0 < hands_of one.now.seat.me.0) }
-        { hold(rt, hall, one, flag) },
-        &mut || -> ()
-            requires { IsSync R.row × IsPass (meaning_of (vec_len hall.now.0.marks) hall.now.0.marks.items hall.now.1) hall.now.2 two.now.seat two.now.hands × (hall.now.3 ≡ length hall.now.0.marks.items) × (2 < hall.now.3) × (IsEmpty (first_of two.now.hands)) × (length two.now.seat.me.0.mine + 1 < 2 ^ 56 * hands_of two.now.seat.me.0) }
-        {
-            raise_and_tell(rt, hall, two, flag);
-        },
-    )
 }

@@ -1,5 +1,38 @@
-use super::*;
+mod scenarios;
+
+use scenarios::{Turn, marks_after, raised_by_two, raised_while_held};
 use std::test::Fail;
+
+struct Case {
+    turns: [Turn; 3],
+    marks: [u64; 3],
+}
+
+// The mark 0 is the session that began, and the mark 2 counts the other pass's raises. A raise that would pass
+// 2^64 - 1 is not made.
+const CASES: [Case; 3] = [
+    Case {
+        turns: [(0, Some(0)), (5, Some(0)), (7, Some(5))],
+        marks: [1, 12, 3],
+    },
+    Case {
+        turns: [(u64::MAX, Some(0)), (1, None), (0, Some(u64::MAX))],
+        marks: [1, u64::MAX, 3],
+    },
+    Case {
+        turns: [(u64::MAX - 1, Some(0)), (2, None), (1, Some(u64::MAX - 1))],
+        marks: [1, u64::MAX, 3],
+    },
+];
+
+// Each call with ample memory, one after another: a note, a split, joins, begins, raises and the end.
+#[test]
+fn one_pass_begins_and_raises_in_turn(rt: HostRuntime) -> Result<(), Fail> {
+    for case in &CASES {
+        assert!(rt; marks_after(&rt, rt.alloc(), &case.turns)? == Some(case.marks));
+    }
+    Ok(())
+}
 
 // Two threads raise one mark, and the parts at the end are what both made.
 #[test]

@@ -1,7 +1,7 @@
 use Rattle.std.proofs.Common.{arith}
 use Rattle.hall_steps.specs.Hall.{first_of}
 use Rattle.hall_cells.proofs.Taking.{first_room, took_holds}
-use Rattle.hall_cells.proofs.calls.hold.Goals as goal
+use Rattle.hall_cells.proofs.tests.scenarios.hold.Goals as goal
 
 pub take-requires-clause-above : goal.take-requires-clause-above
 take-requires-clause-above g c κs within = λ k h. absurd (c.requires.empty.none k h)

@@ -1,7 +1,7 @@
 use Rattle.std.proofs.Common.{ℕ, List, Option, sym, subst, arith}
 use Rattle.hall_rule.specs.Hands.{Holds}
 use Rattle.hall_cells.proofs.Taking.{all_held}
-use Rattle.hall_cells.proofs.calls.raised_by_two.Goals as goal
+use Rattle.hall_cells.proofs.tests.scenarios.raised_by_two.Goals as goal
 
 pub close-closed-requires-clause-empty : goal.close-closed-requires-clause-empty
 close-closed-requires-clause-empty g c κs = λ k h. c.raise_both.ensures.empty_one.none k (c.join.ensures.only k h)
