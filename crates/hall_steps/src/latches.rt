@@ -26,26 +26,6 @@ fn try_latch<C: Parts>(board: &Board<C>, seat: &mut Place<C>, part: u32) -> bool
     latch_as::<C, Brand>(board, seat, part) == 0
 }
 
-// How often a latch is looked at before its waiter sleeps: most parts are given back sooner than a sleep ends.
-const LOOKS: u32 = 100;
-
-// Tries the latch of a part each time that it is seen free, for a number of looks.
-fn try_again<C: Parts>(board: &Board<C>, seat: &mut Place<C>, part: u32) -> bool
-    requires at { IsAt (meaning C.Parts board.now.key.core.value board.now.key.passes) board.now.table_id seat.old part }
-    requires none_out { seat.old.me.1 ≡ [] }
-    requires away { stage seat.old.me.0 part ≡ 0 }
-    requires hand { hands_of seat.old.me.0 ≢ 0 }
-    ensures seat { IsSameSeat seat.old seat.new }
-    ensures taken { seat.new.me ≡ (cond result (staged seat.old.me.0 part 1) seat.old.me.0, []) }
-{
-    for _ in 0..LOOKS {
-        if board.peek(part as usize + 1) == 0 && try_latch(board, seat, part) {
-            return true;
-        }
-    }
-    false
-}
-
 // Sleeps until the latch of a part is taken.
 fn wait_latch<C: Parts, R: Wait>(rt: &R, board: &Board<C>, seat: &mut Place<C>, part: u32)
     requires at { IsAt (meaning C.Parts board.now.key.core.value board.now.key.passes) board.now.table_id seat.old part }
@@ -64,8 +44,8 @@ fn wait_latch<C: Parts, R: Wait>(rt: &R, board: &Board<C>, seat: &mut Place<C>, 
     unreachable!()
 }
 
-// Takes the latch of a part. Who has to sleep for it is counted from before a last try, so that who gives the
-// part back after that try sees the count.
+// Takes the latch of a part. Who has to wait for it is counted from before its first try, so that who gives
+// the part back after that try sees the count.
 fn latch<C: Parts, R: Wait>(
     rt: &R,
     board: &Board<C>,
@@ -81,7 +61,7 @@ fn latch<C: Parts, R: Wait>(
     ensures seat { IsSameSeat seat.old seat.new }
     ensures taken { seat.new.me ≡ (staged seat.old.me.0 part 1, []) }
 {
-    if try_latch(board, seat, part) || try_again(board, seat, part) {
+    if try_latch(board, seat, part) {
         return;
     }
     waiting[part as usize].fetch_add(1, Ordering::SeqCst);
