@@ -32,7 +32,7 @@ use Rattle.workload_spec.specs.declared.reply.Said.TheVariants as said
 use Rattle.outcome_laws.specs.Alone.{Alone, committed_state}
 use Rattle.mainline.specs.declared.store.Store.{Store}
 use Rattle.mainline.specs.Stands.{Stands, end_at, ends_from}
-use Rattle.mainline.specs.Sent.{Serves, SendsRows, SendsFront, IsTable}
+use Rattle.mainline.specs.Sent.{ServesCommand, SendsRows, SendsFront, IsTable}
 use Rattle.mainline.proofs.Ends.{commits_counted, end_of_all}
 use Rattle.mainline.proofs.Begins.{history_counted, is_closed}
 use Rattle.mainline.proofs.Replies.{answer_without, answer_within}
@@ -80,7 +80,7 @@ own_rows tables store alone stands number opened =
 
 -- an export without a transaction
 pub unopened : (tables : List TableDecl) (store : Store) (alone : Alone) (before : Option (List ℕ))
-    → Stands tables store alone → store.snapshot ≡ None → Serves tables alone (command.Export 0) said.NoTransaction store before before
+    → Stands tables store alone → store.snapshot ≡ None → ServesCommand tables alone (command.Export 0) said.NoTransaction store before before
 unopened tables store alone before stands closed = record {
   answers = record {
     answer = answer_without tables alone (command.Export 0) said.NoTransaction (is_closed tables store alone stands closed) refl;
@@ -96,7 +96,7 @@ unopened tables store alone before stands closed = record {
 pub dirty : (tables : List TableDecl) (store : Store) (alone : Alone) (before : Option (List ℕ)) (number : ℕ) (key : ℤ)
     → (stands : Stands tables store alone) → store.snapshot ≡ Some number
     → least_of (drop (end_at store.ends.items number) store.rows.items) ≡ Some key → is_integer_of kind.I64 key ≡ true
-    → Serves tables alone (command.Export 0) (said.Dirty key) store before before
+    → ServesCommand tables alone (command.Export 0) (said.Dirty key) store before before
 dirty tables store alone before number key stands opened least range = record {
   answers = record {
     answer = answer_within tables alone (writes_of 0 stands.own) (command.Export 0) (said.Dirty key) (opened_own tables store alone stands number opened)
@@ -129,7 +129,7 @@ pub exported : (table : TableDecl) (store : Store) (alone : Alone) (before now :
     → least_of (drop (end_at store.ends.items number) store.rows.items) ≡ None
     → SendsRows table.schema table.slots table.blocks seen before now batches
     → number < 2 ^ 64 → length seen < 2 ^ 64 → batches < 2 ^ 32
-    → Serves (table ∷ []) alone (command.Export 0) (said.Exported number (length seen) batches 0) store before now
+    → ServesCommand (table ∷ []) alone (command.Export 0) (said.Exported number (length seen) batches 0) store before now
 exported table store alone before now number batches seen stands opened seen_is clean sends number_bound rows_bound batches_bound =
     let tables : List TableDecl = table ∷ [] in
     let rows : seen ≡ all_rows stands.groups = seen_is ∙ seen_rows tables store alone stands number opened in
@@ -141,8 +141,8 @@ exported table store alone before now number batches seen stands opened seen_is 
           record {
             number_is = snapshot_is tables store alone stands number opened ∙ sym (history_counted tables store alone stands);
             rows_are = counted;
-            least = sends.fewest;
-            most = sends.most;
+            least = sends.rows_bound;
+            most = sends.room;
             blocks = sends.blocks_bound;
             hot = refl;
             number_bound = number_bound;
@@ -171,7 +171,7 @@ pub export_refused : (table : TableDecl) (store : Store) (alone : Alone) (before
     → (stands : Stands (table ∷ []) store alone) → store.snapshot ≡ Some number
     → seen ≡ take (end_at store.ends.items number) store.rows.items
     → SendsFront table.schema seen before now
-    → Serves (table ∷ []) alone (command.Export 0) said.Memory store before now
+    → ServesCommand (table ∷ []) alone (command.Export 0) said.Memory store before now
 export_refused table store alone before now number seen stands opened seen_is sends =
     let tables : List TableDecl = table ∷ [] in
     let rows : seen ≡ all_rows stands.groups = seen_is ∙ seen_rows tables store alone stands number opened in
@@ -255,11 +255,11 @@ part_is part whole rows cut at place split placed same =
 pub dirty_key : (table : TableDecl) (store : Store) (alone : Alone) (before : Option (List ℕ)) (number : ℕ) (key : ℤ) → IsTable table
     → (stands : Stands (table ∷ []) store alone) → store.snapshot ≡ Some number
     → least_of (drop (end_at store.ends.items number) store.rows.items) ≡ Some key → FitsSigned w128 key
-    → Serves (table ∷ []) alone (command.Export 0) (said.Dirty (to_z w64 (of_z w64 (to_z w128 (of_z w128 key))))) store before before
+    → ServesCommand (table ∷ []) alone (command.Export 0) (said.Dirty (to_z w64 (of_z w64 (to_z w128 (of_z w128 key))))) store before before
 dirty_key table store alone before number key is_table stands opened least wide =
     let range = least_ranged table store alone number key is_table stands opened least in
     let small = fits_signed key range in
     let same : to_z w64 (of_z w64 (to_z w128 (of_z w128 key))) ≡ key =
     ap (λ (k : ℤ). to_z w64 (of_z w64 k)) (to_z-of_z w128 key wide) ∙ to_z-of_z w64 key small in
-    subst (λ (k : ℤ). Serves (table ∷ []) alone (command.Export 0) (said.Dirty k) store before before) (sym same)
+    subst (λ (k : ℤ). ServesCommand (table ∷ []) alone (command.Export 0) (said.Dirty k) store before before) (sym same)
     (dirty (table ∷ []) store alone before number key stands opened least range)

@@ -21,7 +21,7 @@ use Rattle.mainline.specs.declared.store.Store.{Store}
 use Rattle.workload_spec.specs.Valid.{is_command}
 use Rattle.workload_spec.specs.Supported.{is_supported_command}
 use Rattle.mainline.specs.Stands.{Stands, Answers}
-use Rattle.mainline.specs.Sent.{SendsAt, SendsAll, Serves, RunsRound, StopsRound, runs_today}
+use Rattle.mainline.specs.Sent.{SendsAt, SendsAll, ServesCommand, RunsRound, StopsRound, runs_today}
 
 -- one more command is answered
 served-push : (tables : List TableDecl) (alone : Alone) (commands : List Command) (saids : List Said) (asked : Command) (told : Said)
@@ -124,7 +124,7 @@ printed-push tables text saids told printed =
 
 -- a command that is no export is served where it is answered
 pub serves_quietly : (tables : List TableDecl) (alone : Alone) (asked : Command) (told : Said) (store : Store) (before : Option (List ℕ))
-    → Answers tables alone asked told store → is_export asked ≡ false → Serves tables alone asked told store before before
+    → Answers tables alone asked told store → is_export asked ≡ false → ServesCommand tables alone asked told store before before
 serves_quietly tables alone asked told store before answers other = record {
   answers = answers;
   bytes = [];
@@ -150,7 +150,7 @@ says_all tables commands saids asked told before own false is served says quiet 
 -- one more command is served
 running_serves : (tables : List TableDecl) (commands : List Command) (asked : Command) (told : Said) (store after : Store) (text new_text : List ℕ) (index : ℕ) (before now later : Option (List ℕ))
     → (running : Running tables commands store text index before now)
-    → Serves tables (after_all opening commands running.saids) asked told after now later
+    → ServesCommand tables (after_all opening commands running.saids) asked told after now later
     → (is_export asked ≡ true → list_any is_export commands ≡ false)
     → new_text ≡ text ++ reply_text tables (reply_of (index + 1) told)
     → Running tables (commands ++ asked ∷ []) after new_text (index + 1) before later
@@ -269,7 +269,7 @@ turn_runs tables table round front line behind turn =
 pub turn_serves : (tables : List TableDecl) (table : TableDecl) (round front : List Line) (line : Line) (behind : List Line) (told : Said) (store after : Store) (text new_text : List ℕ) (index : ℕ) (before now later : Option (List ℕ))
     → Turn tables table round front line behind
     → Running tables (map (λ (line : Line). line.command) front) store text index before now
-    → ((alone : Alone) → Stands (table ∷ []) store alone → Serves (table ∷ []) alone line.command told after now later)
+    → ((alone : Alone) → Stands (table ∷ []) store alone → ServesCommand (table ∷ []) alone line.command told after now later)
     → new_text ≡ text ++ reply_text tables (reply_of (index + 1) told)
     → Running tables (map (λ (line : Line). line.command) (front ++ line ∷ [])) after new_text (index + 1) before later
 turn_serves tables table round front line behind told store after text new_text index before now later turn running serves grown =
@@ -278,8 +278,8 @@ turn_serves tables table round front line behind told store after text new_text 
     let once : is_export line.command ≡ true → list_any is_export commands ≡ false = λ is.
     any_command front
     ∙ none_before (λ (line : Line). is_export line.command) front line behind (subst (λ (lines : List Line). count_by (λ (line : Line). is_export line.command) lines ≤ 1) (sym turn.split) turn.once) is in
-    let served : Serves tables alone line.command told after now later =
-    subst (λ (ts : List TableDecl). Serves ts alone line.command told after now later) (sym turn.tables_are)
+    let served : ServesCommand tables alone line.command told after now later =
+    subst (λ (ts : List TableDecl). ServesCommand ts alone line.command told after now later) (sym turn.tables_are)
     (serves alone (subst (λ (ts : List TableDecl). Stands ts store alone) turn.tables_are running.stands)) in
     subst (λ (asked : List Command). Running tables asked after new_text (index + 1) before later) (sym (commands-push front line))
     (running_serves tables commands line.command told store after text new_text index before now later running served once grown)
@@ -288,7 +288,7 @@ turn_serves tables table round front line behind told store after text new_text 
 pub turn_stops : (tables : List TableDecl) (table : TableDecl) (round front : List Line) (line : Line) (behind : List Line) (told : Said) (store after : Store) (text : List ℕ) (index : ℕ) (before now later : Option (List ℕ))
     → Turn tables table round front line behind
     → Running tables (map (λ (line : Line). line.command) front) store text index before now
-    → ((alone : Alone) → Stands (table ∷ []) store alone → Serves (table ∷ []) alone line.command told after now later)
+    → ((alone : Alone) → Stands (table ∷ []) store alone → ServesCommand (table ∷ []) alone line.command told after now later)
     → StopsRound tables round before later
 turn_stops tables table round front line behind told store after text index before now later turn running serves =
     let more : List ℕ = text ++ reply_text tables (reply_of (index + 1) told) in

@@ -1,5 +1,5 @@
 -- What a workload that runs today is made of, and what its run shows.
-use Rattle.std.proofs.Common.{◌≡◌, ℕ, true, ◌+◌, ◌*◌, ◌^◌, ◌/◌, ◌%◌, ◌≤◌, ◌==◌, min, Option, None, Some, unwrap_or, List, [], ◌∷◌, ◌++◌, length, count_by, refl, ap, sym, ◌∙◌, subst, arith, nat_le, nat_lt, is_none, option_to_list, Err}
+use Rattle.std.proofs.Common.{◌≡◌, ℕ, true, ◌+◌, ◌*◌, ◌^◌, ◌/◌, ◌%◌, ◌<◌, ◌≤◌, ◌==◌, min, Option, None, Some, unwrap_or, List, [], ◌∷◌, ◌++◌, length, count_by, refl, ap, sym, ◌∙◌, subst, arith, nat_le, nat_lt, is_none, option_to_list, Err}
 use Rattle.std.specs.List.{list_all, flat_map}
 use Rattle.std.specs.Io.KnownBytes.{Consumes, IsAtEnd}
 use Rattle.std.proofs.lemmas.Bool.{and_parts, and_from, leb-true}
@@ -196,12 +196,12 @@ workload_spelled bytes script workload = record {
 
 -- bytes that are read as no workload of today are refused
 pub refused_is : (Prints : Option (List ℕ) → Option (List ℕ) → List ℕ → Type 0) (bytes read : List ℕ) (told : Fault) (left_old left_new printed_old printed_new exported : Option (List ℕ)) (started : Option (List (List ℕ)))
-    → read ≡ bytes → Consumes left_old left_new bytes → IsAtEnd left_new
+    → read ≡ bytes → Consumes left_old left_new bytes → IsAtEnd left_new → length bytes < 2 ^ 32
     → ((script : Script) → Spells read script → ⊥) → supported_of read ≡ Err told → Prints printed_old printed_new (refused_text told)
     → IsRefused Prints (outside left_old printed_old exported started) (outside left_new printed_new exported started)
-refused_is Prints bytes read told left_old left_new printed_old printed_new exported started same consumes ended none first printed = record {
+refused_is Prints bytes read told left_old left_new printed_old printed_new exported started same consumes ended short none first printed = record {
   bytes = bytes;
-  input = record { read = consumes; ended = ended };
+  input = record { read = consumes; ended = ended; short = short };
   none = λ script workload. none script (subst (λ (bs : List ℕ). Spells bs script) (sym same) (workload_spelled bytes script workload));
   fault = told;
   first = ap supported_of (sym same) ∙ first;

@@ -122,8 +122,8 @@ sending_ends columns slots blocks rows before now after batches rest sending don
       sent = Appends-trans before now after (pieces_of columns sending.groups) end_word sending.sent sent;
       grouped = record { whole = all; filled = sending.filled };
       count = sending.count;
-      fewest = omega (arith, sending.fewest, ap length all);
-      most = omega (arith, sending.most, ap length all);
+      rows_bound = omega (arith, sending.fewest, ap length all);
+      room = omega (arith, sending.most, ap length all);
       blocks_bound = (let less : batches < blocks + 1 = lt_of_mul-lt-mul_right slots bound in omega arith);
     }
 

@@ -1,5 +1,5 @@
 -- The run of a workload that stopped: that of a workload of its first lines.
-use Rattle.std.proofs.Common.{◌≡◌, ◌⊎◌, ℕ, Bool, true, ◌+◌, ◌≤◌, ◌==◌, nat_le, nat_lt, cond, Option, List, [], ◌++◌, map, length, count_by, refl, ap, sym, ◌∙◌, subst, arith}
+use Rattle.std.proofs.Common.{◌≡◌, ℕ, Bool, true, ◌+◌, ◌≤◌, ◌==◌, nat_le, nat_lt, cond, Option, List, [], ◌++◌, map, length, count_by, refl, ap, sym, ◌∙◌, subst, arith}
 use Rattle.std.specs.List.{list_all}
 use Rattle.std.proofs.lemmas.Bool.{and_parts, and_from, leb-true, le-leb}
 use Rattle.std.proofs.lemmas.List.{append-nil}
@@ -12,7 +12,7 @@ use Rattle.workload_spec.specs.declared.script.Line.{Line}
 use Rattle.workload_spec.specs.declared.script.Script.{Script}
 use Rattle.outcome_laws.specs.Laws.{commands_in}
 use Rattle.outcome_laws.proofs.ReadScripts.{parts_of_four, parts_of_seven}
-use Rattle.mainline.specs.Outcome.{StopsRun, Withholds, outside, started_by, with_lines}
+use Rattle.mainline.specs.Outcome.{StopsRun, PrintsNothing, outside, started_by, with_lines}
 use Rattle.mainline.specs.Sent.{RunsRound, StopsRound}
 use Rattle.mainline.proofs.Scripts.{Parts, run_is}
 
@@ -65,7 +65,7 @@ stops_whole script round tables before between now written tables_are stops =
 pub run_stops : (path : List ℕ) (script : Script) (parts : Parts script) (round : List Line) (left_old left_new printed exported_old exported_new : Option (List ℕ)) (started_old started_new : Option (List (List ℕ)))
     → is_valid script ≡ true → is_supported script ≡ true → round ≡ parts.round
     → StopsRound script.tables round exported_old exported_new
-    → (started_new ≡ started_old) ⊎ (started_new ≡ started_by path script started_old)
+    → started_new ≡ started_by path script started_old
     → StopsRun path script (outside left_old printed exported_old started_old) (outside left_new printed exported_new started_new)
 run_stops path script parts round left_old left_new printed exported_old exported_new started_old started_new valid supported same stops started =
     let first : all_lines script ≡ stops.lines ++ stops.rest = parts.lines_are ∙ sym same ∙ stops.first in
@@ -74,7 +74,7 @@ run_stops path script parts round left_old left_new printed exported_old exporte
       lines = stops.lines;
       rest = stops.rest;
       first = first;
-      run = run_is Withholds (with_lines stops.lines script) stops.text left_old left_new printed printed exported_old exported_new started_old started_new
+      run = run_is PrintsNothing (with_lines stops.lines script) stops.text left_old left_new printed printed exported_old exported_new started_old started_new
           (first_valid script stops.lines stops.rest first valid) (first_supported script stops.lines stops.rest first supported)
           (subst (λ (lines : List Line). RunsRound script.tables (map (λ (line : Line). line.command) lines) stops.text exported_old exported_new) (sym own) stops.runs)
           refl;

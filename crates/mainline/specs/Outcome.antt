@@ -1,5 +1,5 @@
 -- What a run of the program reads, prints and sends, as its status says.
-use Rattle.std.specs.Prelude.{◌≡◌, ◌⊎◌, ℕ, true, false, List, [], ◌∷◌, ◌++◌, Option, None, Some, option_map, Err, IsSome, if◌then◌else◌}
+use Rattle.std.specs.Prelude.{◌≡◌, ◌<◌, ◌^◌, ◌⊎◌, ℕ, Bool, length, true, false, List, [], ◌∷◌, ◌++◌, Option, None, Some, option_map, Err, IsSome, if◌then◌else◌}
 use Rattle.std.specs.List.{list_any}
 use Rattle.std.specs.Io.KnownBytes.{Appends, Consumes, IsAtEnd}
 use Rattle.byte_ports.specs.Calls.{AppendsFront}
@@ -26,7 +26,7 @@ use Rattle.script_text.specs.declared.fault.ScriptFault.TheVariants as fault
 use Rattle.mainline.specs.declared.status.Status.{Status}
 use Rattle.mainline.specs.declared.status.Status.TheVariants as status
 
--- Bytes of a front of the canonical stream of the table's rows at the snapshot of the reply's transaction.
+-- The bytes are a front of a canonical stream of the table's rows at the snapshot of the reply's transaction.
 pub record IsFrontAt (run : Run) (entry : Entry) (table : ℕ) (bytes : List ℕ) : Type 0 where
   pub transaction : Transaction
   pub within : transaction_of run entry ≡ Some transaction
@@ -64,22 +64,28 @@ pub record IsWorkload (bytes : List ℕ) (script : Script) : Type 0 where
   pub valid : is_valid script ≡ true
   pub supported : is_supported script ≡ true
 
--- The bytes were read, to the end of the input.
+-- The bytes were read, to the end of the input, and are fewer than 2^32.
 pub record IsRead (bytes : List ℕ) (before now : Outside) : Type 0 where
   pub read : Consumes before.left now.left bytes
   pub ended : IsAtEnd now.left
+  pub short : length bytes < 2 ^ 32
+
+-- a line of the workload exports a table
+abbrev pub has_export : Script → Bool
+has_export script = list_any (λ line. is_export line.command) (all_lines script)
 
 -- the names with which an outlet was started, after a run with this path: once, where the workload has an export
 abbrev pub started_by : List ℕ → Script → Option (List (List ℕ)) → Option (List (List ℕ))
 started_by path script names =
-    if list_any (λ line. is_export line.command) (all_lines script) then option_map (λ before. before ++ path ∷ []) names else names
+    if has_export script then option_map (λ before. before ++ path ∷ []) names else names
 
 -- How a text that was due is printed: whole (`Appends`), only a front of it where the output failed (`AppendsFront`), or
 -- not at all.
-abbrev pub Withholds : Option (List ℕ) → Option (List ℕ) → List ℕ → Type 0
-Withholds before now text = now ≡ before
+abbrev pub PrintsNothing : Option (List ℕ) → Option (List ℕ) → List ℕ → Type 0
+PrintsNothing before now text = now ≡ before
 
--- A workload was run: the output that was due is explained by snapshot isolation, and what was sent is as its replies say.
+-- A workload was run: its output is explained by snapshot isolation, and is printed as `Prints` says; what was sent is as
+-- the output's replies say.
 pub record IsRun (Prints : Option (List ℕ) → Option (List ℕ) → List ℕ → Type 0) (script : Script) (before now : Outside) : Type 0 where
   pub output : List ℕ
   pub printed : Prints before.printed now.printed output
@@ -87,7 +93,7 @@ pub record IsRun (Prints : Option (List ℕ) → Option (List ℕ) → List ℕ 
   pub sent : List ℕ
   pub exported : Appends before.exported now.exported sent
   pub says : EachSays (run_in script output) sent (run_in script output).entries
-  pub quiet : list_any (λ line. is_export line.command) (all_lines script) ≡ false → sent ≡ []
+  pub quiet : has_export script ≡ false → sent ≡ []
 
 -- The input is a workload, and it was run.
 pub record IsDone (Prints : Option (List ℕ) → Option (List ℕ) → List ℕ → Type 0) (path : List ℕ) (before now : Outside) : Type 0 where
@@ -102,14 +108,14 @@ pub record IsDone (Prints : Option (List ℕ) → Option (List ℕ) → List ℕ
 abbrev pub with_lines : List Line → Script → Script
 with_lines lines script = record script { rounds = lines ∷ [] }
 
--- A run of the workload stopped before anything was printed: of its lines these first ones were run, as a workload of
--- their own. An export at which it stopped counts as answered `memory`, so what was sent is a front of its stream.
+-- A run of the workload stopped before anything was printed: these first lines of it were run, as a workload of their
+-- own. An export at which it stopped counts as answered `memory`, so what was sent is a front of its stream.
 pub record StopsRun (path : List ℕ) (script : Script) (before now : Outside) : Type 0 where
   pub lines : List Line
   pub rest : List Line
   pub first : all_lines script ≡ lines ++ rest
-  pub run : IsRun Withholds (with_lines lines script) before now
-  pub started : (now.started ≡ before.started) ⊎ (now.started ≡ started_by path script before.started)
+  pub run : IsRun PrintsNothing (with_lines lines script) before now
+  pub started : now.started ≡ started_by path script before.started
 
 -- The input is a workload, whose run stopped.
 pub record IsStopped (path : List ℕ) (before now : Outside) : Type 0 where
@@ -136,7 +142,7 @@ pub record AsksExport (before now : Outside) : Type 0 where
   pub input : IsRead bytes before now
   pub script : Script
   pub workload : IsWorkload bytes script
-  pub asked : list_any (λ line. is_export line.command) (all_lines script) ≡ true
+  pub asked : has_export script ≡ true
 
 -- Nothing was printed or sent, and the outlet was not started.
 pub record IsSilent (before now : Outside) : Type 0 where
@@ -157,7 +163,7 @@ abbrev pub IsCutOff : Option (List ℕ) → Outside → Outside → Type 0
 IsCutOff None before now = IsUsage AppendsFront before now
 IsCutOff (Some path) before now = IsRefused AppendsFront before now ⊎ IsDone AppendsFront path before now
 
--- the run ended so, and then the fact holds
+-- Where the run ended with this status, the fact holds.
 abbrev pub OnDone : Status → Type 0 → Type 0
 OnDone status.Done fact = fact
 OnDone _ fact = Unit {0}
@@ -190,7 +196,7 @@ abbrev pub OnTooLong : Status → Type 0 → Type 0
 OnTooLong status.TooLong fact = fact
 OnTooLong _ fact = Unit {0}
 
--- the statuses with which the run of a workload ends, a refusal, and the line of usage
+-- The run of a workload ends with one of these.
 abbrev pub EndsRun : Status → Type 0
 EndsRun status.Done = Unit {0}
 EndsRun status.OutFault = Unit {0}
@@ -198,26 +204,28 @@ EndsRun status.ExportFault = Unit {0}
 EndsRun status.Memory = Unit {0}
 EndsRun _ = ⊥
 
+-- A refusal ends with one of these.
 abbrev pub EndsRefusal : Status → Type 0
 EndsRefusal status.Refused = Unit {0}
 EndsRefusal status.OutFault = Unit {0}
 EndsRefusal status.Memory = Unit {0}
 EndsRefusal _ = ⊥
 
+-- The line of usage ends with one of these.
 abbrev pub EndsUsage : Status → Type 0
 EndsUsage status.Usage = Unit {0}
 EndsUsage status.OutFault = Unit {0}
 EndsUsage _ = ⊥
 
 -- Whether the words ask for an export's path: with the status Usage they do not; with OutFault they may or may not,
--- since the line of usage may have failed; with any other they do. No run ends as one that shows a stream.
+-- since the line of usage may have failed; with any other they do. No run ends with NotAStream.
 abbrev pub WordsAsk : Option (List ℕ) → Status → Type 0
 WordsAsk path status.Usage = path ≡ None
 WordsAsk path status.OutFault = Unit {0}
 WordsAsk path status.NotAStream = ⊥
 WordsAsk path _ = IsSome path
 
--- The line of a refusal is printed: where the fault is a bad line, that and its cause.
+-- The line of a refusal is printed: the bad line and its cause. Want of memory is told by no line.
 abbrev pub TellsFault : (Option (List ℕ) → Option (List ℕ) → List ℕ → Type 0) → ScriptFault → Option (List ℕ) → Option (List ℕ) → Type 0
 TellsFault Prints (fault.Bad line cause) before now = Prints before now (refused_text (record { line = line; cause = cause }))
 TellsFault Prints (fault.Memory refused) before now = ⊥

@@ -31,15 +31,15 @@ pub record IsGrouped (rows : List (List Cell)) (groups : List (List (List Cell))
   pub whole : all_rows groups ≡ rows
   pub filled : All (λ (group : List (List Cell)). 0 < length group) groups
 
--- The bytes are the canonical stream of the rows in so many groups, none of them empty: blocks of so many slots, one for
--- each group, have room for the rows.
+-- The bytes are the canonical stream of the rows, in order, in so many batches: none is empty, as many blocks have room
+-- for the rows, and there are no more of them than the table has.
 pub record SendsRows (columns : List Column) (slots blocks : ℕ) (rows : List (List Cell)) (before now : Option (List ℕ)) (batches : ℕ) : Type 0 where
   pub groups : List (List (List Cell))
   pub sent : Appends before now (stream_of columns groups)
   pub grouped : IsGrouped rows groups
   pub count : length groups ≡ batches
-  pub fewest : batches ≤ length rows
-  pub most : length rows ≤ batches * slots
+  pub rows_bound : batches ≤ length rows
+  pub room : length rows ≤ batches * slots
   pub blocks_bound : batches ≤ blocks
 
 -- The bytes are a front of a canonical stream of the rows in groups.
@@ -94,8 +94,9 @@ SendsAll tables alone (asked ∷ commands) [] bytes = Unit {0}
 SendsAll tables alone (asked ∷ commands) (told ∷ saids) bytes =
     SendsAt tables alone asked told bytes × SendsAll tables (after_answer alone asked told) commands saids bytes
 
--- The store serves a command: it is answered, and sends what its answer says; none but an export sends anything.
-pub record Serves (tables : List TableDecl) (alone : Alone) (asked : Command) (told : Said) (store : Store) (before now : Option (List ℕ)) : Type 0 where
+-- The store answers a command as a session alone may be told, and what was sent is as the answer says; none but an
+-- export sends anything.
+pub record ServesCommand (tables : List TableDecl) (alone : Alone) (asked : Command) (told : Said) (store : Store) (before now : Option (List ℕ)) : Type 0 where
   pub answers : Answers tables alone asked told store
   pub bytes : List ℕ
   pub sent : Appends before now bytes

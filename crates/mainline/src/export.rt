@@ -6,7 +6,7 @@ ghost use Rattle.byte_ports.specs.Calls.{Rose};
 ghost use Rattle.outcome_laws.specs.Alone.{Alone};
 ghost use Rattle.workload_spec.specs.declared.command.Command.TheVariants as command;
 ghost use Rattle.mainline.specs.Stands.{IsStore, Stands};
-ghost use Rattle.mainline.specs.Sent.{SendsRows, FailsToSend, IsTable, Serves};
+ghost use Rattle.mainline.specs.Sent.{SendsRows, FailsToSend, IsTable, ServesCommand};
 
 use crate::store::{Store, key_of};
 use byte_ports::{Failed, Outlet, Sink};
@@ -28,10 +28,10 @@ pub fn export_table<X: Outlet>(
     requires table { IsTable table.now }
     requires store { IsStore (table.now ∷ []) store.now }
     ensures ok { IfOk result (λ told. (alone : Alone) → Stands (table.now ∷ []) store.now alone
-        → Serves (table.now ∷ []) alone (command.Export 0) told store.now (X.written outlet.old) (X.written outlet.new)) }
+        → ServesCommand (table.now ∷ []) alone (command.Export 0) told store.now (X.written outlet.old) (X.written outlet.new)) }
     ensures err { OnErr result (Rose (X.faults outlet.old) (X.faults outlet.new)) }
     ensures front { OnErr result ((alone : Alone) → Stands (table.now ∷ []) store.now alone
-        → Serves (table.now ∷ []) alone (command.Export 0) Said.Memory store.now (X.written outlet.old) (X.written outlet.new)) }
+        → ServesCommand (table.now ∷ []) alone (command.Export 0) Said.Memory store.now (X.written outlet.old) (X.written outlet.new)) }
     ensures started { X.started outlet.new ≡ X.started outlet.old }
     ensures counted { X.faults outlet.old ≤ X.faults outlet.new }
 {

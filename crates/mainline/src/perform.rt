@@ -3,10 +3,10 @@ ghost use Rattle.std.specs.Prelude.{◌≡◌, ◌⊎◌, ◌≤◌, ◌^◌, �
 ghost use Rattle.std.specs.List.{list_any};
 ghost use Rattle.std.specs.Io.KnownBytes.{Appends};
 ghost use Rattle.byte_ports.specs.Calls.{AppendsFront, Rose, ConsumesAtLeast};
-ghost use Rattle.workload_spec.specs.Valid.{is_valid, is_export, all_lines};
+ghost use Rattle.workload_spec.specs.Valid.{is_valid, is_export};
 ghost use Rattle.workload_spec.specs.Supported.{is_supported};
 ghost use Rattle.mainline.specs.Words.{export_path, usage_line};
-ghost use Rattle.mainline.specs.Outcome.{IsDone, IsRun, IsUsage, IsRefused, IsSilent, IsCutOff, IsStopped, StopsRun, AsksExport, WordsAsk, OnDone, OnUsage, OnRefused, OnReadFault, OnOutFault, OnExportFault, OnMemory, OnTooLong, TellsFault, EndsRun, EndsRefusal, EndsUsage, outside, started_by};
+ghost use Rattle.mainline.specs.Outcome.{IsDone, IsRun, IsUsage, IsRefused, IsSilent, IsCutOff, IsStopped, StopsRun, AsksExport, WordsAsk, OnDone, OnUsage, OnRefused, OnReadFault, OnOutFault, OnExportFault, OnMemory, OnTooLong, TellsFault, EndsRun, EndsRefusal, EndsUsage, has_export, outside, started_by};
 
 use crate::fault::RunFault;
 use crate::round::run_round;
@@ -68,9 +68,12 @@ pub fn perform<R: Wait + Threads + Sync, S: Source, O: Sink, X: Outlet + Send, G
     ensures cut_off { OnOutFault result (IsCutOff (export_path (map string_bytes words.items))
         (outside (S.left source.old) (O.written out.old) (X.written export.old) (X.started export.old))
         (outside (S.left source.new) (O.written out.new) (X.written export.new) (X.started export.new))) }
-    ensures stopped { OnExportFault result ((path : List ℕ) × (export_path (map string_bytes words.items) ≡ Some path) × IsStopped path
+    ensures stopped { OnExportFault result (IsSilent
         (outside (S.left source.old) (O.written out.old) (X.written export.old) (X.started export.old))
-        (outside (S.left source.new) (O.written out.new) (X.written export.new) (X.started export.new))) }
+        (outside (S.left source.new) (O.written out.new) (X.written export.new) (X.started export.new))
+        ⊎ ((path : List ℕ) × (export_path (map string_bytes words.items) ≡ Some path) × IsStopped path
+        (outside (S.left source.old) (O.written out.old) (X.written export.old) (X.started export.old))
+        (outside (S.left source.new) (O.written out.new) (X.written export.new) (X.started export.new)))) }
     ensures memory { OnMemory result (IsSilent
         (outside (S.left source.old) (O.written out.old) (X.written export.old) (X.started export.old))
         (outside (S.left source.new) (O.written out.new) (X.written export.new) (X.started export.new))
@@ -152,7 +155,10 @@ fn run_script<R: Wait + Threads + Sync, O: Sink, X: Outlet, G: Gate>(
         (outside left_old (O.written out.old) (X.written export.old) (X.started export.old))
         (outside left_new (O.written out.new) (X.written export.new) (X.started export.new))
         × (X.started export.new ≡ started_by path.now script (X.started export.old))) }
-    ensures stopped { (left_old left_new : Option (List ℕ)) → OnExportFault result (StopsRun path.now script
+    ensures stopped { (left_old left_new : Option (List ℕ)) → OnExportFault result (IsSilent
+        (outside left_old (O.written out.old) (X.written export.old) (X.started export.old))
+        (outside left_new (O.written out.new) (X.written export.new) (X.started export.new))
+        ⊎ StopsRun path.now script
         (outside left_old (O.written out.old) (X.written export.old) (X.started export.old))
         (outside left_new (O.written out.new) (X.written export.new) (X.started export.new))) }
     ensures memory { (left_old left_new : Option (List ℕ)) → OnMemory result (StopsRun path.now script
@@ -160,7 +166,7 @@ fn run_script<R: Wait + Threads + Sync, O: Sink, X: Outlet, G: Gate>(
         (outside left_new (O.written out.new) (X.written export.new) (X.started export.new))) }
     ensures out_fault { OnOutFault result (Rose (O.faults out.old) (O.faults out.new)) }
     ensures export_fault { OnExportFault result (Rose (X.faults export.old) (X.faults export.new)) }
-    ensures export_asked { OnExportFault result (list_any (λ line. is_export line.command) (all_lines script) ≡ true) }
+    ensures export_asked { OnExportFault result (has_export script ≡ true) }
 {
     let Script {
         version: _,

@@ -6,7 +6,7 @@ ghost use Rattle.std.specs.List.{list_all, list_any};
 ghost use Rattle.byte_ports.specs.Calls.{Rose};
 ghost use Rattle.cell_model.specs.declared.table.TableDecl.{TableDecl as Table};
 ghost use Rattle.workload_spec.specs.Valid.{is_export};
-ghost use Rattle.mainline.specs.Sent.{IsTable, RunsRound, Serves, StopsRound, runs_today};
+ghost use Rattle.mainline.specs.Sent.{IsTable, RunsRound, ServesCommand, StopsRound, runs_today};
 ghost use Rattle.mainline.specs.Stands.{IsStore, Stands};
 
 use crate::export::export_table;
@@ -79,9 +79,9 @@ fn answer<X: Outlet>(
     requires store { IsStore (table.now ∷ []) store.old }
     requires command { runs_today (table.now ∷ []) command ≡ true }
     ensures ok { IfOk result (λ told. (alone : Alone) → Stands (table.now ∷ []) store.old alone
-        → Serves (table.now ∷ []) alone command told store.new (X.written outlet.old) (X.written outlet.new)) }
+        → ServesCommand (table.now ∷ []) alone command told store.new (X.written outlet.old) (X.written outlet.new)) }
     ensures front { OnErr result ((alone : Alone) → Stands (table.now ∷ []) store.old alone
-        → Serves (table.now ∷ []) alone command Said.Memory store.new (X.written outlet.old) (X.written outlet.new)) }
+        → ServesCommand (table.now ∷ []) alone command Said.Memory store.new (X.written outlet.old) (X.written outlet.new)) }
     ensures err { OnErr result (Rose (X.faults outlet.old) (X.faults outlet.new)) }
     ensures asked { OnErr result (is_export command ≡ true) }
     ensures started { X.started outlet.new ≡ X.started outlet.old }

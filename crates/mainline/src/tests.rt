@@ -1,7 +1,9 @@
 //! Whole runs: what the words and the input give.
+ghost use Rattle.std.specs.Prelude.{None, refl};
+
 use crate::perform::perform;
 use crate::status::Status;
-use byte_ports::{Gate, ListOutlet, ListSink, ListSource, OpenGate};
+use byte_ports::{Failed, Gate, ListOutlet, ListSink, ListSource, OpenGate, Outlet, Sink};
 use std::alloc::{AllocError, Global};
 use std::process::Abort;
 use std::sync::Wait;
@@ -168,7 +170,7 @@ struct Fault {
     exported: usize,
 }
 
-const FAULTS: [Fault; 11] = [
+const FAULTS: [Fault; 14] = [
     Fault {
         words: &["mainline", "walk"],
         commands: EXPORT,
@@ -189,6 +191,33 @@ const FAULTS: [Fault; 11] = [
     },
     Fault {
         words: &["mainline", "run", "--export", ""],
+        commands: EXPORT,
+        failing: NOTHING_FAILS,
+        status: Status::Usage,
+        printed: USAGE,
+        started: 0,
+        exported: 0,
+    },
+    Fault {
+        words: &["mainline", "run"],
+        commands: EXPORT,
+        failing: NOTHING_FAILS,
+        status: Status::Usage,
+        printed: USAGE,
+        started: 0,
+        exported: 0,
+    },
+    Fault {
+        words: &["mainline", "run", "--export", "e", "e"],
+        commands: EXPORT,
+        failing: NOTHING_FAILS,
+        status: Status::Usage,
+        printed: USAGE,
+        started: 0,
+        exported: 0,
+    },
+    Fault {
+        words: &[],
         commands: EXPORT,
         failing: NOTHING_FAILS,
         status: Status::Usage,
@@ -392,6 +421,9 @@ fn faults_are_told(rt: HostRuntime) -> Result<(), Fail> {
         assert_eq!(rt; ended.status, fault.status, "case {at}");
         assert_eq!(rt; ended.out.written(), fault.printed.as_bytes(), "case {at}");
         assert_eq!(rt; ended.outlet.started().len(), fault.started, "case {at}");
+        for name in ended.outlet.started() {
+            assert_eq!(rt; name.as_str(), "e", "case {at}");
+        }
         assert_eq!(rt; ended.outlet.written().len(), fault.exported, "case {at}");
     }
     Ok(())
@@ -407,22 +439,34 @@ fn blocks_are_batches(rt: HostRuntime) -> Result<(), Fail> {
     assert_eq!(rt; ended.status, Status::Done);
     let printed = ended.out.written();
     assert!(rt; printed.ends_with(b"1 1 13 export 1 rows 9 batches 2 frozen 0\n"));
-    // 160 of schema, 152 and 8 rows, 152 and 1 row, 8 of the end word.
-    assert_eq!(rt;
-        ended.outlet.written().len(),
-        160 + (152 + 64) + (152 + 8) + 8
-    );
+    // 160 of the schema, 152 and 8 rows, 152 and 1 row, 8 of the end word; the keys in the order of their inserts.
+    let sent = ended.outlet.written();
+    assert_eq!(rt; sent.len(), 160 + (152 + 64) + (152 + 8) + 8);
+    for (key, place) in [
+        (9, 312),
+        (8, 320),
+        (7, 328),
+        (6, 336),
+        (5, 344),
+        (4, 352),
+        (3, 360),
+        (2, 368),
+        (1, 528),
+    ] {
+        assert_eq!(rt; sent.get(place), Some(&key), "at {place}");
+    }
+    assert_eq!(rt; sent.get(376), Some(&0xff));
     assert_eq!(rt; ended.outlet.started().len(), 1);
     Ok(())
 }
 
 // Holds the index of the last pass while session 1 passes with 1, 2 and so on.
 #[derive(Drop)]
-struct CountingGate {
-    passed: AtomicU32,
+struct CountingGate<'a> {
+    passed: &'a AtomicU32,
 }
 
-impl Gate for CountingGate {
+impl<'a> Gate for CountingGate<'a> {
     fn pass<R: Wait>(&self, _rt: &R, session: u32, index: u32) {
         let next = self.passed.load(Ordering::Relaxed).wrapping_add(1);
         let in_order = session == 1 && index == next;
@@ -431,20 +475,59 @@ impl Gate for CountingGate {
     }
 }
 
+// An outlet that notes how often the gate was passed when it is started, and when it is first written to.
+#[derive(Drop)]
+struct WatchingOutlet<'a> {
+    passed: &'a AtomicU32,
+    at_start: Option<u32>,
+    at_write: Option<u32>,
+}
+
+impl<'a> Sink for WatchingOutlet<'a> {
+    ghost written = { λ _. None };
+
+    ghost faults = { λ _. 0 };
+
+    fn write(&mut self, piece: &[u8]) -> Result<usize, Failed> {
+        if self.at_write.is_none() {
+            self.at_write = Some(self.passed.load(Ordering::Relaxed));
+        }
+        Ok(piece.len())
+    }
+}
+
+impl<'a> Outlet for WatchingOutlet<'a> {
+    fn start(&mut self, _name: &str) -> Result<(), Failed> {
+        self.at_start = Some(self.passed.load(Ordering::Relaxed));
+        Ok(())
+    }
+
+    ghost names_told = { λ _. refl };
+}
+
+// The outlet is started before the first command, and the export is the seventh.
 #[test]
 fn the_gate_is_passed_before_each_command(rt: HostRuntime) -> Result<(), Fail> {
     let alloc = rt.alloc();
-    let input = workload(alloc, "1 begin\n1 insert b 1\n1 get b 1\n1 commit\n")?;
+    let input = workload(
+        alloc,
+        "1 begin\n1 insert b 1\n1 get b 1\n1 get b 2\n1 commit\n1 begin\n1 export b\n1 commit\n",
+    )?;
     let mut source = ListSource::new(alloc, input.as_bytes(), &[])?;
     let mut out = ListSink::new(alloc, &[])?;
-    let mut outlet = ListOutlet::new(alloc, &[])?;
-    let words = owned(alloc, &RUN)?;
-    let gate = CountingGate {
-        passed: AtomicU32::new(0),
+    let passed = AtomicU32::new(0);
+    let mut outlet = WatchingOutlet {
+        passed: &passed,
+        at_start: None,
+        at_write: None,
     };
+    let words = owned(alloc, &RUN)?;
+    let gate = CountingGate { passed: &passed };
     let status = perform(&rt, alloc, words, &mut source, &mut out, &mut outlet, &gate);
     assert_eq!(rt; status, Status::Done);
-    assert_eq!(rt; gate.passed.load(Ordering::Relaxed), 4);
+    assert_eq!(rt; outlet.at_start, Some(0));
+    assert_eq!(rt; outlet.at_write, Some(7));
+    assert_eq!(rt; passed.load(Ordering::Relaxed), 8);
     Ok(())
 }
 

@@ -1,4 +1,4 @@
-use Rattle.std.proofs.Common.{◌≡◌, Option, Some, ap, sym, ◌∙◌, subst, option_map, map, string_bytes, List, ℕ, inl, inr}
+use Rattle.std.proofs.Common.{◌≡◌, Option, Some, ap, sym, ◌∙◌, subst, option_map, map, string_bytes, List, ℕ, inl, inr, ⊎_elim, arith}
 use Rattle.std.specs.Io.KnownBytes.{Appends}
 use Rattle.byte_ports.specs.Calls.{AppendsFront}
 use Rattle.workload_spec.specs.declared.script.Script.{Script}
@@ -17,7 +17,7 @@ returns-in-Ok-parsed-clause-done g c =
       ap (λ words. export_path (map string_bytes words)) (sym c.deref.ensures.value) ∙ sym c.export_path.ensures ∙ ap (option_map (λ path. path.now)) c.in-Some.is,
       record {
         bytes = c.in-Ok.bytes.items;
-        input = record { read = c.in-Ok.ensures.bytes; ended = c.in-Ok.ensures.end };
+        input = record { read = c.in-Ok.ensures.bytes; ended = c.in-Ok.ensures.end; short = omega (arith, c.in-Ok.ensures.short, c.in-Ok.bytes.ok.0) };
         script = c.in-Ok-parsed.script;
         workload = spelled_workload c.in-Ok.bytes.items c.in-Ok-parsed.script
             (subst (λ (bytes : List ℕ). Spells bytes c.in-Ok-parsed.script) c.deref-2.ensures.value c.in-Ok-parsed.ensures.ok);
@@ -36,7 +36,7 @@ returns-in-Ok-parsed-clause-cut_off g c =
     on_out_fault c.run_script.result
     (λ run. subst (λ (path : Option (List ℕ)). IsCutOff path before now) (sym asked) (inr (record {
       bytes = c.in-Ok.bytes.items;
-      input = record { read = c.in-Ok.ensures.bytes; ended = c.in-Ok.ensures.end };
+      input = record { read = c.in-Ok.ensures.bytes; ended = c.in-Ok.ensures.end; short = omega (arith, c.in-Ok.ensures.short, c.in-Ok.bytes.ok.0) };
       script = c.in-Ok-parsed.script;
       workload = spelled_workload c.in-Ok.bytes.items c.in-Ok-parsed.script
           (subst (λ (bytes : List ℕ). Spells bytes c.in-Ok-parsed.script) c.deref-2.ensures.value c.in-Ok-parsed.ensures.ok);
@@ -48,18 +48,18 @@ returns-in-Ok-parsed-clause-cut_off g c =
 pub returns-in-Ok-parsed-clause-stopped : goal.returns-in-Ok-parsed-clause-stopped
 returns-in-Ok-parsed-clause-stopped g c =
     on_export_fault c.run_script.result
-    (λ stop. (
+    (⊎_elim (λ silent. inl silent) (λ stop. inr (
       c.in-Some.path.now,
       ap (λ words. export_path (map string_bytes words)) (sym c.deref.ensures.value) ∙ sym c.export_path.ensures ∙ ap (option_map (λ path. path.now)) c.in-Some.is,
       record {
         bytes = c.in-Ok.bytes.items;
-        input = record { read = c.in-Ok.ensures.bytes; ended = c.in-Ok.ensures.end };
+        input = record { read = c.in-Ok.ensures.bytes; ended = c.in-Ok.ensures.end; short = omega (arith, c.in-Ok.ensures.short, c.in-Ok.bytes.ok.0) };
         script = c.in-Ok-parsed.script;
         workload = spelled_workload c.in-Ok.bytes.items c.in-Ok-parsed.script
             (subst (λ (bytes : List ℕ). Spells bytes c.in-Ok-parsed.script) c.deref-2.ensures.value c.in-Ok-parsed.ensures.ok);
         stop = stop;
       },
-    ))
+    )))
     (c.run_script.ensures.stopped _ _)
 
 pub returns-in-Ok-parsed-clause-memory : goal.returns-in-Ok-parsed-clause-memory
@@ -70,7 +70,7 @@ returns-in-Ok-parsed-clause-memory g c =
       ap (λ words. export_path (map string_bytes words)) (sym c.deref.ensures.value) ∙ sym c.export_path.ensures ∙ ap (option_map (λ path. path.now)) c.in-Some.is,
       record {
         bytes = c.in-Ok.bytes.items;
-        input = record { read = c.in-Ok.ensures.bytes; ended = c.in-Ok.ensures.end };
+        input = record { read = c.in-Ok.ensures.bytes; ended = c.in-Ok.ensures.end; short = omega (arith, c.in-Ok.ensures.short, c.in-Ok.bytes.ok.0) };
         script = c.in-Ok-parsed.script;
         workload = spelled_workload c.in-Ok.bytes.items c.in-Ok-parsed.script
             (subst (λ (bytes : List ℕ). Spells bytes c.in-Ok-parsed.script) c.deref-2.ensures.value c.in-Ok-parsed.ensures.ok);
@@ -84,7 +84,7 @@ returns-in-Ok-parsed-clause-export_asked g c =
     on_export_fault c.run_script.result
     (λ asked. record {
       bytes = c.in-Ok.bytes.items;
-      input = record { read = c.in-Ok.ensures.bytes; ended = c.in-Ok.ensures.end };
+      input = record { read = c.in-Ok.ensures.bytes; ended = c.in-Ok.ensures.end; short = omega (arith, c.in-Ok.ensures.short, c.in-Ok.bytes.ok.0) };
       script = c.in-Ok-parsed.script;
       workload = spelled_workload c.in-Ok.bytes.items c.in-Ok-parsed.script
           (subst (λ (bytes : List ℕ). Spells bytes c.in-Ok-parsed.script) c.deref-2.ensures.value c.in-Ok-parsed.ensures.ok);
@@ -98,7 +98,7 @@ returns-clause-refused g c =
     (λ told.
     let fault = told_fault Appends Script c.in-Err.fault ((script : Script) → Spells c.deref-2.result.now script → ⊥) c.deref-2.result.now _ _
     c.in-Err.ensures.bad c.in-Err.ensures.exact told in
-    refused_is Appends c.in-Ok.bytes.items c.deref-2.result.now fault.1.0 _ _ _ _ _ _ c.deref-2.ensures.value c.in-Ok.ensures.bytes c.in-Ok.ensures.end fault.0 fault.1.1.0 fault.1.1.1)
+    refused_is Appends c.in-Ok.bytes.items c.deref-2.result.now fault.1.0 _ _ _ _ _ _ c.deref-2.ensures.value c.in-Ok.ensures.bytes c.in-Ok.ensures.end (omega (arith, c.in-Ok.ensures.short, c.in-Ok.bytes.ok.0)) fault.0 fault.1.1.0 fault.1.1.1)
     c.refuse.ensures.refused
 
 pub returns-clause-cut_off : goal.returns-clause-cut_off
@@ -112,5 +112,5 @@ returns-clause-cut_off g c =
     let fault = told_fault AppendsFront Script c.in-Err.fault ((script : Script) → Spells c.deref-2.result.now script → ⊥) c.deref-2.result.now _ _
     c.in-Err.ensures.bad c.in-Err.ensures.exact told in
     subst (λ (path : Option (List ℕ)). IsCutOff path before now) (sym asked)
-    (inl (refused_is AppendsFront c.in-Ok.bytes.items c.deref-2.result.now fault.1.0 before.left now.left before.printed now.printed before.exported before.started c.deref-2.ensures.value c.in-Ok.ensures.bytes c.in-Ok.ensures.end fault.0 fault.1.1.0 fault.1.1.1)))
+    (inl (refused_is AppendsFront c.in-Ok.bytes.items c.deref-2.result.now fault.1.0 before.left now.left before.printed now.printed before.exported before.started c.deref-2.ensures.value c.in-Ok.ensures.bytes c.in-Ok.ensures.end (omega (arith, c.in-Ok.ensures.short, c.in-Ok.bytes.ok.0)) fault.0 fault.1.1.0 fault.1.1.1)))
     c.refuse.ensures.cut_off

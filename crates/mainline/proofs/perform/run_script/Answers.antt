@@ -1,4 +1,4 @@
-use Rattle.std.proofs.Common.{◌≡◌, ◌≤◌, true, ap, sym, ◌∙◌, subst, List, [], ◌∷◌, ◌++◌, count_by, option_map, if◌then◌else◌, inl, inr}
+use Rattle.std.proofs.Common.{◌≡◌, ◌≤◌, true, ap, sym, ◌∙◌, subst, List, [], ◌∷◌, ◌++◌, count_by, option_map, if◌then◌else◌, inl, inr, refl}
 use Rattle.std.specs.List.{list_all, list_any}
 use Rattle.std.specs.Io.KnownBytes.{Appends}
 use Rattle.cell_model.specs.declared.table.TableDecl.{TableDecl}
@@ -7,7 +7,6 @@ use Rattle.workload_spec.specs.declared.script.Line.{Line}
 use Rattle.byte_ports.specs.Calls.{AppendsFront}
 use Rattle.mainline.specs.Sent.{runs_today}
 use Rattle.mainline.proofs.Scripts.{parts_of_script, run_is, popped_round}
-use Rattle.mainline.proofs.Running.{stops_at_once}
 use Rattle.mainline.proofs.Stopped.{run_stops, runs_whole, stops_whole}
 use Rattle.mainline.proofs.perform.run_script.Goals as goal
 
@@ -60,9 +59,9 @@ pub returns-in-Err-Export-clause-stopped : goal.returns-in-Err-Export-clause-sto
 returns-in-Err-Export-clause-stopped g c = λ left_old left_new.
     let parts = parts_of_script c.args.script c.requires.valid c.requires.supported in
     let round = popped_round c.args.script parts c.into_vec.result.items c.pop.new.self.items c.pop.result c.in-Some.round c.into_vec.ensures c.pop.ensures.items c.in-Some.is in
-    run_stops c.args.path.now c.args.script parts c.in-Some.round left_old left_new _ _ _ _ _ c.requires.valid c.requires.supported round
+    inr (run_stops c.args.path.now c.args.script parts c.in-Some.round left_old left_new _ _ _ _ _ c.requires.valid c.requires.supported round
     (stops_whole c.args.script c.in-Some.round c.as_slice.result.now _ _ _ c.start_export.ensures.written c.as_slice.ensures c.in-Err-Export.ensures.stopped)
-    (inr (c.run_round.ensures.started ∙ c.in_default-start_export.ensures.started
+    (c.run_round.ensures.started ∙ c.in_default-start_export.ensures.started
     ∙ ap (λ (lines : List Line). if list_any (λ (line : Line). is_export line.command) lines then option_map (λ names. names ++ c.args.path.now ∷ []) (g.X.Sink.started c.args.export.now) else g.X.Sink.started c.args.export.now) (round ∙ sym parts.lines_are)))
 
 pub returns-clause-memory : goal.returns-clause-memory
@@ -71,12 +70,8 @@ returns-clause-memory g c = λ left_old left_new.
     let round = popped_round c.args.script parts c.into_vec.result.items c.pop.new.self.items c.pop.result c.in-Some.round c.into_vec.ensures c.pop.ensures.items c.in-Some.is in
     run_stops c.args.path.now c.args.script parts c.in-Some.round left_old left_new _ _ _ _ _ c.requires.valid c.requires.supported round
     (stops_whole c.args.script c.in-Some.round c.as_slice.result.now _ _ _ c.start_export.ensures.written c.as_slice.ensures c.in-Err-Memory.ensures.stopped)
-    (inr (c.run_round.ensures.started ∙ c.in_default-start_export.ensures.started
-    ∙ ap (λ (lines : List Line). if list_any (λ (line : Line). is_export line.command) lines then option_map (λ names. names ++ c.args.path.now ∷ []) (g.X.Sink.started c.args.export.now) else g.X.Sink.started c.args.export.now) (round ∙ sym parts.lines_are)))
+    (c.run_round.ensures.started ∙ c.in_default-start_export.ensures.started
+    ∙ ap (λ (lines : List Line). if list_any (λ (line : Line). is_export line.command) lines then option_map (λ names. names ++ c.args.path.now ∷ []) (g.X.Sink.started c.args.export.now) else g.X.Sink.started c.args.export.now) (round ∙ sym parts.lines_are))
 
 pub returns-in-Err-clause-stopped : goal.returns-in-Err-clause-stopped
-returns-in-Err-clause-stopped g c = λ left_old left_new.
-    let parts = parts_of_script c.args.script c.requires.valid c.requires.supported in
-    let round = popped_round c.args.script parts c.into_vec.result.items c.pop.new.self.items c.pop.result c.in-Some.round c.into_vec.ensures c.pop.ensures.items c.in-Some.is in
-    run_stops c.args.path.now c.args.script parts c.in-Some.round left_old left_new _ _ _ _ _ c.requires.valid c.requires.supported round
-    (stops_at_once c.args.script.tables c.in-Some.round _ _ c.start_export.ensures.written) (inl c.in-Err.ensures.kept)
+returns-in-Err-clause-stopped g c = λ left_old left_new. inl (record { printed = refl; exported = c.start_export.ensures.written; started = c.in-Err.ensures.kept })
