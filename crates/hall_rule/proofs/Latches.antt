@@ -264,7 +264,7 @@ module _ {P E T F : Type 0} (M : Meaning P E T F) (laws : Laws M) where
           (refl, refl),
         )
 
-    pub draws : stage v k ≡ 2 → v.out ≡ 0 → Allows (Rule M) slots id (v, []) 0 (λ n. n) (Draws M v k)
+    pub draws : stage v k ≡ 2 → v.out ≡ 0 → Allows (Rule M) slots id (v, []) (suc k) (λ n. n) (Draws M v k)
     draws two none_out s held deep at fits =
         let log = held.0 in
         let kept = held.2 in
@@ -275,7 +275,7 @@ module _ {P E T F : Type 0} (M : Meaning P E T F) (laws : Laws M) where
           (
             log,
             held.1,
-            subst (λ (ws : List ℕ). HallInvariant M log held.1 record { words = ws; homes = set s.homes k h; views = set s.views id (drawn v k) }) (sym (unset s.words 0))
+            subst (λ (ws : List ℕ). HallInvariant M log held.1 record { words = ws; homes = set s.homes k h; views = set s.views id (drawn v k) }) (sym (unset s.words (suc k)))
                 (stirred M laws log held.1 held.1.part s s.words (set s.homes k h) id v (drawn v k) kept at live
                 (shifting log held.1 s h (drawn v k) kept at two (refl, refl, refl, live, refl, refl, refl, refl, refl)
                 (λ i first away.

@@ -77,7 +77,7 @@ fn learn<C: Parts>(board: &Board<C>, seat: &mut Place<C>, part: u32)
     ensures seat { IsSameSeat seat.old seat.new }
     ensures learned { (n : ℕ) × Loads (meaning C.Parts board.now.key.core.value board.now.key.passes) seat.old.id seat.old.me.0 part n seat.new.me }
 {
-    load_as::<C, Brand>(board, seat, part);
+    load_as::<C, Brand>(board, seat, 0, part);
 }
 
 // Gives the empty slot of a part home.
@@ -88,10 +88,11 @@ fn put_back<C: Parts>(board: &Board<C>, seat: &mut Place<C>, part: u32)
     ensures seat { IsSameSeat seat.old seat.new }
     ensures home { seat.new.me ≡ (homed seat.old.me.0, []) }
 {
-    load_as::<C, Brand>(board, seat, part);
+    load_as::<C, Brand>(board, seat, 0, part);
 }
 
-// Takes out the empty slot of a part that is held.
+// Takes out the empty slot of a part that is held. The word that is loaded is the part's latch: a load of the event
+// word right behind the `fetch_add` that counted an event takes as long as a locked step.
 fn draw<C: Parts>(board: &Board<C>, seat: &mut Place<C>, part: u32)
     requires at { IsAt (meaning C.Parts board.now.key.core.value board.now.key.passes) board.now.table_id seat.old part }
     requires none_out { seat.old.me.1 ≡ [] }
@@ -99,7 +100,7 @@ fn draw<C: Parts>(board: &Board<C>, seat: &mut Place<C>, part: u32)
     ensures seat { IsSameSeat seat.old seat.new }
     ensures out { seat.new.me ≡ (drawn seat.old.me.0 part, (part, None) ∷ []) }
 {
-    load_as::<C, Brand>(board, seat, part);
+    load_as::<C, Brand>(board, seat, part as usize + 1, part);
 }
 
 // Gives the slot of a part home, with the part in it, and frees its latch.

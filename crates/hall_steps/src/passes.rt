@@ -21,7 +21,7 @@ fn see<C: Parts>(board: &Board<C>, seat: &mut Place<C>)
     ensures seat { IsSameSeat seat.old seat.new }
     ensures seen { (n : ℕ) × Sees (meaning C.Parts board.now.key.core.value board.now.key.passes) seat.old.id seat.old.me.0 n seat.new.me }
 {
-    load_as::<C, Brand>(board, seat, 0);
+    load_as::<C, Brand>(board, seat, 0, 0);
 }
 
 impl<C: Parts> Hall<C> {

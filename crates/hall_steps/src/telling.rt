@@ -81,20 +81,21 @@ impl<V, D: Joining<V>> Join<V> for Joined<D> {
     ghost spent = { D.spent };
 }
 
-/// Loads the event word. The part is what the step is about.
+/// Loads a word. The part is what the step is about.
 pub(crate) fn load_as<C: Parts, D: Telling<Option<C::Part>, View<C::Event>>>(
     board: &Board<C>,
     seat: &mut Place<C>,
+    word: usize,
     part: u32,
 )
     requires table { seat.old.table_id ≡ board.now.table_id }
-    requires words { 0 < board.now.table_id.words }
-    requires keeps { Allows (Rule (meaning C.Parts board.now.key.core.value board.now.key.passes)) board.now.table_id.slots seat.old.id seat.old.me 0 (λ n. n) (D.tells (step board.now.table_id.slots 0 0 0 none) seat.old.me) }
+    requires words { word < board.now.table_id.words }
+    requires keeps { Allows (Rule (meaning C.Parts board.now.key.core.value board.now.key.passes)) board.now.table_id.slots seat.old.id seat.old.me word (λ n. n) (D.tells (step board.now.table_id.slots word 0 0 none) seat.old.me) }
     ensures table { seat.new.table_id ≡ seat.old.table_id }
     ensures id { seat.new.id ≡ seat.old.id }
-    ensures told { (n : ℕ) × D.tells (step board.now.table_id.slots 0 0 0 none) seat.old.me n seat.new.me }
+    ensures told { (n : ℕ) × D.tells (step board.now.table_id.slots word 0 0 none) seat.old.me n seat.new.me }
 {
-    board.load::<Told<D>>(seat, 0);
+    board.load::<Told<D>>(seat, word);
 }
 
 /// Takes the latch of a part where it is free, and returns what was found there: 0 where it was.
