@@ -224,7 +224,7 @@ least_ranged table store alone number key is_table stands opened least =
     let fitting : list_all (fits table.schema) (all_rows stands.groups ++ stands.own) ≡ true = ap (list_all (fits table.schema)) (sym stands.rows) ∙ stands.fitting in
     let parts = and_parts (list_all (fits table.schema) (all_rows stands.groups)) (list_all (fits table.schema) stands.own)
     (sym (list_all-append (fits table.schema) (all_rows stands.groups) stands.own) ∙ fitting) in
-    ranged_keys table.schema stands.own key is_table.one is_table.key parts.1 has
+    ranged_keys table.schema stands.own key is_table.one_column is_table.key_first parts.1 has
 
 -- an integer of 64 bits fits them
 pub fits_signed : (key : ℤ) → is_integer_of kind.I64 key ≡ true → FitsSigned w64 key

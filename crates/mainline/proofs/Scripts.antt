@@ -49,11 +49,11 @@ table_limits table valid one =
     let high : table.slots ≤ min (2 ^ 15) (8 * (2 ^ 20 / row_bits table.schema)) = leb-true table.slots (most_slots_of table.schema) slots_bounds.1 in
     let blocks = and_parts (nat_le 1 table.blocks) (nat_le table.blocks most_blocks) parts.3 in
     record {
-      some = omega (arith, low);
-      few = omega (arith, high);
-      limit = leb-true table.blocks most_blocks blocks.1;
-      one = one;
-      key = columns.0;
+      has_slots = omega (arith, low);
+      slots_bound = omega (arith, high);
+      blocks_bound = leb-true table.blocks most_blocks blocks.1;
+      one_column = one;
+      key_first = columns.0;
     }
 
 -- a workload that runs today: its one table, and the lines of its one round

@@ -1,5 +1,5 @@
 -- The run of a workload that stopped: that of a workload of its first lines.
-use Rattle.std.proofs.Common.{◌≡◌, ℕ, Bool, true, ◌+◌, ◌≤◌, ◌==◌, nat_le, nat_lt, cond, Option, List, [], ◌++◌, map, length, count_by, refl, ap, sym, ◌∙◌, subst, arith}
+use Rattle.std.proofs.Common.{◌≡◌, ℕ, Bool, true, ◌+◌, ◌≤◌, ◌==◌, nat_le, nat_lt, cond, Option, List, ◌++◌, map, length, count_by, refl, ap, sym, ◌∙◌, subst, arith}
 use Rattle.std.specs.List.{list_all}
 use Rattle.std.proofs.lemmas.Bool.{and_parts, and_from, leb-true, le-leb}
 use Rattle.std.proofs.lemmas.List.{append-nil}

@@ -123,11 +123,11 @@ pub record StopsRound (tables : List TableDecl) (round : List Line) (before now 
 
 -- a table's limits: 1 to 32,768 rows a block, at most 1,024 blocks, and the key is the one column
 pub record IsTable (table : TableDecl) : Type 0 where
-  pub some : 0 < table.slots
-  pub few : table.slots ≤ 2 ^ 15
-  pub limit : table.blocks ≤ 1024
-  pub one : (length table.schema == 1) ≡ true
-  pub key : begins_with_key table.schema ≡ true
+  pub has_slots : 0 < table.slots
+  pub slots_bound : table.slots ≤ 2 ^ 15
+  pub blocks_bound : table.blocks ≤ 1024
+  pub one_column : (length table.schema == 1) ≡ true
+  pub key_first : begins_with_key table.schema ≡ true
 
 -- the command is one of these tables, and runs today
 abbrev pub runs_today : List TableDecl → Command → Bool

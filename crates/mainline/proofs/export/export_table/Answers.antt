@@ -45,7 +45,7 @@ returns-in-Ok-clause-ok g c = λ alone stands.
     (ap least_of (sym own) ∙ sym c.least_key.ensures ∙ c.in_default-least_key.is) c.in-Ok.ensures.ok
     (omega (arith, snapshot_is _ c.args.store.now alone stands c.in-Some.number c.in-Some.is, c.args.store.now.ends.ok.1, c.args.store.now.ends.small))
     (omega (arith, c.split_at.ensures.front_len))
-    (omega (arith, c.in-Ok.ensures.ok.blocks_bound, c.requires.table.limit))
+    (omega (arith, c.in-Ok.ensures.ok.blocks_bound, c.requires.table.blocks_bound))
 
 pub returns-in-Err-Memory-clause-ok : goal.returns-in-Err-Memory-clause-ok
 returns-in-Err-Memory-clause-ok g c = λ alone stands.
