@@ -5,7 +5,7 @@ mod calls;
 mod deed;
 mod marks;
 
-pub use calls::{begin, open, raise, raise_all, raise_both, raise_often, raise_within};
+pub use calls::{begin, open, raise, raise_within};
 pub use deed::{Deed, Least};
 pub use marks::Marks;
 

@@ -7,7 +7,7 @@ ghost use Rattle.hall_rule.specs.HallInvariant.{hands_of};
 ghost use Rattle.hall_rule.specs.Meaning.{meaning};
 ghost use Rattle.hall_steps.specs.Hall.{IsPass, first_of};
 
-use crate::{Marks, begin, open, raise, raise_all, raise_both, raise_within};
+use crate::{Marks, begin, open, raise, raise_within};
 use crossbeam_utils::atomic::AtomicCell;
 use hall_rule::{Parts, Steps};
 use hall_steps::{Hall, Pass};
@@ -103,6 +103,87 @@ pub(super) fn marks_after<R: Wait>(
     let closed = hall.close(pass);
     let marks = [*closed.part(0), *closed.part(1), *closed.part(2)];
     Ok(right.then_some(marks))
+}
+
+// Raises a mark by 1, so many times.
+fn raise_often<R: Wait, L: Ledger>(
+    rt: &R,
+    hall: &Hall<Marks>,
+    pass: &mut Pass<Marks>,
+    part: u32,
+    times: u32,
+    blank: Blank,
+)
+    requires name { blank.name ≡ L.name }
+    requires parts { (blank.parts ≡ L.parts) × (0 < L.parts) }
+    requires pass { IsPass (meaning ⟦<Marks as Parts>⟧ hall.now.0 hall.now.1) hall.now.2 pass.old.seat pass.old.hands }
+    requires shape { hall.now.3 ≡ length (⟦<Marks as Parts>⟧.state_of hall.now.0) }
+    requires part { (0 < part) × (part < hall.now.3) }
+    requires empty { IsEmpty (first_of pass.old.hands) }
+    requires few { length pass.old.seat.me.0.mine + times < 2 ^ 56 * hands_of pass.old.seat.me.0 }
+    ensures pass { IsPass (meaning ⟦<Marks as Parts>⟧ hall.now.0 hall.now.1) hall.now.2 pass.new.seat pass.new.hands }
+    ensures empty { IsEmpty (first_of pass.new.hands) }
+    ensures sessions { pass.new.seat.me.0.sessions ≡ pass.old.seat.me.0.sessions }
+{
+    let mut steps: Steps<L> = Steps::new(blank);
+    for _at in 0..times {
+        raise(rt, hall, pass, part, 1, &mut steps);
+    }
+}
+
+// Raises a mark by 1, so many times, and counts no steps.
+fn raise_all<R: Wait>(rt: &R, hall: &Hall<Marks>, pass: &mut Pass<Marks>, part: u32, times: u32)
+    requires pass_pass { IsPass (meaning ⟦<Marks as Parts>⟧ hall.now.0 hall.now.1) hall.now.2 pass.old.seat pass.old.hands }
+    requires empty_pass { IsEmpty (first_of pass.old.hands) }
+    requires few_pass { length pass.old.seat.me.0.mine + times < 2 ^ 56 * hands_of pass.old.seat.me.0 }
+    requires shape { hall.now.3 ≡ length (⟦<Marks as Parts>⟧.state_of hall.now.0) }
+    requires part { (0 < part) × (part < hall.now.3) }
+    ensures pass_pass { IsPass (meaning ⟦<Marks as Parts>⟧ hall.now.0 hall.now.1) hall.now.2 pass.new.seat pass.new.hands }
+    ensures empty_pass { IsEmpty (first_of pass.new.hands) }
+    ensures sessions_pass { pass.new.seat.me.0.sessions ≡ pass.old.seat.me.0.sessions }
+{
+    raise_often::<R, Brand>(rt, hall, pass, part, times, Blank::new(1));
+}
+
+// Two threads raise a mark by 1, so many times each.
+fn raise_both<R: Threads + Wait + Sync>(
+    rt: &R,
+    hall: &Hall<Marks>,
+    one: &mut Pass<Marks>,
+    two: &mut Pass<Marks>,
+    part: u32,
+    times: u32,
+)
+    requires pass_one { IsPass (meaning ⟦<Marks as Parts>⟧ hall.now.0 hall.now.1) hall.now.2 one.old.seat one.old.hands }
+    requires empty_one { IsEmpty (first_of one.old.hands) }
+    requires few_one { length one.old.seat.me.0.mine + times < 2 ^ 56 * hands_of one.old.seat.me.0 }
+    requires pass_two { IsPass (meaning ⟦<Marks as Parts>⟧ hall.now.0 hall.now.1) hall.now.2 two.old.seat two.old.hands }
+    requires empty_two { IsEmpty (first_of two.old.hands) }
+    requires few_two { length two.old.seat.me.0.mine + times < 2 ^ 56 * hands_of two.old.seat.me.0 }
+    requires shape { hall.now.3 ≡ length (⟦<Marks as Parts>⟧.state_of hall.now.0) }
+    requires part { (0 < part) × (part < hall.now.3) }
+    ensures pass_one { IsPass (meaning ⟦<Marks as Parts>⟧ hall.now.0 hall.now.1) hall.now.2 one.new.seat one.new.hands }
+    ensures empty_one { IsEmpty (first_of one.new.hands) }
+    ensures sessions_one { one.new.seat.me.0.sessions ≡ one.old.seat.me.0.sessions }
+    ensures pass_two { IsPass (meaning ⟦<Marks as Parts>⟧ hall.now.0 hall.now.1) hall.now.2 two.new.seat two.new.hands }
+    ensures empty_two { IsEmpty (first_of two.new.hands) }
+    ensures sessions_two { two.new.seat.me.0.sessions ≡ two.old.seat.me.0.sessions }
+{
+    join_mut(
+        rt,
+        &mut || -> ()
+            requires { IsSync R.row × IsPass (meaning_of (vec_len hall.now.0.marks) hall.now.0.marks.items hall.now.1) hall.now.2 one.now.seat one.now.hands × (hall.now.3 ≡ length hall.now.0.marks.items) × (0 < part) × (part < hall.now.3) × (IsEmpty (first_of one.now.hands)) × (length one.now.seat.me.0.mine + times < 2 ^ 56 * hands_of one.now.seat.me.0) }
+            ensures { IsPass (meaning_of (vec_len hall.entry.now.0.marks) hall.entry.now.0.marks.items hall.entry.now.1) hall.entry.now.2 one.exit.now.seat one.exit.now.hands × (IsEmpty (first_of one.exit.now.hands)) × (one.exit.now.seat.me.0.sessions ≡ one.entry.now.seat.me.0.sessions) }
+        {
+            raise_all(rt, hall, one, part, times);
+        },
+        &mut || -> ()
+            requires { IsSync R.row × IsPass (meaning_of (vec_len hall.now.0.marks) hall.now.0.marks.items hall.now.1) hall.now.2 two.now.seat two.now.hands × (hall.now.3 ≡ length hall.now.0.marks.items) × (0 < part) × (part < hall.now.3) × (IsEmpty (first_of two.now.hands)) × (length two.now.seat.me.0.mine + times < 2 ^ 56 * hands_of two.now.seat.me.0) }
+            ensures { IsPass (meaning_of (vec_len hall.entry.now.0.marks) hall.entry.now.0.marks.items hall.entry.now.1) hall.entry.now.2 two.exit.now.seat two.exit.now.hands × (IsEmpty (first_of two.exit.now.hands)) × (two.exit.now.seat.me.0.sessions ≡ two.entry.now.seat.me.0.sessions) }
+        {
+            raise_all(rt, hall, two, part, times);
+        },
+    );
 }
 
 // What two threads raise a mark to, by 1 so many times each.

@@ -3,7 +3,7 @@ use Rattle.hall_cells.specs.Marks.{IsEmpty}
 use Rattle.hall_rule.specs.Meaning.{meaning}
 use Rattle.hall_steps.specs.Hall.{IsPass, first_of}
 use Rattle.hall_cells.specs.contracts.marks.MarksParts.TheImpl.{ghosts}
-use Rattle.hall_cells.proofs.calls.raise_often.Given as goal
+use Rattle.hall_cells.proofs.tests.scenarios.raise_often.Given as goal
 
 abbrev pub invariant-loop-at : goal.invariant-loop-at
 invariant-loop-at g l = record {
