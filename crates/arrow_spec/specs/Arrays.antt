@@ -1,11 +1,11 @@
 -- A column's values as the buffers of an Arrow array.
 use Rattle.std.specs.Prelude.{ℕ, ◌+◌, Bool, false, not, ◌==◌, if◌then◌else◌, List, [], ◌∷◌, map, length, ℤ, pos, count_by, flat_map}
-use Rattle.std.specs.Int.{Width, w8, w16, w32, w64, to_le_bytes}
+use Rattle.std.specs.Int.{Width, w32, to_le_bytes}
+use Rattle.cell_model.specs.Kinds.{Values, signed, unsigned, truths, texts, blobs, values_of}
 use Rattle.cell_model.specs.Values.{is_null}
 use Rattle.cell_model.specs.declared.cell.Cell.{Cell}
 use Rattle.cell_model.specs.declared.cell.Cell.TheVariants.{Num, Truth, Text, Blob}
 use Rattle.cell_model.specs.declared.kind.Kind.{Kind}
-use Rattle.cell_model.specs.declared.kind.Kind.TheVariants as kind
 use Rattle.arrow_spec.specs.Bytes.{bitmap, number_bytes}
 
 -- How values lie in buffers: numbers of a width one after another, truth values in a bitmap, or texts and bytes
@@ -15,19 +15,17 @@ pub data Layout : Type 0 where
   boolean : Layout
   variable : Layout
 
--- the layout of each kind
+-- the layout of each sort of values
+abbrev pub layout_in : Values → Layout
+layout_in (signed width) = fixed width
+layout_in (unsigned width) = fixed width
+layout_in truths = boolean
+layout_in texts = variable
+layout_in blobs = variable
+
+-- the layout of a kind's values
 abbrev pub layout_of : Kind → Layout
-layout_of kind.I8 = fixed w8
-layout_of kind.I16 = fixed w16
-layout_of kind.I32 = fixed w32
-layout_of kind.I64 = fixed w64
-layout_of kind.U8 = fixed w8
-layout_of kind.U16 = fixed w16
-layout_of kind.U32 = fixed w32
-layout_of kind.U64 = fixed w64
-layout_of kind.Bool = boolean
-layout_of kind.Utf8 = variable
-layout_of kind.Binary = variable
+layout_of kind = layout_in (values_of kind)
 
 -- the number of a cell; a null slot holds zero
 abbrev pub number_of : Cell → ℤ

@@ -1,10 +1,10 @@
 -- The metadata of Arrow's messages, as flatbuffers. Field numbers, places and the numbers of types are those of the
 -- public schemas Message.fbs and Schema.fbs.
-use Rattle.std.specs.Prelude.{ℕ, List, [], ◌∷◌, map, ℤ}
-use Rattle.std.specs.Int.{w8, w16, w32, w64, from_bool}
+use Rattle.std.specs.Prelude.{ℕ, ◌*◌, List, [], ◌∷◌, map, ℤ}
+use Rattle.std.specs.Int.{w8, w16, w32, w64, byte_len, from_bool}
+use Rattle.cell_model.specs.Kinds.{Values, signed, unsigned, truths, texts, blobs, values_of}
 use Rattle.cell_model.specs.declared.column.Column.{Column}
 use Rattle.cell_model.specs.declared.kind.Kind.{Kind}
-use Rattle.cell_model.specs.declared.kind.Kind.TheVariants as kind
 use Rattle.arrow_spec.specs.Flatbuffers.{Object, number, reference, absent, table, string, vector_of_pairs, vector_of_tables, flatbuffer}
 
 -- What a message is: a schema of these columns, or a record batch of so many rows with its nodes and the places of
@@ -21,26 +21,29 @@ int_table bit_width is_signed = table 9 (number 4 w32 bit_width ∷ number 8 w8 
 abbrev pub empty_table : Object
 empty_table = table 4 []
 
+-- the table of the type of each sort of values
+abbrev pub type_table_in : Values → Object
+type_table_in (signed width) = int_table (8 * byte_len width) 1
+type_table_in (unsigned width) = int_table (8 * byte_len width) 0
+type_table_in truths = empty_table
+type_table_in texts = empty_table
+type_table_in blobs = empty_table
+
 -- the table of a kind's type
 abbrev pub type_table : Kind → Object
-type_table kind.I8 = int_table 8 1
-type_table kind.I16 = int_table 16 1
-type_table kind.I32 = int_table 32 1
-type_table kind.I64 = int_table 64 1
-type_table kind.U8 = int_table 8 0
-type_table kind.U16 = int_table 16 0
-type_table kind.U32 = int_table 32 0
-type_table kind.U64 = int_table 64 0
-type_table kind.Bool = empty_table
-type_table kind.Utf8 = empty_table
-type_table kind.Binary = empty_table
+type_table kind = type_table_in (values_of kind)
 
--- the number of a kind's type in the union of types: Int 2, Binary 4, Utf8 5, Bool 6
+-- the number of each type in the union of types: Int 2, Binary 4, Utf8 5, Bool 6
+abbrev pub type_number_in : Values → ℕ
+type_number_in (signed width) = 2
+type_number_in (unsigned width) = 2
+type_number_in truths = 6
+type_number_in texts = 5
+type_number_in blobs = 4
+
+-- the number of a kind's type
 abbrev pub type_number : Kind → ℕ
-type_number kind.Bool = 6
-type_number kind.Utf8 = 5
-type_number kind.Binary = 4
-type_number _ = 2
+type_number kind = type_number_in (values_of kind)
 
 -- Field: name, nullable, type_type, type, dictionary (absent), children (none).
 abbrev pub field_table : Column → Object

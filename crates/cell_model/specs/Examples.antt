@@ -68,6 +68,14 @@ RowsAreJudged = map (row_fault counted) ((Num (pos 1) ∷ Num (pos 300) ∷ []) 
 abbrev pub LongValueIsRefused : Type 0
 LongValueIsRefused = row_fault (column (codes "b") kind.Binary false ∷ []) (Blob (replicate (2 ^ 16) 0) ∷ []) ≡ Some (LongAt 0)
 
+-- `key:i64 b:binary`
+abbrev pub blobs : List Column
+blobs = key ∷ column (codes "b") kind.Binary false ∷ []
+
+abbrev pub BlobsAreBytes : Type 0
+BlobsAreBytes = map (row_fault blobs) ((Num (pos 1) ∷ Blob (0 ∷ 255 ∷ []) ∷ []) ∷ (Num (pos 1) ∷ Blob (0 ∷ 256 ∷ []) ∷ []) ∷ [])
+    ≡ None ∷ Some (RangeAt 1) ∷ []
+
 abbrev pub SchemasAreJudged : Type 0
 SchemasAreJudged = map schema_fault ([] ∷ narrow ∷ (column (codes "key") kind.I64 true ∷ []) ∷ (column (codes "key") kind.I32 false ∷ []) ∷ (key ∷ key ∷ [])
     ∷ (key ∷ replicate 32 (column (codes "v") kind.U8 false)) ∷ (narrow ++ counted) ∷ wide ∷ [])

@@ -1,12 +1,13 @@
 -- Which columns are a table's, and how many rows of them stand in a block of 2^20 bytes.
 use Rattle.std.specs.Prelude.{◌≡◌, ℕ, ◌+◌, ◌*◌, ◌/◌, ◌^◌, ◌≤◌, Bool, true, false, ◌&&◌, not, min, List, [], ◌∷◌, length, nat_lt, if◌then◌else◌, Option, None, Some, position, option_map, is_some, bytes_eq, codes, sum_by, All, Result, Ok, Err}
 use Rattle.std.specs.Str.{IsUtf8}
+use Rattle.cell_model.specs.Kinds.{bits_in, values_of}
 use Rattle.cell_model.specs.Values.{most_bytes}
 use Rattle.cell_model.specs.declared.kind.Kind.{Kind}
 use Rattle.cell_model.specs.declared.kind.Kind.TheVariants as kind
 use Rattle.cell_model.specs.declared.column.Column.{Column}
 use Rattle.cell_model.specs.declared.schema.SchemaFault.{SchemaFault}
-use Rattle.cell_model.specs.declared.schema.SchemaFault.TheVariants.{NoKey, TooMany, TwoNames, Memory}
+use Rattle.cell_model.specs.declared.schema.SchemaFault.TheVariants.{NoKey, TooMany, TwoNames}
 
 abbrev pub is_i64 : Kind → Bool
 is_i64 kind.I64 = true
@@ -51,19 +52,9 @@ pub record IsSchema (columns : List Column) : Type 0 where
   pub distinct : first_twins 0 columns ≡ None
   pub named : AreNamed columns
 
--- how many bits a value of the kind takes in a block; an entry of a variable-length value takes 16 bytes
+-- how many bits a value of the kind takes in a block
 abbrev pub bits_of : Kind → ℕ
-bits_of kind.I8 = 8
-bits_of kind.I16 = 16
-bits_of kind.I32 = 32
-bits_of kind.I64 = 64
-bits_of kind.U8 = 8
-bits_of kind.U16 = 16
-bits_of kind.U32 = 32
-bits_of kind.U64 = 64
-bits_of kind.Bool = 1
-bits_of kind.Utf8 = 128
-bits_of kind.Binary = 128
+bits_of kind = bits_in (values_of kind)
 
 -- how many bits a row takes: one that tells whether the slot has a row, and for each column a validity bit and its value
 abbrev pub row_bits : List Column → ℕ
@@ -80,10 +71,7 @@ schema_fault columns =
     else if nat_lt most_columns (length columns) then Some (TooMany (length columns))
     else option_map (λ twins. TwoNames twins.0 twins.1) (first_twins 0 columns)
 
--- The answer for columns with this first fault, if any: Ok where there is none, else the fault. Want of memory is free.
+-- The answer for columns with this first fault, if any: Ok exactly where there is none, else the fault.
 abbrev pub IsJudgedBy : {A : Type 0} → Result A SchemaFault → Option SchemaFault → Type 0
 IsJudgedBy (Ok schema) fault = fault ≡ None
-IsJudgedBy (Err (Memory refused)) fault = Unit {0}
-IsJudgedBy (Err NoKey) fault = fault ≡ Some NoKey
-IsJudgedBy (Err (TooMany count)) fault = fault ≡ Some (TooMany count)
-IsJudgedBy (Err (TwoNames first second)) fault = fault ≡ Some (TwoNames first second)
+IsJudgedBy (Err stood) fault = fault ≡ Some stood

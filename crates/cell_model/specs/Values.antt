@@ -1,8 +1,10 @@
 -- Which cells are values of a kind.
-use Rattle.std.specs.Prelude.{ℕ, Bool, true, false, ◌&&◌, ◌^◌, ◌-◌, length, ℤ, pos, negsuc, int_le}
+use Rattle.std.specs.Prelude.{ℕ, Bool, true, false, ◌&&◌, ◌^◌, ◌-◌, ◌*◌, List, length, nat_lt, ℤ, pos, negsuc, int_le}
+use Rattle.std.specs.Int.{byte_len}
+use Rattle.std.specs.List.{list_all}
 use Rattle.std.specs.Str.{is_utf8}
+use Rattle.cell_model.specs.Kinds.{Values, signed, unsigned, truths, texts, blobs, values_of, are_truths, are_texts, are_blobs}
 use Rattle.cell_model.specs.declared.kind.Kind.{Kind}
-use Rattle.cell_model.specs.declared.kind.Kind.TheVariants as kind
 use Rattle.cell_model.specs.declared.cell.Cell.{Cell}
 use Rattle.cell_model.specs.declared.cell.Cell.TheVariants.{Null, Num, Truth, Text, Blob}
 
@@ -10,31 +12,31 @@ use Rattle.cell_model.specs.declared.cell.Cell.TheVariants.{Null, Num, Truth, Te
 abbrev pub is_between : ℤ → ℤ → ℤ → Bool
 is_between low high number = int_le low number && int_le number high
 
--- the number is one of the signed or unsigned integers of the kind's width; kinds of no integer have none
+-- the number is one of these integers; there is none among truth values, texts and bytes
+abbrev pub is_integer_in : Values → ℤ → Bool
+is_integer_in (signed width) number =
+    is_between (negsuc (2 ^ (8 * byte_len width - 1) - 1)) (pos (2 ^ (8 * byte_len width - 1) - 1)) number
+is_integer_in (unsigned width) number = is_between (pos 0) (pos (2 ^ (8 * byte_len width) - 1)) number
+is_integer_in truths number = false
+is_integer_in texts number = false
+is_integer_in blobs number = false
+
+-- the number is one of the kind's integers
 abbrev pub is_integer_of : Kind → ℤ → Bool
-is_integer_of kind.I8 number = is_between (negsuc (2 ^ 7 - 1)) (pos (2 ^ 7 - 1)) number
-is_integer_of kind.I16 number = is_between (negsuc (2 ^ 15 - 1)) (pos (2 ^ 15 - 1)) number
-is_integer_of kind.I32 number = is_between (negsuc (2 ^ 31 - 1)) (pos (2 ^ 31 - 1)) number
-is_integer_of kind.I64 number = is_between (negsuc (2 ^ 63 - 1)) (pos (2 ^ 63 - 1)) number
-is_integer_of kind.U8 number = is_between (pos 0) (pos (2 ^ 8 - 1)) number
-is_integer_of kind.U16 number = is_between (pos 0) (pos (2 ^ 16 - 1)) number
-is_integer_of kind.U32 number = is_between (pos 0) (pos (2 ^ 32 - 1)) number
-is_integer_of kind.U64 number = is_between (pos 0) (pos (2 ^ 64 - 1)) number
-is_integer_of kind.Bool number = false
-is_integer_of kind.Utf8 number = false
-is_integer_of kind.Binary number = false
+is_integer_of kind number = is_integer_in (values_of kind) number
 
 abbrev pub is_bool_kind : Kind → Bool
-is_bool_kind kind.Bool = true
-is_bool_kind _ = false
+is_bool_kind kind = are_truths (values_of kind)
 
 abbrev pub is_utf8_kind : Kind → Bool
-is_utf8_kind kind.Utf8 = true
-is_utf8_kind _ = false
+is_utf8_kind kind = are_texts (values_of kind)
 
 abbrev pub is_binary_kind : Kind → Bool
-is_binary_kind kind.Binary = true
-is_binary_kind _ = false
+is_binary_kind kind = are_blobs (values_of kind)
+
+-- each number is a byte
+abbrev pub are_bytes : List ℕ → Bool
+are_bytes numbers = list_all (λ number. nat_lt number 256) numbers
 
 -- The cell is a value of the kind: an integer of it, a truth value, a text in UTF-8 or bytes.
 abbrev pub is_value_of : Kind → Cell → Bool
@@ -42,7 +44,7 @@ is_value_of kind Null = false
 is_value_of kind (Num number) = is_integer_of kind number
 is_value_of kind (Truth truth) = is_bool_kind kind
 is_value_of kind (Text text) = is_utf8_kind kind && is_utf8 text
-is_value_of kind (Blob bytes) = is_binary_kind kind
+is_value_of kind (Blob bytes) = is_binary_kind kind && are_bytes bytes
 
 abbrev pub is_null : Cell → Bool
 is_null Null = true

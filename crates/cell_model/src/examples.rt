@@ -1,5 +1,5 @@
 //! Worked examples: each is a fact that the definitions compute.
-ghost use Rattle.cell_model.specs.Examples.{SlotsFitABlock, KindsHaveWidths, KindsHaveEnds, RowsAreJudged, LongValueIsRefused, SchemasAreJudged};
+ghost use Rattle.cell_model.specs.Examples.{SlotsFitABlock, KindsHaveWidths, KindsHaveEnds, RowsAreJudged, LongValueIsRefused, BlobsAreBytes, SchemasAreJudged};
 
 /// How many rows of 195 and of 4,065 bits a block takes.
 pub fn slots_fit_a_block_of_2_to_the_20_bytes()
@@ -24,6 +24,11 @@ pub fn rows_are_refused_by_their_first_fault()
 /// A value of 65,536 bytes is too long.
 pub fn a_value_of_65536_bytes_is_too_long()
     ensures { LongValueIsRefused }
+{}
+
+/// A blob's numbers are bytes.
+pub fn a_blob_of_256_is_refused()
+    ensures { BlobsAreBytes }
 {}
 
 /// Columns are refused by their first fault.

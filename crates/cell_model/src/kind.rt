@@ -2,7 +2,7 @@
 ghost use Rattle.std.specs.Prelude.{◌≡◌, ◌≤◌};
 ghost use Rattle.std.specs.Str.{is_utf8};
 ghost use Rattle.cell_model.specs.Schemas.{bits_of};
-ghost use Rattle.cell_model.specs.Values.{is_value_of, is_integer_of};
+ghost use Rattle.cell_model.specs.Values.{are_bytes, is_value_of, is_integer_of};
 
 use crate::cell::Cell;
 
@@ -34,7 +34,7 @@ impl Kind {
             Cell::Num(number) => self.holds_integer(*number),
             Cell::Truth(_) => matches!(self, Kind::Bool),
             Cell::Text(text) => matches!(self, Kind::Utf8) && is_utf8(text.as_slice()),
-            Cell::Blob(_) => matches!(self, Kind::Binary),
+            Cell::Blob(bytes) => matches!(self, Kind::Binary) && are_bytes(bytes.as_slice()),
         }
     }
 
@@ -78,4 +78,11 @@ fn is_utf8(bytes: &[u8]) -> bool
         Ok(_) => true,
         Err(_) => false,
     }
+}
+
+// Whether each number is below 256, as it always is: a byte's type holds no other.
+fn are_bytes(bytes: &[u8]) -> bool
+    ensures { result ≡ are_bytes bytes.now }
+{
+    bytes.iter().all(|byte| u32::from(*byte) < 256)
 }

@@ -6,7 +6,6 @@ ghost use Rattle.cell_model.specs.Schemas.{AreNamed, IsSchema, IsJudgedBy, schem
 use crate::cell::Cell;
 use crate::column::Column;
 use crate::row::{Row, RowFault};
-use std::alloc::AllocError;
 use std::marker::Model;
 use thiserror::Error;
 
@@ -44,9 +43,6 @@ pub enum SchemaFault {
     /// These two columns, counted from 0, have one name; the least such pair, the first place first.
     #[error("the columns {0} and {1} have one name")]
     TwoNames(u32, u32),
-    /// Memory was refused.
-    #[error(transparent)]
-    Memory(AllocError),
 }
 
 /// The most columns of a table.

@@ -1,15 +1,14 @@
 -- How many columns a batch may have, and what they are built from.
 use Rattle.std.specs.Prelude.{ℕ, ◌+◌, ◌<◌, ◌^◌, Bool, not, ◌||◌, ◌&&◌, nat_lt, List, [], length, flat_map, ℤ}
-use Rattle.std.specs.Int.{w8, w16, w32, w64}
 use Rattle.std.specs.List.{slice_index_or}
 use Rattle.arrow_spec.specs.Arrays.{truth_of}
 use Rattle.arrow_spec.specs.Batches.{Array}
 use Rattle.arrow_spec.specs.Bytes.{number_bytes}
+use Rattle.cell_model.specs.Kinds.{Values, signed, unsigned, truths, texts, blobs, values_of}
 use Rattle.cell_model.specs.Values.{is_null, is_value_of, byte_length, most_bytes}
 use Rattle.cell_model.specs.declared.cell.Cell.{Cell}
 use Rattle.cell_model.specs.declared.cell.Cell.TheVariants.{Null}
 use Rattle.cell_model.specs.declared.kind.Kind.{Kind}
-use Rattle.cell_model.specs.declared.kind.Kind.TheVariants as kind
 use Rattle.ipc_write.specs.declared.bitmaps.Bit.{Bit}
 use Rattle.ipc_write.specs.declared.bitmaps.Bit.TheVariants as bit
 
@@ -33,17 +32,15 @@ abbrev pub bit_of : Bit → Cell → Bool
 bit_of bit.Valid cell = not (is_null cell)
 bit_of bit.Truth cell = truth_of cell
 
--- A number as a value of an integer kind; other kinds have none (Arrow columnar format, "Fixed-size Primitive Layout"
+-- A number as a value among integers; there is none among others (Arrow columnar format, "Fixed-size Primitive Layout"
 -- and "Byte Order (Endianness)").
+abbrev pub bytes_among : Values → ℤ → List ℕ
+bytes_among (signed width) number = number_bytes width number
+bytes_among (unsigned width) number = number_bytes width number
+bytes_among truths number = []
+bytes_among texts number = []
+bytes_among blobs number = []
+
+-- a number as a value of a kind
 abbrev pub kind_bytes : Kind → ℤ → List ℕ
-kind_bytes kind.I8 number = number_bytes w8 number
-kind_bytes kind.I16 number = number_bytes w16 number
-kind_bytes kind.I32 number = number_bytes w32 number
-kind_bytes kind.I64 number = number_bytes w64 number
-kind_bytes kind.U8 number = number_bytes w8 number
-kind_bytes kind.U16 number = number_bytes w16 number
-kind_bytes kind.U32 number = number_bytes w32 number
-kind_bytes kind.U64 number = number_bytes w64 number
-kind_bytes kind.Bool number = []
-kind_bytes kind.Utf8 number = []
-kind_bytes kind.Binary number = []
+kind_bytes kind number = bytes_among (values_of kind) number

@@ -10,7 +10,7 @@ use crate::columns::{column_of, has_colon, is_name, key_column};
 use crate::fault::WordFault;
 use crate::numbers::number;
 use crate::words::{first_keyword, keyword, next_word, no_word, split_word, word_behind};
-use cell_model::{Bytes, Schema, SchemaFault, TableDecl, most_slots};
+use cell_model::{Bytes, Schema, TableDecl, most_slots};
 use std::alloc::{AllocError, Global};
 use workload_spec::Cause;
 
@@ -56,7 +56,6 @@ fn key_schema(alloc: Global) -> Result<Schema, AllocError>
     columns.push(key_column(alloc)?)?;
     match Schema::new(columns) {
         Ok(schema) => Ok(schema),
-        Err(SchemaFault::Memory(refused)) => Err(refused),
         Err(_) => unreachable!(),
     }
 }

@@ -14,7 +14,7 @@ use Rattle.cell_model.specs.declared.column.Column.{Column}
 use Rattle.cell_model.specs.declared.row.RowFault.{RowFault}
 use Rattle.cell_model.specs.declared.row.RowFault.TheVariants.{NullAt, RangeAt, LongAt}
 use Rattle.cell_model.specs.Rows.{cell_fault, first_fault}
-use Rattle.cell_model.specs.Values.{is_between, is_integer_of, is_bool_kind, is_utf8_kind, is_binary_kind, is_value_of, is_null, byte_length, most_bytes}
+use Rattle.cell_model.specs.Values.{is_between, is_integer_of, is_bool_kind, is_utf8_kind, is_binary_kind, are_bytes, is_value_of, is_null, byte_length, most_bytes}
 use Rattle.workload_spec.specs.declared.script.Cause.TheVariants as cause
 use Rattle.workload_spec.specs.Words.{cell_text, cell_words, quoted}
 use Rattle.workload_spec.specs.Reading.{integer_in, value_in, cell_in, cell_of, blob_in, text_in}
@@ -115,7 +115,7 @@ value_back k (Num z) is bytes = (number_not_null z (small_of k z is), number_in 
 value_back k (Truth true) is bytes = (refl, truth_in k (codes "true") is)
 value_back k (Truth false) is bytes = (refl, truth_in k (codes "false") is)
 value_back k (Text text) is bytes = (refl, a_text_in k (quoted text) (both (is_utf8_kind k) (is_utf8 text) is).0 ∙ ap Text (text_back text))
-value_back k (Blob bytes) is all = (refl, a_blob_in k (cell_text (Blob bytes)) is ∙ ap Blob (bytes_back bytes all))
+value_back k (Blob bytes) is all = (refl, a_blob_in k (cell_text (Blob bytes)) (both (is_binary_kind k) (are_bytes bytes) is).0 ∙ ap Blob (bytes_back bytes all))
 
 none_is : {X : Type 0} (o : Option X) → is_none o ≡ true → o ≡ None
 none_is None e = refl

@@ -7,7 +7,7 @@ use Rattle.std.specs.Option.{option_map_or}
 use Rattle.cell_model.specs.declared.cell.Cell.{Cell}
 use Rattle.cell_model.specs.declared.cell.Cell.TheVariants.{Null, Num, Truth, Text, Blob}
 use Rattle.cell_model.specs.declared.kind.Kind.{Kind}
-use Rattle.cell_model.specs.declared.kind.Kind.TheVariants as kind
+use Rattle.cell_model.specs.Kinds.{Values, signed, unsigned, truths, texts, blobs, values_of}
 use Rattle.cell_model.specs.declared.column.Column.{Column}
 use Rattle.cell_model.specs.Rows.{cell_fault}
 use Rattle.workload_spec.specs.Words.{space, quote, backslash, cell_text}
@@ -137,19 +137,17 @@ abbrev pub blob_in : List ℕ → List ℕ
 blob_in [] = []
 blob_in (mark ∷ digits) = bytes_of_digits digits
 
+-- the value of a sort that a word would stand for
+abbrev pub value_among : Values → List ℕ → Cell
+value_among (signed width) word = Num (integer_in word)
+value_among (unsigned width) word = Num (integer_in word)
+value_among truths word = Truth (bytes_eq word (codes "true"))
+value_among texts word = Text (text_in word)
+value_among blobs word = Blob (blob_in word)
+
 -- the value of a kind that a word would stand for
 abbrev pub value_in : Kind → List ℕ → Cell
-value_in kind.Bool word = Truth (bytes_eq word (codes "true"))
-value_in kind.Utf8 word = Text (text_in word)
-value_in kind.Binary word = Blob (blob_in word)
-value_in kind.I8 word = Num (integer_in word)
-value_in kind.I16 word = Num (integer_in word)
-value_in kind.I32 word = Num (integer_in word)
-value_in kind.I64 word = Num (integer_in word)
-value_in kind.U8 word = Num (integer_in word)
-value_in kind.U16 word = Num (integer_in word)
-value_in kind.U32 word = Num (integer_in word)
-value_in kind.U64 word = Num (integer_in word)
+value_in kind word = value_among (values_of kind) word
 
 -- the cell of a column that a word would stand for
 abbrev pub cell_in : Column → List ℕ → Cell
