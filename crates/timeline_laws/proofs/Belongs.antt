@@ -1,0 +1,173 @@
+-- The transaction that a reply belongs to, by what is open behind the replies in front of it.
+use Rattle.std.proofs.Common.{◌≡◌, ℕ, Bool, true, false, cond, ◌&&◌, ◌||◌, List, [], ◌∷◌, ◌++◌, Option, None, Some, refl, sym, ap, ◌∙◌, subst}
+use Rattle.std.specs.Prelude.{option_map}
+use Rattle.std.specs.Option.{option_or}
+use Rattle.std.specs.List.{filter, filter_map, find, list_any, cons_option}
+use Rattle.std.proofs.lemmas.List.Folds.{list_any-append, find-append}
+use Rattle.std.proofs.lemmas.List.Elements.{filter-append}
+use Rattle.std.proofs.lemmas.Bool.{and_parts}
+use Rattle.workload_spec.specs.declared.reply.Who.{Who}
+use Rattle.outcome_spec.specs.Entries.{Entry, is_same, is_not_after, snapshot_in, is_end}
+use Rattle.outcome_spec.specs.Runs.{Transaction, up_to_end, transaction_from, transactions_of, transaction_with, is_reply}
+use Rattle.timeline_spec.specs.Timeline.{thread, Each, InOrder}
+use Rattle.timeline_laws.proofs.Order.{Each-first, Each-second, Each-weaker, Each-filter, Each-printed, same-is, same-itself}
+use Rattle.timeline_laws.proofs.Spans.{span, spans, EachSpan, Ended, Past, spans-is, order-filter}
+use Rattle.timeline_laws.proofs.Unique.{Only, none-in_front, none-behind, itself, any-none}
+
+-- what is found is found among those that pass a test which it passes
+find-kept-step : (a b : Bool) (t : Transaction) (kept all : List Transaction) (test : Transaction → Bool) → test t ≡ b → (b ≡ true → a ≡ true) → find test all ≡ find test kept
+    → cond b (Some t) (find test all) ≡ find test (cond a (t ∷ kept) kept)
+find-kept-step true b t kept all test is h rest = rw is (ap (cond b (Some t)) rest)
+find-kept-step false true t kept all test is h rest = absurd (let e : false ≡ true = h refl in let never : ⊥ = cc in never)
+find-kept-step false false t kept all test is h rest = rest
+
+pub find-kept : (test choice : Transaction → Bool) (ts : List Transaction) → EachSpan (λ t. test t ≡ true → choice t ≡ true) ts → find test ts ≡ find test (filter choice ts)
+find-kept test choice [] h = refl
+find-kept test choice (t ∷ ts) h = find-kept-step (choice t) (test t) t (filter choice ts) ts test refl h.0 (find-kept test choice ts h.1)
+
+any-of-step : (b : Bool) (entry : Entry) (who : Who) (other : Entry) (entries : List Entry) → is_reply entry other ≡ b → (is_reply entry other ≡ true → other ≡ entry) → is_same other.reply.who who ≡ true
+    → (list_any (is_reply entry) entries ≡ true → is_same entry.reply.who who ≡ true) → (b || list_any (is_reply entry) entries) ≡ true → is_same entry.reply.who who ≡ true
+any-of-step true entry who other entries is only of rest h = subst (λ (o : Entry). is_same o.reply.who who ≡ true) (only is) of
+any-of-step false entry who other entries is only of rest h = rest h
+
+-- replies to one, of which one is the reply, are to the reply's session or worker
+any-of : (entry : Entry) (who : Who) (entries : List Entry) → Each (λ other. is_reply entry other ≡ true → other ≡ entry) entries → Each (λ other. is_same other.reply.who who ≡ true) entries
+    → list_any (is_reply entry) entries ≡ true → is_same entry.reply.who who ≡ true
+any-of entry who [] only of h = absurd (let never : ⊥ = cc in never)
+any-of entry who (other ∷ entries) only of h = any-of-step (is_reply entry other) entry who other entries refl only.0 of.0 (any-of entry who entries only.1 of.1) h
+
+cut-each : (P : Entry → Type 0) (ends : Bool) (entry : Entry) (others : List Entry) → P entry → Each P others → Each P (cond ends (entry ∷ []) (entry ∷ others))
+cut-each P true entry others h k = (h, tt)
+cut-each P false entry others h k = (h, k)
+
+pub Each-up_to_end : (P : Entry → Type 0) (entries : List Entry) → Each P entries → Each P (up_to_end entries)
+Each-up_to_end P [] h = h
+Each-up_to_end P (entry ∷ entries) h = cut-each P (is_end entry.reply.said) entry (up_to_end entries) h.0 (Each-up_to_end P entries h.1)
+
+filter-passes-step : (b : Bool) (p : Entry → Bool) (entry : Entry) (entries : List Entry) → p entry ≡ b → Each (λ other. p other ≡ true) (filter p entries) → Each (λ other. p other ≡ true) (cond b (entry ∷ filter p entries) (filter p entries))
+filter-passes-step true p entry entries is h = (is, h)
+filter-passes-step false p entry entries is h = h
+
+filter-passes : (p : Entry → Bool) (entries : List Entry) → Each (λ entry. p entry ≡ true) (filter p entries)
+filter-passes p [] = tt
+filter-passes p (entry ∷ entries) = filter-passes-step (p entry) p entry entries refl (filter-passes p entries)
+
+same-turned : (a b : Who) → is_same a b ≡ true → is_same b a ≡ true
+same-turned a b h = subst (λ (w : Who). is_same w a ≡ true) (same-is a b h) (same-itself a)
+
+from-whom : (entry : Entry) (whole : List Entry) → Only whole entry → (o : Entry) (snapshot : ℕ)
+    → list_any (is_reply entry) (transaction_from whole o snapshot).replies ≡ true → is_same o.reply.who entry.reply.who ≡ true
+from-whom entry whole only o snapshot h =
+    let p : Entry → Bool = λ other. is_same other.reply.who o.reply.who && is_not_after o other in
+    let among = Each-up_to_end (λ other. is_reply entry other ≡ true → other ≡ entry) (filter p whole) (Each-filter (λ other. is_reply entry other ≡ true → other ≡ entry) p whole only) in
+    let passes = Each-weaker (λ other. p other ≡ true) (λ other. is_same other.reply.who o.reply.who ≡ true) (λ other q. (and_parts (is_same other.reply.who o.reply.who) (is_not_after o other) q).0) (filter p whole) (filter-passes p whole) in
+    same-turned entry.reply.who o.reply.who (any-of entry o.reply.who (up_to_end (filter p whole)) among (Each-up_to_end (λ other. is_same other.reply.who o.reply.who ≡ true) (filter p whole) passes) h)
+
+from-holds-step : (entry : Entry) (whole : List Entry) → Only whole entry → (o : Entry) (entries : List Entry) (shown : Option ℕ)
+    → EachSpan (λ t. list_any (is_reply entry) t.replies ≡ true → is_same t.who entry.reply.who ≡ true) (filter_map (λ o. option_map (transaction_from whole o) (snapshot_in o.reply.said)) entries)
+    → EachSpan (λ t. list_any (is_reply entry) t.replies ≡ true → is_same t.who entry.reply.who ≡ true) (cons_option (option_map (transaction_from whole o) shown) (filter_map (λ o. option_map (transaction_from whole o) (snapshot_in o.reply.said)) entries))
+from-holds-step entry whole only o entries None rest = rest
+from-holds-step entry whole only o entries (Some snapshot) rest = (from-whom entry whole only o snapshot, rest)
+
+-- a transaction with the reply among its own is of the reply's session or worker
+from-holds : (entry : Entry) (whole : List Entry) → Only whole entry → (entries : List Entry)
+    → EachSpan (λ t. list_any (is_reply entry) t.replies ≡ true → is_same t.who entry.reply.who ≡ true) (filter_map (λ o. option_map (transaction_from whole o) (snapshot_in o.reply.said)) entries)
+from-holds entry whole only [] = tt
+from-holds entry whole only (o ∷ entries) = from-holds-step entry whole only o entries (snapshot_in o.reply.said) (from-holds entry whole only entries)
+
+-- none of the transactions that ended in front has the reply
+done-misses : (who : Who) (front : List Entry) (entry : Entry) (ts : List Transaction) → Each (λ other. is_reply entry other ≡ false) front → EachSpan (Ended who front) ts
+    → find (λ t. list_any (is_reply entry) t.replies) ts ≡ None
+done-misses who front entry [] none h = refl
+done-misses who front entry (t ∷ ts) none h =
+    let inside : Each (λ other. is_reply entry other ≡ false) t.replies =
+    Each-first (λ other. is_reply entry other ≡ false) t.replies h.0.behind (Each-second (λ other. is_reply entry other ≡ false) h.0.ahead (t.replies ++ h.0.behind) (subst (Each (λ other. is_reply entry other ≡ false)) h.0.stands none)) in
+    rw (any-none (is_reply entry) t.replies inside) (done-misses who front entry ts none h.1)
+
+-- nor one that is opened behind it
+find-past : (test : Transaction → Bool) (made : ℕ → Transaction) (shown : Option ℕ) (others : List Transaction)
+    → ((snapshot : ℕ) → test (made snapshot) ≡ false) → find test (cons_option (option_map made shown) others) ≡ find test others
+find-past test made None others fails = refl
+find-past test made (Some snapshot) others fails = rw (fails snapshot) refl
+
+none-opened : (who : Who) (entry : Entry) (rest : List Entry) → Each (λ other. is_reply entry other ≡ false) rest → find (λ t. list_any (is_reply entry) t.replies) (spans who rest) ≡ None
+none-opened who entry [] h = refl
+none-opened who entry (other ∷ rest) h =
+    find-past (λ t. list_any (is_reply entry) t.replies) (λ snapshot. span who snapshot (up_to_end (other ∷ rest))) (snapshot_in other.reply.said) (spans who rest)
+    (λ snapshot. any-none (is_reply entry) (up_to_end (other ∷ rest)) (Each-up_to_end (λ o. is_reply entry o ≡ false) (other ∷ rest) h))
+    ∙ none-opened who entry rest h.1
+
+cut-has : (entry : Entry) (ends : Bool) (others : List Entry) → list_any (is_reply entry) (cond ends (entry ∷ []) (entry ∷ others)) ≡ true
+cut-has entry true others = rw (itself entry) refl
+cut-has entry false others = rw (itself entry) refl
+
+or-true : (a b : Bool) → b ≡ true → (a || b) ≡ true
+or-true true b h = refl
+or-true false b h = h
+
+pub has-itself : (entry : Entry) (replies rest : List Entry) → list_any (is_reply entry) (replies ++ up_to_end (entry ∷ rest)) ≡ true
+has-itself entry replies rest =
+    list_any-append (is_reply entry) replies (up_to_end (entry ∷ rest))
+    ∙ or-true (list_any (is_reply entry) replies) (list_any (is_reply entry) (up_to_end (entry ∷ rest))) (cut-has entry (is_end entry.reply.said) (up_to_end rest))
+
+find-behind : (test : Transaction → Bool) (a b : List Transaction) → find test a ≡ None → find test (a ++ b) ≡ find test b
+find-behind test a b none = find-append test a b ∙ ap (λ (o : Option Transaction). option_or o (find test b)) none
+
+-- The reply stands in a timeline at this place.
+pub record At (printed timeline front : List Entry) (entry : Entry) (rest : List Entry) : Type 0 where
+  pub threads : (who : Who) → thread who printed ≡ thread who timeline
+  pub whole : timeline ≡ front ++ entry ∷ rest
+  pub order : InOrder timeline
+  pub only : Only printed entry
+
+module _ (printed timeline front : List Entry) (entry : Entry) (rest : List Entry) (at : At printed timeline front entry rest) where
+  abbrev its : Who
+  its = entry.reply.who
+
+  pub its-order : InOrder (front ++ entry ∷ rest)
+  its-order = subst InOrder at.whole at.order
+
+  pub its-thread : (who : Who) → thread who printed ≡ thread who front ++ thread who (entry ∷ rest)
+  its-thread who = at.threads who ∙ ap (thread who) at.whole ∙ filter-append (λ other. is_same other.reply.who who) front (entry ∷ rest)
+
+  pub own-thread : thread its printed ≡ thread its front ++ entry ∷ thread its rest
+  own-thread = its-thread its ∙ ap (λ (b : Bool). thread its front ++ cond b (entry ∷ thread its rest) (thread its rest)) (same-itself its)
+
+  pub timeline-only : Only (front ++ entry ∷ rest) entry
+  timeline-only = subst (λ (es : List Entry). Only es entry) at.whole (Each-printed (λ other. is_reply entry other ≡ true → other ≡ entry) timeline printed (λ who. sym (at.threads who)) at.only)
+
+  pub threads-in-order : (who : Who) → InOrder (thread who printed)
+  threads-in-order who = subst InOrder (sym (at.threads who)) (order-filter (λ other. is_same other.reply.who who) timeline at.order)
+
+  abbrev holds : Transaction → Bool
+  holds t = list_any (is_reply entry) t.replies
+
+  -- the reply's transaction is one of its session's or worker's
+  found-own : transaction_with (transactions_of printed) entry ≡ find holds (spans its (thread its front ++ entry ∷ thread its rest))
+  found-own =
+      find-kept holds (λ t. is_same t.who its) (transactions_of printed) (from-holds entry printed at.only printed)
+      ∙ ap (find holds) (spans-is its printed (threads-in-order its) ∙ ap (spans its) own-thread)
+
+  misses-front : Each (λ other. is_reply entry other ≡ false) (thread its front)
+  misses-front = Each-filter (λ other. is_reply entry other ≡ false) (λ other. is_same other.reply.who its) front (none-in_front front entry rest its-order timeline-only)
+
+  misses-rest : Each (λ other. is_reply entry other ≡ false) (thread its rest)
+  misses-rest = Each-filter (λ other. is_reply entry other ≡ false) (λ other. is_same other.reply.who its) rest (none-behind front entry rest its-order timeline-only)
+
+  -- Where a transaction is open in front, the reply is one of its.
+  pub found-open : (snapshot : ℕ) (replies : List Entry) → Past its (thread its front) (Some (snapshot, replies))
+      → transaction_with (transactions_of printed) entry ≡ Some (span its snapshot (replies ++ up_to_end (entry ∷ thread its rest)))
+  found-open snapshot replies past =
+      found-own
+      ∙ ap (find holds) (past.parts (entry ∷ thread its rest))
+      ∙ find-behind holds past.done (span its snapshot (replies ++ up_to_end (entry ∷ thread its rest)) ∷ spans its (entry ∷ thread its rest)) (done-misses its (thread its front) entry past.done misses-front past.ended)
+      ∙ ap (λ (b : Bool). cond b (Some (span its snapshot (replies ++ up_to_end (entry ∷ thread its rest)))) (find holds (spans its (entry ∷ thread its rest)))) (has-itself entry replies (thread its rest))
+
+  -- Where none is open in front, and the reply opens none, it belongs to none.
+  pub found-none : Past its (thread its front) None → snapshot_in entry.reply.said ≡ None → transaction_with (transactions_of printed) entry ≡ None
+  found-none past none =
+      found-own
+      ∙ ap (find holds) (past.parts (entry ∷ thread its rest))
+      ∙ find-behind holds past.done (spans its (entry ∷ thread its rest)) (done-misses its (thread its front) entry past.done misses-front past.ended)
+      ∙ ap (λ (o : Option ℕ). find holds (cons_option (option_map (λ snapshot. span its snapshot (up_to_end (entry ∷ thread its rest))) o) (spans its (thread its rest)))) none
+      ∙ none-opened its entry (thread its rest) misses-rest

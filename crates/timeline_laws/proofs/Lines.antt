@@ -1,0 +1,242 @@
+-- The lines of a text of replies, and the reply that is found at their front.
+use Rattle.std.proofs.Common.{◌≡◌, ℕ, ◌-◌, ◌⊎◌, Bool, true, false, cond, ◌&&◌, ◌||◌, not, List, [], ◌∷◌, ◌++◌, length, take, drop, map, Option, None, Some, refl, sym, ap, ◌∙◌, subst, arith, append-nil, append_assoc, inl, inr}
+use Rattle.std.specs.Prelude.{bytes_eq, decimal, find}
+use Rattle.std.specs.Option.{option_or}
+use Rattle.std.specs.List.{starts_with, filter}
+use Rattle.std.proofs.lemmas.Bool.{cond-true, cond-false}
+use Rattle.std.proofs.lemmas.List.{take_at, length_push}
+use Rattle.std.proofs.lemmas.Slice.Eq.{bytes_eq-Decides}
+use Rattle.cell_model.specs.declared.table.TableDecl.{TableDecl}
+use Rattle.workload_spec.specs.declared.command.Command.{Command}
+use Rattle.workload_spec.specs.declared.reply.ReplyLine.{ReplyLine}
+use Rattle.workload_spec.specs.declared.reply.Who.{Who}
+use Rattle.workload_spec.specs.declared.reply.Who.TheVariants.{Session, Worker}
+use Rattle.workload_spec.specs.declared.reply.Said.{Said}
+use Rattle.workload_spec.specs.ReplyText.{said_words, lines_behind, reply_lines, reply_text, replies_text, who_text}
+use Rattle.workload_spec.specs.Words.{spaced, lines_text}
+use Rattle.outcome_spec.specs.Entries.{Entry}
+use Rattle.outcome_spec.specs.Lines.{lines_of}
+use Rattle.outcome_spec.specs.Reading.{Bare, words_from, words_of}
+use Rattle.outcome_spec.specs.Forms.{Due, begins_with, replies_due, reply_at, reading, line_count, entry_behind, replies_within, replies_without, is_upkeep, is_worker, is_silent, is_within}
+use Rattle.timeline_spec.specs.Printed.{printed_from}
+use Rattle.timeline_spec.specs.Words.{IsWord, AreWords}
+use Rattle.timeline_laws.proofs.ReadLines.{is_unbroken, is_plain, plain_unbroken, unbroken_append, lines_behind_first, word_alone, word_first, equal_front}
+use Rattle.timeline_laws.proofs.ReadNumbers.{plain_decimal}
+
+-- ---- words
+
+pub plain-word : (word : List ℕ) → is_plain word ≡ true → IsWord word
+plain-word word h = record { unbroken = plain_unbroken word h; first = λ rest. word_first word rest h; alone = word_alone word h }
+
+pub words-parted : (word : List ℕ) (words : List (List ℕ)) → AreWords (word ∷ words) → words_from Bare (spaced (word ∷ words)) ≡ word ∷ words
+words-parted word [] h = h.0.alone
+words-parted word (next ∷ words) h = h.0.first (spaced (next ∷ words)) ∙ ap (λ (ws : List (List ℕ)). word ∷ ws) (words-parted next words h.1)
+
+pub spaced-unbroken : (words : List (List ℕ)) → AreWords words → is_unbroken (spaced words) ≡ true
+spaced-unbroken [] h = refl
+spaced-unbroken (word ∷ []) h = h.0.unbroken
+spaced-unbroken (word ∷ next ∷ words) h = unbroken_append word (32 ∷ spaced (next ∷ words)) h.0.unbroken (spaced-unbroken (next ∷ words) h.1)
+
+pub without-last : (xs : List ℕ) (y : ℕ) → take (length (xs ++ y ∷ []) - 1) (xs ++ y ∷ []) ≡ xs
+without-last xs y = take_at xs (y ∷ []) (length (xs ++ y ∷ []) - 1) (omega (arith, length_push xs y))
+
+-- the words of a line
+pub words-of-line : (word : List ℕ) (words : List (List ℕ)) → AreWords (word ∷ words) → words_of (spaced (word ∷ words) ++ 10 ∷ []) ≡ word ∷ words
+words-of-line word words h = ap (words_from Bare) (without-last (spaced (word ∷ words)) 10) ∙ words-parted word words h
+
+-- ---- lines
+
+abbrev pub AreUnbroken : List (List ℕ) → Type 0
+AreUnbroken [] = Unit {0}
+AreUnbroken (line ∷ lines) = (is_unbroken line ≡ true) × AreUnbroken lines
+
+-- the lines with their ends
+abbrev pub ended : List (List ℕ) → List (List ℕ)
+ended lines = map (λ line. line ++ 10 ∷ []) lines
+
+-- The lines of a text of lines before more text.
+pub lines-of : (lines : List (List ℕ)) (rest : List ℕ) → AreUnbroken lines → lines_of (lines_text lines ++ rest) ≡ ended lines ++ lines_of rest
+lines-of [] rest h = refl
+lines-of (line ∷ lines) rest h =
+    let same : ((line ++ 10 ∷ []) ++ lines_text lines) ++ rest ≡ line ++ 10 ∷ (lines_text lines ++ rest) = simp append_assoc in
+    ap lines_of same ∙ lines_behind_first line (lines_text lines ++ rest) h.0 ∙ ap (λ (ls : List (List ℕ)). (line ++ 10 ∷ []) ∷ ls) (lines-of lines rest h.1)
+
+pub lines-alone : (lines : List (List ℕ)) → AreUnbroken lines → lines_of (lines_text lines) ≡ ended lines
+lines-alone lines h = ap lines_of (sym (append-nil (lines_text lines))) ∙ lines-of lines [] h ∙ append-nil (ended lines)
+
+starts-itself : (lines rest : List (List ℕ)) → starts_with bytes_eq (lines ++ rest) lines ≡ true
+starts-itself [] rest = refl
+starts-itself (line ∷ lines) rest = rw ((bytes_eq-Decides line line).1 refl) (starts-itself lines rest)
+
+-- ---- what is said
+
+-- what is said is of words, and its further lines are unbroken
+pub record IsSaid (tables : List TableDecl) (told : Said) : Type 0 where
+  pub first : List ℕ
+  pub others : List (List ℕ)
+  pub words : said_words tables told ≡ first ∷ others
+  pub read : AreWords (first ∷ others)
+  pub behind : AreUnbroken (lines_behind told)
+
+-- what stands in its line behind its index
+unfoldable pub tail_of : List TableDecl → Said → List ℕ
+tail_of tables told = spaced (said_words tables told) ++ 10 ∷ []
+
+pub who-word : (who : Who) → IsWord (who_text who)
+who-word (Session n) = plain-word (decimal n) (plain_decimal n)
+who-word (Worker n) = plain-word (119 ∷ decimal n) (plain_decimal n)
+
+-- the first line of a reply, without its end
+abbrev first_line : List TableDecl → ReplyLine → List ℕ
+first_line tables reply = spaced (decimal reply.round ∷ who_text reply.who ∷ decimal reply.index ∷ said_words tables reply.said)
+
+all-words : (round index : ℕ) (who : Who) (words : List (List ℕ)) → AreWords words → AreWords (decimal round ∷ who_text who ∷ decimal index ∷ words)
+all-words round index who words h = (plain-word (decimal round) (plain_decimal round), (who-word who, (plain-word (decimal index) (plain_decimal index), h)))
+
+said-words : (tables : List TableDecl) (told : Said) → IsSaid tables told → AreWords (said_words tables told)
+said-words tables told h = subst AreWords (sym h.words) h.read
+
+pub reply-unbroken : (tables : List TableDecl) (reply : ReplyLine) → IsSaid tables reply.said → AreUnbroken (reply_lines tables reply)
+reply-unbroken tables reply h =
+    (spaced-unbroken (decimal reply.round ∷ who_text reply.who ∷ decimal reply.index ∷ said_words tables reply.said) (all-words reply.round reply.index reply.who (said_words tables reply.said) (said-words tables reply.said h)), h.behind)
+
+-- the words of its line behind its index are those of what is said
+pub words-in-line : (tables : List TableDecl) (reply : ReplyLine) → IsSaid tables reply.said → drop 3 (words_of (first_line tables reply ++ 10 ∷ [])) ≡ said_words tables reply.said
+words-in-line tables reply h =
+    ap (λ (words : List (List ℕ)). drop 3 words)
+    (words-of-line (decimal reply.round) (who_text reply.who ∷ decimal reply.index ∷ said_words tables reply.said) (all-words reply.round reply.index reply.who (said_words tables reply.said) (said-words tables reply.said h)))
+
+-- ---- which reply is found
+
+-- what stands before what is said
+abbrev front_of : ℕ → Who → ℕ → List ℕ
+front_of round who index = decimal round ++ 32 ∷ (who_text who ++ 32 ∷ (decimal index ++ 32 ∷ []))
+
+parted : (a b c words : List ℕ) → (a ++ 32 ∷ (b ++ 32 ∷ (c ++ 32 ∷ words))) ++ 10 ∷ [] ≡ (a ++ 32 ∷ (b ++ 32 ∷ (c ++ 32 ∷ []))) ++ (words ++ 10 ∷ [])
+parted a b c words = simp append_assoc
+
+spaced-more : (a b c : List ℕ) (first : List ℕ) (others : List (List ℕ)) → spaced (a ∷ b ∷ c ∷ first ∷ others) ≡ a ++ 32 ∷ (b ++ 32 ∷ (c ++ 32 ∷ spaced (first ∷ others)))
+spaced-more a b c first others = refl
+
+line-is : (tables : List TableDecl) (reply : ReplyLine) → IsSaid tables reply.said → first_line tables reply ++ 10 ∷ [] ≡ front_of reply.round reply.who reply.index ++ tail_of tables reply.said
+unfolding tail_of
+line-is tables reply h =
+    ap (λ (words : List (List ℕ)). spaced (decimal reply.round ∷ who_text reply.who ∷ decimal reply.index ∷ words) ++ 10 ∷ []) h.words
+    ∙ parted (decimal reply.round) (who_text reply.who) (decimal reply.index) (spaced (h.first ∷ h.others))
+    ∙ ap (λ (words : List (List ℕ)). front_of reply.round reply.who reply.index ++ (spaced words ++ 10 ∷ [])) (sym h.words)
+
+either : (b : Bool) → (b && true || false) ≡ b
+either true = refl
+either false = refl
+
+or-begun : (b : Bool) → b ≡ true → (b || false) ≡ true
+or-begun true h = refl
+or-begun false h = absurd (let never : ⊥ = cc in never)
+
+-- a reply of one line, with the place of another, is found at the front of that one's lines where they say the same
+other-begins : (tables : List TableDecl) (number : ℕ) (asked : Command) (round index : ℕ) (who : Who) (other told : Said) (behind : List (List ℕ)) → IsSaid tables other → lines_behind other ≡ [] → IsSaid tables told
+    → begins_with false tables ((first_line tables (record { round = round; who = who; index = index; said = told }) ++ 10 ∷ []) ∷ behind)
+    (record { number = number; command = asked; reply = record { round = round; who = who; index = index; said = other } })
+    ≡ bytes_eq (tail_of tables other) (tail_of tables told)
+other-begins tables number asked round index who other told behind is_other one is_told =
+    let its : ReplyLine = record { round = round; who = who; index = index; said = other } in
+    let line : List ℕ = first_line tables (record { round = round; who = who; index = index; said = told }) ++ 10 ∷ [] in
+    let lines : lines_of (reply_text tables its) ≡ (first_line tables its ++ 10 ∷ []) ∷ [] =
+    lines-alone (reply_lines tables its) (reply-unbroken tables its is_other) ∙ ap (λ (more : List (List ℕ)). (first_line tables its ++ 10 ∷ []) ∷ ended more) one in
+    ap (λ (ls : List (List ℕ)). starts_with bytes_eq (line ∷ behind) ls || false && starts_with bytes_eq ls (line ∷ behind)) lines
+    ∙ either (bytes_eq (first_line tables its ++ 10 ∷ []) line)
+    ∙ ap (λ (l : List ℕ). bytes_eq l line) (line-is tables its is_other)
+    ∙ ap (bytes_eq (front_of round who index ++ tail_of tables other)) (line-is tables (record { round = round; who = who; index = index; said = told }) is_told)
+    ∙ equal_front (front_of round who index) (tail_of tables other) (tail_of tables told)
+
+-- The first of these that may be said which is told: each before it is a line of its own, and another one.
+abbrev pub Picks : List TableDecl → Said → List Said → Type 0
+Picks tables told [] = ⊥
+Picks tables told (other ∷ others) = (other ≡ told) ⊎ (IsSaid tables other × (lines_behind other ≡ []) × (bytes_eq (tail_of tables other) (tail_of tables told) ≡ false) × Picks tables told others)
+
+own-begins : (tables : List TableDecl) (entry : Entry) (rest : List (List ℕ)) → IsSaid tables entry.reply.said
+    → begins_with false tables (ended (reply_lines tables entry.reply) ++ rest) entry ≡ true
+own-begins tables entry rest h =
+    ap (λ (ls : List (List ℕ)). starts_with bytes_eq (ended (reply_lines tables entry.reply) ++ rest) ls || false && starts_with bytes_eq ls (ended (reply_lines tables entry.reply) ++ rest)) (lines-alone (reply_lines tables entry.reply) (reply-unbroken tables entry.reply h))
+    ∙ or-begun (starts_with bytes_eq (ended (reply_lines tables entry.reply) ++ rest) (ended (reply_lines tables entry.reply))) (starts-itself (ended (reply_lines tables entry.reply)) rest)
+
+module _ (tables : List TableDecl) (earlier : List Entry) (due : Due) (told : Said) (rest : List (List ℕ)) (h : IsSaid tables told) where
+  abbrev the_entry : Entry
+  the_entry = entry_behind tables earlier due told
+
+  abbrev the_lines : List (List ℕ)
+  the_lines = ended (reply_lines tables (the_entry).reply) ++ rest
+
+  picked : (others : List Said) → Picks tables told others → find (begins_with false tables the_lines) (map (entry_behind tables earlier due) others) ≡ Some the_entry
+  picked [] picks = absurd picks
+  picked (other ∷ others) picks = elim picks [
+    | inl same ↦ ap (λ (s : Said). cond (begins_with false tables the_lines (entry_behind tables earlier due s)) (Some (entry_behind tables earlier due s)) (find (begins_with false tables the_lines) (map (entry_behind tables earlier due) others))) same
+        ∙ cond-true (begins_with false tables the_lines the_entry) (Some the_entry) (find (begins_with false tables the_lines) (map (entry_behind tables earlier due) others)) (own-begins tables the_entry rest h)
+    | inr next ↦ cond-false (begins_with false tables the_lines (entry_behind tables earlier due other)) (Some (entry_behind tables earlier due other)) (find (begins_with false tables the_lines) (map (entry_behind tables earlier due) others))
+        (other-begins tables (the_entry).number due.command due.round (the_entry).reply.index due.who other told (ended (lines_behind told) ++ rest) next.0 next.1 h ∙ next.2)
+        ∙ picked others next.3
+  ]
+
+-- ---- the replies one after the other
+
+-- what may be told where a command's reply is due
+abbrev pub replies_at : Bool → List TableDecl → List (List ℕ) → List (List ℕ) → Command → List Said
+replies_at within tables words behind asked = cond (within || is_upkeep asked) (replies_within tables words behind asked) (replies_without words asked)
+
+-- A reply is read back where its command's is due, in a transaction or not.
+pub record IsRead (tables : List TableDecl) (within : Bool) (asked : Command) (told : Said) : Type 0 where
+  pub is_said : IsSaid tables told
+  pub picks : (rest : List (List ℕ)) → Picks tables told (replies_at within tables (said_words tables told) (ended (lines_behind told) ++ rest) asked)
+
+abbrev pub AreRead : List TableDecl → List Entry → List Due → List Said → Type 0
+AreRead tables earlier [] [] = Unit {0}
+AreRead tables earlier [] (told ∷ saids) = ⊥
+AreRead tables earlier (due ∷ dues) [] = ⊥
+AreRead tables earlier (due ∷ dues) (told ∷ saids) =
+    (is_worker due.who ≡ false) × IsRead tables (is_within due.who earlier) due.command told × AreRead tables (earlier ++ entry_behind tables earlier due told ∷ []) dues saids
+
+all-pass : (saids : List Said) → filter (λ told. true) saids ≡ saids
+all-pass [] = refl
+all-pass (told ∷ saids) = ap (λ (others : List Said). told ∷ others) (all-pass saids)
+
+session-due : (tables : List TableDecl) (earlier : List Entry) (due : Due) (words behind : List (List ℕ)) → is_worker due.who ≡ false
+    → replies_due tables earlier due words behind ≡ replies_at (is_within due.who earlier) tables words behind due.command
+session-due tables earlier due words behind session =
+    ap (λ (b : Bool). filter (λ told. not (b && is_silent told)) (replies_at (is_within due.who earlier) tables words behind due.command)) session
+    ∙ all-pass (replies_at (is_within due.who earlier) tables words behind due.command)
+
+reply-read : (tables : List TableDecl) (earlier : List Entry) (due : Due) (told : Said) (rest : List (List ℕ)) → is_worker due.who ≡ false → (read : IsRead tables (is_within due.who earlier) due.command told)
+    → reply_at false tables earlier due (first_line tables (entry_behind tables earlier due told).reply ++ 10 ∷ []) (ended (lines_behind told) ++ rest) ≡ Some (entry_behind tables earlier due told)
+reply-read tables earlier due told rest session read =
+    let behind = ended (lines_behind told) ++ rest in
+    ap (λ (words : List (List ℕ)). find (begins_with false tables ((first_line tables (entry_behind tables earlier due told).reply ++ 10 ∷ []) ∷ behind)) (map (entry_behind tables earlier due) (replies_due tables earlier due words behind)))
+    (words-in-line tables (entry_behind tables earlier due told).reply read.is_said)
+    ∙ ap (λ (saids : List Said). find (begins_with false tables ((first_line tables (entry_behind tables earlier due told).reply ++ 10 ∷ []) ∷ behind)) (map (entry_behind tables earlier due) saids)) (session-due tables earlier due (said_words tables told) behind session)
+    ∙ picked tables earlier due told rest read.is_said (replies_at (is_within due.who earlier) tables (said_words tables told) behind due.command) (read.picks rest)
+
+dropped : (lines rest : List (List ℕ)) → drop (length lines) (ended lines ++ rest) ≡ rest
+dropped [] rest = refl
+dropped (line ∷ lines) rest = dropped lines rest
+
+goes-on : (o : Option Entry) (entry : Entry) (next : Entry → Option (List Entry)) (silent : Option (List Entry)) (entries : List Entry) → o ≡ Some entry → next entry ≡ Some entries
+    → option_or (elim o as (λ x. Option (List Entry)) [ Some e ↦ next e | None ↦ None ]) silent ≡ Some entries
+goes-on o entry next silent entries e h = rw (e, h) refl
+
+-- The text of replies, each read back where it is due, is read as these replies.
+pub replies-read : (tables : List TableDecl) (earlier : List Entry) (dues : List Due) (saids : List Said) → AreRead tables earlier dues saids
+    → reading false tables dues earlier (lines_of (replies_text tables (map (λ entry. entry.reply) (printed_from tables earlier dues (map Some saids)))))
+    ≡ Some (earlier ++ printed_from tables earlier dues (map Some saids))
+replies-read tables earlier [] [] h = ap Some (sym (append-nil earlier))
+replies-read tables earlier [] (told ∷ saids) h = absurd h
+replies-read tables earlier (due ∷ dues) [] h = absurd h
+replies-read tables earlier (due ∷ dues) (told ∷ saids) h =
+    let entry = entry_behind tables earlier due told in
+    let others = printed_from tables (earlier ++ entry ∷ []) dues (map Some saids) in
+    let rest = replies_text tables (map (λ e. e.reply) others) in
+    ap (reading false tables (due ∷ dues) earlier) (lines-of (reply_lines tables entry.reply) rest (reply-unbroken tables entry.reply h.1.is_said))
+    ∙ goes-on (reply_at false tables earlier due (first_line tables entry.reply ++ 10 ∷ []) (ended (lines_behind told) ++ lines_of rest)) entry
+    (λ e. reading false tables dues (earlier ++ e ∷ []) (drop (line_count tables e) (ended (reply_lines tables entry.reply) ++ lines_of rest)))
+    _ (earlier ++ entry ∷ others) (reply-read tables earlier due told (lines_of rest) h.0 h.1)
+    (ap (reading false tables dues (earlier ++ entry ∷ [])) (dropped (reply_lines tables entry.reply) (lines_of rest))
+    ∙ replies-read tables (earlier ++ entry ∷ []) dues saids h.2
+    ∙ ap Some (append_assoc earlier (entry ∷ []) others))

@@ -1,0 +1,225 @@
+-- Printed replies are numbered, and may have come about in the order of their lines.
+use Rattle.timeline_laws.specs.Laws.{InTurnIsSound, PrintedAreInOrder, PrintedInTurn}
+use Rattle.std.proofs.Common.{◌≡◌, ℕ, ◌+◌, ◌<◌, ◌≤◌, Bool, true, false, cond, ◌&&◌, ◌||◌, eqb, nat_lt, List, [], ◌∷◌, ◌++◌, Option, None, Some, refl, sym, ap, ◌∙◌, subst, arith}
+use Rattle.std.specs.List.{flat_map, count_by, sum_by, range_with_len, enumerate_from}
+use Rattle.std.proofs.lemmas.Bool.Decides.{nat_tests}
+use Rattle.std.proofs.lemmas.Bool.{eqb-true}
+use Rattle.std.proofs.lemmas.List.Sums.{sum_by-append, sum_by-cons}
+use Rattle.cell_model.specs.declared.table.TableDecl.{TableDecl}
+use Rattle.workload_spec.specs.declared.command.Command.{Command}
+use Rattle.workload_spec.specs.declared.script.Line.{Line}
+use Rattle.workload_spec.specs.declared.script.Script.{Script}
+use Rattle.workload_spec.specs.declared.reply.Who.{Who}
+use Rattle.workload_spec.specs.declared.reply.Who.TheVariants.{Session, Worker}
+use Rattle.workload_spec.specs.declared.reply.Said.{Said}
+use Rattle.outcome_spec.specs.Entries.{Entry, is_same, is_before}
+use Rattle.outcome_spec.specs.Forms.{Due, commands_of, dues_to, dues_in, dues_of, turn_of, line_count, entry_behind}
+use Rattle.timeline_spec.specs.Timeline.{Each, Follows, InOrder, Numbered}
+use Rattle.timeline_spec.specs.Printed.{printed_from, printed_of}
+use Rattle.timeline_laws.proofs.Tests.{and-false}
+use Rattle.timeline_laws.proofs.Order.{same-is, same-itself}
+use Rattle.timeline_laws.proofs.Sound.{timeline-sound}
+
+-- ---- the rounds of what is due
+
+-- rounds that go up from this one, or stay
+abbrev pub Rises : ℕ → List Due → Type 0
+Rises round [] = Unit {0}
+Rises round (due ∷ dues) = (round ≤ due.round) × Rises due.round dues
+
+-- all of one round
+abbrev AllIn : ℕ → List Due → Type 0
+AllIn round [] = Unit {0}
+AllIn round (due ∷ dues) = (due.round ≡ round) × AllIn round dues
+
+all-append : (round : ℕ) (a b : List Due) → AllIn round a → AllIn round b → AllIn round (a ++ b)
+all-append round [] b h k = k
+all-append round (due ∷ a) b h k = (h.0, all-append round a b h.1 k)
+
+rises-more : (low round : ℕ) (dues : List Due) → low ≤ round → Rises round dues → Rises low dues
+rises-more low round [] h k = tt
+rises-more low round (due ∷ dues) h k = let e : round ≤ due.round = k.0 in (omega (arith, h, e), k.1)
+
+rises-all : (low round : ℕ) (a b : List Due) → low ≤ round → AllIn round a → Rises round b → Rises low (a ++ b)
+rises-all low round [] b h k r = rises-more low round b h r
+rises-all low round (due ∷ a) b h k r =
+    let e : due.round ≡ round = k.0 in
+    (omega (arith, h, e), rises-all due.round round a b (omega (arith, e)) k.1 r)
+
+to-all : (round : ℕ) (who : Who) (commands : List Command) → AllIn round (dues_to round who commands)
+to-all round who [] = tt
+to-all round who (asked ∷ commands) = (refl, to-all round who commands)
+
+flat-all : (round : ℕ) (f : ℕ → List Due) → ((x : ℕ) → AllIn round (f x)) → (xs : List ℕ) → AllIn round (flat_map f xs)
+flat-all round f h [] = tt
+flat-all round f h (x ∷ xs) = all-append round (f x) (flat_map f xs) (h x) (flat-all round f h xs)
+
+in-all : (script : Script) (round : ℕ) (lines : List Line) → AllIn round (dues_in script round lines)
+in-all script round lines =
+    all-append round
+    (flat_map (λ session. dues_to round (Session session) (commands_of session lines)) (range_with_len 1 script.sessions))
+    (flat_map (λ worker. dues_to round (Worker worker) (flat_map (λ turn. turn_of script.tables) (range_with_len 1 script.turns))) (range_with_len 1 script.workers))
+    (flat-all round (λ session. dues_to round (Session session) (commands_of session lines)) (λ session. to-all round (Session session) (commands_of session lines)) (range_with_len 1 script.sessions))
+    (flat-all round (λ worker. dues_to round (Worker worker) (flat_map (λ turn. turn_of script.tables) (range_with_len 1 script.turns)))
+    (λ worker. to-all round (Worker worker) (flat_map (λ turn. turn_of script.tables) (range_with_len 1 script.turns))) (range_with_len 1 script.workers))
+
+rounds-rise : (script : Script) (low round : ℕ) (rounds : List (List Line)) → low ≤ round → Rises low (flat_map (λ entry. dues_in script entry.0 entry.1) (enumerate_from round rounds))
+rounds-rise script low round [] h = tt
+rounds-rise script low round (lines ∷ rounds) h =
+    rises-all low round (dues_in script round lines) (flat_map (λ entry. dues_in script entry.0 entry.1) (enumerate_from (round + 1) rounds)) h (in-all script round lines)
+    (rises-more round (round + 1) (flat_map (λ entry. dues_in script entry.0 entry.1) (enumerate_from (round + 1) rounds)) (omega arith) (rounds-rise script (round + 1) (round + 1) rounds (omega arith)))
+
+-- ---- the replies so far
+
+middle-none : (a b : Bool) → (a && false && b) ≡ false
+middle-none true b = refl
+middle-none false b = refl
+
+or-last : (a : Bool) → (a || true) ≡ true
+or-last true = refl
+or-last false = refl
+
+-- the replies of the same round and session or worker
+abbrev with_it : Entry → Entry → Bool
+with_it entry other = eqb other.reply.round entry.reply.round && is_same other.reply.who entry.reply.who
+
+-- a reply is among those so far: its index and its number count them
+record Counted (tables : List TableDecl) (whole : List Entry) (round : ℕ) (entry : Entry) : Type 0 where
+  index : entry.reply.index ≤ count_by (with_it entry) whole
+  number : entry.number ≤ sum_by (line_count tables) whole
+  low : entry.reply.round ≤ round
+
+counted-more : (tables : List TableDecl) (whole : List Entry) (round next : ℕ) (last entry : Entry) → round ≤ next → Counted tables whole round entry → Counted tables (whole ++ last ∷ []) next entry
+counted-more tables whole round next last entry up h =
+    let a : entry.reply.index ≤ count_by (with_it entry) whole = h.index in
+    let b : entry.number ≤ sum_by (line_count tables) whole = h.number in
+    let c : entry.reply.round ≤ round = h.low in
+    record {
+      index = omega (arith, a, sum_by-append (λ other. cond (with_it entry other) 1 0) whole (last ∷ []));
+      number = omega (arith, b, sum_by-append (line_count tables) whole (last ∷ []));
+      low = omega (arith, c, up);
+    }
+
+counted-on : (tables : List TableDecl) (whole : List Entry) (round next : ℕ) (entry : Entry) → round ≤ next → Counted tables whole round entry → Counted tables whole next entry
+counted-on tables whole round next entry up h = let c : entry.reply.round ≤ round = h.low in record { index = h.index; number = h.number; low = omega (arith, c, up) }
+
+module _ (tables : List TableDecl) where
+  some-lines : (entry : Entry) → 1 ≤ line_count tables entry
+  some-lines entry = omega arith
+
+module _ (tables : List TableDecl) (earlier : List Entry) (due : Due) (told : Said) where
+  abbrev new : Entry
+  new = entry_behind tables earlier due told
+
+  new-counted : Counted tables (earlier ++ new ∷ []) due.round new
+  new-counted =
+      let here : with_it new new ≡ true = let e : eqb due.round due.round ≡ true = grind (arith, nat_tests) in rw (e, same-itself due.who) refl in
+      let one : sum_by (λ other. cond (with_it new other) 1 0) (new ∷ []) ≡ 1 = sum_by-cons (λ other. cond (with_it new other) 1 0) new [] ∙ (rw here refl) in
+      let lines : sum_by (line_count tables) (new ∷ []) ≡ line_count tables new + sum_by (line_count tables) [] = sum_by-cons (line_count tables) new [] in
+      let some : 1 ≤ line_count tables new = some-lines tables new in
+      record {
+        index = omega (arith, sum_by-append (λ other. cond (with_it new other) 1 0) earlier (new ∷ []), one);
+        number = omega (arith, sum_by-append (line_count tables) earlier (new ∷ []), lines, some);
+        low = omega arith;
+      }
+
+  -- a reply of the same round and session or worker has a smaller index
+  index-less : (e : Entry) → Counted tables earlier due.round e → (a b : Bool) → eqb e.reply.round due.round ≡ a → is_same e.reply.who due.who ≡ b → (a && b) ≡ true → e.reply.index < new.reply.index
+  index-less e h true true is_a is_b both_true =
+      let round : e.reply.round ≡ due.round = eqb-true e.reply.round due.round is_a in
+      let who : e.reply.who ≡ due.who = same-is e.reply.who due.who is_b in
+      let c : e.reply.index ≤ count_by (with_it e) earlier = h.index in
+      let same : count_by (with_it e) earlier ≡ count_by (λ other. eqb other.reply.round due.round && is_same other.reply.who due.who) earlier =
+      ap (λ (r : ℕ). count_by (λ other. eqb other.reply.round r && is_same other.reply.who e.reply.who) earlier) round
+      ∙ ap (λ (w : Who). count_by (λ other. eqb other.reply.round due.round && is_same other.reply.who w) earlier) who in
+      let d : new.reply.index ≡ 1 + count_by (λ other. eqb other.reply.round due.round && is_same other.reply.who due.who) earlier = refl in
+      omega (arith, c, same, d)
+  index-less e h true false is_a is_b both_true = absurd (let never : ⊥ = cc in never)
+  index-less e h false b is_a is_b both_true = absurd (let never : ⊥ = cc in never)
+
+  turned-back : (e : Entry) (b : Bool) → is_same due.who e.reply.who ≡ b → is_same e.reply.who due.who ≡ false → is_same due.who e.reply.who ≡ false
+  turned-back e true h k =
+      let f : is_same e.reply.who due.who ≡ true = subst (λ (w : Who). is_same w due.who ≡ true) (same-is due.who e.reply.who h) (same-itself due.who) in
+      let never : true ≡ false = sym f ∙ k in
+      absurd (let impossible : ⊥ = cc in impossible)
+  turned-back e false h k = h
+
+  turned-who : (e : Entry) → is_same due.who e.reply.who ≡ true → is_same e.reply.who due.who ≡ true
+  turned-who e h = subst (λ (w : Who). is_same w due.who ≡ true) (same-is due.who e.reply.who h) (same-itself due.who)
+
+  -- the new reply is not before one of those so far
+  not-before-by : (e : Entry) → Counted tables earlier due.round e → (a b : Bool) → eqb e.reply.round due.round ≡ a → is_same e.reply.who due.who ≡ b → is_before new e ≡ false
+  not-before-by e h true true is_a is_b =
+      let less : e.reply.index < new.reply.index = index-less e h true true is_a is_b refl in
+      let round : nat_lt due.round e.reply.round ≡ false = let low : e.reply.round ≤ due.round = h.low in grind (arith, nat_tests, low) in
+      let index : nat_lt new.reply.index e.reply.index ≡ false = grind (arith, nat_tests, less) in
+      rw (round, index) (and-false (eqb due.round e.reply.round && is_same due.who e.reply.who))
+  not-before-by e h true false is_a is_b =
+      let round : nat_lt due.round e.reply.round ≡ false = let low : e.reply.round ≤ due.round = h.low in grind (arith, nat_tests, low) in
+      let who : is_same due.who e.reply.who ≡ false = turned-back e (is_same due.who e.reply.who) refl is_b in
+      rw (round, who) (middle-none (eqb due.round e.reply.round) (nat_lt new.reply.index e.reply.index))
+  not-before-by e h false b is_a is_b =
+      let round : nat_lt due.round e.reply.round ≡ false = let low : e.reply.round ≤ due.round = h.low in grind (arith, nat_tests, low) in
+      let other : eqb due.round e.reply.round ≡ false = grind (arith, nat_tests, is_a) in
+      rw (round, other) refl
+
+  in-turn-by : (e : Entry) → Counted tables earlier due.round e → is_same due.who e.reply.who ≡ true → (a : Bool) → eqb e.reply.round due.round ≡ a → is_before e new ≡ true
+  in-turn-by e h same true is_a =
+      let same_who : is_same e.reply.who due.who ≡ true = turned-who e same in
+      let less : e.reply.index < new.reply.index = index-less e h true true is_a same_who refl in
+      let index : nat_lt e.reply.index new.reply.index ≡ true = grind (arith, nat_tests, less) in
+      rw (is_a, same_who, index) (or-last (nat_lt e.reply.round due.round))
+  in-turn-by e h same false is_a =
+      let low : e.reply.round ≤ due.round = h.low in
+      let round : nat_lt e.reply.round due.round ≡ true = grind (arith, nat_tests, is_a, low) in
+      rw round refl
+
+  new-follows : (e : Entry) → Counted tables earlier due.round e → Follows e new
+  new-follows e h = record {
+    not_before = not-before-by e h (eqb e.reply.round due.round) (is_same e.reply.who due.who) refl refl;
+    in_turn = λ same. in-turn-by e h same (eqb e.reply.round due.round) refl;
+  }
+
+  new-above : (e : Entry) → Counted tables earlier due.round e → e.number < new.number
+  new-above e h = let b : e.number ≤ sum_by (line_count tables) earlier = h.number in omega (arith, b)
+
+-- ---- all replies
+
+all-follow : (tables : List TableDecl) (earlier : List Entry) (dues : List Due) (told : List (Option Said)) (low : ℕ) (e : Entry) → Rises low dues → Counted tables earlier low e
+    → Each (Follows e) (printed_from tables earlier dues told) × Each (λ later. e.number < later.number) (printed_from tables earlier dues told)
+all-follow tables earlier [] told low e rise h = (tt, tt)
+all-follow tables earlier (due ∷ dues) [] low e rise h = (tt, tt)
+all-follow tables earlier (due ∷ dues) (None ∷ told) low e rise h = all-follow tables earlier dues told due.round e rise.1 (counted-on tables earlier low due.round e rise.0 h)
+all-follow tables earlier (due ∷ dues) (Some said ∷ told) low e rise h =
+    let here = counted-on tables earlier low due.round e rise.0 h in
+    let rest = all-follow tables (earlier ++ entry_behind tables earlier due said ∷ []) dues told due.round e rise.1 (counted-more tables earlier due.round due.round (entry_behind tables earlier due said) e (omega arith) here) in
+    ((new-follows tables earlier due said e here, rest.0), (new-above tables earlier due said e here, rest.1))
+
+all-in-order : (tables : List TableDecl) (earlier : List Entry) (dues : List Due) (told : List (Option Said)) (low : ℕ) → Rises low dues
+    → Numbered (printed_from tables earlier dues told) × InOrder (printed_from tables earlier dues told)
+all-in-order tables earlier [] told low rise = (tt, tt)
+all-in-order tables earlier (due ∷ dues) [] low rise = (tt, tt)
+all-in-order tables earlier (due ∷ dues) (None ∷ told) low rise = all-in-order tables earlier dues told due.round rise.1
+all-in-order tables earlier (due ∷ dues) (Some said ∷ told) low rise =
+    let e = entry_behind tables earlier due said in
+    let behind = all-follow tables (earlier ++ e ∷ []) dues told due.round e rise.1 (new-counted tables earlier due said) in
+    let rest = all-in-order tables (earlier ++ e ∷ []) dues told due.round rise.1 in
+    ((behind.1, rest.0), (behind.0, rest.1))
+
+-- Printed replies are numbered and in order.
+pub printed-in-order : PrintedAreInOrder
+printed-in-order script told = all-in-order script.tables [] (dues_of script) told 0 (rounds-rise script 0 1 script.rounds (omega arith))
+
+-- Replies that came about as they are printed are a timeline, and sound.
+pub printed-in-turn : PrintedInTurn
+printed-in-turn script told runs =
+    let order = printed-in-order script told in
+    record {
+      threads = λ who. refl;
+      numbers = order.0;
+      order = order.1;
+      runs = runs;
+    }
+
+pub in-turn-sound : InTurnIsSound
+in-turn-sound script told runs = timeline-sound script.tables (printed_of script told) (printed_of script told) (printed-in-turn script told runs)

@@ -1,0 +1,759 @@
+-- Conflicts of a timeline: those that are named are there, and none is passed over.
+use Rattle.std.proofs.Common.{◌≡◌, ℕ, ◌+◌, ◌-◌, ◌<◌, ◌≤◌, zero, suc, Bool, true, false, cond, ◌&&◌, ◌||◌, not, eqb, nat_le, nat_lt, List, [], ◌∷◌, ◌++◌, length, drop, get_or, Option, None, Some, refl, sym, ap, ◌∙◌, subst, arith, append-nil, length-append, ◌⊎◌, inl, inr}
+use Rattle.std.specs.Prelude.{option_map, option_and_then, fold}
+use Rattle.std.specs.Option.{option_or, option_map_or}
+use Rattle.std.specs.BTreeMap.{insert_entry}
+use Rattle.std.specs.Cmp.{eq_by_cmp_equiv}
+use Rattle.std.specs.List.{filter, filter_map, find, list_all, list_any, cons_option, range_with_len}
+use Rattle.std.proofs.lemmas.Bool.Decides.{nat_tests}
+use Rattle.std.proofs.lemmas.Bool.{and_parts, eqb-true, leb-true}
+use Rattle.std.proofs.lemmas.List.{get_or-drop, get_or_append_left, length_push, length-drop}
+use Rattle.std.proofs.lemmas.List.Folds.{find-append, list_any-append}
+use Rattle.std.proofs.lemmas.List.Elements.{filter-append}
+use Rattle.cell_model.specs.declared.cell.Cell.{Cell}
+use Rattle.cell_model.specs.declared.table.TableDecl.{TableDecl}
+use Rattle.isolation_spec.specs.Contents.{place_cmp, is_place, WriteSet, History}
+use Rattle.isolation_spec.specs.declared.place.Place.{Place}
+use Rattle.isolation_spec.specs.Machine.{IsolationMachine, transaction_of, writes_place, last_writer, seen_rows, with_own}
+use Rattle.isolation_spec.specs.Machine.{Transaction as OpenTransaction}
+use Rattle.isolation_laws.proofs.Rows.{place_cmp-total}
+use Rattle.workload_spec.specs.declared.command.Command.{Command}
+use Rattle.workload_spec.specs.declared.reply.Who.{Who}
+use Rattle.workload_spec.specs.declared.reply.Who.TheVariants.{Session, Worker}
+use Rattle.workload_spec.specs.declared.reply.Said.{Said}
+use Rattle.workload_spec.specs.declared.reply.Said.TheVariants as said
+use Rattle.outcome_spec.specs.Entries.{Entry, is_same, is_before, is_not_after, before, not_after, shown_in, snapshot_in, commit_in, is_end, is_accepted}
+use Rattle.outcome_spec.specs.Runs.{Transaction, Run, up_to_end, ending_of, accepted_write, writes_in, write_of, commit_line, commits_as}
+use Rattle.outcome_spec.specs.Answers.{is_acceptable}
+use Rattle.outcome_spec.specs.Conflicts.{write_set_at, later_writers, is_committed_before, is_committed_not_after, has_write, names_commit, names_session, passes_no_commit, passes_no_session, is_first_updater, is_memory, conflict_holds, conflicts_hold}
+use Rattle.outcome_spec.proofs.Conditions.{both}
+use Rattle.timeline_spec.specs.Timeline.{thread, open_of, Each, Follows, Timeline, Runs, request_of, TakesAs}
+use Rattle.timeline_laws.proofs.Tests.{or-holds, or-left, or-right, all-three, all-four, all-five}
+use Rattle.timeline_laws.proofs.Ranges.{all-below, all-above}
+use Rattle.timeline_laws.proofs.Order.{Each-first, Each-second, Each-weaker, Each-filter, Each-timeline, before-each, after-each, before-itself, same-is, same-itself}
+use Rattle.timeline_laws.proofs.Spans.{span, spans, EachSpan, Ended, spans-is}
+use Rattle.timeline_laws.proofs.Unique.{Only}
+use Rattle.timeline_laws.proofs.Belongs.{Each-up_to_end, its-thread, threads-in-order}
+use Rattle.timeline_laws.proofs.Writers.{LastAt, last-some, last-none, writes-more}
+use Rattle.timeline_laws.proofs.Machine.{Rival, rival-some, Free, free-none, its-session, at-written, entering, eqb-itself}
+use Rattle.timeline_laws.proofs.Steps.{Change, quiet, opens, writes, ends, commits, Clear, Verdict, accepted, rival, later, refused, limited, memory, takes-verdict}
+use Rattle.timeline_laws.proofs.Walk.{Within, Stands, Shown, shown-step}
+use Rattle.timeline_laws.proofs.Agrees.{others-open}
+use Rattle.timeline_laws.proofs.Cuts.{Cut, Grows, last_of, change-of, all-grow}
+use Rattle.timeline_laws.proofs.Histories.{run, last, at-cut, history-shown, find-each, find-fails, find-passes, below-other, above-other}
+use Rattle.timeline_laws.proofs.Views.{belongs, by-transaction, front-follows, rest-follows}
+
+-- ---- numbers that pass a test
+
+filter-all-step : (p : ℕ → Bool) (b : Bool) (x : ℕ) (kept : List ℕ) → (b ≡ true → p x ≡ true) → list_all p kept ≡ true → list_all p (cond b (x ∷ kept) kept) ≡ true
+filter-all-step p true x kept h k = both (p x) (list_all p kept) (h refl) k
+filter-all-step p false x kept h k = k
+
+pub filter-all : (p q : ℕ → Bool) → ((x : ℕ) → q x ≡ true → p x ≡ true) → (xs : List ℕ) → list_all p (filter q xs) ≡ true
+filter-all p q h [] = refl
+filter-all p q h (x ∷ xs) = filter-all-step p (q x) x (filter q xs) (h x) (filter-all p q h xs)
+
+-- a number of a range that passes stands among those that do
+filter-any-here : (k : ℕ) (b : Bool) (kept : List ℕ) → b ≡ true → list_any (λ x. eqb x k) (cond b (k ∷ kept) kept) ≡ true
+filter-any-here k true kept h = let e : eqb k k ≡ true = grind (arith, nat_tests) in rw e refl
+filter-any-here k false kept h = absurd (let never : ⊥ = cc in never)
+
+filter-any-later : (k x : ℕ) (b : Bool) (kept : List ℕ) → list_any (λ y. eqb y k) kept ≡ true → list_any (λ y. eqb y k) (cond b (x ∷ kept) kept) ≡ true
+filter-any-later k x true kept h = or-holds (eqb x k) (list_any (λ y. eqb y k) kept) h
+filter-any-later k x false kept h = h
+
+further : (a k : ℕ) → a ≤ k → eqb a k ≡ false → a + 1 ≤ k
+further a k low apart = grind (arith, nat_tests, low)
+
+range-any-at : (q : ℕ → Bool) (k a : ℕ) (rest : List ℕ) → q k ≡ true → (b : Bool) → eqb a k ≡ b → (b ≡ false → list_any (λ x. eqb x k) (filter q rest) ≡ true)
+    → list_any (λ x. eqb x k) (cond (q a) (a ∷ filter q rest) (filter q rest)) ≡ true
+range-any-at q k a rest h true is more =
+    let e : a ≡ k = eqb-true a k is in
+    subst (λ (x : ℕ). list_any (λ y. eqb y k) (cond (q x) (x ∷ filter q rest) (filter q rest)) ≡ true) (sym e) (filter-any-here k (q k) (filter q rest) h)
+range-any-at q k a rest h false is more = filter-any-later k a (q a) (filter q rest) (more refl)
+
+pub range-any : (q : ℕ → Bool) (k a n : ℕ) → a ≤ k → k < a + n → q k ≡ true → list_any (λ x. eqb x k) (filter q (range_with_len a n)) ≡ true
+range-any q k a zero low high h = absurd (omega (arith, low, high))
+range-any q k a (suc n) low high h =
+    range-any-at q k a (range_with_len (a + 1) n) h (eqb a k) refl (λ (is : eqb a k ≡ false). range-any q k (a + 1) n (further a k low is) (omega (arith, high)) h)
+
+-- ---- what a write set of replies has
+
+-- an accepted write of the place
+abbrev writes_it : Place → Entry → Bool
+writes_it place entry = option_map_or (λ write. is_place write.0 place) (accepted_write entry) false
+
+turned : (a b c : Bool) → (cond a true b || c) ≡ (b || (a || c))
+turned true true c = refl
+turned true false c = refl
+turned false b c = refl
+
+unlikely : (b : Bool) → b ≡ (b || false)
+unlikely true = refl
+unlikely false = refl
+
+written-step : (place : Place) (own : WriteSet) (o : Option (Place × Option (List Cell))) (others : List (Place × Option (List Cell)))
+    → ((start : WriteSet) → writes_place place (fold (λ all write. insert_entry place_cmp all write.0 write.1) start others) ≡ (writes_place place start || list_any (λ write. is_place write.0 place) others))
+    → writes_place place (fold (λ all write. insert_entry place_cmp all write.0 write.1) own (cons_option o others))
+    ≡ (writes_place place own || (option_map_or (λ write. is_place write.0 place) o false || list_any (λ write. is_place write.0 place) others))
+written-step place own None others h = h own
+written-step place own (Some write) others h =
+    h (insert_entry place_cmp own write.0 write.1)
+    ∙ ap (λ (b : Bool). b || list_any (λ w. is_place w.0 place) others) (writes-more own write.0 write.1 place ∙ ap (λ (b : Bool). cond b true (writes_place place own)) ((eq_by_cmp_equiv place_cmp-total).symm place write.0))
+    ∙ turned (is_place write.0 place) (writes_place place own) (list_any (λ w. is_place w.0 place) others)
+
+written : (place : Place) (own : WriteSet) (writes_all : List (Place × Option (List Cell)))
+    → writes_place place (fold (λ all write. insert_entry place_cmp all write.0 write.1) own writes_all) ≡ (writes_place place own || list_any (λ write. is_place write.0 place) writes_all)
+written place own [] = unlikely (writes_place place own)
+written place own (write ∷ all) = written-step place own (Some write) all (λ start. written place start all)
+
+has-step : (o : Option (Place × Option (List Cell))) (place : Place) (others : List (Place × Option (List Cell))) (rest : Bool) → list_any (λ write. is_place write.0 place) others ≡ rest
+    → list_any (λ write. is_place write.0 place) (cons_option o others) ≡ (option_map_or (λ write. is_place write.0 place) o false || rest)
+has-step None place others rest h = h
+has-step (Some write) place others rest h = ap (λ (b : Bool). is_place write.0 place || b) h
+
+has-any : (place : Place) (entries : List Entry) → list_any (λ write. is_place write.0 place) (filter_map accepted_write entries) ≡ has_write place entries
+has-any place [] = refl
+has-any place (entry ∷ entries) = has-step (accepted_write entry) place (filter_map accepted_write entries) (has_write place entries) (has-any place entries)
+
+-- The write set of replies has a place where one of them is an accepted write of it.
+pub has-writes : (place : Place) (entries : List Entry) → writes_place place (writes_in entries) ≡ has_write place entries
+has-writes place entries = written place [] (filter_map accepted_write entries) ∙ has-any place entries
+
+-- a write among some of the replies is one among all
+some-write-step : (place : Place) (p : Entry → Bool) (b : Bool) (entry : Entry) (kept entries : List Entry) → (has_write place entries ≡ false → has_write place kept ≡ false)
+    → (writes_it place entry || has_write place entries) ≡ false → has_write place (cond b (entry ∷ kept) kept) ≡ false
+some-write-step place p true entry kept entries rest h = rw (or-left (writes_it place entry) (has_write place entries) h) (rest (or-right (writes_it place entry) (has_write place entries) h))
+some-write-step place p false entry kept entries rest h = rest (or-right (writes_it place entry) (has_write place entries) h)
+
+pub no-write-filter : (place : Place) (p : Entry → Bool) (entries : List Entry) → has_write place entries ≡ false → has_write place (filter p entries) ≡ false
+no-write-filter place p [] h = refl
+no-write-filter place p (entry ∷ entries) h = some-write-step place p (p entry) entry (filter p entries) entries (no-write-filter place p entries) h
+
+-- ---- tests of the transactions, session by session
+
+kept-pass-step : (b : Bool) (who : Who) (t : Transaction) (kept : List Transaction) → is_same t.who who ≡ b → EachSpan (λ u. u.who ≡ who) kept → EachSpan (λ u. u.who ≡ who) (cond b (t ∷ kept) kept)
+kept-pass-step true who t kept is h = (same-is t.who who is, h)
+kept-pass-step false who t kept is h = h
+
+kept-pass : (who : Who) (ts : List Transaction) → EachSpan (λ u. u.who ≡ who) (filter (λ t. is_same t.who who) ts)
+kept-pass who [] = tt
+kept-pass who (t ∷ ts) = kept-pass-step (is_same t.who who) who t (filter (λ u. is_same u.who who) ts) refl (kept-pass who ts)
+
+filter-each : (p : Entry → Bool) (entries : List Entry) → Each (λ entry. p entry ≡ true) entries → filter p entries ≡ entries
+filter-each p [] h = refl
+filter-each p (entry ∷ entries) h = rw h.0 (ap (λ es. entry ∷ es) (filter-each p entries h.1))
+
+or-first : (a b : Bool) → a ≡ true → (a || b) ≡ true
+or-first true b h = refl
+or-first false b h = absurd (let never : ⊥ = cc in never)
+
+session-apart : (who : Who) (session s : ℕ) → who ≡ Session session → is_same who (Session s) ≡ false → eqb session s ≡ false
+session-apart who session s is h = ap (λ (w : Who). is_same w (Session s)) (sym is) ∙ h
+
+-- some transaction passes where one of those that pass another test does
+any-kept-step : (a b : Bool) (rest : Bool) (t : Transaction) (kept : List Transaction) (test : Transaction → Bool) → test t ≡ b → list_any test (cond a (t ∷ kept) kept) ≡ true → (list_any test kept ≡ true → rest ≡ true) → (b || rest) ≡ true
+any-kept-step a true rest t kept test is h more = refl
+any-kept-step true false rest t kept test is h more = more (sym (ap (λ (b : Bool). b || list_any test kept) is) ∙ h)
+any-kept-step false false rest t kept test is h more = more h
+
+pub any-kept : (test choice : Transaction → Bool) (ts : List Transaction) → list_any test (filter choice ts) ≡ true → list_any test ts ≡ true
+any-kept test choice [] h = h
+any-kept test choice (t ∷ ts) h = any-kept-step (choice t) (test t) (list_any test ts) t (filter choice ts) test refl h (any-kept test choice ts)
+
+none-kept-step : (a b : Bool) (t : Transaction) (kept : List Transaction) (test : Transaction → Bool) → list_any test (cond a (t ∷ kept) kept) ≡ false → a ≡ true → (test t ≡ false) × (list_any test kept ≡ false)
+none-kept-step true b t kept test h is = (or-left (test t) (list_any test kept) h, or-right (test t) (list_any test kept) h)
+none-kept-step false b t kept test h is = absurd (let never : ⊥ = cc in never)
+
+none-tail-step : (a : Bool) (t : Transaction) (kept : List Transaction) (test : Transaction → Bool) → list_any test (cond a (t ∷ kept) kept) ≡ false → list_any test kept ≡ false
+none-tail-step true t kept test h = or-right (test t) (list_any test kept) h
+none-tail-step false t kept test h = h
+
+-- no transaction passes where none of any session or worker does
+pub none-any : (test : Transaction → Bool) (ts : List Transaction) → ((who : Who) → list_any test (filter (λ t. is_same t.who who) ts) ≡ false) → list_any test ts ≡ false
+none-any test [] h = refl
+none-any test (t ∷ ts) h =
+    let first = none-kept-step (is_same t.who t.who) true t (filter (λ u. is_same u.who t.who) ts) test (h t.who) (same-itself t.who) in
+    rw first.0 (none-any test ts (λ who. none-tail-step (is_same t.who who) t (filter (λ u. is_same u.who who) ts) test (h who)))
+
+none-spans : (test : Transaction → Bool) (ts : List Transaction) → EachSpan (λ t. test t ≡ false) ts → list_any test ts ≡ false
+none-spans test [] h = refl
+none-spans test (t ∷ ts) h = rw h.0 (none-spans test ts h.1)
+
+option-none : (test : Transaction → Bool) (o : Option Transaction) (others : List Transaction) → option_map_or test o false ≡ false → list_any test others ≡ false → list_any test (cons_option o others) ≡ false
+option-none test None others h k = k
+option-none test (Some t) others h k = rw h k
+
+-- of one that ended, the end is not after the reply; of one that goes on, it is not before it
+found-end-step : (test : Entry → Bool) (b : Bool) (entry : Entry) (found : Option Entry) (others : Bool) → test entry ≡ false → (others ≡ true → option_map_or test found true ≡ false) → (b || others) ≡ true
+    → option_map_or test (cond b (Some entry) found) true ≡ false
+found-end-step test true entry found others h rest k = h
+found-end-step test false entry found others h rest k = rest k
+
+some-end-step : (test : Entry → Bool) (b : Bool) (entry : Entry) (found : Option Entry) → test entry ≡ true → option_map_or test found true ≡ true → option_map_or test (cond b (Some entry) found) true ≡ true
+some-end-step test true entry found h k = h
+some-end-step test false entry found h k = k
+
+found-end : (test : Entry → Bool) (entries : List Entry) → Each (λ entry. test entry ≡ false) entries → list_any (λ entry. is_end entry.reply.said) entries ≡ true
+    → option_map_or test (find (λ entry. is_end entry.reply.said) entries) true ≡ false
+found-end test [] h k = absurd (let never : ⊥ = cc in never)
+found-end test (entry ∷ entries) h k = found-end-step test (is_end entry.reply.said) entry (find (λ e. is_end e.reply.said) entries) (list_any (λ e. is_end e.reply.said) entries) h.0 (found-end test entries h.1) k
+
+some-end : (test : Entry → Bool) (entries : List Entry) → Each (λ entry. test entry ≡ true) entries → option_map_or test (find (λ entry. is_end entry.reply.said) entries) true ≡ true
+some-end test [] h = refl
+some-end test (entry ∷ entries) h = some-end-step test (is_end entry.reply.said) entry (find (λ e. is_end e.reply.said) entries) h.0 (some-end test entries h.1)
+
+-- ---- the numbers of the commits
+
+unshown-step : (k : ℕ) (o : Option ℕ) (others : List ℕ) → option_map_or (λ c. eqb c k) o false ≡ false → list_any (λ x. eqb x k) others ≡ false → list_any (λ x. eqb x k) (cons_option o others) ≡ false
+unshown-step k None others h rest = rest
+unshown-step k (Some c) others h rest = rw h rest
+
+unshown : (k : ℕ) (entries : List Entry) → Each (λ entry. commits_as k entry ≡ false) entries → list_any (λ x. eqb x k) (shown_in commit_in entries) ≡ false
+unshown k [] h = refl
+unshown k (entry ∷ entries) h = unshown-step k (commit_in entry.reply.said) (shown_in commit_in entries) h.0 (unshown k entries h.1)
+
+all-kept : (xs : List ℕ) → filter (λ x. true) xs ≡ xs
+all-kept [] = refl
+all-kept (x ∷ xs) = ap (λ (ys : List ℕ). x ∷ ys) (all-kept xs)
+
+range-has : (k a n : ℕ) → a ≤ k → k < a + n → list_any (λ x. eqb x k) (range_with_len a n) ≡ true
+range-has k a n low high = ap (list_any (λ x. eqb x k)) (sym (all-kept (range_with_len a n))) ∙ range-any (λ x. true) k a n low high refl
+
+grown : {who : Who} {asked : Command} {told : Said} {machine after : IsolationMachine} → Change who asked told machine after → length machine.history ≤ length after.history
+grown (quiet q) = omega (arith, ap (λ (m : IsolationMachine). length m.history) q.same)
+grown (opens o) = omega (arith, ap (λ (m : IsolationMachine). length m.history) o.is)
+grown (writes w) = omega (arith, ap (λ (m : IsolationMachine). length m.history) w.is)
+grown (ends e) = omega (arith, ap (λ (m : IsolationMachine). length m.history) e.is)
+grown {machine = machine} (commits c) = omega (arith, ap (λ (m : IsolationMachine). length m.history) c.is, length_push machine.history c.t.own)
+
+module _ (tables : List TableDecl) (printed timeline : List Entry) (t : Timeline tables printed timeline) (entry : Entry) (only : Only printed entry)
+    (cut : Cut tables timeline (last tables printed timeline t) entry) where
+  abbrev the_run : Run
+  the_run = run tables printed timeline t
+
+  abbrev so_far : History
+  so_far = cut.machine.history
+
+  -- no line that commits as a number above those in front is before the reply
+  line-by : (k : ℕ) → length so_far < k → (line : Entry) → commit_line printed k ≡ Some line → (b : Bool) → is_before line entry ≡ b → is_before line entry ≡ false
+  line-by k high line is false at = at
+  line-by k high line is true at =
+      let low : list_all (λ x. nat_lt x k) (shown_in commit_in cut.front) ≡ true = rw cut.shown.commits_are (all-below k 1 (length so_far) (omega (arith, high))) in
+      let each = before-each printed timeline cut.front entry cut.rest t.threads cut.whole t.order (λ other. commits_as k other ≡ false) (below-other k cut.front low) in
+      let other : commits_as k line ≡ false = find-each (λ o. is_before o entry ≡ true → commits_as k o ≡ false) (commits_as k) printed line each is at in
+      let never : true ≡ false = sym (find-passes (commits_as k) printed line is) ∙ other in
+      absurd (let impossible : ⊥ = cc in impossible)
+
+  line-not : (k : ℕ) → length so_far < k → (found : Option Entry) → commit_line printed k ≡ found → option_map_or (λ line. is_before line entry) found false ≡ false
+  line-not k high None is = refl
+  line-not k high (Some line) is = line-by k high line is (is_before line entry) refl
+
+  pub not-before : (k : ℕ) → length so_far < k → is_committed_before the_run entry k ≡ false
+  not-before k high =
+      line-not k high (commit_line printed k) refl
+
+  -- the line that commits as a number in front is not after the reply
+  after-by : (k : ℕ) → k ≤ length so_far → (line : Entry) → commit_line printed k ≡ Some line → (b : Bool) → is_before entry line ≡ b → is_before entry line ≡ false
+  after-by k low line is false at = at
+  after-by k low line is true at =
+      let more : length so_far ≤ length cut.after.history = grown cut.change in
+      let high : list_all (λ x. nat_lt k x) (shown_in commit_in cut.rest) ≡ true = rw cut.behind (all-above k (length cut.after.history + 1) (length cut.grows_after.more) (omega (arith, low, more))) in
+      let each = after-each printed timeline cut.front entry cut.rest t.threads cut.whole t.order (λ other. commits_as k other ≡ false) (above-other k cut.rest high) in
+      let other : commits_as k line ≡ false = find-each (λ o. is_before entry o ≡ true → commits_as k o ≡ false) (commits_as k) printed line each is at in
+      let never : true ≡ false = sym (find-passes (commits_as k) printed line is) ∙ other in
+      absurd (let impossible : ⊥ = cc in impossible)
+
+  not-after-found : (k : ℕ) → 1 ≤ k → k ≤ length so_far → (found : Option Entry) → commit_line printed k ≡ found → option_map_or (λ line. is_not_after line entry) found false ≡ true
+  not-after-found k least low None is =
+      let none = Each-timeline (λ other. commits_as k other ≡ false) printed timeline t.threads (find-fails (commits_as k) printed is) in
+      let in_front = Each-first (λ other. commits_as k other ≡ false) cut.front (entry ∷ cut.rest) (subst (Each (λ other. commits_as k other ≡ false)) cut.whole none) in
+      let absent : list_any (λ x. eqb x k) (shown_in commit_in cut.front) ≡ false = unshown k cut.front in_front in
+      let there : list_any (λ x. eqb x k) (range_with_len 1 (length so_far)) ≡ true = range-has k 1 (length so_far) least (omega (arith, low)) in
+      let never : true ≡ false = sym there ∙ sym (ap (list_any (λ x. eqb x k)) cut.shown.commits_are) ∙ absent in
+      absurd (let impossible : ⊥ = cc in impossible)
+  not-after-found k least low (Some line) is = ap not (after-by k low line is (is_before entry line) refl)
+
+  pub not-after-line : (k : ℕ) → 1 ≤ k → k ≤ length so_far → is_committed_not_after the_run entry k ≡ true
+  not-after-line k least low = not-after-found k least low (commit_line printed k) refl
+
+  -- the write set of a number in front is the machine's
+  pub set-is : (k : ℕ) → 1 ≤ k → k ≤ length so_far → write_set_at the_run k ≡ get_or so_far (k - 1) []
+  set-is k least low =
+      ap (λ (h : History). get_or h (k - 1) []) (history-shown tables printed timeline t ∙ cut.grows.is)
+      ∙ get_or_append_left so_far cut.grows.more [] (k - 1) (omega (arith, least, low))
+
+  -- ---- the commits of a place
+
+  -- a number above the snapshot whose write set has the place
+  abbrev is_later : ℕ → Place → ℕ → Bool
+  is_later n place k = nat_lt n k && writes_place place (write_set_at the_run k)
+
+  -- a place without a writer behind the snapshot is in none of the write sets in front
+  in-none : (n : ℕ) (place : Place) (k : ℕ) → n ≤ length so_far → last_writer place (n + 1) (drop n so_far) ≡ None → n < k → k ≤ length so_far → writes_place place (get_or so_far (k - 1) []) ≡ false
+  in-none n place k bound none low high =
+      let e : n + (k - 1 - n) ≡ k - 1 = omega (arith, low) in
+      ap (λ (i : ℕ). writes_place place (get_or so_far i [])) (sym e)
+      ∙ ap (writes_place place) (sym (get_or-drop n so_far (k - 1 - n) []))
+      ∙ last-none place (n + 1) (drop n so_far) none (k - 1 - n)
+
+  none-by : (n : ℕ) (place : Place) (k : ℕ) → n ≤ length so_far → last_writer place (n + 1) (drop n so_far) ≡ None → n < k → writes_place place (write_set_at the_run k) ≡ true
+      → (b : Bool) → nat_le k (length so_far) ≡ b → not (is_committed_before the_run entry k) ≡ true
+  none-by n place k bound none low has true is =
+      let high : k ≤ length so_far = leb-true k (length so_far) is in
+      let lacks = ap (writes_place place) (set-is k (omega (arith, low)) high) ∙ in-none n place k bound none low high in
+      let never : true ≡ false = sym has ∙ lacks in
+      absurd (let impossible : ⊥ = cc in impossible)
+  none-by n place k bound none low has false is = ap not (not-before k (let e : length so_far < k = grind (arith, nat_tests, is) in e))
+
+  none-later : (n : ℕ) (place : Place) → n ≤ length so_far → last_writer place (n + 1) (drop n so_far) ≡ None → (k : ℕ) → is_later n place k ≡ true → not (is_committed_before the_run entry k) ≡ true
+  none-later n place bound none k h =
+      let parts = and_parts (nat_lt n k) (writes_place place (write_set_at the_run k)) h in
+      let low : n < k = grind (arith, nat_tests, parts.0) in
+      none-by n place k bound none low parts.1 (nat_le k (length so_far)) refl
+
+  pub no-commit : (u : Transaction) (place : Place) (told : Said) → u.snapshot ≤ length so_far → last_writer place (u.snapshot + 1) (drop u.snapshot so_far) ≡ None → passes_no_commit the_run u place entry told ≡ true
+  no-commit u place told bound none =
+      or-holds _ _ (filter-all (λ k. not (is_committed_before the_run entry k)) (is_later u.snapshot place) (none-later u.snapshot place bound none) (range_with_len 1 (length (the_run).history)))
+
+  -- the last writer is the last of those before the reply
+  last-by : (n : ℕ) (place : Place) (number k : ℕ) → n ≤ length so_far → (at : LastAt place (n + 1) (drop n so_far) number) → is_later n place k ≡ true
+      → (b c : Bool) → nat_le k number ≡ b → nat_le k (length so_far) ≡ c → (nat_le k number || not (is_committed_before the_run entry k)) ≡ true
+  last-by n place number k bound at h true c is is_c = rw is refl
+  last-by n place number k bound at h false true is is_c =
+      let parts = and_parts (nat_lt n k) (writes_place place (write_set_at the_run k)) h in
+      let low : n < k = grind (arith, nat_tests, parts.0) in
+      let above : number < k = grind (arith, nat_tests, is) in
+      let high : k ≤ length so_far = leb-true k (length so_far) is_c in
+      let beyond : at.index < k - 1 - n = omega (arith, at.number_is, above, low) in
+      let e : n + (k - 1 - n) ≡ k - 1 = omega (arith, low) in
+      let lacks : writes_place place (get_or so_far (k - 1) []) ≡ false =
+      ap (λ (i : ℕ). writes_place place (get_or so_far i [])) (sym e) ∙ ap (writes_place place) (sym (get_or-drop n so_far (k - 1 - n) [])) ∙ at.last (k - 1 - n) beyond in
+      let never : true ≡ false = sym parts.1 ∙ ap (writes_place place) (set-is k (omega (arith, low)) high) ∙ lacks in
+      absurd (let impossible : ⊥ = cc in impossible)
+  last-by n place number k bound at h false false is is_c =
+      or-holds (nat_le k number) (not (is_committed_before the_run entry k)) (ap not (not-before k (let e : length so_far < k = grind (arith, nat_tests, is_c) in e)))
+
+  pub commit-named : (u : Transaction) (place : Place) (number : ℕ) → u.snapshot ≤ length so_far → last_writer place (u.snapshot + 1) (drop u.snapshot so_far) ≡ Some number → names_commit the_run u place entry (said.ConflictCommit number) ≡ true
+  commit-named u place number bound is =
+      let n = u.snapshot in
+      let at = last-some place (n + 1) (drop n so_far) number is in
+      let inside : at.index < length (drop n so_far) = at.inside in
+      let size : length (drop n so_far) + n ≡ length so_far = omega (arith, length-drop n so_far, bound) in
+      let low : n < number = omega (arith, at.number_is) in
+      let high : number ≤ length so_far = omega (arith, at.number_is, inside, size) in
+      let index_is : n + at.index ≡ number - 1 = omega (arith, at.number_is) in
+      let has : writes_place place (write_set_at the_run number) ≡ true =
+      ap (writes_place place) (set-is number (omega (arith, low)) high ∙ ap (λ (i : ℕ). get_or so_far i []) (sym index_is) ∙ sym (get_or-drop n so_far at.index [])) ∙ at.has in
+      let above : nat_lt n number ≡ true = grind (arith, nat_tests, low) in
+      let long : length (the_run).history ≡ length so_far + length cut.grows.more = ap length (history-shown tables printed timeline t ∙ cut.grows.is) ∙ length-append so_far cut.grows.more in
+      all-three (list_any (λ later. eqb later number) (later_writers the_run u place)) (is_committed_not_after the_run entry number)
+      (list_all (λ later. nat_le later number || not (is_committed_before the_run entry later)) (later_writers the_run u place))
+      (range-any (is_later n place) number 1 (length (the_run).history) (omega (arith, low)) (omega (arith, high, long)) (both (nat_lt n number) (writes_place place (write_set_at the_run number)) above has))
+      (not-after-line number (omega (arith, low)) high)
+      (filter-all (λ k. nat_le k number || not (is_committed_before the_run entry k)) (is_later n place)
+      (λ k h. last-by n place number k bound at h (nat_le k number) (nat_le k (length so_far)) refl refl) (range_with_len 1 (length (the_run).history)))
+
+  -- ---- the open transactions of a place
+
+  -- the session's or worker's replies behind
+  abbrev rest_of : Who → List Entry
+  rest_of who = thread who (entry ∷ cut.rest)
+
+  spans-of : (who : Who) → filter (λ u. is_same u.who who) (the_run).transactions ≡ spans who (thread who cut.front ++ rest_of who)
+  spans-of who =
+      spans-is who printed (threads-in-order printed timeline cut.front entry cut.rest (at-cut tables printed timeline t entry only cut) who)
+      ∙ ap (spans who) (its-thread printed timeline cut.front entry cut.rest (at-cut tables printed timeline t entry only cut) who)
+
+  -- those in front are not after the reply, and those behind not before it
+  front-not-after : Each (λ other. is_before entry other ≡ false) cut.front
+  front-not-after = Each-weaker (λ earlier. Follows earlier entry) (λ other. is_before entry other ≡ false) (λ other follows. follows.not_before) cut.front (front-follows tables printed timeline t entry only cut)
+
+  rest-not-before : Each (λ other. is_before other entry ≡ false) (entry ∷ cut.rest)
+  rest-not-before =
+      (before-itself entry, Each-weaker (Follows entry) (λ other. is_before other entry ≡ false) (λ other follows. follows.not_before) cut.rest (rest-follows tables printed timeline t entry only cut))
+
+  -- whether another session's transaction has a write of the place before the reply and its end after it
+  abbrev ends_later : Transaction → Bool
+  ends_later u = option_map_or (λ ending. is_before entry ending) (ending_of u) true
+
+  abbrev passed_over : Who → Place → Transaction → Bool
+  passed_over who place u = not (is_same u.who who) && has_write place (before u.replies entry) && ends_later u
+
+  last-false : (a b : Bool) (c : Bool) → c ≡ false → (a && b && c) ≡ false
+  last-false true true c h = h
+  last-false true false c h = refl
+  last-false false b c h = refl
+
+  middle-false : (a b : Bool) (c : Bool) → b ≡ false → (a && b && c) ≡ false
+  middle-false true true c h = absurd (let never : ⊥ = cc in never)
+  middle-false true false c h = refl
+  middle-false false b c h = refl
+
+  first-false : (a b : Bool) (c : Bool) → a ≡ false → (a && b && c) ≡ false
+  first-false true b c h = absurd (let never : ⊥ = cc in never)
+  first-false false b c h = refl
+
+  done-passed : (who its : Who) (place : Place) (ts : List Transaction) → EachSpan (Ended who (thread who cut.front)) ts → EachSpan (λ u. passed_over its place u ≡ false) ts
+  done-passed who its place [] h = tt
+  done-passed who its place (u ∷ ts) h =
+      let inside : Each (λ other. is_before entry other ≡ false) u.replies =
+      Each-first (λ other. is_before entry other ≡ false) u.replies h.0.behind
+      (Each-second (λ other. is_before entry other ≡ false) h.0.ahead (u.replies ++ h.0.behind)
+      (subst (Each (λ other. is_before entry other ≡ false)) h.0.stands (Each-filter (λ other. is_before entry other ≡ false) (λ other. is_same other.reply.who who) cut.front front-not-after))) in
+      (last-false (not (is_same u.who its)) (has_write place (before u.replies entry)) (ends_later u) (found-end (λ ending. is_before entry ending) u.replies inside h.0.ends), done-passed who its place ts h.1)
+
+  -- of a list of replies behind, none is before the reply
+  before-none : (entries : List Entry) → Each (λ other. is_before other entry ≡ false) entries → before entries entry ≡ []
+  before-none [] h = refl
+  before-none (other ∷ entries) h = rw h.0 (before-none entries h.1)
+
+  opened-put : (who its : Who) (place : Place) (entries : List Entry) → Each (λ other. is_before other entry ≡ false) entries → (shown : Option ℕ) (others : List Transaction)
+      → EachSpan (λ u. passed_over its place u ≡ false) others → EachSpan (λ u. passed_over its place u ≡ false) (cons_option (option_map (λ snapshot. span who snapshot (up_to_end entries)) shown) others)
+  opened-put who its place entries h None others k = k
+  opened-put who its place entries h (Some snapshot) others k = (
+    middle-false (not (is_same who its)) (has_write place (before (up_to_end entries) entry)) (ends_later (span who snapshot (up_to_end entries)))
+        (ap (has_write place) (before-none (up_to_end entries) (Each-up_to_end (λ other. is_before other entry ≡ false) entries h))),
+    k,
+  )
+
+  opened-passed : (who its : Who) (place : Place) (entries : List Entry) → Each (λ other. is_before other entry ≡ false) entries → EachSpan (λ u. passed_over its place u ≡ false) (spans who entries)
+  opened-passed who its place [] h = tt
+  opened-passed who its place (other ∷ entries) h =
+      opened-put who its place (other ∷ entries) h (snapshot_in other.reply.said) (spans who entries) (opened-passed who its place entries h.1)
+
+  own-fails : (who : Who) (place : Place) (ts : List Transaction) → EachSpan (λ u. u.who ≡ who) ts → EachSpan (λ u. passed_over who place u ≡ false) ts
+  own-fails who place [] h = tt
+  own-fails who place (u ∷ ts) h =
+      (first-false (not (is_same u.who who)) (has_write place (before u.replies entry)) (ends_later u) (ap not (ap (λ (w : Who). is_same w who) h.0 ∙ same-itself who)), own-fails who place ts h.1)
+
+  rest-of-not : (who : Who) → Each (λ other. is_before other entry ≡ false) (rest_of who)
+  rest-of-not who = Each-filter (λ other. is_before other entry ≡ false) (λ other. is_same other.reply.who who) (entry ∷ cut.rest) rest-not-before
+
+  -- the open transaction of another session, without a write of the place
+  open-passed : (who its : Who) (place : Place) (snapshot : ℕ) (replies : List Entry) → has_write place replies ≡ false → passed_over its place (span who snapshot (replies ++ up_to_end (rest_of who))) ≡ false
+  open-passed who its place snapshot replies lacks =
+      middle-false (not (is_same who its)) (has_write place (before (replies ++ up_to_end (rest_of who)) entry)) (ends_later (span who snapshot (replies ++ up_to_end (rest_of who))))
+      (ap (has_write place)
+      (filter-append (λ other. is_before other entry) replies (up_to_end (rest_of who))
+      ∙ ap (λ (es : List Entry). before replies entry ++ es) (before-none (up_to_end (rest_of who)) (Each-up_to_end (λ other. is_before other entry ≡ false) (rest_of who) (rest-of-not who)))
+      ∙ append-nil (before replies entry))
+      ∙ no-write-filter place (λ other. is_before other entry) replies lacks)
+
+  free-of : (who : Who) (s : ℕ) (place : Place) → Free s place cut.machine.open_transactions → is_same who (Session s) ≡ false → (o : OpenTransaction) → open_of who cut.machine ≡ Some o → writes_place place o.own ≡ false
+  free-of (Session session) s place untouched apart o at = untouched session o at apart
+  free-of (Worker worker) s place untouched apart o at = absurd (let never : ⊥ = cc in never)
+
+  -- none of the transactions of another session passes
+  others-passed : (who : Who) (s : ℕ) (place : Place) → Free s place cut.machine.open_transactions → is_same who (Session s) ≡ false → (found : Option OpenTransaction) → open_of who cut.machine ≡ found
+      → Stands who (thread who cut.front) found → list_any (passed_over (Session s) place) (spans who (thread who cut.front ++ rest_of who)) ≡ false
+  others-passed who s place untouched apart None at past =
+      ap (list_any (passed_over (Session s) place)) (past.parts (rest_of who))
+      ∙ list_any-append (passed_over (Session s) place) past.done (spans who (rest_of who))
+      ∙ (rw (none-spans (passed_over (Session s) place) past.done (done-passed who (Session s) place past.done past.ended))
+      (none-spans (passed_over (Session s) place) (spans who (rest_of who)) (opened-passed who (Session s) place (rest_of who) (rest-of-not who))))
+  others-passed who s place untouched apart (Some o) at within =
+      let past = within.spanned in
+      let lacks : has_write place within.replies ≡ false = sym (has-writes place within.replies) ∙ ap (writes_place place) within.writes_are ∙ free-of who s place untouched apart o at in
+      ap (list_any (passed_over (Session s) place)) (past.parts (rest_of who))
+      ∙ list_any-append (passed_over (Session s) place) past.done (span who o.snapshot (within.replies ++ up_to_end (rest_of who)) ∷ spans who (rest_of who))
+      ∙ (rw (none-spans (passed_over (Session s) place) past.done (done-passed who (Session s) place past.done past.ended), open-passed who (Session s) place o.snapshot within.replies lacks)
+      (none-spans (passed_over (Session s) place) (spans who (rest_of who)) (opened-passed who (Session s) place (rest_of who) (rest-of-not who))))
+
+  each-passed : (s : ℕ) (place : Place) → Free s place cut.machine.open_transactions → (who : Who) (b : Bool) → is_same who (Session s) ≡ b
+      → list_any (passed_over (Session s) place) (filter (λ u. is_same u.who who) (the_run).transactions) ≡ false
+  each-passed s place untouched who true is =
+      let e : who ≡ Session s = same-is who (Session s) is in
+      none-spans (passed_over (Session s) place) (filter (λ u. is_same u.who who) (the_run).transactions)
+      (subst (λ (w : Who). EachSpan (λ u. passed_over w place u ≡ false) (filter (λ u. is_same u.who who) (the_run).transactions)) e (own-fails who place (filter (λ u. is_same u.who who) (the_run).transactions) (kept-pass who (the_run).transactions)))
+  each-passed s place untouched who false is =
+      ap (list_any (passed_over (Session s) place)) (spans-of who) ∙ others-passed who s place untouched is (open_of who cut.machine) refl (cut.shown.stands who)
+
+  pub no-session : (u : Transaction) (s : ℕ) (place : Place) (told : Said) → u.who ≡ Session s → Free s place cut.machine.open_transactions → passes_no_session the_run u place entry told ≡ true
+  no-session u s place told is untouched =
+      or-holds _ _ (ap not (subst (λ (w : Who). list_any (passed_over w place) (the_run).transactions ≡ false) (sym is)
+      (none-any (passed_over (Session s) place) (the_run).transactions (λ who. each-passed s place untouched who (is_same who (Session s)) refl))))
+
+  -- the session that is named
+  abbrev named : ℕ → Who → Place → Transaction → Bool
+  named session its place u = is_same u.who (Session session) && not (is_same u.who its)
+      && has_write place (not_after u.replies entry)
+      && option_map_or (λ ending. not (is_before ending entry)) (ending_of u) true
+
+  rival-named : (r : OpenTransaction) (s : ℕ) (place : Place) → transaction_of r.session cut.machine ≡ Some r → eqb r.session s ≡ false → writes_place place r.own ≡ true
+      → (within : Within (Session r.session) (thread (Session r.session) cut.front) r)
+      → named r.session (Session s) place (span (Session r.session) r.snapshot (within.replies ++ up_to_end (rest_of (Session r.session)))) ≡ true
+  rival-named r s place at apart has within =
+      let who = Session r.session in
+      let later_ones = up_to_end (rest_of who) in
+      let in_front : Each (λ other. is_before entry other ≡ false) within.replies =
+      Each-second (λ other. is_before entry other ≡ false) within.ahead within.replies
+      (subst (Each (λ other. is_before entry other ≡ false)) within.split (Each-filter (λ other. is_before entry other ≡ false) (λ other. is_same other.reply.who who) cut.front front-not-after)) in
+      let kept : not_after within.replies entry ≡ within.replies =
+      filter-each (λ other. is_not_after other entry) within.replies (Each-weaker (λ other. is_before entry other ≡ false) (λ other. is_not_after other entry ≡ true) (λ other h. ap not h) within.replies in_front) in
+      let wrote : has_write place within.replies ≡ true = sym (has-writes place within.replies) ∙ ap (writes_place place) within.writes_are ∙ has in
+      let its_write : has_write place (not_after (within.replies ++ later_ones) entry) ≡ true =
+      ap (has_write place) (filter-append (λ other. is_not_after other entry) within.replies later_ones ∙ ap (λ (es : List Entry). es ++ not_after later_ones entry) kept)
+      ∙ list_any-append (writes_it place) within.replies (not_after later_ones entry) ∙ or-first (has_write place within.replies) (has_write place (not_after later_ones entry)) wrote in
+      let goes_on : option_map_or (λ ending. not (is_before ending entry)) (find (λ e. is_end e.reply.said) (within.replies ++ later_ones)) true ≡ true =
+      ap (λ (o : Option Entry). option_map_or (λ ending. not (is_before ending entry)) o true) (find-append (λ e. is_end e.reply.said) within.replies later_ones ∙ ap (λ (o : Option Entry). option_or o (find (λ e. is_end e.reply.said) later_ones)) within.on)
+      ∙ some-end (λ ending. not (is_before ending entry)) later_ones
+      (Each-weaker (λ other. is_before other entry ≡ false) (λ other. not (is_before other entry) ≡ true) (λ other h. ap not h) later_ones (Each-up_to_end (λ other. is_before other entry ≡ false) (rest_of who) (rest-of-not who))) in
+      all-four (is_same who (Session r.session)) (not (is_same who (Session s))) (has_write place (not_after (within.replies ++ later_ones) entry)) (option_map_or (λ ending. not (is_before ending entry)) (find (λ e. is_end e.reply.said) (within.replies ++ later_ones)) true)
+      (same-itself who) (ap not apart) its_write goes_on
+
+  pub session-named : (u : Transaction) (s : ℕ) (place : Place) (r : OpenTransaction) → u.who ≡ Session s → Rival s place cut.machine.open_transactions r → names_session the_run u place entry (said.ConflictSession r.session) ≡ true
+  session-named u s place r is rivals =
+      let who = Session r.session in
+      let within = subst (Stands who (thread who cut.front)) rivals.at (cut.shown.stands who) in
+      let past = within.spanned in
+      let open_one = span who r.snapshot (within.replies ++ up_to_end (rest_of who)) in
+      subst (λ (w : Who). list_any (named r.session w place) (the_run).transactions ≡ true) (sym is)
+      (any-kept (named r.session (Session s) place) (λ v. is_same v.who who) (the_run).transactions
+      (ap (list_any (named r.session (Session s) place)) (spans-of who ∙ past.parts (rest_of who))
+      ∙ list_any-append (named r.session (Session s) place) past.done (open_one ∷ spans who (rest_of who))
+      ∙ or-holds (list_any (named r.session (Session s) place) past.done) (named r.session (Session s) place open_one || list_any (named r.session (Session s) place) (spans who (rest_of who)))
+      (or-first (named r.session (Session s) place open_one) (list_any (named r.session (Session s) place) (spans who (rest_of who))) (rival-named r s place rivals.at rivals.other rivals.has within))))
+
+-- ---- the first updater
+
+has-still : (b c : Bool) → c ≡ true → cond b true c ≡ true
+has-still true c h = refl
+has-still false c h = h
+
+grows-of : (tables : List TableDecl) (front : List Entry) (machine : IsolationMachine) (rest : List Entry) {end : IsolationMachine} → Shown front machine → (runs : Runs tables front machine rest)
+    → last_of tables front machine rest runs ≡ end → Grows machine.history end.history
+grows-of tables front machine rest shown runs is = subst (λ (m : IsolationMachine). Grows machine.history m.history) is (all-grow tables front machine rest shown runs)
+
+lacks-in : (history : History) (n : ℕ) (place : Place) (k : ℕ) → last_writer place (n + 1) (drop n history) ≡ None → n < k → writes_place place (get_or history (k - 1) []) ≡ false
+lacks-in history n place k none low =
+    let e : n + (k - 1 - n) ≡ k - 1 = omega (arith, low) in
+    ap (λ (i : ℕ). writes_place place (get_or history i [])) (sym e)
+    ∙ ap (writes_place place) (sym (get_or-drop n history (k - 1 - n) []))
+    ∙ last-none place (n + 1) (drop n history) none (k - 1 - n)
+
+module _ (tables : List TableDecl) (printed timeline : List Entry) (t : Timeline tables printed timeline) (u : Transaction) (place : Place) where
+  abbrev run_of_all : Run
+  run_of_all = run tables printed timeline t
+
+  abbrev behind_snapshot : ℕ → Bool
+  behind_snapshot k = nat_lt u.snapshot k && writes_place place (write_set_at run_of_all k)
+
+  -- the first end among replies commits below no other commit of the place
+  abbrev commits_first : Option Entry → Type 0
+  commits_first found = option_map_or (λ number. list_all (nat_le number) (later_writers run_of_all u place)) (option_and_then (λ ending. commit_in ending.reply.said) found) true ≡ true
+
+  above-all : (history : History) → Grows history (last tables printed timeline t).history → last_writer place (u.snapshot + 1) (drop u.snapshot history) ≡ None
+      → (k : ℕ) → behind_snapshot k ≡ true → (b : Bool) → nat_le (length history + 1) k ≡ b → nat_le (length history + 1) k ≡ true
+  above-all history grows none k h true is = is
+  above-all history grows none k h false is =
+      let parts = and_parts (nat_lt u.snapshot k) (writes_place place (write_set_at run_of_all k)) h in
+      let low : u.snapshot < k = grind (arith, nat_tests, parts.0) in
+      let high : k ≤ length history = grind (arith, nat_tests, is) in
+      let same : write_set_at run_of_all k ≡ get_or history (k - 1) [] =
+      ap (λ (xs : History). get_or xs (k - 1) []) (history-shown tables printed timeline t ∙ grows.is) ∙ get_or_append_left history grows.more [] (k - 1) (omega (arith, low, high)) in
+      let never : true ≡ false = sym parts.1 ∙ ap (writes_place place) same ∙ lacks-in history u.snapshot place k none low in
+      absurd (let impossible : ⊥ = cc in impossible)
+
+  first-number : (history : History) → Grows history (last tables printed timeline t).history → last_writer place (u.snapshot + 1) (drop u.snapshot history) ≡ None
+      → list_all (nat_le (length history + 1)) (later_writers run_of_all u place) ≡ true
+  first-number history grows none =
+      filter-all (nat_le (length history + 1)) behind_snapshot (λ k h. above-all history grows none k h (nat_le (length history + 1) k) refl) (range_with_len 1 (length (run_of_all).history))
+
+  module _ (s : ℕ) where
+    abbrev who_s : Who
+    who_s = Session s
+
+    thread-first : (e : Entry) (rest : List Entry) (b : Bool) → is_same e.reply.who who_s ≡ b → thread who_s (e ∷ rest) ≡ cond b (e ∷ thread who_s rest) (thread who_s rest)
+    thread-first e rest b is = ap (λ (c : Bool). cond c (e ∷ thread who_s rest) (thread who_s rest)) is
+
+    goes-by : (e : Entry) (rest : List Entry) → is_same e.reply.who who_s ≡ true → is_end e.reply.said ≡ false → commits_first (find (λ x. is_end x.reply.said) (thread who_s rest))
+        → commits_first (find (λ x. is_end x.reply.said) (thread who_s (e ∷ rest)))
+    goes-by e rest is on h = subst commits_first (sym (ap (find (λ x. is_end x.reply.said)) (thread-first e rest true is) ∙ ap (λ (c : Bool). cond c (Some e) (find (λ x. is_end x.reply.said) (thread who_s rest))) on)) h
+
+    ends-by : (e : Entry) (rest : List Entry) → is_same e.reply.who who_s ≡ true → is_end e.reply.said ≡ true → commits_first (Some e)
+        → commits_first (find (λ x. is_end x.reply.said) (thread who_s (e ∷ rest)))
+    ends-by e rest is ended h = subst commits_first (sym (ap (find (λ x. is_end x.reply.said)) (thread-first e rest true is) ∙ ap (λ (c : Bool). cond c (Some e) (find (λ x. is_end x.reply.said) (thread who_s rest))) ended)) h
+
+    aborted-first : (e : Entry) (own : WriteSet) → (e.reply.said ≡ said.Aborted) ⊎ ((e.reply.said ≡ said.Committed None) × (own ≡ [])) → commits_first (Some e)
+    aborted-first e own (inl is) = rw is refl
+    aborted-first e own (inr is) = rw is.0 refl
+
+    aborted-ends : (told : Said) (own : WriteSet) → (told ≡ said.Aborted) ⊎ ((told ≡ said.Committed None) × (own ≡ [])) → is_end told ≡ true
+    aborted-ends told own (inl is) = ap is_end is
+    aborted-ends told own (inr is) = ap is_end is.0
+
+    -- the sessions are one
+    session-same : (e : Entry) (session : ℕ) → is_same e.reply.who who_s ≡ true → e.reply.who ≡ Session session → session ≡ s
+    session-same e session is at = eqb-true session s (ap (λ (w : Who). is_same w who_s) (sym at) ∙ is)
+
+    -- the session's transaction behind its own write
+    abbrev StillHas : IsolationMachine → Type 0
+    StillHas machine = (o : OpenTransaction) × (transaction_of s machine ≡ Some o) × (o.snapshot ≡ u.snapshot) × (writes_place place o.own ≡ true)
+
+    wrote-more : (machine after : IsolationMachine) (at : Place) (change : Option (List Cell)) → after ≡ with_own s at change machine → StillHas machine → StillHas after
+    wrote-more machine after at change is h = (
+      record h.0 { own = insert_entry place_cmp (h.0).own at change },
+      ap (transaction_of s) is ∙ at-written s at change s machine ∙ ap (option_map (entering s at change)) h.1
+          ∙ ap (λ (b : Bool). Some (cond b (record h.0 { own = insert_entry place_cmp (h.0).own at change }) h.0)) (ap (λ (x : ℕ). eqb x s) (its-session s machine.open_transactions h.0 h.1) ∙ eqb-itself s),
+      h.2,
+      writes-more (h.0).own at change place ∙ has-still (is_place place at) (writes_place place (h.0).own) h.3,
+    )
+
+    end-own : (front : List Entry) (machine after : IsolationMachine) (e : Entry) (rest : List Entry) → Shown front machine
+        → Grows machine.history (last tables printed timeline t).history → StillHas machine
+        → (StillHas after → commits_first (find (λ x. is_end x.reply.said) (thread who_s rest))) → is_same e.reply.who who_s ≡ true
+        → Change e.reply.who e.command e.reply.said machine after
+        → commits_first (find (λ x. is_end x.reply.said) (thread who_s (e ∷ rest)))
+    end-own front machine after e rest shown grows h more same (quiet q) = goes-by e rest same q.on (more (subst StillHas (sym q.same) h))
+    end-own front machine after e rest shown grows h more same (opens o) =
+        let never : None ≡ Some h.0 = sym o.none ∙ ap (λ (x : ℕ). transaction_of x machine) (session-same e o.session same o.who_is) ∙ h.1 in
+        absurd (let impossible : ⊥ = cc in impossible)
+    end-own front machine after e rest shown grows h more same (writes w) =
+        goes-by e rest same (ap is_end w.said_is)
+        (more (wrote-more machine after w.place w.change (w.is ∙ ap (λ (x : ℕ). with_own x w.place w.change machine) (session-same e w.session same w.who_is)) h))
+    end-own front machine after e rest shown grows h more same (ends x) = ends-by e rest same (aborted-ends e.reply.said x.t.own x.said_is) (aborted-first e x.t.own x.said_is)
+    end-own front machine after e rest shown grows h more same (commits c) =
+        let none = ap (λ (n : ℕ). last_writer place (n + 1) (drop n machine.history)) (sym h.2) ∙ shown.sane.first s h.0 place h.1 h.3 in
+        ends-by e rest same (ap is_end c.said_is)
+        (ap (λ (told : Said). option_map_or (λ number. list_all (nat_le number) (later_writers run_of_all u place)) (commit_in told) true) c.said_is ∙ first-number machine.history grows none)
+
+    end-step : (front : List Entry) (machine after : IsolationMachine) (e : Entry) (rest : List Entry) → Shown front machine → Change e.reply.who e.command e.reply.said machine after
+        → Grows machine.history (last tables printed timeline t).history → StillHas machine
+        → (StillHas after → commits_first (find (λ x. is_end x.reply.said) (thread who_s rest))) → (b : Bool) → is_same e.reply.who who_s ≡ b
+        → commits_first (find (λ x. is_end x.reply.said) (thread who_s (e ∷ rest)))
+    end-step front machine after e rest shown change grows h more true same = end-own front machine after e rest shown grows h more same change
+    end-step front machine after e rest shown change grows h more false same =
+        let still : transaction_of s after ≡ transaction_of s machine = others-open e.reply.who who_s e.command e.reply.said machine after same change in
+        subst commits_first (sym (ap (find (λ x. is_end x.reply.said)) (thread-first e rest false same))) (more (h.0, still ∙ h.1, h.2, h.3))
+
+    end-first : (front : List Entry) (machine : IsolationMachine) (rest : List Entry) → Shown front machine → (runs : Runs tables front machine rest)
+        → last_of tables front machine rest runs ≡ last tables printed timeline t → StillHas machine → commits_first (find (λ x. is_end x.reply.said) (thread who_s rest))
+    end-first front machine [] shown runs is h = refl
+    end-first front machine (e ∷ rest) shown runs is h =
+        let change = change-of tables front machine runs.0 e shown.sane runs.1 in
+        let next = shown-step front machine runs.0 e shown change in
+        end-step front machine runs.0 e rest shown change (grows-of tables front machine (e ∷ rest) shown runs is) h (end-first (front ++ e ∷ []) runs.0 rest next runs.3 is) (is_same e.reply.who who_s) refl
+
+-- ---- the rules of a conflict
+
+find-cut-step : (b : Bool) (entry : Entry) (others : List Entry) (found : Option Entry) → is_end entry.reply.said ≡ b → find (λ e. is_end e.reply.said) others ≡ found
+    → find (λ e. is_end e.reply.said) (cond b (entry ∷ []) (entry ∷ others)) ≡ cond b (Some entry) found
+find-cut-step true entry others found is h = rw is refl
+find-cut-step false entry others found is h = rw is h
+
+find-cut : (entries : List Entry) → find (λ e. is_end e.reply.said) (up_to_end entries) ≡ find (λ e. is_end e.reply.said) entries
+find-cut [] = refl
+find-cut (entry ∷ entries) = find-cut-step (is_end entry.reply.said) entry (up_to_end entries) (find (λ e. is_end e.reply.said) entries) refl (find-cut entries)
+
+nothing-written : (write : Place × Option (List Cell)) → Some write ≡ None → ⊥
+nothing-written write h = (let never : ⊥ = cc in never)
+
+ended-not : (told : Said) (own : WriteSet) → told ≡ said.Accepted → (told ≡ said.Aborted) ⊎ ((told ≡ said.Committed None) × (own ≡ [])) → ⊥
+ended-not told own is (inl h) = let e : said.Accepted ≡ said.Aborted = sym is ∙ h in (let never : ⊥ = cc in never)
+ended-not told own is (inr h) = let e : said.Accepted ≡ said.Committed None = sym is ∙ h.0 in (let never : ⊥ = cc in never)
+
+itself-place : (place : Place) → is_place place place ≡ true
+itself-place place = (eq_by_cmp_equiv place_cmp-total).refl place
+
+module _ (tables : List TableDecl) (printed timeline : List Entry) (t : Timeline tables printed timeline) (entry : Entry) (only : Only printed entry)
+    (cut : Cut tables timeline (last tables printed timeline t) entry) (s : ℕ) (o : OpenTransaction) (who_is : entry.reply.who ≡ Session s) (at : transaction_of s cut.machine ≡ Some o)
+    (within : Within entry.reply.who (thread entry.reply.who cut.front) o) (place : Place) (change : Option (List Cell)) (wrote : write_of entry.command ≡ Some (place, change)) where
+  abbrev all_run : Run
+  all_run = run tables printed timeline t
+
+  abbrev its_own : Transaction
+  its_own = belongs tables printed timeline t entry only cut o within
+
+  session_is : o.session ≡ s
+  session_is = its-session s (cut.machine).open_transactions o at
+
+  low : o.snapshot ≤ length (cut.machine).history
+  low = cut.shown.sane.bound s o at
+
+  free : Clear cut.machine o place → Free s place (cut.machine).open_transactions
+  free clear = subst (λ (x : ℕ). Free x place (cut.machine).open_transactions) session_is (free-none o.session place (cut.machine).open_transactions clear.rival)
+
+  -- behind an accepted write the transaction has the place
+  still-has : entry.reply.said ≡ said.Accepted → Change entry.reply.who entry.command entry.reply.said cut.machine cut.after → StillHas tables printed timeline t its_own place s cut.after
+  still-has is (quiet q) =
+      absurd (nothing-written (place, change) (sym wrote ∙ sym (ap (λ (told : Said). cond {A = Option (Place × Option (List Cell))} (is_accepted told) (write_of entry.command) None) is) ∙ q.writes))
+  still-has is (opens x) = absurd (let e : said.Accepted ≡ said.At (length (cut.machine).history) = sym is ∙ x.said_is in let never : ⊥ = cc in never)
+  still-has is (writes w) =
+      let same : place ≡ w.place = ap (λ (f : Option (Place × Option (List Cell))). option_map_or (λ x. x.0) f place) (sym wrote ∙ w.write) in
+      let its : w.session ≡ s = let e : Session w.session ≡ Session s = sym w.who_is ∙ who_is in cc in (
+        record o { own = insert_entry place_cmp o.own w.place w.change },
+        ap (transaction_of s) (w.is ∙ ap (λ (x : ℕ). with_own x w.place w.change cut.machine) its) ∙ at-written s w.place w.change s cut.machine ∙ ap (option_map (entering s w.place w.change)) at
+            ∙ ap (λ (b : Bool). Some (cond b (record o { own = insert_entry place_cmp o.own w.place w.change }) o)) (ap (λ (x : ℕ). eqb x s) session_is ∙ eqb-itself s),
+        refl,
+        writes-more o.own w.place w.change place ∙ ap (λ (b : Bool). cond b true (writes_place place o.own)) (ap (is_place place) (sym same) ∙ itself-place place),
+      )
+  still-has is (ends x) = absurd (ended-not entry.reply.said x.t.own is x.said_is)
+  still-has is (commits c) = absurd (let e : said.Accepted ≡ said.Committed (Some (length (cut.machine).history + 1)) = sym is ∙ c.said_is in let never : ⊥ = cc in never)
+
+  first-updater : entry.reply.said ≡ said.Accepted → is_first_updater all_run its_own place said.Accepted ≡ true
+  first-updater is =
+      let behind = thread entry.reply.who cut.rest in
+      let ending : ending_of its_own ≡ find (λ e. is_end e.reply.said) behind =
+      find-append (λ e. is_end e.reply.said) within.replies (up_to_end (entry ∷ behind))
+      ∙ ap (λ (f : Option Entry). option_or f (find (λ e. is_end e.reply.said) (up_to_end (entry ∷ behind)))) within.on
+      ∙ ap (λ (b : Bool). find (λ e. is_end e.reply.said) (cond b (entry ∷ []) (entry ∷ up_to_end behind))) (ap is_end is)
+      ∙ ap (λ (b : Bool). cond b (Some entry) (find (λ e. is_end e.reply.said) (up_to_end behind))) (ap is_end is)
+      ∙ find-cut behind in
+      subst (commits_first tables printed timeline t its_own place) (sym (ending ∙ ap (λ (w : Who). find (λ e. is_end e.reply.said) (thread w cut.rest)) who_is))
+      (end-first tables printed timeline t its_own place s (cut.front ++ entry ∷ []) cut.after cut.rest cut.shown_after cut.runs_after cut.last_is (still-has is cut.change))
+
+  rules : (told : Said) → names_commit all_run its_own place entry told ≡ true → names_session all_run its_own place entry told ≡ true → passes_no_commit all_run its_own place entry told ≡ true
+      → passes_no_session all_run its_own place entry told ≡ true → is_first_updater all_run its_own place told ≡ true → conflict_holds all_run its_own place entry told ≡ true
+  rules told a b c d e =
+      or-holds (is_memory told) _
+      (all-five (names_commit all_run its_own place entry told) (names_session all_run its_own place entry told) (passes_no_commit all_run its_own place entry told)
+      (passes_no_session all_run its_own place entry told) (is_first_updater all_run its_own place told) a b c d e)
+
+  -- a reply of a place that is clear
+  clear-rules : (told : Said) → Clear cut.machine o place → names_commit all_run its_own place entry told ≡ true → names_session all_run its_own place entry told ≡ true
+      → is_first_updater all_run its_own place told ≡ true → conflict_holds all_run its_own place entry told ≡ true
+  clear-rules told clear a b e =
+      rules told a b (no-commit tables printed timeline t entry only cut its_own place told low clear.last) (no-session tables printed timeline t entry only cut its_own s place told who_is (free clear)) e
+
+  pub conflict-by : (acceptable : Bool) → Verdict cut.machine o place acceptable entry.reply.said → conflict_holds all_run its_own place entry entry.reply.said ≡ true
+  conflict-by acceptable (accepted clear can is) =
+      subst (λ (told : Said). conflict_holds all_run its_own place entry told ≡ true) (sym is) (clear-rules said.Accepted clear refl refl (first-updater is))
+  conflict-by acceptable (rival r found is) =
+      let rivals = subst (λ (x : ℕ). Rival x place (cut.machine).open_transactions r) session_is (rival-some o.session place (cut.machine).open_transactions r cut.shown.sane.apart found) in
+      subst (λ (told : Said). conflict_holds all_run its_own place entry told ≡ true) (sym is)
+      (rules (said.ConflictSession r.session) refl (session-named tables printed timeline t entry only cut its_own s place r who_is rivals) refl refl refl)
+  conflict-by acceptable (later k none found is) =
+      subst (λ (told : Said). conflict_holds all_run its_own place entry told ≡ true) (sym is)
+      (rules (said.ConflictCommit k) (commit-named tables printed timeline t entry only cut its_own place k low found) refl refl
+      (no-session tables printed timeline t entry only cut its_own s place (said.ConflictCommit k) who_is (subst (λ (x : ℕ). Free x place (cut.machine).open_transactions) session_is (free-none o.session place (cut.machine).open_transactions none))) refl)
+  conflict-by acceptable (refused clear can (inl is)) = subst (λ (told : Said). conflict_holds all_run its_own place entry told ≡ true) (sym is) (clear-rules said.Exists clear refl refl refl)
+  conflict-by acceptable (refused clear can (inr is)) = subst (λ (told : Said). conflict_holds all_run its_own place entry told ≡ true) (sym is) (clear-rules said.Missing clear refl refl refl)
+  conflict-by acceptable (limited clear can (inl is)) = subst (λ (told : Said). conflict_holds all_run its_own place entry told ≡ true) (sym is) (clear-rules said.Full clear refl refl refl)
+  conflict-by acceptable (limited clear can (inr is)) =
+      subst (λ (told : Said). conflict_holds all_run its_own place entry told ≡ true) (sym is.3) (clear-rules (said.Freezing is.0 is.1 is.2) clear refl refl refl)
+  conflict-by acceptable (memory is) = subst (λ (told : Said). conflict_holds all_run its_own place entry told ≡ true) (sym is) refl
+
+abbrev conflict_test : Run → Entry → Transaction → Bool
+conflict_test all entry u = option_map_or (λ write. conflict_holds all u write.0 entry entry.reply.said) (write_of entry.command) true
+
+module _ (tables : List TableDecl) (printed timeline : List Entry) (t : Timeline tables printed timeline) (entry : Entry) (only : Only printed entry)
+    (cut : Cut tables timeline (last tables printed timeline t) entry) where
+  -- a write in a transaction
+  conflict-inside : (who : Who) → entry.reply.who ≡ who → (o : OpenTransaction) → open_of who cut.machine ≡ Some o → (within : Within entry.reply.who (thread entry.reply.who cut.front) o)
+      → (write : Option (Place × Option (List Cell))) → write_of entry.command ≡ write
+      → option_map_or (λ w. conflict_holds (run tables printed timeline t) (belongs tables printed timeline t entry only cut o within) w.0 entry entry.reply.said) write true ≡ true
+  conflict-inside (Worker worker) is o at within write wrote = absurd (let never : ⊥ = cc in never)
+  conflict-inside (Session s) is o at within None wrote = refl
+  conflict-inside (Session s) is o at within (Some write) wrote =
+      conflict-by tables printed timeline t entry only cut s o is at within write.0 write.1 wrote (is_acceptable (seen_rows cut.machine o) entry.command)
+      (takes-verdict tables cut.front cut.machine s o entry.command entry.reply.said cut.after entry write.0 write.1 refl refl at wrote
+      (subst (λ (w : Who). TakesAs tables cut.front cut.machine entry cut.after (request_of w entry.command)) is cut.takes))
+
+  -- Conflicts.
+  pub conflicts-hold-here : conflicts_hold (run tables printed timeline t) entry ≡ true
+  conflicts-hold-here =
+      by-transaction tables printed timeline t entry only cut (conflict_test (run tables printed timeline t) entry)
+      (λ o at within. conflict-inside entry.reply.who refl o at within (write_of entry.command) refl)
+      (λ u is_asked is. ap (λ (asked : Command). option_map_or (λ write. conflict_holds (run tables printed timeline t) u write.0 entry entry.reply.said) (write_of asked) true) is_asked)
+      (open_of entry.reply.who cut.machine) refl cut.change

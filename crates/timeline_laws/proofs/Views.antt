@@ -1,0 +1,339 @@
+-- What a reply in a transaction sees is what the machine's transaction sees: reads, and writes by the rows.
+use Rattle.std.proofs.Common.{◌≡◌, ℕ, ◌≤◌, Bool, true, false, cond, not, List, [], ◌∷◌, ◌++◌, length, take, Option, None, Some, refl, sym, ap, ◌∙◌, subst, append-nil, ◌⊎◌, inl, inr, ℤ}
+use Rattle.std.specs.Prelude.{is_none, fold, bytes_eq}
+use Rattle.std.specs.Option.{option_map_or}
+use Rattle.std.specs.Cmp.{int_eq_equiv}
+use Rattle.std.specs.Cmp.Lexicographic.{pointwise}
+use Rattle.std.specs.List.{filter}
+use Rattle.std.proofs.lemmas.Slice.Eq.{bytes_eq-Decides}
+use Rattle.std.proofs.lemmas.List.{take-append-le}
+use Rattle.std.proofs.lemmas.List.Elements.{filter-append}
+use Rattle.cell_model.specs.declared.cell.Cell.{Cell}
+use Rattle.cell_model.specs.declared.cell.Cell.TheVariants.{Null, Num, Truth, Text, Blob}
+use Rattle.cell_model.specs.declared.table.TableDecl.{TableDecl}
+use Rattle.isolation_spec.specs.Contents.{State, WriteSet, History, laid_over, state_at, at_place, place_at, contents_of}
+use Rattle.isolation_spec.specs.declared.place.Place.{Place}
+use Rattle.isolation_spec.specs.declared.command.Act.{Act}
+use Rattle.isolation_spec.specs.declared.command.Act.TheVariants as act
+use Rattle.isolation_spec.specs.declared.command.Answer.{Answer}
+use Rattle.isolation_spec.specs.declared.command.Answer.TheVariants as answer
+use Rattle.isolation_spec.specs.Store.{Outcome, Answered, Freezing, Full, Memory, Allows}
+use Rattle.isolation_spec.specs.Machine.{IsolationMachine, seen_rows, step, step_of, commit}
+use Rattle.isolation_spec.specs.Machine.{Transaction as OpenTransaction}
+use Rattle.workload_spec.specs.declared.command.Command.{Command}
+use Rattle.workload_spec.specs.declared.command.Command.TheVariants as command
+use Rattle.workload_spec.specs.declared.reply.Who.{Who}
+use Rattle.workload_spec.specs.declared.reply.Who.TheVariants.{Session, Worker}
+use Rattle.workload_spec.specs.declared.reply.Said.{Said}
+use Rattle.workload_spec.specs.declared.reply.Said.TheVariants as said
+use Rattle.outcome_spec.specs.Entries.{Entry, is_same, is_before, before, snapshot_in, is_end}
+use Rattle.outcome_spec.specs.Runs.{Transaction, Run, up_to_end, writes_in, seen_at}
+use Rattle.outcome_spec.specs.Runs.{transaction_of as belongs_to}
+use Rattle.outcome_spec.specs.Answers.{is_cell, is_row, read_holds, reads_hold, is_acceptable, write_holds, writes_hold}
+use Rattle.outcome_spec.proofs.Conditions.{both}
+use Rattle.timeline_spec.specs.Timeline.{thread, open_of, Each, Follows, InOrder, Timeline, said_of, Tells, request_of, TakesAs, Aside, ExportsBy, is_of_upkeep}
+use Rattle.timeline_laws.proofs.Order.{Each-second, Each-weaker, Each-filter, before-itself, order-front, order-rest, same-is, same-itself}
+use Rattle.timeline_laws.proofs.Spans.{span}
+use Rattle.timeline_laws.proofs.Unique.{Only}
+use Rattle.timeline_laws.proofs.Belongs.{found-open, found-none, its-order, Each-up_to_end}
+use Rattle.timeline_laws.proofs.Machine.{Sane}
+use Rattle.timeline_laws.proofs.Steps.{Change, quiet, opens, writes, ends, commits, Verdict, accepted, rival, later, refused, limited, memory, takes-verdict, asks}
+use Rattle.timeline_laws.proofs.Walk.{Within, Stands}
+use Rattle.timeline_laws.proofs.Cuts.{Cut}
+use Rattle.timeline_laws.proofs.Histories.{run, last, at-cut, history-shown}
+
+-- ---- rows and cells are themselves
+
+bytes-itself : (bytes : List ℕ) → bytes_eq bytes bytes ≡ true
+bytes-itself bytes = (bytes_eq-Decides bytes bytes).1 refl
+
+cell-itself : (cell : Cell) → is_cell cell cell ≡ true
+cell-itself Null = refl
+cell-itself (Num n) = int_eq_equiv.refl n
+cell-itself (Truth true) = refl
+cell-itself (Truth false) = refl
+cell-itself (Text bytes) = bytes-itself bytes
+cell-itself (Blob bytes) = bytes-itself bytes
+
+pub row-itself : (row : List Cell) → is_row row row ≡ true
+row-itself [] = refl
+row-itself (cell ∷ row) = both (is_cell cell cell) (is_row row row) (cell-itself cell) (row-itself row)
+
+pub rows-themselves : (rows : List (List Cell)) → pointwise is_row rows rows ≡ true
+rows-themselves [] = refl
+rows-themselves (row ∷ rows) = both (is_row row row) (pointwise is_row rows rows) (row-itself row) (rows-themselves rows)
+
+-- ---- what is before a reply in its transaction
+
+filter-none : (p : Entry → Bool) (entries : List Entry) → Each (λ entry. p entry ≡ false) entries → filter p entries ≡ []
+filter-none p [] h = refl
+filter-none p (entry ∷ entries) h = rw h.0 (filter-none p entries h.1)
+
+filter-each : (p : Entry → Bool) (entries : List Entry) → Each (λ entry. p entry ≡ true) entries → filter p entries ≡ entries
+filter-each p [] h = refl
+filter-each p (entry ∷ entries) h = rw h.0 (ap (λ es. entry ∷ es) (filter-each p entries h.1))
+
+front-before : (entry : Entry) (front : List Entry) → Each (λ other. is_same other.reply.who entry.reply.who ≡ true) front → Each (λ earlier. Follows earlier entry) front
+    → Each (λ other. is_before other entry ≡ true) front
+front-before entry [] of h = tt
+front-before entry (other ∷ front) of h =
+    let same : is_same entry.reply.who other.reply.who ≡ true = subst (λ (w : Who). is_same entry.reply.who w ≡ true) (sym (same-is other.reply.who entry.reply.who of.0)) (same-itself entry.reply.who) in
+    (h.0.in_turn same, front-before entry front of.1 h.1)
+
+bound-of : (machine : IsolationMachine) → Sane machine → (who : Who) (o : OpenTransaction) → open_of who machine ≡ Some o → o.snapshot ≤ length machine.history
+bound-of machine sane (Session session) o at = sane.bound session o at
+bound-of machine sane (Worker worker) o at = absurd (let never : ⊥ = cc in never)
+
+own-kept : (who : Who) (kept : Bool) (entry : Entry) (entries : List Entry) → is_same entry.reply.who who ≡ kept → Each (λ other. is_same other.reply.who who ≡ true) entries
+    → Each (λ other. is_same other.reply.who who ≡ true) (cond kept (entry ∷ entries) entries)
+own-kept who true entry entries is h = (is, h)
+own-kept who false entry entries is h = h
+
+own-of : (who : Who) (entries : List Entry) → Each (λ entry. is_same entry.reply.who who ≡ true) (thread who entries)
+own-of who [] = tt
+own-of who (entry ∷ entries) = own-kept who (is_same entry.reply.who who) entry (thread who entries) refl (own-of who entries)
+
+module _ (tables : List TableDecl) (printed timeline : List Entry) (t : Timeline tables printed timeline) (entry : Entry) (only : Only printed entry)
+    (cut : Cut tables timeline (last tables printed timeline t) entry) where
+  abbrev pub here : Run
+  here = run tables printed timeline t
+
+  abbrev pub its : Who
+  its = entry.reply.who
+
+  abbrev pub behind_it : List Entry
+  behind_it = thread its cut.rest
+
+  pub cut-order : InOrder (cut.front ++ entry ∷ cut.rest)
+  cut-order = its-order printed timeline cut.front entry cut.rest (at-cut tables printed timeline t entry only cut)
+
+  pub front-follows : Each (λ earlier. Follows earlier entry) cut.front
+  front-follows = order-front cut.front entry cut.rest cut-order
+
+  pub rest-follows : Each (Follows entry) cut.rest
+  rest-follows = order-rest cut.front entry cut.rest cut-order
+
+  -- the replies of a transaction in front are before the reply
+  replies-before : (o : OpenTransaction) (within : Within its (thread its cut.front) o) → Each (λ other. is_before other entry ≡ true) within.replies
+  replies-before o within =
+      Each-second (λ other. is_before other entry ≡ true) within.ahead within.replies
+      (subst (Each (λ other. is_before other entry ≡ true)) within.split
+      (front-before entry (thread its cut.front) (own-of its cut.front) (Each-filter (λ earlier. Follows earlier entry) (λ other. is_same other.reply.who its) cut.front front-follows)))
+
+  behind-not : Each (λ other. is_before other entry ≡ false) (up_to_end behind_it)
+  behind-not =
+      Each-up_to_end (λ other. is_before other entry ≡ false) behind_it
+      (Each-filter (λ other. is_before other entry ≡ false) (λ other. is_same other.reply.who its) cut.rest
+      (Each-weaker (Follows entry) (λ other. is_before other entry ≡ false) (λ other follows. follows.not_before) cut.rest rest-follows))
+
+  none-or : (b : Bool) → filter (λ other. is_before other entry) (cond b (entry ∷ []) (entry ∷ up_to_end behind_it)) ≡ []
+  none-or true = rw (before-itself entry) refl
+  none-or false = rw (before-itself entry) (filter-none (λ other. is_before other entry) (up_to_end behind_it) behind-not)
+
+  pub before-is : (o : OpenTransaction) (within : Within its (thread its cut.front) o) → before (within.replies ++ up_to_end (entry ∷ behind_it)) entry ≡ within.replies
+  before-is o within =
+      filter-append (λ other. is_before other entry) within.replies (up_to_end (entry ∷ behind_it))
+      ∙ (rw (filter-each (λ other. is_before other entry) within.replies (replies-before o within), none-or (is_end entry.reply.said)) (append-nil within.replies))
+
+  -- the transaction that the reply belongs to
+  abbrev pub belongs : (o : OpenTransaction) → Within its (thread its cut.front) o → Transaction
+  belongs o within = span its o.snapshot (within.replies ++ up_to_end (entry ∷ behind_it))
+
+  pub within-open : (o : OpenTransaction) → open_of its cut.machine ≡ Some o → Within its (thread its cut.front) o
+  within-open o at = subst (Stands its (thread its cut.front)) at (cut.shown.stands its)
+
+  pub belongs-is : (o : OpenTransaction) (within : Within its (thread its cut.front) o) → belongs_to here entry ≡ Some (belongs o within)
+  belongs-is o within = found-open printed timeline cut.front entry cut.rest (at-cut tables printed timeline t entry only cut) o.snapshot within.replies within.spanned
+
+  pub belongs-none : open_of its cut.machine ≡ None → snapshot_in entry.reply.said ≡ None → belongs_to here entry ≡ None
+  belongs-none at none =
+      found-none printed timeline cut.front entry cut.rest (at-cut tables printed timeline t entry only cut) (subst (Stands its (thread its cut.front)) at (cut.shown.stands its)) none
+
+  -- the state at a snapshot that the machine had
+  pub state-is : (n : ℕ) → n ≤ length cut.machine.history → state_at here.history n ≡ state_at cut.machine.history n
+  state-is n low =
+      ap (λ (h : History). fold laid_over [] (take n h)) (history-shown tables printed timeline t ∙ cut.grows.is)
+      ∙ ap (fold laid_over []) (take-append-le n cut.machine.history cut.grows.more low)
+
+  pub bound-is : (o : OpenTransaction) → open_of its cut.machine ≡ Some o → o.snapshot ≤ length cut.machine.history
+  bound-is o at = bound-of cut.machine cut.shown.sane its o at
+
+  -- What the transaction sees.
+  pub seen-is : (o : OpenTransaction) (at : open_of its cut.machine ≡ Some o) (within : Within its (thread its cut.front) o) → seen_at here (belongs o within) entry ≡ seen_rows cut.machine o
+  seen-is o at within =
+      ap (λ (s : State). laid_over s (writes_in (before (belongs o within).replies entry))) (state-is o.snapshot (bound-is o at))
+      ∙ ap (λ (es : List Entry). laid_over (state_at cut.machine.history o.snapshot) (writes_in es)) (before-is o within)
+      ∙ ap (laid_over (state_at cut.machine.history o.snapshot)) within.writes_are
+
+-- ---- reads
+
+-- a get is answered by what is seen at its key
+got-holds : (seen : State) (table : ℕ) (key : ℤ) (found : Option (List Cell)) → at_place seen (place_at table key) ≡ found → read_holds seen (command.Get table key) (said_of (answer.Found found)) ≡ true
+got-holds seen table key None is = ap is_none is
+got-holds seen table key (Some row) is = ap (λ (o : Option (List Cell)). option_map_or (is_row row) o false) is ∙ row-itself row
+
+outcome-read : (machine : IsolationMachine) (session : ℕ) (asked : Command) (act : Act) (seen : State) (own : Answer) (told : Said) (after : IsolationMachine)
+    → (step machine (asks session act)).0 ≡ own → read_holds seen asked (said_of own) ≡ true → read_holds seen asked said.Memory ≡ true
+    → (outcome : Outcome) → Tells outcome told → Allows machine (asks session act) outcome after
+    → ((table : ℕ) (block : ℕ) (stamp : ℕ) → read_holds seen asked (said.Freezing table block stamp) ≡ true) → read_holds seen asked said.Full ≡ true → read_holds seen asked told ≡ true
+outcome-read machine session asked act seen own told after is holds held (Answered a) tells allows f g =
+    let e : a ≡ own = sym (ap (λ (p : Answer × IsolationMachine). p.0) allows) ∙ is in
+    ap (read_holds seen asked) (tells ∙ ap said_of e) ∙ holds
+outcome-read machine session asked act seen own told after is holds held Freezing tells allows f g = ap (read_holds seen asked) tells.3 ∙ f tells.0 tells.1 tells.2
+outcome-read machine session asked act seen own told after is holds held Full tells allows f g = ap (read_holds seen asked) tells ∙ g
+outcome-read machine session asked act seen own told after is holds held Memory tells allows f g = ap (read_holds seen asked) tells ∙ held
+
+takes-read : (tables : List TableDecl) (front : List Entry) (machine : IsolationMachine) (entry : Entry) (after : IsolationMachine) (who : Who) (asked : Command) (o : OpenTransaction)
+    → entry.command ≡ asked → open_of who machine ≡ Some o → TakesAs tables front machine entry after (request_of who asked) → read_holds (seen_rows machine o) asked entry.reply.said ≡ true
+takes-read tables front machine entry after (Worker worker) asked o is at h = absurd (let never : ⊥ = cc in never)
+takes-read tables front machine entry after (Session session) (command.Get table key) o is at h =
+    outcome-read machine session (command.Get table key) (act.Get table key) (seen_rows machine o) (answer.Found (at_place (seen_rows machine o) (place_at table key))) entry.reply.said after
+    (ap (λ (f : Option OpenTransaction). (step_of machine (asks session (act.Get table key)) f).0) at)
+    (got-holds (seen_rows machine o) table key (at_place (seen_rows machine o) (place_at table key)) refl) refl h.outcome h.tells h.allows (λ t b s. refl) refl
+takes-read tables front machine entry after (Session session) (command.Scan table) o is at h =
+    outcome-read machine session (command.Scan table) (act.Scan table) (seen_rows machine o) (answer.Rows (contents_of table (seen_rows machine o))) entry.reply.said after
+    (ap (λ (f : Option OpenTransaction). (step_of machine (asks session (act.Scan table)) f).0) at)
+    (rows-themselves (contents_of table (seen_rows machine o))) refl h.outcome h.tells h.allows (λ t b s. refl) refl
+takes-read tables front machine entry after (Session session) _ o is at h = refl
+
+-- ---- writes by the rows
+
+-- the reply refuses a write by the rows
+abbrev refuses : Said → Bool
+refuses said.Exists = true
+refuses said.Missing = true
+refuses _ = false
+
+unrefused : (told : Said) → refuses told ≡ false → write_holds true told ≡ true
+unrefused said.Exists h = absurd (let never : ⊥ = cc in never)
+unrefused said.Missing h = absurd (let never : ⊥ = cc in never)
+unrefused _ h = refl
+
+verdict-write : (machine : IsolationMachine) (o : OpenTransaction) (place : Place) (acceptable : Bool) (told : Said) → Verdict machine o place acceptable told → write_holds acceptable told ≡ true
+verdict-write machine o place acceptable told (accepted clear can is) = ap (write_holds acceptable) is ∙ can
+verdict-write machine o place acceptable told (rival r found is) = ap (write_holds acceptable) is
+verdict-write machine o place acceptable told (later k none found is) = ap (write_holds acceptable) is
+verdict-write machine o place acceptable told (refused clear can (inl is)) = ap (write_holds acceptable) is ∙ ap not can
+verdict-write machine o place acceptable told (refused clear can (inr is)) = ap (write_holds acceptable) is ∙ ap not can
+verdict-write machine o place acceptable told (limited clear can (inl is)) = ap (write_holds acceptable) is ∙ can
+verdict-write machine o place acceptable told (limited clear can (inr is)) = ap (write_holds acceptable) is.3 ∙ can
+verdict-write machine o place acceptable told (memory is) = ap (write_holds acceptable) is
+
+outcome-unrefused : (machine : IsolationMachine) (session : ℕ) (act : Act) (own : Answer) (told : Said) (after : IsolationMachine)
+    → (step machine (asks session act)).0 ≡ own → refuses (said_of own) ≡ false → (outcome : Outcome) → Tells outcome told → Allows machine (asks session act) outcome after → refuses told ≡ false
+outcome-unrefused machine session act own told after is free (Answered a) tells allows =
+    let e : a ≡ own = sym (ap (λ (p : Answer × IsolationMachine). p.0) allows) ∙ is in ap refuses (tells ∙ ap said_of e) ∙ free
+outcome-unrefused machine session act own told after is free Freezing tells allows = ap refuses tells.3
+outcome-unrefused machine session act own told after is free Full tells allows = ap refuses tells
+outcome-unrefused machine session act own told after is free Memory tells allows = ap refuses tells
+
+got-unrefused : (o : Option (List Cell)) → refuses (said_of (answer.Found o)) ≡ false
+got-unrefused None = refl
+got-unrefused (Some row) = refl
+
+commit-unrefused : (machine : IsolationMachine) (o : OpenTransaction) (own : WriteSet) → refuses (said_of (commit machine o own).0) ≡ false
+commit-unrefused machine o [] = refl
+commit-unrefused machine o (first ∷ rest) = refl
+
+upkeep-unrefused : (told : Said) → is_of_upkeep told ≡ true → refuses told ≡ false
+upkeep-unrefused said.Exists h = absurd (let never : ⊥ = cc in never)
+upkeep-unrefused said.Missing h = absurd (let never : ⊥ = cc in never)
+upkeep-unrefused _ h = refl
+
+export-unrefused : (tables : List TableDecl) (front : List Entry) (machine : IsolationMachine) (found : Option OpenTransaction) (table : ℕ) (told : Said) → ExportsBy tables front machine found table told → refuses told ≡ false
+export-unrefused tables front machine None table told h = ap refuses h
+export-unrefused tables front machine (Some o) table said.Exists h = absurd h
+export-unrefused tables front machine (Some o) table said.Missing h = absurd h
+export-unrefused tables front machine (Some o) table _ h = refl
+
+takes-write : (tables : List TableDecl) (front : List Entry) (machine : IsolationMachine) (entry : Entry) (after : IsolationMachine) (who : Who) (asked : Command) (o : OpenTransaction)
+    → entry.command ≡ asked → open_of who machine ≡ Some o → TakesAs tables front machine entry after (request_of who asked) → write_holds (is_acceptable (seen_rows machine o) asked) entry.reply.said ≡ true
+takes-write tables front machine entry after (Worker worker) asked o is at h = absurd (let never : ⊥ = cc in never)
+takes-write tables front machine entry after (Session session) command.Begin o is at h =
+    unrefused entry.reply.said (outcome-unrefused machine session act.Begin answer.InTransaction entry.reply.said after (ap (λ (f : Option OpenTransaction). (step_of machine (asks session act.Begin) f).0) at) refl h.outcome h.tells h.allows)
+takes-write tables front machine entry after (Session session) (command.Get table key) o is at h =
+    unrefused entry.reply.said (outcome-unrefused machine session (act.Get table key) (answer.Found (at_place (seen_rows machine o) (place_at table key))) entry.reply.said after
+    (ap (λ (f : Option OpenTransaction). (step_of machine (asks session (act.Get table key)) f).0) at) (got-unrefused (at_place (seen_rows machine o) (place_at table key))) h.outcome h.tells h.allows)
+takes-write tables front machine entry after (Session session) (command.Scan table) o is at h =
+    unrefused entry.reply.said (outcome-unrefused machine session (act.Scan table) (answer.Rows (contents_of table (seen_rows machine o))) entry.reply.said after
+    (ap (λ (f : Option OpenTransaction). (step_of machine (asks session (act.Scan table)) f).0) at) refl h.outcome h.tells h.allows)
+takes-write tables front machine entry after (Session session) (command.Insert table row) o is at h =
+    verdict-write machine o _ (is_acceptable (seen_rows machine o) (command.Insert table row)) entry.reply.said
+    (takes-verdict tables front machine session o (command.Insert table row) entry.reply.said after entry _ _ is refl at refl h)
+takes-write tables front machine entry after (Session session) (command.Update table row) o is at h =
+    verdict-write machine o _ (is_acceptable (seen_rows machine o) (command.Update table row)) entry.reply.said
+    (takes-verdict tables front machine session o (command.Update table row) entry.reply.said after entry _ _ is refl at refl h)
+takes-write tables front machine entry after (Session session) (command.Delete table key) o is at h =
+    verdict-write machine o _ (is_acceptable (seen_rows machine o) (command.Delete table key)) entry.reply.said
+    (takes-verdict tables front machine session o (command.Delete table key) entry.reply.said after entry _ _ is refl at refl h)
+takes-write tables front machine entry after (Session session) command.Commit o is at h =
+    unrefused entry.reply.said (outcome-unrefused machine session act.Commit (commit machine o o.own).0 entry.reply.said after
+    (ap (λ (f : Option OpenTransaction). (step_of machine (asks session act.Commit) f).0) at) (commit-unrefused machine o o.own) h.outcome h.tells h.allows)
+takes-write tables front machine entry after (Session session) command.Abort o is at h =
+    unrefused entry.reply.said (outcome-unrefused machine session act.Abort answer.Aborted entry.reply.said after (ap (λ (f : Option OpenTransaction). (step_of machine (asks session act.Abort) f).0) at) refl h.outcome h.tells h.allows)
+takes-write tables front machine entry after (Session session) (command.Export table) o is at h =
+    let aside : Aside tables front machine entry.reply.who (command.Export table) entry.reply.said = subst (λ (c : Command). Aside tables front machine entry.reply.who c entry.reply.said) is h.0 in
+    unrefused entry.reply.said (export-unrefused tables front machine (open_of entry.reply.who machine) table entry.reply.said aside)
+takes-write tables front machine entry after (Session session) asked o is at h =
+    let aside : Aside tables front machine entry.reply.who asked entry.reply.said = subst (λ (c : Command). Aside tables front machine entry.reply.who c entry.reply.said) is h.0 in
+    unrefused entry.reply.said (upkeep-unrefused entry.reply.said aside.1)
+
+-- a reply that shows a snapshot reads nothing
+begun-read : (seen : State) (asked : Command) (number : ℕ) → read_holds seen asked (said.At number) ≡ true
+begun-read seen (command.Get table key) number = refl
+begun-read seen (command.Scan table) number = refl
+begun-read seen _ number = refl
+
+-- a test of the transaction that a reply belongs to, if it belongs to one
+pub at-some : (test : Transaction → Bool) (found : Option Transaction) (u : Transaction) → found ≡ Some u → test u ≡ true → option_map_or test found true ≡ true
+at-some test found u is h = ap (λ (o : Option Transaction). option_map_or test o true) is ∙ h
+
+pub at-none : (test : Transaction → Bool) (found : Option Transaction) → found ≡ None → option_map_or test found true ≡ true
+at-none test found is = ap (λ (o : Option Transaction). option_map_or test o true) is
+
+pub at-any : (test : Transaction → Bool) (found : Option Transaction) → ((u : Transaction) → test u ≡ true) → option_map_or test found true ≡ true
+at-any test None h = refl
+at-any test (Some u) h = h u
+
+-- what opens no transaction shows no snapshot
+pub ended-unopened : (told : Said) (own : WriteSet) → (told ≡ said.Aborted) ⊎ ((told ≡ said.Committed None) × (own ≡ [])) → snapshot_in told ≡ None
+ended-unopened told own (inl is) = ap snapshot_in is
+ended-unopened told own (inr is) = ap snapshot_in is.0
+
+module _ (tables : List TableDecl) (printed timeline : List Entry) (t : Timeline tables printed timeline) (entry : Entry) (only : Only printed entry)
+    (cut : Cut tables timeline (last tables printed timeline t) entry) where
+  abbrev run_here : Run
+  run_here = run tables printed timeline t
+
+  -- A condition on the transaction of a reply: it holds where a transaction is open in front, and where the reply opens one.
+  pub by-transaction : (test : Transaction → Bool)
+      → ((o : OpenTransaction) (at : open_of entry.reply.who cut.machine ≡ Some o) (within : Within entry.reply.who (thread entry.reply.who cut.front) o) → test (belongs tables printed timeline t entry only cut o within) ≡ true)
+      → ((u : Transaction) → entry.command ≡ command.Begin → entry.reply.said ≡ said.At (length cut.machine.history) → test u ≡ true)
+      → (found : Option OpenTransaction) → open_of entry.reply.who cut.machine ≡ found → Change entry.reply.who entry.command entry.reply.said cut.machine cut.after
+      → option_map_or test (belongs_to run_here entry) true ≡ true
+  by-transaction test inside begins (Some o) at change =
+      let within = within-open tables printed timeline t entry only cut o at in
+      at-some test (belongs_to run_here entry) (belongs tables printed timeline t entry only cut o within) (belongs-is tables printed timeline t entry only cut o within) (inside o at within)
+  by-transaction test inside begins None at (quiet q) = at-none test (belongs_to run_here entry) (belongs-none tables printed timeline t entry only cut at q.opens)
+  by-transaction test inside begins None at (opens o) = at-any test (belongs_to run_here entry) (λ u. begins u o.asked_is o.said_is)
+  by-transaction test inside begins None at (writes w) = at-none test (belongs_to run_here entry) (belongs-none tables printed timeline t entry only cut at (ap snapshot_in w.said_is))
+  by-transaction test inside begins None at (ends e) = at-none test (belongs_to run_here entry) (belongs-none tables printed timeline t entry only cut at (ended-unopened entry.reply.said e.t.own e.said_is))
+  by-transaction test inside begins None at (commits c) = at-none test (belongs_to run_here entry) (belongs-none tables printed timeline t entry only cut at (ap snapshot_in c.said_is))
+
+  -- Reads.
+  pub reads : reads_hold run_here entry ≡ true
+  reads =
+      by-transaction (λ u. read_holds (seen_at run_here u entry) entry.command entry.reply.said)
+      (λ o at within. ap (λ (s : State). read_holds s entry.command entry.reply.said) (seen-is tables printed timeline t entry only cut o at within)
+      ∙ takes-read tables cut.front cut.machine entry cut.after entry.reply.who entry.command o refl at cut.takes)
+      (λ u is_asked is. ap (read_holds (seen_at run_here u entry) entry.command) is ∙ begun-read (seen_at run_here u entry) entry.command (length cut.machine.history))
+      (open_of entry.reply.who cut.machine) refl cut.change
+
+  -- Writes.
+  pub writes-by-rows : writes_hold run_here entry ≡ true
+  writes-by-rows =
+      by-transaction (λ u. write_holds (is_acceptable (seen_at run_here u entry) entry.command) entry.reply.said)
+      (λ o at within. ap (λ (s : State). write_holds (is_acceptable s entry.command) entry.reply.said) (seen-is tables printed timeline t entry only cut o at within)
+      ∙ takes-write tables cut.front cut.machine entry cut.after entry.reply.who entry.command o refl at cut.takes)
+      (λ u is_asked is. ap (write_holds (is_acceptable (seen_at run_here u entry) entry.command)) is)
+      (open_of entry.reply.who cut.machine) refl cut.change

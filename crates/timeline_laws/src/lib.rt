@@ -1,0 +1,4 @@
+//! Laws of explained outputs: replies that came about in some order are explained, in whatever order they are printed.
+#![tactic(auto)]
+
+pub mod laws;
