@@ -1,0 +1,5 @@
+pub mod Fitting
+pub mod Slots
+pub mod Bodies
+pub mod Looks
+pub mod Examples
