@@ -4,7 +4,6 @@
 mod hand;
 mod parts;
 mod rule;
-mod steps;
 mod view;
 
 pub use hand::Hand;

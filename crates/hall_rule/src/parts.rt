@@ -3,9 +3,9 @@ ghost use Rattle.std.specs.Prelude.{◌≡◌, ◌≢◌, ◌+◌, ◌<◌, ◌�
 ghost use Rattle.hall_rule.specs.Hands.{Agrees, Covers, OnlyHeld, SameRoom, all_in};
 
 use crate::hand::Hand;
-use crate::steps::Steps;
 use std::alloc::AllocError;
 use std::sync::ledger::Ledger;
+use steps::Steps;
 
 /// A core whose state is a list of parts, and whose events each work on a few of them.
 ///
