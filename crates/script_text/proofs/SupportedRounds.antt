@@ -11,6 +11,7 @@ use Rattle.workload_spec.specs.declared.script.Line.{Line}
 use Rattle.workload_spec.specs.Supported.{is_supported_command}
 use Rattle.workload_spec.specs.Reading.{onto_first, words_of}
 use Rattle.workload_spec.specs.Valid.{is_export}
+use Rattle.workload_spec.specs.Extents.{whole as entire}
 use Rattle.workload_spec.specs.Grammar.{◌>>=◌, on_line, Fault, line_of, rounds_from}
 use Rattle.script_text.specs.Supported.{supported_line, supported_lines}
 use Rattle.script_text.proofs.Narrowing.{Narrows, Always, always_given, always_bind, refused, given, neither}
@@ -45,12 +46,12 @@ some_by false at read R S = always_bind IsSome (on_line at read) (λ read. R rea
     (λ read e. always_bind IsSome (R read) (λ rounds. Ok (onto_first read rounds)) (λ rounds e. always_given IsSome (onto_first read rounds) (onto_some read rounds)))
 
 -- there is a round
-some_round : (tables : List TableDecl) (at : ℕ) (exported : Bool) (all : List (List ℕ)) → Always IsSome (rounds_from tables 1 at exported all)
+some_round : (tables : List TableDecl) (at : ℕ) (exported : Bool) (all : List (List ℕ)) → Always IsSome (rounds_from entire tables 1 at exported all)
 some_round tables at exported [] = always_given IsSome ([] ∷ []) (omega arith)
 some_round tables at exported ([] ∷ []) = always_given IsSome ([] ∷ []) (omega arith)
 some_round tables at exported ((byte ∷ bytes) ∷ []) = record { each = λ rounds e. absurd cc }
-some_round tables at exported (line ∷ next ∷ rest) = some_by (bytes_eq line (codes "--")) at (line_of tables 1 exported (words_of line))
-    (λ read. rounds_from tables 1 (at + 1) (exported || is_export read.command) (next ∷ rest)) (rounds_from tables 1 (at + 1) exported (next ∷ rest))
+some_round tables at exported (line ∷ next ∷ rest) = some_by (bytes_eq line (codes "--")) at (line_of entire tables 1 exported (words_of line))
+    (λ read. rounds_from entire tables 1 (at + 1) (exported || is_export read.command) (next ∷ rest)) (rounds_from entire tables 1 (at + 1) exported (next ∷ rest))
 
 both : (b c : Bool) → (b && c) ≡ true → (b ≡ true) × (c ≡ true)
 both true true e = (refl, refl)
@@ -100,12 +101,12 @@ line_by true at part whole S R other none some narrows later more = rw (none ref
     (λ are. absurd (omega (arith, are.one, some.each rounds e))))))
 line_by false at part whole S R other none some narrows later more = joined at part whole S R narrows later more
 
-pub lines_narrow : (tables : List TableDecl) (at : ℕ) (exported : Bool) (all : List (List ℕ)) → Narrows AreSupported (supported_lines tables at exported all >>= alone) (rounds_from tables 1 at exported all)
+pub lines_narrow : (tables : List TableDecl) (at : ℕ) (exported : Bool) (all : List (List ℕ)) → Narrows AreSupported (supported_lines tables at exported all >>= alone) (rounds_from entire tables 1 at exported all)
 lines_narrow tables at exported [] = given AreSupported ([] ∷ []) (record { one = refl; each = refl })
 lines_narrow tables at exported ([] ∷ []) = given AreSupported ([] ∷ []) (record { one = refl; each = refl })
 lines_narrow tables at exported ((byte ∷ bytes) ∷ []) = neither AreSupported (record { line = at; cause = cause.Line }) (record { line = at; cause = cause.Line })
-lines_narrow tables at exported (line ∷ next ∷ rest) = line_by (bytes_eq line (codes "--")) at (supported_line tables exported (words_of line)) (line_of tables 1 exported (words_of line))
-    (λ read. supported_lines tables (at + 1) (exported || is_export read.command) (next ∷ rest)) (λ read. rounds_from tables 1 (at + 1) (exported || is_export read.command) (next ∷ rest)) (rounds_from tables 1 (at + 1) exported (next ∷ rest))
+lines_narrow tables at exported (line ∷ next ∷ rest) = line_by (bytes_eq line (codes "--")) at (supported_line tables exported (words_of line)) (line_of entire tables 1 exported (words_of line))
+    (λ read. supported_lines tables (at + 1) (exported || is_export read.command) (next ∷ rest)) (λ read. rounds_from entire tables 1 (at + 1) (exported || is_export read.command) (next ∷ rest)) (rounds_from entire tables 1 (at + 1) exported (next ∷ rest))
     (λ is. let same : line ≡ codes "--" = (bytes_eq-Decides line (codes "--")).0 is in ap (λ (text : List ℕ). supported_line tables exported (words_of text)) same ∙ dashes tables exported)
     (some_round tables (at + 1) exported (next ∷ rest)) (line_narrows tables exported (words_of line))
     (λ read. lines_narrow tables (at + 1) (exported || is_export read.command) (next ∷ rest)) (λ read. some_round tables (at + 1) (exported || is_export read.command) (next ∷ rest))

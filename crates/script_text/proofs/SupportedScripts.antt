@@ -13,6 +13,7 @@ use Rattle.workload_spec.specs.declared.script.Script.{Script}
 use Rattle.workload_spec.specs.Supported.{IsSupported}
 use Rattle.workload_spec.specs.Reading.{parts, words_of}
 use Rattle.workload_spec.specs.Words.{line_feed}
+use Rattle.workload_spec.specs.Extents.{whole as entire}
 use Rattle.workload_spec.specs.Grammar.{◌>>=◌, rule, on_line, Fault, next_line, is_table_line, table_of, tables_from, sessions_of, workers_of, rounds_from, script_in}
 use Rattle.script_text.specs.declared.fault.ScriptFault.{ScriptFault}
 use Rattle.script_text.specs.declared.fault.ScriptFault.TheVariants as fault
@@ -55,19 +56,19 @@ abbrev rounds_behind : List TableDecl → ℕ → (ℕ × ℕ) → List (List �
 rounds_behind tables sessions workers all = do
   go ← next_line (length tables + 2 + 2) cause.Go all
   goes ← on_line (length tables + 2 + 2) (rule cause.Go (bytes_eq go.0 (codes "go")))
-  rounds ← rounds_from tables sessions (length tables + 2 + 3) false go.1
+  rounds ← rounds_from entire tables sessions (length tables + 2 + 3) false go.1
   Ok (record { version = 1; tables = tables; sessions = sessions; workers = workers.0; turns = workers.1; rounds = rounds })
 
 abbrev workers_behind : List TableDecl → ℕ → List (List ℕ) → Result Script Fault
 workers_behind tables sessions all = do
   line ← next_line (length tables + 2 + 1) cause.Workers all
-  workers ← on_line (length tables + 2 + 1) (workers_of (words_of line.0))
+  workers ← on_line (length tables + 2 + 1) (workers_of entire (words_of line.0))
   rounds_behind tables sessions workers line.1
 
 abbrev sessions_behind : (List TableDecl × List (List ℕ)) → Result Script Fault
 sessions_behind tables = do
   line ← next_line (length tables.0 + 2) cause.Sessions tables.1
-  sessions ← on_line (length tables.0 + 2) (sessions_of (words_of line.0))
+  sessions ← on_line (length tables.0 + 2) (sessions_of entire (words_of line.0))
   workers_behind tables.0 sessions line.1
 
 -- The same lines of the part.
@@ -88,12 +89,12 @@ part_sessions table all = do
   workers ← behind_session all
   part_workers table workers
 
-whole_is : (all : List (List ℕ)) → script_in all ≡ (do
+whole_is : (all : List (List ℕ)) → script_in entire all ≡ (do
   store ← next_line 1 cause.Version all
   version ← on_line 1 (rule cause.Version (bytes_eq store.0 (codes "store 1")))
   first ← next_line 2 cause.Table store.1
   begins ← on_line 2 (rule cause.Table (is_table_line first.0))
-  tables ← tables_from 2 [] store.1
+  tables ← tables_from entire 2 [] store.1
   sessions_behind tables)
 whole_is all = refl
 
@@ -182,35 +183,35 @@ begins_by true at tables all made R more = always_bind (Begins tables) (on_line 
     (λ room e. always_bind (Begins tables) (on_line at made) (λ table. R table) (λ table f. begins_more tables table (R table) (more table)))
 begins_by false at tables all made R more = always_given (Begins tables) (tables, all) ([], sym (append-nil tables))
 
-begins : (at : ℕ) (tables : List TableDecl) (all : List (List ℕ)) → Always (Begins tables) (tables_from at tables all)
+begins : (at : ℕ) (tables : List TableDecl) (all : List (List ℕ)) → Always (Begins tables) (tables_from entire at tables all)
 begins at tables [] = always_given (Begins tables) (tables, []) ([], sym (append-nil tables))
 begins at tables (last ∷ []) = always_given (Begins tables) (tables, last ∷ []) ([], sym (append-nil tables))
-begins at tables (line ∷ next ∷ rest) = begins_by (is_table_line line) at tables (line ∷ next ∷ rest) (table_of tables (words_of line)) (λ table. tables_from (at + 1) (tables ++ table ∷ []) (next ∷ rest))
+begins at tables (line ∷ next ∷ rest) = begins_by (is_table_line line) at tables (line ∷ next ∷ rest) (table_of entire tables (words_of line)) (λ table. tables_from entire (at + 1) (tables ++ table ∷ []) (next ∷ rest))
     (λ table. begins (at + 1) (tables ++ table ∷ []) (next ∷ rest))
 
-more_tables : (table other : TableDecl) (at : ℕ) (all : List (List ℕ)) → Always Never (tables_from at (table ∷ other ∷ []) all >>= sessions_behind)
-more_tables table other at all = always_bind Never (tables_from at (table ∷ other ∷ []) all) sessions_behind
+more_tables : (table other : TableDecl) (at : ℕ) (all : List (List ℕ)) → Always Never (tables_from entire at (table ∷ other ∷ []) all >>= sessions_behind)
+more_tables table other at all = always_bind Never (tables_from entire at (table ∷ other ∷ []) all) sessions_behind
     (λ x e. let is = (begins at (table ∷ other ∷ []) all).each x e in many_tables x (let count : length x.0 ≡ length (table ∷ other ∷ is.0) = ap length is.1 in omega (arith, count)))
 
-other_table : (table : TableDecl) (all : List (List ℕ)) → ¬ IsAlone table → Always Never (tables_from 3 (table ∷ []) all >>= sessions_behind)
-other_table table all other = always_bind Never (tables_from 3 (table ∷ []) all) sessions_behind
+other_table : (table : TableDecl) (all : List (List ℕ)) → ¬ IsAlone table → Always Never (tables_from entire 3 (table ∷ []) all >>= sessions_behind)
+other_table table all other = always_bind Never (tables_from entire 3 (table ∷ []) all) sessions_behind
     (λ x e. let is = (begins 3 (table ∷ []) all).each x e in wide_table x table is.0 is.1 other)
 
-session_by : (is : Bool) (table : TableDecl) (line next : List ℕ) (rest : List (List ℕ)) (made : Result TableDecl Cause) (read : Result ℕ Cause) → IsAlone table → read ≡ sessions_of (words_of line)
+session_by : (is : Bool) (table : TableDecl) (line next : List ℕ) (rest : List (List ℕ)) (made : Result TableDecl Cause) (read : Result ℕ Cause) → IsAlone table → read ≡ sessions_of entire (words_of line)
     → Narrows RunsToday ((on_line 3 (rule cause.Table (not is)) >>= λ alone. on_line 3 read >>= λ sessions. on_line 3 (rule cause.Sessions (sessions == 1)) >>= λ one. Ok (next ∷ rest)) >>= part_workers table)
     ((elim is [
-      | true ↦ on_line 3 made >>= λ other. tables_from 4 (table ∷ other ∷ []) (next ∷ rest)
+      | true ↦ on_line 3 made >>= λ other. tables_from entire 4 (table ∷ other ∷ []) (next ∷ rest)
       | false ↦ Ok (table ∷ [], line ∷ next ∷ rest)
     ]) >>= sessions_behind)
-session_by true table line next rest (Ok other) read is same = refused RunsToday (record { line = 3; cause = cause.Table }) (tables_from 4 (table ∷ other ∷ []) (next ∷ rest) >>= sessions_behind) (more_tables table other 4 (next ∷ rest))
+session_by true table line next rest (Ok other) read is same = refused RunsToday (record { line = 3; cause = cause.Table }) (tables_from entire 4 (table ∷ other ∷ []) (next ∷ rest) >>= sessions_behind) (more_tables table other 4 (next ∷ rest))
 session_by true table line next rest (Err fault) read is same = neither RunsToday (record { line = 3; cause = cause.Table }) (record { line = 3; cause = fault })
 session_by false table line next rest made read is same = rw (← same) (session_read table read (next ∷ rest) is)
 
-session_narrows : (table : TableDecl) (all : List (List ℕ)) → IsAlone table → Narrows RunsToday (part_sessions table all) (tables_from 3 (table ∷ []) all >>= sessions_behind)
+session_narrows : (table : TableDecl) (all : List (List ℕ)) → IsAlone table → Narrows RunsToday (part_sessions table all) (tables_from entire 3 (table ∷ []) all >>= sessions_behind)
 session_narrows table [] is = neither RunsToday _ _
 session_narrows table ([] ∷ []) is = neither RunsToday _ _
 session_narrows table ((byte ∷ bytes) ∷ []) is = neither RunsToday _ _
-session_narrows table (line ∷ next ∷ rest) is = session_by (is_table_line line) table line next rest (table_of (table ∷ []) (words_of line)) (sessions_of (words_of line)) is refl
+session_narrows table (line ∷ next ∷ rest) is = session_by (is_table_line line) table line next rest (table_of entire (table ∷ []) (words_of line)) (sessions_of entire (words_of line)) is refl
 
 -- The table's line.
 
@@ -225,29 +226,29 @@ no_table [] e = refl
 no_table (word ∷ words) e = rw e refl
 
 table_joined : (part whole : Result TableDecl Cause) (rest : List (List ℕ)) → Narrows IsAlone part whole
-    → Narrows RunsToday ((on_line 2 part >>= paired rest) >>= part_tables) ((on_line 2 whole >>= λ table. tables_from 3 (table ∷ []) rest) >>= sessions_behind)
+    → Narrows RunsToday ((on_line 2 part >>= paired rest) >>= part_tables) ((on_line 2 whole >>= λ table. tables_from entire 3 (table ∷ []) rest) >>= sessions_behind)
 table_joined (Ok table) whole rest narrows = let same = narrows.sound table refl in rw same.0 (session_narrows table rest same.1)
-table_joined (Err cause) (Ok table) rest narrows = refused RunsToday (record { line = 2; cause = cause }) (tables_from 3 (table ∷ []) rest >>= sessions_behind)
+table_joined (Err cause) (Ok table) rest narrows = refused RunsToday (record { line = 2; cause = cause }) (tables_from entire 3 (table ∷ []) rest >>= sessions_behind)
     (other_table table rest (λ is. absurd (let same : Err cause ≡ Ok table = narrows.complete table refl is in cc)))
 table_joined (Err cause) (Err other) rest narrows = neither RunsToday _ _
 
 table_by : (is : Bool) (line next : List ℕ) (rest : List (List ℕ)) → is_table_line line ≡ is
     → Narrows RunsToday ((on_line 2 (table_of_key (words_of line)) >>= paired (next ∷ rest)) >>= part_tables)
     (on_line 2 (rule cause.Table is) >>= λ begins. (elim is [
-      | true ↦ on_line 2 (table_of [] (words_of line)) >>= λ table. tables_from 3 (table ∷ []) (next ∷ rest)
+      | true ↦ on_line 2 (table_of entire [] (words_of line)) >>= λ table. tables_from entire 3 (table ∷ []) (next ∷ rest)
       | false ↦ Ok ([], line ∷ next ∷ rest)
     ]) >>= sessions_behind)
-table_by true line next rest e = table_joined (table_of_key (words_of line)) (table_of [] (words_of line)) (next ∷ rest) (table_narrows (words_of line))
+table_by true line next rest e = table_joined (table_of_key (words_of line)) (table_of entire [] (words_of line)) (next ∷ rest) (table_narrows (words_of line))
 table_by false line next rest e = rw (no_table (words_of line) e) (neither RunsToday _ _)
 
 table_in_narrows : (all : List (List ℕ)) → Narrows RunsToday (table_in all >>= part_tables)
-    (next_line 2 cause.Table all >>= λ first. on_line 2 (rule cause.Table (is_table_line first.0)) >>= λ begins. tables_from 2 [] all >>= sessions_behind)
+    (next_line 2 cause.Table all >>= λ first. on_line 2 (rule cause.Table (is_table_line first.0)) >>= λ begins. tables_from entire 2 [] all >>= sessions_behind)
 table_in_narrows [] = neither RunsToday _ _
 table_in_narrows ([] ∷ []) = neither RunsToday _ _
 table_in_narrows ((byte ∷ bytes) ∷ []) = neither RunsToday _ _
 table_in_narrows (line ∷ next ∷ rest) = table_by (is_table_line line) line next rest refl
 
-pub script_narrows : (all : List (List ℕ)) → Narrows RunsToday (supported_in all) (script_in all)
+pub script_narrows : (all : List (List ℕ)) → Narrows RunsToday (supported_in all) (script_in entire all)
 script_narrows all = search (table_in_narrows, flat, same_first) depth 40
 
 -- What is read as a script that runs today is one, and is the text's.

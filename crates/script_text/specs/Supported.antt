@@ -13,6 +13,7 @@ use Rattle.workload_spec.specs.declared.script.Script.{Script}
 use Rattle.workload_spec.specs.Reading.{parts, words_of}
 use Rattle.workload_spec.specs.Valid.{most_blocks, least_slots, is_name, is_export}
 use Rattle.workload_spec.specs.Words.{line_feed}
+use Rattle.workload_spec.specs.Extents.{whole as entire}
 use Rattle.workload_spec.specs.Grammar.{◌>>=◌, or_cause, rule, word, no_word, keyword, number, has_colon, column_of, key_column, Form, Alone, OfTable, OfKey, OfRow, formed, Fault, on_line, next_line, is_table_line, sessions_of, workers_of, script_of}
 use Rattle.workload_spec.specs.Supported.{IsSupported}
 
@@ -20,7 +21,7 @@ use Rattle.workload_spec.specs.Supported.{IsSupported}
 abbrev pub behind_key : List (List ℕ) → Result (List (List ℕ)) Cause
 behind_key [] = Ok []
 behind_key (word ∷ words) = elim (has_colon word) [
-  | true ↦ column_of (key_column ∷ []) word >>= λ column. Err cause.Columns
+  | true ↦ column_of entire (key_column ∷ []) word >>= λ column. Err cause.Columns
   | false ↦ Ok (word ∷ words)
 ]
 
@@ -97,7 +98,7 @@ abbrev pub behind_session : List (List ℕ) → Result (List (List ℕ)) Fault
 behind_session all = do
   line ← next_line 3 cause.Sessions all
   alone ← on_line 3 (rule cause.Table (not (is_table_line line.0)))
-  sessions ← on_line 3 (sessions_of (words_of line.0))
+  sessions ← on_line 3 (sessions_of entire (words_of line.0))
   one ← on_line 3 (rule cause.Sessions (sessions == 1))
   Ok line.1
 
@@ -105,7 +106,7 @@ behind_session all = do
 abbrev pub behind_workers : List (List ℕ) → Result (List (List ℕ)) Fault
 behind_workers all = do
   line ← next_line 4 cause.Workers all
-  workers ← on_line 4 (workers_of (words_of line.0))
+  workers ← on_line 4 (workers_of entire (words_of line.0))
   none ← on_line 4 (rule cause.Workers (workers.0 == 0 && workers.1 == 0))
   Ok line.1
 

@@ -2,6 +2,7 @@
 ghost use Rattle.std.specs.Prelude.{◌≡◌, ◌≤◌, ◌∷◌, [], length, take, bytes_eq, IfOk};
 ghost use Rattle.std.specs.List.{list_all, list_any};
 ghost use Rattle.workload_spec.specs.Valid.{is_name, is_name_byte, is_lower_case};
+ghost use Rattle.workload_spec.specs.Extents.{whole};
 ghost use Rattle.workload_spec.specs.Grammar.{has_colon, before_colon, after_colon, column_of, columns_from, key_column};
 ghost use Rattle.script_text.specs.Cursor.{words_behind};
 ghost use Rattle.script_text.specs.Answers.{Gives};
@@ -75,7 +76,7 @@ fn colon_place(word: &[u8]) -> usize
 /// A column behind others: a name that none of them has, a colon and a kind.
 #[tactic(auto, using(crate::proofs::Taken::taken_name))]
 pub fn column_of(alloc: Global, columns: &[Column], word: &[u8]) -> Result<Column, WordFault>
-    ensures { Gives (λ column. column) result (column_of columns.now word.now) }
+    ensures { Gives (λ column. column) result (column_of whole columns.now word.now) }
 {
     let (name, kind) = split_colon(word);
     if !is_name(name) {
@@ -106,7 +107,7 @@ fn is_taken(name: &[u8], columns: &[Column]) -> bool
 
 /// The key's column and those of the words that have a colon, and what stands behind the last of them.
 pub fn columns_of(alloc: Global, words: &[u8]) -> Result<(Vec<Column>, &[u8]), WordFault>
-    ensures { Gives (λ x. (x.0.items, words_behind x.1.now)) result (columns_from (key_column ∷ []) (words_behind words.now)) }
+    ensures { Gives (λ x. (x.0.items, words_behind x.1.now)) result (columns_from whole (key_column ∷ []) (words_behind words.now)) }
 {
     let mut columns = Vec::new(alloc);
     columns.push(key_column(alloc)?)?;

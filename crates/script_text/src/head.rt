@@ -1,6 +1,7 @@
 //! The lines behind the tables: how many sessions there are, and how many workers with their turns.
 ghost use Rattle.std.specs.Prelude.{◌≡◌};
 ghost use Rattle.workload_spec.specs.Reading.{words_of};
+ghost use Rattle.workload_spec.specs.Extents.{whole};
 ghost use Rattle.workload_spec.specs.Grammar.{sessions_of, workers_of};
 ghost use Rattle.script_text.specs.Answers.{Gives};
 
@@ -11,7 +12,7 @@ use workload_spec::Cause;
 
 /// How many sessions the line declares, 1 to 64.
 pub fn sessions_of(line: &[u8]) -> Result<u64, WordFault>
-    ensures { Gives (λ sessions. sessions) result (sessions_of (words_of line.now)) }
+    ensures { Gives (λ sessions. sessions) result (sessions_of whole (words_of line.now)) }
 {
     let rest = first_keyword(Cause::Sessions, b"sessions", line)?;
     let (sessions, rest) = number(Cause::Sessions, 1, 64, rest)?;
@@ -21,7 +22,7 @@ pub fn sessions_of(line: &[u8]) -> Result<u64, WordFault>
 
 /// How many workers the line declares, at most 16, and how many turns each makes in a round, at most 100.
 pub fn workers_of(line: &[u8]) -> Result<(u64, u64), WordFault>
-    ensures { Gives (λ x. (x.0, x.1)) result (workers_of (words_of line.now)) }
+    ensures { Gives (λ x. (x.0, x.1)) result (workers_of whole (words_of line.now)) }
 {
     let rest = first_keyword(Cause::Workers, b"workers", line)?;
     let (workers, rest) = number(Cause::Workers, 0, 16, rest)?;

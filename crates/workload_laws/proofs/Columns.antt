@@ -12,6 +12,7 @@ use Rattle.workload_spec.specs.declared.script.Cause.{Cause}
 use Rattle.workload_spec.specs.declared.script.Cause.TheVariants as cause
 use Rattle.workload_spec.specs.Valid.{is_name, are_columns}
 use Rattle.workload_spec.specs.ScriptText.{kind_text, column_text}
+use Rattle.workload_spec.specs.Extents.{whole}
 use Rattle.workload_spec.specs.Grammar.{◌>>=◌, or_cause, rule, kinds, kind_of, colon, has_colon, before_colon, after_colon, column_of, columns_from}
 use Rattle.workload_laws.proofs.Results.{step, some_of, rule_of, eq_of}
 use Rattle.workload_laws.proofs.Lists.{both, joined, not_true, all-behind, own_names, own_names-behind, find_is, position_none, none_position}
@@ -62,7 +63,7 @@ pub record Reads (columns : List Column) (word : List ℕ) (column : Column) : T
   pub own : list_any (λ other. bytes_eq other.name column.name) columns ≡ false
   pub room : nat_lt (length columns) most_columns ≡ true
 
-pub column_is : (columns : List Column) (word : List ℕ) (column : Column) → has_colon word ≡ true → column_of columns word ≡ Ok column → Reads columns word column
+pub column_is : (columns : List Column) (word : List ℕ) (column : Column) → has_colon word ≡ true → column_of whole columns word ≡ Ok column → Reads columns word column
 column_is columns word column marked e =
     step (rule cause.Name (is_name (before_colon word))) _ column e (λ u named e1.
     step (rule cause.Twice (is_none (place_of_name (before_colon word) columns))) _ column e1 (λ v own e2.
@@ -129,10 +130,10 @@ columns_done : (words : List (List ℕ)) (columns : List Column) (read : List Co
 columns_done words columns read e = subst (λ (r : List Column × List (List ℕ)). ReadsAll columns words r) e (record { more = []; behind = sym (append-nil columns); text = refl; are = λ a. a })
 
 columns_by : (word : List ℕ) (words : List (List ℕ)) (columns : List Column) (read : List Column × List (List ℕ)) (b : Bool) → has_colon word ≡ b
-    → ((others : List Column) → columns_from others words ≡ Ok read → ReadsAll others words read)
-    → elim b as (λ c. Result (List Column × List (List ℕ)) Cause) [ true ↦ column_of columns word >>= (λ column. columns_from (columns ++ column ∷ []) words) | false ↦ Ok (columns, word ∷ words) ] ≡ Ok read → ReadsAll columns (word ∷ words) read
+    → ((others : List Column) → columns_from whole others words ≡ Ok read → ReadsAll others words read)
+    → elim b as (λ c. Result (List Column × List (List ℕ)) Cause) [ true ↦ column_of whole columns word >>= (λ column. columns_from whole (columns ++ column ∷ []) words) | false ↦ Ok (columns, word ∷ words) ] ≡ Ok read → ReadsAll columns (word ∷ words) read
 columns_by word words columns read true marked later e =
-    step (column_of columns word) _ read e (λ column is e1.
+    step (column_of whole columns word) _ read e (λ column is e1.
     let one = column_is columns word column marked is in
     let rest = later (columns ++ column ∷ []) e1 in
     record {
@@ -143,6 +144,6 @@ columns_by word words columns read true marked later e =
     })
 columns_by word words columns read false marked later e = columns_done (word ∷ words) columns read cc
 
-pub columns_are : (words : List (List ℕ)) (columns : List Column) (read : List Column × List (List ℕ)) → columns_from columns words ≡ Ok read → ReadsAll columns words read
+pub columns_are : (words : List (List ℕ)) (columns : List Column) (read : List Column × List (List ℕ)) → columns_from whole columns words ≡ Ok read → ReadsAll columns words read
 columns_are [] columns read e = columns_done [] columns read cc
 columns_are (word ∷ words) columns read e = columns_by word words columns read (has_colon word) refl (λ others is. columns_are words others read is) e

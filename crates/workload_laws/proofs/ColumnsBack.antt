@@ -12,6 +12,7 @@ use Rattle.cell_model.specs.Schemas.{begins_with_key, place_of_name, first_twins
 use Rattle.workload_spec.specs.declared.script.Cause.TheVariants as cause
 use Rattle.workload_spec.specs.Valid.{is_within, is_lower_case, is_digit, underscore, is_name_byte, is_name, are_columns}
 use Rattle.workload_spec.specs.ScriptText.{kind_text, column_text}
+use Rattle.workload_spec.specs.Extents.{whole}
 use Rattle.workload_spec.specs.Grammar.{◌>>=◌, or_cause, rule, kind_of, colon, has_colon, before_colon, after_colon, column_of, columns_from}
 use Rattle.workload_laws.proofs.Results.{gives, rule_back, chosen, passed}
 use Rattle.workload_laws.proofs.Lists.{both, either, joined, own_names-before, none_position}
@@ -116,7 +117,7 @@ pub record MayFollow (columns : List Column) (column : Column) : Type 0 where
   pub own : list_any (λ other. bytes_eq other.name column.name) columns ≡ false
   pub room : nat_lt (length columns) most_columns ≡ true
 
-pub column_back : (columns : List Column) (column : Column) → MayFollow columns column → column_of columns (column_text column) ≡ Ok column
+pub column_back : (columns : List Column) (column : Column) → MayFollow columns column → column_of whole columns (column_text column) ≡ Ok column
 column_back columns column may =
     let bytes = name_bytes column.name may.named in
     let before : before_colon (column_text column) ≡ column.name = ap before_colon (column_word column) ∙ before_back column.name (kind_text column.kind ++ (if column.nullable then codes "?" else [])) bytes.no_colon in
@@ -141,15 +142,15 @@ may_follow columns column more are =
       room = lt-ltb (length columns) 32 (omega (arith, leb-true (length (columns ++ column ∷ more)) 32 c.1, length-append columns (column ∷ more)));
     }
 
-columns_none : (columns : List Column) (word : List ℕ) (words : List (List ℕ)) → has_colon word ≡ false → columns_from columns (word ∷ words) ≡ Ok (columns, word ∷ words)
-columns_none columns word words none = passed (has_colon word) (column_of columns word >>= (λ column. columns_from (columns ++ column ∷ []) words)) (Ok (columns, word ∷ words)) none
+columns_none : (columns : List Column) (word : List ℕ) (words : List (List ℕ)) → has_colon word ≡ false → columns_from whole columns (word ∷ words) ≡ Ok (columns, word ∷ words)
+columns_none columns word words none = passed (has_colon word) (column_of whole columns word >>= (λ column. columns_from whole (columns ++ column ∷ []) words)) (Ok (columns, word ∷ words)) none
 
-columns_next : (columns : List Column) (word : List ℕ) (column : Column) (words : List (List ℕ)) → has_colon word ≡ true → column_of columns word ≡ Ok column → columns_from columns (word ∷ words) ≡ columns_from (columns ++ column ∷ []) words
+columns_next : (columns : List Column) (word : List ℕ) (column : Column) (words : List (List ℕ)) → has_colon word ≡ true → column_of whole columns word ≡ Ok column → columns_from whole columns (word ∷ words) ≡ columns_from whole (columns ++ column ∷ []) words
 columns_next columns word column words has read =
-    chosen (has_colon word) (column_of columns word >>= (λ made. columns_from (columns ++ made ∷ []) words)) (Ok (columns, word ∷ words)) has
-    ∙ gives (column_of columns word) (λ made. columns_from (columns ++ made ∷ []) words) (columns_from (columns ++ column ∷ []) words) column read refl
+    chosen (has_colon word) (column_of whole columns word >>= (λ made. columns_from whole (columns ++ made ∷ []) words)) (Ok (columns, word ∷ words)) has
+    ∙ gives (column_of whole columns word) (λ made. columns_from whole (columns ++ made ∷ []) words) (columns_from whole (columns ++ column ∷ []) words) column read refl
 
-pub columns_back : (more columns : List Column) (word : List ℕ) (words : List (List ℕ)) → has_colon word ≡ false → are_columns (columns ++ more) ≡ true → columns_from columns (map column_text more ++ word ∷ words) ≡ Ok (columns ++ more, word ∷ words)
+pub columns_back : (more columns : List Column) (word : List ℕ) (words : List (List ℕ)) → has_colon word ≡ false → are_columns (columns ++ more) ≡ true → columns_from whole columns (map column_text more ++ word ∷ words) ≡ Ok (columns ++ more, word ∷ words)
 columns_back [] columns word words none are = columns_none columns word words none ∙ ap (λ (cs : List Column). Ok (cs, word ∷ words)) (sym (append-nil columns))
 columns_back (column ∷ more) columns word words none are =
     columns_next columns (column_text column) column (map column_text more ++ word ∷ words) (ap has_colon (column_word column) ∙ has_back column.name (kind_text column.kind ++ (if column.nullable then codes "?" else []))) (column_back columns column (may_follow columns column more are))

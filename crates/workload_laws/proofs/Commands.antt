@@ -19,6 +19,7 @@ use Rattle.workload_spec.specs.Words.{cell_words}
 use Rattle.workload_spec.specs.ScriptText.{name_of_table, command_words}
 use Rattle.workload_spec.specs.Reading.{integer_of, integer_in, natural_of, value_of_digits}
 use Rattle.workload_spec.specs.Valid.{is_within, is_name, are_columns, are_slots, are_blocks, is_table, is_table_place, is_block_of, is_key_number, fits_table, is_command, is_export}
+use Rattle.workload_spec.specs.Extents.{whole}
 use Rattle.workload_spec.specs.Grammar.{or_cause, rule, word, no_word, number, Form, Alone, OfTable, OfKey, OfRow, OfBlock, forms, form_of, table_named, key_in, schema_at, cells_of, formed, line_of}
 use Rattle.workload_laws.specs.Bytes.{has_only_bytes, written_row}
 use Rattle.workload_laws.proofs.Results.{step, some_of, rule_of, word_is, no_word_is, number_is, eq_of, spelled_as}
@@ -58,17 +59,17 @@ pub record ReadsCommand (tables : List TableDecl) (name : List ℕ) (words : Lis
   pub bytes : list_all has_only_bytes (written_row command) ≡ true
 
 -- what a form reads behind this word is a command of it
-abbrev pub FormReads : List TableDecl → List ℕ × Form → Type 0
+abbrev pub FormReads : List TableDecl → List ℕ × Form × Bool → Type 0
 FormReads tables entry = (words : List (List ℕ)) (command : Command) → formed tables entry.1 words ≡ Ok command → ReadsCommand tables entry.0 words command
 
-alone : (tables : List TableDecl) (name : List ℕ) (made : Command) → command_words tables made ≡ name ∷ [] → is_command tables made ≡ true → list_all has_only_bytes (written_row made) ≡ true → FormReads tables (name, Alone made)
+alone : (tables : List TableDecl) (name : List ℕ) (made : Command) → command_words tables made ≡ name ∷ [] → is_command tables made ≡ true → list_all has_only_bytes (written_row made) ≡ true → FormReads tables (name, Alone made, true)
 alone tables name made text is bytes words command e =
     step (no_word cause.Command words) _ command e (λ u end e1.
     let same : made ≡ command = cc in
     subst (ReadsCommand tables name words) same (record { text = rw (no_word_is cause.Command words u end) text; is = is; bytes = bytes }))
 
 of_table : (tables : List TableDecl) (name : List ℕ) (make : ℕ → Command) → ((place : ℕ) → command_words tables (make place) ≡ name ∷ name_of_table tables place ∷ [])
-    → ((place : ℕ) → is_command tables (make place) ≡ is_table_place tables place) → ((place : ℕ) → list_all has_only_bytes (written_row (make place)) ≡ true) → FormReads tables (name, OfTable make)
+    → ((place : ℕ) → is_command tables (make place) ≡ is_table_place tables place) → ((place : ℕ) → list_all has_only_bytes (written_row (make place)) ≡ true) → FormReads tables (name, OfTable make, true)
 of_table tables name make text is bytes words command e =
     step (word cause.Command words) _ command e (λ first is1 e1.
     step (no_word cause.Command first.1) _ command e1 (λ u is2 e2.
@@ -82,7 +83,7 @@ of_table tables name make text is bytes words command e =
     }))))
 
 of_key : (tables : List TableDecl) (name : List ℕ) (make : ℕ → ℤ → Command) → ((place : ℕ) (key : ℤ) → command_words tables (make place key) ≡ name ∷ name_of_table tables place ∷ signed_decimal key ∷ [])
-    → ((place : ℕ) (key : ℤ) → is_command tables (make place key) ≡ (is_table_place tables place && is_key_number key)) → ((place : ℕ) (key : ℤ) → list_all has_only_bytes (written_row (make place key)) ≡ true) → FormReads tables (name, OfKey make)
+    → ((place : ℕ) (key : ℤ) → is_command tables (make place key) ≡ (is_table_place tables place && is_key_number key)) → ((place : ℕ) (key : ℤ) → list_all has_only_bytes (written_row (make place key)) ≡ true) → FormReads tables (name, OfKey make, true)
 of_key tables name make text is bytes words command e =
     step (word cause.Command words) _ command e (λ first is1 e1.
     step (word cause.Command first.1) _ command e1 (λ key_word is2 e2.
@@ -99,7 +100,7 @@ of_key tables name make text is bytes words command e =
     }))))))
 
 of_block : (tables : List TableDecl) (name : List ℕ) (make : ℕ → ℕ → Command) → ((place block : ℕ) → command_words tables (make place block) ≡ name ∷ name_of_table tables place ∷ decimal block ∷ [])
-    → ((place block : ℕ) → is_command tables (make place block) ≡ is_block_of tables place block) → ((place block : ℕ) → list_all has_only_bytes (written_row (make place block)) ≡ true) → FormReads tables (name, OfBlock make)
+    → ((place block : ℕ) → is_command tables (make place block) ≡ is_block_of tables place block) → ((place block : ℕ) → list_all has_only_bytes (written_row (make place block)) ≡ true) → FormReads tables (name, OfBlock make, true)
 of_block tables name make text is bytes words command e =
     step (word cause.Command words) _ command e (λ first is1 e1.
     step (word cause.Command first.1) _ command e1 (λ block_word is2 e2.
@@ -152,7 +153,7 @@ row_at tables table place key cells words all at many number e =
     (row.text, ap (λ (o : Option TableDecl). option_map_or (λ t. fits t.schema (Num key ∷ cells)) o false) at ∙ row.fit, row.bytes)
 
 of_row : (tables : List TableDecl) → list_all is_table tables ≡ true → (name : List ℕ) (make : ℕ → List Cell → Command) → ((place : ℕ) (row : List Cell) → command_words tables (make place row) ≡ name ∷ name_of_table tables place ∷ cell_words row)
-    → ((place : ℕ) (row : List Cell) → is_command tables (make place row) ≡ fits_table tables place row) → ((place : ℕ) (row : List Cell) → written_row (make place row) ≡ row) → FormReads tables (name, OfRow make)
+    → ((place : ℕ) (row : List Cell) → is_command tables (make place row) ≡ fits_table tables place row) → ((place : ℕ) (row : List Cell) → written_row (make place row) ≡ row) → FormReads tables (name, OfRow make, true)
 of_row tables all name make text is written words command e =
     step (word cause.Command words) _ command e (λ first is1 e1.
     step (word cause.Command first.1) _ command e1 (λ key_word is2 e2.
@@ -179,11 +180,11 @@ each_by : {X : Type 0} (P : X → Type 0) (y x : X) (rest : Option X) (b : Bool)
 each_by P y x rest true this later e = let same : y ≡ x = cc in subst P same this
 each_by P y x rest false this later e = later e
 
-each_found : {X : Type 0} (P : X → Type 0) (p : X → Bool) (xs : List X) (x : X) → Each P xs → find p xs ≡ Some x → P x
+pub each_found : {X : Type 0} (P : X → Type 0) (p : X → Bool) (xs : List X) (x : X) → Each P xs → find p xs ≡ Some x → P x
 each_found P p [] x each e = absurd cc
 each_found P p (y ∷ ys) x each e = each_by P y x (find p ys) (p y) each.0 (each_found P p ys x each.1) e
 
-each_form : (tables : List TableDecl) → list_all is_table tables ≡ true → Each (FormReads tables) forms
+each_form : (tables : List TableDecl) → list_all is_table tables ≡ true → Each (FormReads tables) (forms whole.commands)
 each_form tables all = (
   alone tables (codes "begin") command.Begin refl refl refl,
   (
@@ -228,17 +229,17 @@ each_form tables all = (
   ),
 )
 
-form_by : (o : Option (List ℕ × Form)) (form : Form) → option_map (λ entry. entry.1) o ≡ Some form → (entry : List ℕ × Form) × (o ≡ Some entry) × (entry.1 ≡ form)
+form_by : (o : Option (List ℕ × Form × Bool)) (form : Form) → option_map (λ entry. entry.1) o ≡ Some form → (entry : List ℕ × Form × Bool) × (o ≡ Some entry) × (entry.1 ≡ form)
 form_by None form e = absurd cc
 form_by (Some entry) form e = (entry, refl, cc)
 
 -- a command that is read behind its first word
-pub command_is : (tables : List TableDecl) (name : List ℕ) (form : Form) (words : List (List ℕ)) (read : Command) → list_all is_table tables ≡ true → form_of name ≡ Some form → formed tables form words ≡ Ok read → ReadsCommand tables name words read
+pub command_is : (tables : List TableDecl) (name : List ℕ) (form : Form) (words : List (List ℕ)) (read : Command) → list_all is_table tables ≡ true → form_of whole name ≡ Some form → formed tables form words ≡ Ok read → ReadsCommand tables name words read
 command_is tables name form words read all known e =
-    let f = form_by (find (λ entry. bytes_eq entry.0 name) forms) form known in
-    let same = eq_of f.0.0 name (find_is (λ (entry : List ℕ × Form). bytes_eq entry.0 name) forms f.0 f.1) in
+    let f = form_by (find (λ entry. bytes_eq entry.0 name && entry.2) (forms whole.commands)) form known in
+    let same = eq_of f.0.0 name (both (bytes_eq f.0.0 name) f.0.2 (find_is (λ (entry : List ℕ × Form × Bool). bytes_eq entry.0 name && entry.2) (forms whole.commands) f.0 f.1)).0 in
     subst (λ (first : List ℕ). ReadsCommand tables first words read) same
-    (each_found (FormReads tables) (λ (entry : List ℕ × Form). bytes_eq entry.0 name) forms f.0 (each_form tables all) f.1 words read (ap (λ (g : Form). formed tables g words) f.2 ∙ e))
+    (each_found (FormReads tables) (λ (entry : List ℕ × Form × Bool). bytes_eq entry.0 name && entry.2) (forms whole.commands) f.0 (each_form tables all) f.1 words read (ap (λ (g : Form). formed tables g words) f.2 ∙ e))
 
 -- a line of a round that is read
 pub record ReadsLine (tables : List TableDecl) (sessions : ℕ) (exported : Bool) (words : List (List ℕ)) (line : Line) : Type 0 where
@@ -248,16 +249,16 @@ pub record ReadsLine (tables : List TableDecl) (sessions : ℕ) (exported : Bool
   pub bytes : list_all has_only_bytes (written_row line.command) ≡ true
   pub once : (exported && is_export line.command) ≡ false
 
-pub line_is : (tables : List TableDecl) (sessions : ℕ) (exported : Bool) (words : List (List ℕ)) (line : Line) → list_all is_table tables ≡ true → line_of tables sessions exported words ≡ Ok line → ReadsLine tables sessions exported words line
+pub line_is : (tables : List TableDecl) (sessions : ℕ) (exported : Bool) (words : List (List ℕ)) (line : Line) → list_all is_table tables ≡ true → line_of whole tables sessions exported words ≡ Ok line → ReadsLine tables sessions exported words line
 line_is tables sessions exported words line all e =
     step (number cause.Session 1 sessions words) _ line e (λ session is1 e1.
     step (word cause.Command session.1) _ line e1 (λ first is2 e2.
-    step (or_cause cause.Command (form_of first.0)) _ line e2 (λ form is3 e3.
+    step (or_cause cause.Command (form_of whole first.0)) _ line e2 (λ form is3 e3.
     step (formed tables form first.1) _ line e3 (λ read is4 e4.
     step (rule cause.Export (not (exported && is_export read))) _ line e4 (λ u is5 e5.
     let same : record { session = session.0; command = read } ≡ line = cc in
     let n = number_is cause.Session 1 sessions words session is1 in
-    let c = command_is tables first.0 form first.1 read all (some_of cause.Command (form_of first.0) form is3) is4 in
+    let c = command_is tables first.0 form first.1 read all (some_of cause.Command (form_of whole first.0) form is3) is4 in
     subst (ReadsLine tables sessions exported words) same (record {
       text = rw (n.0, word_is cause.Command session.1 first is2, c.text) refl;
       session = n.1;

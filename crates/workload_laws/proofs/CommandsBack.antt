@@ -26,6 +26,7 @@ use Rattle.workload_spec.specs.Words.{cell_text, cell_words, spaced}
 use Rattle.workload_spec.specs.ScriptText.{name_of_table, command_words, line_text}
 use Rattle.workload_spec.specs.Reading.{words_of, integer_of, natural_of}
 use Rattle.workload_spec.specs.Valid.{is_within, is_table, is_table_place, is_block_of, is_key_number, fits_table, have_own_names, is_command, is_export, most_blocks}
+use Rattle.workload_spec.specs.Extents.{whole}
 use Rattle.workload_spec.specs.Grammar.{or_cause, rule, word, no_word, number, Form, Alone, OfTable, OfKey, OfRow, OfBlock, form_of, table_named, key_in, schema_at, cells_of, formed, line_of}
 use Rattle.workload_laws.specs.Bytes.{has_only_bytes, written_row}
 use Rattle.workload_laws.proofs.Results.{gives, rule_back}
@@ -181,14 +182,14 @@ pub record CommandBack (tables : List TableDecl) (read : Command) : Type 0 where
   pub words : List (List ℕ)
   pub form : Form
   pub text : command_words tables read ≡ name ∷ words
-  pub known : form_of name ≡ Some form
+  pub known : form_of whole name ≡ Some form
   pub back : formed tables form words ≡ Ok read
   pub are : AreWords (name ∷ words)
 
-alone_back : (tables : List TableDecl) (name : List ℕ) (made : Command) → command_words tables made ≡ name ∷ [] → form_of name ≡ Some (Alone made) → IsWord name → CommandBack tables made
+alone_back : (tables : List TableDecl) (name : List ℕ) (made : Command) → command_words tables made ≡ name ∷ [] → form_of whole name ≡ Some (Alone made) → IsWord name → CommandBack tables made
 alone_back tables name made text known is = record { name = name; words = []; form = Alone made; text = text; known = known; back = refl; are = (is, tt) }
 
-table_command : (tables : List TableDecl) (name : List ℕ) (make : ℕ → Command) (place : ℕ) → command_words tables (make place) ≡ name ∷ name_of_table tables place ∷ [] → form_of name ≡ Some (OfTable make) → IsWord name → Stands tables place
+table_command : (tables : List TableDecl) (name : List ℕ) (make : ℕ → Command) (place : ℕ) → command_words tables (make place) ≡ name ∷ name_of_table tables place ∷ [] → form_of whole name ≡ Some (OfTable make) → IsWord name → Stands tables place
     → CommandBack tables (make place)
 table_command tables name make place text known is at = record {
   name = name;
@@ -200,7 +201,7 @@ table_command tables name make place text known is at = record {
   are = (is, (at.word, tt));
 }
 
-key_command : (tables : List TableDecl) (name : List ℕ) (make : ℕ → ℤ → Command) (place : ℕ) (key : ℤ) → command_words tables (make place key) ≡ name ∷ name_of_table tables place ∷ signed_decimal key ∷ [] → form_of name ≡ Some (OfKey make) → IsWord name
+key_command : (tables : List TableDecl) (name : List ℕ) (make : ℕ → ℤ → Command) (place : ℕ) (key : ℤ) → command_words tables (make place key) ≡ name ∷ name_of_table tables place ∷ signed_decimal key ∷ [] → form_of whole name ≡ Some (OfKey make) → IsWord name
     → Stands tables place → is_key_number key ≡ true → CommandBack tables (make place key)
 key_command tables name make place key text known is at number = record {
   name = name;
@@ -212,7 +213,7 @@ key_command tables name make place key text known is at number = record {
   are = (is, (at.word, (plain_word (signed_decimal key) (signed_plain key (key_small key number)), tt)));
 }
 
-block_command : (tables : List TableDecl) (name : List ℕ) (make : ℕ → ℕ → Command) (place block : ℕ) → command_words tables (make place block) ≡ name ∷ name_of_table tables place ∷ decimal block ∷ [] → form_of name ≡ Some (OfBlock make) → IsWord name
+block_command : (tables : List TableDecl) (name : List ℕ) (make : ℕ → ℕ → Command) (place block : ℕ) → command_words tables (make place block) ≡ name ∷ name_of_table tables place ∷ decimal block ∷ [] → form_of whole name ≡ Some (OfBlock make) → IsWord name
     → Stands tables place → is_block_of tables place block ≡ true → block < 2 ^ 64 → CommandBack tables (make place block)
 block_command tables name make place block text known is at there small = record {
   name = name;
@@ -224,7 +225,7 @@ block_command tables name make place block text known is at there small = record
   are = (is, (at.word, (number_word block small, tt)));
 }
 
-row_command : (tables : List TableDecl) (name : List ℕ) (make : ℕ → List Cell → Command) (place : ℕ) (row : List Cell) → command_words tables (make place row) ≡ name ∷ name_of_table tables place ∷ cell_words row → form_of name ≡ Some (OfRow make) → IsWord name
+row_command : (tables : List TableDecl) (name : List ℕ) (make : ℕ → List Cell → Command) (place : ℕ) (row : List Cell) → command_words tables (make place row) ≡ name ∷ name_of_table tables place ∷ cell_words row → form_of whole name ≡ Some (OfRow make) → IsWord name
     → Stands tables place → (table : TableDecl) → slice_get tables place ≡ Some table → RowBack table.schema row → CommandBack tables (make place row)
 row_command tables name make place row text known is at table here all =
     let schema : schema_at tables place ≡ table.schema = ap (λ (o : Option TableDecl). option_map_or (λ t. t.schema) o []) here in
@@ -244,14 +245,14 @@ row_command tables name make place row text known is at table here all =
     }
 
 row_at : (tables : List TableDecl) (name : List ℕ) (make : ℕ → List Cell → Command) (place : ℕ) (row : List Cell) → list_all is_table tables ≡ true → have_own_names tables ≡ true
-    → command_words tables (make place row) ≡ name ∷ name_of_table tables place ∷ cell_words row → form_of name ≡ Some (OfRow make) → IsWord name → fits_table tables place row ≡ true → list_all has_only_bytes row ≡ true → CommandBack tables (make place row)
+    → command_words tables (make place row) ≡ name ∷ name_of_table tables place ∷ cell_words row → form_of whole name ≡ Some (OfRow make) → IsWord name → fits_table tables place row ≡ true → list_all has_only_bytes row ≡ true → CommandBack tables (make place row)
 row_at tables name make place row all own text known is fit bytes =
     let s = holds_some (λ (table : TableDecl). fits table.schema row) (slice_get tables place) fit in
     let at = stands tables place s.0 all own s.1 in
     row_command tables name make place row text known is at s.0 s.1 (row_back s.0.schema row (begins s.0 (table_at tables place s.0 all s.1)) s.2 bytes)
 
 block_at : (tables : List TableDecl) (name : List ℕ) (make : ℕ → ℕ → Command) (place block : ℕ) → list_all is_table tables ≡ true → have_own_names tables ≡ true
-    → command_words tables (make place block) ≡ name ∷ name_of_table tables place ∷ decimal block ∷ [] → form_of name ≡ Some (OfBlock make) → IsWord name → is_block_of tables place block ≡ true → CommandBack tables (make place block)
+    → command_words tables (make place block) ≡ name ∷ name_of_table tables place ∷ decimal block ∷ [] → form_of whole name ≡ Some (OfBlock make) → IsWord name → is_block_of tables place block ≡ true → CommandBack tables (make place block)
 block_at tables name make place block all own text known is there =
     let s = holds_some (λ (table : TableDecl). nat_lt block table.blocks) (slice_get tables place) there in
     let at = stands tables place s.0 all own s.1 in
@@ -259,7 +260,7 @@ block_at tables name make place block all own text known is there =
     block_command tables name make place block text known is at there (omega (arith, ltb-true block s.0.blocks s.2, small))
 
 key_at : (tables : List TableDecl) (name : List ℕ) (make : ℕ → ℤ → Command) (place : ℕ) (key : ℤ) → list_all is_table tables ≡ true → have_own_names tables ≡ true → command_words tables (make place key) ≡ name ∷ name_of_table tables place ∷ signed_decimal key ∷ []
-    → form_of name ≡ Some (OfKey make) → IsWord name → (is_table_place tables place && is_key_number key) ≡ true → CommandBack tables (make place key)
+    → form_of whole name ≡ Some (OfKey make) → IsWord name → (is_table_place tables place && is_key_number key) ≡ true → CommandBack tables (make place key)
 key_at tables name make place key all own text known is fits =
     let f = both (is_table_place tables place) (is_key_number key) fits in
     key_command tables name make place key text known is (place_stands tables place all own f.0) f.1
@@ -281,15 +282,15 @@ command_back tables (command.Gather place block) all own is bytes = block_at tab
 command_back tables (command.Export place) all own is bytes = table_command tables (codes "export") command.Export place refl refl (plain_word (codes "export") refl) (place_stands tables place all own is)
 
 line_made : (tables : List TableDecl) (sessions : ℕ) (exported : Bool) (words : List (List ℕ)) (session : ℕ × List (List ℕ)) (first : List ℕ × List (List ℕ)) (form : Form) (read : Command) → number cause.Session 1 sessions words ≡ Ok session
-    → word cause.Command session.1 ≡ Ok first → form_of first.0 ≡ Some form → formed tables form first.1 ≡ Ok read → (exported && is_export read) ≡ false → line_of tables sessions exported words ≡ Ok (record { session = session.0; command = read })
+    → word cause.Command session.1 ≡ Ok first → form_of whole first.0 ≡ Some form → formed tables form first.1 ≡ Ok read → (exported && is_export read) ≡ false → line_of whole tables sessions exported words ≡ Ok (record { session = session.0; command = read })
 line_made tables sessions exported words session first form read e1 e2 e3 e4 e5 =
     let made : Result Line Cause = Ok (record { session = session.0; command = read }) in
-    gives (number cause.Session 1 sessions words) _ made session e1 (gives (word cause.Command session.1) _ made first e2 (gives (or_cause cause.Command (form_of first.0)) _ made form (ap (or_cause cause.Command) e3)
+    gives (number cause.Session 1 sessions words) _ made session e1 (gives (word cause.Command session.1) _ made first e2 (gives (or_cause cause.Command (form_of whole first.0)) _ made form (ap (or_cause cause.Command) e3)
     (gives (formed tables form first.1) _ made read e4 (gives (rule cause.Export (not (exported && is_export read))) _ made tt (rule_back cause.Export (not (exported && is_export read)) (ap not e5)) refl))))
 
 -- a line of a round is read back, is no line `--`, and is one line
 pub record LineBack (tables : List TableDecl) (sessions : ℕ) (exported : Bool) (line : Line) : Type 0 where
-  pub back : line_of tables sessions exported (words_of (line_text tables line)) ≡ Ok line
+  pub back : line_of whole tables sessions exported (words_of (line_text tables line)) ≡ Ok line
   pub other : bytes_eq (line_text tables line) (codes "--") ≡ false
   pub whole : is_whole (line_text tables line) ≡ true
 
@@ -306,7 +307,7 @@ line_back tables sessions exported line all own few in_sessions is bytes once =
     let text : line_text tables line ≡ spaced (decimal line.session ∷ c.name ∷ c.words) = ap (λ (ws : List (List ℕ)). spaced (decimal line.session ∷ ws)) c.text in
     let apart : words_of (line_text tables line) ≡ decimal line.session ∷ c.name ∷ c.words = ap words_of text ∙ words_apart (decimal line.session) (c.name ∷ c.words) (number_word line.session small, c.are) in
     record {
-      back = ap (line_of tables sessions exported) apart ∙ line_made tables sessions exported (decimal line.session ∷ c.name ∷ c.words) (line.session, c.name ∷ c.words) (c.name, c.words) c.form line.command
+      back = ap (line_of whole tables sessions exported) apart ∙ line_made tables sessions exported (decimal line.session ∷ c.name ∷ c.words) (line.session, c.name ∷ c.words) (c.name, c.words) c.form line.command
           (number_back cause.Session 1 sessions line.session (c.name ∷ c.words) small in_sessions) refl c.known c.back once;
       other = ap (λ (bytes : List ℕ). bytes_eq bytes (codes "--")) text ∙ spaced_begins (decimal line.session) (c.name ∷ c.words) (decimal_begins line.session small);
       whole = ap is_whole text ∙ words_whole (decimal line.session ∷ c.name ∷ c.words) (number_word line.session small, c.are);

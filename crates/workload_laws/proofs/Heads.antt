@@ -11,6 +11,7 @@ use Rattle.workload_spec.specs.Words.{spaced, line_feed, lines_text}
 use Rattle.workload_spec.specs.ScriptText.{table_text}
 use Rattle.workload_spec.specs.Reading.{words_of}
 use Rattle.workload_spec.specs.Valid.{is_table, is_declared, have_own_names, most_tables}
+use Rattle.workload_spec.specs.Extents.{whole}
 use Rattle.workload_spec.specs.Grammar.{◌>>=◌, rule, Fault, on_line, next_line, is_table_line, table_of, tables_from}
 use Rattle.workload_laws.proofs.Results.{step, rule_of, on_line_is}
 use Rattle.workload_laws.proofs.Lists.{all-behind, own_names, own_names-behind}
@@ -55,19 +56,19 @@ none_read : (tables : List TableDecl) (lines : List (List ℕ)) (read : List Tab
 none_read tables lines read e = subst (ReadsTables tables lines) e (record { more = []; behind = sym (append-nil tables); text = refl; each = λ a. a; own = λ o. o; few = λ f. f })
 
 tables_by : (at : ℕ) (tables : List TableDecl) (line next : List ℕ) (rest : List (List ℕ)) (read : List TableDecl × List (List ℕ)) (b : Bool)
-    → ((others : List TableDecl) → tables_from (at + 1) others (next ∷ rest) ≡ Ok read → ReadsTables others (next ∷ rest) read)
+    → ((others : List TableDecl) → tables_from whole (at + 1) others (next ∷ rest) ≡ Ok read → ReadsTables others (next ∷ rest) read)
     → elim b as (λ c. Result (List TableDecl × List (List ℕ)) Fault) [
       | true ↦ on_line at (rule cause.Table (nat_lt (length tables) most_tables)) >>= (λ room.
-          on_line at (table_of tables (words_of line)) >>= (λ table. tables_from (at + 1) (tables ++ table ∷ []) (next ∷ rest)))
+          on_line at (table_of whole tables (words_of line)) >>= (λ table. tables_from whole (at + 1) (tables ++ table ∷ []) (next ∷ rest)))
       | false ↦ Ok (tables, line ∷ next ∷ rest)
     ] ≡ Ok read
     → ReadsTables tables (line ∷ next ∷ rest) read × (b ≡ true → 0 < length read.0)
 tables_by at tables line next rest read false later e = (none_read tables (line ∷ next ∷ rest) read cc, λ f. absurd cc)
 tables_by at tables line next rest read true later e =
     step (on_line at (rule cause.Table (nat_lt (length tables) most_tables))) _ read e (λ u is1 e1.
-    step (on_line at (table_of tables (words_of line))) _ read e1 (λ table is2 e2.
+    step (on_line at (table_of whole tables (words_of line))) _ read e1 (λ table is2 e2.
     let room = rule_of cause.Table (nat_lt (length tables) most_tables) u (on_line_is at (rule cause.Table (nat_lt (length tables) most_tables)) u is1) in
-    let one = table_is tables (words_of line) table (on_line_is at (table_of tables (words_of line)) table is2) in
+    let one = table_is tables (words_of line) table (on_line_is at (table_of whole tables (words_of line)) table is2) in
     let all = later (tables ++ table ∷ []) e2 in (
       record {
         more = table ∷ all.more;
@@ -83,12 +84,12 @@ tables_by at tables line next rest read true later e =
       λ f. omega (arith, ap length all.behind, length-append (tables ++ table ∷ []) all.more, length-append tables (table ∷ [])),
     )))
 
-pub tables_are : (at : ℕ) (tables : List TableDecl) (lines : List (List ℕ)) (read : List TableDecl × List (List ℕ)) → tables_from at tables lines ≡ Ok read → ReadsTables tables lines read
+pub tables_are : (at : ℕ) (tables : List TableDecl) (lines : List (List ℕ)) (read : List TableDecl × List (List ℕ)) → tables_from whole at tables lines ≡ Ok read → ReadsTables tables lines read
 tables_are at tables [] read e = none_read tables [] read cc
 tables_are at tables (last ∷ []) read e = none_read tables (last ∷ []) read cc
 tables_are at tables (line ∷ next ∷ rest) read e = (tables_by at tables line next rest read (is_table_line line) (λ others is. tables_are (at + 1) others (next ∷ rest) read is) e).0
 
 -- where the first line is a table's there is one
-pub tables_some : (at : ℕ) (tables : List TableDecl) (line : List ℕ) (lines : List (List ℕ)) (read : List TableDecl × List (List ℕ)) → is_table_line line ≡ true → 0 < length lines → tables_from at tables (line ∷ lines) ≡ Ok read → 0 < length read.0
+pub tables_some : (at : ℕ) (tables : List TableDecl) (line : List ℕ) (lines : List (List ℕ)) (read : List TableDecl × List (List ℕ)) → is_table_line line ≡ true → 0 < length lines → tables_from whole at tables (line ∷ lines) ≡ Ok read → 0 < length read.0
 tables_some at tables line [] read first some e = absurd (omega (arith, some))
 tables_some at tables line (next ∷ rest) read first some e = (tables_by at tables line next rest read (is_table_line line) (λ others is. tables_are (at + 1) others (next ∷ rest) read is) e).1 first

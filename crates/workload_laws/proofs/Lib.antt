@@ -18,5 +18,9 @@ pub mod TablesBack
 pub mod CommandsBack
 pub mod RoundsBack
 pub mod ScriptsBack
+pub mod Narrows
+pub mod NarrowTables
+pub mod NarrowRounds
+pub mod NarrowScripts
 pub mod SupportedBytes
 pub mod OneGrammar

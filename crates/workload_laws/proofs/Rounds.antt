@@ -9,6 +9,7 @@ use Rattle.workload_spec.specs.Words.{spaced, line_feed, lines_text}
 use Rattle.workload_spec.specs.ScriptText.{line_text, round_lines}
 use Rattle.workload_spec.specs.Reading.{onto_first, words_of}
 use Rattle.workload_spec.specs.Valid.{is_within, is_table, is_command, is_export}
+use Rattle.workload_spec.specs.Extents.{whole}
 use Rattle.workload_spec.specs.Grammar.{◌>>=◌, Fault, on_line, line_of, rounds_from}
 use Rattle.workload_laws.specs.Bytes.{has_only_bytes, written_row}
 use Rattle.workload_laws.proofs.Results.{step, on_line_is, eq_of}
@@ -90,26 +91,26 @@ line_read tables sessions exported line next rest read (first ∷ others) one al
 }
 
 rounds_by : (tables : List TableDecl) (sessions at : ℕ) (exported : Bool) (line next : List ℕ) (rest : List (List ℕ)) (rounds : List (List Line)) (b : Bool) → bytes_eq line (codes "--") ≡ b → list_all is_table tables ≡ true
-    → ((seen : Bool) (read : List (List Line)) → rounds_from tables sessions (at + 1) seen (next ∷ rest) ≡ Ok read → ReadsRounds tables sessions seen (next ∷ rest) read)
+    → ((seen : Bool) (read : List (List Line)) → rounds_from whole tables sessions (at + 1) seen (next ∷ rest) ≡ Ok read → ReadsRounds tables sessions seen (next ∷ rest) read)
     → elim b as (λ c. Result (List (List Line)) Fault) [
-      | true ↦ rounds_from tables sessions (at + 1) exported (next ∷ rest) >>= (λ rounds. Ok ([] ∷ rounds))
-      | false ↦ on_line at (line_of tables sessions exported (words_of line)) >>= (λ read.
-          rounds_from tables sessions (at + 1) (exported || is_export read.command) (next ∷ rest) >>= (λ rounds. Ok (onto_first read rounds)))
+      | true ↦ rounds_from whole tables sessions (at + 1) exported (next ∷ rest) >>= (λ rounds. Ok ([] ∷ rounds))
+      | false ↦ on_line at (line_of whole tables sessions exported (words_of line)) >>= (λ read.
+          rounds_from whole tables sessions (at + 1) (exported || is_export read.command) (next ∷ rest) >>= (λ rounds. Ok (onto_first read rounds)))
     ] ≡ Ok rounds
     → ReadsRounds tables sessions exported (line ∷ next ∷ rest) rounds
 rounds_by tables sessions at exported line next rest rounds true is tables_are later e =
-    step (rounds_from tables sessions (at + 1) exported (next ∷ rest)) _ rounds e (λ read is1 e1.
+    step (rounds_from whole tables sessions (at + 1) exported (next ∷ rest)) _ rounds e (λ read is1 e1.
     let same : ([] ∷ read) ≡ rounds = cc in
     subst (ReadsRounds tables sessions exported (line ∷ next ∷ rest)) same (parted_read tables sessions exported line next rest read (eq_of line (codes "--") is) (later exported read is1)))
 rounds_by tables sessions at exported line next rest rounds false is tables_are later e =
-    step (on_line at (line_of tables sessions exported (words_of line))) _ rounds e (λ first is1 e1.
-    step (rounds_from tables sessions (at + 1) (exported || is_export first.command) (next ∷ rest)) _ rounds e1 (λ read is2 e2.
+    step (on_line at (line_of whole tables sessions exported (words_of line))) _ rounds e (λ first is1 e1.
+    step (rounds_from whole tables sessions (at + 1) (exported || is_export first.command) (next ∷ rest)) _ rounds e1 (λ read is2 e2.
     let same : onto_first first read ≡ rounds = cc in
     subst (ReadsRounds tables sessions exported (line ∷ next ∷ rest)) same (line_read tables sessions exported line next rest first read
-    (line_is tables sessions exported (words_of line) first tables_are (on_line_is at (line_of tables sessions exported (words_of line)) first is1))
+    (line_is tables sessions exported (words_of line) first tables_are (on_line_is at (line_of whole tables sessions exported (words_of line)) first is1))
     (later (exported || is_export first.command) read is2))))
 
-pub rounds_are : (tables : List TableDecl) (sessions at : ℕ) (exported : Bool) (lines : List (List ℕ)) (rounds : List (List Line)) → list_all is_table tables ≡ true → rounds_from tables sessions at exported lines ≡ Ok rounds
+pub rounds_are : (tables : List TableDecl) (sessions at : ℕ) (exported : Bool) (lines : List (List ℕ)) (rounds : List (List Line)) → list_all is_table tables ≡ true → rounds_from whole tables sessions at exported lines ≡ Ok rounds
     → ReadsRounds tables sessions exported lines rounds
 rounds_are tables sessions at exported [] rounds tables_are e = none_read tables sessions exported [] rounds refl cc
 rounds_are tables sessions at exported ([] ∷ []) rounds tables_are e = none_read tables sessions exported ([] ∷ []) rounds refl cc

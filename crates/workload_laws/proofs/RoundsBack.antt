@@ -10,6 +10,7 @@ use Rattle.workload_spec.specs.Words.{line_feed, lines_text}
 use Rattle.workload_spec.specs.ScriptText.{line_text, round_lines}
 use Rattle.workload_spec.specs.Reading.{onto_first, parts, words_of}
 use Rattle.workload_spec.specs.Valid.{is_within, is_table, have_own_names, is_command, is_export}
+use Rattle.workload_spec.specs.Extents.{whole}
 use Rattle.workload_spec.specs.Grammar.{◌>>=◌, on_line, line_of, rounds_from}
 use Rattle.workload_laws.specs.Bytes.{has_only_bytes, written_row}
 use Rattle.workload_laws.proofs.Results.{gives, chosen, passed}
@@ -56,22 +57,22 @@ first_fine tables sessions exported line lines head fine =
     }
 
 parting_next : (tables : List TableDecl) (sessions at : ℕ) (exported : Bool) (line : List ℕ) (rest : List (List ℕ)) (rounds : List (List Line)) → 0 < length rest → bytes_eq line (codes "--") ≡ true
-    → rounds_from tables sessions (at + 1) exported rest ≡ Ok rounds → rounds_from tables sessions at exported (line ∷ rest) ≡ Ok ([] ∷ rounds)
+    → rounds_from whole tables sessions (at + 1) exported rest ≡ Ok rounds → rounds_from whole tables sessions at exported (line ∷ rest) ≡ Ok ([] ∷ rounds)
 parting_next tables sessions at exported line [] rounds some is read = absurd (omega (arith, some))
 parting_next tables sessions at exported line (next ∷ rest) rounds some is read =
-    chosen (bytes_eq line (codes "--")) (rounds_from tables sessions (at + 1) exported (next ∷ rest) >>= (λ rounds. Ok ([] ∷ rounds)))
-    (on_line at (line_of tables sessions exported (words_of line)) >>= (λ read. rounds_from tables sessions (at + 1) (exported || is_export read.command) (next ∷ rest) >>= (λ rounds. Ok (onto_first read rounds)))) is
-    ∙ gives (rounds_from tables sessions (at + 1) exported (next ∷ rest)) _ (Ok ([] ∷ rounds)) rounds read refl
+    chosen (bytes_eq line (codes "--")) (rounds_from whole tables sessions (at + 1) exported (next ∷ rest) >>= (λ rounds. Ok ([] ∷ rounds)))
+    (on_line at (line_of whole tables sessions exported (words_of line)) >>= (λ read. rounds_from whole tables sessions (at + 1) (exported || is_export read.command) (next ∷ rest) >>= (λ rounds. Ok (onto_first read rounds)))) is
+    ∙ gives (rounds_from whole tables sessions (at + 1) exported (next ∷ rest)) _ (Ok ([] ∷ rounds)) rounds read refl
 
 line_next : (tables : List TableDecl) (sessions at : ℕ) (exported : Bool) (line : List ℕ) (rest : List (List ℕ)) (first : Line) (round : List Line) (rounds : List (List Line)) → 0 < length rest → bytes_eq line (codes "--") ≡ false
-    → line_of tables sessions exported (words_of line) ≡ Ok first → rounds_from tables sessions (at + 1) (exported || is_export first.command) rest ≡ Ok (round ∷ rounds)
-    → rounds_from tables sessions at exported (line ∷ rest) ≡ Ok ((first ∷ round) ∷ rounds)
+    → line_of whole tables sessions exported (words_of line) ≡ Ok first → rounds_from whole tables sessions (at + 1) (exported || is_export first.command) rest ≡ Ok (round ∷ rounds)
+    → rounds_from whole tables sessions at exported (line ∷ rest) ≡ Ok ((first ∷ round) ∷ rounds)
 line_next tables sessions at exported line [] first round rounds some is one read = absurd (omega (arith, some))
 line_next tables sessions at exported line (next ∷ rest) first round rounds some is one read =
-    passed (bytes_eq line (codes "--")) (rounds_from tables sessions (at + 1) exported (next ∷ rest) >>= (λ rounds. Ok ([] ∷ rounds)))
-    (on_line at (line_of tables sessions exported (words_of line)) >>= (λ read. rounds_from tables sessions (at + 1) (exported || is_export read.command) (next ∷ rest) >>= (λ rounds. Ok (onto_first read rounds)))) is
-    ∙ gives (on_line at (line_of tables sessions exported (words_of line))) _ (Ok ((first ∷ round) ∷ rounds)) first (ap (on_line at) one)
-    (gives (rounds_from tables sessions (at + 1) (exported || is_export first.command) (next ∷ rest)) _ (Ok ((first ∷ round) ∷ rounds)) (round ∷ rounds) read refl)
+    passed (bytes_eq line (codes "--")) (rounds_from whole tables sessions (at + 1) exported (next ∷ rest) >>= (λ rounds. Ok ([] ∷ rounds)))
+    (on_line at (line_of whole tables sessions exported (words_of line)) >>= (λ read. rounds_from whole tables sessions (at + 1) (exported || is_export read.command) (next ∷ rest) >>= (λ rounds. Ok (onto_first read rounds)))) is
+    ∙ gives (on_line at (line_of whole tables sessions exported (words_of line))) _ (Ok ((first ∷ round) ∷ rounds)) first (ap (on_line at) one)
+    (gives (rounds_from whole tables sessions (at + 1) (exported || is_export first.command) (next ∷ rest)) _ (Ok ((first ∷ round) ∷ rounds)) (round ∷ rounds) read refl)
 
 -- the lines of rounds and the end behind them
 abbrev pub ended : List (List ℕ) → List (List ℕ)
@@ -79,7 +80,7 @@ ended lines = lines ++ [] ∷ []
 
 -- rounds that are read back
 abbrev pub AreBack : List TableDecl → ℕ → List (List Line) → Type 0
-AreBack tables sessions rounds = (at : ℕ) (exported : Bool) → AreFine tables sessions exported (lines_of rounds) → rounds_from tables sessions at exported (ended (round_lines tables rounds)) ≡ Ok rounds
+AreBack tables sessions rounds = (at : ℕ) (exported : Bool) → AreFine tables sessions exported (lines_of rounds) → rounds_from whole tables sessions at exported (ended (round_lines tables rounds)) ≡ Ok rounds
 
 end_behind : (lines : List (List ℕ)) → 0 < length (ended lines)
 end_behind lines = omega (arith, length-append lines ([] ∷ []))
@@ -88,7 +89,7 @@ round_back : (tables : List TableDecl) (sessions : ℕ) (others : List (List Lin
 round_back tables sessions others head behind [] = behind
 round_back tables sessions others head behind (line ∷ first) = λ at exported fine.
     let one = first_fine tables sessions exported line (lines_of (first ∷ others)) head fine in
-    ap (λ (lines : List (List ℕ)). rounds_from tables sessions at exported (ended lines)) (round_first tables line first others)
+    ap (λ (lines : List (List ℕ)). rounds_from whole tables sessions at exported (ended lines)) (round_first tables line first others)
     ∙ line_next tables sessions at exported (line_text tables line) (ended (round_lines tables (first ∷ others))) line first others (end_behind (round_lines tables (first ∷ others))) one.back.other one.back.back
     (round_back tables sessions others head behind first (at + 1) (exported || is_export line.command) one.others)
 
@@ -118,7 +119,7 @@ rounds_whole tables sessions head (round ∷ next ∷ rounds) fine =
 
 -- whole lines are parted again
 pub lines_apart : (lines : List (List ℕ)) → list_all is_whole lines ≡ true → parts line_feed (lines_text lines) ≡ ended lines
-lines_apart [] whole = refl
-lines_apart (line ∷ lines) whole =
-    let w = both (is_whole line) (list_all is_whole lines) whole in
+lines_apart [] are = refl
+lines_apart (line ∷ lines) are =
+    let w = both (is_whole line) (list_all is_whole lines) are in
     ap (parts line_feed) (line_first line lines) ∙ line_first_part line (lines_text lines) w.0 ∙ ap (λ (ls : List (List ℕ)). line ∷ ls) (lines_apart lines w.1)

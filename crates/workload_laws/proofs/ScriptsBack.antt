@@ -5,6 +5,7 @@ use Rattle.std.specs.List.{list_all}
 use Rattle.std.proofs.lemmas.Bool.{eqb-true, ltb-true, leb-true, le-leb}
 use Rattle.std.proofs.lemmas.List.Folds.{list_all-append}
 use Rattle.cell_model.specs.declared.table.TableDecl.{TableDecl}
+use Rattle.workload_spec.specs.declared.extent.Extent.{Extent}
 use Rattle.workload_spec.specs.declared.script.Cause.{Cause}
 use Rattle.workload_spec.specs.declared.script.Cause.TheVariants as cause
 use Rattle.workload_spec.specs.declared.script.Line.{Line}
@@ -13,6 +14,7 @@ use Rattle.workload_spec.specs.Words.{spaced}
 use Rattle.workload_spec.specs.ScriptText.{table_text, round_lines, script_lines, script_text}
 use Rattle.workload_spec.specs.Reading.{parts, words_of}
 use Rattle.workload_spec.specs.Valid.{is_within, is_table, have_own_names, is_line, is_export, all_lines, has_head, is_valid, most_tables, most_sessions, most_workers, most_turns}
+use Rattle.workload_spec.specs.Extents.{whole}
 use Rattle.workload_spec.specs.Grammar.{rule, no_word, keyword, number, Fault, on_line, next_line, is_table_line, tables_from, rounds_from, sessions_of, workers_of, script_in, script_of}
 use Rattle.workload_laws.specs.Bytes.{has_only_bytes, written_row, writes_only_bytes}
 use Rattle.workload_laws.proofs.Results.{gives, rule_back}
@@ -29,12 +31,12 @@ next_back : (at : ℕ) (cause : Cause) (line : List ℕ) (rest : List (List ℕ)
 next_back at cause line [] some = absurd (omega (arith, some))
 next_back at cause line (next ∷ rest) some = refl
 
-sessions_made : (words rest : List (List ℕ)) (sessions : ℕ × List (List ℕ)) → keyword cause.Sessions (codes "sessions") words ≡ Ok rest → number cause.Sessions 1 most_sessions rest ≡ Ok sessions → no_word cause.Sessions sessions.1 ≡ Ok tt → sessions_of words ≡ Ok sessions.0
+sessions_made : (words rest : List (List ℕ)) (sessions : ℕ × List (List ℕ)) → keyword cause.Sessions (codes "sessions") words ≡ Ok rest → number cause.Sessions 1 most_sessions rest ≡ Ok sessions → no_word cause.Sessions sessions.1 ≡ Ok tt → sessions_of whole words ≡ Ok sessions.0
 sessions_made words rest sessions e1 e2 e3 =
     gives (keyword cause.Sessions (codes "sessions") words) _ (Ok sessions.0) rest e1 (gives (number cause.Sessions 1 most_sessions rest) _ (Ok sessions.0) sessions e2 (gives (no_word cause.Sessions sessions.1) _ (Ok sessions.0) tt e3 refl))
 
 workers_made : (words rest : List (List ℕ)) (workers turns : ℕ × List (List ℕ)) → keyword cause.Workers (codes "workers") words ≡ Ok rest → number cause.Workers 0 most_workers rest ≡ Ok workers → number cause.Workers 0 most_turns workers.1 ≡ Ok turns
-    → no_word cause.Workers turns.1 ≡ Ok tt → workers_of words ≡ Ok (workers.0, turns.0)
+    → no_word cause.Workers turns.1 ≡ Ok tt → workers_of whole words ≡ Ok (workers.0, turns.0)
 workers_made words rest workers turns e1 e2 e3 e4 =
     gives (keyword cause.Workers (codes "workers") words) _ (Ok (workers.0, turns.0)) rest e1 (gives (number cause.Workers 0 most_workers rest) _ (Ok (workers.0, turns.0)) workers e2
     (gives (number cause.Workers 0 most_turns workers.1) _ (Ok (workers.0, turns.0)) turns e3 (gives (no_word cause.Workers turns.1) _ (Ok (workers.0, turns.0)) tt e4 refl)))
@@ -51,38 +53,38 @@ sessions_are sessions small = (plain_word (codes "sessions") refl, (number_word 
 workers_are : (workers turns : ℕ) → workers < 2 ^ 64 → turns < 2 ^ 64 → AreWords (workers_words workers turns)
 workers_are workers turns small few = (plain_word (codes "workers") refl, (number_word workers small, (number_word turns few, tt)))
 
-sessions_back : (sessions : ℕ) → sessions < 2 ^ 64 → is_within 1 most_sessions sessions ≡ true → sessions_of (words_of (spaced (sessions_words sessions))) ≡ Ok sessions
+sessions_back : (sessions : ℕ) → sessions < 2 ^ 64 → is_within 1 most_sessions sessions ≡ true → sessions_of whole (words_of (spaced (sessions_words sessions))) ≡ Ok sessions
 sessions_back sessions small within =
-    ap sessions_of (words_apart (codes "sessions") (decimal sessions ∷ []) (sessions_are sessions small))
+    ap (sessions_of whole) (words_apart (codes "sessions") (decimal sessions ∷ []) (sessions_are sessions small))
     ∙ sessions_made (sessions_words sessions) (decimal sessions ∷ []) (sessions, []) (keyword_back cause.Sessions (codes "sessions") (decimal sessions ∷ [])) (number_back cause.Sessions 1 most_sessions sessions [] small within) refl
 
-workers_back : (workers turns : ℕ) → workers < 2 ^ 64 → turns < 2 ^ 64 → is_within 0 most_workers workers ≡ true → is_within 0 most_turns turns ≡ true → workers_of (words_of (spaced (workers_words workers turns))) ≡ Ok (workers, turns)
+workers_back : (workers turns : ℕ) → workers < 2 ^ 64 → turns < 2 ^ 64 → is_within 0 most_workers workers ≡ true → is_within 0 most_turns turns ≡ true → workers_of whole (words_of (spaced (workers_words workers turns))) ≡ Ok (workers, turns)
 workers_back workers turns small few within also =
-    ap workers_of (words_apart (codes "workers") (decimal workers ∷ decimal turns ∷ []) (workers_are workers turns small few))
+    ap (workers_of whole) (words_apart (codes "workers") (decimal workers ∷ decimal turns ∷ []) (workers_are workers turns small few))
     ∙ workers_made (workers_words workers turns) (decimal workers ∷ decimal turns ∷ []) (workers, decimal turns ∷ []) (turns, []) (keyword_back cause.Workers (codes "workers") (decimal workers ∷ decimal turns ∷ []))
     (number_back cause.Workers 0 most_workers workers (decimal turns ∷ []) small within) (number_back cause.Workers 0 most_turns turns [] few also) refl
 
 -- a script, from what is read of its lines
-assembled : (all : List (List ℕ)) (store first : List ℕ × List (List ℕ)) (tables : List TableDecl × List (List ℕ)) (sessions_line : List ℕ × List (List ℕ)) (sessions : ℕ) (workers_line : List ℕ × List (List ℕ)) (workers : ℕ × ℕ)
+pub assembled : (extent : Extent) (all : List (List ℕ)) (store first : List ℕ × List (List ℕ)) (tables : List TableDecl × List (List ℕ)) (sessions_line : List ℕ × List (List ℕ)) (sessions : ℕ) (workers_line : List ℕ × List (List ℕ)) (workers : ℕ × ℕ)
     (go : List ℕ × List (List ℕ)) (rounds : List (List Line)) → next_line 1 cause.Version all ≡ Ok store → bytes_eq store.0 (codes "store 1") ≡ true → next_line 2 cause.Table store.1 ≡ Ok first → is_table_line first.0 ≡ true
-    → tables_from 2 [] store.1 ≡ Ok tables → next_line (length tables.0 + 2) cause.Sessions tables.1 ≡ Ok sessions_line → sessions_of (words_of sessions_line.0) ≡ Ok sessions
-    → next_line (length tables.0 + 2 + 1) cause.Workers sessions_line.1 ≡ Ok workers_line → workers_of (words_of workers_line.0) ≡ Ok workers
-    → next_line (length tables.0 + 2 + 2) cause.Go workers_line.1 ≡ Ok go → bytes_eq go.0 (codes "go") ≡ true → rounds_from tables.0 sessions (length tables.0 + 2 + 3) false go.1 ≡ Ok rounds
-    → script_in all ≡ Ok (record { version = 1; tables = tables.0; sessions = sessions; workers = workers.0; turns = workers.1; rounds = rounds })
-assembled all store first tables sessions_line sessions workers_line workers go rounds e1 e2 e3 e4 e5 e6 e7 e8 e9 e10 e11 e12 =
+    → tables_from extent 2 [] store.1 ≡ Ok tables → next_line (length tables.0 + 2) cause.Sessions tables.1 ≡ Ok sessions_line → sessions_of extent (words_of sessions_line.0) ≡ Ok sessions
+    → next_line (length tables.0 + 2 + 1) cause.Workers sessions_line.1 ≡ Ok workers_line → workers_of extent (words_of workers_line.0) ≡ Ok workers
+    → next_line (length tables.0 + 2 + 2) cause.Go workers_line.1 ≡ Ok go → bytes_eq go.0 (codes "go") ≡ true → rounds_from extent tables.0 sessions (length tables.0 + 2 + 3) false go.1 ≡ Ok rounds
+    → script_in extent all ≡ Ok (record { version = 1; tables = tables.0; sessions = sessions; workers = workers.0; turns = workers.1; rounds = rounds })
+assembled extent all store first tables sessions_line sessions workers_line workers go rounds e1 e2 e3 e4 e5 e6 e7 e8 e9 e10 e11 e12 =
     let made : Result Script Fault = Ok (record { version = 1; tables = tables.0; sessions = sessions; workers = workers.0; turns = workers.1; rounds = rounds }) in
     gives (next_line 1 cause.Version all) _ made store e1
     (gives (on_line 1 (rule cause.Version (bytes_eq store.0 (codes "store 1")))) _ made tt (ap (on_line 1) (rule_back cause.Version (bytes_eq store.0 (codes "store 1")) e2))
     (gives (next_line 2 cause.Table store.1) _ made first e3
     (gives (on_line 2 (rule cause.Table (is_table_line first.0))) _ made tt (ap (on_line 2) (rule_back cause.Table (is_table_line first.0) e4))
-    (gives (tables_from 2 [] store.1) _ made tables e5
+    (gives (tables_from extent 2 [] store.1) _ made tables e5
     (gives (next_line (length tables.0 + 2) cause.Sessions tables.1) _ made sessions_line e6
-    (gives (on_line (length tables.0 + 2) (sessions_of (words_of sessions_line.0))) _ made sessions (ap (on_line (length tables.0 + 2)) e7)
+    (gives (on_line (length tables.0 + 2) (sessions_of extent (words_of sessions_line.0))) _ made sessions (ap (on_line (length tables.0 + 2)) e7)
     (gives (next_line (length tables.0 + 2 + 1) cause.Workers sessions_line.1) _ made workers_line e8
-    (gives (on_line (length tables.0 + 2 + 1) (workers_of (words_of workers_line.0))) _ made workers (ap (on_line (length tables.0 + 2 + 1)) e9)
+    (gives (on_line (length tables.0 + 2 + 1) (workers_of extent (words_of workers_line.0))) _ made workers (ap (on_line (length tables.0 + 2 + 1)) e9)
     (gives (next_line (length tables.0 + 2 + 2) cause.Go workers_line.1) _ made go e10
     (gives (on_line (length tables.0 + 2 + 2) (rule cause.Go (bytes_eq go.0 (codes "go")))) _ made tt (ap (on_line (length tables.0 + 2 + 2)) (rule_back cause.Go (bytes_eq go.0 (codes "go")) e11))
-    (gives (rounds_from tables.0 sessions (length tables.0 + 2 + 3) false go.1) _ made rounds e12 refl)))))))))))
+    (gives (rounds_from extent tables.0 sessions (length tables.0 + 2 + 3) false go.1) _ made rounds e12 refl)))))))))))
 
 -- the parts of a workload
 pub record ScriptParts (script : Script) : Type 0 where
@@ -147,7 +149,7 @@ small_of low high n fits within = omega (arith, within_high low high n within, f
 -- the lines of these parts are read as them
 parts_back : (table : TableDecl) (more : List TableDecl) (sessions workers turns : ℕ) (round : List Line) (others : List (List Line)) → length (table ∷ more) ≤ 16 → Head (table ∷ more) sessions → is_within 1 most_sessions sessions ≡ true
     → is_within 0 most_workers workers ≡ true → is_within 0 most_turns turns ≡ true → AreFine (table ∷ more) sessions false (lines_of (round ∷ others))
-    → script_in (codes "store 1" ∷ (map table_text (table ∷ more) ++ spaced (sessions_words sessions) ∷ spaced (workers_words workers turns) ∷ codes "go" ∷ ended (round_lines (table ∷ more) (round ∷ others))))
+    → script_in whole (codes "store 1" ∷ (map table_text (table ∷ more) ++ spaced (sessions_words sessions) ∷ spaced (workers_words workers turns) ∷ codes "go" ∷ ended (round_lines (table ∷ more) (round ∷ others))))
     ≡ Ok (record { version = 1; tables = table ∷ more; sessions = sessions; workers = workers; turns = turns; rounds = round ∷ others })
 parts_back table more sessions workers turns round others few head in_sessions in_workers in_turns are =
     let rounds : List (List ℕ) = ended (round_lines (table ∷ more) (round ∷ others)) in
@@ -160,7 +162,7 @@ parts_back table more sessions workers turns round others few head in_sessions i
     let few_workers = small_of 0 most_workers workers (omega arith) in_workers in
     let few_turns = small_of 0 most_turns turns (omega arith) in_turns in
     let at : ℕ = length (table ∷ more) + 2 in
-    assembled (codes "store 1" ∷ tables) (codes "store 1", tables) (table_text table, map table_text more ++ tail) (table ∷ more, tail) (sessions_line, workers_line ∷ go) sessions (workers_line, go) (workers, turns) (codes "go", rounds) (round ∷ others)
+    assembled whole (codes "store 1" ∷ tables) (codes "store 1", tables) (table_text table, map table_text more ++ tail) (table ∷ more, tail) (sessions_line, workers_line ∷ go) sessions (workers_line, go) (workers, turns) (codes "go", rounds) (round ∷ others)
     (next_back 1 cause.Version (codes "store 1") tables (omega arith)) refl
     (next_back 2 cause.Table (table_text table) (map table_text more ++ tail) (omega (arith, length-append (map table_text more) tail))) (first_table table (both (is_table table) (list_all is_table more) head.each).0)
     (tables_back (table ∷ more) [] 2 sessions_line workers_line go (no_table sessions small) few head.each head.own)
@@ -177,7 +179,7 @@ lines_are script version =
 -- the lines of a workload with these tables and rounds are read as it
 abbrev IsBack : Script → List TableDecl → List (List Line) → Type 0
 IsBack script tables rounds = length tables ≤ 16 → Head tables script.sessions → AreFine tables script.sessions false (lines_of rounds)
-    → script_in (codes "store 1" ∷ (map table_text tables ++ spaced (sessions_words script.sessions) ∷ spaced (workers_words script.workers script.turns) ∷ codes "go" ∷ ended (round_lines tables rounds)))
+    → script_in whole (codes "store 1" ∷ (map table_text tables ++ spaced (sessions_words script.sessions) ∷ spaced (workers_words script.workers script.turns) ∷ codes "go" ∷ ended (round_lines tables rounds)))
     ≡ Ok (record { version = 1; tables = tables; sessions = script.sessions; workers = script.workers; turns = script.turns; rounds = rounds })
 
 back_by : (script : Script) (tables : List TableDecl) (rounds : List (List Line)) → ScriptParts script → 0 < length tables → 0 < length rounds → IsBack script tables rounds
@@ -186,9 +188,9 @@ back_by script (table ∷ tables) [] parts some many = absurd (omega (arith, man
 back_by script (table ∷ tables) (round ∷ rounds) parts some many =
     λ few head are. parts_back table tables script.sessions script.workers script.turns round rounds few head parts.sessions parts.workers parts.turns are
 
-lines_back : (script : Script) → ScriptParts script → AreFine script.tables script.sessions false (all_lines script) → script_in (ended (script_lines script)) ≡ Ok script
+lines_back : (script : Script) → ScriptParts script → AreFine script.tables script.sessions false (all_lines script) → script_in whole (ended (script_lines script)) ≡ Ok script
 lines_back script parts are =
-    ap script_in (lines_are script parts.version)
+    ap (script_in whole) (lines_are script parts.version)
     ∙ back_by script script.tables script.rounds parts parts.some parts.rounds parts.tables parts.head are
     ∙ ap (λ (version : ℕ). Ok (record { version = version; tables = script.tables; sessions = script.sessions; workers = script.workers; turns = script.turns; rounds = script.rounds })) (sym parts.version)
 
@@ -216,4 +218,4 @@ pub text_back : (script : Script) → is_valid script ≡ true → writes_only_b
 text_back script valid bytes =
     let parts = script_parts script valid in
     let are = fine script parts bytes in
-    ap script_in (lines_apart (script_lines script) (script_whole script parts are)) ∙ lines_back script parts are
+    ap (script_in whole) (lines_apart (script_lines script) (script_whole script parts are)) ∙ lines_back script parts are

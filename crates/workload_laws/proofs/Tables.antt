@@ -7,6 +7,7 @@ use Rattle.cell_model.specs.Schemas.{most_slots_of}
 use Rattle.workload_spec.specs.declared.script.Cause.TheVariants as cause
 use Rattle.workload_spec.specs.Valid.{is_within, is_name, is_table, is_declared, least_slots, most_blocks}
 use Rattle.workload_spec.specs.ScriptText.{column_text}
+use Rattle.workload_spec.specs.Extents.{whole}
 use Rattle.workload_spec.specs.Grammar.{rule, word, no_word, keyword, number, key_column, columns_from, table_of}
 use Rattle.workload_laws.proofs.Results.{step, rule_of, word_is, no_word_is, keyword_is, number_is}
 use Rattle.workload_laws.proofs.Lists.{joined, not_true}
@@ -36,14 +37,14 @@ made tables words line name key columns slots_word slots blocks_word blocks e1 e
   own = own;
 }
 
-pub table_is : (tables : List TableDecl) (words : List (List ℕ)) (table : TableDecl) → table_of tables words ≡ Ok table → ReadsTable tables words table
+pub table_is : (tables : List TableDecl) (words : List (List ℕ)) (table : TableDecl) → table_of whole tables words ≡ Ok table → ReadsTable tables words table
 table_is tables words table e =
     step (keyword cause.Table (codes "table") words) _ table e (λ line is1 e1.
     step (word cause.Name line) _ table e1 (λ name is2 e2.
     step (rule cause.Name (is_name name.0)) _ table e2 (λ u is3 e3.
     step (rule cause.Twice (not (is_declared name.0 tables))) _ table e3 (λ v is4 e4.
     step (keyword cause.Key (codes "key:i64") name.1) _ table e4 (λ key is5 e5.
-    step (columns_from (key_column ∷ []) key) _ table e5 (λ columns is6 e6.
+    step (columns_from whole (key_column ∷ []) key) _ table e5 (λ columns is6 e6.
     step (keyword cause.Slots (codes "slots") columns.1) _ table e6 (λ slots_word is7 e7.
     step (number cause.Slots least_slots (most_slots_of columns.0) slots_word) _ table e7 (λ slots is8 e8.
     step (rule cause.Slots (slots.0 % 8 == 0)) _ table e8 (λ w is9 e9.

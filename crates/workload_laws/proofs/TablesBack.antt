@@ -16,6 +16,7 @@ use Rattle.workload_spec.specs.declared.script.Cause.TheVariants as cause
 use Rattle.workload_spec.specs.Reading.{words_of}
 use Rattle.workload_spec.specs.ScriptText.{kind_text, column_text, table_text}
 use Rattle.workload_spec.specs.Valid.{is_within, is_name, are_columns, are_slots, are_blocks, is_table, is_declared, have_own_names, least_slots, most_blocks, most_tables}
+use Rattle.workload_spec.specs.Extents.{whole}
 use Rattle.workload_spec.specs.Grammar.{◌>>=◌, rule, word, no_word, keyword, number, key_column, columns_from, table_of, on_line, is_table_line, tables_from}
 use Rattle.workload_laws.proofs.Results.{gives, rule_back, chosen, passed, eq_of}
 use Rattle.workload_laws.proofs.Lists.{both, joined, not_true, own_names-before}
@@ -64,7 +65,7 @@ columns_begin columns are = (both (begins_with_key columns) _ (both _ _ (both _ 
 
 -- a table read back behind others
 abbrev pub IsReadBack : List TableDecl → TableDecl → Type 0
-IsReadBack tables table = table_of tables (table_words table) ≡ Ok table
+IsReadBack tables table = table_of whole tables (table_words table) ≡ Ok table
 
 small_slots : (slots most : ℕ) → slots ≤ min (2 ^ 15) most → slots < 2 ^ 64
 small_slots slots most le = omega arith
@@ -73,10 +74,10 @@ small_slots slots most le = omega arith
 assembled : (tables : List TableDecl) (words line : List (List ℕ)) (name : List ℕ × List (List ℕ)) (key : List (List ℕ)) (columns : List Column × List (List ℕ))
     (slots_word : List (List ℕ)) (slots : ℕ × List (List ℕ)) (blocks_word : List (List ℕ)) (blocks : ℕ × List (List ℕ))
     → keyword cause.Table (codes "table") words ≡ Ok line → word cause.Name line ≡ Ok name → is_name name.0 ≡ true → is_declared name.0 tables ≡ false
-    → keyword cause.Key (codes "key:i64") name.1 ≡ Ok key → columns_from (key_column ∷ []) key ≡ Ok columns → keyword cause.Slots (codes "slots") columns.1 ≡ Ok slots_word
+    → keyword cause.Key (codes "key:i64") name.1 ≡ Ok key → columns_from whole (key_column ∷ []) key ≡ Ok columns → keyword cause.Slots (codes "slots") columns.1 ≡ Ok slots_word
     → number cause.Slots least_slots (most_slots_of columns.0) slots_word ≡ Ok slots → slots.0 % 8 == 0 ≡ true
     → keyword cause.Blocks (codes "blocks") slots.1 ≡ Ok blocks_word → number cause.Blocks 1 most_blocks blocks_word ≡ Ok blocks → no_word cause.Blocks blocks.1 ≡ Ok tt
-    → table_of tables words ≡ Ok (record { name = name.0; schema = columns.0; slots = slots.0; blocks = blocks.0 })
+    → table_of whole tables words ≡ Ok (record { name = name.0; schema = columns.0; slots = slots.0; blocks = blocks.0 })
 assembled tables words line name key columns slots_word slots blocks_word blocks e1 e2 e3 e4 e5 e6 e7 e8 e9 e10 e11 e12 =
     let made : Result TableDecl Cause = Ok (record { name = name.0; schema = columns.0; slots = slots.0; blocks = blocks.0 }) in
     gives (keyword cause.Table (codes "table") words) _ made line e1
@@ -84,7 +85,7 @@ assembled tables words line name key columns slots_word slots blocks_word blocks
     (gives (rule cause.Name (is_name name.0)) _ made tt (rule_back cause.Name (is_name name.0) e3)
     (gives (rule cause.Twice (not (is_declared name.0 tables))) _ made tt (rule_back cause.Twice (not (is_declared name.0 tables)) (ap not e4))
     (gives (keyword cause.Key (codes "key:i64") name.1) _ made key e5
-    (gives (columns_from (key_column ∷ []) key) _ made columns e6
+    (gives (columns_from whole (key_column ∷ []) key) _ made columns e6
     (gives (keyword cause.Slots (codes "slots") columns.1) _ made slots_word e7
     (gives (number cause.Slots least_slots (most_slots_of columns.0) slots_word) _ made slots e8
     (gives (rule cause.Slots (slots.0 % 8 == 0)) _ made tt (rule_back cause.Slots (slots.0 % 8 == 0) e9)
@@ -176,23 +177,23 @@ table_apart table is = words_apart (codes "table") (table.name ∷ (map column_t
 pub is_table_line_by : (line : List ℕ) (first : List ℕ) (rest : List (List ℕ)) → words_of line ≡ first ∷ rest → is_table_line line ≡ bytes_eq first (codes "table")
 is_table_line_by line first rest e = ap (λ (words : List (List ℕ)). option_map_or (λ word. bytes_eq word (codes "table")) (slice_get words 0) false) e
 
-tables_none : (at : ℕ) (tables : List TableDecl) (line next : List ℕ) (rest : List (List ℕ)) → is_table_line line ≡ false → tables_from at tables (line ∷ next ∷ rest) ≡ Ok (tables, line ∷ next ∷ rest)
+tables_none : (at : ℕ) (tables : List TableDecl) (line next : List ℕ) (rest : List (List ℕ)) → is_table_line line ≡ false → tables_from whole at tables (line ∷ next ∷ rest) ≡ Ok (tables, line ∷ next ∷ rest)
 tables_none at tables line next rest none =
-    passed (is_table_line line) (on_line at (rule cause.Table (nat_lt (length tables) most_tables)) >>= (λ room. on_line at (table_of tables (words_of line)) >>= (λ table. tables_from (at + 1) (tables ++ table ∷ []) (next ∷ rest))))
+    passed (is_table_line line) (on_line at (rule cause.Table (nat_lt (length tables) most_tables)) >>= (λ room. on_line at (table_of whole tables (words_of line)) >>= (λ table. tables_from whole (at + 1) (tables ++ table ∷ []) (next ∷ rest))))
     (Ok (tables, line ∷ next ∷ rest)) none
 
-tables_next : (at : ℕ) (tables : List TableDecl) (table : TableDecl) (line : List ℕ) (rest : List (List ℕ)) → 0 < length rest → is_table_line line ≡ true → nat_lt (length tables) most_tables ≡ true → table_of tables (words_of line) ≡ Ok table
-    → tables_from at tables (line ∷ rest) ≡ tables_from (at + 1) (tables ++ table ∷ []) rest
+tables_next : (at : ℕ) (tables : List TableDecl) (table : TableDecl) (line : List ℕ) (rest : List (List ℕ)) → 0 < length rest → is_table_line line ≡ true → nat_lt (length tables) most_tables ≡ true → table_of whole tables (words_of line) ≡ Ok table
+    → tables_from whole at tables (line ∷ rest) ≡ tables_from whole (at + 1) (tables ++ table ∷ []) rest
 tables_next at tables table line [] some first room read = absurd (omega (arith, some))
 tables_next at tables table line (next ∷ rest) some first room read =
-    chosen (is_table_line line) (on_line at (rule cause.Table (nat_lt (length tables) most_tables)) >>= (λ room. on_line at (table_of tables (words_of line)) >>= (λ made. tables_from (at + 1) (tables ++ made ∷ []) (next ∷ rest))))
+    chosen (is_table_line line) (on_line at (rule cause.Table (nat_lt (length tables) most_tables)) >>= (λ room. on_line at (table_of whole tables (words_of line)) >>= (λ made. tables_from whole (at + 1) (tables ++ made ∷ []) (next ∷ rest))))
     (Ok (tables, line ∷ next ∷ rest)) first
-    ∙ gives (on_line at (rule cause.Table (nat_lt (length tables) most_tables))) _ (tables_from (at + 1) (tables ++ table ∷ []) (next ∷ rest)) tt (ap (on_line at) (rule_back cause.Table (nat_lt (length tables) most_tables) room))
-    (gives (on_line at (table_of tables (words_of line))) _ (tables_from (at + 1) (tables ++ table ∷ []) (next ∷ rest)) table (ap (on_line at) read) refl)
+    ∙ gives (on_line at (rule cause.Table (nat_lt (length tables) most_tables))) _ (tables_from whole (at + 1) (tables ++ table ∷ []) (next ∷ rest)) tt (ap (on_line at) (rule_back cause.Table (nat_lt (length tables) most_tables) room))
+    (gives (on_line at (table_of whole tables (words_of line))) _ (tables_from whole (at + 1) (tables ++ table ∷ []) (next ∷ rest)) table (ap (on_line at) read) refl)
 
 -- tables are read back behind others, up to a line that is none of a table
 pub tables_back : (more tables : List TableDecl) (at : ℕ) (line next : List ℕ) (rest : List (List ℕ)) → is_table_line line ≡ false → length (tables ++ more) ≤ 16 → list_all is_table more ≡ true → have_own_names (tables ++ more) ≡ true
-    → tables_from at tables (map table_text more ++ line ∷ next ∷ rest) ≡ Ok (tables ++ more, line ∷ next ∷ rest)
+    → tables_from whole at tables (map table_text more ++ line ∷ next ∷ rest) ≡ Ok (tables ++ more, line ∷ next ∷ rest)
 tables_back [] tables at line next rest none few each own = tables_none at tables line next rest none ∙ ap (λ (ts : List TableDecl). Ok (ts, line ∷ next ∷ rest)) (sym (append-nil tables))
 tables_back (table ∷ more) tables at line next rest none few each own =
     let e = both (is_table table) (list_all is_table more) each in
@@ -200,6 +201,6 @@ tables_back (table ∷ more) tables at line next rest none few each own =
     let apart = table_apart table e.0 in
     let same = append_assoc tables (table ∷ []) more in
     tables_next at tables table (table_text table) (map table_text more ++ line ∷ next ∷ rest) (omega (arith, length-append (map table_text more) (line ∷ next ∷ rest))) (is_table_line_by (table_text table) (codes "table") _ apart)
-    (lt-ltb (length tables) 16 (omega (arith, few, length-append tables (table ∷ more)))) (ap (table_of tables) apart ∙ table_back tables table declared e.0)
+    (lt-ltb (length tables) 16 (omega (arith, few, length-append tables (table ∷ more)))) (ap (table_of whole tables) apart ∙ table_back tables table declared e.0)
     ∙ tables_back more (tables ++ table ∷ []) (at + 1) line next rest none (subst (λ (ts : List TableDecl). length ts ≤ 16) (sym same) few) e.1 (ap have_own_names same ∙ own)
     ∙ ap (λ (ts : List TableDecl). Ok (ts, line ∷ next ∷ rest)) same

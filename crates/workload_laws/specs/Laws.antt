@@ -1,27 +1,32 @@
--- The laws of workload texts: reading line by line and printing describe the same texts.
+-- The laws of workload texts: reading within an extent is reading in the whole format what runs within it, and
+-- reading line by line and printing describe the same texts.
 use Rattle.std.specs.Prelude.{◌≡◌, ◌↔◌, ℕ, true, List, Ok}
+use Rattle.workload_spec.specs.declared.extent.Extent.{Extent}
 use Rattle.workload_spec.specs.declared.script.Script.{Script}
-use Rattle.workload_spec.specs.Grammar.{script_of}
+use Rattle.workload_spec.specs.Extents.{RunsWithin, is_extent}
+use Rattle.workload_spec.specs.Grammar.{read_with, script_of}
 use Rattle.workload_spec.specs.ScriptText.{script_text}
-use Rattle.workload_spec.specs.Supported.{is_supported}
 use Rattle.workload_spec.specs.Valid.{is_valid}
 use Rattle.workload_laws.specs.Bytes.{writes_only_bytes}
 
--- Bytes that are read as a script are its text, and the script is a workload whose cells of bytes have bytes.
+-- Bytes are read within an extent as a script exactly where the whole format reads them as it and it runs within
+-- the extent.
+abbrev pub ReadWithinIsRead : Type 0
+ReadWithinIsRead = (extent : Extent) (bytes : List ℕ) (script : Script) → is_extent extent ≡ true
+    → (read_with extent bytes ≡ Ok script) ↔ ((script_of bytes ≡ Ok script) × RunsWithin extent script)
+
+-- What stands in a workload's text: it is a workload within the extent, whose cells of bytes have bytes.
+pub record IsWorkloadWithin (extent : Extent) (script : Script) : Type 0 where
+  pub valid : is_valid script ≡ true
+  pub within : RunsWithin extent script
+  pub bytes : writes_only_bytes script ≡ true
+
+-- Bytes that are read within an extent as a script are its text, and the script is a workload within the extent.
 abbrev pub ReadIsText : Type 0
-ReadIsText = (bytes : List ℕ) (script : Script) → script_of bytes ≡ Ok script
-    → (script_text script ≡ bytes) × (is_valid script ≡ true) × (writes_only_bytes script ≡ true)
+ReadIsText = (extent : Extent) (bytes : List ℕ) (script : Script) → is_extent extent ≡ true → read_with extent bytes ≡ Ok script
+    → (script_text script ≡ bytes) × IsWorkloadWithin extent script
 
--- The text of a workload whose cells of bytes have bytes is read as it.
+-- The text of a workload within an extent is read within the extent as it.
 abbrev pub TextIsRead : Type 0
-TextIsRead = (script : Script) → is_valid script ≡ true → writes_only_bytes script ≡ true → script_of (script_text script) ≡ Ok script
-
--- Bytes are read as a script exactly where they are its text, and it is a workload whose cells of bytes have bytes.
-abbrev pub ReadingIsPrinting : Type 0
-ReadingIsPrinting = (bytes : List ℕ) (script : Script) → (script_of bytes ≡ Ok script)
-    ↔ ((script_text script ≡ bytes) × (is_valid script ≡ true) × (writes_only_bytes script ≡ true))
-
--- Bytes are read as a script that runs today exactly where they are the text of that workload.
-abbrev pub SupportedIsRead : Type 0
-SupportedIsRead = (bytes : List ℕ) (script : Script) → is_supported script ≡ true → (script_of bytes ≡ Ok script)
-    ↔ ((script_text script ≡ bytes) × (is_valid script ≡ true))
+TextIsRead = (extent : Extent) (script : Script) → is_extent extent ≡ true → IsWorkloadWithin extent script
+    → read_with extent (script_text script) ≡ Ok script

@@ -8,6 +8,7 @@ use Rattle.cell_model.specs.declared.column.Column.{Column}
 use Rattle.cell_model.specs.declared.table.TableDecl.{TableDecl}
 use Rattle.workload_spec.specs.declared.command.Command.{Command}
 use Rattle.workload_spec.specs.declared.command.Command.TheVariants as command
+use Rattle.workload_spec.specs.declared.extent.Extent.{Extent}
 use Rattle.workload_spec.specs.declared.script.Cause.{Cause}
 use Rattle.workload_spec.specs.declared.script.Cause.TheVariants as cause
 use Rattle.workload_spec.specs.declared.script.Line.{Line}
@@ -16,12 +17,12 @@ use Rattle.workload_spec.specs.declared.reply.Who.TheVariants.{Session, Worker}
 use Rattle.workload_spec.specs.declared.reply.Said.{Said}
 use Rattle.workload_spec.specs.declared.reply.Said.TheVariants as said
 use Rattle.workload_spec.specs.declared.reply.SealCause.TheVariants.{Head}
-use Rattle.workload_spec.specs.Grammar.{key_column, script_of, checked_of, refused_text}
+use Rattle.workload_spec.specs.Grammar.{key_column, read_with, script_of, checked_of, refused_text}
 use Rattle.workload_spec.specs.Reading.{cell_of, integer_of, words_of}
 use Rattle.workload_spec.specs.ReplyText.{said_words, replies_text}
 use Rattle.workload_spec.specs.ScriptText.{line_text, script_text}
 use Rattle.workload_spec.specs.Valid.{is_valid}
-use Rattle.workload_spec.specs.Supported.{is_supported}
+use Rattle.workload_spec.specs.Extents.{whole, today, runs_within, is_extent}
 use Rattle.workload_spec.specs.Words.{cell_text, spaced, lines_text}
 
 -- `v:utf8?`
@@ -133,9 +134,44 @@ ScriptsAreJudged = map is_valid (example_script ∷ record example_script { vers
     ∷ record example_script { rounds = [] } ∷ record example_script { rounds = (exporting ∷ exporting ∷ []) ∷ [] } ∷ record example_script { turns = 100; workers = 16 } ∷ [])
     ≡ true ∷ replicate 10 false ++ true ∷ []
 
--- that script is none that runs today; one table of the key alone with the five commands is
-abbrev pub SupportIsJudged : Type 0
-SupportIsJudged = map is_supported (example_script ∷ record example_script { sessions = 1; rounds = (exporting ∷ []) ∷ [] } ∷ key_script ∷ []) ≡ false ∷ false ∷ true ∷ []
+-- that script with a worker of one turn
+abbrev pub worked_script : Script
+worked_script = record example_script { workers = 1; turns = 1 }
+
+abbrev pub worked_text : List ℕ
+worked_text = lines_text (codes "store 1" ∷ codes "table a key:i64 v:utf8? slots 8 blocks 2" ∷ codes "sessions 2" ∷ codes "workers 1 1" ∷ codes "go"
+    ∷ codes "1 begin" ∷ codes "1 insert a 1 \"x y\"" ∷ codes "--" ∷ codes "2 get a -3" ∷ codes "1 seal a 1" ∷ [])
+
+-- the whole format, and it with one bound below what that script has
+abbrev pub extents : List Extent
+extents = whole ∷ record whole { tables = 0 } ∷ record whole { columns = 1 } ∷ record whole { sessions = 1 } ∷ record whole { workers = 0 } ∷ record whole { turns = 0 }
+    ∷ record whole { parts_rounds = false } ∷ record whole { commands = record whole.commands { seal = false } } ∷ []
+
+abbrev pub ExtentsAreJudged : Type 0
+ExtentsAreJudged = map (λ extent. runs_within extent worked_script) extents ≡ true ∷ replicate 7 false
+
+-- what passes an extent is refused where it stands
+abbrev pub ExtentsAreRead : Type 0
+ExtentsAreRead = map (λ extent. read_with extent worked_text) extents
+    ≡ Ok worked_script ∷ map (λ (told : ℕ × Cause). Err (record { line = told.0; cause = told.1 }))
+    ((2, cause.Table) ∷ (2, cause.Columns) ∷ (3, cause.Sessions) ∷ (4, cause.Workers) ∷ (4, cause.Workers) ∷ (8, cause.Session) ∷ (10, cause.Command) ∷ [])
+
+-- a command that is not taken, before a line that is none
+abbrev pub two_faults : List ℕ
+two_faults = lines_text (head ++ codes "1 scan a" ∷ codes "3 begin" ∷ [])
+
+abbrev pub FirstFaultStands : Type 0
+FirstFaultStands = map (λ extent. read_with extent two_faults) (whole ∷ record whole { commands = record whole.commands { scan = false } } ∷ [])
+    ≡ map (λ (told : ℕ × Cause). Err (record { line = told.0; cause = told.1 })) ((7, cause.Session) ∷ (6, cause.Command) ∷ [])
+
+-- a workload of keys alone runs today, and one of two sessions, two rounds and a seal does not
+abbrev pub TodayIsJudged : Type 0
+TodayIsJudged = map (runs_within today) (key_script ∷ example_script ∷ []) ≡ true ∷ false ∷ []
+
+-- what runs today and the whole format are extents of it, and one without a column or with a bound past the whole's is none
+abbrev pub BoundsAreJudged : Type 0
+BoundsAreJudged = map is_extent (today ∷ whole ∷ record whole { columns = 0 } ∷ record whole { tables = 17 } ∷ record whole { columns = 33 } ∷ record whole { sessions = 65 }
+    ∷ record whole { workers = 17 } ∷ record whole { turns = 101 } ∷ []) ≡ true ∷ true ∷ replicate 6 false
 
 -- lines, and the fault of the workload that they are
 abbrev pub Case : Type 0

@@ -1,5 +1,6 @@
 -- Which bytes are a workload, line by line, and else the first line that is none, with the first word or rule
--- on it that fails.
+-- on it that fails. An extent says how much of the format is taken; six rules look at it: the room for a column and
+-- for a table, the bounds of `sessions` and `workers`, the test for a line `--`, and the form of a command.
 use Rattle.std.specs.Prelude.{ℕ, ◌+◌, ◌-◌, ◌%◌, Bool, true, false, ◌&&◌, ◌||◌, not, ◌==◌, nat_lt, List, [], ◌∷◌, ◌++◌, ℤ, length, take, drop, find, position, take_while, Option, None, Some, option_map, is_none, slice_get, bytes_eq, codes, decimal, Result, Ok, Err}
 use Rattle.std.specs.List.{list_any, join_with_byte}
 use Rattle.std.specs.Option.{option_map_or, option_or}
@@ -9,16 +10,19 @@ use Rattle.cell_model.specs.declared.kind.Kind.{Kind}
 use Rattle.cell_model.specs.declared.kind.Kind.TheVariants as kind
 use Rattle.cell_model.specs.declared.column.Column.{Column}
 use Rattle.cell_model.specs.declared.table.TableDecl.{TableDecl}
-use Rattle.cell_model.specs.Schemas.{most_columns, most_slots_of, place_of_name}
+use Rattle.cell_model.specs.Schemas.{most_slots_of, place_of_name}
 use Rattle.workload_spec.specs.declared.command.Command.{Command}
 use Rattle.workload_spec.specs.declared.command.Command.TheVariants as command
 use Rattle.workload_spec.specs.declared.script.Cause.{Cause}
 use Rattle.workload_spec.specs.declared.script.Cause.TheVariants as cause
+use Rattle.workload_spec.specs.declared.extent.Extent.{Extent}
+use Rattle.workload_spec.specs.declared.extent.Commands.{Commands}
 use Rattle.workload_spec.specs.declared.script.Line.{Line}
 use Rattle.workload_spec.specs.declared.script.Script.{Script}
+use Rattle.workload_spec.specs.Extents.{whole}
 use Rattle.workload_spec.specs.Reading.{onto_first, parts, words_of, natural_of, natural_within, integer_of, cell_of}
 use Rattle.workload_spec.specs.ScriptText.{kind_text}
-use Rattle.workload_spec.specs.Valid.{most_tables, most_blocks, most_sessions, most_workers, most_turns, least_slots, is_name, is_declared, is_key_number, is_block_of, is_export}
+use Rattle.workload_spec.specs.Valid.{most_blocks, least_slots, is_name, is_declared, is_key_number, is_block_of, is_export}
 use Rattle.workload_spec.specs.Words.{line_feed, spaced, lines_text}
 
 -- what is read, and then what is read with it; the first failure stands
@@ -88,19 +92,19 @@ abbrev pub after_colon : List ℕ → List ℕ
 after_colon word = drop (length (before_colon word) + 1) word
 
 -- A column behind others: a name, which none of these has, a colon and a kind; and there is room for it.
-abbrev pub column_of : List Column → List ℕ → Result Column Cause
-column_of columns word = do
+abbrev pub column_of : Extent → List Column → List ℕ → Result Column Cause
+column_of extent columns word = do
   named ← rule cause.Name (is_name (before_colon word))
   own ← rule cause.Twice (is_none (place_of_name (before_colon word) columns))
   kind ← or_cause cause.Kind (kind_of (after_colon word))
-  room ← rule cause.Columns (nat_lt (length columns) most_columns)
+  room ← rule cause.Columns (nat_lt (length columns) extent.columns)
   Ok (record { name = before_colon word; kind = kind.0; nullable = kind.1 })
 
 -- the columns behind others, as far as words have a colon, and the words after them
-abbrev pub columns_from : List Column → List (List ℕ) → Result (List Column × List (List ℕ)) Cause
-columns_from columns [] = Ok (columns, [])
-columns_from columns (word ∷ words) = elim (has_colon word) [
-  | true ↦ column_of columns word >>= λ column. columns_from (columns ++ column ∷ []) words
+abbrev pub columns_from : Extent → List Column → List (List ℕ) → Result (List Column × List (List ℕ)) Cause
+columns_from extent columns [] = Ok (columns, [])
+columns_from extent columns (word ∷ words) = elim (has_colon word) [
+  | true ↦ column_of extent columns word >>= λ column. columns_from extent (columns ++ column ∷ []) words
   | false ↦ Ok (columns, word ∷ words)
 ]
 
@@ -110,14 +114,14 @@ key_column = record { name = codes "key"; kind = kind.I64; nullable = false }
 
 -- A table's line behind those of these tables: `table`, a name that none of them has, `key:i64`, further
 -- columns, `slots` and `blocks` with their numbers, and nothing more.
-abbrev pub table_of : List TableDecl → List (List ℕ) → Result TableDecl Cause
-table_of tables words = do
+abbrev pub table_of : Extent → List TableDecl → List (List ℕ) → Result TableDecl Cause
+table_of extent tables words = do
   line ← keyword cause.Table (codes "table") words
   name ← word cause.Name line
   named ← rule cause.Name (is_name name.0)
   own ← rule cause.Twice (not (is_declared name.0 tables))
   key ← keyword cause.Key (codes "key:i64") name.1
-  columns ← columns_from (key_column ∷ []) key
+  columns ← columns_from extent (key_column ∷ []) key
   slots_word ← keyword cause.Slots (codes "slots") columns.1
   slots ← number cause.Slots least_slots (most_slots_of columns.0) slots_word
   eighths ← rule cause.Slots (slots.0 % 8 == 0)
@@ -136,17 +140,17 @@ pub data Form : Type 0 where
   OfRow : (ℕ → List Cell → Command) → Form
   OfBlock : (ℕ → ℕ → Command) → Form
 
--- each command's first word and form
-abbrev pub forms : List (List ℕ × Form)
-forms = (codes "begin", Alone command.Begin) ∷ (codes "get", OfKey command.Get) ∷ (codes "scan", OfTable command.Scan)
-    ∷ (codes "insert", OfRow command.Insert) ∷ (codes "update", OfRow command.Update) ∷ (codes "delete", OfKey command.Delete)
-    ∷ (codes "commit", Alone command.Commit) ∷ (codes "abort", Alone command.Abort) ∷ (codes "observe", Alone command.Observe)
-    ∷ (codes "prune", Alone command.Prune) ∷ (codes "compact", OfTable command.Compact) ∷ (codes "seal", OfBlock command.Seal)
-    ∷ (codes "gather", OfBlock command.Gather) ∷ (codes "export", OfTable command.Export) ∷ []
+-- each command's first word, its form, and whether it is taken
+abbrev pub forms : Commands → List (List ℕ × Form × Bool)
+forms taken = (codes "begin", Alone command.Begin, taken.begin) ∷ (codes "get", OfKey command.Get, taken.get) ∷ (codes "scan", OfTable command.Scan, taken.scan)
+    ∷ (codes "insert", OfRow command.Insert, taken.insert) ∷ (codes "update", OfRow command.Update, taken.update) ∷ (codes "delete", OfKey command.Delete, taken.delete)
+    ∷ (codes "commit", Alone command.Commit, taken.commit) ∷ (codes "abort", Alone command.Abort, taken.abort) ∷ (codes "observe", Alone command.Observe, taken.observe)
+    ∷ (codes "prune", Alone command.Prune, taken.prune) ∷ (codes "compact", OfTable command.Compact, taken.compact) ∷ (codes "seal", OfBlock command.Seal, taken.seal)
+    ∷ (codes "gather", OfBlock command.Gather, taken.gather) ∷ (codes "export", OfTable command.Export, taken.export) ∷ []
 
--- the form of the command whose first word this is
-abbrev pub form_of : List ℕ → Option Form
-form_of word = option_map (λ entry. entry.1) (find (λ entry. bytes_eq entry.0 word) forms)
+-- the form of the command whose first word this is, where it is taken
+abbrev pub form_of : Extent → List ℕ → Option Form
+form_of extent word = option_map (λ entry. entry.1) (find (λ entry. bytes_eq entry.0 word && entry.2) (forms extent.commands))
 
 -- the place of the declared table of this name
 abbrev pub table_named : List TableDecl → List ℕ → Result ℕ Cause
@@ -208,11 +212,11 @@ formed tables (OfBlock command) words = do
   Ok (command table block)
 
 -- A line of a round: a session of these many, and a command; an export only where none was before.
-abbrev pub line_of : List TableDecl → ℕ → Bool → List (List ℕ) → Result Line Cause
-line_of tables sessions exported words = do
+abbrev pub line_of : Extent → List TableDecl → ℕ → Bool → List (List ℕ) → Result Line Cause
+line_of extent tables sessions exported words = do
   session ← number cause.Session 1 sessions words
   first ← word cause.Command session.1
-  form ← or_cause cause.Command (form_of first.0)
+  form ← or_cause cause.Command (form_of extent first.0)
   command ← formed tables form first.1
   once ← rule cause.Export (not (exported && is_export command))
   Ok (record { session = session.0; command = command })
@@ -269,65 +273,69 @@ next_line at absent (line ∷ next ∷ rest) = Ok (line, next ∷ rest)
 abbrev pub is_table_line : List ℕ → Bool
 is_table_line line = option_map_or (λ word. bytes_eq word (codes "table")) (slice_get (words_of line) 0) false
 
--- the tables behind others, as far as lines begin with `table`, and the parts after them; a seventeenth is one too many
-abbrev pub tables_from : ℕ → List TableDecl → List (List ℕ) → Result (List TableDecl × List (List ℕ)) Fault
-tables_from at tables [] = Ok (tables, [])
-tables_from at tables (last ∷ []) = Ok (tables, last ∷ [])
-tables_from at tables (line ∷ next ∷ rest) = elim (is_table_line line) [
-  | true ↦ on_line at (rule cause.Table (nat_lt (length tables) most_tables)) >>= λ room.
-      on_line at (table_of tables (words_of line)) >>= λ table. tables_from (at + 1) (tables ++ table ∷ []) (next ∷ rest)
+-- the tables behind others, as far as lines begin with `table`, and the parts after them; where there is no more room one is too many
+abbrev pub tables_from : Extent → ℕ → List TableDecl → List (List ℕ) → Result (List TableDecl × List (List ℕ)) Fault
+tables_from extent at tables [] = Ok (tables, [])
+tables_from extent at tables (last ∷ []) = Ok (tables, last ∷ [])
+tables_from extent at tables (line ∷ next ∷ rest) = elim (is_table_line line) [
+  | true ↦ on_line at (rule cause.Table (nat_lt (length tables) extent.tables)) >>= λ room.
+      on_line at (table_of extent tables (words_of line)) >>= λ table. tables_from extent (at + 1) (tables ++ table ∷ []) (next ∷ rest)
   | false ↦ Ok (tables, line ∷ next ∷ rest)
 ]
 
 -- the rounds of the lines that are left, a line `--` between each two
-abbrev pub rounds_from : List TableDecl → ℕ → ℕ → Bool → List (List ℕ) → Result (List (List Line)) Fault
-rounds_from tables sessions at exported [] = Ok ([] ∷ [])
-rounds_from tables sessions at exported ([] ∷ []) = Ok ([] ∷ [])
-rounds_from tables sessions at exported ((byte ∷ bytes) ∷ []) = on_line at (Err cause.Line)
-rounds_from tables sessions at exported (line ∷ next ∷ rest) = elim (bytes_eq line (codes "--")) [
-  | true ↦ rounds_from tables sessions (at + 1) exported (next ∷ rest) >>= λ rounds. Ok ([] ∷ rounds)
-  | false ↦ on_line at (line_of tables sessions exported (words_of line)) >>= λ read.
-      rounds_from tables sessions (at + 1) (exported || is_export read.command) (next ∷ rest) >>= λ rounds. Ok (onto_first read rounds)
+abbrev pub rounds_from : Extent → List TableDecl → ℕ → ℕ → Bool → List (List ℕ) → Result (List (List Line)) Fault
+rounds_from extent tables sessions at exported [] = Ok ([] ∷ [])
+rounds_from extent tables sessions at exported ([] ∷ []) = Ok ([] ∷ [])
+rounds_from extent tables sessions at exported ((byte ∷ bytes) ∷ []) = on_line at (Err cause.Line)
+rounds_from extent tables sessions at exported (line ∷ next ∷ rest) = elim (extent.parts_rounds && bytes_eq line (codes "--")) [
+  | true ↦ rounds_from extent tables sessions (at + 1) exported (next ∷ rest) >>= λ rounds. Ok ([] ∷ rounds)
+  | false ↦ on_line at (line_of extent tables sessions exported (words_of line)) >>= λ read.
+      rounds_from extent tables sessions (at + 1) (exported || is_export read.command) (next ∷ rest) >>= λ rounds. Ok (onto_first read rounds)
 ]
 
 -- how many sessions there are
-abbrev pub sessions_of : List (List ℕ) → Result ℕ Cause
-sessions_of words = do
+abbrev pub sessions_of : Extent → List (List ℕ) → Result ℕ Cause
+sessions_of extent words = do
   rest ← keyword cause.Sessions (codes "sessions") words
-  sessions ← number cause.Sessions 1 most_sessions rest
+  sessions ← number cause.Sessions 1 extent.sessions rest
   end ← no_word cause.Sessions sessions.1
   Ok sessions.0
 
 -- how many workers there are, and how many turns each makes in a round
-abbrev pub workers_of : List (List ℕ) → Result (ℕ × ℕ) Cause
-workers_of words = do
+abbrev pub workers_of : Extent → List (List ℕ) → Result (ℕ × ℕ) Cause
+workers_of extent words = do
   rest ← keyword cause.Workers (codes "workers") words
-  workers ← number cause.Workers 0 most_workers rest
-  turns ← number cause.Workers 0 most_turns workers.1
+  workers ← number cause.Workers 0 extent.workers rest
+  turns ← number cause.Workers 0 extent.turns workers.1
   end ← no_word cause.Workers turns.1
   Ok (workers.0, turns.0)
 
 -- The workload that the lines are: `store 1`, the tables, the sessions, the workers with their turns, `go`, and the rounds.
-abbrev pub script_in : List (List ℕ) → Result Script Fault
-script_in all = do
+abbrev pub script_in : Extent → List (List ℕ) → Result Script Fault
+script_in extent all = do
   store ← next_line 1 cause.Version all
   version ← on_line 1 (rule cause.Version (bytes_eq store.0 (codes "store 1")))
   first ← next_line 2 cause.Table store.1
   begins ← on_line 2 (rule cause.Table (is_table_line first.0))
-  tables ← tables_from 2 [] store.1
+  tables ← tables_from extent 2 [] store.1
   let behind = length tables.0 + 2
   sessions_line ← next_line behind cause.Sessions tables.1
-  sessions ← on_line behind (sessions_of (words_of sessions_line.0))
+  sessions ← on_line behind (sessions_of extent (words_of sessions_line.0))
   workers_line ← next_line (behind + 1) cause.Workers sessions_line.1
-  workers ← on_line (behind + 1) (workers_of (words_of workers_line.0))
+  workers ← on_line (behind + 1) (workers_of extent (words_of workers_line.0))
   go ← next_line (behind + 2) cause.Go workers_line.1
   goes ← on_line (behind + 2) (rule cause.Go (bytes_eq go.0 (codes "go")))
-  rounds ← rounds_from tables.0 sessions (behind + 3) false go.1
+  rounds ← rounds_from extent tables.0 sessions (behind + 3) false go.1
   Ok (record { version = 1; tables = tables.0; sessions = sessions; workers = workers.0; turns = workers.1; rounds = rounds })
 
--- The workload that the bytes are, or the first line that is none of one, and its cause.
+-- The workload within an extent that the bytes are, or the first line that is none of one, and its cause.
+abbrev pub read_with : Extent → List ℕ → Result Script Fault
+read_with extent bytes = script_in extent (parts line_feed bytes)
+
+-- the same of the whole format
 abbrev pub script_of : List ℕ → Result Script Fault
-script_of bytes = script_in (parts line_feed bytes)
+script_of bytes = read_with whole bytes
 
 -- A workload and the output behind it, which a line `====` parts: the workload ends before that line.
 
@@ -339,14 +347,18 @@ abbrev pub place_of_parting : List (List ℕ) → Option ℕ
 place_of_parting all = position (λ line. bytes_eq line parting) (take (length all - 1) all)
 
 -- the workload before a parting and the bytes behind it; without one, the workload's fault or that the parting is wanting
-abbrev pub checked_in : List (List ℕ) → Option ℕ → Result (Script × List ℕ) Fault
-checked_in all (Some place) = do
-  script ← script_in (take place all ++ [] ∷ [])
+abbrev pub checked_in : Extent → List (List ℕ) → Option ℕ → Result (Script × List ℕ) Fault
+checked_in extent all (Some place) = do
+  script ← script_in extent (take place all ++ [] ∷ [])
   Ok (script, join_with_byte line_feed (drop (place + 1) all))
-checked_in all None = do
-  script ← script_in all
+checked_in extent all None = do
+  script ← script_in extent all
   on_line (length all) (Err cause.Parting)
 
--- The workload and the output that the bytes are, or the first line that is none, and its cause.
+-- The workload within an extent and the output that the bytes are, or the first line that is none, and its cause.
+abbrev pub checked_with : Extent → List ℕ → Result (Script × List ℕ) Fault
+checked_with extent bytes = checked_in extent (parts line_feed bytes) (place_of_parting (parts line_feed bytes))
+
+-- the same of the whole format
 abbrev pub checked_of : List ℕ → Result (Script × List ℕ) Fault
-checked_of bytes = checked_in (parts line_feed bytes) (place_of_parting (parts line_feed bytes))
+checked_of bytes = checked_with whole bytes

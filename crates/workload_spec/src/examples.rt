@@ -1,5 +1,5 @@
 //! Worked examples of texts and faults: each is a fact that the definitions compute.
-ghost use Rattle.workload_spec.specs.Examples.{HardTextIsSpelled, HardSpellingIsRead, NumbersAreRead, LeastKeyIsSpelled, NoNumbers, NoTexts, NoNull, BlobsAreRead, TruthsAreRead, WordsAreParted, ScriptIsPrinted, ScriptIsRead, CommandsAreRead, CommandsArePrinted, ScriptsAreJudged, SupportIsJudged, HeadsAreRefused, TablesAreRefused, LinesAreRefused, LastLineIsOpen, PartingIsFound, RefusalIsPrinted, RepliesArePrinted, LinesArePrinted};
+ghost use Rattle.workload_spec.specs.Examples.{HardTextIsSpelled, HardSpellingIsRead, NumbersAreRead, LeastKeyIsSpelled, NoNumbers, NoTexts, NoNull, BlobsAreRead, TruthsAreRead, WordsAreParted, ScriptIsPrinted, ScriptIsRead, CommandsAreRead, CommandsArePrinted, ScriptsAreJudged, ExtentsAreJudged, ExtentsAreRead, FirstFaultStands, TodayIsJudged, BoundsAreJudged, HeadsAreRefused, TablesAreRefused, LinesAreRefused, LastLineIsOpen, PartingIsFound, RefusalIsPrinted, RepliesArePrinted, LinesArePrinted};
 
 /// A text with a quote, a backslash, control bytes and a longer character is escaped.
 pub fn a_text_is_escaped()
@@ -76,9 +76,29 @@ pub fn a_workload_is_valid_or_not()
     ensures { ScriptsAreJudged }
 {}
 
+/// A workload runs within the whole format, and within no extent with a bound below what it has.
+pub fn a_workload_runs_within_an_extent_or_not()
+    ensures { ExtentsAreJudged }
+{}
+
+/// What passes an extent is refused where it stands.
+pub fn what_passes_an_extent_is_refused_where_it_stands()
+    ensures { ExtentsAreRead }
+{}
+
+/// Of a command that is not taken and a later line that is none, the first is the fault.
+pub fn the_first_fault_stands_within_an_extent()
+    ensures { FirstFaultStands }
+{}
+
 /// A workload of keys alone runs today, and one with more is told apart.
 pub fn workloads_of_keys_run_today()
-    ensures { SupportIsJudged }
+    ensures { TodayIsJudged }
+{}
+
+/// What runs today and the whole format are extents; one without a column, or with more than the whole, is none.
+pub fn bounds_of_an_extent_are_judged()
+    ensures { BoundsAreJudged }
 {}
 
 /// Heads are refused at their first fault.

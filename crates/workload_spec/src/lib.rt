@@ -4,9 +4,11 @@
 
 pub mod command;
 pub mod examples;
+pub mod extent;
 pub mod reply;
 pub mod script;
 
 pub use command::Command;
+pub use extent::{Commands, Extent};
 pub use reply::{ReplyLine, Said, SealCause, Who};
 pub use script::{Cause, Line, Round, Rounds, Script, Tables};

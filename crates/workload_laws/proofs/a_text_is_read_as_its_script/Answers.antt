@@ -1,5 +1,5 @@
-use Rattle.workload_laws.proofs.ScriptsBack.{text_back}
+use Rattle.workload_laws.proofs.OneGrammar.{text_is_read}
 use Rattle.workload_laws.proofs.a_text_is_read_as_its_script.Goals as goal
 
 pub returns : goal.returns
-returns c = text_back
+returns c = text_is_read

@@ -1,4 +1,5 @@
 use Rattle.std.proofs.Common.{◌≡◌, ◌∷◌, [], length}
+use Rattle.workload_spec.specs.Extents.{whole as entire}
 use Rattle.workload_spec.specs.Grammar.{columns_from, key_column}
 use Rattle.script_text.specs.Cursor.{words_behind}
 use Rattle.script_text.proofs.columns.columns_of.Given as goal
@@ -7,4 +8,4 @@ abbrev pub decreases-loop-word : goal.decreases-loop-word
 decreases-loop-word l = length l.rest
 
 abbrev pub invariant-loop-word : goal.invariant-loop-word
-invariant-loop-word l = columns_from l.columns.items (words_behind l.rest) ≡ columns_from (key_column ∷ []) (words_behind l.words)
+invariant-loop-word l = columns_from entire l.columns.items (words_behind l.rest) ≡ columns_from entire (key_column ∷ []) (words_behind l.words)

@@ -1,0 +1,102 @@
+//! How much of the workload format is taken.
+ghost use Rattle.std.specs.Prelude.{◌≡◌};
+ghost use Rattle.workload_spec.specs.Extents.{whole, today};
+
+/// How much of the workload format is taken: what passes it is refused where it stands.
+#[derive(Clone, Copy, Debug)]
+pub struct Extent {
+    /// The most tables.
+    pub tables: u32,
+    /// The most columns of a table, the key's counted.
+    pub columns: u32,
+    /// The most sessions.
+    pub sessions: u32,
+    /// The most workers.
+    pub workers: u32,
+    /// The most turns of a worker in a round.
+    pub turns: u32,
+    /// Whether a line `--` parts two rounds.
+    pub parts_rounds: bool,
+    pub commands: Commands,
+}
+
+/// Which commands are taken, by their first words.
+#[derive(Clone, Copy, Debug)]
+pub struct Commands {
+    pub begin: bool,
+    pub get: bool,
+    pub scan: bool,
+    pub insert: bool,
+    pub update: bool,
+    pub delete: bool,
+    pub commit: bool,
+    pub abort: bool,
+    pub observe: bool,
+    pub prune: bool,
+    pub compact: bool,
+    pub seal: bool,
+    pub gather: bool,
+    pub export: bool,
+}
+
+impl Extent {
+    /// The whole format.
+    pub const fn whole() -> Extent
+        ensures { result ≡ whole }
+    {
+        Extent {
+            tables: 16,
+            columns: 32,
+            sessions: 64,
+            workers: 16,
+            turns: 100,
+            parts_rounds: true,
+            commands: Commands {
+                begin: true,
+                get: true,
+                scan: true,
+                insert: true,
+                update: true,
+                delete: true,
+                commit: true,
+                abort: true,
+                observe: true,
+                prune: true,
+                compact: true,
+                seal: true,
+                gather: true,
+                export: true,
+            },
+        }
+    }
+
+    /// What runs today.
+    pub const fn today() -> Extent
+        ensures { result ≡ today }
+    {
+        Extent {
+            tables: 1,
+            columns: 1,
+            sessions: 1,
+            workers: 0,
+            turns: 0,
+            parts_rounds: false,
+            commands: Commands {
+                begin: true,
+                get: true,
+                scan: false,
+                insert: true,
+                update: false,
+                delete: false,
+                commit: true,
+                abort: false,
+                observe: false,
+                prune: false,
+                compact: false,
+                seal: false,
+                gather: false,
+                export: true,
+            },
+        }
+    }
+}
