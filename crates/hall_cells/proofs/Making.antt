@@ -1,19 +1,21 @@
 -- What a pass knows of the marks after an event of its own.
-use Rattle.std.proofs.Common.{◌≡◌, ℕ, zero, suc, ◌+◌, ◌<◌, Bool, true, false, List, [], ◌∷◌, ◌++◌, Option, None, Some, length, set, get_or-set_same, refl, sym, ap, subst, ◌∙◌, arith}
+use Rattle.std.proofs.Common.{eqb, ne_eqb, true≢false, ◌≡◌, ℕ, zero, suc, ◌+◌, ◌<◌, Bool, true, false, List, [], ◌∷◌, ◌++◌, Option, None, Some, length, set, get_or-set_same, refl, sym, ap, subst, ◌∙◌, arith}
 use Rattle.std.specs.Prelude.{MatchBool, MatchOption, slice_index}
-use Rattle.hall_cells.specs.Laws.{opened, raise_leaves}
+use Rattle.hall_cells.specs.Laws.{ended_closed, opened, raise_leaves}
 use Rattle.hall_cells.specs.Made.{MakesDeed, MakesNone}
-use Rattle.hall_cells.specs.Marks.{meaning_of, open_of}
+use Rattle.hall_cells.specs.Marks.{TookOnly, meaning_of, open_of, touches_part}
 use Rattle.hall_cells.specs.declared.deed.Deed.{Deed}
-use Rattle.hall_cells.specs.declared.deed.Deed.TheVariants.{Begin, Raise}
+use Rattle.hall_cells.specs.declared.deed.Deed.TheVariants.{Begin, End, Raise}
 use Rattle.hall_cells.specs.declared.deed.Least.{Least}
 use Rattle.hall_rule.specs.EventLog.{after, has, replay}
+use Rattle.hall_rule.specs.Hands.{Holds}
 use Rattle.hall_rule.specs.Meaning.{Meaning}
 use Rattle.hall_rule.specs.Views.{entry_of, given}
 use Rattle.hall_rule.specs.declared.view.Entry.{Entry}
 use Rattle.hall_rule.specs.declared.view.View.{View}
+use Rattle.hall_rule.proofs.Lists.{by_cases}
 use Rattle.hall_rule.proofs.Logs.{replay_append}
-use Rattle.hall_steps.specs.Hall.{EndsWith, LooksOn}
+use Rattle.hall_steps.specs.Hall.{EndsWith, Joined, LooksOn, TookParts}
 
 open_any : (sh parts : ℕ) (s : List ℕ) (q : ℕ) → open_of sh s q ≡ open_of parts s q
 open_any sh parts s zero = refl
@@ -45,6 +47,19 @@ module _ (parts : ℕ) (start : List ℕ) (passes : ℕ) where
       let room = ends.learned.room in
       ap (λ (x : List ℕ). open_of sh x q) state ∙ opened sh (set s 0 q) q (get_or-set_same s 0 q 0 (omega (arith, room, some'))) low
 
+  -- and a session that ended has none
+  pub ended_none : (sh id : ℕ) (v w : View Deed) (before : List (Entry Deed)) (q : ℕ) → EndsWith M id v before (entry_of id v false (End q)) w → 0 < length start → open_of sh (replay M w.log) q ≡ None
+  ended_none sh id v w before q ends some' =
+      let s : List ℕ = replay M before in
+      let e : Entry Deed = entry_of id v false (End q) in
+      let state : replay M w.log ≡ set s 0 0 = ap (replay M) ends.log ∙ replay_append M M.start before (e ∷ []) in
+      let room = ends.learned.room in
+      ap (λ (x : List ℕ). open_of sh x q) state ∙ ended_closed sh s q (omega (arith, room, some'))
+
+  -- a session of a pass that was joined into another has its transaction still
+  pub joined_open : (sh : ℕ) (id other : ℕ) (v u w : View Deed) (q : ℕ) → Joined M id other v u w → has q u.sessions ≡ true → open_of sh (replay M u.log) q ≡ Some q → open_of sh (replay M w.log) q ≡ Some q
+  joined_open sh id other v u w q both mine was = open_any sh parts (replay M w.log) q ∙ (both.came.transactions q mine ∙ (open_any parts sh (replay M u.log) q ∙ was))
+
   -- the same over a take before the event and a give after it
   pub made_between : (deed : Deed) (said : List ℕ → Type 0) (v u w x : View Deed) (k : ℕ) → u.mine ≡ v.mine → x ≡ given w k → MakesDeed M deed said u w → MakesDeed M deed said v x
   made_between deed said v u w x k same gave made = subst (MakesDeed M deed said v) (sym gave) (record {
@@ -68,3 +83,10 @@ module _ (parts : ℕ) (start : List ℕ) (passes : ℕ) where
       → MatchBool r (MakesDeed M deed free u w) (MakesNone M taken u w) → MatchBool r (MakesDeed M deed free v x) (MakesNone M taken v x)
   begin_between true deed free taken v u w x k same gave m = made_between deed free v u w x k same gave m
   begin_between false deed free taken v u w x k same gave m = none_between taken v u w x k same gave m
+
+only_zero : (k : ℕ) → eqb k 0 ≡ true → k ≡ 0
+only_zero k e = by_cases k 0 (k ≡ 0) (λ x. x) (λ ne. absurd (true≢false (sym e ∙ ne_eqb k 0 ne)))
+
+-- the parts that an end took
+pub took_zero : (hand : List (Option ℕ)) (sh q : ℕ) (v w x : View Deed) → ((k : ℕ) → Holds hand k → touches_part sh (End q) hand k ≡ true) → TookParts hand v w → x.taken ≡ w.taken → TookOnly 0 v x
+took_zero hand sh q v w x only took same = record { parts = took.parts; taken = same ∙ took.taken; only = λ k h. only_zero k (only k (took.held k h)) }

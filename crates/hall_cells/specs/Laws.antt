@@ -3,7 +3,7 @@ use Rattle.std.proofs.Common.{◌≡◌, ◌≢◌, ℕ, zero, suc, ◌+◌, ◌
 use Rattle.std.specs.Prelude.{slice_get, slice_index}
 use Rattle.hall_cells.specs.Marks.{Fits, IsLeast, IsOpening, Stands, Teaches, after_deed, open_of, reply_of, session_of, touches_part}
 use Rattle.hall_cells.specs.declared.deed.Deed.{Deed}
-use Rattle.hall_cells.specs.declared.deed.Deed.TheVariants.{Begin, Raise}
+use Rattle.hall_cells.specs.declared.deed.Deed.TheVariants.{Begin, End, Raise}
 use Rattle.hall_cells.specs.declared.deed.Least.{Least}
 use Rattle.hall_rule.specs.Hands.{Agrees, Covers, Holds, OnlyHeld}
 use Rattle.hall_rule.proofs.Lists.{by_cases}
@@ -39,6 +39,14 @@ pub opened_stands : (sh : ℕ) (s : List ℕ) (q p by : ℕ) → ((r : ℕ) → 
 opened_stands sh s zero p by open' = tt
 opened_stands sh s (suc q) p by open' = opened_is sh s (suc q) (open' (suc q) refl)
 
+pub opened_ends : (sh : ℕ) (s : List ℕ) (q : ℕ) → open_of sh s q ≡ Some q → Stands sh (End q) s
+opened_ends sh s zero e = absurd (cc)
+opened_ends sh s (suc q) e = opened_is sh s (suc q) e
+
+pub ended_closed : (sh : ℕ) (s : List ℕ) (q : ℕ) → 0 < length s → open_of sh (set s 0 0) q ≡ None
+ended_closed sh s zero lt = refl
+ended_closed sh s (suc q) lt = let n = get_or-set_same s 0 0 0 lt in closed sh (set s 0 0) (suc q) (λ e. absurd (omega (arith, n, e)))
+
 -- a raised mark leaves each transaction as it was
 pub raise_leaves : (sh : ℕ) (s : List ℕ) (p x q : ℕ) → 0 < p → open_of sh (set s p x) q ≡ open_of sh s q
 raise_leaves sh s p x zero lt = refl
@@ -52,11 +60,19 @@ rests sh s (suc q) o = closed sh s (suc q) (λ e. absurd (let i = o.idle in omeg
 
 pub sized : (sh : ℕ) (e : Deed) (s : List ℕ) → length s ≡ sh → length (after_deed sh e s) ≡ length s
 sized sh (Begin q) s ok = length-set s 0 q
+sized sh (End q) s ok = length-set s 0 0
 sized sh (Raise q p by) s ok = length-set s p (slice_index s p + by)
+
+pub ascends : (sh : ℕ) (e : Deed) (h i : List (Option ℕ)) (k : ℕ) → touches_part sh e h k ≡ touches_part sh e i k
+ascends sh (Begin q) h i k = refl
+ascends sh (Raise q p by) h i k = refl
+ascends sh (End q) h i k = refl
 
 pub frame : (sh : ℕ) (e : Deed) (h : List (Option ℕ)) (s : List ℕ) → length s ≡ sh → Covers (touches_part sh e) h → Agrees h s → Fits sh e s → OnlyHeld h s (after_deed sh e s)
 frame sh (Begin q) h s ok covers agrees fits k away =
     get_set_else s 0 k q (λ e. away (subst (Holds h) (sym e) (covers 0 (let n = agrees.0 in let f = fits.0 in omega (arith, n, f, ok)) (eq-eqb 0 0 refl))))
+frame sh (End q) h s ok covers agrees fits k away =
+    get_set_else s 0 k 0 (λ e. away (subst (Holds h) (sym e) (covers 0 (let n = agrees.0 in let f = fits in omega (arith, n, f, ok)) (eq-eqb 0 0 refl))))
 frame sh (Raise q p by) h s ok covers agrees fits k away =
     get_set_else s p k (slice_index s p + by) (λ e. away (subst (Holds h) (sym e) (covers p (let n = agrees.0 in let f = fits.1 in omega (arith, n, f, ok)) (eq-eqb p p refl))))
 
@@ -67,6 +83,7 @@ pub local : (sh : ℕ) (e : Deed) (h : List (Option ℕ)) (s t : List ℕ) → l
 local sh (Begin q) h s t ok covers a b fits =
     let held = covers 0 (let n = a.0 in let f = fits.0 in omega (arith, n, f, ok)) (eq-eqb 0 0 refl) in
     (fits.0, same_index h s t 0 a b held ∙ fits.1, fits.2)
+local sh (End q) h s t ok covers a b fits = fits
 local sh (Raise q p by) h s t ok covers a b fits =
     let held = covers p (let n = a.0 in let f = fits.1 in omega (arith, n, f, ok)) (eq-eqb p p refl) in
     let e = same_index h s t p a b held in
@@ -74,6 +91,8 @@ local sh (Raise q p by) h s t ok covers a b fits =
 
 pub depends : (sh : ℕ) (e : Deed) (s t : List ℕ) → ((q : ℕ) → session_of e ≡ Some q → open_of sh t q ≡ open_of sh s q) → Stands sh e s → Stands sh e t
 depends sh (Begin q) s t same stands = tt
+depends sh (End zero) s t same stands = stands
+depends sh (End (suc q)) s t same stands = opened_is sh t (suc q) (same (suc q) refl ∙ opened sh s (suc q) stands (omega arith))
 depends sh (Raise zero p by) s t same stands = tt
 depends sh (Raise (suc q) p by) s t same stands = opened_is sh t (suc q) (same (suc q) refl ∙ opened sh s (suc q) stands (omega arith))
 
@@ -82,6 +101,11 @@ leaves sh (Begin r) s zero ok stands fits ne = refl
 leaves sh (Begin r) s (suc q) ok stands fits ne =
     let n : slice_index (set s 0 r) 0 ≡ r = get_or-set_same s 0 r 0 (let f = fits.0 in omega (arith, ok, f)) in
     closed sh (set s 0 r) (suc q) (λ e. ne (ap Some (sym n ∙ e))) ∙ sym (closed sh s (suc q) (λ e. absurd (let f = fits.1 in omega (arith, f, e))))
+leaves sh (End r) s zero ok stands fits ne = refl
+leaves sh (End zero) s (suc q) ok stands fits ne = absurd stands
+leaves sh (End (suc r)) s (suc q) ok stands fits ne =
+    let n : slice_index (set s 0 0) 0 ≡ 0 = get_or-set_same s 0 0 0 (let f = fits in omega (arith, ok, f)) in
+    closed sh (set s 0 0) (suc q) (λ e. absurd (omega (arith, n, e))) ∙ sym (closed sh s (suc q) (λ e. ne (ap Some (sym stands ∙ e))))
 leaves sh (Raise r p by) s zero ok stands fits ne = refl
 leaves sh (Raise r p by) s (suc q) ok stands fits ne =
     let f = fits.0 in
@@ -92,6 +116,10 @@ pub outlives : (sh : ℕ) (e : Deed) (f : Least) (s : List ℕ) → length s ≡
 outlives sh (Begin q) f s ok fits least =
     let p = least.0 in let a = least.1 in
     let n : slice_index (set s 0 q) f.part ≡ slice_index s f.part = get_or-set_other s 0 f.part q 0 (λ e. absurd (omega (arith, e, p))) in
+    (p, omega (arith, n, a))
+outlives sh (End q) f s ok fits least =
+    let p = least.0 in let a = least.1 in
+    let n : slice_index (set s 0 0) f.part ≡ slice_index s f.part = get_or-set_other s 0 f.part 0 0 (λ e. absurd (omega (arith, e, p))) in
     (p, omega (arith, n, a))
 outlives sh (Raise q p by) f s ok fits least =
     let a = least.1 in
@@ -106,6 +134,7 @@ outlives sh (Raise q p by) f s ok fits least =
 
 pub learns : (sh : ℕ) (e : Deed) (f : Least) (s : List ℕ) → length s ≡ sh → Fits sh e s → Teaches sh e (reply_of sh e s) f → IsLeast sh f (after_deed sh e s)
 learns sh (Begin q) f s ok fits h = absurd h
+learns sh (End q) f s ok fits h = absurd h
 learns sh (Raise q p by) f s ok fits h =
     let x : ℕ = slice_index s p + by in
     let n : slice_index (set s p x) p ≡ x = get_or-set_same s p x 0 (let b = fits.1 in omega (arith, b, ok)) in

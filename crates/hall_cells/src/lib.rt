@@ -5,7 +5,7 @@ mod calls;
 mod deed;
 mod marks;
 
-pub use calls::{begin, open, raise, raise_within};
+pub use calls::{begin, end, join_and_raise, open, raise, raise_within};
 pub use deed::{Deed, Least};
 pub use marks::Marks;
 

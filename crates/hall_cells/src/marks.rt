@@ -1,7 +1,7 @@
 //! The marks as a core.
 ghost use Rattle.std.specs.Prelude.{◌≡◌, ◌^◌, ◌<◌, ℕ, false, IfOk, Some, length, map, replicate, vec_len};
 ghost use Rattle.hall_cells.specs.Marks.{Fits, IsLeast, IsOpening, Stands, Teaches, after_deed, open_of, reply_of, session_of, touches_part};
-ghost use Rattle.hall_cells.specs.Laws.{depends, frame, learns, leaves, local, outlives, rests, sized};
+ghost use Rattle.hall_cells.specs.Laws.{ascends, depends, frame, learns, leaves, local, outlives, rests, sized};
 ghost use Rattle.std.proofs.Common.{◌∙◌};
 
 use crate::deed::{Deed, Least};
@@ -89,7 +89,7 @@ impl Parts for Marks {
 
     fn touches(_shape: &u32, event: &Deed, _held: &Hand<u64>, part: u32) -> bool {
         match event {
-            Deed::Begin { .. } => part == 0,
+            Deed::Begin { .. } | Deed::End { .. } => part == 0,
             Deed::Raise { part: raised, .. } => part == *raised,
         }
     }
@@ -106,6 +106,10 @@ impl Parts for Marks {
                 held.replace(0, Some(session));
                 0
             }
+            Deed::End { .. } => {
+                held.replace(0, Some(0));
+                0
+            }
             Deed::Raise { part, by, .. } => {
                 let was = *held.part(part);
                 held.replace(part, Some(was + by));
@@ -119,6 +123,8 @@ impl Parts for Marks {
     ghost rests = { rests };
 
     ghost keeps = { λ sh e s ok stands fits. sized sh e s ok ∙ ok };
+
+    ghost ascends = { λ sh e h i k same. ascends sh e h i k };
 
     ghost frame = { λ sh e h s ok covers agrees stands fits. frame sh e h s ok covers agrees fits };
 

@@ -1,27 +1,22 @@
 -- An event keeps the invariant: what was lawful by what a pass knew is lawful where it is made.
-use Rattle.std.proofs.Common.{◌≡◌, ◌≢◌, ℕ, suc, ◌+◌, ◌*◌, ◌%◌, ◌^◌, ◌<◌, ◌≤◌, true, false, List, [], ◌∷◌, ◌++◌, Option, Some, length, set, get_or-set_same, get_or-set_other, refl, sym, ap, subst, ◌∙◌, inl, inr, ⊎_elim, length-append, length-set, mod-eq_of_lt, arith}
+use Rattle.std.proofs.Common.{◌≡◌, ◌≢◌, ℕ, suc, ◌+◌, ◌*◌, ◌%◌, ◌^◌, ◌<◌, true, false, List, [], ◌∷◌, ◌++◌, Option, Some, length, set, get_or-set_same, get_or-set_other, refl, sym, ap, subst, ◌∙◌, inl, inr, ⊎_elim, true≢false, length-append, length-set, mod-eq_of_lt, arith}
 use Rattle.std.specs.Prelude.{slice_get, slice_index}
 use mathlib.Core.Option as maybe
 use lib.ListN.{get_elem?}
 use Rattle.atomic_table.specs.Table.{Allows, State}
 use Rattle.atomic_table.specs.Table.Act.{keeps}
 use Rattle.hall_rule.specs.EventLog.{LawfulFrom, Spares, Untouched, after, has, own, replay}
-use Rattle.hall_rule.specs.HallInvariant.{HallInvariant, Owners, Rule, entries_of, hands_of, stage, total_of}
+use Rattle.hall_rule.specs.HallInvariant.{HallInvariant, Owners, Rule, hands_of, stage}
 use Rattle.hall_rule.specs.Hands.{Agrees, Covers, Holds}
 use Rattle.hall_rule.specs.Meaning.{Laws, Meaning}
 use Rattle.hall_rule.specs.Views.{Adds, Learned, Sees, added}
 use Rattle.hall_rule.specs.declared.view.Entry.{Entry}
 use Rattle.hall_rule.specs.declared.view.View.{View}
 use Rattle.hall_rule.proofs.Latches.{learns, unset}
+use Rattle.hall_rule.proofs.Lists.{bounded}
 use Rattle.hall_rule.proofs.Logs.{after_is, goes_on_whole, has_head, lawful_append, own_all, own_append, replay_append, since_whole}
 use Rattle.hall_rule.proofs.Moved.{Moves, moved}
 use Rattle.hall_rule.proofs.Quiet.{stirred}
-
-module _ {E : Type 0} where
-  -- As each view has few entries for each hand, so have all together.
-  pub bounded : (views : List (View E)) → ((j : ℕ) (v : View E) → get_elem? views j ≡ maybe.some v → entries_of v ≤ 2 ^ 56 * hands_of v) → total_of entries_of views ≤ 2 ^ 56 * total_of hands_of views
-  bounded [] few = omega arith
-  bounded (v ∷ vs) few = let a = few 0 v refl in let b = bounded vs (λ j u at. few (suc j) u at) in omega (arith, a, b)
 
 module _ {P E T F : Type 0} (M : Meaning P E T F) (laws : Laws M) where
   -- The event word never wraps.
@@ -51,7 +46,7 @@ module _ {P E T F : Type 0} (M : Meaning P E T F) (laws : Laws M) where
         laws.local event hand (replay M v.log) (replay M log) ok new.sound asks.covers asks.agrees agrees asks.stands asks.fits,
       )
 
-  module _ (slots id : ℕ) (v : View E) (live : v.spent ≡ false) (hand : List (Option P)) (e : Entry E) (pass : e.pass ≡ id) (asks : Asks hand v e.event)
+  module _ (slots id : ℕ) (v : View E) (live : v.spent ≡ false) (hand : List (Option P)) (e : Entry E) (pass : e.pass ≡ id) (under : has e.session v.sessions ≡ true) (asks : Asks hand v e.event)
       (held : (k : ℕ) → Holds hand k → stage v k ≡ 2) (none_out : v.out ≡ 0) (few : length v.mine < 2 ^ 56 * hands_of v)
       (ok : M.sound (replay M v.log)) (room : length (replay M v.log) ≡ length M.start) where
     module _ (log : List (Entry E)) (o : Owners) (s : State (Option P) (View E)) (kept : HallInvariant M log o s) (at : get_elem? s.views id ≡ maybe.some v) where
@@ -80,6 +75,8 @@ module _ {P E T F : Type 0} (M : Meaning P E T F) (laws : Laws M) where
             live = live;
             by = (pass, tt);
             names = (asks.names, tt);
+            under = (under, tt);
+            sole = refl;
             lawful = both;
             goes_on = goes_on_whole (added v log e) (log ++ e ∷ []) refl;
             mine = refl;
@@ -87,6 +84,8 @@ module _ {P E T F : Type 0} (M : Meaning P E T F) (laws : Laws M) where
             seen = own_append (id ∷ v.joined) log (e ∷ []) ∙ (ap (λ (x : List (Entry E)). x ++ own (id ∷ v.joined) (e ∷ [])) new.mine ∙ ap (λ (x : List (Entry E)). v.mine ++ x) (own_all (id ∷ v.joined) id (e ∷ []) (has_head id v.joined) (pass, tt)));
             few = let f = few in omega (arith, f);
             spared = λ q h. subst (Spares M q) (sym (since_whole (added v log e) (log ++ e ∷ []) refl)) tt;
+            stood = λ q was h. subst (Spares M q) (sym (since_whole (added v log e) (log ++ e ∷ []) refl)) tt;
+            came = λ q none' h. absurd (true≢false (sym none'));
             counted = counted ∙ sym n;
             wide = wide;
             deep = refl;
@@ -105,6 +104,7 @@ module _ {P E T F : Type 0} (M : Meaning P E T F) (laws : Laws M) where
               kept = λ k two. subst (Untouched M k (replay M (log ++ e ∷ []))) (sym (since_whole (added v log e) (log ++ e ∷ []) refl)) tt;
               in_hand = old.in_hand;
               out = old.out;
+              ever = old.ever;
             };
           }
 
@@ -144,6 +144,9 @@ module _ {P E T F : Type 0} (M : Meaning P E T F) (laws : Laws M) where
               (stirred M laws log kept.1 kept.1.part s s.words s.homes id v w kept.2 at live (record {
                 joined = refl;
                 sessions = refl;
+                stood = refl;
+                came = refl;
+                sole = refl;
                 heard = refl;
                 before = inl refl;
                 mine = refl;
@@ -165,6 +168,7 @@ module _ {P E T F : Type 0} (M : Meaning P E T F) (laws : Laws M) where
                   kept = old.kept;
                   in_hand = old.in_hand;
                   out = old.out;
+                  ever = old.ever;
                 };
               })),
         ),

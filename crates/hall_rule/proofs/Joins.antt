@@ -5,15 +5,16 @@ use mathlib.Core.Option as maybe
 use lib.ListN.{get_elem?}
 use Rattle.atomic_table.specs.Table.{Joins, State}
 use Rattle.atomic_table.proofs.Lists.{at_set, set_else, set_here}
-use Rattle.hall_rule.specs.EventLog.{MadeBelow, Spares, Untouched, after, has, own, replay, replay_from}
+use Rattle.hall_rule.specs.EventLog.{MadeBelow, Spares, Tied, Untouched, after, has, own, replay, replay_from}
 use Rattle.hall_rule.specs.HallInvariant.{EachLive, GoesOn, HallInvariant, HoldsParts, Owners, OwnsSessions, Rule, SeesLog, entries_of, hands_of, since, stage}
 use Rattle.hall_rule.specs.Meaning.{Laws, Meaning}
-use Rattle.hall_rule.specs.Views.{joined_by, longer, spent_view}
+use Rattle.hall_rule.specs.Views.{among, joined_by, longer, spent_view}
 use Rattle.hall_rule.specs.declared.view.Entry.{Entry}
 use Rattle.hall_rule.specs.declared.view.View.{View}
 use Rattle.hall_rule.proofs.Lists.{at_below, bool_cases, by_cases, not_true, total_set}
 use Rattle.hall_rule.proofs.Logs.{own_append, replay_append}
 use Rattle.hall_rule.proofs.Moved.{still_open, still_true}
+use Rattle.hall_rule.proofs.Named.{among_is, only_more}
 use Rattle.hall_rule.proofs.Numbers.{distinct_append, has_append, has_left, has_right}
 
 pub length_zero : {A : Type 0} (l : List A) → length l ≡ 0 → l ≡ []
@@ -224,6 +225,20 @@ module _ {P E T F : Type 0} (M : Meaning P E T F) where
     no_session : (q : ℕ) → has q v.sessions ≡ true → has q u.sessions ≡ true → ⊥
     no_session q a b = else (sym (s2.sessions q b) ∙ s1.sessions q a)
 
+    tied_both : Tied M.passes (id ∷ both.joined) both.sessions both.sole log
+    tied_both = record {
+      within = λ q h. ⊎_elim (λ a. s1.tied.within q a) (λ b. s2.tied.within q b) (has_append q v.sessions u.sessions h);
+      named = s1.tied.named;
+      alone = λ q is h. ⊎_elim
+          (λ a.
+          let t = among_is v.sessions v.sole q a in
+          only_more q (id ∷ v.joined) (id ∷ both.joined) log (λ i x. has_left i (id ∷ v.joined) (other ∷ u.joined) x) (s1.tied.alone q t.0 t.1))
+          (λ b.
+          let t = among_is u.sessions u.sole q b in
+          only_more q (other ∷ u.joined) (id ∷ both.joined) log (λ i x. has_right i (id ∷ v.joined) (other ∷ u.joined) x) (s2.tied.alone q t.0 t.1))
+          (has_append q (among v.sessions v.sole) (among u.sessions u.sole) is);
+    }
+
     sessions_both : OwnsSessions M log session id both
     sessions_both = record {
       sessions = λ q h. ⊎_elim
@@ -233,6 +248,9 @@ module _ {P E T F : Type 0} (M : Meaning P E T F) where
       distinct = distinct_append v.sessions u.sessions s1.distinct s2.distinct no_session;
       spared = spared_both;
       transactions = λ q h. still_open M laws log both q kept.lawful.begins goes_on kept.lawful.lawful (spared_both q h);
+      stood = λ q was h. s1.spared q was;
+      came = λ q was h. s2.spared q was;
+      tied = tied_both;
     }
 
     sessions_else : (j : ℕ) (x : View E) → j ≢ id → j ≢ other → OwnsSessions M log o.session j x → OwnsSessions M log session j x
@@ -241,6 +259,9 @@ module _ {P E T F : Type 0} (M : Meaning P E T F) where
       distinct = a.distinct;
       spared = a.spared;
       transactions = a.transactions;
+      stood = a.stood;
+      came = a.came;
+      tied = a.tied;
     }
 
     all_views : (B : View E → Type 0) → B both → B spent_view → ((j : ℕ) (x : View E) → get_elem? s.views j ≡ maybe.some x → B x) → (j : ℕ) (x : View E) → get_elem? views j ≡ maybe.some x → B x
@@ -273,6 +294,7 @@ module _ {P E T F : Type 0} (M : Meaning P E T F) where
               kept = parts.loaded;
               in_hand = parts.in_hand;
               out = parts.out;
+              ever = parts.ever;
             });
       };
       lawful = record {

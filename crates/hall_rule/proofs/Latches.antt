@@ -7,15 +7,16 @@ use prog.Atomic.{either}
 use Rattle.atomic_table.specs.Table.{Act, Allows, State, Valid, carried_after, stepped}
 use Rattle.atomic_table.specs.Table.Act.{keeps, takes, gives}
 use Rattle.atomic_table.proofs.Lists.{set_else, set_here}
-use Rattle.hall_rule.specs.EventLog.{Untouched, replay, replay_from}
+use Rattle.hall_rule.specs.EventLog.{Untouched, has, replay, replay_from}
 use Rattle.hall_rule.specs.HallInvariant.{AtHome, HallInvariant, Owners, Rule, hands_of, since, stage}
 use Rattle.hall_rule.specs.Meaning.{Laws, Meaning}
 use Rattle.hall_rule.specs.Views.{Draws, Gives, Homes, Latches, Learned, Loads, drawn, given, homed, loaded, staged}
 use Rattle.hall_rule.specs.declared.view.Entry.{Entry}
 use Rattle.hall_rule.specs.declared.view.View.{View}
-use Rattle.hall_rule.proofs.Lists.{by_cases, total_at}
+use Rattle.hall_rule.proofs.Lists.{by_cases, others_few, total_at}
 use Rattle.hall_rule.proofs.Logs.{replay_append, room_stands, since_whole, sound_after, untouched_same}
 use Rattle.hall_rule.proofs.Moved.{later_lawful, later_state}
+use Rattle.hall_rule.proofs.Numbers.{has_here, has_left, has_right}
 use Rattle.hall_rule.proofs.Quiet.{Stirs, stirred}
 
 pub stage_here : {E : Type 0} (v : View E) (k n : ℕ) → k < length v.stages → slice_index (set v.stages k n) k ≡ n
@@ -28,6 +29,23 @@ pub unset : (l : List ℕ) (i : ℕ) → set l i (get_or l i 0) ≡ l
 unset [] i = refl
 unset (x ∷ xs) zero = refl
 unset (x ∷ xs) (suc i) = ap (λ l. x ∷ l) (unset xs i)
+
+module _ {E : Type 0} where
+  -- What a view keeps while a slot goes out or home.
+  pub record Alike (v w : View E) : Type 0 where
+    pub joined : w.joined ≡ v.joined
+    pub sessions : w.sessions ≡ v.sessions
+    pub mine : w.mine ≡ v.mine
+    pub live : w.spent ≡ false
+    pub log : w.log ≡ v.log
+    pub stages : w.stages ≡ v.stages
+    pub heard : w.heard ≡ v.heard
+    pub before : w.before ≡ v.before
+    pub made : w.made ≡ v.made
+    pub stood : w.stood ≡ v.stood
+    pub came : w.came ≡ v.came
+    pub sole : w.sole ≡ v.sole
+    pub taken : w.taken ≡ v.taken
 
 module _ {P E T F : Type 0} (M : Meaning P E T F) (laws : Laws M) where
   -- What a view learns when it sees the whole log.
@@ -55,6 +73,12 @@ module _ {P E T F : Type 0} (M : Meaning P E T F) (laws : Laws M) where
         distinct = t.distinct;
         facts = kept.facts.each id v at live;
         room = room_stands M laws M.start log kept.lawful.begins kept.lawful.lawful;
+        stood = t.stood;
+        came = t.came;
+        tied = t.tied;
+        few = kept.hands.few id v at;
+        budget = let n = others_few s.views id v at kept.hands.few in let h = kept.hands.handed in let e = kept.hands.entries in omega (arith, n, h, e);
+        limit = kept.hands.limit;
       }
 
   module _ (slots id : ℕ) (v : View E) (k : ℕ) (live : v.spent ≡ false) (lt : k < length M.start) (room : k < length v.stages) where
@@ -73,6 +97,9 @@ module _ {P E T F : Type 0} (M : Meaning P E T F) (laws : Laws M) where
         record {
           joined = refl;
           sessions = refl;
+          stood = refl;
+          came = refl;
+          sole = refl;
           heard = refl;
           before = inl refl;
           mine = refl;
@@ -112,6 +139,7 @@ module _ {P E T F : Type 0} (M : Meaning P E T F) (laws : Laws M) where
                 let h = old.out i e in
                 let ne : i ≢ k = λ x. absurd (let z = subst (λ (y : ℕ). stage v y ≡ 2) x h in omega (arith, z, away)) in
                 else i ne ∙ h;
+            ever = λ i held. by_cases i k (has i (v.taken ++ k ∷ []) ≡ true) (λ e. has_right i v.taken (k ∷ []) (has_here i k [] e)) (λ ne. has_left i v.taken (k ∷ []) (old.ever i (λ z. held (else i ne ∙ z))));
           };
         }
 
@@ -154,6 +182,9 @@ module _ {P E T F : Type 0} (M : Meaning P E T F) (laws : Laws M) where
         record {
           joined = refl;
           sessions = refl;
+          stood = refl;
+          came = refl;
+          sole = refl;
           heard = refl;
           before = inr refl;
           mine = refl;
@@ -182,6 +213,7 @@ module _ {P E T F : Type 0} (M : Meaning P E T F) (laws : Laws M) where
                 let ne : i ≢ k = λ e. out (ap suc (sym e)) in
                 home i ne ∙ old.in_hand i (sym (else i ne) ∙ two) (λ e. absurd (omega (arith, e, none_out)));
             out = λ i e. let same : i ≡ k = omega (arith, e) in subst (λ (x : ℕ). stage (loaded v k log) x ≡ 2) (sym same) here;
+            ever = λ i held. old.ever i (before i (inr held));
           };
         }
 
@@ -204,23 +236,26 @@ module _ {P E T F : Type 0} (M : Meaning P E T F) (laws : Laws M) where
 
     -- One slot changes whose part is in the view's hand, and nothing else but what is out.
     shifting : (log : List (Entry E)) (o : Owners) (s : State (Option P) (View E)) (h : maybe.Option (Option P)) (w : View E) → HallInvariant M log o s → get_elem? s.views id ≡ maybe.some v
-        → stage v k ≡ 2 → (w.joined ≡ v.joined) × (w.sessions ≡ v.sessions) × (w.mine ≡ v.mine) × (w.spent ≡ false) × (w.log ≡ v.log) × (w.stages ≡ v.stages) × (w.heard ≡ v.heard) × (w.before ≡ v.before) × (w.made ≡ v.made)
+        → stage v k ≡ 2 → Alike v w
         → ((i : ℕ) → stage v i ≡ 2 → w.out ≢ suc i → get_elem? (set s.homes k h) i ≡ maybe.some (maybe.some None)) → ((i : ℕ) → w.out ≡ suc i → stage v i ≡ 2)
         → Stirs M log o o.part s s.words (set s.homes k h) id v w
     shifting log o s h w kept at two like in_hand out =
         let old = kept.at_home.each id v at live in
-        let stages : (i : ℕ) → stage w i ≡ stage v i = λ (i : ℕ). ap (λ (l : List ℕ). slice_index l i) like.5 in
+        let stages : (i : ℕ) → stage w i ≡ stage v i = λ (i : ℕ). ap (λ (l : List ℕ). slice_index l i) like.stages in
         let home : (i : ℕ) → stage v i ≢ 2 → get_elem? (set s.homes k h) i ≡ get_elem? s.homes i = λ (i : ℕ) ne. set_else s.homes k i h (λ e. ne (ap (stage v) e ∙ two)) in
         let before : (i : ℕ) → (stage v i ≢ 0) ⊎ (stage w i ≢ 0) → stage v i ≢ 0 = λ (i : ℕ) held. ⊎_elim (λ a. a) (λ a e. a (stages i ∙ e)) held in
         record {
-          joined = like.0;
-          sessions = like.1;
-          heard = like.6;
-          before = inl like.7;
-          mine = like.2;
-          made = like.8;
-          live = like.3;
-          seen = inl like.4;
+          joined = like.joined;
+          sessions = like.sessions;
+          stood = like.stood;
+          came = like.came;
+          sole = like.sole;
+          heard = like.heard;
+          before = inl like.before;
+          mine = like.mine;
+          made = like.made;
+          live = like.live;
+          seen = inl like.log;
           counted = refl;
           wide = refl;
           deep = length-set s.homes k h;
@@ -232,10 +267,11 @@ module _ {P E T F : Type 0} (M : Meaning P E T F) (laws : Laws M) where
           parts = record {
             holds = λ i held. old.holds i (λ z. held (stages i ∙ z));
             taken = λ i first. let x = old.taken i (sym (stages i) ∙ first) in let one = sym (stages i) ∙ first in (x.0, x.1, home i (λ e. absurd (omega (arith, e, one))) ∙ x.2);
-            loaded = λ i first. subst (λ (l : List (Entry E)). Untouched M i (replay M l) (Rattle.std.proofs.Common.drop (length l) log)) (sym like.4) (old.loaded i (sym (stages i) ∙ first));
-            kept = λ i first. subst (λ (l : List (Entry E)). Untouched M i (replay M l) (Rattle.std.proofs.Common.drop (length l) log)) (sym like.7) (old.kept i (sym (stages i) ∙ first));
+            loaded = λ i first. subst (λ (l : List (Entry E)). Untouched M i (replay M l) (Rattle.std.proofs.Common.drop (length l) log)) (sym like.log) (old.loaded i (sym (stages i) ∙ first));
+            kept = λ i first. subst (λ (l : List (Entry E)). Untouched M i (replay M l) (Rattle.std.proofs.Common.drop (length l) log)) (sym like.before) (old.kept i (sym (stages i) ∙ first));
             in_hand = λ i first away. in_hand i (sym (stages i) ∙ first) away;
             out = λ i e. stages i ∙ out i e;
+            ever = λ i held. subst (λ (l : List ℕ). has i l ≡ true) (sym like.taken) (old.ever i (λ z. held (stages i ∙ z)));
           };
         }
 
@@ -255,7 +291,7 @@ module _ {P E T F : Type 0} (M : Meaning P E T F) (laws : Laws M) where
             held.1,
             subst (λ (ws : List ℕ). HallInvariant M log held.1 record { words = ws; homes = set s.homes k h; views = set s.views id (homed v) }) (sym (unset s.words 0))
                 (stirred M laws log held.1 held.1.part s s.words (set s.homes k h) id v (homed v) kept at live
-                (shifting log held.1 s h (homed v) kept at two (refl, refl, refl, live, refl, refl, refl, refl, refl)
+                (shifting log held.1 s h (homed v) kept at two (record { joined = refl; sessions = refl; mine = refl; live = live; log = refl; stages = refl; heard = refl; before = refl; made = refl; stood = refl; came = refl; sole = refl; taken = refl })
                 (λ i first away. by_cases i k (get_elem? (set s.homes k h) i ≡ maybe.some (maybe.some None))
                 (λ e. subst (λ (x : ℕ). get_elem? (set s.homes k h) x ≡ maybe.some (maybe.some None)) (sym e) (set_here s.homes k h (in_slots s log held.1 kept)))
                 (λ ne. set_else s.homes k i h ne ∙ (kept.at_home.each id v at live).in_hand i first (λ e. ne (let x : suc i ≡ suc k = sym e ∙ is_out in omega (arith, x)))))
@@ -277,7 +313,7 @@ module _ {P E T F : Type 0} (M : Meaning P E T F) (laws : Laws M) where
             held.1,
             subst (λ (ws : List ℕ). HallInvariant M log held.1 record { words = ws; homes = set s.homes k h; views = set s.views id (drawn v k) }) (sym (unset s.words (suc k)))
                 (stirred M laws log held.1 held.1.part s s.words (set s.homes k h) id v (drawn v k) kept at live
-                (shifting log held.1 s h (drawn v k) kept at two (refl, refl, refl, live, refl, refl, refl, refl, refl)
+                (shifting log held.1 s h (drawn v k) kept at two (record { joined = refl; sessions = refl; mine = refl; live = live; log = refl; stages = refl; heard = refl; before = refl; made = refl; stood = refl; came = refl; sole = refl; taken = refl })
                 (λ i first away.
                 let ne : i ≢ k = λ e. away (ap suc (sym e)) in
                 set_else s.homes k i h ne ∙ (kept.at_home.each id v at live).in_hand i first (λ e. absurd (omega (arith, e, none_out))))
@@ -304,6 +340,9 @@ module _ {P E T F : Type 0} (M : Meaning P E T F) (laws : Laws M) where
         record {
           joined = refl;
           sessions = refl;
+          stood = refl;
+          came = refl;
+          sole = refl;
           heard = refl;
           before = inl refl;
           mine = refl;
@@ -337,6 +376,7 @@ module _ {P E T F : Type 0} (M : Meaning P E T F) (laws : Laws M) where
                 let ne : i ≢ k = apart i (λ z. absurd (omega (arith, z, first))) in
                 home i ne ∙ old.in_hand i (sym (else i ne) ∙ first) (λ e. ne (let x : suc i ≡ suc k = sym e ∙ is_out in omega (arith, x)));
             out = λ i e. absurd (omega (arith, e));
+            ever = λ i held. old.ever i (before i (inr held));
           };
         }
 

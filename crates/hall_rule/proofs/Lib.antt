@@ -5,6 +5,7 @@ pub mod Latches
 pub mod Lists
 pub mod Logs
 pub mod Moved
+pub mod Named
 pub mod Numbers
 pub mod OfParts
 pub mod Opens

@@ -1,11 +1,14 @@
 -- Lists of views, of which one changes.
-use Rattle.std.proofs.Common.{◌≡◌, ◌≢◌, ℕ, zero, suc, ◌+◌, ◌<◌, Bool, true, false, List, [], ◌∷◌, ◌++◌, length, set, refl, sym, ap, subst, ⊎_elim, arith}
+use Rattle.std.proofs.Common.{◌≡◌, ◌≢◌, ℕ, zero, suc, ◌+◌, ◌*◌, ◌^◌, ◌<◌, ◌≤◌, Bool, true, false, List, [], ◌∷◌, ◌++◌, Option, None, Some, length, set, refl, sym, ap, subst, ◌∙◌, ⊎_elim, true≢false, arith}
 use mathlib.Core.Option.{some, some-injective, some-ne-none}
 use mathlib.Core.Logic.{dite}
 use native.Mathlib.Decide.{ℕ_discrete}
 use lib.ListN.{get_elem?}
 use Rattle.atomic_table.proofs.Lists.{at_set}
-use Rattle.hall_rule.specs.HallInvariant.{EachLive, total_of}
+use Rattle.hall_rule.specs.HallInvariant.{EachLive, entries_of, hands_of, total_of}
+use Rattle.std.specs.Option.{is_some}
+use Rattle.std.specs.Prelude.{slice_get}
+use Rattle.hall_rule.specs.Hands.{Holds}
 use Rattle.hall_rule.specs.declared.view.View.{View}
 
 pub by_cases : (n m : ℕ) (Q : Type 0) → (n ≡ m → Q) → (n ≢ m → Q) → Q
@@ -41,8 +44,39 @@ module _ {E : Type 0} where
   total_at f (u ∷ us) zero v e = (total_of f us, let same : f u ≡ f v = ap f (some-injective u v e) in omega (arith, same))
   total_at f (u ∷ us) (suc id) v e = let h = total_at f us id v e in (f u + h.0, omega (arith, h.1))
 
+  -- As each view has few entries for each hand, so have all together.
+  pub bounded : (views : List (View E)) → ((j : ℕ) (v : View E) → get_elem? views j ≡ some v → entries_of v ≤ 2 ^ 56 * hands_of v) → total_of entries_of views ≤ 2 ^ 56 * total_of hands_of views
+  bounded [] few = omega arith
+  bounded (v ∷ vs) few = let a = few 0 v refl in let b = bounded vs (λ j u at. few (suc j) u at) in omega (arith, a, b)
+
+  -- and all but one
+  pub others_few : (views : List (View E)) (id : ℕ) (v : View E) → get_elem? views id ≡ some v → ((j : ℕ) (u : View E) → get_elem? views j ≡ some u → entries_of u ≤ 2 ^ 56 * hands_of u)
+      → total_of entries_of views + 2 ^ 56 * hands_of v ≤ 2 ^ 56 * total_of hands_of views + entries_of v
+  others_few [] id v e few = absurd (some-ne-none v (sym e))
+  others_few (u ∷ us) zero v e few =
+      let same : u ≡ v = some-injective u v e in
+      let a : entries_of u ≡ entries_of v = ap entries_of same in
+      let c : hands_of u ≡ hands_of v = ap hands_of same in
+      let b = bounded us (λ j x at. few (suc j) x at) in
+      omega (arith, a, b, c)
+  others_few (u ∷ us) (suc id) v e few = let a = few 0 u refl in let b = others_few us id v e (λ j x at. few (suc j) x at) in omega (arith, a, b)
+
   -- what holds of each view after one has changed: of the others by what held of them, of that one by itself
   pub each_set : (views : List (View E)) (id : ℕ) (w : View E) (A B : ℕ → View E → Type 0) → EachLive A views
       → ((j : ℕ) (u : View E) → j ≢ id → get_elem? views j ≡ some u → u.spent ≡ false → A j u → B j u) → (w.spent ≡ false → B id w) → EachLive B (set views id w)
   each_set views id w A B each others here j u at live =
       ⊎_elim (λ t. subst (λ i. B i u) (sym t.0) (subst (λ x. B id x) t.1 (here (subst (λ x. x.spent ≡ false) (sym t.1) live)))) (λ t. others j u t.0 t.1 live (each j u t.1 live)) (at_set views id j w u at)
+
+module _ {P : Type 0} where
+  pub no_place : (h : List (Option P)) (k : ℕ) → length h ≤ k → ¬ Holds h k
+  no_place [] k le held = absurd (let e : None ≡ Some (Some held.0) = held.1 in cc)
+  no_place (x ∷ xs) zero le held = absurd (omega (arith, le))
+  no_place (x ∷ xs) (suc k) le held = no_place xs k (omega (arith, le)) held
+
+  pub is_there : (o : Option P) → is_some o ≡ true → (x : P) × (o ≡ Some x)
+  is_there None e = absurd (true≢false (sym e))
+  is_there (Some x) e = (x, refl)
+
+  pub none_there : (h : List (Option P)) (k : ℕ) (o : Option P) → slice_get h k ≡ Some o → is_some o ≡ false → ¬ Holds h k
+  none_there h k None at none' held = absurd (let e : Some None ≡ Some (Some held.0) = sym at ∙ held.1 in cc)
+  none_there h k (Some x) at none' held = true≢false none'

@@ -4,6 +4,7 @@ use Rattle.std.specs.Prelude.{slice_get}
 use Rattle.hall_rule.specs.EventLog.{LawfulFrom, MadeBelow, NamesOnly, Spares, Untouched, after, has, own, replay_from}
 use Rattle.hall_rule.specs.HallInvariant.{GoesOn, since}
 use Rattle.hall_rule.specs.Meaning.{Laws, Meaning}
+use Rattle.hall_rule.specs.Views.{Stays}
 use Rattle.hall_rule.specs.declared.view.Entry.{Entry}
 use Rattle.hall_rule.specs.declared.view.View.{View}
 
@@ -130,6 +131,22 @@ module _ {P E T F : Type 0} (M : Meaning P E T F) where
     fact_stands f s [] ok a h = h
     fact_stands f s (e ∷ es) ok a h =
         fact_stands f (after M e s) es (sound_next e s ok a.0 a.1) a.2 (after_is (M.fact f) e s h (laws.outlives e.event f s ok a.0 a.1 h))
+
+    -- What is spared since an earlier log stays as that log leaves it.
+    pub stays : (sessions : List ℕ) (earlier later : List (Entry E)) → M.sound M.start → later ≡ earlier ++ drop (length earlier) later → LawfulFrom M M.start later → ((q : ℕ) → has q sessions ≡ true → Spares M q (drop (length earlier) later))
+        → Stays M sessions earlier later
+    stays sessions earlier later ok on a spared =
+        let rest : List (Entry E) = drop (length earlier) later in
+        let b : LawfulFrom M M.start (earlier ++ rest) = subst (LawfulFrom M M.start) on a in
+        let state : replay_from M M.start later ≡ replay_from M (replay_from M M.start earlier) rest = ap (replay_from M M.start) on ∙ replay_append M.start earlier rest in
+        let sound : M.sound (replay_from M M.start earlier) = sound_after M.start earlier ok (lawful_front M.start earlier rest b) in
+        let lawful : LawfulFrom M (replay_from M M.start earlier) rest = lawful_rest M.start earlier rest b in
+        record {
+          goes_on = on;
+          spared = spared;
+          transactions = λ q h. ap (λ t. M.transaction t q) state ∙ transaction_stands q (replay_from M M.start earlier) rest sound lawful (spared q h);
+          facts = λ f h. subst (M.fact f) (sym state) (fact_stands f (replay_from M M.start earlier) rest sound lawful h);
+        }
 
     pub room_stands : (s : List P) (es : List (Entry E)) → M.sound s → LawfulFrom M s es → length (replay_from M s es) ≡ length s
     room_stands s [] ok a = refl

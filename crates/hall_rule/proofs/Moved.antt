@@ -5,11 +5,12 @@ use mathlib.Core.Option as maybe
 use lib.ListN.{get_elem?}
 use Rattle.atomic_table.specs.Table.{State}
 use Rattle.atomic_table.proofs.Lists.{at_set, set_here, set_else}
-use Rattle.hall_rule.specs.EventLog.{Distinct, LawfulFrom, MadeBelow, NamesOnly, Spares, Untouched, has, own, replay, replay_from}
+use Rattle.hall_rule.specs.EventLog.{Distinct, LawfulFrom, MadeBelow, NamesOnly, Spares, Tied, Untouched, has, own, replay, replay_from}
 use Rattle.hall_rule.specs.HallInvariant.{AtHome, GoesOn, HallInvariant, Hands, HoldsParts, LastingFacts, LawfulLog, OneLog, Owners, OwnsSessions, PartsAtHome, SeesLog, entries_of, hands_of, since, stage}
 use Rattle.hall_rule.specs.Meaning.{Laws, Meaning}
 use Rattle.hall_rule.specs.declared.view.Entry.{Entry}
 use Rattle.hall_rule.specs.declared.view.View.{View}
+use Rattle.hall_rule.proofs.Named.{UnderThese, named_append, named_by, only_append, only_mine, only_others}
 use Rattle.hall_rule.proofs.Lists.{at_below, by_cases, each_set, not_true, total_set}
 use Rattle.hall_rule.proofs.Logs.{AllBy, begins_more, fact_stands, goes_on_more, has_head, lawful_front, lawful_rest, made_append, made_by, own_all, own_append, own_none, replay_append, rest_is, since_more, sound_after, spares_append, spares_others, transaction_stands, untouched_append, untouched_same}
 
@@ -30,6 +31,8 @@ module _ {P E T F : Type 0} (M : Meaning P E T F) where
     pub live : w.spent ≡ false
     pub by : AllBy id more
     pub names : NamesOnly M v.sessions more
+    pub under : UnderThese v.sessions more
+    pub sole : w.sole ≡ v.sole
     pub lawful : LawfulFrom M M.start (log ++ more)
     pub goes_on : GoesOn w (log ++ more)
     pub mine : w.mine ≡ v.mine ++ more
@@ -37,6 +40,8 @@ module _ {P E T F : Type 0} (M : Meaning P E T F) where
     pub seen : own (id ∷ v.joined) w.log ≡ v.mine ++ more
     pub few : length v.mine + length more ≤ 2 ^ 56 * hands_of v
     pub spared : (q : ℕ) → has q v.sessions ≡ true → Spares M q (since w (log ++ more))
+    pub stood : (q : ℕ) → has q w.stood ≡ true → has q v.sessions ≡ true → Spares M q (Rattle.std.proofs.Common.drop (length w.before) (log ++ more))
+    pub came : (q : ℕ) → has q w.came ≡ true → has q v.sessions ≡ true → Spares M q (Rattle.std.proofs.Common.drop (length w.heard) (log ++ more))
     pub counted : slice_index words 0 ≡ length (log ++ more)
     pub wide : length words ≡ length s.words
     pub deep : length homes ≡ length s.homes
@@ -96,11 +101,35 @@ module _ {P E T F : Type 0} (M : Meaning P E T F) where
               numbers = λ i h. ((l.numbers i h).0, let b = (l.numbers i h).1 in let n : length (set s.views id w) ≡ length s.views = length-set s.views id w in omega (arith, b, n));
             }
 
-        pub other_spared : (q : ℕ) → has q u.sessions ≡ true → Spares M q (since u (log ++ more))
-        other_spared q h =
-            let l = kept.one_log.each j u there alive in
+        -- no entry that the step makes is of another's session
+        pub spared_from : (q : ℕ) → has q u.sessions ≡ true → (l : List (Entry E)) → log ≡ l ++ Rattle.std.proofs.Common.drop (length l) log → Spares M q (Rattle.std.proofs.Common.drop (length l) log) → Spares M q (Rattle.std.proofs.Common.drop (length l) (log ++ more))
+        spared_from q h l on spared =
             let a : has q v.sessions ≢ true = λ mine. else (sym ((kept.lawful.each j u there alive).sessions q h) ∙ (kept.lawful.each id v at live).sessions q mine) in
-            subst (Spares M q) (sym (since_more u log more l.goes_on)) (spares_append M q (since u log) more ((kept.lawful.each j u there alive).spared q h) (spares_others M q v.sessions more m.names a))
+            let rest : List (Entry E) = Rattle.std.proofs.Common.drop (length l) log in
+            subst (Spares M q) (sym (rest_is l (rest ++ more) (log ++ more) (ap (λ x. x ++ more) on ∙ append_assoc l rest more))) (spares_append M q rest more spared (spares_others M q v.sessions more m.names a))
+
+        other_sessions : OwnsSessions M log o.session j u
+        other_sessions = kept.lawful.each j u there alive
+
+        -- nor stands under one
+        pub other_tied : Tied M.passes (j ∷ u.joined) u.sessions u.sole (log ++ more)
+        other_tied =
+            let t = other_sessions.tied in
+            record {
+              within = t.within;
+              named = named_append M.passes log more t.named (named_by M.passes v.sessions more (kept.lawful.each id v at live).tied.within m.under);
+              alone = λ q is h. only_append q (j ∷ u.joined) log more (t.alone q is h)
+                  (only_others q (j ∷ u.joined) v.sessions more (λ mine. else (sym (other_sessions.sessions q h) ∙ (kept.lawful.each id v at live).sessions q mine)) m.under);
+            }
+
+        pub other_spared : (q : ℕ) → has q u.sessions ≡ true → Spares M q (since u (log ++ more))
+        other_spared q h = spared_from q h u.log (kept.one_log.each j u there alive).goes_on (other_sessions.spared q h)
+
+        pub other_stood : (q : ℕ) → has q u.stood ≡ true → has q u.sessions ≡ true → Spares M q (Rattle.std.proofs.Common.drop (length u.before) (log ++ more))
+        other_stood q was h = spared_from q h u.before (kept.one_log.each j u there alive).before (other_sessions.stood q was h)
+
+        pub other_came : (q : ℕ) → has q u.came ≡ true → has q u.sessions ≡ true → Spares M q (Rattle.std.proofs.Common.drop (length u.heard) (log ++ more))
+        other_came q was h = spared_from q h u.heard (kept.one_log.each j u there alive).heard (other_sessions.came q was h)
 
         -- a part that another holds is none that this step concerns
         not_before : (k : ℕ) → stage u k ≢ 0 → stage v k ≡ 0
@@ -139,6 +168,7 @@ module _ {P E T F : Type 0} (M : Meaning P E T F) where
                   (untouched_append M k (replay M u.before) (Rattle.std.proofs.Common.drop (length u.before) log) more (old.kept k two) rest);
               in_hand = λ k two away. let held : stage u k ≢ 0 = λ e. absurd (omega (arith, two, e)) in (stays k held).1 ∙ old.in_hand k two away;
               out = old.out;
+              ever = old.ever;
             }
 
       own_log : SeesLog M (log ++ more) o.number (length (set s.views id w)) id w
@@ -220,21 +250,39 @@ module _ {P E T F : Type 0} (M : Meaning P E T F) where
 
       module _ (laws : Laws M) where
         -- Whatever a view that has seen no more than the log knows of its own sessions stands.
-        owns : (j : ℕ) (u : View E) → GoesOn u (log ++ more) → ((q : ℕ) → has q u.sessions ≡ true → o.session q ≡ j) → Distinct u.sessions → ((q : ℕ) → has q u.sessions ≡ true → Spares M q (since u (log ++ more))) → OwnsSessions M (log ++ more) o.session j u
-        owns j u on sessions distinct spared = record {
+        owns : (j : ℕ) (u : View E) → GoesOn u (log ++ more) → ((q : ℕ) → has q u.sessions ≡ true → o.session q ≡ j) → Distinct u.sessions → ((q : ℕ) → has q u.sessions ≡ true → Spares M q (since u (log ++ more)))
+            → ((q : ℕ) → has q u.stood ≡ true → has q u.sessions ≡ true → Spares M q (Rattle.std.proofs.Common.drop (length u.before) (log ++ more))) → ((q : ℕ) → has q u.came ≡ true → has q u.sessions ≡ true → Spares M q (Rattle.std.proofs.Common.drop (length u.heard) (log ++ more)))
+            → Tied M.passes (j ∷ u.joined) u.sessions u.sole (log ++ more) → OwnsSessions M (log ++ more) o.session j u
+        owns j u on sessions distinct spared stood came tied = record {
           sessions = sessions;
           distinct = distinct;
           spared = spared;
           transactions = λ q h. still_open laws (log ++ more) u q kept.lawful.begins on m.lawful (spared q h);
+          stood = stood;
+          came = came;
+          tied = tied;
         }
+
+        own_tied : Tied M.passes (id ∷ w.joined) w.sessions w.sole (log ++ more)
+        own_tied =
+            let t = (kept.lawful.each id v at live).tied in
+            let tied : Tied M.passes (id ∷ v.joined) v.sessions v.sole (log ++ more) = record {
+              within = t.within;
+              named = named_append M.passes log more t.named (named_by M.passes v.sessions more t.within m.under);
+              alone = λ q is h. only_append q (id ∷ v.joined) log more (t.alone q is h) (only_mine q (id ∷ v.joined) id more (has_head id v.joined) m.by);
+            } in
+            subst (λ (l : List ℕ). Tied M.passes (id ∷ l) w.sessions w.sole (log ++ more)) (sym m.joined)
+            (subst (λ (l : List ℕ). Tied M.passes (id ∷ v.joined) l w.sole (log ++ more)) (sym m.sessions)
+            (subst (λ (l : List ℕ). Tied M.passes (id ∷ v.joined) v.sessions l (log ++ more)) (sym m.sole) tied))
 
         lawful : LawfulLog M (log ++ more) (with_parts o part) after_move
         lawful = record {
           begins = kept.lawful.begins;
           lawful = m.lawful;
           each = each_set s.views id w (OwnsSessions M log o.session) (OwnsSessions M (log ++ more) o.session) kept.lawful.each
-              (λ j u else there alive old. owns j u (other_log j u else there alive).goes_on old.sessions old.distinct (other_spared j u else there alive))
-              (λ _. owns id w m.goes_on (λ q h. (kept.lawful.each id v at live).sessions q (subst (λ qs. has q qs ≡ true) m.sessions h)) (subst Distinct (sym m.sessions) (kept.lawful.each id v at live).distinct) (λ q h. m.spared q (subst (λ qs. has q qs ≡ true) m.sessions h)));
+              (λ j u else there alive old. owns j u (other_log j u else there alive).goes_on old.sessions old.distinct (other_spared j u else there alive) (other_stood j u else there alive) (other_came j u else there alive) (other_tied j u else there alive))
+              (λ _. owns id w m.goes_on (λ q h. (kept.lawful.each id v at live).sessions q (subst (λ qs. has q qs ≡ true) m.sessions h)) (subst Distinct (sym m.sessions) (kept.lawful.each id v at live).distinct) (λ q h. m.spared q (subst (λ qs. has q qs ≡ true) m.sessions h))
+              (λ q was h. m.stood q was (subst (λ qs. has q qs ≡ true) m.sessions h)) (λ q was h. m.came q was (subst (λ qs. has q qs ≡ true) m.sessions h)) own_tied);
         }
 
         facts : LastingFacts M (log ++ more) after_move

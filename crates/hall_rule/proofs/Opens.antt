@@ -34,7 +34,11 @@ map-length : {A B : Type 0} (f : A → B) (xs : List A) → length (map f xs) �
 map-length f [] = refl
 map-length f (x ∷ xs) = let h = map-length f xs in omega (arith, h)
 
-below_to : (n q : ℕ) → has q (sessions_to n) ≡ true → q ≤ n
+pub above_to : (n q : ℕ) → has q (sessions_to n) ≡ true → 0 < q
+above_to zero q h = absurd (true≢false (sym h))
+above_to (suc n) q h = ⊎_elim (λ a. above_to n q a) (λ b. ⊎_elim (λ e. omega (arith, e)) (λ z. absurd (true≢false (sym z))) (has_cons q (suc n) [] b)) (has_append q (sessions_to n) (suc n ∷ []) h)
+
+pub below_to : (n q : ℕ) → has q (sessions_to n) ≡ true → q ≤ n
 below_to zero q h = absurd (true≢false (sym h))
 below_to (suc n) q h = ⊎_elim (λ a. let r = below_to n q a in omega (arith, r)) (λ b. ⊎_elim (λ e. omega (arith, e)) (λ z. absurd (true≢false (sym z))) (has_cons q (suc n) [] b)) (has_append q (sessions_to n) (suc n ∷ []) h)
 
@@ -84,12 +88,13 @@ module _ {P E T F : Type 0} (M : Meaning P E T F) (begins : M.sound M.start) (so
         kept = λ k two. absurd (let z = none_held k in omega (arith, z, two));
         in_hand = λ k two. absurd (let z = none_held k in omega (arith, z, two));
         out = λ k e. absurd (omega (arith, e));
+        ever = λ k held. absurd (held (none_held k));
       }) j v there;
     };
     lawful = record {
       begins = begins;
       lawful = tt;
-      each = λ j v there live. alone (OwnsSessions M [] owners.session) (record { sessions = λ q h. refl; distinct = sessions_to-distinct M.passes; spared = λ q h. tt; transactions = λ q h. refl }) j v there;
+      each = λ j v there live. alone (OwnsSessions M [] owners.session) (record { sessions = λ q h. refl; distinct = sessions_to-distinct M.passes; spared = λ q h. tt; transactions = λ q h. refl; stood = λ q was h. tt; came = λ q was h. tt; tied = record { within = λ q h. (above_to M.passes q h, below_to M.passes q h); named = tt; alone = λ q is h. tt } }) j v there;
     };
     facts = record { each = λ j v there live. alone (λ i u. (f : F) → M.fact f (replay M u.log) → M.fact f (replay M [])) (λ f h. h) j v there };
     hands = record {

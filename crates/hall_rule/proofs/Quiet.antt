@@ -5,7 +5,7 @@ use mathlib.Core.Option as maybe
 use lib.ListN.{get_elem?}
 use Rattle.atomic_table.specs.Table.{State}
 use Rattle.hall_rule.specs.EventLog.{LawfulFrom, Spares, has, own}
-use Rattle.hall_rule.specs.HallInvariant.{AtHome, GoesOn, HallInvariant, HoldsParts, Owners, hands_of, since, stage}
+use Rattle.hall_rule.specs.HallInvariant.{AtHome, GoesOn, HallInvariant, HoldsParts, Owners, OwnsSessions, hands_of, since, stage}
 use Rattle.hall_rule.specs.Meaning.{Laws, Meaning}
 use Rattle.hall_rule.specs.declared.view.Entry.{Entry}
 use Rattle.hall_rule.specs.declared.view.View.{View}
@@ -17,6 +17,9 @@ module _ {P E T F : Type 0} (M : Meaning P E T F) where
   pub record Stirs (log : List (Entry E)) (o : Owners) (part : ℕ → ℕ) (s : State (Option P) (View E)) (words : List ℕ) (homes : Homes M) (id : ℕ) (v w : View E) : Type 0 where
     pub joined : w.joined ≡ v.joined
     pub sessions : w.sessions ≡ v.sessions
+    pub stood : w.stood ≡ v.stood
+    pub came : w.came ≡ v.came
+    pub sole : w.sole ≡ v.sole
     pub heard : w.heard ≡ v.heard
     pub before : (w.before ≡ v.before) ⊎ (w.before ≡ log)
     pub mine : w.mine ≡ v.mine
@@ -58,6 +61,17 @@ module _ {P E T F : Type 0} (M : Meaning P E T F) where
         (λ e. subst (λ l. Spares M x (Rattle.std.proofs.Common.drop (length l) log)) (sym e) ((kept.lawful.each id v at live).spared x h))
         (λ e. subst (Spares M x) (sym (since_whole w log e)) tt) q.seen
 
+    sessions : OwnsSessions M log o.session id v
+    sessions = kept.lawful.each id v at live
+
+    stood : (x : ℕ) → has x w.stood ≡ true → has x v.sessions ≡ true → Spares M x (Rattle.std.proofs.Common.drop (length w.before) log)
+    stood x was h = ⊎_elim
+        (λ e. subst (λ l. Spares M x (Rattle.std.proofs.Common.drop (length l) log)) (sym e) (sessions.stood x (subst (λ l. has x l ≡ true) q.stood was) h))
+        (λ e. subst (Spares M x) (sym (rest_is w.before [] log (sym e ∙ sym (append-nil w.before)))) tt) q.before
+
+    came : (x : ℕ) → has x w.came ≡ true → has x v.sessions ≡ true → Spares M x (Rattle.std.proofs.Common.drop (length w.heard) log)
+    came x was h = subst (λ l. Spares M x (Rattle.std.proofs.Common.drop (length l) log)) (sym q.heard) (sessions.came x (subst (λ l. has x l ≡ true) q.came was) h)
+
     owed : Moves M log [] o part s words homes id v w
     owed =
         let nil : log ++ [] ≡ log = append-nil log in
@@ -69,6 +83,8 @@ module _ {P E T F : Type 0} (M : Meaning P E T F) where
           live = q.live;
           by = tt;
           names = tt;
+          under = tt;
+          sole = q.sole;
           lawful = subst (LawfulFrom M M.start) (sym nil) kept.lawful.lawful;
           goes_on = subst (GoesOn w) (sym nil) goes_on;
           mine = q.mine ∙ sym (append-nil v.mine);
@@ -76,6 +92,8 @@ module _ {P E T F : Type 0} (M : Meaning P E T F) where
           seen = seen;
           few = let f = kept.hands.few id v at in omega (arith, f);
           spared = λ x h. subst (λ l. Spares M x (since w l)) (sym nil) (spared x h);
+          stood = λ x was h. subst (λ l. Spares M x (Rattle.std.proofs.Common.drop (length w.before) l)) (sym nil) (stood x was h);
+          came = λ x was h. subst (λ l. Spares M x (Rattle.std.proofs.Common.drop (length w.heard) l)) (sym nil) (came x was h);
           counted = q.counted ∙ (kept.one_log.counted ∙ ap length (sym nil));
           wide = q.wide;
           deep = q.deep;

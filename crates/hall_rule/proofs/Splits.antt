@@ -5,12 +5,13 @@ use mathlib.Core.Option as maybe
 use lib.ListN.{get_elem?}
 use Rattle.atomic_table.specs.Table.{Splits, State}
 use Rattle.atomic_table.proofs.Lists.{at_longer, at_set, set_else, set_here}
-use Rattle.hall_rule.specs.EventLog.{Distinct, MadeBelow, has, own, replay}
+use Rattle.hall_rule.specs.EventLog.{Distinct, MadeBelow, has, is_unnamed, own, replay}
 use Rattle.hall_rule.specs.HallInvariant.{EachLive, HallInvariant, HoldsParts, Owners, OwnsSessions, Rule, SeesLog, entries_of, hands_of, since, stage}
 use Rattle.hall_rule.specs.Meaning.{Meaning}
 use Rattle.hall_rule.specs.Views.{dealt, greatest, newcomer, without}
 use Rattle.hall_rule.specs.declared.view.Entry.{Entry}
 use Rattle.hall_rule.specs.declared.view.View.{View}
+use Rattle.hall_rule.proofs.Named.{fresh_is, none_only}
 use Rattle.hall_rule.proofs.Lists.{at_below, by_cases, each_set, not_true, total_set, total_snoc}
 use Rattle.hall_rule.proofs.Logs.{made_more}
 use Rattle.hall_rule.proofs.Numbers.{greatest_in, has_cons, has_without, without_distinct, without_gone, without_length}
@@ -121,6 +122,9 @@ module _ {P E T F : Type 0} (M : Meaning P E T F) (log : List (Entry E)) (o : Ow
     distinct = a.distinct;
     spared = a.spared;
     transactions = a.transactions;
+    stood = a.stood;
+    came = a.came;
+    tied = a.tied;
   }
 
   all_views : (B : View E → Type 0) → B left → B right → ((j : ℕ) (u : View E) → get_elem? s.views j ≡ maybe.some u → B u) → (j : ℕ) (u : View E) → get_elem? views j ≡ maybe.some u → B u
@@ -143,7 +147,7 @@ module _ {P E T F : Type 0} (M : Meaning P E T F) (log : List (Entry E)) (o : Ow
       free = kept.at_home.free;
       latched = latched;
       each = each (HoldsParts M log o.part s.words s.homes) (HoldsParts M log o.part s.words s.homes) kept.at_home.each (λ j u ne there alive h. h)
-          (record { holds = parts.holds; taken = parts.taken; loaded = parts.loaded; kept = parts.kept; in_hand = parts.in_hand; out = parts.out })
+          (record { holds = parts.holds; taken = parts.taken; loaded = parts.loaded; kept = parts.kept; in_hand = parts.in_hand; out = parts.out; ever = parts.ever })
           (record {
             holds = λ k held. absurd (held (none_held k));
             taken = λ k one. absurd (let z = none_held k in omega (arith, z, one));
@@ -151,6 +155,7 @@ module _ {P E T F : Type 0} (M : Meaning P E T F) (log : List (Entry E)) (o : Ow
             kept = λ k two. absurd (let z = none_held k in omega (arith, z, two));
             in_hand = λ k two. absurd (let z = none_held k in omega (arith, z, two));
             out = λ k e. absurd (omega (arith, e));
+            ever = λ k held. absurd (held (none_held k));
           });
     };
     lawful = record {
@@ -162,12 +167,22 @@ module _ {P E T F : Type 0} (M : Meaning P E T F) (log : List (Entry E)) (o : Ow
             distinct = distinct_left;
             spared = λ q h. sessions.spared q (in_left q h);
             transactions = λ q h. sessions.transactions q (in_left q h);
+            stood = λ q was h. sessions.stood q was (in_left q h);
+            came = λ q was h. sessions.came q was (in_left q h);
+            tied = record { within = λ q h. sessions.tied.within q (in_left q h); named = sessions.tied.named; alone = λ q is h. sessions.tied.alone q is (in_left q h) };
           })
           (record {
             sessions = λ q h. ap (λ c. cond c n (o.session q)) h;
             distinct = distinct_right;
             spared = λ q h. sessions.spared q (in_right q h);
             transactions = λ q h. sessions.transactions q (in_right q h);
+            stood = λ q none' h. absurd (true≢false (sym none'));
+            came = λ q none' h. absurd (true≢false (sym none'));
+            tied = record {
+              within = λ q h. sessions.tied.within q (in_right q h);
+              named = sessions.tied.named;
+              alone = λ q is h. let f = fresh_is v rs q is in none_only q (id ∷ v.joined) (n ∷ []) log (sessions.tied.alone q f.0 (in_right q h)) (ap (is_unnamed q) mine.mine ∙ f.1);
+            };
           });
     };
     facts = record {

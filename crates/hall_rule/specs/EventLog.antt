@@ -1,5 +1,5 @@
 -- The log of events, and the state that it leaves.
-use Rattle.std.specs.Prelude.{◌≡◌, ◌≢◌, ℕ, ◌<◌, ◌==◌, ◌||◌, Bool, true, false, cond, List, [], ◌∷◌, Some, slice_get}
+use Rattle.std.specs.Prelude.{◌≡◌, ◌≢◌, ℕ, ◌<◌, ◌≤◌, ◌==◌, ◌||◌, ◌&&◌, not, Bool, true, false, cond, List, [], ◌∷◌, Some, slice_get}
 use Rattle.hall_rule.specs.Meaning.{Meaning}
 use Rattle.hall_rule.specs.declared.view.Entry.{Entry}
 
@@ -17,6 +17,33 @@ module _ {E : Type 0} where
   abbrev pub own : List ℕ → List (Entry E) → List (Entry E)
   own passes [] = []
   own passes (e ∷ es) = cond (has e.pass passes) (e ∷ own passes es) (own passes es)
+
+  -- The entries that stand under a session.
+  abbrev pub under : ℕ → List (Entry E) → List (Entry E)
+  under q [] = []
+  under q (e ∷ es) = cond (e.session == q) (e ∷ under q es) (under q es)
+
+  -- No entry stands under the session q.
+  abbrev pub is_unnamed : ℕ → List (Entry E) → Bool
+  is_unnamed q [] = true
+  is_unnamed q (e ∷ es) = not (e.session == q) && is_unnamed q es
+
+  -- Each entry stands under a session from 1 to n.
+  abbrev pub NamedTo : ℕ → List (Entry E) → Type 0
+  NamedTo n [] = Unit {0}
+  NamedTo n (e ∷ es) = (0 < e.session) × (e.session ≤ n) × NamedTo n es
+
+  -- Each entry under the session q was made by one of these passes.
+  abbrev pub OnlyBy : ℕ → List ℕ → List (Entry E) → Type 0
+  OnlyBy q passes [] = Unit {0}
+  OnlyBy q passes (e ∷ es) = (e.session ≡ q → has e.pass passes ≡ true) × OnlyBy q passes es
+
+  -- How the entries of a log are tied to a pass with these numbers and sessions: sessions are counted from 1 to n, and
+  -- under those of its sessions that are in `sole` no other pass made an entry.
+  pub record Tied (n : ℕ) (passes sessions sole : List ℕ) (log : List (Entry E)) : Type 0 where
+    pub within : (q : ℕ) → has q sessions ≡ true → (0 < q) × (q ≤ n)
+    pub named : NamedTo n log
+    pub alone : (q : ℕ) → has q sole ≡ true → has q sessions ≡ true → OnlyBy q passes log
 
   -- Each entry names a pass with a number below n.
   abbrev pub MadeBelow : ℕ → List (Entry E) → Type 0

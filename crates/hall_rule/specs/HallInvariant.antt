@@ -4,7 +4,7 @@ use Rattle.std.specs.Prelude.{◌≡◌, ◌≢◌, ℕ, suc, ◌+◌, ◌*◌, 
 use mathlib.Core.Option as maybe
 use lib.ListN.{get_elem?}
 use Rattle.atomic_table.specs.Table.{State}
-use Rattle.hall_rule.specs.EventLog.{Distinct, LawfulFrom, MadeBelow, Spares, Untouched, has, own, replay}
+use Rattle.hall_rule.specs.EventLog.{Distinct, LawfulFrom, MadeBelow, Spares, Tied, Untouched, has, own, replay}
 use Rattle.hall_rule.specs.Meaning.{Meaning}
 use Rattle.hall_rule.specs.declared.view.Entry.{Entry}
 use Rattle.hall_rule.specs.declared.view.View.{View}
@@ -64,7 +64,7 @@ module _ {P E T F : Type 0} (M : Meaning P E T F) (log : List (Entry E)) where
     pub made : MadeBelow (length s.views) log
     pub each : EachLive (SeesLog owners.number (length s.views)) s.views
 
-  -- A part that the view holds is latched, and this seat alone holds it. Until the event word is loaded it is at home.
+  -- A part that the view holds is latched, this seat alone holds it, and it is among those that it ever took. Until the event word is loaded it is at home.
   -- From then on no entry that the view has not seen changes it, nor one since the last call that changed the hand; and its value is in the hand, or out on the way there or back.
   pub record HoldsParts (part : ℕ → ℕ) (words : List ℕ) (homes : List (maybe.Option (Option P))) (j : ℕ) (v : View E) : Type 0 where
     pub holds : (k : ℕ) → stage v k ≢ 0 → (k < length M.start) × (slice_index words (suc k) ≡ 1) × (part k ≡ j)
@@ -73,6 +73,7 @@ module _ {P E T F : Type 0} (M : Meaning P E T F) (log : List (Entry E)) where
     pub kept : (k : ℕ) → stage v k ≡ 2 → Untouched M k (replay M v.before) (drop (length v.before) log)
     pub in_hand : (k : ℕ) → stage v k ≡ 2 → v.out ≢ suc k → get_elem? homes k ≡ maybe.some (maybe.some None)
     pub out : (k : ℕ) → v.out ≡ suc k → stage v k ≡ 2
+    pub ever : (k : ℕ) → stage v k ≢ 0 → has k v.taken ≡ true
 
   -- A part whose latch is free is at home, and one whose latch is taken is held by one view.
   pub record PartsAtHome (owners : Owners) (s : State (Option P) (View E)) : Type 0 where
@@ -83,11 +84,15 @@ module _ {P E T F : Type 0} (M : Meaning P E T F) (log : List (Entry E)) where
     pub each : EachLive (HoldsParts owners.part s.words s.homes) s.views
 
   -- No other view has a session of the view's, no entry that it has not seen is of one, and the transactions of its sessions are as it knows them.
+  -- Its entries are tied to it. Of a session that it had at its last join no entry is since its own log then, and of one that came with the other pass none since that pass's log.
   pub record OwnsSessions (session : ℕ → ℕ) (j : ℕ) (v : View E) : Type 0 where
     pub sessions : (q : ℕ) → has q v.sessions ≡ true → session q ≡ j
     pub distinct : Distinct v.sessions
     pub spared : (q : ℕ) → has q v.sessions ≡ true → Spares M q (since v log)
     pub transactions : (q : ℕ) → has q v.sessions ≡ true → M.transaction (replay M log) q ≡ M.transaction (replay M v.log) q
+    pub stood : (q : ℕ) → has q v.stood ≡ true → has q v.sessions ≡ true → Spares M q (drop (length v.before) log)
+    pub came : (q : ℕ) → has q v.came ≡ true → has q v.sessions ≡ true → Spares M q (drop (length v.heard) log)
+    pub tied : Tied M.passes (j ∷ v.joined) v.sessions v.sole log
 
   -- The log is lawful, and each transaction is in one view.
   pub record LawfulLog (owners : Owners) (s : State (Option P) (View E)) : Type 0 where

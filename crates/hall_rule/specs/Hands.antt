@@ -1,5 +1,5 @@
 -- Hands: for each part of a state a place, in which the part lies or not.
-use Rattle.std.specs.Prelude.{◌≡◌, ℕ, ◌<◌, Bool, true, List, Option, None, Some, length, map, slice_get}
+use Rattle.std.specs.Prelude.{◌≡◌, ℕ, ◌<◌, ◌≤◌, Bool, true, false, List, Option, None, Some, length, map, slice_get}
 
 module _ {P : Type 0} where
   -- Each part in the hand is that part of the state.
@@ -31,3 +31,17 @@ module _ {P : Type 0} where
   -- A part above all that are in the hand.
   abbrev pub IsAboveAll : ℕ → List (Option P) → Type 0
   IsAboveAll part hand = (k : ℕ) → Holds hand k → k < part
+
+-- No part from one on and below another is touched.
+abbrev pub NoneBetween : (ℕ → Bool) → ℕ → ℕ → Type 0
+NoneBetween touches from end' = (k : ℕ) → from ≤ k → k < end' → touches k ≡ false
+
+-- The least of so many parts, from one on, that is touched.
+abbrev pub IsNext : (ℕ → Bool) → ℕ → ℕ → Option ℕ → Type 0
+IsNext touches from parts None = NoneBetween touches from parts
+IsNext touches from parts (Some k) = (from ≤ k) × (k < parts) × (touches k ≡ true) × NoneBetween touches from k
+
+-- The least part from one on that is in the hand.
+abbrev pub IsNextHeld : {P : Type 0} → List (Option P) → ℕ → Option ℕ → Type 0
+IsNextHeld hand from None = (k : ℕ) → from ≤ k → ¬ Holds hand k
+IsNextHeld hand from (Some k) = (from ≤ k) × Holds hand k × ((j : ℕ) → from ≤ j → j < k → ¬ Holds hand j)

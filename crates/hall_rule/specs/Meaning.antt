@@ -2,6 +2,7 @@
 use Rattle.std.specs.Prelude.{◌≡◌, ◌≢◌, ℕ, Bool, List, Option, Some, length}
 use Rattle.hall_rule.specs.Hands.{Agrees, Covers, OnlyHeld}
 use Rattle.hall_rule.specs.declared.parts.Parts.{Ghosts}
+use Rattle.hall_rule.specs.declared.rule.Plan.{Plan}
 
 -- The parts at the start, and what events mean, over parts P, events E, transactions T and lasting facts F.
 pub record Meaning (P E T F : Type 0) : Type 1 where
@@ -34,6 +35,10 @@ meaning core_type core passes = let shape = core_type.shape_of core in record {
   passes = passes;
   blocks = 0;
 }
+
+-- The same of what a hall was built of.
+abbrev pub planned : {C P E R S T F : Type 0} → Ghosts C P E R S T F → Plan C → Meaning P E T F
+planned core_type plan = meaning core_type plan.core.value plan.passes
 
 -- The laws that the trait's laws give.
 pub record Laws {P E T F : Type 0} (M : Meaning P E T F) : Type 0 where

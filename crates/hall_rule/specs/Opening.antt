@@ -19,5 +19,9 @@ first_view start passes = record {
   stages = replicate (length start) 0;
   out = 0;
   sessions = sessions_to passes;
+  stood = [];
+  came = [];
+  sole = sessions_to passes;
+  taken = [];
   spent = false;
 }

@@ -1,8 +1,8 @@
 -- How a view changes by each kind of step, and what the step tells.
-use Rattle.std.specs.Prelude.{◌≡◌, ℕ, suc, ◌+◌, ◌≤◌, ◌==◌, min, max, Bool, true, false, cond, List, [], ◌∷◌, ◌++◌, Option, None, Some, drop, length, fold, replicate, slice_get, slice_set, ltb}
+use Rattle.std.specs.Prelude.{◌≡◌, ℕ, suc, ◌+◌, ◌*◌, ◌^◌, ◌≤◌, ◌==◌, ◌&&◌, min, max, Bool, true, false, cond, List, [], ◌∷◌, ◌++◌, Option, None, Some, drop, length, fold, replicate, slice_get, slice_set, ltb}
 use Rattle.atomic_table.specs.Table.{Me}
-use Rattle.hall_rule.specs.EventLog.{Distinct, LawfulFrom, Spares, has, own, replay}
-use Rattle.hall_rule.specs.HallInvariant.{GoesOn, since, stage}
+use Rattle.hall_rule.specs.EventLog.{Distinct, LawfulFrom, Spares, Tied, has, is_unnamed, own, replay}
+use Rattle.hall_rule.specs.HallInvariant.{GoesOn, hands_of, since, stage}
 use Rattle.hall_rule.specs.Meaning.{Meaning}
 use Rattle.hall_rule.specs.declared.view.Entry.{Entry}
 use Rattle.hall_rule.specs.declared.view.View.{View}
@@ -22,10 +22,15 @@ abbrev pub without : ℕ → List ℕ → List ℕ
 without q [] = []
 without q (r ∷ rs) = cond (q == r) rs (r ∷ without q rs)
 
+-- Those of some sessions that are among others.
+abbrev pub among : List ℕ → List ℕ → List ℕ
+among sessions [] = []
+among sessions (q ∷ qs) = cond (has q sessions) (q ∷ among sessions qs) (among sessions qs)
+
 module _ {E : Type 0} where
-  -- The part k gets to the stage n.
+  -- The part k is taken, and gets to the stage n.
   abbrev pub staged : View E → ℕ → ℕ → View E
-  staged v k n = record v { stages = slice_set v.stages k n }
+  staged v k n = record v { stages = slice_set v.stages k n; taken = v.taken ++ k ∷ [] }
 
   -- The whole log is seen, and the slot of the part k goes out.
   abbrev pub loaded : View E → ℕ → List (Entry E) → View E
@@ -43,13 +48,22 @@ module _ {E : Type 0} where
   abbrev pub given : View E → ℕ → View E
   given v k = record v { stages = slice_set v.stages k 0; out = 0 }
 
+  -- The same view, with the hand of another.
+  abbrev pub with_hand_of : View E → View E → View E
+  with_hand_of w v = record v { stages = w.stages; out = w.out }
+
   -- An event of a pass: its entry.
   abbrev pub entry_of : ℕ → View E → Bool → E → Entry E
   entry_of id v refused event = record { pass = id; session = least v.sessions; count = length v.mine; refused = refused; event = event }
 
   -- The log was seen up to `before`, and an entry was added to it.
   abbrev pub added : View E → List (Entry E) → Entry E → View E
-  added v before e = record v { log = before ++ e ∷ []; before = before ++ e ∷ []; mine = v.mine ++ e ∷ []; made = v.made + 1 }
+  added v before e = record v { log = before ++ e ∷ []; before = before ++ e ∷ []; mine = v.mine ++ e ∷ []; made = v.made + 1; came = [] }
+
+  -- Those of some sessions under which no entry stands, as a view knows.
+  abbrev pub fresh : View E → List ℕ → List ℕ
+  fresh v [] = []
+  fresh v (q ∷ qs) = cond (has q v.sole && is_unnamed q v.mine) (q ∷ fresh v qs) (fresh v qs)
 
   -- A new pass, which has seen what another has, with these sessions.
   abbrev pub newcomer : View E → List ℕ → View E
@@ -63,6 +77,10 @@ module _ {E : Type 0} where
     stages = replicate (length v.stages) 0;
     out = 0;
     sessions = sessions;
+    stood = [];
+    came = [];
+    sole = fresh v sessions;
+    taken = [];
     spent = false;
   }
 
@@ -84,11 +102,14 @@ module _ {E : Type 0} where
     mine = own (id ∷ v.joined ++ other ∷ u.joined) (longer v.log u.log);
     made = v.made + u.made;
     sessions = v.sessions ++ u.sessions;
+    stood = v.sessions;
+    came = u.sessions;
+    sole = among v.sessions v.sole ++ among u.sessions u.sole;
   }
 
   -- What is left of a pass that was joined into another.
   abbrev pub spent_view : View E
-  spent_view = record { joined = []; log = []; before = []; heard = []; mine = []; made = 0; stages = []; out = 0; sessions = []; spent = true }
+  spent_view = record { joined = []; log = []; before = []; heard = []; mine = []; made = 0; stages = []; out = 0; sessions = []; stood = []; came = []; sole = []; taken = []; spent = true }
 
 module _ {P E T F : Type 0} (M : Meaning P E T F) where
   -- What a pass learns when it sees a longer log: that it is lawful, has of the pass's events those that it made,
@@ -110,6 +131,22 @@ module _ {P E T F : Type 0} (M : Meaning P E T F) where
     pub distinct : Distinct v.sessions
     pub facts : (f : F) → M.fact f (replay M v.log) → M.fact f (replay M log)
     pub room : length (replay M log) ≡ length M.start
+    -- no entry since its log at its last join is of a session that it had then, nor one since the other's log of a session that came
+    pub stood : (q : ℕ) → has q v.stood ≡ true → has q v.sessions ≡ true → Spares M q (drop (length v.before) log)
+    pub came : (q : ℕ) → has q v.came ≡ true → has q v.sessions ≡ true → Spares M q (drop (length v.heard) log)
+    -- each entry stands under a session, and those under its own sessions are its own
+    pub tied : Tied M.passes (id ∷ v.joined) v.sessions v.sole log
+    -- it made few events for each of its hands, and so did all other passes together
+    pub few : length v.mine ≤ 2 ^ 56 * hands_of v
+    pub budget : length log + 2 ^ 56 * hands_of v ≤ 2 ^ 56 * M.passes + length v.mine
+    pub limit : M.passes ≤ 128
+
+  -- From one log to a later one: no entry since is of these sessions, so that their transactions are as they were; and lasting facts still hold.
+  pub record Stays (sessions : List ℕ) (earlier later : List (Entry E)) : Type 0 where
+    pub goes_on : later ≡ earlier ++ drop (length earlier) later
+    pub spared : (q : ℕ) → has q sessions ≡ true → Spares M q (drop (length earlier) later)
+    pub transactions : (q : ℕ) → has q sessions ≡ true → M.transaction (replay M later) q ≡ M.transaction (replay M earlier) q
+    pub facts : (f : F) → M.fact f (replay M earlier) → M.fact f (replay M later)
 
   -- A try at the latch of the part k found the number n there.
   abbrev pub Latches : View E → ℕ → ℕ → Me (Option P) (View E) → Type 0

@@ -1,6 +1,6 @@
 //! The parts that a pass has in hand.
-ghost use Rattle.std.specs.Prelude.{◌≡◌, ◌<◌, ℕ, List, Option, None, Some, IfOk, length, map, replicate, slice_get, slice_set, vec_capacity, vec_len};
-ghost use Rattle.hall_rule.specs.Hands.{Holds};
+ghost use Rattle.std.specs.Prelude.{◌≡◌, ◌^◌, ◌<◌, ℕ, List, Option, None, Some, IfOk, length, map, replicate, slice_get, slice_set, vec_capacity, vec_len};
+ghost use Rattle.hall_rule.specs.Hands.{Holds, IsNextHeld};
 
 use std::alloc::{AllocError, AllocFailed, Global};
 use std::marker::Model;
@@ -59,6 +59,21 @@ impl<P> Hand<P> {
             Some(held) => held,
             None => unreachable!(),
         }
+    }
+
+    /// The least part from `from` on that lies in the hand.
+    pub fn next_held(&self, from: u32) -> Option<u32>
+        requires { length self.now < 2 ^ 32 }
+        ensures { IsNextHeld self.now from result }
+    {
+        let mut part = from;
+        while (part as usize) < self.len() {
+            if self.get(part).is_some() {
+                return Some(part);
+            }
+            part += 1;
+        }
+        None
     }
 
     /// Lays something into the place of a part, and returns what lay there.

@@ -1,6 +1,6 @@
 //! A core in parts, on which a hall lets threads work.
-ghost use Rattle.std.specs.Prelude.{◌≡◌, ◌≢◌, ◌+◌, ◌<◌, ◌≤◌, ℕ, Bool, true, List, Option, None, Some, MatchBool, IfOk, length, map};
-ghost use Rattle.hall_rule.specs.Hands.{Agrees, Covers, OnlyHeld, SameRoom, all_in};
+ghost use Rattle.std.specs.Prelude.{◌≡◌, ◌≢◌, ◌+◌, ◌^◌, ◌<◌, ◌≤◌, ℕ, Bool, true, List, Option, None, Some, MatchBool, IfOk, length, map, slice_get};
+ghost use Rattle.hall_rule.specs.Hands.{Agrees, Covers, IsNext, OnlyHeld, SameRoom, all_in};
 
 use crate::hand::Hand;
 use std::alloc::AllocError;
@@ -81,6 +81,27 @@ pub trait Parts: Sized {
         requires { part < length held.now }
         ensures { result ≡ touching shape.now event.now held.now part };
 
+    /// The least part from `from` on that the event touches, as the parts held before it tell. A core that knows which
+    /// comes next need not ask for each.
+    fn next_touched(
+        shape: &Self::Shape,
+        event: &Self::Event,
+        held: &Hand<Self::Part>,
+        from: u32,
+    ) -> Option<u32>
+        requires { length held.now < 2 ^ 32 }
+        ensures { IsNext (touching shape.now event.now held.now) from (length held.now) result }
+    {
+        let mut part = from;
+        while (part as usize) < held.len() {
+            if Self::touches(shape, event, held, part) {
+                return Some(part);
+            }
+            part += 1;
+        }
+        None
+    }
+
     /// Runs an event on the parts in the hand, which has each part that it touches. What it makes of
     /// them and what it replies is the same for every sound state that has these parts. Where memory
     /// is refused the hand stays as it was.
@@ -104,6 +125,9 @@ pub trait Parts: Sized {
 
     // A lawful event leaves a sound state sound.
     ghost keeps: { (sh : Self.Shape) (e : Self.Event) (s : List Self.Part) → sound sh s → stands sh e s → fits sh e s → sound sh (effect sh e s) };
+
+    // Whether an event touches a part the parts before it tell.
+    ghost ascends: { (sh : Self.Shape) (e : Self.Event) (h i : List (Option Self.Part)) (k : ℕ) → ((j : ℕ) → j < k → slice_get h j ≡ slice_get i j) → touching sh e h k ≡ touching sh e i k };
 
     // It changes only the parts that it touches, and never how many there are.
     ghost frame: { (sh : Self.Shape) (e : Self.Event) (h : List (Option Self.Part)) (s : List Self.Part) → sound sh s → Covers (touching sh e) h → Agrees h s → stands sh e s → fits sh e s → OnlyHeld h s (effect sh e s) };

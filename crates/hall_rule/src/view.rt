@@ -34,6 +34,14 @@ pub struct View<E> {
     pub out: u64,
     /// The sessions of its hands.
     pub sessions: LinkedList<u64>,
+    /// The sessions that it had when a pass was last joined into it.
+    pub stood: LinkedList<u64>,
+    /// The sessions that came with that pass, and none once it made an event since.
+    pub came: LinkedList<u64>,
+    /// The sessions under which no other pass made an entry.
+    pub sole: LinkedList<u64>,
+    /// All parts that it ever took, in their order.
+    pub taken: LinkedList<u64>,
     /// Whether it was joined into another.
     pub spent: bool,
 }

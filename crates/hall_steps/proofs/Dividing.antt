@@ -1,17 +1,18 @@
 -- What passes are after a split, a note and a join.
-use Rattle.std.proofs.Common.{◌≡◌, ℕ, zero, suc, ◌+◌, ◌-◌, ◌<◌, ◌≤◌, List, [], ◌∷◌, ◌++◌, Option, None, Some, length, drop, take, refl, sym, ap, subst, ◌∙◌, length-append, length-drop, length-take, arith}
+use Rattle.std.proofs.Common.{◌≡◌, ℕ, zero, suc, ◌+◌, ◌^◌, ◌-◌, ◌<◌, ◌≤◌, List, [], ◌∷◌, ◌++◌, Option, None, Some, length, drop, take, refl, sym, ap, subst, ◌∙◌, length-append, length-drop, length-take, arith}
 use Rattle.std.specs.Prelude.{replicate, slice_get}
 use Rattle.atomic_table.specs.Seated.{TableId}
 use Rattle.atomic_table.specs.Table.{Me}
 use Rattle.atomic_table.specs.declared.shared.Seat.{Seat}
 use Rattle.hall_rule.specs.HallInvariant.{hands_of}
 use Rattle.hall_rule.specs.Hands.{Holds}
-use Rattle.hall_rule.specs.Meaning.{Meaning}
+use Rattle.hall_rule.specs.Meaning.{Laws, Meaning}
 use Rattle.hall_rule.specs.Views.{Sees, dealt, greatest, joined_by, newcomer, without}
 use Rattle.hall_rule.specs.declared.view.View.{View}
-use Rattle.hall_rule.proofs.Numbers.{without_distinct, without_length}
+use Rattle.hall_rule.proofs.Logs.{stays}
+use Rattle.hall_rule.proofs.Numbers.{has_left, has_right, has_without, without_distinct, without_length}
 use Rattle.hall_rule.specs.Opening.{first_view}
-use Rattle.hall_rule.proofs.Opens.{sessions_to-distinct, sessions_to-length, zeros}
+use Rattle.hall_rule.proofs.Opens.{above_to, below_to, sessions_to-distinct, sessions_to-length, zeros}
 use Rattle.hall_rule.proofs.Splits.{greatest_there}
 use Rattle.hall_steps.specs.Hall.{EachHand, IsNew, IsPass, IsSameSeat, Joined, Knows, first_of, spares_of}
 
@@ -92,7 +93,7 @@ empty_all (h ∷ hs) a b = (a, b)
 
 module _ {P E T F : Type 0} (M : Meaning P E T F) where
   -- a new pass that has seen the log
-  pub new_knows : (id : ℕ) (v : View E) (rs : List ℕ) (n : ℕ) (me : Me (Option P) (View E)) (hand : List (Option P)) → length v.stages ≡ length M.start → Empty hand → Sees M id (newcomer v rs) n me → Knows M id me hand × IsNew v me.0 rs
+  pub new_knows : (id : ℕ) (v : View E) (rs : List ℕ) (n : ℕ) (me : Me (Option P) (View E)) (hand : List (Option P)) → length v.stages ≡ length M.start → Empty hand → Sees M id (newcomer v rs) n me → Knows M id me hand × IsNew M v me.0 rs
   new_knows id v rs n me hand stages empty sees =
       let log = sees.0 in
       let l = sees.1 in
@@ -114,15 +115,27 @@ module _ {P E T F : Type 0} (M : Meaning P E T F) where
         agrees = λ k p e. absurd (empty k (p, e));
         held = λ k h. absurd (empty k h);
         away = λ k h. zeros (length v.stages) k;
+        few = l.few;
+        budget = l.budget;
+        limit = l.limit;
+        tied = l.tied;
       } in (
         subst (λ (x : Me (Option P) (View E)). Knows M id x hand) (sym at) knows,
-        subst (λ (x : Me (Option P) (View E)). IsNew v x.0 rs) (sym at) (record { joined = refl; mine = refl; hands = refl; goes_on = l.goes_on }),
+        subst (λ (x : Me (Option P) (View E)). IsNew M v x.0 rs) (sym at) (record {
+          joined = refl;
+          mine = refl;
+          hands = refl;
+          sole = refl;
+          taken = refl;
+          goes_on = l.goes_on;
+          stays = record { goes_on = l.goes_on; spared = l.spared; transactions = l.transactions; facts = l.facts };
+        }),
       )
 
   -- the pass that was split
-  pub left_pass : (z : TableId) (s t : Seat (Option P) (View E)) (hands hands' : List (List (Option P))) → IsPass M z s hands → 2 ≤ hands_of s.me.0 → IsSameSeat s t → t.me ≡ (dealt s.me.0, s.me.1)
+  pub left_pass : (z : TableId) (s t : Seat (Option P) (View E)) (hands hands' : List (List (Option P))) → IsPass M z s hands → 2 ≤ hands_of s.me.0 → length s.me.0.mine ≤ 2 ^ 56 → IsSameSeat s t → t.me ≡ (dealt s.me.0, s.me.1)
       → hands' ≡ take (length hands - 1) hands → IsPass M z t hands' × (first_of hands' ≡ first_of hands)
-  left_pass z s t hands hands' pass two st after' is =
+  left_pass z s t hands hands' pass two few st after' is =
       let v = s.me.0 in
       let knows = pass.of.1 in
       let c = pass.count in
@@ -143,6 +156,14 @@ module _ {P E T F : Type 0} (M : Meaning P E T F) where
         agrees = knows.agrees;
         held = knows.held;
         away = knows.away;
+        few = (let n = without_length (greatest v.sessions) v.sessions (greatest_there v.sessions (omega (arith, two))) in omega (arith, n, few, two));
+        budget = (let n = without_length (greatest v.sessions) v.sessions (greatest_there v.sessions (omega (arith, two))) in let b = knows.budget in omega (arith, n, b));
+        limit = knows.limit;
+        tied = record {
+          within = λ q h. knows.tied.within q (has_without (greatest v.sessions) q v.sessions h);
+          named = knows.tied.named;
+          alone = λ q is h. knows.tied.alone q is (has_without (greatest v.sessions) q v.sessions h);
+        };
       } in
       let at_id : Knows M t.id (dealt v, s.me.1) (first_of hands) = subst (λ (i : ℕ). Knows M i (dealt v, s.me.1) (first_of hands)) (sym st.1) kept in
       let at_me : Knows M t.id t.me (first_of hands) = subst (λ (x : Me (Option P) (View E)). Knows M t.id x (first_of hands)) (sym after') at_id in (
@@ -165,7 +186,7 @@ module _ {P E T F : Type 0} (M : Meaning P E T F) where
 
   -- the pass that got its last hand
   pub right_pass : (z : TableId) (s f u : Seat (Option P) (View E)) (hands hands' : List (List (Option P))) (n : ℕ) → IsPass M z s hands → 2 ≤ hands_of s.me.0 → f.table_id ≡ z → f.me ≡ (newcomer s.me.0 (greatest s.me.0.sessions ∷ []), [])
-      → IsSameSeat f u → Sees M f.id f.me.0 n u.me → hands' ≡ drop (length hands - 1) hands → IsPass M z u hands' × IsNew s.me.0 u.me.0 (greatest s.me.0.sessions ∷ []) × Empty (first_of hands')
+      → IsSameSeat f u → Sees M f.id f.me.0 n u.me → hands' ≡ drop (length hands - 1) hands → IsPass M z u hands' × IsNew M s.me.0 u.me.0 (greatest s.me.0.sessions ∷ []) × Empty (first_of hands')
   right_pass z s f u hands hands' n pass two table made fu sees is =
       let v = s.me.0 in
       let c = pass.count in
@@ -189,7 +210,7 @@ module _ {P E T F : Type 0} (M : Meaning P E T F) where
 
   -- a pass without a hand
   pub noted_pass : (z : TableId) (s f u : Seat (Option P) (View E)) (hands : List (List (Option P))) (n : ℕ) → IsPass M z s hands → f.table_id ≡ z → f.me ≡ (newcomer s.me.0 [], [])
-      → IsSameSeat f u → Sees M f.id f.me.0 n u.me → IsPass M z u [] × IsNew s.me.0 u.me.0 []
+      → IsSameSeat f u → Sees M f.id f.me.0 n u.me → IsPass M z u [] × IsNew M s.me.0 u.me.0 []
   noted_pass z s f u hands n pass table made fu sees =
       let v = s.me.0 in
       let sees' : Sees M u.id (newcomer v []) n u.me = subst (λ (i : ℕ). Sees M i (newcomer v []) n u.me) (sym fu.1) (subst (λ (x : Me (Option P) (View E)). Sees M f.id x.0 n u.me) made sees) in
@@ -208,10 +229,10 @@ module _ {P E T F : Type 0} (M : Meaning P E T F) where
       }
 
   -- two passes that became one
-  pub joined_pass : (z : TableId) (s e f t : Seat (Option P) (View E)) (hands theirs hands' : List (List (Option P))) (n : ℕ) → IsPass M z s hands → IsPass M z e theirs → Empty (first_of theirs)
+  pub joined_pass : (laws : Laws M) (z : TableId) (s e f t : Seat (Option P) (View E)) (hands theirs hands' : List (List (Option P))) (n : ℕ) → IsPass M z s hands → IsPass M z e theirs → Empty (first_of theirs)
       → IsSameSeat s f → f.me ≡ (joined_by s.id e.id s.me.0 e.me.0, s.me.1) → IsSameSeat f t → Sees M f.id f.me.0 n t.me → hands' ≡ hands ++ theirs
-      → IsPass M z t hands' × Joined s.id e.id s.me.0 e.me.0 t.me.0 × ((k : ℕ) → Holds (first_of hands) k → Holds (first_of hands') k)
-  joined_pass z s e f t hands theirs hands' n pass ended empty sf both ft sees is =
+      → IsPass M z t hands' × Joined M s.id e.id s.me.0 e.me.0 t.me.0 × ((k : ℕ) → Holds (first_of hands) k → Holds (first_of hands') k)
+  joined_pass laws z s e f t hands theirs hands' n pass ended empty sf both ft sees is =
       let v = s.me.0 in
       let u = e.me.0 in
       let x : View E = joined_by s.id e.id v u in
@@ -239,6 +260,10 @@ module _ {P E T F : Type 0} (M : Meaning P E T F) where
             l.kept k (knows.held k h) ∙ knows.agrees k p (same_first hands theirs k p h found);
         held = λ k h. knows.held k (held_before hands theirs empty k h);
         away = λ k h. knows.away k (λ y. h (held_after hands theirs k y));
+        few = l.few;
+        budget = l.budget;
+        limit = l.limit;
+        tied = l.tied;
       } in
       let at_id : Knows M t.id (w, []) (first_of (hands ++ theirs)) = subst (λ (i : ℕ). Knows M i (w, []) (first_of (hands ++ theirs))) (sym (ft.1 ∙ sf.1)) know in
       let at_me : Knows M t.id t.me (first_of (hands ++ theirs)) = subst (λ (y : Me (Option P) (View E)). Knows M t.id y (first_of (hands ++ theirs))) (sym at) at_id in (
@@ -252,13 +277,17 @@ module _ {P E T F : Type 0} (M : Meaning P E T F) where
           places = subst (EachHand (λ h. length h ≡ length M.start)) (sym is) (each_append (λ h. length h ≡ length M.start) hands theirs pass.places ended.places);
           spares = subst (λ y. EachHand Empty (spares_of y)) (sym is) (spares_append Empty hands theirs pass.spares (empty_all theirs empty ended.spares));
         },
-        subst (λ (y : Me (Option P) (View E)). Joined s.id e.id v u y.0) (sym at) (record {
+        subst (λ (y : Me (Option P) (View E)). Joined M s.id e.id v u y.0) (sym at) (record {
           joined = refl;
           sessions = refl;
           mine = sym l.mine;
+          sole = refl;
           entries = let a = l.total in let b = knows.total in let c = ended.of.1.total in omega (arith, a, b, c);
           goes_on = l.before;
           theirs = l.heard;
+          stood = stays M laws v.sessions v.log log l.begins l.before l.lawful (λ q h. l.stood q h (has_left q v.sessions u.sessions h));
+          came = stays M laws u.sessions u.log log l.begins l.heard l.lawful (λ q h. l.came q h (has_right q v.sessions u.sessions h));
+          taken = refl;
         }),
         (λ k h. subst (λ y. Holds (first_of y) k) (sym is) (held_after hands theirs k h)),
       )
@@ -285,6 +314,10 @@ module _ {P E T F : Type 0} (M : Meaning P E T F) where
         agrees = λ k p e. absurd (none' k (p, e));
         held = λ k h. absurd (none' k h);
         away = λ k h. zeros (length M.start) k;
+        few = omega arith;
+        budget = omega (arith, n);
+        limit = limit;
+        tied = record { within = λ q h. (above_to M.passes q h, below_to M.passes q h); named = tt; alone = λ q is h. tt };
       } in (
         record {
           of = (table, subst (λ (x : Me (Option P) (View E)). Knows M seat.id x (first_of hands)) (sym me) knows);

@@ -1,9 +1,9 @@
 -- What a pass knows after a take, a give and an event.
-use Rattle.std.proofs.Common.{◌≡◌, ◌≢◌, ℕ, zero, suc, ◌+◌, ◌<◌, ◌≤◌, Bool, true, false, cond, List, [], ◌∷◌, ◌++◌, Option, None, Some, length, set, refl, sym, ap, subst, ◌∙◌, ◌⊎◌, inl, inr, ⊎_elim, length-set, length-append, arith}
+use Rattle.std.proofs.Common.{◌≡◌, ◌≢◌, ℕ, zero, suc, ◌+◌, ◌*◌, ◌^◌, ◌<◌, ◌≤◌, Bool, true, false, cond, List, [], ◌∷◌, ◌++◌, Option, None, Some, length, set, refl, sym, ap, subst, ◌∙◌, ◌⊎◌, inl, inr, ⊎_elim, length-set, length-append, arith}
 use Rattle.std.specs.Prelude.{MatchBool, slice_get, slice_index}
 use Rattle.atomic_table.specs.Table.{Me}
-use Rattle.hall_rule.specs.EventLog.{after, own, replay}
-use Rattle.hall_rule.specs.HallInvariant.{stage}
+use Rattle.hall_rule.specs.EventLog.{after, has, own, replay}
+use Rattle.hall_rule.specs.HallInvariant.{hands_of, stage}
 use Rattle.hall_rule.specs.Hands.{Agrees, Holds, SameRoom}
 use Rattle.hall_rule.specs.Meaning.{Laws, Meaning, meaning}
 use Rattle.hall_rule.specs.declared.parts.Parts.{Ghosts}
@@ -13,6 +13,7 @@ use Rattle.hall_rule.specs.declared.view.View.{View}
 use Rattle.hall_rule.proofs.Events.{Asks, stays_lawful}
 use Rattle.hall_rule.proofs.Latches.{stage_else, stage_here}
 use Rattle.hall_rule.proofs.Lists.{by_cases}
+use Rattle.hall_rule.proofs.Named.{least_there, named_append, only_append, only_mine}
 use Rattle.hall_rule.proofs.Logs.{after_is, has_head, lawful_append, own_all, own_append, replay_append}
 use Rattle.atomic_table.specs.Seated.{TableId}
 use Rattle.atomic_table.specs.declared.shared.Seat.{Seat}
@@ -76,6 +77,12 @@ module _ {P E T F : Type 0} (M : Meaning P E T F) where
     distinct = l.distinct;
     facts = l.facts;
     room = l.room;
+    stood = l.stood;
+    came = l.came;
+    few = l.few;
+    budget = l.budget;
+    limit = l.limit;
+    tied = l.tied;
   }
 
   -- a part came into the hand
@@ -116,8 +123,12 @@ module _ {P E T F : Type 0} (M : Meaning P E T F) where
           away = λ i h. by_cases i k (stage w i ≡ 0)
               (λ same. absurd (h (subst (λ (x : ℕ). Holds (set hand k (Some p)) x) (sym same) (p, get_set_here hand k (Some p) in_hand))))
               (λ ne. else i ne ∙ knows.away i (λ x. h (x.0, get_set_else hand k i (Some p) ne ∙ x.1)));
+          few = l.few;
+          budget = l.budget;
+          limit = l.limit;
+          tied = l.tied;
         },
-        record { joined = refl; sessions = refl; mine = refl; learned = new },
+        record { joined = refl; sessions = refl; mine = refl; sole = refl; learned = new },
       )
 
   -- a part left the hand
@@ -151,6 +162,10 @@ module _ {P E T F : Type 0} (M : Meaning P E T F) where
             not_none h.0 (stage (given v k) i ≡ 2) (some_is (Some h.0) None (sym f ∙ get_set_here hand k None in_hand)))
             (λ ne. else i ne ∙ knows.held i (h.0, sym (get_set_else hand k i None ne) ∙ h.1));
         away = λ i h. by_cases i k (stage (given v k) i ≡ 0) (λ same. ap (stage (given v k)) same ∙ stage_here v k 0 room) (λ ne. else i ne ∙ knows.away i (λ x. h (x.0, get_set_else hand k i None ne ∙ x.1)));
+        few = knows.few;
+        budget = knows.budget;
+        limit = knows.limit;
+        tied = knows.tied;
       }
     where
       staged_below : (l : List ℕ) (i : ℕ) → slice_index l i ≡ 2 → i < length l
@@ -159,11 +174,11 @@ module _ {P E T F : Type 0} (M : Meaning P E T F) where
       staged_below (x ∷ xs) (suc i) e = let h : i < length xs = staged_below xs i e in omega (arith, h)
 
   -- an event was made
-  pub made : (laws : Laws M) (id : ℕ) (v : View E) (hand hand' : List (Option P)) (e : Entry E) (before : List (Entry E)) → Knows M id (v, []) hand → Asks M laws hand v e.event → e.pass ≡ id
+  pub made : (laws : Laws M) (id : ℕ) (v : View E) (hand hand' : List (Option P)) (e : Entry E) (before : List (Entry E)) → Knows M id (v, []) hand → Asks M laws hand v e.event → length v.mine < 2 ^ 56 * hands_of v → e.pass ≡ id → has e.session v.sessions ≡ true
       → SameRoom hand hand'
       → ((s : List P) → M.sound s → Agrees hand s → M.stands e.event s → M.fits e.event s → MatchBool e.refused (hand' ≡ hand) (Agrees hand' (M.effect e.event s)))
       → Learned M id v before → Knows M id (added v before e, []) hand' × EndsWith M id v before e (added v before e)
-  made laws id v hand hand' e before knows asks pass same meets new =
+  made laws id v hand hand' e before knows asks few pass under same meets new =
       let still = stays_lawful M laws id hand v e.event before knows.sound knows.room asks knows.held new in
       let t : List P = replay M before in
       let m = meets t new.sound still.0 still.1 still.2 in
@@ -185,8 +200,16 @@ module _ {P E T F : Type 0} (M : Meaning P E T F) where
           agrees = λ k p at. ap (λ (x : List P). slice_get x k) after' ∙ agrees k p at;
           held = λ k h. knows.held k (same_holds hand hand' same k h);
           away = λ k h. knows.away k (λ x. h (same.held k x));
+          few = (let n : length (v.mine ++ e ∷ []) ≡ length v.mine + 1 = length-append v.mine (e ∷ []) in omega (arith, n, few));
+          budget = (let n : length (v.mine ++ e ∷ []) ≡ length v.mine + 1 = length-append v.mine (e ∷ []) in let m : length (before ++ e ∷ []) ≡ length before + 1 = length-append before (e ∷ []) in let b = new.budget in omega (arith, n, m, b));
+          limit = knows.limit;
+          tied = record {
+            within = new.tied.within;
+            named = named_append M.passes before (e ∷ []) new.tied.named ((new.tied.within e.session under).0, (new.tied.within e.session under).1, tt);
+            alone = λ q is h. only_append q (id ∷ v.joined) before (e ∷ []) (new.tied.alone q is h) (only_mine q (id ∷ v.joined) id (e ∷ []) (has_head id v.joined) (pass, tt));
+          };
         },
-        record { joined = refl; sessions = refl; learned = new; log = refl; mine = refl },
+        record { joined = refl; sessions = refl; learned = new; log = refl; mine = refl; sole = refl; taken = refl },
       )
     where
       matched : (b : Bool) (hand hand' : List (Option P)) (s s' : List P) → MatchBool b (hand' ≡ hand) (Agrees hand' s') → Agrees hand s → (k : ℕ) (p : P) → slice_get hand' k ≡ Some (Some p) → slice_get (cond b s s') k ≡ Some p
@@ -214,17 +237,21 @@ module _ {P E T F : Type 0} (M : Meaning P E T F) where
         ((lt'.0 ∙ sl.0, lt'.1 ∙ sl.1), subst (λ (x : View E). LooksOn M s.id v x) (sym (ap (λ (m : Me (Option P) (View E)). m.0) end')) r.1),
       )
 
+  -- and what it ever took
+  pub taken_at : (s l t : Seat (Option P) (View E)) (k : ℕ) (log : List (Entry E)) → l.me ≡ (staged s.me.0 k 1, []) → t.me ≡ (homed (loaded l.me.0 k log), []) → t.me.0.taken ≡ s.me.0.taken ++ k ∷ []
+  taken_at s l t k log latched after' = ap (λ (m : Me (Option P) (View E)). m.0.taken) after' ∙ ap (λ (m : Me (Option P) (View E)). m.0.taken) latched
+
   pub gave_at : (z : TableId) (s t : Seat (Option P) (View E)) (hand hand' : List (Option P)) (k : ℕ) (p : P) → IsOf M z s hand → slice_get hand k ≡ Some (Some p)
       → IsSameSeat s t → t.me ≡ (given s.me.0 k, []) → hand' ≡ set hand k None → IsOf M z t hand'
   gave_at z s t hand hand' k p pass there st after' hands =
       (st.0 ∙ pass.0, known_at s.id t.id (given s.me.0 k, []) t.me (set hand k None) hand' st.1 after' hands (gave s.id s.me.0 hand k p (at_rest s.id s.me hand pass.1) there))
 
-  pub made_at : (laws : Laws M) (z : TableId) (s t : Seat (Option P) (View E)) (hand hand' : List (Option P)) (e : Entry E) (before : List (Entry E)) → IsOf M z s hand → Asks M laws hand s.me.0 e.event → e.pass ≡ s.id
+  pub made_at : (laws : Laws M) (z : TableId) (s t : Seat (Option P) (View E)) (hand hand' : List (Option P)) (e : Entry E) (before : List (Entry E)) → IsOf M z s hand → Asks M laws hand s.me.0 e.event → length s.me.0.mine < 2 ^ 56 * hands_of s.me.0 → e.pass ≡ s.id → has e.session s.me.0.sessions ≡ true
       → SameRoom hand hand'
       → ((x : List P) → M.sound x → Agrees hand x → M.stands e.event x → M.fits e.event x → MatchBool e.refused (hand' ≡ hand) (Agrees hand' (M.effect e.event x)))
       → Learned M s.id s.me.0 before → IsSameSeat s t → t.me ≡ (added s.me.0 before e, []) → IsOf M z t hand' × Extends M s before e t
-  made_at laws z s t hand hand' e before pass asks by same meets new st after' =
-      let r = made laws s.id s.me.0 hand hand' e before (at_rest s.id s.me hand pass.1) asks by same meets new in (
+  made_at laws z s t hand hand' e before pass asks few by under same meets new st after' =
+      let r = made laws s.id s.me.0 hand hand' e before (at_rest s.id s.me hand pass.1) asks few by under same meets new in (
         (st.0 ∙ pass.0, known_at s.id t.id (added s.me.0 before e, []) t.me hand' hand' st.1 after' refl r.0),
         (st, subst (λ (x : View E). EndsWith M s.id s.me.0 before e x) (sym (ap (λ (m : Me (Option P) (View E)). m.0) after')) r.1),
       )
@@ -254,9 +281,9 @@ module _ {C P E R S T F : Type 0} (t : Ghosts C P E R S T F) (core : C) (passes 
   abbrev pub Done : S → Type 0
   Done sh = (before : List (Entry E)) × Extends M s before (entry_of s.id s.me.0 (t.refused reply) event) u × MatchBool (t.refused reply) (hand' ≡ hand) (reply ≡ t.reply sh event (replay M before)) × (new ≤ old + t.cost sh event (replay M before))
 
-  pub finish : (sh : S) → sh ≡ t.shape_of core → IsOf M z s hand → Asks M laws hand s.me.0 event → SameRoom hand hand' → Meets sh → Costs sh → (n : ℕ) → Adds M s.id s.me.0 (entry_of s.id s.me.0 (t.refused reply) event) n u.me → IsSameSeat s u
+  pub finish : (sh : S) → sh ≡ t.shape_of core → IsOf M z s hand → Asks M laws hand s.me.0 event → length s.me.0.mine < 2 ^ 56 * hands_of s.me.0 → SameRoom hand hand' → Meets sh → Costs sh → (n : ℕ) → Adds M s.id s.me.0 (entry_of s.id s.me.0 (t.refused reply) event) n u.me → IsSameSeat s u
       → IsOf M z u hand' × Done sh
-  finish sh is pass asks same meets costs n told st =
+  finish sh is pass asks few same meets costs n told st =
       let before : List (Entry E) = told.0 in
       let still = stays_lawful M laws s.id hand s.me.0 event before pass.1.sound pass.1.room asks pass.1.held told.1 in
       let meets' : Meets (t.shape_of core) = subst Meets is meets in
@@ -265,7 +292,7 @@ module _ {C P E R S T F : Type 0} (t : Ghosts C P E R S T F) (core : C) (passes 
       let here = meets' x told.1.sound still.0 still.1 still.2 in
       let e : Entry E = entry_of s.id s.me.0 (t.refused reply) event in
       let end' : u.me ≡ (added s.me.0 before e, []) = λ i. (told.2 i, told.3 i) in
-      let r = made_at M laws z s u hand hand' e before pass asks refl same
+      let r = made_at M laws z s u hand hand' e before pass asks few refl (least_there s.me.0.sessions (let f = few in omega (arith, f))) same
       (λ y ok agrees stands fits. match_first (hand' ≡ hand) (Agrees hand' (t.effect (t.shape_of core) event y)) (reply ≡ t.reply (t.shape_of core) event y) (t.refused reply) (meets' y ok agrees stands fits)) told.1 st end' in (
         r.0,
         subst Done (sym is) (before, r.1, match_second (hand' ≡ hand) (Agrees hand' (t.effect (t.shape_of core) event x)) (reply ≡ t.reply (t.shape_of core) event x) (t.refused reply) here, costs' x told.1.sound still.0 still.1 still.2),

@@ -1,13 +1,14 @@
 -- What a pass is to its hall, and what the calls tell.
-use Rattle.std.specs.Prelude.{◌≡◌, ℕ, suc, ◌+◌, ◌<◌, ◌≤◌, false, List, [], ◌∷◌, ◌++◌, Option, Some, length, slice_get}
+use Rattle.std.specs.Prelude.{◌≡◌, ℕ, suc, ◌+◌, ◌*◌, ◌^◌, ◌<◌, ◌≤◌, true, false, List, [], ◌∷◌, ◌++◌, Option, Some, length, slice_get}
 use Rattle.atomic_table.specs.Seated.{TableId}
 use Rattle.atomic_table.specs.Table.{Me}
 use Rattle.atomic_table.specs.declared.shared.Seat.{Seat}
-use Rattle.hall_rule.specs.EventLog.{Distinct, LawfulFrom, own, replay}
+use Rattle.hall_rule.specs.EventLog.{Distinct, LawfulFrom, Tied, has, own, replay}
 use Rattle.hall_rule.specs.HallInvariant.{GoesOn, hands_of, stage}
 use Rattle.hall_rule.specs.Hands.{Holds}
-use Rattle.hall_rule.specs.Meaning.{Meaning}
-use Rattle.hall_rule.specs.Views.{Learned}
+use Rattle.hall_rule.specs.Meaning.{Meaning, meaning}
+use Rattle.hall_rule.specs.declared.parts.Parts.{Ghosts}
+use Rattle.hall_rule.specs.Views.{Learned, Stays, among, fresh}
 use Rattle.hall_rule.specs.declared.view.Entry.{Entry}
 use Rattle.hall_rule.specs.declared.view.View.{View}
 
@@ -29,6 +30,17 @@ EachHand holds (hand ∷ hands) = holds hand × EachHand holds hands
 abbrev pub spares_of : {P : Type 0} → List (List (Option P)) → List (List (Option P))
 spares_of [] = []
 spares_of (hand ∷ hands) = hands
+
+-- What contracts see of a hall: the core that it was built of and for how many passes, which table it is, and the core's shape.
+pub record HallView (C S : Type 0) : Type 0 where
+  pub core : C
+  pub passes : ℕ
+  pub id : TableId
+  pub shape : S
+
+-- What the core means to the hall.
+abbrev pub means : {C P E R S T F : Type 0} → Ghosts C P E R S T F → HallView C S → Meaning P E T F
+means core_type hall = meaning core_type hall.core hall.passes
 
 module _ {P E T F : Type 0} (M : Meaning P E T F) where
   -- The event word, a latch word for each part and the block words; and a slot for each part.
@@ -62,6 +74,12 @@ module _ {P E T F : Type 0} (M : Meaning P E T F) where
     pub agrees : (k : ℕ) (p : P) → slice_get hand k ≡ Some (Some p) → slice_get (replay M me.0.log) k ≡ Some p
     pub held : (k : ℕ) → Holds hand k → stage me.0 k ≡ 2
     pub away : (k : ℕ) → ¬ Holds hand k → stage me.0 k ≡ 0
+    -- it made few events for each of its hands, and so did all other passes together
+    pub few : length me.0.mine ≤ 2 ^ 56 * hands_of me.0
+    pub budget : length me.0.log + 2 ^ 56 * hands_of me.0 ≤ 2 ^ 56 * M.passes + length me.0.mine
+    pub limit : M.passes ≤ 128
+    -- each entry stands under a session, and those under its own sessions are its own
+    pub tied : Tied M.passes (id ∷ me.0.joined) me.0.sessions me.0.sole me.0.log
 
   -- A pass of the table z, and its first hand.
   abbrev pub IsOf : TableId → Seat (Option P) (View E) → List (Option P) → Type 0
@@ -79,11 +97,20 @@ module _ {P E T F : Type 0} (M : Meaning P E T F) where
     pub joined : w.joined ≡ v.joined
     pub sessions : w.sessions ≡ v.sessions
     pub mine : w.mine ≡ v.mine
+    pub sole : w.sole ≡ v.sole
     pub learned : Learned M id v w.log
 
   -- The same pass, which has seen no less and made no event.
   abbrev pub Looks : Seat (Option P) (View E) → Seat (Option P) (View E) → Type 0
   Looks s t = IsSameSeat s t × LooksOn s.id s.me.0 t.me.0
+
+  -- The same pass, which has seen no less and made no event. What it knew of its sessions, and for good, still stands.
+  pub record SeesMore (v w : View E) : Type 0 where
+    pub joined : w.joined ≡ v.joined
+    pub sessions : w.sessions ≡ v.sessions
+    pub mine : w.mine ≡ v.mine
+    pub sole : w.sole ≡ v.sole
+    pub stays : Stays M v.sessions v.log w.log
 
   -- The view's log goes on from all that was seen, up to `before`, and ends with the entry, which is one more of the pass's.
   pub record EndsWith (id : ℕ) (v : View E) (before : List (Entry E)) (e : Entry E) (w : View E) : Type 0 where
@@ -92,24 +119,39 @@ module _ {P E T F : Type 0} (M : Meaning P E T F) where
     pub learned : Learned M id v before
     pub log : w.log ≡ before ++ e ∷ []
     pub mine : w.mine ≡ v.mine ++ e ∷ []
+    pub sole : w.sole ≡ v.sole
+    pub taken : w.taken ≡ v.taken
 
   -- The same pass, whose log ends with one event more.
   abbrev pub Extends : Seat (Option P) (View E) → List (Entry E) → Entry E → Seat (Option P) (View E) → Type 0
   Extends s before e t = IsSameSeat s t × EndsWith s.id s.me.0 before e t.me.0
 
-module _ {E : Type 0} where
-  -- A new pass with these sessions, which has seen no less than another and made no event.
+  -- A new pass with these sessions, which has seen no less than another and made no event. What that knew of these sessions still stands.
   pub record IsNew (v w : View E) (sessions : List ℕ) : Type 0 where
     pub joined : w.joined ≡ []
     pub mine : w.mine ≡ []
     pub hands : w.sessions ≡ sessions
+    pub sole : w.sole ≡ fresh v sessions
+    pub taken : w.taken ≡ []
     pub goes_on : GoesOn v w.log
+    pub stays : Stays M sessions v.log w.log
 
-  -- Two passes became one: it has the numbers, the entries and the hands of both, and has seen no less than either.
+  -- Two passes became one: it has the numbers, the entries and the hands of both, and has seen no less than either. What each knew of its own sessions, and for good, still stands.
   pub record Joined (id other : ℕ) (v u w : View E) : Type 0 where
     pub joined : w.joined ≡ v.joined ++ other ∷ u.joined
     pub sessions : w.sessions ≡ v.sessions ++ u.sessions
     pub mine : w.mine ≡ own (id ∷ w.joined) w.log
+    pub sole : w.sole ≡ among v.sessions v.sole ++ among u.sessions u.sole
     pub entries : length w.mine ≡ length v.mine + length u.mine
     pub goes_on : GoesOn v w.log
     pub theirs : GoesOn u w.log
+    pub stood : Stays M v.sessions v.log w.log
+    pub came : Stays M u.sessions u.log w.log
+    pub taken : w.taken ≡ v.taken
+
+module _ {P E : Type 0} where
+  -- The parts in the hand, and no others, were taken since.
+  pub record TookParts (hand : List (Option P)) (v w : View E) : Type 0 where
+    pub parts : List ℕ
+    pub taken : w.taken ≡ v.taken ++ parts
+    pub held : (k : ℕ) → has k parts ≡ true → Holds hand k

@@ -4,7 +4,7 @@ ghost use Rattle.hall_rule.specs.EventLog.{replay};
 ghost use Rattle.hall_rule.specs.HallInvariant.{hands_of};
 ghost use Rattle.hall_rule.specs.Hands.{Holds, all_in};
 ghost use Rattle.hall_rule.specs.Meaning.{meaning};
-ghost use Rattle.hall_steps.specs.Hall.{IsPass, first_of};
+ghost use Rattle.hall_steps.specs.Hall.{IsPass, first_of, means};
 
 use crate::hall::{Hall, Pass};
 use hall_rule::Parts;
@@ -55,10 +55,10 @@ impl<P: Drop> Drop for Closed<P> {
 impl<C: Parts> Hall<C> {
     /// Ends the hall, with the pass that has all hands and holds no part. The parts are those that the pass's log leaves.
     pub fn close(self, pass: Pass<C>) -> Closed<C::Part>
-        requires pass { IsPass (meaning C.Parts self.0 self.1) self.2 pass.seat pass.hands }
-        requires all { hands_of pass.seat.me.0 ≡ self.1 }
+        requires pass { IsPass (means C.Parts self) self.id pass.seat pass.hands }
+        requires all { hands_of pass.seat.me.0 ≡ self.passes }
         requires empty { (k : ℕ) → ¬ Holds (first_of pass.hands) k }
-        ensures { result ≡ all_in (replay (meaning C.Parts self.0 self.1) pass.seat.me.0.log) }
+        ensures { result ≡ all_in (replay (means C.Parts self) pass.seat.me.0.log) }
     {
         let Hall { table, .. } = self;
         let Pass { seat, .. } = pass;

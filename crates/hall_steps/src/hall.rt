@@ -1,12 +1,12 @@
 //! The hall and its passes.
-ghost use Rattle.std.specs.Prelude.{◌≡◌, ◌≢◌, ℕ, ◌+◌, ◌*◌, ◌^◌, ◌<◌, ◌≤◌, true, List, [], ◌∷◌, None, Some, MatchBool, length, slice_get, slice_set};
+ghost use Rattle.std.specs.Prelude.{◌≡◌, ◌≢◌, ℕ, ◌+◌, ◌*◌, ◌^◌, ◌<◌, ◌≤◌, true, List, [], ◌∷◌, ◌++◌, None, Some, MatchBool, length, slice_get, slice_set};
 ghost use Rattle.hall_rule.specs.EventLog.{has, replay};
 ghost use Rattle.hall_rule.specs.HallInvariant.{hands_of};
 ghost use Rattle.hall_rule.specs.Hands.{Covers, Holds, IsAboveAll, SameRoom};
 ghost use Rattle.hall_rule.specs.Meaning.{meaning};
 ghost use Rattle.hall_rule.specs.Views.{entry_of, given};
 ghost use Rattle.hall_rule.specs.declared.view.Entry.{Entry};
-ghost use Rattle.hall_steps.specs.Hall.{Extends, IsPass, IsSameSeat, Looks, first_of};
+ghost use Rattle.hall_steps.specs.Hall.{Extends, IsPass, IsSameSeat, Looks, first_of, means};
 
 use crate::events::make;
 use crate::hands::Hands;
@@ -33,17 +33,17 @@ pub struct Hall<C: Parts> {
 }
 
 impl<C: Parts> Model for Hall<C> {
-    ghost use Rattle.std.specs.Prelude.{◌≡◌, ℕ, length, vec_len};
+    ghost use Rattle.std.specs.Prelude.{◌≡◌, ◌^◌, ◌<◌, ℕ, length, vec_len};
     ghost use Rattle.atomic_table.specs.Seated.{TableId};
     ghost use Rattle.hall_rule.specs.Meaning.{meaning};
-    ghost use Rattle.hall_steps.specs.Hall.{IsSized};
+    ghost use Rattle.hall_steps.specs.Hall.{HallView, IsSized};
 
-    ghost Value = { C × ℕ × TableId × C.Shape };
+    ghost Value = { HallView C C.Shape };
 
-    ghost view = { λ hall. (hall.table.shared.key.core.value, hall.table.shared.key.passes, hall.table.shared.table_id, hall.shape) };
+    ghost view = { λ hall. record { core = hall.table.shared.key.core.value; passes = hall.table.shared.key.passes; id = hall.table.shared.table_id; shape = hall.shape } };
 
     ghost invariant = { λ hall. IsSized (meaning C.Parts hall.table.shared.key.core.value hall.table.shared.key.passes) hall.table.shared.table_id
-        × (hall.shape ≡ C.shape_of hall.table.shared.key.core.value) × (vec_len hall.waiting ≡ length (C.state_of hall.table.shared.key.core.value)) };
+        × (hall.shape ≡ C.shape_of hall.table.shared.key.core.value) × (vec_len hall.waiting ≡ length (C.state_of hall.table.shared.key.core.value)) × (length (C.state_of hall.table.shared.key.core.value) < 2 ^ 32) };
 }
 
 /// What one thread works with: its seat at the hall's table, and its hands.
@@ -74,20 +74,21 @@ impl<C: Parts> Pass<C> {
 impl<C: Parts> Hall<C> {
     /// What numbers the parts.
     pub fn shape(&self) -> &C::Shape
-        ensures { result.now ≡ self.now.3 }
+        ensures { result.now ≡ self.now.shape }
     {
         &self.shape
     }
 
     /// Takes a part into the hand, and waits until no other pass holds it. The part is above all that are held.
     pub fn take<R: Wait>(&self, rt: &R, pass: &mut Pass<C>, part: u32)
-        requires pass { IsPass (meaning C.Parts self.now.0 self.now.1) self.now.2 pass.old.seat pass.old.hands }
-        requires part { part < length (C.state_of self.now.0) }
+        requires pass { IsPass (means C.Parts self.now) self.now.id pass.old.seat pass.old.hands }
+        requires part { part < length (C.state_of self.now.core) }
         requires above { IsAboveAll part (first_of pass.old.hands) }
         requires hand { 0 < hands_of pass.old.seat.me.0 }
-        ensures pass { IsPass (meaning C.Parts self.now.0 self.now.1) self.now.2 pass.new.seat pass.new.hands }
-        ensures seen { Looks (meaning C.Parts self.now.0 self.now.1) pass.old.seat pass.new.seat }
+        ensures pass { IsPass (means C.Parts self.now) self.now.id pass.new.seat pass.new.hands }
+        ensures seen { Looks (means C.Parts self.now) pass.old.seat pass.new.seat }
         ensures hand { (p : C.Part) × (first_of pass.new.hands ≡ slice_set (first_of pass.old.hands) part (Some p)) }
+        ensures taken { pass.new.seat.me.0.taken ≡ pass.old.seat.me.0.taken ++ part ∷ [] }
     {
         let Some(hand) = pass.hands.list.front_mut() else {
             unreachable!()
@@ -104,9 +105,9 @@ impl<C: Parts> Hall<C> {
 
     /// Gives a part back, and wakes a thread that waits for it, if there is one.
     pub fn give(&self, pass: &mut Pass<C>, part: u32)
-        requires pass { IsPass (meaning C.Parts self.now.0 self.now.1) self.now.2 pass.old.seat pass.old.hands }
+        requires pass { IsPass (means C.Parts self.now) self.now.id pass.old.seat pass.old.hands }
         requires held { Holds (first_of pass.old.hands) part }
-        ensures pass { IsPass (meaning C.Parts self.now.0 self.now.1) self.now.2 pass.new.seat pass.new.hands }
+        ensures pass { IsPass (means C.Parts self.now) self.now.id pass.new.seat pass.new.hands }
         ensures seat { IsSameSeat pass.old.seat pass.new.seat }
         ensures view { pass.new.seat.me ≡ (given pass.old.seat.me.0 part, []) }
         ensures hand { first_of pass.new.hands ≡ slice_set (first_of pass.old.hands) part None }
@@ -132,17 +133,17 @@ impl<C: Parts> Hall<C> {
         event: C::Event,
         steps: &mut Steps<L>,
     ) -> C::Reply
-        requires pass { IsPass (meaning C.Parts self.now.0 self.now.1) self.now.2 pass.old.seat pass.old.hands }
-        requires covered { Covers (C.touching self.now.3 event) (first_of pass.old.hands) }
-        requires stands { C.stands self.now.3 event (replay (meaning C.Parts self.now.0 self.now.1) pass.old.seat.me.0.log) }
-        requires fits { C.fits self.now.3 event (replay (meaning C.Parts self.now.0 self.now.1) pass.old.seat.me.0.log) }
+        requires pass { IsPass (means C.Parts self.now) self.now.id pass.old.seat pass.old.hands }
+        requires covered { Covers (C.touching self.now.shape event) (first_of pass.old.hands) }
+        requires stands { C.stands self.now.shape event (replay (means C.Parts self.now) pass.old.seat.me.0.log) }
+        requires fits { C.fits self.now.shape event (replay (means C.Parts self.now) pass.old.seat.me.0.log) }
         requires named { (q : ℕ) → C.names event ≡ Some q → has q pass.old.seat.me.0.sessions ≡ true }
         requires few { length pass.old.seat.me.0.mine < 2 ^ 56 * hands_of pass.old.seat.me.0 }
-        ensures pass { IsPass (meaning C.Parts self.now.0 self.now.1) self.now.2 pass.new.seat pass.new.hands }
+        ensures pass { IsPass (means C.Parts self.now) self.now.id pass.new.seat pass.new.hands }
         ensures room { SameRoom (first_of pass.old.hands) (first_of pass.new.hands) }
-        ensures log { (before : List (Entry C.Event)) × Extends (meaning C.Parts self.now.0 self.now.1) pass.old.seat before (entry_of pass.old.seat.id pass.old.seat.me.0 (C.refused result) event) pass.new.seat
-            × MatchBool (C.refused result) (first_of pass.new.hands ≡ first_of pass.old.hands) (result ≡ C.reply self.now.3 event (replay (meaning C.Parts self.now.0 self.now.1) before))
-            × (steps.new ≤ steps.old + C.cost self.now.3 event (replay (meaning C.Parts self.now.0 self.now.1) before)) }
+        ensures log { (before : List (Entry C.Event)) × Extends (means C.Parts self.now) pass.old.seat before (entry_of pass.old.seat.id pass.old.seat.me.0 (C.refused result) event) pass.new.seat
+            × MatchBool (C.refused result) (first_of pass.new.hands ≡ first_of pass.old.hands) (result ≡ C.reply self.now.shape event (replay (means C.Parts self.now) before))
+            × (steps.new ≤ steps.old + C.cost self.now.shape event (replay (means C.Parts self.now) before)) }
     {
         let Some(hand) = pass.hands.list.front_mut() else {
             unreachable!()

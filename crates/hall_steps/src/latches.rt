@@ -1,10 +1,10 @@
 //! Taking a part and giving it back.
-ghost use Rattle.std.specs.Prelude.{◌≡◌, ◌≢◌, ℕ, ◌+◌, ◌<◌, ◌==◌, List, [], ◌∷◌, Option, None, Some, IsTrue, MatchBool, cond, length, slice_get, slice_set};
+ghost use Rattle.std.specs.Prelude.{◌≡◌, ◌≢◌, ℕ, ◌+◌, ◌<◌, ◌==◌, List, [], ◌∷◌, ◌++◌, Option, None, Some, IsTrue, MatchBool, cond, length, slice_get, slice_set};
 ghost use Rattle.hall_rule.specs.HallInvariant.{hands_of, stage};
 ghost use Rattle.hall_rule.specs.EventLog.{replay};
 ghost use Rattle.hall_rule.specs.Hands.{Holds};
 ghost use Rattle.hall_rule.specs.declared.view.Entry.{Entry};
-ghost use Rattle.hall_rule.specs.Meaning.{meaning};
+ghost use Rattle.hall_rule.specs.Meaning.{planned};
 ghost use Rattle.hall_rule.specs.Views.{Learned, Loads, drawn, given, homed, loaded, staged};
 ghost use Rattle.hall_steps.specs.Hall.{IsAt, IsOf, IsSameSeat, IsSized, Looks};
 
@@ -16,7 +16,7 @@ use std::sync::atomic::{AtomicU64, Ordering};
 
 // Tries the latch of a part once.
 fn try_latch<C: Parts>(board: &Board<C>, seat: &mut Place<C>, part: u32) -> bool
-    requires at { IsAt (meaning C.Parts board.now.key.core.value board.now.key.passes) board.now.table_id seat.old part }
+    requires at { IsAt (planned C.Parts board.now.key) board.now.table_id seat.old part }
     requires none_out { seat.old.me.1 ≡ [] }
     requires away { stage seat.old.me.0 part ≡ 0 }
     requires hand { hands_of seat.old.me.0 ≢ 0 }
@@ -28,7 +28,7 @@ fn try_latch<C: Parts>(board: &Board<C>, seat: &mut Place<C>, part: u32) -> bool
 
 // Sleeps until the latch of a part is taken.
 fn wait_latch<C: Parts, R: Wait>(rt: &R, board: &Board<C>, seat: &mut Place<C>, part: u32)
-    requires at { IsAt (meaning C.Parts board.now.key.core.value board.now.key.passes) board.now.table_id seat.old part }
+    requires at { IsAt (planned C.Parts board.now.key) board.now.table_id seat.old part }
     requires none_out { seat.old.me.1 ≡ [] }
     requires away { stage seat.old.me.0 part ≡ 0 }
     requires hand { hands_of seat.old.me.0 ≢ 0 }
@@ -53,7 +53,7 @@ fn latch<C: Parts, R: Wait>(
     seat: &mut Place<C>,
     part: u32,
 )
-    requires at { IsAt (meaning C.Parts board.now.key.core.value board.now.key.passes) board.now.table_id seat.old part }
+    requires at { IsAt (planned C.Parts board.now.key) board.now.table_id seat.old part }
     requires none_out { seat.old.me.1 ≡ [] }
     requires waiting { length waiting.now ≡ length (C.state_of board.now.key.core.value) }
     requires away { stage seat.old.me.0 part ≡ 0 }
@@ -71,18 +71,18 @@ fn latch<C: Parts, R: Wait>(
 
 // Loads the event word, and takes out the slot of a part whose latch is taken.
 fn learn<C: Parts>(board: &Board<C>, seat: &mut Place<C>, part: u32)
-    requires at { IsAt (meaning C.Parts board.now.key.core.value board.now.key.passes) board.now.table_id seat.old part }
+    requires at { IsAt (planned C.Parts board.now.key) board.now.table_id seat.old part }
     requires none_out { seat.old.me.1 ≡ [] }
     requires taken { (stage seat.old.me.0 part ≡ 1) × (seat.old.me.0.out ≡ 0) }
     ensures seat { IsSameSeat seat.old seat.new }
-    ensures learned { (n : ℕ) × Loads (meaning C.Parts board.now.key.core.value board.now.key.passes) seat.old.id seat.old.me.0 part n seat.new.me }
+    ensures learned { (n : ℕ) × Loads (planned C.Parts board.now.key) seat.old.id seat.old.me.0 part n seat.new.me }
 {
     load_as::<C, Brand>(board, seat, 0, part);
 }
 
 // Gives the empty slot of a part home.
 fn put_back<C: Parts>(board: &Board<C>, seat: &mut Place<C>, part: u32)
-    requires at { IsAt (meaning C.Parts board.now.key.core.value board.now.key.passes) board.now.table_id seat.old part }
+    requires at { IsAt (planned C.Parts board.now.key) board.now.table_id seat.old part }
     requires empty { seat.old.me.1 ≡ (part, None) ∷ [] }
     requires held { (stage seat.old.me.0 part ≡ 2) × (seat.old.me.0.out ≡ part + 1) }
     ensures seat { IsSameSeat seat.old seat.new }
@@ -94,7 +94,7 @@ fn put_back<C: Parts>(board: &Board<C>, seat: &mut Place<C>, part: u32)
 // Takes out the empty slot of a part that is held. The word that is loaded is the part's latch: a load of the event
 // word right behind the `fetch_add` that counted an event takes as long as a locked step.
 fn draw<C: Parts>(board: &Board<C>, seat: &mut Place<C>, part: u32)
-    requires at { IsAt (meaning C.Parts board.now.key.core.value board.now.key.passes) board.now.table_id seat.old part }
+    requires at { IsAt (planned C.Parts board.now.key) board.now.table_id seat.old part }
     requires none_out { seat.old.me.1 ≡ [] }
     requires held { (stage seat.old.me.0 part ≡ 2) × (seat.old.me.0.out ≡ 0) }
     ensures seat { IsSameSeat seat.old seat.new }
@@ -105,8 +105,8 @@ fn draw<C: Parts>(board: &Board<C>, seat: &mut Place<C>, part: u32)
 
 // Gives the slot of a part home, with the part in it, and frees its latch.
 fn release<C: Parts>(board: &Board<C>, seat: &mut Place<C>, part: u32)
-    requires at { IsAt (meaning C.Parts board.now.key.core.value board.now.key.passes) board.now.table_id seat.old part }
-    requires value { (p : C.Part) × (seat.old.me.1 ≡ (part, Some p) ∷ []) × (slice_get (replay (meaning C.Parts board.now.key.core.value board.now.key.passes) seat.old.me.0.log) part ≡ Some p) }
+    requires at { IsAt (planned C.Parts board.now.key) board.now.table_id seat.old part }
+    requires value { (p : C.Part) × (seat.old.me.1 ≡ (part, Some p) ∷ []) × (slice_get (replay (planned C.Parts board.now.key) seat.old.me.0.log) part ≡ Some p) }
     requires held { (stage seat.old.me.0 part ≡ 2) × (seat.old.me.0.out ≡ part + 1) }
     ensures seat { IsSameSeat seat.old seat.new }
     ensures given { seat.new.me ≡ (given seat.old.me.0 part, []) }
@@ -116,12 +116,12 @@ fn release<C: Parts>(board: &Board<C>, seat: &mut Place<C>, part: u32)
 
 // Loads the event word and carries a part, whose latch is taken, out of its slot, which goes home empty.
 fn carry_out<C: Parts>(board: &Board<C>, seat: &mut Place<C>, part: u32) -> C::Part
-    requires at { IsAt (meaning C.Parts board.now.key.core.value board.now.key.passes) board.now.table_id seat.old part }
+    requires at { IsAt (planned C.Parts board.now.key) board.now.table_id seat.old part }
     requires none_out { seat.old.me.1 ≡ [] }
     requires taken { (stage seat.old.me.0 part ≡ 1) × (seat.old.me.0.out ≡ 0) }
     ensures seat { IsSameSeat seat.old seat.new }
-    ensures learned { (log : List (Entry C.Event)) × Learned (meaning C.Parts board.now.key.core.value board.now.key.passes) seat.old.id seat.old.me.0 log
-        × (slice_get (replay (meaning C.Parts board.now.key.core.value board.now.key.passes) log) part ≡ Some result) × (seat.new.me ≡ (homed (loaded seat.old.me.0 part log), [])) }
+    ensures learned { (log : List (Entry C.Event)) × Learned (planned C.Parts board.now.key) seat.old.id seat.old.me.0 log
+        × (slice_get (replay (planned C.Parts board.now.key) log) part ≡ Some result) × (seat.new.me ≡ (homed (loaded seat.old.me.0 part log), [])) }
 {
     learn(board, seat, part);
     let out = board.exchange(seat, part as usize, None);
@@ -134,10 +134,10 @@ fn carry_out<C: Parts>(board: &Board<C>, seat: &mut Place<C>, part: u32) -> C::P
 
 // Carries a part back into its slot, and frees its latch.
 fn carry_in<C: Parts>(board: &Board<C>, seat: &mut Place<C>, part: u32, held: C::Part)
-    requires at { IsAt (meaning C.Parts board.now.key.core.value board.now.key.passes) board.now.table_id seat.old part }
+    requires at { IsAt (planned C.Parts board.now.key) board.now.table_id seat.old part }
     requires none_out { seat.old.me.1 ≡ [] }
     requires held { (stage seat.old.me.0 part ≡ 2) × (seat.old.me.0.out ≡ 0) }
-    requires value { slice_get (replay (meaning C.Parts board.now.key.core.value board.now.key.passes) seat.old.me.0.log) part ≡ Some held }
+    requires value { slice_get (replay (planned C.Parts board.now.key) seat.old.me.0.log) part ≡ Some held }
     ensures seat { IsSameSeat seat.old seat.new }
     ensures given { seat.new.me ≡ (given seat.old.me.0 part, []) }
 {
@@ -155,15 +155,16 @@ pub(crate) fn take_from<C: Parts, R: Wait>(
     hand: &mut Hand<C::Part>,
     part: u32,
 )
-    requires sized { IsSized (meaning C.Parts board.now.key.core.value board.now.key.passes) board.now.table_id }
+    requires sized { IsSized (planned C.Parts board.now.key) board.now.table_id }
     requires waiting { length waiting.now ≡ length (C.state_of board.now.key.core.value) }
-    requires pass { IsOf (meaning C.Parts board.now.key.core.value board.now.key.passes) board.now.table_id seat.old hand.old }
+    requires pass { IsOf (planned C.Parts board.now.key) board.now.table_id seat.old hand.old }
     requires room { length hand.old ≡ length (C.state_of board.now.key.core.value) }
     requires away { slice_get hand.old part ≡ Some None }
     requires has_hand { hands_of seat.old.me.0 ≢ 0 }
-    ensures pass { IsOf (meaning C.Parts board.now.key.core.value board.now.key.passes) board.now.table_id seat.new hand.new }
-    ensures seen { Looks (meaning C.Parts board.now.key.core.value board.now.key.passes) seat.old seat.new }
+    ensures pass { IsOf (planned C.Parts board.now.key) board.now.table_id seat.new hand.new }
+    ensures seen { Looks (planned C.Parts board.now.key) seat.old seat.new }
     ensures hand { (p : C.Part) × (hand.new ≡ slice_set hand.old part (Some p)) }
+    ensures taken { seat.new.me.0.taken ≡ seat.old.me.0.taken ++ part ∷ [] }
 {
     latch(rt, board, waiting, seat, part);
     let held = carry_out(board, seat, part);
@@ -178,12 +179,12 @@ pub(crate) fn give_from<C: Parts>(
     hand: &mut Hand<C::Part>,
     part: u32,
 )
-    requires sized { IsSized (meaning C.Parts board.now.key.core.value board.now.key.passes) board.now.table_id }
+    requires sized { IsSized (planned C.Parts board.now.key) board.now.table_id }
     requires waiting { length waiting.now ≡ length (C.state_of board.now.key.core.value) }
-    requires pass { IsOf (meaning C.Parts board.now.key.core.value board.now.key.passes) board.now.table_id seat.old hand.old }
+    requires pass { IsOf (planned C.Parts board.now.key) board.now.table_id seat.old hand.old }
     requires room { length hand.old ≡ length (C.state_of board.now.key.core.value) }
     requires held { Holds hand.old part }
-    ensures pass { IsOf (meaning C.Parts board.now.key.core.value board.now.key.passes) board.now.table_id seat.new hand.new }
+    ensures pass { IsOf (planned C.Parts board.now.key) board.now.table_id seat.new hand.new }
     ensures seat { IsSameSeat seat.old seat.new }
     ensures view { seat.new.me ≡ (given seat.old.me.0 part, []) }
     ensures hand { hand.new ≡ slice_set hand.old part None }

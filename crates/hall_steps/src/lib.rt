@@ -9,6 +9,7 @@ mod latches;
 mod opening;
 mod passes;
 mod telling;
+mod walks;
 
 pub use closed::Closed;
 pub use hall::{Hall, Pass};

@@ -1,5 +1,6 @@
 //! Building a hall.
-ghost use Rattle.std.specs.Prelude.{◌≡◌, ◌+◌, ◌<◌, ◌≤◌, ℕ, IfOk, length, replicate, vec_len};
+ghost use Rattle.std.specs.Prelude.{◌≡◌, ◌+◌, ◌<◌, ◌≤◌, ℕ, IfOk, None, length, replicate, vec_len};
+ghost use Rattle.hall_rule.specs.EventLog.{replay};
 ghost use Rattle.hall_rule.specs.Hands.{Holds};
 ghost use Rattle.hall_rule.specs.Meaning.{meaning};
 ghost use Rattle.hall_rule.specs.Opening.{first_view};
@@ -58,13 +59,14 @@ fn empty_hands<P: Drop>(alloc: Global, many: u32, places: usize) -> Result<Hands
 
 impl<C: Parts> Hall<C> {
     /// Builds a hall of a core on which no event was made, for a number of passes. The first pass has all hands, whose
-    /// sessions are 1 to that number.
+    /// sessions are 1 to that number. No session has a transaction.
     pub fn build(alloc: Global, core: C, passes: u32) -> Result<(Hall<C>, Pass<C>), AllocError>
         requires passes { (1 ≤ passes) × (passes ≤ 128) }
         requires opening { C.opening (C.shape_of core) (C.state_of core) }
-        ensures hall { IfOk result (λ r. (r.0.0 ≡ core) × (r.0.1 ≡ passes) × (r.0.3 ≡ C.shape_of core)) }
-        ensures pass { IfOk result (λ r. IsPass (meaning C.Parts core passes) r.0.2 r.1.seat r.1.hands × (r.1.seat.me.0 ≡ first_view (C.state_of core) passes)) }
+        ensures hall { IfOk result (λ r. (r.0.core ≡ core) × (r.0.passes ≡ passes) × (r.0.shape ≡ C.shape_of core)) }
+        ensures pass { IfOk result (λ r. IsPass (meaning C.Parts core passes) r.0.id r.1.seat r.1.hands × (r.1.seat.me.0 ≡ first_view (C.state_of core) passes)) }
         ensures empty { IfOk result (λ r. (k : ℕ) → ¬ Holds (first_of r.1.hands) k) }
+        ensures rests { IfOk result (λ r. (q : ℕ) → C.transaction (C.shape_of core) (replay (meaning C.Parts core passes) r.1.seat.me.0.log) q ≡ None) }
     {
         let parts = core.parts() as usize;
         let plan = Plan {

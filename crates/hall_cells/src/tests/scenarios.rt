@@ -4,8 +4,7 @@ ghost use Rattle.hall_cells.specs.Marks.{IsEmpty, meaning_of};
 ghost use Rattle.std.specs.Thread.{IsSync};
 ghost use Rattle.hall_rule.specs.EventLog.{has};
 ghost use Rattle.hall_rule.specs.HallInvariant.{hands_of};
-ghost use Rattle.hall_rule.specs.Meaning.{meaning};
-ghost use Rattle.hall_steps.specs.Hall.{IsPass, first_of};
+ghost use Rattle.hall_steps.specs.Hall.{IsPass, first_of, means};
 
 use crate::{Marks, begin, open, raise, raise_within};
 use crossbeam_utils::atomic::AtomicCell;
@@ -32,18 +31,18 @@ fn take_turns<R: Wait, L: Ledger>(
 ) -> bool
     requires name { blank.name ≡ L.name }
     requires parts { (blank.parts ≡ L.parts) × (0 < L.parts) }
-    requires shape { (hall.now.3 ≡ length (⟦<Marks as Parts>⟧.state_of hall.now.0)) × (2 < hall.now.3) }
+    requires shape { (hall.now.shape ≡ length (⟦<Marks as Parts>⟧.state_of hall.now.core)) × (2 < hall.now.shape) }
     requires session { has 1 one.old.seat.me.0.sessions ≡ true }
-    requires pass_one { IsPass (meaning ⟦<Marks as Parts>⟧ hall.now.0 hall.now.1) hall.now.2 one.old.seat one.old.hands }
+    requires pass_one { IsPass (means ⟦<Marks as Parts>⟧ hall.now) hall.now.id one.old.seat one.old.hands }
     requires empty_one { IsEmpty (first_of one.old.hands) }
     requires few_one { length one.old.seat.me.0.mine + length turns.now + 2 < 2 ^ 56 * hands_of one.old.seat.me.0 }
-    requires pass_two { IsPass (meaning ⟦<Marks as Parts>⟧ hall.now.0 hall.now.1) hall.now.2 two.old.seat two.old.hands }
+    requires pass_two { IsPass (means ⟦<Marks as Parts>⟧ hall.now) hall.now.id two.old.seat two.old.hands }
     requires empty_two { IsEmpty (first_of two.old.hands) }
     requires few_two { length two.old.seat.me.0.mine + length turns.now + 2 < 2 ^ 56 * hands_of two.old.seat.me.0 }
-    ensures pass_one { IsPass (meaning ⟦<Marks as Parts>⟧ hall.now.0 hall.now.1) hall.now.2 one.new.seat one.new.hands }
+    ensures pass_one { IsPass (means ⟦<Marks as Parts>⟧ hall.now) hall.now.id one.new.seat one.new.hands }
     ensures empty_one { IsEmpty (first_of one.new.hands) }
     ensures sessions_one { one.new.seat.me.0.sessions ≡ one.old.seat.me.0.sessions }
-    ensures pass_two { IsPass (meaning ⟦<Marks as Parts>⟧ hall.now.0 hall.now.1) hall.now.2 two.new.seat two.new.hands }
+    ensures pass_two { IsPass (means ⟦<Marks as Parts>⟧ hall.now) hall.now.id two.new.seat two.new.hands }
     ensures empty_two { IsEmpty (first_of two.new.hands) }
     ensures sessions_two { two.new.seat.me.0.sessions ≡ two.old.seat.me.0.sessions }
 {
@@ -69,18 +68,18 @@ fn take_turns_uncounted<R: Wait>(
     two: &mut Pass<Marks>,
     turns: &[Turn],
 ) -> bool
-    requires shape { (hall.now.3 ≡ length (⟦<Marks as Parts>⟧.state_of hall.now.0)) × (2 < hall.now.3) }
+    requires shape { (hall.now.shape ≡ length (⟦<Marks as Parts>⟧.state_of hall.now.core)) × (2 < hall.now.shape) }
     requires session { has 1 one.old.seat.me.0.sessions ≡ true }
-    requires pass_one { IsPass (meaning ⟦<Marks as Parts>⟧ hall.now.0 hall.now.1) hall.now.2 one.old.seat one.old.hands }
+    requires pass_one { IsPass (means ⟦<Marks as Parts>⟧ hall.now) hall.now.id one.old.seat one.old.hands }
     requires empty_one { IsEmpty (first_of one.old.hands) }
     requires few_one { length one.old.seat.me.0.mine + length turns.now + 2 < 2 ^ 56 * hands_of one.old.seat.me.0 }
-    requires pass_two { IsPass (meaning ⟦<Marks as Parts>⟧ hall.now.0 hall.now.1) hall.now.2 two.old.seat two.old.hands }
+    requires pass_two { IsPass (means ⟦<Marks as Parts>⟧ hall.now) hall.now.id two.old.seat two.old.hands }
     requires empty_two { IsEmpty (first_of two.old.hands) }
     requires few_two { length two.old.seat.me.0.mine + length turns.now + 2 < 2 ^ 56 * hands_of two.old.seat.me.0 }
-    ensures pass_one { IsPass (meaning ⟦<Marks as Parts>⟧ hall.now.0 hall.now.1) hall.now.2 one.new.seat one.new.hands }
+    ensures pass_one { IsPass (means ⟦<Marks as Parts>⟧ hall.now) hall.now.id one.new.seat one.new.hands }
     ensures empty_one { IsEmpty (first_of one.new.hands) }
     ensures sessions_one { one.new.seat.me.0.sessions ≡ one.old.seat.me.0.sessions }
-    ensures pass_two { IsPass (meaning ⟦<Marks as Parts>⟧ hall.now.0 hall.now.1) hall.now.2 two.new.seat two.new.hands }
+    ensures pass_two { IsPass (means ⟦<Marks as Parts>⟧ hall.now) hall.now.id two.new.seat two.new.hands }
     ensures empty_two { IsEmpty (first_of two.new.hands) }
     ensures sessions_two { two.new.seat.me.0.sessions ≡ two.old.seat.me.0.sessions }
 {
@@ -116,12 +115,12 @@ fn raise_often<R: Wait, L: Ledger>(
 )
     requires name { blank.name ≡ L.name }
     requires parts { (blank.parts ≡ L.parts) × (0 < L.parts) }
-    requires pass { IsPass (meaning ⟦<Marks as Parts>⟧ hall.now.0 hall.now.1) hall.now.2 pass.old.seat pass.old.hands }
-    requires shape { hall.now.3 ≡ length (⟦<Marks as Parts>⟧.state_of hall.now.0) }
-    requires part { (0 < part) × (part < hall.now.3) }
+    requires pass { IsPass (means ⟦<Marks as Parts>⟧ hall.now) hall.now.id pass.old.seat pass.old.hands }
+    requires shape { hall.now.shape ≡ length (⟦<Marks as Parts>⟧.state_of hall.now.core) }
+    requires part { (0 < part) × (part < hall.now.shape) }
     requires empty { IsEmpty (first_of pass.old.hands) }
     requires few { length pass.old.seat.me.0.mine + times < 2 ^ 56 * hands_of pass.old.seat.me.0 }
-    ensures pass { IsPass (meaning ⟦<Marks as Parts>⟧ hall.now.0 hall.now.1) hall.now.2 pass.new.seat pass.new.hands }
+    ensures pass { IsPass (means ⟦<Marks as Parts>⟧ hall.now) hall.now.id pass.new.seat pass.new.hands }
     ensures empty { IsEmpty (first_of pass.new.hands) }
     ensures sessions { pass.new.seat.me.0.sessions ≡ pass.old.seat.me.0.sessions }
 {
@@ -133,12 +132,12 @@ fn raise_often<R: Wait, L: Ledger>(
 
 // Raises a mark by 1, so many times, and counts no steps.
 fn raise_all<R: Wait>(rt: &R, hall: &Hall<Marks>, pass: &mut Pass<Marks>, part: u32, times: u32)
-    requires pass_pass { IsPass (meaning ⟦<Marks as Parts>⟧ hall.now.0 hall.now.1) hall.now.2 pass.old.seat pass.old.hands }
+    requires pass_pass { IsPass (means ⟦<Marks as Parts>⟧ hall.now) hall.now.id pass.old.seat pass.old.hands }
     requires empty_pass { IsEmpty (first_of pass.old.hands) }
     requires few_pass { length pass.old.seat.me.0.mine + times < 2 ^ 56 * hands_of pass.old.seat.me.0 }
-    requires shape { hall.now.3 ≡ length (⟦<Marks as Parts>⟧.state_of hall.now.0) }
-    requires part { (0 < part) × (part < hall.now.3) }
-    ensures pass_pass { IsPass (meaning ⟦<Marks as Parts>⟧ hall.now.0 hall.now.1) hall.now.2 pass.new.seat pass.new.hands }
+    requires shape { hall.now.shape ≡ length (⟦<Marks as Parts>⟧.state_of hall.now.core) }
+    requires part { (0 < part) × (part < hall.now.shape) }
+    ensures pass_pass { IsPass (means ⟦<Marks as Parts>⟧ hall.now) hall.now.id pass.new.seat pass.new.hands }
     ensures empty_pass { IsEmpty (first_of pass.new.hands) }
     ensures sessions_pass { pass.new.seat.me.0.sessions ≡ pass.old.seat.me.0.sessions }
 {
@@ -154,32 +153,32 @@ fn raise_both<R: Threads + Wait + Sync>(
     part: u32,
     times: u32,
 )
-    requires pass_one { IsPass (meaning ⟦<Marks as Parts>⟧ hall.now.0 hall.now.1) hall.now.2 one.old.seat one.old.hands }
+    requires pass_one { IsPass (means ⟦<Marks as Parts>⟧ hall.now) hall.now.id one.old.seat one.old.hands }
     requires empty_one { IsEmpty (first_of one.old.hands) }
     requires few_one { length one.old.seat.me.0.mine + times < 2 ^ 56 * hands_of one.old.seat.me.0 }
-    requires pass_two { IsPass (meaning ⟦<Marks as Parts>⟧ hall.now.0 hall.now.1) hall.now.2 two.old.seat two.old.hands }
+    requires pass_two { IsPass (means ⟦<Marks as Parts>⟧ hall.now) hall.now.id two.old.seat two.old.hands }
     requires empty_two { IsEmpty (first_of two.old.hands) }
     requires few_two { length two.old.seat.me.0.mine + times < 2 ^ 56 * hands_of two.old.seat.me.0 }
-    requires shape { hall.now.3 ≡ length (⟦<Marks as Parts>⟧.state_of hall.now.0) }
-    requires part { (0 < part) × (part < hall.now.3) }
-    ensures pass_one { IsPass (meaning ⟦<Marks as Parts>⟧ hall.now.0 hall.now.1) hall.now.2 one.new.seat one.new.hands }
+    requires shape { hall.now.shape ≡ length (⟦<Marks as Parts>⟧.state_of hall.now.core) }
+    requires part { (0 < part) × (part < hall.now.shape) }
+    ensures pass_one { IsPass (means ⟦<Marks as Parts>⟧ hall.now) hall.now.id one.new.seat one.new.hands }
     ensures empty_one { IsEmpty (first_of one.new.hands) }
     ensures sessions_one { one.new.seat.me.0.sessions ≡ one.old.seat.me.0.sessions }
-    ensures pass_two { IsPass (meaning ⟦<Marks as Parts>⟧ hall.now.0 hall.now.1) hall.now.2 two.new.seat two.new.hands }
+    ensures pass_two { IsPass (means ⟦<Marks as Parts>⟧ hall.now) hall.now.id two.new.seat two.new.hands }
     ensures empty_two { IsEmpty (first_of two.new.hands) }
     ensures sessions_two { two.new.seat.me.0.sessions ≡ two.old.seat.me.0.sessions }
 {
     join_mut(
         rt,
         &mut || -> ()
-            requires { IsSync R.row × IsPass (meaning_of (vec_len hall.now.0.marks) hall.now.0.marks.items hall.now.1) hall.now.2 one.now.seat one.now.hands × (hall.now.3 ≡ length hall.now.0.marks.items) × (0 < part) × (part < hall.now.3) × (IsEmpty (first_of one.now.hands)) × (length one.now.seat.me.0.mine + times < 2 ^ 56 * hands_of one.now.seat.me.0) }
-            ensures { IsPass (meaning_of (vec_len hall.entry.now.0.marks) hall.entry.now.0.marks.items hall.entry.now.1) hall.entry.now.2 one.exit.now.seat one.exit.now.hands × (IsEmpty (first_of one.exit.now.hands)) × (one.exit.now.seat.me.0.sessions ≡ one.entry.now.seat.me.0.sessions) }
+            requires { IsSync R.row × IsPass (meaning_of (vec_len hall.now.core.marks) hall.now.core.marks.items hall.now.passes) hall.now.id one.now.seat one.now.hands × (hall.now.shape ≡ length hall.now.core.marks.items) × (0 < part) × (part < hall.now.shape) × (IsEmpty (first_of one.now.hands)) × (length one.now.seat.me.0.mine + times < 2 ^ 56 * hands_of one.now.seat.me.0) }
+            ensures { IsPass (meaning_of (vec_len hall.entry.now.core.marks) hall.entry.now.core.marks.items hall.entry.now.passes) hall.entry.now.id one.exit.now.seat one.exit.now.hands × (IsEmpty (first_of one.exit.now.hands)) × (one.exit.now.seat.me.0.sessions ≡ one.entry.now.seat.me.0.sessions) }
         {
             raise_all(rt, hall, one, part, times);
         },
         &mut || -> ()
-            requires { IsSync R.row × IsPass (meaning_of (vec_len hall.now.0.marks) hall.now.0.marks.items hall.now.1) hall.now.2 two.now.seat two.now.hands × (hall.now.3 ≡ length hall.now.0.marks.items) × (0 < part) × (part < hall.now.3) × (IsEmpty (first_of two.now.hands)) × (length two.now.seat.me.0.mine + times < 2 ^ 56 * hands_of two.now.seat.me.0) }
-            ensures { IsPass (meaning_of (vec_len hall.entry.now.0.marks) hall.entry.now.0.marks.items hall.entry.now.1) hall.entry.now.2 two.exit.now.seat two.exit.now.hands × (IsEmpty (first_of two.exit.now.hands)) × (two.exit.now.seat.me.0.sessions ≡ two.entry.now.seat.me.0.sessions) }
+            requires { IsSync R.row × IsPass (meaning_of (vec_len hall.now.core.marks) hall.now.core.marks.items hall.now.passes) hall.now.id two.now.seat two.now.hands × (hall.now.shape ≡ length hall.now.core.marks.items) × (0 < part) × (part < hall.now.shape) × (IsEmpty (first_of two.now.hands)) × (length two.now.seat.me.0.mine + times < 2 ^ 56 * hands_of two.now.seat.me.0) }
+            ensures { IsPass (meaning_of (vec_len hall.entry.now.core.marks) hall.entry.now.core.marks.items hall.entry.now.passes) hall.entry.now.id two.exit.now.seat two.exit.now.hands × (IsEmpty (first_of two.exit.now.hands)) × (two.exit.now.seat.me.0.sessions ≡ two.entry.now.seat.me.0.sessions) }
         {
             raise_all(rt, hall, two, part, times);
         },
@@ -207,9 +206,9 @@ fn hold<R: Wait>(
     pass: &mut Pass<Marks>,
     flag: &AtomicCell<bool>,
 ) -> bool
-    requires pass { IsPass (meaning ⟦<Marks as Parts>⟧ hall.now.0 hall.now.1) hall.now.2 pass.old.seat pass.old.hands }
-    requires shape { hall.now.3 ≡ length (⟦<Marks as Parts>⟧.state_of hall.now.0) }
-    requires part { 1 < hall.now.3 }
+    requires pass { IsPass (means ⟦<Marks as Parts>⟧ hall.now) hall.now.id pass.old.seat pass.old.hands }
+    requires shape { hall.now.shape ≡ length (⟦<Marks as Parts>⟧.state_of hall.now.core) }
+    requires part { 1 < hall.now.shape }
     requires empty { IsEmpty (first_of pass.old.hands) }
     requires hand { 0 < hands_of pass.old.seat.me.0 }
 {
@@ -236,9 +235,9 @@ fn raise_and_tell<R: Wait>(
     pass: &mut Pass<Marks>,
     flag: &AtomicCell<bool>,
 )
-    requires pass { IsPass (meaning ⟦<Marks as Parts>⟧ hall.now.0 hall.now.1) hall.now.2 pass.old.seat pass.old.hands }
-    requires shape { hall.now.3 ≡ length (⟦<Marks as Parts>⟧.state_of hall.now.0) }
-    requires part { 2 < hall.now.3 }
+    requires pass { IsPass (means ⟦<Marks as Parts>⟧ hall.now) hall.now.id pass.old.seat pass.old.hands }
+    requires shape { hall.now.shape ≡ length (⟦<Marks as Parts>⟧.state_of hall.now.core) }
+    requires part { 2 < hall.now.shape }
     requires empty { IsEmpty (first_of pass.old.hands) }
     requires few { length pass.old.seat.me.0.mine + 1 < 2 ^ 56 * hands_of pass.old.seat.me.0 }
 {
@@ -265,9 +264,9 @@ fn both_sides<R: Threads + Wait + Sync>(
     two: &mut Pass<Marks>,
     flag: &AtomicCell<bool>,
 ) -> (bool, ())
-    requires pass_one { IsPass (meaning ⟦<Marks as Parts>⟧ hall.now.0 hall.now.1) hall.now.2 one.old.seat one.old.hands }
-    requires pass_two { IsPass (meaning ⟦<Marks as Parts>⟧ hall.now.0 hall.now.1) hall.now.2 two.old.seat two.old.hands }
-    requires shape { (hall.now.3 ≡ length (⟦<Marks as Parts>⟧.state_of hall.now.0)) × (2 < hall.now.3) }
+    requires pass_one { IsPass (means ⟦<Marks as Parts>⟧ hall.now) hall.now.id one.old.seat one.old.hands }
+    requires pass_two { IsPass (means ⟦<Marks as Parts>⟧ hall.now) hall.now.id two.old.seat two.old.hands }
+    requires shape { (hall.now.shape ≡ length (⟦<Marks as Parts>⟧.state_of hall.now.core)) × (2 < hall.now.shape) }
     requires empty_one { IsEmpty (first_of one.old.hands) }
     requires empty_two { IsEmpty (first_of two.old.hands) }
     requires hand_one { 0 < hands_of one.old.seat.me.0 }
@@ -276,10 +275,10 @@ fn both_sides<R: Threads + Wait + Sync>(
     join_mut(
         rt,
         &mut || -> bool
-            requires { IsSync R.row × IsPass (meaning_of (vec_len hall.now.0.marks) hall.now.0.marks.items hall.now.1) hall.now.2 one.now.seat one.now.hands × (hall.now.3 ≡ length hall.now.0.marks.items) × (2 < hall.now.3) × (IsEmpty (first_of one.now.hands)) × (0 < hands_of one.now.seat.me.0) }
+            requires { IsSync R.row × IsPass (meaning_of (vec_len hall.now.core.marks) hall.now.core.marks.items hall.now.passes) hall.now.id one.now.seat one.now.hands × (hall.now.shape ≡ length hall.now.core.marks.items) × (2 < hall.now.shape) × (IsEmpty (first_of one.now.hands)) × (0 < hands_of one.now.seat.me.0) }
         { hold(rt, hall, one, flag) },
         &mut || -> ()
-            requires { IsSync R.row × IsPass (meaning_of (vec_len hall.now.0.marks) hall.now.0.marks.items hall.now.1) hall.now.2 two.now.seat two.now.hands × (hall.now.3 ≡ length hall.now.0.marks.items) × (2 < hall.now.3) × (IsEmpty (first_of two.now.hands)) × (length two.now.seat.me.0.mine + 1 < 2 ^ 56 * hands_of two.now.seat.me.0) }
+            requires { IsSync R.row × IsPass (meaning_of (vec_len hall.now.core.marks) hall.now.core.marks.items hall.now.passes) hall.now.id two.now.seat two.now.hands × (hall.now.shape ≡ length hall.now.core.marks.items) × (2 < hall.now.shape) × (IsEmpty (first_of two.now.hands)) × (length two.now.seat.me.0.mine + 1 < 2 ^ 56 * hands_of two.now.seat.me.0) }
         {
             raise_and_tell(rt, hall, two, flag);
         },

@@ -56,13 +56,13 @@ returns-clause-empty g c = record {
 pub try_raise-raised-requires-clause-stands : goal.try_raise-raised-requires-clause-stands
 try_raise-raised-requires-clause-stands g c =
     let hall = c.args.hall.now in
-    let marks = hall.0.marks in
+    let marks = hall.core.marks in
     let before = c.args.pass.now.seat in
     let taken = c.take.new.pass.seat in
-    opened_stands hall.3 (replay (meaning_of (vec_len marks) marks.items hall.1) taken.me.0.log) c.args.session c.args.part c.args.by
+    opened_stands hall.shape (replay (meaning_of (vec_len marks) marks.items hall.passes) taken.me.0.log) c.args.session c.args.part c.args.by
     (λ r is.
     let s = c.requires.session r is in
-    looked_open (vec_len marks) marks.items hall.1 hall.3 before.id before.me.0 taken.me.0 c.take.ensures.seen.1 r s.0 ∙ s.1)
+    looked_open (vec_len marks) marks.items hall.passes hall.shape before.id before.me.0 taken.me.0 c.take.ensures.seen.1 r s.0 ∙ s.1)
 
 pub try_raise-raised-requires-clause-named : goal.try_raise-raised-requires-clause-named
 try_raise-raised-requires-clause-named g c = λ r is.
@@ -71,20 +71,20 @@ try_raise-raised-requires-clause-named g c = λ r is.
 pub returns-clause-raised : goal.returns-clause-raised
 returns-clause-raised g c =
     let hall = c.args.hall.now in
-    let marks = hall.0.marks in
+    let marks = hall.core.marks in
     let part = c.args.part in
     let by = c.args.by in
-    raise_between (vec_len marks) marks.items hall.1 c.try_raise-raised.result (Raise c.args.session part by) (λ s. 2 ^ 64 ≤ slice_index s part + by) (λ was s. was ≡ slice_index s part) c.args.pass.now.seat.me.0
+    raise_between (vec_len marks) marks.items hall.passes c.try_raise-raised.result (Raise c.args.session part by) (λ s. 2 ^ 64 ≤ slice_index s part + by) (λ was s. was ≡ slice_index s part) c.args.pass.now.seat.me.0
     c.take.new.pass.seat.me.0 c.try_raise-raised.new.pass.seat.me.0 c.give.new.pass.seat.me.0 part c.take.ensures.seen.1.mine (ap (λ (me : Me (Option ℕ) (View Deed)). me.0) c.give.ensures.view) c.try_raise-raised.ensures.raised
 
 pub returns-clause-opened : goal.returns-clause-opened
 returns-clause-opened g c = λ r mine.
     let hall = c.args.hall.now in
-    let marks = hall.0.marks in
-    let M = meaning_of (vec_len marks) marks.items hall.1 in
+    let marks = hall.core.marks in
+    let M = meaning_of (vec_len marks) marks.items hall.passes in
     let before = c.args.pass.now.seat in
     let taken = c.take.new.pass.seat in
-    let given = ap (λ (me : Me (Option ℕ) (View Deed)). open_of hall.3 (replay M me.0.log) r) c.give.ensures.view in
+    let given = ap (λ (me : Me (Option ℕ) (View Deed)). open_of hall.shape (replay M me.0.log) r) c.give.ensures.view in
     let raised = c.try_raise-raised.ensures.opened r (subst (λ (sessions : List ℕ). has r sessions ≡ true) (sym c.take.ensures.seen.1.sessions) mine) in
-    let looked : open_of hall.3 (replay M taken.me.0.log) r ≡ open_of hall.3 (replay M before.me.0.log) r = looked_open (vec_len marks) marks.items hall.1 hall.3 before.id before.me.0 taken.me.0 c.take.ensures.seen.1 r mine in
+    let looked : open_of hall.shape (replay M taken.me.0.log) r ≡ open_of hall.shape (replay M before.me.0.log) r = looked_open (vec_len marks) marks.items hall.passes hall.shape before.id before.me.0 taken.me.0 c.take.ensures.seen.1 r mine in
     given ∙ (raised ∙ looked)

@@ -8,4 +8,4 @@ returns-clause-opens g c = λ _.
     let hall = c.args.hall.now in
     let seat = c.args.pass.now.seat in
     let log = c.event.ensures.log in
-    begun_open (vec_len hall.0.marks) hall.0.marks.items hall.1 hall.3 seat.id seat.me.0 c.event.new.pass.seat.me.0 log.0 c.args.session log.1.1 c.requires.session.0 (let a = c.requires.shape.0 in let b = c.requires.shape.1 in omega (arith, a, b))
+    begun_open (vec_len hall.core.marks) hall.core.marks.items hall.passes hall.shape seat.id seat.me.0 c.event.new.pass.seat.me.0 log.0 c.args.session log.1.1 c.requires.session.0 (let a = c.requires.shape.0 in let b = c.requires.shape.1 in omega (arith, a, b))

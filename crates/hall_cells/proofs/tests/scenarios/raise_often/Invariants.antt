@@ -7,7 +7,7 @@ use Rattle.hall_cells.proofs.tests.scenarios.raise_often.Given as goal
 
 abbrev pub invariant-loop-at : goal.invariant-loop-at
 invariant-loop-at g l = record {
-  pass : IsPass (meaning ghosts l.hall.0 l.hall.1) l.hall.2 l.pass.seat l.pass.hands;
+  pass : IsPass (meaning ghosts l.hall.core l.hall.passes) l.hall.id l.pass.seat l.pass.hands;
   empty : IsEmpty (first_of l.pass.hands);
   sessions : l.pass.seat.me.0.sessions ≡ l.fn.pass.seat.me.0.sessions;
   few : length l.pass.seat.me.0.mine ≤ length l.fn.pass.seat.me.0.mine + l._at;

@@ -1,6 +1,7 @@
 use Rattle.std.proofs.Common.{◌≡◌, ℕ, ◌+◌, [], length, sym, ap, subst, ◌∙◌, arith}
 use Rattle.std.specs.Prelude.{replicate, slice_index}
 use Rattle.atomic_table.specs.Table.{opening}
+use Rattle.hall_rule.specs.EventLog.{replay}
 use Rattle.hall_rule.specs.HallInvariant.{Rule}
 use Rattle.hall_rule.specs.Hands.{all_in}
 use Rattle.hall_rule.specs.Meaning.{meaning}
@@ -36,3 +37,13 @@ returns-clause-pass g c =
 
 pub returns-clause-empty : goal.returns-clause-empty
 returns-clause-empty g c = each_first Empty c.in_ok-hands.hands c.in_ok-hands.ensures.empty nothing
+
+pub returns-clause-rests : goal.returns-clause-rests
+returns-clause-rests g c =
+    let t = g.C.Parts in
+    let x = c.args.core in
+    let M = meaning t x c.args.passes in
+    let begins : M.sound M.start = g.met.C.Parts.opens (t.shape_of x) (t.state_of x) c.requires.opening in
+    let ok = c.in-Ok.ensures.ok in
+    let me : c.in-Ok.seat.me ≡ (first_view M.start M.passes, []) = ok.4 ∙ ap (λ (y : g.row.C.Denot). (first_view (t.state_of y) c.args.passes, [])) c.of.ensures in
+    λ q. ap (λ y. t.transaction (t.shape_of x) (replay M y.0.log) q) me ∙ g.met.C.Parts.rests (t.shape_of x) (t.state_of x) q c.requires.opening

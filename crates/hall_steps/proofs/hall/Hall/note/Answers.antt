@@ -1,5 +1,5 @@
-use Rattle.std.proofs.Common.{ℕ, sym, subst, arith}
-use Rattle.atomic_table.specs.Seated.{TableId}
+use Rattle.hall_steps.specs.Hall.{HallView}
+use Rattle.std.proofs.Common.{sym, subst, arith}
 use Rattle.hall_rule.specs.Meaning.{meaning}
 use Rattle.hall_steps.specs.Hall.{IsPass}
 use Rattle.hall_rule.proofs.Splits.{notes}
@@ -11,7 +11,7 @@ split_seat-seat-requires g c =
     let shared = c.self.inside.table.shared in
     let key = shared.key in
     let M = meaning t key.core.value key.passes in
-    let In : (g.row.C.Denot × ℕ × TableId × g.row.C-Shape.Denot) → Type 0 = λ w. IsPass (meaning t w.0 w.1) w.2 c.args.pass.now.seat c.args.pass.now.hands in
+    let In : HallView g.row.C.Denot g.row.C-Shape.Denot → Type 0 = λ w. IsPass (meaning t w.core w.passes) w.id c.args.pass.now.seat c.args.pass.now.hands in
     let pass : IsPass M shared.table_id c.args.pass.now.seat c.args.pass.now.hands = subst In (sym c.self.view_is) c.requires.pass in
     let sized = c.self.invariant.0 in
     let w = sized.words in
