@@ -1,0 +1,5 @@
+pub mod Checks
+pub mod Metadata
+pub mod Columns
+pub mod Streams
+pub mod Samples

@@ -1,0 +1,245 @@
+-- What a message's metadata denotes, wherever its objects stand: references are followed from the root, and a field that
+-- is absent has its default. Field numbers and the numbers of types are those of the public schemas Message.fbs and
+-- Schema.fbs; how a table, a vtable, a vector and a string are read is of the FlatBuffers internals.
+use Rattle.std.specs.Prelude.{ℕ, ◌+◌, ◌*◌, ◌^◌, Bool, true, false, ◌&&◌, ◌||◌, not, ◌==◌, nat_lt, List, [], map, find, ℤ, Option, None, Some, is_some, Result, Ok}
+use Rattle.std.specs.Int.{w64, byte_len, cast_signed}
+use Rattle.std.specs.List.{range_with_len}
+use Rattle.std.specs.Str.{is_utf8}
+use Rattle.cell_model.specs.Kinds.{Values, signed, unsigned, truths, texts, blobs, values_of}
+use Rattle.cell_model.specs.declared.column.Column.{Column}
+use Rattle.cell_model.specs.declared.kind.Kind.{Kind}
+use Rattle.cell_model.specs.Examples.{kinds}
+use Rattle.arrow_spec.specs.Metadata.{type_number}
+use Rattle.flat_read.specs.Reading.{field_at, number_at, number_from, target_at, text_at, vector_at}
+use Rattle.flat_read.specs.declared.FlatFault.{FlatFault}
+use Rattle.stream_spec.specs.Checks.{◌>>=◌, each_of, fault_as, or_fault, rule}
+use Rattle.stream_spec.specs.declared.fault.MetaFault.{MetaFault}
+use Rattle.stream_spec.specs.declared.fault.MetaFault.TheVariants as fault
+
+-- ---- fields of a table
+
+-- a number of so many bytes, where the field is there, else this one
+abbrev pub number_or : List ℕ → ℕ → ℕ → Option ℕ → Result ℕ FlatFault
+number_or bytes width default None = Ok default
+number_or bytes width default (Some place) = number_at bytes place width
+
+-- the number in a table's field; an absent one is 0
+abbrev pub scalar : List ℕ → ℕ → ℕ → ℕ → Result ℕ FlatFault
+scalar bytes table index width = do
+  place ← field_at bytes table index
+  number_or bytes width 0 place
+
+-- where a field's reference leads, where it is there
+abbrev pub target_of : List ℕ → Option ℕ → Result (Option ℕ) FlatFault
+target_of bytes None = Ok None
+target_of bytes (Some place) = do
+  target ← target_at bytes place
+  Ok (Some target)
+
+abbrev pub reference : List ℕ → ℕ → ℕ → Result (Option ℕ) FlatFault
+reference bytes table index = do
+  place ← field_at bytes table index
+  target_of bytes place
+
+-- The elements of a vector: where the first stands, and how many there are. An absent vector has none.
+pub record Elements : Type 0 where
+  pub first : ℕ
+  pub count : ℕ
+
+abbrev pub elements_of : List ℕ → ℕ → Option ℕ → Result Elements FlatFault
+elements_of bytes width None = Ok (record { first = 0; count = 0 })
+elements_of bytes width (Some place) = do
+  vector ← vector_at bytes place width
+  Ok (record { first = vector.0; count = vector.1 })
+
+abbrev pub elements : List ℕ → ℕ → ℕ → ℕ → Result Elements FlatFault
+elements bytes table index width = do
+  place ← reference bytes table index
+  elements_of bytes width place
+
+-- a field's text; an absent one is empty
+abbrev pub text_or_empty : List ℕ → Option ℕ → Result (List ℕ) FlatFault
+text_or_empty bytes None = Ok []
+text_or_empty bytes (Some place) = text_at bytes place
+
+abbrev pub text : List ℕ → ℕ → ℕ → Result (List ℕ) FlatFault
+text bytes table index = do
+  place ← reference bytes table index
+  text_or_empty bytes place
+
+-- a signed number of 64 bits
+abbrev pub signed_from : List ℕ → ℕ → ℤ
+signed_from bytes place = cast_signed w64 (number_from bytes place 8)
+
+-- an unsigned reading of a negative number of 64 bits
+abbrev pub is_negative : ℕ → Bool
+is_negative number = not (nat_lt number (2 ^ 63))
+
+-- ---- the message
+
+-- A Message table: version (16 bits), header_type (8 bits), header (a reference), bodyLength (64 bits).
+pub record MessageTable : Type 0 where
+  pub version : ℕ
+  pub header_type : ℕ
+  pub header : Option ℕ
+  pub body : ℕ
+
+abbrev pub message_table_at : List ℕ → Result MessageTable FlatFault
+message_table_at bytes = do
+  root ← target_at bytes 0
+  version ← scalar bytes root 0 2
+  header_type ← scalar bytes root 1 1
+  header ← reference bytes root 2
+  body ← scalar bytes root 3 8
+  Ok (record { version = version; header_type = header_type; header = header; body = body })
+
+-- A message's head: whether it is a schema's, else it is a record batch's; where its header stands; and how many bytes
+-- of body follow it.
+pub record Head : Type 0 where
+  pub is_schema : Bool
+  pub header : ℕ
+  pub body : ℕ
+
+-- The head of a message with this metadata: V4 (3) or V5 (4), and a Schema (1) or a RecordBatch (3)
+-- (Message.fbs, "Message" and "MessageHeader").
+abbrev pub head_of : List ℕ → Result Head MetaFault
+head_of bytes = do
+  message ← fault_as fault.Flat (message_table_at bytes)
+  version ← rule fault.Version (message.version == 3 || message.version == 4)
+  dictionary ← rule fault.Dictionary (not (message.header_type == 2))
+  kind ← rule fault.Kind (message.header_type == 1 || message.header_type == 3)
+  header ← or_fault fault.Shape message.header
+  body ← rule fault.Shape (not (is_negative message.body))
+  Ok (record { is_schema = message.header_type == 1; header = header; body = message.body })
+
+-- ---- a schema
+
+-- A Field table: name (a string), nullable (a byte), type_type (8 bits), type and dictionary (references), children (a
+-- vector of tables).
+pub record FieldTable : Type 0 where
+  pub name : List ℕ
+  pub nullable : Bool
+  pub type_type : ℕ
+  pub type' : Option ℕ
+  pub dictionary : Bool
+  pub children : ℕ
+
+-- What an Int table says: bitWidth (32 bits), is_signed (a byte). An absent table says 0 and false.
+pub record IntTable : Type 0 where
+  pub bits : ℕ
+  pub is_signed : Bool
+
+abbrev pub int_table_of : List ℕ → Option ℕ → Result IntTable FlatFault
+int_table_of bytes None = Ok (record { bits = 0; is_signed = false })
+int_table_of bytes (Some table) = do
+  bits ← scalar bytes table 0 4
+  is_signed ← scalar bytes table 1 1
+  Ok (record { bits = bits; is_signed = not (is_signed == 0) })
+
+-- the Int table of a field's type; other types have no fields, and their tables are not looked at
+abbrev pub int_of_type : List ℕ → ℕ → Option ℕ → Result IntTable FlatFault
+int_of_type bytes type_type table = elim (type_type == 2) [
+  | true ↦ int_table_of bytes table
+  | false ↦ int_table_of bytes None
+]
+
+abbrev pub field_table_at : List ℕ → ℕ → Result (FieldTable × IntTable) FlatFault
+field_table_at bytes table = do
+  name ← text bytes table 0
+  nullable ← scalar bytes table 1 1
+  type_type ← scalar bytes table 2 1
+  type' ← reference bytes table 3
+  dictionary ← field_at bytes table 4
+  children ← elements bytes table 5 4
+  int ← int_of_type bytes type_type type'
+  Ok (
+    record {
+      name = name;
+      nullable = not (nullable == 0);
+      type_type = type_type;
+      type' = type';
+      dictionary = is_some dictionary;
+      children = children.count;
+    },
+    int,
+  )
+
+-- an Int type of so many bits, signed or not, has these values; other types say nothing more
+abbrev pub has_values : IntTable → Values → Bool
+has_values int (signed width) = (int.bits == 8 * byte_len width) && int.is_signed
+has_values int (unsigned width) = (int.bits == 8 * byte_len width) && not int.is_signed
+has_values int truths = true
+has_values int texts = true
+has_values int blobs = true
+
+-- the kind whose type this is (Schema.fbs, "Type" and "Int")
+abbrev pub kind_of_type : ℕ → IntTable → Option Kind
+kind_of_type type_type int = find (λ kind. (type_number kind == type_type) && has_values int (values_of kind)) kinds
+
+-- The column of the field whose reference stands at a place (Schema.fbs, "Field").
+abbrev pub column_at : List ℕ → ℕ → Result Column MetaFault
+column_at bytes place = do
+  table ← fault_as fault.Flat (target_at bytes place)
+  read ← fault_as fault.Flat (field_table_at bytes table)
+  name ← rule fault.Utf8 (is_utf8 read.0.name)
+  dictionary ← rule fault.Dictionary (not read.0.dictionary)
+  kind ← or_fault fault.Kind (kind_of_type read.0.type_type read.1)
+  type' ← or_fault fault.Shape read.0.type'
+  childless ← rule fault.Shape (read.0.children == 0)
+  Ok (record { name = read.0.name; kind = kind; nullable = read.0.nullable })
+
+-- the places of so many elements of a width
+abbrev pub places_of : Elements → ℕ → List ℕ
+places_of elements width = map (λ i. elements.first + width * i) (range_with_len 0 elements.count)
+
+-- A Schema table: endianness (16 bits), fields (a vector of tables).
+pub record SchemaTable : Type 0 where
+  pub endianness : ℕ
+  pub fields : Elements
+
+abbrev pub schema_table_at : List ℕ → ℕ → Result SchemaTable FlatFault
+schema_table_at bytes table = do
+  endianness ← scalar bytes table 0 2
+  fields ← elements bytes table 1 4
+  Ok (record { endianness = endianness; fields = fields })
+
+-- The columns of a schema: numbers are little-endian, and there is a field (Schema.fbs, "Schema" and "Endianness").
+abbrev pub columns_at : List ℕ → ℕ → Result (List Column) MetaFault
+columns_at bytes table = do
+  schema ← fault_as fault.Flat (schema_table_at bytes table)
+  endian ← rule fault.Endian (schema.endianness == 0)
+  some ← rule fault.Shape (not (schema.fields.count == 0))
+  each_of (column_at bytes) (places_of schema.fields 4)
+
+-- ---- a record batch
+
+-- A record batch as its metadata has it: how many rows, a node (length, null count) for each column, and where each
+-- buffer lies in the body (offset, length) (Message.fbs, "RecordBatch", "FieldNode", "Buffer").
+pub record BatchTable : Type 0 where
+  pub rows : ℕ
+  pub nodes : List (ℤ × ℤ)
+  pub buffers : List (ℤ × ℤ)
+
+-- the two signed numbers of 64 bits that stand at a place
+abbrev pub pair_at : List ℕ → ℕ → ℤ × ℤ
+pair_at bytes place = (signed_from bytes place, signed_from bytes (place + 8))
+
+abbrev pub pairs_of : List ℕ → Elements → List (ℤ × ℤ)
+pairs_of bytes elements = map (pair_at bytes) (places_of elements 16)
+
+-- a RecordBatch table: length (64 bits), nodes and buffers (vectors of pairs), compression (a reference)
+abbrev pub batch_table_at : List ℕ → ℕ → Result (BatchTable × Bool) FlatFault
+batch_table_at bytes table = do
+  rows ← scalar bytes table 0 8
+  nodes ← elements bytes table 1 16
+  buffers ← elements bytes table 2 16
+  compression ← field_at bytes table 3
+  Ok (record { rows = rows; nodes = pairs_of bytes nodes; buffers = pairs_of bytes buffers }, is_some compression)
+
+-- The batch: it is not compressed, and its length is not negative.
+abbrev pub batch_at : List ℕ → ℕ → Result BatchTable MetaFault
+batch_at bytes table = do
+  read ← fault_as fault.Flat (batch_table_at bytes table)
+  plain ← rule fault.Compressed (not read.1)
+  length' ← rule fault.Shape (not (is_negative read.0.rows))
+  Ok read.0

@@ -1,0 +1,8 @@
+//! What bytes read as, as an Arrow stream that nobody vouches for: the schema and the batches, or the first fault with
+//! its place and its cause.
+#![tactic(auto)]
+
+pub mod examples;
+pub mod fault;
+
+pub use fault::{Cause, MetaFault, StreamFault};
