@@ -1,3 +1,4 @@
+pub mod Adapters
 pub mod Calls
 pub mod Doubles
 pub mod FaultPlan

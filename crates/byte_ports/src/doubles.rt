@@ -54,6 +54,7 @@ impl Source for ListSource {
         ensures bytes { ReadConsumes (Some self.old.left) (Some self.new.left) result buf.new }
         ensures told { TellsAlike (Some self.old.left) (Some self.new.left) }
         ensures counted { self.old.plan.faults ≤ self.new.plan.faults }
+        ensures kept { OnOk result (self.new.plan.faults ≡ self.old.plan.faults) }
         ensures cause { OnErr result (Rose self.old.plan.faults self.new.plan.faults) }
 
         ensures count { IfOk result (λ n. n ≡ min (length buf.old) (length self.old.left)) }
@@ -117,6 +118,7 @@ impl Sink for ListSink {
         ensures bytes { WriteAppends (Some self.old.written) (Some self.new.written) result piece.now }
         ensures told { TellsAlike (Some self.old.written) (Some self.new.written) }
         ensures counted { self.old.plan.faults ≤ self.new.plan.faults }
+        ensures kept { OnOk result (self.new.plan.faults ≡ self.old.plan.faults) }
         ensures cause { OnErr result (Rose self.old.plan.faults self.new.plan.faults) }
 
         ensures count { IfOk result (λ n. n ≡ length piece.now) }
@@ -207,6 +209,7 @@ impl Sink for ListOutlet {
         ensures told { TellsAlike (Some self.old.written) (Some self.new.written) }
         ensures started { Some self.new.started ≡ Some self.old.started }
         ensures counted { self.old.plan.faults ≤ self.new.plan.faults }
+        ensures kept { OnOk result (self.new.plan.faults ≡ self.old.plan.faults) }
         ensures cause { OnErr result (Rose self.old.plan.faults self.new.plan.faults) }
 
         ensures count { IfOk result (λ n. n ≡ length piece.now) }
@@ -224,6 +227,7 @@ impl Outlet for ListOutlet {
         ensures bytes { Some self.new.written ≡ Some self.old.written }
         ensures adds { StartAdds (Some self.old.started) (Some self.new.started) result name.now }
         ensures counted { self.old.plan.faults ≤ self.new.plan.faults }
+        ensures kept { OnOk result (self.new.plan.faults ≡ self.old.plan.faults) }
         ensures cause { OnErr result (Rose self.old.plan.faults self.new.plan.faults) }
 
         ensures fails { IsTrue (fails_next self.old.plan) → IsErr result }

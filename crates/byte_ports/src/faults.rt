@@ -1,4 +1,4 @@
-ghost use Rattle.std.specs.Prelude.{◌≡◌, ◌≤◌, IfOk, OnErr, is_err};
+ghost use Rattle.std.specs.Prelude.{◌≡◌, ◌≤◌, IfOk, OnErr, OnOk, is_err};
 ghost use Rattle.byte_ports.specs.Calls.{Rose, counted};
 ghost use Rattle.byte_ports.specs.FaultPlan.{new_plan, fails_next, after_call};
 
@@ -70,6 +70,7 @@ impl FaultPlan {
         ensures fails { is_err result ≡ fails_next self.old }
         ensures plan { self.new ≡ after_call self.old (is_err result) }
         ensures counted { self.old.faults ≤ self.new.faults }
+        ensures kept { OnOk result (self.new.faults ≡ self.old.faults) }
         ensures cause { OnErr result (Rose self.old.faults self.new.faults) }
     {
         self.calls = self.calls.saturating_add(1);

@@ -1,4 +1,4 @@
-ghost use Rattle.std.specs.Prelude.{◌≡◌, ℕ, ◌<◌, ◌≤◌, List, Option, None, Some, IfOk, OnErr, length, is_some, codes};
+ghost use Rattle.std.specs.Prelude.{◌≡◌, ℕ, ◌<◌, ◌≤◌, List, Option, None, Some, IfOk, OnErr, OnOk, length, is_some, codes};
 ghost use Rattle.std.specs.Borrow.{GName};
 ghost use Rattle.std.specs.Io.{ReadsAtMost, WritesAtMost};
 ghost use Rattle.std.specs.Io.KnownBytes.{ReadConsumes, WriteAppends};
@@ -37,6 +37,7 @@ pub trait Source {
         ensures bytes { ReadConsumes (left self.old) (left self.new) result buf.new }
         ensures told { TellsAlike (left self.old) (left self.new) }
         ensures counted { faults self.old ≤ faults self.new }
+        ensures kept { OnOk result (faults self.new ≡ faults self.old) }
         ensures cause { OnErr result (Rose (faults self.old) (faults self.new)) };
 }
 
@@ -65,6 +66,7 @@ pub trait Sink {
         ensures started { started self.new ≡ started self.old }
         ensures loan { loan self.new ≡ loan self.old }
         ensures counted { faults self.old ≤ faults self.new }
+        ensures kept { OnOk result (faults self.new ≡ faults self.old) }
         ensures cause { OnErr result (Rose (faults self.old) (faults self.new)) };
 }
 
@@ -76,6 +78,7 @@ pub trait Outlet: Sink {
         ensures loan { Self.loan self.new ≡ Self.loan self.old }
         ensures adds { StartAdds (Self.started self.old) (Self.started self.new) result name.now }
         ensures counted { Self.faults self.old ≤ Self.faults self.new }
+        ensures kept { OnOk result (Self.faults self.new ≡ Self.faults self.old) }
         ensures cause { OnErr result (Rose (Self.faults self.old) (Self.faults self.new)) };
 
     // The names are told exactly where the bytes are.

@@ -1,16 +1,18 @@
-ghost use Rattle.std.specs.Prelude.{◌≡◌, ◌<◌, ◌≤◌, ℕ, None, IfOk, OnErr, length, is_err, refl};
+ghost use Rattle.std.specs.Prelude.{◌≡◌, ◌<◌, ◌≤◌, ℕ, None, IfOk, IsSome, OnErr, OnOk, length, is_err, refl};
 ghost use Rattle.std.specs.Io.{ReadsAtMost, WritesAtMost};
+ghost use Rattle.std.specs.Io.KnownBytes.{ReadConsumes, WriteAppends};
+ghost use Rattle.byte_ports.specs.Adapters.{held};
 ghost use Rattle.byte_ports.specs.Calls.{Rose, faults_after};
 
 use crate::faults::FaultCount;
 use crate::{Failed, Outlet, Sink, Source};
 use std::fs::File;
-use std::io::{Read, Write};
+use std::io::{self, Read, Write};
 use std::marker::Model;
 use std::rt::Files;
 
-/// A source over a reader of std. Contracts see it as its count of faults: each error of the reader
-/// is one. Which bytes it reads is not told.
+/// A source over a reader of std. Contracts see it as the reader and its count of faults: each error
+/// of the reader is one. It reads what the reader reads; what is left is not told.
 #[derive(Drop)]
 pub struct StdSource<R: Read> {
     reader: R,
@@ -18,17 +20,17 @@ pub struct StdSource<R: Read> {
 }
 
 impl<R: Read> Model for StdSource<R> {
-    ghost use Rattle.std.specs.Prelude.{ℕ};
+    ghost use Rattle.byte_ports.specs.Adapters.{Adapter};
 
-    ghost Value = { ℕ };
+    ghost Value = { Adapter R };
 
-    ghost view = { λ s. s.faults };
+    ghost view = { λ s. record { inner = s.reader; faults = s.faults } };
 }
 
 impl<R: Read> StdSource<R> {
     /// A source of what the reader reads.
     pub fn new(reader: R) -> Self
-        ensures { result ≡ 0 }
+        ensures { result ≡ record { inner = reader; faults = 0 } }
     {
         StdSource {
             reader,
@@ -40,15 +42,17 @@ impl<R: Read> StdSource<R> {
 impl<R: Read> Source for StdSource<R> {
     ghost left = { λ _. None };
 
-    ghost faults = { λ s. s };
+    ghost faults = { λ s. s.faults };
 
     fn read(&mut self, buf: &mut [u8]) -> Result<usize, Failed>
         requires room { 0 < length buf.old }
         ensures bound { ReadsAtMost result buf.new }
-        ensures counted { self.old ≤ self.new }
-        ensures cause { OnErr result (Rose self.old self.new) }
+        ensures counted { self.old.faults ≤ self.new.faults }
+        ensures kept { OnOk result (self.new.faults ≡ self.old.faults) }
+        ensures cause { OnErr result (Rose self.old.faults self.new.faults) }
 
-        ensures faults { self.new ≡ faults_after self.old (is_err result) }
+        ensures faults { self.new.faults ≡ faults_after self.old.faults (is_err result) }
+        ensures inner { ReadConsumes (R.remaining self.old.inner) (R.remaining self.new.inner) result buf.new }
     {
         match self.reader.read(buf) {
             Ok(count) => Ok(count),
@@ -57,8 +61,9 @@ impl<R: Read> Source for StdSource<R> {
     }
 }
 
-/// A sink over a writer of std. Contracts see it as its count of faults: each error of the writer is
-/// one, and so is that it takes nothing of a piece. Which bytes it wrote is not told.
+/// A sink over a writer of std. Contracts see it as the writer and its count of faults: each error of
+/// the writer is one, and so is that it takes nothing of a piece. It writes what the writer takes;
+/// what it has written is not told.
 #[derive(Drop)]
 pub struct StdSink<W: Write> {
     writer: W,
@@ -66,17 +71,17 @@ pub struct StdSink<W: Write> {
 }
 
 impl<W: Write> Model for StdSink<W> {
-    ghost use Rattle.std.specs.Prelude.{ℕ};
+    ghost use Rattle.byte_ports.specs.Adapters.{Adapter};
 
-    ghost Value = { ℕ };
+    ghost Value = { Adapter W };
 
-    ghost view = { λ s. s.faults };
+    ghost view = { λ s. record { inner = s.writer; faults = s.faults } };
 }
 
 impl<W: Write> StdSink<W> {
     /// A sink that writes by the writer, which is never flushed.
     pub fn new(writer: W) -> Self
-        ensures { result ≡ 0 }
+        ensures { result ≡ record { inner = writer; faults = 0 } }
     {
         StdSink {
             writer,
@@ -88,23 +93,26 @@ impl<W: Write> StdSink<W> {
 impl<W: Write> Sink for StdSink<W> {
     ghost written = { λ _. None };
 
-    ghost faults = { λ s. s };
+    ghost faults = { λ s. s.faults };
 
     fn write(&mut self, piece: &[u8]) -> Result<usize, Failed>
         ensures bound { WritesAtMost result piece.now }
         ensures some { IfOk result (λ count. 0 < length piece.now → 0 < count) }
-        ensures counted { self.old ≤ self.new }
-        ensures cause { OnErr result (Rose self.old self.new) }
+        ensures counted { self.old.faults ≤ self.new.faults }
+        ensures kept { OnOk result (self.new.faults ≡ self.old.faults) }
+        ensures cause { OnErr result (Rose self.old.faults self.new.faults) }
 
-        ensures faults { self.new ≡ faults_after self.old (is_err result) }
+        ensures faults { self.new.faults ≡ faults_after self.old.faults (is_err result) }
+        ensures inner { WriteAppends (W.contents self.old.inner) (W.contents self.new.inner) result piece.now }
     {
         write_counted(&mut self.writer, &mut self.faults, piece)
     }
 }
 
 /// An outlet that is started with the path of a file, which it makes or empties, and writes there.
-/// Contracts see it as its count of faults: each error is one, and so is a write before a start.
-/// Which bytes it wrote, and which names it was started with, is not told.
+/// Contracts see it as the file, if there is one, and its count of faults: each error is one, and so
+/// is a write before a start. It writes what the file takes; what it has written, and the names that
+/// it was started with, are not told.
 #[derive(Drop)]
 pub struct FileOutlet<F: Files> {
     rt: F,
@@ -113,17 +121,18 @@ pub struct FileOutlet<F: Files> {
 }
 
 impl<F: Files> Model for FileOutlet<F> {
-    ghost use Rattle.std.specs.Prelude.{ℕ};
+    ghost use Rattle.std.specs.Prelude.{Option};
+    ghost use Rattle.byte_ports.specs.Adapters.{Adapter};
 
-    ghost Value = { ℕ };
+    ghost Value = { Adapter (Option F.File) };
 
-    ghost view = { λ s. s.faults };
+    ghost view = { λ s. record { inner = s.file; faults = s.faults } };
 }
 
 impl<F: Files> FileOutlet<F> {
     /// An outlet without a file yet.
     pub fn new(rt: F) -> Self
-        ensures { result ≡ 0 }
+        ensures { result ≡ record { inner = None; faults = 0 } }
     {
         FileOutlet {
             rt,
@@ -136,15 +145,17 @@ impl<F: Files> FileOutlet<F> {
 impl<F: Files> Sink for FileOutlet<F> {
     ghost written = { λ _. None };
 
-    ghost faults = { λ s. s };
+    ghost faults = { λ s. s.faults };
 
     fn write(&mut self, piece: &[u8]) -> Result<usize, Failed>
         ensures bound { WritesAtMost result piece.now }
         ensures some { IfOk result (λ count. 0 < length piece.now → 0 < count) }
-        ensures counted { self.old ≤ self.new }
-        ensures cause { OnErr result (Rose self.old self.new) }
+        ensures counted { self.old.faults ≤ self.new.faults }
+        ensures kept { OnOk result (self.new.faults ≡ self.old.faults) }
+        ensures cause { OnErr result (Rose self.old.faults self.new.faults) }
 
-        ensures faults { self.new ≡ faults_after self.old (is_err result) }
+        ensures faults { self.new.faults ≡ faults_after self.old.faults (is_err result) }
+        ensures inner { WriteAppends (held F.File.contents self.old.inner) (held F.File.contents self.new.inner) result piece.now }
     {
         match &mut self.file {
             Some(file) => write_counted(file, &mut self.faults, piece),
@@ -155,14 +166,17 @@ impl<F: Files> Sink for FileOutlet<F> {
 
 impl<F: Files> Outlet for FileOutlet<F> {
     /// Makes the file at the path `name`, or empties it. A start that fails leaves the file that was
-    /// written to before.
+    /// written to before. The file is none of the standard streams, also where one of these is closed.
     fn start(&mut self, name: &str) -> Result<(), Failed>
-        ensures counted { self.old ≤ self.new }
-        ensures cause { OnErr result (Rose self.old self.new) }
+        ensures counted { self.old.faults ≤ self.new.faults }
+        ensures kept { OnOk result (self.new.faults ≡ self.old.faults) }
+        ensures cause { OnErr result (Rose self.old.faults self.new.faults) }
 
-        ensures faults { self.new ≡ faults_after self.old (is_err result) }
+        ensures faults { self.new.faults ≡ faults_after self.old.faults (is_err result) }
+        ensures started { OnOk result (IsSome self.new.inner) }
+        ensures left { OnErr result (self.new.inner ≡ self.old.inner) }
     {
-        let Ok(file) = File::create(&self.rt, name) else {
+        let Ok(file) = create_apart(&self.rt, name) else {
             return Err(self.faults.fail());
         };
         self.file = Some(file);
@@ -170,6 +184,15 @@ impl<F: Files> Outlet for FileOutlet<F> {
     }
 
     ghost names_told = { λ _. refl };
+}
+
+// Makes or empties a file. The system gives a file the least number that is free, which is that of a
+// standard stream where one is closed, so three files are held open until this one has its number.
+fn create_apart<F: Files>(rt: &F, name: &str) -> io::Result<F::File> {
+    let _first = File::open(rt, "/")?;
+    let _second = File::open(rt, "/")?;
+    let _third = File::open(rt, "/")?;
+    File::create(rt, name)
 }
 
 // Writes once. An error is counted, and so is that nothing was taken of a piece that has bytes.
@@ -180,6 +203,7 @@ fn write_counted<W: Write>(
 ) -> Result<usize, Failed>
     ensures bound { WritesAtMost result piece.now }
     ensures some { IfOk result (λ count. 0 < length piece.now → 0 < count) }
+    ensures inner { WriteAppends (W.contents writer.old) (W.contents writer.new) result piece.now }
     ensures counted { faults.old ≤ faults.new }
     ensures cause { OnErr result (Rose faults.old faults.new) }
     ensures faults { faults.new ≡ faults_after faults.old (is_err result) }

@@ -1,6 +1,7 @@
 use super::*;
 use std::alloc::Global;
 use std::fs::{self, File};
+use std::io::{self, ErrorKind, Write};
 use std::process::Abort;
 use std::sync::Wait;
 use std::test::Fail;
@@ -167,6 +168,71 @@ fn std_sink_writes_until_its_writer_takes_nothing(rt: HostRuntime) -> Result<(),
     let mut taken = PureSink;
     assert_eq!(rt; write_all(&mut taken, b"abcde"), Ok(()));
     Ok(())
+}
+
+// A writer that takes two bytes a call, and of whose calls, counted from 1, this one fails.
+#[derive(Drop)]
+struct Slow {
+    taken: [u8; 8],
+    count: usize,
+    calls: u32,
+    failing: u32,
+}
+
+impl Write for Slow {
+    fn write(&mut self, buf: &[u8]) -> io::Result<usize> {
+        self.calls = self.calls.saturating_add(1);
+        if self.calls == self.failing {
+            return Err(io::Error::from(ErrorKind::Other));
+        }
+        let count = buf.len().min(2);
+        for byte in buf.iter().take(count) {
+            if let Some(place) = self.taken.get_mut(self.count) {
+                *place = *byte;
+            }
+            self.count = self.count.saturating_add(1);
+        }
+        Ok(count)
+    }
+
+    fn flush(&mut self) -> io::Result<()> {
+        Ok(())
+    }
+}
+
+struct SlowCase {
+    failing: u32,
+    written: Result<(), Failed>,
+    taken: &'static [u8],
+}
+
+static SLOW_CASES: [SlowCase; 2] = [
+    SlowCase {
+        failing: 0,
+        written: Ok(()),
+        taken: b"abcde",
+    },
+    SlowCase {
+        failing: 2,
+        written: Err(Failed),
+        taken: b"ab",
+    },
+];
+
+#[test]
+fn std_sink_writes_on_after_a_short_write_and_stops_at_a_failed_one(rt: HostRuntime) {
+    for case in &SLOW_CASES {
+        let mut writer = Slow {
+            taken: [0; 8],
+            count: 0,
+            calls: 0,
+            failing: case.failing,
+        };
+        let mut sink = StdSink::new(&mut writer);
+        assert_eq!(rt; write_all(&mut sink, b"abcde"), case.written);
+        drop(sink);
+        assert_eq!(rt; writer.taken.get(..writer.count), Some(case.taken));
+    }
 }
 
 #[test]

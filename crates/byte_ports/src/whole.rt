@@ -1,7 +1,7 @@
 ghost use Rattle.std.specs.Prelude.{◌≡◌, ◌<◌, ◌≤◌, ℕ, Some, IfOk, OnOk, OnErr, IsErrOf, vec_len, alloc_error};
 ghost use Rattle.std.specs.Io.KnownBytes.{Consumes, IsAtEnd};
 ghost use Rattle.byte_ports.specs.Calls.{Rose, TellsAlike, WritesAll, ConsumesSome, ConsumesAtLeast};
-ghost use Rattle.byte_ports.specs.InputFault.{input_fault_text};
+ghost use Rattle.byte_ports.specs.InputFault.{CountsFault, input_fault_text};
 ghost use Rattle.byte_ports.specs.declared.whole.InputFault.TheVariants as fault;
 
 use crate::{Failed, Sink, Source};
@@ -61,6 +61,7 @@ pub fn write_all<S: Sink>(sink: &mut S, piece: &[u8]) -> Result<(), Failed>
     ensures started { S.started sink.new ≡ S.started sink.old }
     ensures loan { S.loan sink.new ≡ S.loan sink.old }
     ensures counted { S.faults sink.old ≤ S.faults sink.new }
+    ensures kept { OnOk result (S.faults sink.new ≡ S.faults sink.old) }
     ensures cause { OnErr result (Rose (S.faults sink.old) (S.faults sink.new)) }
 {
     let mut at = 0;
@@ -93,12 +94,10 @@ pub fn read_to_end<S: Source>(
 
     ensures long { IsErrOf result InputFault.TooLong
         → ConsumesAtLeast (S.left source.old) (S.left source.new) limit }
-    ensures cause { IsErrOf result InputFault.Failed
-        → Rose (S.faults source.old) (S.faults source.new) }
+    ensures cause { CountsFault (S.faults source.old) (S.faults source.new) result }
     ensures err { OnErr result (ConsumesSome (S.left source.old) (S.left source.new)) }
 
     ensures told { TellsAlike (S.left source.old) (S.left source.new) }
-    ensures counted { S.faults source.old ≤ S.faults source.new }
 {
     let mut bytes = Vec::new(alloc);
     let mut piece = blank_piece(alloc, PIECE_BYTES)?;

@@ -38,7 +38,7 @@ failed-before written faults old new piece more false (before, after, front, ros
 
 -- the first piece was written, and the sink failed within the second
 failed-behind : {W : Type 0} (written : W → Option (List ℕ)) (faults : W → ℕ) (old middle new : W × Bool) (piece more : List ℕ) (earlier : Bool)
-    → WroteAll written old middle piece → faults old.0 ≤ faults middle.0
+    → WroteAll written faults old middle piece → faults old.0 ≤ faults middle.0
     → SinkFailed written faults middle new more earlier → SinkFailed written faults old new (piece ++ more) earlier
 failed-behind written faults old middle new piece more true wrote counted (before, same) =
     let not : true ≡ false = sym before ∙ wrote.after in
@@ -48,20 +48,21 @@ failed-behind written faults old middle new piece more false wrote counted (befo
     (wrote.before, after, front-behind (written old.0) (written middle.0) (written new.0) piece more wrote.bytes front, risen)
 
 -- both pieces were written
-wrote-both : {W : Type 0} (written : W → Option (List ℕ)) (old middle new : W × Bool) (piece more : List ℕ)
-    → WroteAll written old middle piece → WroteAll written middle new more → WroteAll written old new (piece ++ more)
-wrote-both written old middle new piece more first second = record {
+wrote-both : {W : Type 0} (written : W → Option (List ℕ)) (faults : W → ℕ) (old middle new : W × Bool) (piece more : List ℕ)
+    → WroteAll written faults old middle piece → WroteAll written faults middle new more → WroteAll written faults old new (piece ++ more)
+wrote-both written faults old middle new piece more first second = record {
   before = first.before;
   after = second.after;
   bytes = Appends-trans (written old.0) (written middle.0) (written new.0) piece more first.bytes second.bytes;
+  kept = second.kept ∙ first.kept;
 }
 
 -- the first piece was written, and then the answer is that for the second
 pub wrote-then : {W T : Type 0} (written : W → Option (List ℕ)) (faults : W → ℕ) (old middle new : W × Bool) (piece more : List ℕ)
     (result : Result T SinkFault)
-    → WroteAll written old middle piece → faults old.0 ≤ faults middle.0
+    → WroteAll written faults old middle piece → faults old.0 ≤ faults middle.0
     → WritesPiece written faults middle new more result → WritesPiece written faults old new (piece ++ more) result
-wrote-then written faults old middle new piece more (Ok done) wrote counted answer = wrote-both written old middle new piece more wrote answer
+wrote-then written faults old middle new piece more (Ok done) wrote counted answer = wrote-both written faults old middle new piece more wrote answer
 wrote-then written faults old middle new piece more (Err fault) wrote counted answer =
     failed-behind written faults old middle new piece more fault.earlier wrote counted answer
 
@@ -94,7 +95,7 @@ zeros-taken count few = take-replicate count 8 0 (omega arith)
 -- the sink failed within a piece that stands between others, of which those before it were written
 pub failed-within : {W : Type 0} (written : W → Option (List ℕ)) (faults : W → ℕ) (old middle new : W × Bool)
     (first piece rest whole : List ℕ) (earlier : Bool)
-    → WroteAll written old middle first → faults old.0 ≤ faults middle.0 → SinkFailed written faults middle new piece earlier
+    → WroteAll written faults old middle first → faults old.0 ≤ faults middle.0 → SinkFailed written faults middle new piece earlier
     → whole ≡ first ++ (piece ++ rest) → SinkFailed written faults old new whole earlier
 failed-within written faults old middle new first piece rest whole earlier wrote counted failed is =
     subst

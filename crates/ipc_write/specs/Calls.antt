@@ -8,11 +8,12 @@ use Rattle.ipc_write.specs.declared.faults.PieceFault.{PieceFault}
 use Rattle.ipc_write.specs.declared.faults.PieceFault.TheVariants.{Sink, Memory}
 use Rattle.ipc_write.specs.declared.faults.SinkFault.{SinkFault}
 
--- The whole piece was written, and no call of the sink has failed.
-pub record WroteAll {W : Type 0} (written : W → Option (List ℕ)) (old new : W × Bool) (piece : List ℕ) : Type 0 where
+-- The whole piece was written, and no call of the sink has failed: its count of faults is as before.
+pub record WroteAll {W : Type 0} (written : W → Option (List ℕ)) (faults : W → ℕ) (old new : W × Bool) (piece : List ℕ) : Type 0 where
   pub before : old.1 ≡ false
   pub after : new.1 ≡ false
   pub bytes : Appends (written old.0) (written new.0) piece
+  pub kept : faults new.0 ≡ faults old.0
 
 -- A call of the sink failed: an earlier one, and nothing changed; or one of this call, its count of faults rose, and
 -- only a front of the piece was written.
@@ -24,13 +25,13 @@ SinkFailed written faults old new piece false =
 -- The answer of a call that takes no memory.
 abbrev pub WritesPiece :
     {W T : Type 0} → (W → Option (List ℕ)) → (W → ℕ) → (W × Bool) → (W × Bool) → List ℕ → Result T SinkFault → Type 0
-WritesPiece written faults old new piece (Ok done) = WroteAll written old new piece
+WritesPiece written faults old new piece (Ok done) = WroteAll written faults old new piece
 WritesPiece written faults old new piece (Err fault) = SinkFailed written faults old new piece fault.earlier
 
 -- The answer of a call that makes the piece first: where there was no memory for it, nothing changed, and no call of
 -- the sink had failed.
 abbrev pub MakesPiece :
     {W T : Type 0} → (W → Option (List ℕ)) → (W → ℕ) → (W × Bool) → (W × Bool) → List ℕ → Result T PieceFault → Type 0
-MakesPiece written faults old new piece (Ok done) = WroteAll written old new piece
+MakesPiece written faults old new piece (Ok done) = WroteAll written faults old new piece
 MakesPiece written faults old new piece (Err (Sink fault)) = SinkFailed written faults old new piece fault.earlier
 MakesPiece written faults old new piece (Err (Memory refused)) = (old.1 ≡ false) × (new ≡ old)

@@ -1,4 +1,4 @@
-use Rattle.std.proofs.Common.{vec_len, ◌-◌, ◌<◌, ◌≤◌}
+use Rattle.std.proofs.Common.{vec_len, ◌-◌, ◌<◌, ◌≡◌}
 use Rattle.std.specs.Io.KnownBytes.{Consumes}
 use Rattle.byte_ports.specs.Calls.{TellsAlike}
 use Rattle.byte_ports.proofs.whole.read_to_end.Given as goal
@@ -8,7 +8,7 @@ invariant-loop-source g l = record {
   room : 0 < vec_len l.piece;
   bytes : Consumes (g.S.Source.left l.initial.source) (g.S.Source.left l.source) l.bytes.items;
   told : TellsAlike (g.S.Source.left l.initial.source) (g.S.Source.left l.source);
-  counted : g.S.Source.faults l.initial.source ≤ g.S.Source.faults l.source;
+  kept : g.S.Source.faults l.source ≡ g.S.Source.faults l.initial.source;
 }
 
 abbrev pub decreases-loop-source : goal.decreases-loop-source

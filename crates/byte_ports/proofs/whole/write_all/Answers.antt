@@ -1,4 +1,4 @@
-use Rattle.std.proofs.Common.{arith}
+use Rattle.std.proofs.Common.{arith, ◌∙◌}
 use Rattle.byte_ports.proofs.KnownMore.{Appends-more}
 use Rattle.byte_ports.proofs.whole.write_all.Goals as goal
 
@@ -11,5 +11,5 @@ loop-at-preserved g c =
       told = cc (c.in-Ok.ensures.told, c.loop-at.invariant.told);
       started = cc (c.in-Ok.ensures.started, c.loop-at.invariant.started);
       loan = cc (c.in-Ok.ensures.loan, c.loop-at.invariant.loan);
-      counted = omega (arith, c.in-Ok.ensures.counted, c.loop-at.invariant.counted);
+      kept = c.in-Ok.ensures.kept ∙ c.loop-at.invariant.kept;
     }

@@ -10,7 +10,7 @@ invariant-loop-at g l = record {
   told : TellsAlike (g.S.Sink.written l.initial.sink) (g.S.Sink.written l.sink);
   started : g.S.Sink.started l.sink ≡ g.S.Sink.started l.initial.sink;
   loan : g.S.Sink.loan l.sink ≡ g.S.Sink.loan l.initial.sink;
-  counted : g.S.Sink.faults l.initial.sink ≤ g.S.Sink.faults l.sink;
+  kept : g.S.Sink.faults l.sink ≡ g.S.Sink.faults l.initial.sink;
 }
 
 abbrev pub decreases-loop-at : goal.decreases-loop-at

@@ -7,5 +7,6 @@ read-tells g c = record {
   bytes = c.ensures.bytes;
   told = refl;
   counted = lit≤ tt;
+  kept = rw c.ensures.count refl;
   cause = rw c.ensures.count tt;
 }
