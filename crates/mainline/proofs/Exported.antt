@@ -157,11 +157,14 @@ exported table store alone before now number batches seen stands opened seen_is 
       says = record {
         groups = sends.groups;
         stream = refl;
-        filled = sends.grouped.filled;
+        grouped = record {
+          filled = sends.grouped.filled;
+          within = sends.grouped.within;
+          each_once = subst (λ (group : List (List Cell)). IsPermutation group (contents_of 0 (committed_state alone)))
+              (sym (sends.grouped.whole ∙ rows)) (contents_are tables store alone stands);
+        };
         count = sends.count;
         total = ap length sends.grouped.whole;
-        each_once = subst (λ (group : List (List Cell)). IsPermutation group (contents_of 0 (committed_state alone)))
-            (sym (sends.grouped.whole ∙ rows)) (contents_are tables store alone stands);
       };
       quiet = λ other. absurd (cc);
     }
@@ -170,7 +173,7 @@ exported table store alone before now number batches seen stands opened seen_is 
 pub export_refused : (table : TableDecl) (store : Store) (alone : Alone) (before now : Option (List ℕ)) (number : ℕ) (seen : List (List Cell))
     → (stands : Stands (table ∷ []) store alone) → store.snapshot ≡ Some number
     → seen ≡ take (end_at store.ends.items number) store.rows.items
-    → SendsFront table.schema seen before now
+    → SendsFront table.schema table.slots seen before now
     → ServesCommand (table ∷ []) alone (command.Export 0) said.Memory store before now
 export_refused table store alone before now number seen stands opened seen_is sends =
     let tables : List TableDecl = table ∷ [] in
@@ -186,9 +189,12 @@ export_refused table store alone before now number seen stands opened seen_is se
         groups = sends.groups;
         rest = sends.rest;
         front = sends.whole;
-        filled = sends.grouped.filled;
-        each_once = subst (λ (group : List (List Cell)). IsPermutation group (contents_of 0 (committed_state alone)))
-            (sym (sends.grouped.whole ∙ rows)) (contents_are tables store alone stands);
+        grouped = record {
+          filled = sends.grouped.filled;
+          within = sends.grouped.within;
+          each_once = subst (λ (group : List (List Cell)). IsPermutation group (contents_of 0 (committed_state alone)))
+              (sym (sends.grouped.whole ∙ rows)) (contents_are tables store alone stands);
+        };
       };
       quiet = λ other. absurd (cc);
     }

@@ -1,3 +1,4 @@
+pub mod Asking
 pub mod Ends
 pub mod Replies
 pub mod Begins
@@ -9,5 +10,4 @@ pub mod Exported
 pub mod Placed
 pub mod Running
 pub mod Scripts
-pub mod Statuses
 pub mod Stopped

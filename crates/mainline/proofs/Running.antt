@@ -21,7 +21,7 @@ use Rattle.mainline.specs.declared.store.Store.{Store}
 use Rattle.workload_spec.specs.Valid.{is_command}
 use Rattle.workload_spec.specs.Supported.{is_supported_command}
 use Rattle.mainline.specs.Stands.{Stands, Answers}
-use Rattle.mainline.specs.Sent.{SendsAt, SendsAll, ServesCommand, RunsRound, StopsRound, runs_today}
+use Rattle.mainline.specs.Sent.{SendsAt, SendsAll, ServesCommand, RunsRound, RanFirst, runs_today}
 
 -- one more command is answered
 served-push : (tables : List TableDecl) (alone : Alone) (commands : List Command) (saids : List Said) (asked : Command) (told : Said)
@@ -184,22 +184,25 @@ running_ends tables commands store text index before now running = record {
 }
 
 -- a round stops before its first line
-pub stops_at_once : (tables : List TableDecl) (round : List Line) (before now : Option (List ℕ)) → now ≡ before → StopsRound tables round before now
-stops_at_once tables round before now same = subst (StopsRound tables round before) (sym same) (record {
-  lines = [];
-  rest = round;
-  first = refl;
-  text = [];
-  runs = record {
-    saids = [];
-    served = tt;
-    printed = refl;
-    bytes = [];
-    sent = Appends-nil before;
-    says = tt;
-    quiet = λ quiet. refl;
-  };
-})
+pub stops_at_once : (tables : List TableDecl) (round : List Line) (before now : Option (List ℕ)) → now ≡ before
+    → (lines : List Line) × RanFirst tables round lines before now
+stops_at_once tables round before now same = (
+  [],
+  subst (RanFirst tables round [] before) (sym same) (record {
+    rest = round;
+    first = refl;
+    text = [];
+    runs = record {
+      saids = [];
+      served = tt;
+      printed = refl;
+      bytes = [];
+      sent = Appends-nil before;
+      says = tt;
+      quiet = λ quiet. refl;
+    };
+  }),
+)
 
 -- none passes where none is counted
 none_counted_by : {X : Type 0} (test : X → Bool) (x : X) (xs : List X) (b : Bool)
@@ -289,11 +292,10 @@ pub turn_stops : (tables : List TableDecl) (table : TableDecl) (round front : Li
     → Turn tables table round front line behind
     → Running tables (map (λ (line : Line). line.command) front) store text index before now
     → ((alone : Alone) → Stands (table ∷ []) store alone → ServesCommand (table ∷ []) alone line.command told after now later)
-    → StopsRound tables round before later
+    → RanFirst tables round (front ++ line ∷ []) before later
 turn_stops tables table round front line behind told store after text index before now later turn running serves =
     let more : List ℕ = text ++ reply_text tables (reply_of (index + 1) told) in
     record {
-      lines = front ++ line ∷ [];
       rest = behind;
       first = sym turn.split ∙ sym (append_assoc front (line ∷ []) behind);
       text = more;

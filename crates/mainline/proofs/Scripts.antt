@@ -1,7 +1,8 @@
 -- What a workload that runs today is made of, and what its run shows.
-use Rattle.std.proofs.Common.{◌≡◌, ℕ, true, ◌+◌, ◌*◌, ◌^◌, ◌/◌, ◌%◌, ◌<◌, ◌≤◌, ◌==◌, min, Option, None, Some, unwrap_or, List, [], ◌∷◌, ◌++◌, length, count_by, refl, ap, sym, ◌∙◌, subst, arith, nat_le, nat_lt, is_none, option_to_list, Err}
-use Rattle.std.specs.List.{list_all, flat_map}
-use Rattle.std.specs.Io.KnownBytes.{Consumes, IsAtEnd}
+use Rattle.std.proofs.Common.{◌≡◌, ℕ, Bool, ◌||◌, true, ◌+◌, ◌*◌, ◌^◌, ◌/◌, ◌%◌, ◌<◌, ◌≤◌, ◌==◌, min, Option, None, Some, unwrap_or, List, [], ◌∷◌, ◌++◌, length, count_by, refl, ap, sym, ◌∙◌, subst, arith, nat_le, nat_lt, is_none, option_to_list, Err, inl, inr}
+use Rattle.std.specs.List.{list_all, list_any, flat_map}
+use Rattle.std.proofs.lemmas.List.Folds.{list_any-append}
+use Rattle.std.specs.Io.KnownBytes.{Appends, Consumes, IsAtEnd}
 use Rattle.std.proofs.lemmas.Bool.{and_parts, and_from, leb-true}
 use Rattle.std.proofs.lemmas.List.{append-nil, append_assoc}
 use Rattle.cell_model.specs.declared.column.Column.{Column}
@@ -19,7 +20,7 @@ use Rattle.workload_spec.specs.declared.script.Script.{Script}
 use Rattle.outcome_spec.specs.Entries.{Entry}
 use Rattle.outcome_spec.specs.Explained.{Explained, run_in}
 use Rattle.outcome_spec.specs.Runs.{Run, run_of}
-use Rattle.outcome_spec.specs.Tables.{columns_at}
+use Rattle.outcome_spec.specs.Tables.{columns_at, slots_at}
 use Rattle.outcome_laws.specs.Alone.{Alone, opening, after_answer, after_all, IsAnswer, AnswersExport, Served, entries_from}
 use Rattle.outcome_laws.specs.Laws.{commands_in}
 use Rattle.outcome_laws.proofs.Histories.{history-shown}
@@ -28,9 +29,12 @@ use Rattle.outcome_laws.proofs.Sound.{IsAlone, alone-run, stood, served-explaine
 use Rattle.outcome_laws.proofs.Steps.{Leads, leads-opening, step, within, without}
 use Rattle.outcome_laws.proofs.Stood.{Stood, open_at, stood-open, stood-state}
 use Rattle.outcome_laws.proofs.Walk.{entry_of}
-use Rattle.mainline.specs.Sent.{IsTable, IsStreamOf, IsFrontOf, SendsAt, SendsAll, RunsRound, runs_today}
+use Rattle.mainline.specs.Sent.{IsTable, RefusalEnds, TellsFault, SendsAt, SendsAll, RunsRound, runs_today}
 use Rattle.mainline.proofs.Running.{any_command}
-use Rattle.mainline.specs.Outcome.{SaysOfBytes, EachSays, IsRefused, IsRun, IsWorkload, TellsFault, outside}
+use Rattle.mainline.specs.Outcome.{IsStreamOf, IsFrontOf, SaysOfBytes, EachSays, Sends, IsRefused, IsWorkload, Reads, ScriptEnds, RunEnds, Outside, outside}
+use Rattle.mainline.specs.declared.status.Status.{Status}
+use Rattle.mainline.specs.declared.status.Status.TheVariants as status
+use Rattle.byte_ports.specs.Calls.{AppendsFront}
 use Rattle.script_text.specs.Answers.{OnBad, LineFails}
 use Rattle.script_text.specs.declared.fault.ScriptFault.{ScriptFault}
 use Rattle.script_text.specs.declared.fault.ScriptFault.TheVariants as fault
@@ -104,14 +108,14 @@ says_within : (run : Run) (number : ℕ) (front : List Entry) (history : History
     → Stood run number front (within history own inserts) (command.Export table) told rest
     → AnswersExport run.tables (within history own inserts) own table told
     → SendsAt run.tables (within history own inserts) (command.Export table) told bytes
-    → SaysOfBytes run (entry_of number (command.Export table) told) (command.Export table) told bytes
+    → SaysOfBytes run (entry_of number (command.Export table) told) (command.Export table) bytes
 says_within run number front history own inserts table (said.Exported shown rows batches frozen) rest bytes stands answer says =
-    subst (λ (state : State). IsStreamOf (columns_at run.tables table) (contents_of table state) rows batches bytes)
+    subst (λ (state : State). IsStreamOf (columns_at run.tables table) (slots_at run.tables table) (contents_of table state) rows batches bytes)
     (sym (stood-state run number front (command.Export table) (said.Exported shown rows batches frozen) rest history own inserts stands) ∙ ap (state_at run.history) (sym answer.1.number_is)) says
 says_within run number front history own inserts table said.Memory rest bytes stands answer says = record {
   transaction = open_at run number front (command.Export table) said.Memory rest history own inserts stands;
   within = stood-open run number front (command.Export table) said.Memory rest history own inserts stands;
-  front = subst (λ (state : State). IsFrontOf (columns_at run.tables table) (contents_of table state) bytes)
+  front = subst (λ (state : State). IsFrontOf (columns_at run.tables table) (slots_at run.tables table) (contents_of table state) bytes)
       (sym (stood-state run number front (command.Export table) said.Memory rest history own inserts stands)) says;
 }
 says_within run number front history own inserts table (said.Dirty key) rest bytes stands answer says = says
@@ -122,9 +126,9 @@ says_then : (run : Run) (number : ℕ) (front : List Entry) (history : History) 
     → Stood run number front (record { history = history; own = own; inserts = inserts }) asked told rest
     → IsAnswer run.tables (record { history = history; own = own; inserts = inserts }) asked told
     → SendsAt run.tables (record { history = history; own = own; inserts = inserts }) asked told bytes
-    → SaysOfBytes run (entry_of number asked told) asked told bytes
+    → SaysOfBytes run (entry_of number asked told) asked bytes
 says_then run number front history None inserts (command.Export table) told rest bytes stands answer says =
-    subst (λ (said : Said). SaysOfBytes run (entry_of number (command.Export table) said) (command.Export table) said bytes) (sym answer)
+    subst (λ (said : Said). SaysOfBytes run (entry_of number (command.Export table) said) (command.Export table) bytes) (sym answer)
     (subst (λ (said : Said). SendsAt run.tables (without history inserts) (command.Export table) said bytes) answer says)
 says_then run number front history (Some own) inserts (command.Export table) told rest bytes stands answer says =
     says_within run number front history own inserts table told rest bytes stands answer says
@@ -145,13 +149,12 @@ each_says run only number front alone (asked ∷ commands) (told ∷ saids) byte
       (whole ∙ sym (append_assoc front (entry_of number asked told ∷ []) (entries_from (number + 1) commands saids))) last,
 )
 
--- the run of a whole workload, however much of its text is printed
-pub run_is : (Prints : Option (List ℕ) → Option (List ℕ) → List ℕ → Type 0) (script : Script) (text : List ℕ) (left_old left_new printed_old printed_new exported_old exported_new : Option (List ℕ)) (started_old started_new : Option (List (List ℕ)))
+-- the text of a whole workload's answers is explained, and what was sent is as they say
+pub round_explained : (script : Script) (text : List ℕ) (exported_old exported_new : Option (List ℕ))
     → is_valid script ≡ true → is_supported script ≡ true
     → RunsRound script.tables (commands_in script) text exported_old exported_new
-    → Prints printed_old printed_new text
-    → IsRun Prints script (outside left_old printed_old exported_old started_old) (outside left_new printed_new exported_new started_new)
-run_is Prints script text left_old left_new printed_old printed_new exported_old exported_new started_old started_new valid supported runs printed =
+    → Explained script text × Sends script text exported_old exported_new
+round_explained script text exported_old exported_new valid supported runs =
     let commands : List Command = commands_in script in
     let read = served_is_read script runs.saids valid supported runs.served in
     let run_shown : run_in script text ≡ run_of script.tables (entries_from 1 commands runs.saids) =
@@ -159,16 +162,23 @@ run_is Prints script text left_old left_new printed_old printed_new exported_old
     ∙ ap (λ (replies : Option (List Entry)). run_of script.tables (unwrap_or replies [])) read in
     let says : EachSays (run_of script.tables (entries_from 1 commands runs.saids)) runs.bytes (entries_from 1 commands runs.saids) =
     each_says (run_of script.tables (entries_from 1 commands runs.saids)) (alone-run script.tables commands runs.saids runs.served)
-    1 [] opening commands runs.saids runs.bytes leads-opening runs.served runs.says refl (history-shown script.tables commands runs.saids runs.served) in
-    record {
-      output = text;
-      printed = printed;
-      explained = subst (Explained script) (sym runs.printed) (served-explained served_is_read script runs.saids valid supported runs.served);
-      sent = runs.bytes;
-      exported = runs.sent;
-      says = subst (λ (run : Run). EachSays run runs.bytes run.entries) (sym run_shown) says;
-      quiet = λ quiet. runs.quiet (any_command (all_lines script) ∙ quiet);
-    }
+    1 [] opening commands runs.saids runs.bytes leads-opening runs.served runs.says refl (history-shown script.tables commands runs.saids runs.served) in (
+      subst (Explained script) (sym runs.printed) (served-explained served_is_read script runs.saids valid supported runs.served),
+      record {
+        sent = runs.bytes;
+        grown = runs.sent;
+        says = subst (λ (run : Run). EachSays run runs.bytes run.entries) (sym run_shown) says;
+        quiet = λ quiet. runs.quiet (any_command (all_lines script) ∙ quiet);
+      },
+    )
+
+-- the exports of a workload are those of its rounds
+pub rounds_export : (rounds : List (List Line)) → list_any (λ (lines : List Line). list_any (λ (line : Line). is_export line.command) lines) rounds
+    ≡ list_any (λ (line : Line). is_export line.command) (flat_map (λ (round : List Line). round) rounds)
+rounds_export [] = refl
+rounds_export (round ∷ rounds) =
+    ap (λ (b : Bool). list_any (λ (line : Line). is_export line.command) round || b) (rounds_export rounds)
+    ∙ sym (list_any-append (λ (line : Line). is_export line.command) round (flat_map (λ (round : List Line). round) rounds))
 
 -- the last of a list of one
 pub last_of_one : {X : Type 0} (front : List X) (x y : X) → front ++ x ∷ [] ≡ y ∷ [] → x ≡ y
@@ -195,7 +205,7 @@ workload_spelled bytes script workload = record {
 }
 
 -- bytes that are read as no workload of today are refused
-pub refused_is : (Prints : Option (List ℕ) → Option (List ℕ) → List ℕ → Type 0) (bytes read : List ℕ) (told : Fault) (left_old left_new printed_old printed_new exported : Option (List ℕ)) (started : Option (List (List ℕ)))
+refused_is : (Prints : Option (List ℕ) → Option (List ℕ) → List ℕ → Type 0) (bytes read : List ℕ) (told : Fault) (left_old left_new printed_old printed_new exported : Option (List ℕ)) (started : Option (List (List ℕ)))
     → read ≡ bytes → Consumes left_old left_new bytes → IsAtEnd left_new → length bytes < 2 ^ 32
     → ((script : Script) → Spells read script → ⊥) → supported_of read ≡ Err told → Prints printed_old printed_new (refused_text told)
     → IsRefused Prints (outside left_old printed_old exported started) (outside left_new printed_new exported started)
@@ -206,13 +216,37 @@ refused_is Prints bytes read told left_old left_new printed_old printed_new expo
   fault = told;
   first = ap supported_of (sym same) ∙ first;
   printed = printed;
-  exported = refl;
-  started = refl;
+  outlet = record { exported = refl; started = refl };
 }
 
 -- a fault that is told is a bad line, the first of the bytes
-pub told_fault : (Prints : Option (List ℕ) → Option (List ℕ) → List ℕ → Type 0) (X : Type 0) (bad : ScriptFault) (fact : Type 0) (bytes : List ℕ) (before now : Option (List ℕ))
+told_fault : (Prints : Option (List ℕ) → Option (List ℕ) → List ℕ → Type 0) (X : Type 0) (bad : ScriptFault) (fact : Type 0) (bytes : List ℕ) (before now : Option (List ℕ))
     → OnBad {X = X} (Err bad) fact → LineFails bad (supported_of bytes) → TellsFault Prints bad before now
     → fact × ((told : Fault) × ((supported_of bytes ≡ Err told) × Prints before now (refused_text told)))
 told_fault Prints X (fault.Bad line cause) fact bytes before now none first told = (none, (record { line = line; cause = cause }, (first, told)))
 told_fault Prints X (fault.Memory refused) fact bytes before now none first told = absurd told
+
+-- how a run ends whose input was refused
+pub refusal_ends : (X : Type 0) (path : Option (List ℕ)) (ended : Status) (bad : ScriptFault) (bytes read : List ℕ) (left_old left_new printed_old printed_new exported : Option (List ℕ)) (started : Option (List (List ℕ)))
+    → read ≡ bytes → Consumes left_old left_new bytes → IsAtEnd left_new → length bytes < 2 ^ 32
+    → OnBad {X = X} (Err bad) ((script : Script) → Spells read script → ⊥) → LineFails bad (supported_of read)
+    → RefusalEnds bad ended printed_old printed_new
+    → RunEnds path ended (outside left_old printed_old exported started) (outside left_new printed_new exported started)
+refusal_ends X path status.Refused bad bytes read left_old left_new printed_old printed_new exported started same consumes ended short none first told =
+    let fault = told_fault Appends X bad ((script : Script) → Spells read script → ⊥) read printed_old printed_new none first told in
+    refused_is Appends bytes read fault.1.0 left_old left_new printed_old printed_new exported started same consumes ended short fault.0 fault.1.1.0 fault.1.1.1
+refusal_ends X path status.OutFault bad bytes read left_old left_new printed_old printed_new exported started same consumes ended short none first told =
+    let fault = told_fault AppendsFront X bad ((script : Script) → Spells read script → ⊥) read printed_old printed_new none first told in
+    inl (refused_is AppendsFront bytes read fault.1.0 left_old left_new printed_old printed_new exported started same consumes ended short fault.0 fault.1.1.0 fault.1.1.1)
+refusal_ends X path status.Memory bad bytes read left_old left_new printed_old printed_new exported started same consumes ended short none first told =
+    inl (record { printed = told; outlet = record { exported = refl; started = refl } })
+refusal_ends X path _ bad bytes read left_old left_new printed_old printed_new exported started same consumes ended short none first told = absurd told
+
+-- how a run ends whose input is a workload
+pub run_ends : (path : Option (List ℕ)) (ended : Status) (script : Script) (before now : Outside)
+    → Reads script before now → ScriptEnds path script ended before now → RunEnds path ended before now
+run_ends path status.Done script before now input end = (script, input, end)
+run_ends path status.OutFault script before now input end = inr (script, input, end)
+run_ends path status.ExportFault script before now input end = (script, input, end)
+run_ends path status.Memory script before now input end = inr (script, input, end)
+run_ends path _ script before now input end = absurd end

@@ -30,6 +30,7 @@ pub record Sending (columns : List Column) (slots : ℕ) (rows : List (List Cell
   pub sent : Appends before now (pieces_of columns groups)
   pub whole : all_rows groups ++ rest ≡ rows
   pub filled : All (λ (group : List (List Cell)). 0 < length group) groups
+  pub within : All (λ (group : List (List Cell)). length group ≤ slots) groups
   pub count : length groups ≡ batches
   pub fewest : batches ≤ length (all_rows groups)
   pub most : length (all_rows groups) ≤ batches * slots
@@ -42,6 +43,15 @@ one_filled : (group : List (List Cell)) → 0 < length group
 one_filled group some zero d below = some
 one_filled group some (suc k) d below = absurd (omega arith)
 
+-- and has at most so many rows where this one has
+one_within : (slots : ℕ) (group : List (List Cell)) → length group ≤ slots
+    → (k : ℕ) (d : List (List Cell)) → k < 1 → length (get_or (group ∷ []) k d) ≤ slots
+one_within slots group few zero d below = few
+one_within slots group few (suc k) d below = absurd (omega arith)
+
+none_within : (slots k : ℕ) (d : List (List Cell)) → k < 0 → length d ≤ slots
+none_within slots k d below = absurd (omega arith)
+
 none_filled : (k : ℕ) (d : List (List Cell)) → k < 0 → 0 < length d
 none_filled k d below = absurd (omega arith)
 
@@ -53,6 +63,7 @@ sending_begins columns slots rows before now some sent = record {
   sent = subst (Appends before now) (sym (append-nil (schema_message columns))) sent;
   whole = refl;
   filled = none_filled;
+  within = none_within slots;
   count = refl;
   fewest = omega arith;
   most = omega arith;
@@ -92,6 +103,7 @@ sending_goes_on columns slots rows before now after batches rest block behind se
           ∙ ap (λ left. all_rows sending.groups ++ left) (sym split)
           ∙ sending.whole;
       filled = All-append (λ (group : List (List Cell)). 0 < length group) sending.groups (block ∷ []) sending.filled (one_filled block (omega arith));
+      within = All-append (λ (group : List (List Cell)). length group ≤ slots) sending.groups (block ∷ []) sending.within (one_within slots block (omega arith));
       count = length-append sending.groups (block ∷ []) ∙ ap (λ count. count + 1) sending.count;
       fewest = omega (arith, sending.fewest);
       most = omega (arith, sending.most);
@@ -120,7 +132,7 @@ sending_ends columns slots blocks rows before now after batches rest sending don
     record {
       groups = sending.groups;
       sent = Appends-trans before now after (pieces_of columns sending.groups) end_word sending.sent sent;
-      grouped = record { whole = all; filled = sending.filled };
+      grouped = record { whole = all; filled = sending.filled; within = sending.within };
       count = sending.count;
       rows_bound = omega (arith, sending.fewest, ap length all);
       room = omega (arith, sending.most, ap length all);
@@ -139,10 +151,18 @@ batches_bound columns slots blocks rows before now batches rest sending left roo
 rose_since : (before between now : ℕ) → before ≤ between → Rose between now → Rose before now
 rose_since before between now least rose = λ last. (let later = rose last in omega arith)
 
--- rows in one group, if there are any
-grouped_whole : (rows : List (List Cell)) → (groups : List (List (List Cell))) × IsGrouped rows groups
-grouped_whole [] = ([], record { whole = refl; filled = none_filled })
-grouped_whole (row ∷ rows) = ((row ∷ rows) ∷ [], record { whole = append-nil (row ∷ rows); filled = one_filled (row ∷ rows) (omega arith) })
+-- rows, each in a group of its own
+grouped_apart : (slots : ℕ) → 0 < slots → (rows : List (List Cell)) → (groups : List (List (List Cell))) × IsGrouped slots rows groups
+grouped_apart slots some [] = ([], record { whole = refl; filled = none_filled; within = none_within slots })
+grouped_apart slots some (row ∷ rows) =
+    let rest = grouped_apart slots some rows in (
+      (row ∷ []) ∷ rest.0,
+      record {
+        whole = ap (λ (rows : List (List Cell)). row ∷ rows) rest.1.whole;
+        filled = All-append (λ (group : List (List Cell)). 0 < length group) ((row ∷ []) ∷ []) rest.0 (one_filled (row ∷ []) (omega arith)) rest.1.filled;
+        within = All-append (λ (group : List (List Cell)). length group ≤ slots) ((row ∷ []) ∷ []) rest.0 (one_within slots (row ∷ []) (omega arith)) rest.1.within;
+      },
+    )
 
 -- a call of the sink failed, of a writer that had not failed
 sink_fails : {W : Type 0} (written : W → Option (List ℕ)) (faults : W → ℕ) (old new : W × Bool) (piece : List ℕ) (earlier : Bool)
@@ -164,11 +184,11 @@ all_rows-append [] more = refl
 all_rows-append (group ∷ groups) more = ap (λ rows. group ++ rows) (all_rows-append groups more) ∙ sym (append_assoc group (all_rows groups) (all_rows more))
 
 -- what was written up to the front of a piece is a front of a stream that goes on with the piece
-breaks_off : (columns : List Column) (rows : List (List Cell)) (before between now : Option (List ℕ)) (front piece behind : List ℕ) (groups : List (List (List Cell)))
+breaks_off : (columns : List Column) (slots : ℕ) (rows : List (List Cell)) (before between now : Option (List ℕ)) (front piece behind : List ℕ) (groups : List (List (List Cell)))
     → Appends before between front → AppendsFront between now piece
-    → front ++ (piece ++ behind) ≡ stream_of columns groups → IsGrouped rows groups
-    → SendsFront columns rows before now
-breaks_off columns rows before between now front piece behind groups sent broken whole grouped =
+    → front ++ (piece ++ behind) ≡ stream_of columns groups → IsGrouped slots rows groups
+    → SendsFront columns slots rows before now
+breaks_off columns slots rows before between now front piece behind groups sent broken whole grouped =
     let cut = take broken.0 piece in
     let left = drop broken.0 piece in
     record {
@@ -183,34 +203,36 @@ breaks_off columns rows before between now front piece behind groups sent broken
     }
 
 -- the first piece fails
-pub schema_fails : {W : Type 0} (T : Type 0) (written : W → Option (List ℕ)) (faults : W → ℕ) (old new : W × Bool) (columns : List Column) (rows : List (List Cell)) (fault : PieceFault)
-    → old.1 ≡ false → MakesPiece {T = T} written faults old new (schema_message columns) (Err fault)
-    → FailsToSend columns rows (written old.0) (written new.0) (faults old.0) (faults new.0) fault
-schema_fails T written faults old new columns rows (Sink fault) fresh failed =
+pub schema_fails : {W : Type 0} (T : Type 0) (written : W → Option (List ℕ)) (faults : W → ℕ) (old new : W × Bool) (columns : List Column) (slots : ℕ) (rows : List (List Cell)) (fault : PieceFault)
+    → 0 < slots → old.1 ≡ false → MakesPiece {T = T} written faults old new (schema_message columns) (Err fault)
+    → FailsToSend columns slots rows (written old.0) (written new.0) (faults old.0) (faults new.0) fault
+schema_fails T written faults old new columns slots rows (Sink fault) some fresh failed =
     let fails = sink_fails written faults old new (schema_message columns) fault.earlier fresh failed in
-    let grouped = grouped_whole rows in
+    let grouped = grouped_apart slots some rows in
     let batches = flat_map (batch_message columns) grouped.0 in (
       fails.0,
-      breaks_off columns rows (written old.0) (written old.0) (written new.0) [] (schema_message columns) (batches ++ end_word) grouped.0
+      breaks_off columns slots rows (written old.0) (written old.0) (written new.0) [] (schema_message columns) (batches ++ end_word) grouped.0
           (Appends-nil (written old.0)) fails.1 (sym (append_assoc (schema_message columns) batches end_word)) grouped.1,
     )
-schema_fails {W} T written faults old new columns rows (Memory refused) fresh failed =
-    let grouped = grouped_whole rows in
-    record {
-      groups = grouped.0;
-      front = [];
-      rest = stream_of columns grouped.0;
-      sent = subst (λ (now : W × Bool). Appends (written old.0) (written now.0) []) (sym failed.1) (Appends-nil (written old.0));
-      whole = refl;
-      grouped = grouped.1;
-    }
+schema_fails {W} T written faults old new columns slots rows (Memory refused) some fresh failed =
+    let grouped = grouped_apart slots some rows in (
+      ap (λ (now : W × Bool). faults now.0) failed.1,
+      record {
+        groups = grouped.0;
+        front = [];
+        rest = stream_of columns grouped.0;
+        sent = subst (λ (now : W × Bool). Appends (written old.0) (written now.0) []) (sym failed.1) (Appends-nil (written old.0));
+        whole = refl;
+        grouped = grouped.1;
+      },
+    )
 
 -- the batches so far, this one, and the rows behind it in one more
 block_grouped : (columns : List Column) (slots : ℕ) (rows : List (List Cell)) (before now : Option (List ℕ)) (batches : ℕ) (left block behind : List (List Cell))
-    → (sending : Sending columns slots rows before now batches left) → left ≡ block ++ behind → 0 < length block
-    → IsGrouped rows (sending.groups ++ block ∷ (grouped_whole behind).0)
-block_grouped columns slots rows before now batches left block behind sending split some =
-    let tail = grouped_whole behind in
+    → (sending : Sending columns slots rows before now batches left) → left ≡ block ++ behind → 0 < length block → length block ≤ slots
+    → (slotted : 0 < slots) → IsGrouped slots rows (sending.groups ++ block ∷ (grouped_apart slots slotted behind).0)
+block_grouped columns slots rows before now batches left block behind sending split some few slotted =
+    let tail = grouped_apart slots slotted behind in
     record {
       whole = all_rows-append sending.groups (block ∷ tail.0)
           ∙ ap (λ behind. all_rows sending.groups ++ (block ++ behind)) tail.1.whole
@@ -218,52 +240,56 @@ block_grouped columns slots rows before now batches left block behind sending sp
           ∙ sending.whole;
       filled = All-append (λ (group : List (List Cell)). 0 < length group) sending.groups (block ∷ tail.0) sending.filled
           (All-append (λ (group : List (List Cell)). 0 < length group) (block ∷ []) tail.0 (one_filled block some) tail.1.filled);
+      within = All-append (λ (group : List (List Cell)). length group ≤ slots) sending.groups (block ∷ tail.0) sending.within
+          (All-append (λ (group : List (List Cell)). length group ≤ slots) (block ∷ []) tail.0 (one_within slots block few) tail.1.within);
     }
 
 -- a later piece fails
 pub block_fails : {W : Type 0} (T : Type 0) (written : W → Option (List ℕ)) (faults : W → ℕ) (start old new : W × Bool) (columns : List Column) (slots : ℕ) (rows : List (List Cell))
     (batches : ℕ) (left block behind : List (List Cell)) (fault : PieceFault)
     → old.1 ≡ false → Sending columns slots rows (written start.0) (written old.0) batches left
-    → left ≡ block ++ behind → 0 < length block
-    → faults start.0 ≤ faults old.0 → MakesPiece {T = T} written faults old new (batch_message columns block) (Err fault)
-    → FailsToSend columns rows (written start.0) (written new.0) (faults start.0) (faults new.0) fault
-block_fails T written faults start old new columns slots rows batches left block behind (Sink fault) fresh sending split some counted failed =
+    → left ≡ block ++ behind → 0 < length block → length block ≤ slots → 0 < slots
+    → faults old.0 ≡ faults start.0 → MakesPiece {T = T} written faults old new (batch_message columns block) (Err fault)
+    → FailsToSend columns slots rows (written start.0) (written new.0) (faults start.0) (faults new.0) fault
+block_fails T written faults start old new columns slots rows batches left block behind (Sink fault) fresh sending split some few slotted kept failed =
     let fails = sink_fails written faults old new (batch_message columns block) fault.earlier fresh failed in
-    let tail = (grouped_whole behind).0 in
+    let tail = (grouped_apart slots slotted behind).0 in
     let more = flat_map (batch_message columns) tail in (
-      rose_since (faults start.0) (faults old.0) (faults new.0) counted fails.0,
-      breaks_off columns rows (written start.0) (written old.0) (written new.0) (pieces_of columns sending.groups) (batch_message columns block) (more ++ end_word) (sending.groups ++ block ∷ tail)
+      rose_since (faults start.0) (faults old.0) (faults new.0) (omega arith) fails.0,
+      breaks_off columns slots rows (written start.0) (written old.0) (written new.0) (pieces_of columns sending.groups) (batch_message columns block) (more ++ end_word) (sending.groups ++ block ∷ tail)
           sending.sent fails.1
           (ap (λ bytes. pieces_of columns sending.groups ++ bytes) (sym (append_assoc (batch_message columns block) more end_word))
           ∙ sym (append_assoc (pieces_of columns sending.groups) (batch_message columns block ++ more) end_word)
           ∙ ap (λ bytes. bytes ++ end_word) (pieces_of-append columns sending.groups (block ∷ tail)))
-          (block_grouped columns slots rows _ _ batches left block behind sending split some),
+          (block_grouped columns slots rows _ _ batches left block behind sending split some few slotted),
     )
-block_fails {W} T written faults start old new columns slots rows batches left block behind (Memory refused) fresh sending split some counted failed =
-    let tail = (grouped_whole behind).0 in
-    let more = flat_map (batch_message columns) (block ∷ tail) in
-    record {
-      groups = sending.groups ++ block ∷ tail;
-      front = pieces_of columns sending.groups;
-      rest = more ++ end_word;
-      sent = subst (λ (now : W × Bool). Appends (written start.0) (written now.0) (pieces_of columns sending.groups)) (sym failed.1) sending.sent;
-      whole = sym (append_assoc (pieces_of columns sending.groups) more end_word)
-          ∙ ap (λ bytes. bytes ++ end_word) (pieces_of-append columns sending.groups (block ∷ tail));
-      grouped = block_grouped columns slots rows _ _ batches left block behind sending split some;
-    }
+block_fails {W} T written faults start old new columns slots rows batches left block behind (Memory refused) fresh sending split some few slotted kept failed =
+    let tail = (grouped_apart slots slotted behind).0 in
+    let more = flat_map (batch_message columns) (block ∷ tail) in (
+      ap (λ (now : W × Bool). faults now.0) failed.1 ∙ kept,
+      record {
+        groups = sending.groups ++ block ∷ tail;
+        front = pieces_of columns sending.groups;
+        rest = more ++ end_word;
+        sent = subst (λ (now : W × Bool). Appends (written start.0) (written now.0) (pieces_of columns sending.groups)) (sym failed.1) sending.sent;
+        whole = sym (append_assoc (pieces_of columns sending.groups) more end_word)
+            ∙ ap (λ bytes. bytes ++ end_word) (pieces_of-append columns sending.groups (block ∷ tail));
+        grouped = block_grouped columns slots rows _ _ batches left block behind sending split some few slotted;
+      },
+    )
 
 -- the last piece fails
 pub end_fails : {W : Type 0} (T : Type 0) (written : W → Option (List ℕ)) (faults : W → ℕ) (start old new : W × Bool) (columns : List Column) (slots : ℕ) (rows : List (List Cell))
     (batches : ℕ) (left : List (List Cell)) (fault : SinkFault)
     → old.1 ≡ false → Sending columns slots rows (written start.0) (written old.0) batches left → length left ≡ 0
-    → faults start.0 ≤ faults old.0 → WritesPiece {T = T} written faults old new end_word (Err fault)
-    → FailsToSend columns rows (written start.0) (written new.0) (faults start.0) (faults new.0) (Sink fault)
-end_fails T written faults start old new columns slots rows batches left fault fresh sending done counted failed =
+    → faults old.0 ≡ faults start.0 → WritesPiece {T = T} written faults old new end_word (Err fault)
+    → FailsToSend columns slots rows (written start.0) (written new.0) (faults start.0) (faults new.0) (Sink fault)
+end_fails T written faults start old new columns slots rows batches left fault fresh sending done kept failed =
     let fails = sink_fails written faults old new end_word fault.earlier fresh failed in (
-      rose_since (faults start.0) (faults old.0) (faults new.0) counted fails.0,
-      breaks_off columns rows (written start.0) (written old.0) (written new.0) (pieces_of columns sending.groups) end_word [] sending.groups
+      rose_since (faults start.0) (faults old.0) (faults new.0) (omega arith) fails.0,
+      breaks_off columns slots rows (written start.0) (written old.0) (written new.0) (pieces_of columns sending.groups) end_word [] sending.groups
           sending.sent fails.1 (ap (λ bytes. pieces_of columns sending.groups ++ bytes) (append-nil end_word))
-          (record { whole = all_sent columns slots rows _ _ batches left sending done; filled = sending.filled }),
+          (record { whole = all_sent columns slots rows _ _ batches left sending done; filled = sending.filled; within = sending.within }),
     )
 
 -- a count of batches fits 32 bits

@@ -1,5 +1,5 @@
 pub mod Stands
 pub mod Words
 pub mod Codes
-pub mod Sent
 pub mod Outcome
+pub mod Sent

@@ -1,8 +1,13 @@
--- What a run of the program reads, prints and sends, as its status says.
-use Rattle.std.specs.Prelude.{◌≡◌, ◌<◌, ◌^◌, ◌⊎◌, ℕ, Bool, length, true, false, List, [], ◌∷◌, ◌++◌, Option, None, Some, option_map, Err, IsSome, if◌then◌else◌}
+-- How a run of the program ends: what each status says of what was read, printed and sent.
+use Rattle.std.specs.Prelude.{◌≡◌, ◌≢◌, ◌<◌, ◌≤◌, ◌^◌, ◌⊎◌, ◌==◌, ℕ, Bool, true, length, false, List, [], ◌∷◌, ◌++◌, All, Option, None, Some, option_map, filter, Err, IsSome, if◌then◌else◌}
 use Rattle.std.specs.List.{list_any}
+use Rattle.std.specs.List.Sorted.{IsPermutation}
 use Rattle.std.specs.Io.KnownBytes.{Appends, Consumes, IsAtEnd}
-use Rattle.byte_ports.specs.Calls.{AppendsFront}
+use Rattle.byte_ports.specs.Calls.{AppendsFront, ConsumesAtLeast, Rose}
+use Rattle.cell_model.specs.declared.cell.Cell.{Cell}
+use Rattle.cell_model.specs.declared.column.Column.{Column}
+use Rattle.arrow_spec.specs.Streams.{stream_of}
+use Rattle.isolation_laws.specs.Inserts.{all_rows}
 use Rattle.isolation_spec.specs.Contents.{contents_of, state_at}
 use Rattle.workload_spec.specs.declared.command.Command.{Command}
 use Rattle.workload_spec.specs.declared.command.Command.TheVariants as command
@@ -17,35 +22,73 @@ use Rattle.workload_spec.specs.Valid.{is_valid, is_export, all_lines}
 use Rattle.outcome_spec.specs.Entries.{Entry}
 use Rattle.outcome_spec.specs.Explained.{Explained, run_in}
 use Rattle.outcome_spec.specs.Runs.{Run, Transaction, transaction_of}
-use Rattle.outcome_spec.specs.Tables.{columns_at}
-use Rattle.mainline.specs.Sent.{IsStreamOf, IsFrontOf}
-use Rattle.mainline.specs.Words.{usage_line}
+use Rattle.outcome_spec.specs.Tables.{columns_at, slots_at}
 use Rattle.script_text.specs.Supported.{supported_of}
-use Rattle.script_text.specs.declared.fault.ScriptFault.{ScriptFault}
-use Rattle.script_text.specs.declared.fault.ScriptFault.TheVariants as fault
+use Rattle.mainline.specs.Words.{Asked, ToRun, ToShow, ToCheck, ToBench, usage_line}
 use Rattle.mainline.specs.declared.status.Status.{Status}
 use Rattle.mainline.specs.declared.status.Status.TheVariants as status
+
+-- ---- what an export sends
+
+-- Rows in groups: none is empty, none has more rows than a block has slots, and put together they are these contents,
+-- each row once.
+pub record AreBatchesOf (slots : ℕ) (contents : List (List Cell)) (groups : List (List (List Cell))) : Type 0 where
+  pub filled : All (λ (group : List (List Cell)). 0 < length group) groups
+  pub within : All (λ (group : List (List Cell)). length group ≤ slots) groups
+  pub each_once : IsPermutation (all_rows groups) contents
+
+-- The bytes are the canonical stream of these rows of a table, so many rows in so many batches.
+pub record IsStreamOf (columns : List Column) (slots : ℕ) (contents : List (List Cell)) (rows batches : ℕ) (bytes : List ℕ) : Type 0 where
+  pub groups : List (List (List Cell))
+  pub stream : bytes ≡ stream_of columns groups
+  pub grouped : AreBatchesOf slots contents groups
+  pub count : length groups ≡ batches
+  pub total : length (all_rows groups) ≡ rows
+
+-- The bytes are a front of a canonical stream of these rows of a table.
+pub record IsFrontOf (columns : List Column) (slots : ℕ) (contents : List (List Cell)) (bytes : List ℕ) : Type 0 where
+  pub groups : List (List (List Cell))
+  pub rest : List ℕ
+  pub front : bytes ++ rest ≡ stream_of columns groups
+  pub grouped : AreBatchesOf slots contents groups
 
 -- The bytes are a front of a canonical stream of the table's rows at the snapshot of the reply's transaction.
 pub record IsFrontAt (run : Run) (entry : Entry) (table : ℕ) (bytes : List ℕ) : Type 0 where
   pub transaction : Transaction
   pub within : transaction_of run entry ≡ Some transaction
-  pub front : IsFrontOf (columns_at run.tables table) (contents_of table (state_at run.history transaction.snapshot)) bytes
+  pub front : IsFrontOf (columns_at run.tables table) (slots_at run.tables table) (contents_of table (state_at run.history transaction.snapshot)) bytes
 
--- What a reply in a run says of the bytes that went to the outlet. An export `export n rows R batches B frozen F` sent
--- the canonical stream of the rows of the table after n commits, each once, R in all, in B batches of which none is
--- empty; with refused memory a front of one; and with any other reply nothing. No other command says anything.
-abbrev pub SaysOfBytes : Run → Entry → Command → Said → List ℕ → Type 0
-SaysOfBytes run entry (command.Export table) (said.Exported number rows batches frozen) bytes =
-    IsStreamOf (columns_at run.tables table) (contents_of table (state_at run.history number)) rows batches bytes
-SaysOfBytes run entry (command.Export table) said.Memory bytes = IsFrontAt run entry table bytes
-SaysOfBytes run entry (command.Export table) _ bytes = bytes ≡ []
-SaysOfBytes run entry _ told bytes = Unit {0}
+-- What the reply to an export says of the bytes that went out. `export n rows R batches B frozen F`: the canonical
+-- stream of the rows of the table after n commits, each once, R in all, in B batches of which none is empty. With refused
+-- memory a front of one. With any other reply nothing.
+abbrev pub SaysOfExport : Run → Entry → ℕ → Said → List ℕ → Type 0
+SaysOfExport run entry table (said.Exported number rows batches frozen) bytes =
+    IsStreamOf (columns_at run.tables table) (slots_at run.tables table) (contents_of table (state_at run.history number)) rows batches bytes
+SaysOfExport run entry table said.Memory bytes = IsFrontAt run entry table bytes
+SaysOfExport run entry table _ bytes = bytes ≡ []
 
--- each of these replies says what went to the outlet
+-- what a reply says of them: none but the reply to an export says anything
+abbrev pub SaysOfBytes : Run → Entry → Command → List ℕ → Type 0
+SaysOfBytes run entry (command.Export table) bytes = SaysOfExport run entry table entry.reply.said bytes
+SaysOfBytes run entry _ bytes = Unit {0}
+
+-- each of these replies says what went out
 abbrev pub EachSays : Run → List ℕ → List Entry → Type 0
 EachSays run bytes [] = Unit {0}
-EachSays run bytes (entry ∷ entries) = SaysOfBytes run entry entry.command entry.reply.said bytes × EachSays run bytes entries
+EachSays run bytes (entry ∷ entries) = SaysOfBytes run entry entry.command bytes × EachSays run bytes entries
+
+-- a line of the workload exports a table
+abbrev pub has_export : Script → Bool
+has_export script = list_any (λ line. is_export line.command) (all_lines script)
+
+-- An outlet grew by what the replies of this output say; by nothing where the workload has no export.
+pub record Sends (script : Script) (output : List ℕ) (before now : Option (List ℕ)) : Type 0 where
+  pub sent : List ℕ
+  pub grown : Appends before now sent
+  pub says : EachSays (run_in script output) sent (run_in script output).entries
+  pub quiet : has_export script ≡ false → sent ≡ []
+
+-- ---- the outside
 
 -- What is told of the outside at one moment: the bytes left to read, those written to the output and to the outlet, and
 -- the names that the outlet was started with.
@@ -57,6 +100,30 @@ pub record Outside : Type 0 where
 
 abbrev pub outside : Option (List ℕ) → Option (List ℕ) → Option (List ℕ) → Option (List (List ℕ)) → Outside
 outside left printed exported started = record { left = left; printed = printed; exported = exported; started = started }
+
+-- nothing was written to the outlet, and it was not started
+pub record LeavesOutlet (before now : Outside) : Type 0 where
+  pub exported : now.exported ≡ before.exported
+  pub started : now.started ≡ before.started
+
+-- nothing was printed either
+pub record IsSilent (before now : Outside) : Type 0 where
+  pub printed : now.printed ≡ before.printed
+  pub outlet : LeavesOutlet before now
+
+-- the names with which an outlet was started, after a run with this path: once, where the workload has an export
+abbrev pub started_by : List ℕ → Script → Option (List (List ℕ)) → Option (List (List ℕ))
+started_by path script names =
+    if has_export script then option_map (λ before. before ++ path ∷ []) names else names
+
+-- The outlet after the workload `ran`, a front of the workload: started once, with the path, where the workload has an
+-- export, and sent what the replies say. Without a path the export is dropped.
+abbrev pub Delivers : Option (List ℕ) → Script → Script → List ℕ → Outside → Outside → Type 0
+Delivers None script ran output before now = LeavesOutlet before now
+Delivers (Some path) script ran output before now =
+    (now.started ≡ started_by path script before.started) × Sends ran output before.exported now.exported
+
+-- ---- the input
 
 -- The bytes are the text of this workload, which runs today.
 pub record IsWorkload (bytes : List ℕ) (script : Script) : Type 0 where
@@ -70,62 +137,24 @@ pub record IsRead (bytes : List ℕ) (before now : Outside) : Type 0 where
   pub ended : IsAtEnd now.left
   pub short : length bytes < 2 ^ 32
 
--- a line of the workload exports a table
-abbrev pub has_export : Script → Bool
-has_export script = list_any (λ line. is_export line.command) (all_lines script)
-
--- the names with which an outlet was started, after a run with this path: once, where the workload has an export
-abbrev pub started_by : List ℕ → Script → Option (List (List ℕ)) → Option (List (List ℕ))
-started_by path script names =
-    if has_export script then option_map (λ before. before ++ path ∷ []) names else names
-
--- How a text that was due is printed: whole (`Appends`), only a front of it where the output failed (`AppendsFront`), or
--- not at all.
-abbrev pub PrintsNothing : Option (List ℕ) → Option (List ℕ) → List ℕ → Type 0
-PrintsNothing before now text = now ≡ before
-
--- A workload was run: its output is explained by snapshot isolation, and is printed as `Prints` says; what was sent is as
--- the output's replies say.
-pub record IsRun (Prints : Option (List ℕ) → Option (List ℕ) → List ℕ → Type 0) (script : Script) (before now : Outside) : Type 0 where
-  pub output : List ℕ
-  pub printed : Prints before.printed now.printed output
-  pub explained : Explained script output
-  pub sent : List ℕ
-  pub exported : Appends before.exported now.exported sent
-  pub says : EachSays (run_in script output) sent (run_in script output).entries
-  pub quiet : has_export script ≡ false → sent ≡ []
-
--- The input is a workload, and it was run.
-pub record IsDone (Prints : Option (List ℕ) → Option (List ℕ) → List ℕ → Type 0) (path : List ℕ) (before now : Outside) : Type 0 where
+-- The input was read, and is this workload.
+pub record Reads (script : Script) (before now : Outside) : Type 0 where
   pub bytes : List ℕ
   pub input : IsRead bytes before now
-  pub script : Script
   pub workload : IsWorkload bytes script
-  pub run : IsRun Prints script before now
-  pub started : now.started ≡ started_by path script before.started
 
--- the workload with these lines as its one round
-abbrev pub with_lines : List Line → Script → Script
-with_lines lines script = record script { rounds = lines ∷ [] }
+-- ---- the ends
 
--- A run of the workload stopped before anything was printed: these first lines of it were run, as a workload of their
--- own. An export at which it stopped counts as answered `memory`, so what was sent is a front of its stream.
-pub record StopsRun (path : List ℕ) (script : Script) (before now : Outside) : Type 0 where
-  pub lines : List Line
-  pub rest : List Line
-  pub first : all_lines script ≡ lines ++ rest
-  pub run : IsRun PrintsNothing (with_lines lines script) before now
-  pub started : now.started ≡ started_by path script before.started
+-- A text that was due is printed whole (`Appends`), or only a front of it where the output failed (`AppendsFront`).
 
--- The input is a workload, whose run stopped.
-pub record IsStopped (path : List ℕ) (before now : Outside) : Type 0 where
-  pub bytes : List ℕ
-  pub input : IsRead bytes before now
-  pub script : Script
-  pub workload : IsWorkload bytes script
-  pub stop : StopsRun path script before now
+-- The words ask for nothing that runs: nothing is read or sent, and the line that tells how the program is used is
+-- printed.
+pub record IsUsage (Prints : Option (List ℕ) → Option (List ℕ) → List ℕ → Type 0) (before now : Outside) : Type 0 where
+  pub left : now.left ≡ before.left
+  pub printed : Prints before.printed now.printed usage_line
+  pub outlet : LeavesOutlet before now
 
--- The input is the text of no workload that runs today, and its first bad line is printed with the cause.
+-- The input is no workload that runs, and the line of its first fault is printed.
 pub record IsRefused (Prints : Option (List ℕ) → Option (List ℕ) → List ℕ → Type 0) (before now : Outside) : Type 0 where
   pub bytes : List ℕ
   pub input : IsRead bytes before now
@@ -133,99 +162,129 @@ pub record IsRefused (Prints : Option (List ℕ) → Option (List ℕ) → List 
   pub fault : Fault
   pub first : supported_of bytes ≡ Err fault
   pub printed : Prints before.printed now.printed (refused_text fault)
-  pub exported : now.exported ≡ before.exported
-  pub started : now.started ≡ before.started
+  pub outlet : LeavesOutlet before now
 
--- The input is a workload that asks for an export.
-pub record AsksExport (before now : Outside) : Type 0 where
-  pub bytes : List ℕ
-  pub input : IsRead bytes before now
-  pub script : Script
-  pub workload : IsWorkload bytes script
+-- the workload with these rounds in place of its own
+abbrev pub with_rounds : List (List Line) → Script → Script
+with_rounds rounds script = record script { rounds = rounds }
+
+-- The workload was run: its output is explained by snapshot isolation and was printed, and the outlet has what its
+-- replies say.
+pub record IsRun (path : Option (List ℕ)) (script : Script) (before now : Outside) : Type 0 where
+  pub output : List ℕ
+  pub explained : Explained script output
+  pub printed : Appends before.printed now.printed output
+  pub outlet : Delivers path script script output before now
+
+-- The output failed behind some first rounds of the workload: these were run, and only a front of their text was printed.
+pub record IsCutOff (path : Option (List ℕ)) (script : Script) (before now : Outside) : Type 0 where
+  pub whole : List (List Line)
+  pub rest : List (List Line)
+  pub rounds : script.rounds ≡ whole ++ rest
+  pub output : List ℕ
+  pub explained : Explained (with_rounds whole script) output
+  pub printed : AppendsFront before.printed now.printed output
+  pub outlet : Delivers path script (with_rounds whole script) output before now
+
+-- the lines of a session in a round
+abbrev pub lines_of : ℕ → List Line → List Line
+lines_of session lines = filter (λ line. line.session == session) lines
+
+-- the lines are the first ones of each session in a round
+abbrev pub AreFirstLines : List Line → List Line → Type 0
+AreFirstLines lines round =
+    (session : ℕ) → (rest : List Line) × (lines_of session round ≡ lines_of session lines ++ rest)
+
+-- The run stopped within a round: the rounds before it were run and their text was printed, and of this round these first
+-- lines of each session were run and their text was not printed.
+pub record Stops (path : Option (List ℕ)) (script : Script) (lines : List Line) (before now : Outside) : Type 0 where
+  pub whole : List (List Line)
+  pub round : List Line
+  pub rest : List (List Line)
+  pub rounds : script.rounds ≡ whole ++ round ∷ rest
+  pub first : AreFirstLines lines round
+  pub shown : List ℕ
+  pub hidden : List ℕ
+  pub explained_shown : Explained (with_rounds whole script) shown
+  pub explained : Explained (with_rounds (whole ++ lines ∷ []) script) (shown ++ hidden)
+  pub printed : Appends before.printed now.printed shown
+  pub outlet : Delivers path script (with_rounds (whole ++ lines ∷ []) script) (shown ++ hidden) before now
+
+-- The run stopped, for want of memory.
+pub record IsStopped (path : Option (List ℕ)) (script : Script) (before now : Outside) : Type 0 where
+  pub lines : List Line
+  pub stop : Stops path script lines before now
+
+-- A session's lines end at an export.
+pub record EndAtExport (lines : List Line) : Type 0 where
+  pub session : ℕ
+  pub front : List Line
+  pub last : Line
+  pub lines_are : lines_of session lines ≡ front ++ last ∷ []
+  pub asked : is_export last.command ≡ true
+
+-- The run stopped at an export, which counts as answered `memory`: a front of its stream was sent.
+pub record StopsAtExport (path : Option (List ℕ)) (script : Script) (before now : Outside) : Type 0 where
+  pub lines : List Line
+  pub last : EndAtExport lines
+  pub stop : Stops path script lines before now
+
+-- The workload has an export and the outlet failed: at its start, and then nothing was run, or at the export.
+pub record FailsExport (path : Option (List ℕ)) (script : Script) (before now : Outside) : Type 0 where
+  pub named : IsSome path
   pub asked : has_export script ≡ true
+  pub failed : IsSilent before now ⊎ StopsAtExport path script before now
 
--- Nothing was printed or sent, and the outlet was not started.
-pub record IsSilent (before now : Outside) : Type 0 where
-  pub printed : now.printed ≡ before.printed
-  pub exported : now.exported ≡ before.exported
-  pub started : now.started ≡ before.started
+-- How the run of a workload ends.
+abbrev pub ScriptEnds : Option (List ℕ) → Script → Status → Outside → Outside → Type 0
+ScriptEnds path script status.Done before now = IsRun path script before now
+ScriptEnds path script status.Usage before now = ⊥
+ScriptEnds path script status.Refused before now = ⊥
+ScriptEnds path script status.ReadFault before now = ⊥
+ScriptEnds path script status.OutFault before now = IsCutOff path script before now
+ScriptEnds path script status.ExportFault before now = FailsExport path script before now
+ScriptEnds path script status.Memory before now = IsStopped path script before now
+ScriptEnds path script status.NotAStream before now = ⊥
+ScriptEnds path script status.TooLong before now = ⊥
 
--- The words ask for nothing; the line that tells how the program is used is printed, and nothing is read or sent.
-pub record IsUsage (Prints : Option (List ℕ) → Option (List ℕ) → List ℕ → Type 0) (before now : Outside) : Type 0 where
-  pub printed : Prints before.printed now.printed usage_line
-  pub left : now.left ≡ before.left
-  pub exported : now.exported ≡ before.exported
-  pub started : now.started ≡ before.started
+-- The input is a workload, whose run ended so.
+abbrev pub IsRunOf : Option (List ℕ) → Status → Outside → Outside → Type 0
+IsRunOf path ended before now =
+    (script : Script) × Reads script before now × ScriptEnds path script ended before now
 
--- The output failed, and a front was printed of what was due: the line of usage where the words ask for nothing, else a
--- refusal or the replies of a run.
-abbrev pub IsCutOff : Option (List ℕ) → Outside → Outside → Type 0
-IsCutOff None before now = IsUsage AppendsFront before now
-IsCutOff (Some path) before now = IsRefused AppendsFront before now ⊎ IsDone AppendsFront path before now
+-- How the program ends where the words ask for a run, with this path for its export.
+abbrev pub RunEnds : Option (List ℕ) → Status → Outside → Outside → Type 0
+RunEnds path status.Done before now = IsRunOf path status.Done before now
+RunEnds path status.Usage before now = ⊥
+RunEnds path status.Refused before now = IsRefused Appends before now
+RunEnds path status.ReadFault before now = IsSilent before now
+RunEnds path status.OutFault before now = IsRefused AppendsFront before now ⊎ IsRunOf path status.OutFault before now
+RunEnds path status.ExportFault before now = IsRunOf path status.ExportFault before now
+RunEnds path status.Memory before now = IsSilent before now ⊎ IsRunOf path status.Memory before now
+RunEnds path status.NotAStream before now = ⊥
+RunEnds path status.TooLong before now = ConsumesAtLeast before.left now.left (2 ^ 32) × IsSilent before now
 
--- Where the run ended with this status, the fact holds.
-abbrev pub OnDone : Status → Type 0 → Type 0
-OnDone status.Done fact = fact
-OnDone _ fact = Unit {0}
+-- How the program ends where the words ask for nothing that runs. Before they are judged there may be no memory.
+abbrev pub UsageEnds : Status → Outside → Outside → Type 0
+UsageEnds status.Done before now = ⊥
+UsageEnds status.Usage before now = IsUsage Appends before now
+UsageEnds status.Refused before now = ⊥
+UsageEnds status.ReadFault before now = ⊥
+UsageEnds status.OutFault before now = IsUsage AppendsFront before now
+UsageEnds status.ExportFault before now = ⊥
+UsageEnds status.Memory before now = now ≡ before
+UsageEnds status.NotAStream before now = ⊥
+UsageEnds status.TooLong before now = ⊥
 
-abbrev pub OnUsage : Status → Type 0 → Type 0
-OnUsage status.Usage fact = fact
-OnUsage _ fact = Unit {0}
+-- How the program ends, by what the words ask for. No stream is shown yet, no output checked and no workload generated.
+abbrev pub Ends : Option Asked → Status → Outside → Outside → Type 0
+Ends None ended before now = UsageEnds ended before now
+Ends (Some (ToRun path)) ended before now = RunEnds path ended before now
+Ends (Some ToShow) ended before now = UsageEnds ended before now
+Ends (Some ToCheck) ended before now = UsageEnds ended before now
+Ends (Some ToBench) ended before now = UsageEnds ended before now
 
-abbrev pub OnRefused : Status → Type 0 → Type 0
-OnRefused status.Refused fact = fact
-OnRefused _ fact = Unit {0}
-
-abbrev pub OnReadFault : Status → Type 0 → Type 0
-OnReadFault status.ReadFault fact = fact
-OnReadFault _ fact = Unit {0}
-
-abbrev pub OnOutFault : Status → Type 0 → Type 0
-OnOutFault status.OutFault fact = fact
-OnOutFault _ fact = Unit {0}
-
-abbrev pub OnExportFault : Status → Type 0 → Type 0
-OnExportFault status.ExportFault fact = fact
-OnExportFault _ fact = Unit {0}
-
-abbrev pub OnMemory : Status → Type 0 → Type 0
-OnMemory status.Memory fact = fact
-OnMemory _ fact = Unit {0}
-
-abbrev pub OnTooLong : Status → Type 0 → Type 0
-OnTooLong status.TooLong fact = fact
-OnTooLong _ fact = Unit {0}
-
--- The run of a workload ends with one of these.
-abbrev pub EndsRun : Status → Type 0
-EndsRun status.Done = Unit {0}
-EndsRun status.OutFault = Unit {0}
-EndsRun status.ExportFault = Unit {0}
-EndsRun status.Memory = Unit {0}
-EndsRun _ = ⊥
-
--- A refusal ends with one of these.
-abbrev pub EndsRefusal : Status → Type 0
-EndsRefusal status.Refused = Unit {0}
-EndsRefusal status.OutFault = Unit {0}
-EndsRefusal status.Memory = Unit {0}
-EndsRefusal _ = ⊥
-
--- The line of usage ends with one of these.
-abbrev pub EndsUsage : Status → Type 0
-EndsUsage status.Usage = Unit {0}
-EndsUsage status.OutFault = Unit {0}
-EndsUsage _ = ⊥
-
--- Whether the words ask for an export's path: with the status Usage they do not; with OutFault they may or may not,
--- since the line of usage may have failed; with any other they do. No run ends with NotAStream.
-abbrev pub WordsAsk : Option (List ℕ) → Status → Type 0
-WordsAsk path status.Usage = path ≡ None
-WordsAsk path status.OutFault = Unit {0}
-WordsAsk path status.NotAStream = ⊥
-WordsAsk path _ = IsSome path
-
--- The line of a refusal is printed: the bad line and its cause. Want of memory is told by no line.
-abbrev pub TellsFault : (Option (List ℕ) → Option (List ℕ) → List ℕ → Type 0) → ScriptFault → Option (List ℕ) → Option (List ℕ) → Type 0
-TellsFault Prints (fault.Bad line cause) before now = Prints before now (refused_text (record { line = line; cause = cause }))
-TellsFault Prints (fault.Memory refused) before now = ⊥
+-- A run ends with this status only where a count of faults rose, and with any other the count is as before.
+pub record TellsFaults (of ended : Status) (before now : ℕ) : Type 0 where
+  pub told : ended ≡ of → Rose before now
+  pub kept : ended ≢ of → now ≡ before

@@ -1,16 +1,67 @@
 -- What the words of the command line ask for.
-use Rattle.std.specs.Prelude.{ℕ, Bool, false, ◌&&◌, not, ◌==◌, List, [], ◌∷◌, Option, None, Some, bytes_eq, codes, if◌then◌else◌}
+use Rattle.std.specs.Prelude.{ℕ, ◌-◌, ◌^◌, pos, true, List, [], ◌∷◌, Option, None, Some, bytes_eq, codes, if◌then◌else◌, option_and_then, option_map}
+use Rattle.clap.specs.Words.{App, Kinds, Row, Rule, Text, fault_of, first_of, new_app, new_rule, subcommand_of, with_rule, with_subcommand}
+use Rattle.clap.specs.declared.builder.value_parser.ValueParser.TheVariants as parser
+use Rattle.mainline.specs.declared.words.Work.{Work}
+use Rattle.mainline.specs.declared.words.Work.TheVariants as work
 
--- a path is not empty and does not begin with `-`
-abbrev pub is_path : List ℕ → Bool
-is_path [] = false
-is_path (first ∷ rest) = not (first == 45)
+-- What the words ask for: to run a workload, and to export to a path if there is one; to show a stream; to check an
+-- output; to run a generated workload.
+pub data Asked : Type 0 where
+  ToRun : Option Text → Asked
+  ToShow : Asked
+  ToCheck : Asked
+  ToBench : Asked
 
--- The path to which the words ask to export: they are the program's name and then `run --export PATH`.
-abbrev pub export_path : List (List ℕ) → Option (List ℕ)
-export_path (program ∷ run ∷ option ∷ path ∷ []) =
-    if bytes_eq run (codes "run") && bytes_eq option (codes "--export") && is_path path then Some path else None
-export_path _ = None
+-- The program's command: `run [--export PATH]`, `show`, `check`, and `bench SEED SIZE` with a seed of 64 bits and a
+-- size of 1 to 4,096.
+abbrev pub export_rule : Rule
+export_rule = record (new_rule (codes "export")) { long = Some (codes "export") }
+
+abbrev pub seed_rule : Rule
+seed_rule = record (new_rule (codes "seed")) { required = true; parser = Some (parser.Unsigned 0 (2 ^ 64 - 1)) }
+
+abbrev pub size_rule : Rule
+size_rule = record (new_rule (codes "size")) { required = true; parser = Some (parser.Signed (pos 1) (pos 4096)) }
+
+abbrev pub run_app : App
+run_app = with_rule (new_app (codes "run")) export_rule
+
+abbrev pub bench_app : App
+bench_app = with_rule (with_rule (new_app (codes "bench")) seed_rule) size_rule
+
+abbrev pub mainline_app : App
+mainline_app =
+    with_subcommand (with_subcommand (with_subcommand (with_subcommand (new_app (codes "mainline"))
+    run_app.top) (new_app (codes "show")).top) (new_app (codes "check")).top) bench_app.top
+
+-- what a subcommand asks for, with what its words give
+abbrev pub command_asks : Text → List Row → Option Asked
+command_asks name rows =
+    if bytes_eq name (codes "run") then Some (ToRun (first_of (codes "export") rows))
+    else (if bytes_eq name (codes "show") then Some ToShow
+    else (if bytes_eq name (codes "check") then Some ToCheck
+    else (if bytes_eq name (codes "bench") then Some ToBench else None)))
+
+abbrev pub asked_of : Option (Text × List Row) → Option Asked
+asked_of named = option_and_then (λ of. command_asks of.0 of.1) named
+
+-- nothing where there are faults
+abbrev pub unless_faulty : Kinds → Option Asked → Option Asked
+unless_faulty [] asked = asked
+unless_faulty (kind ∷ kinds) asked = None
+
+-- What the words ask for, the first of which is the program's name: nothing where `clap` finds a fault in them for this
+-- command, or where they name no subcommand.
+abbrev pub asked_by : List Text → Option Asked
+asked_by words = unless_faulty (fault_of mainline_app words) (asked_of (subcommand_of mainline_app words))
+
+-- what a work is
+abbrev pub meaning : Work → Asked
+meaning (work.Run path) = ToRun (option_map (λ p. p.now) path)
+meaning work.Show = ToShow
+meaning work.Check = ToCheck
+meaning work.Bench = ToBench
 
 -- the line that tells how the program is used
 abbrev pub usage_line : List ℕ

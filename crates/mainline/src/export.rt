@@ -1,5 +1,5 @@
 //! The export of a table as an Arrow stream.
-ghost use Rattle.std.specs.Prelude.{◌≡◌, ◌<◌, ◌≤◌, ◌*◌, ◌^◌, false, All, IfOk, IfErr, OnErr, length, ◌∷◌, []};
+ghost use Rattle.std.specs.Prelude.{◌≡◌, ◌<◌, ◌≤◌, ◌*◌, ◌^◌, false, All, IfOk, IfErr, OnErr, OnOk, length, ◌∷◌, []};
 ghost use Rattle.cell_model.specs.Rows.{Fits};
 ghost use Rattle.isolation_laws.specs.Inserts.{least_of};
 ghost use Rattle.byte_ports.specs.Calls.{Rose};
@@ -33,7 +33,7 @@ pub fn export_table<X: Outlet>(
     ensures front { OnErr result ((alone : Alone) → Stands (table.now ∷ []) store.now alone
         → ServesCommand (table.now ∷ []) alone (command.Export 0) Said.Memory store.now (X.written outlet.old) (X.written outlet.new)) }
     ensures started { X.started outlet.new ≡ X.started outlet.old }
-    ensures counted { X.faults outlet.old ≤ X.faults outlet.new }
+    ensures kept { OnOk result (X.faults outlet.new ≡ X.faults outlet.old) }
 {
     let Some(number) = store.snapshot else {
         return Ok(Said::NoTransaction);
@@ -66,10 +66,10 @@ fn send_rows<X: Outlet>(
     requires room { length rows.now ≤ table.now.blocks * table.now.slots }
     ensures ok { IfOk result (λ batches. SendsRows table.now.schema table.now.slots table.now.blocks rows.now
         (X.written outlet.old) (X.written outlet.new) batches) }
-    ensures err { IfErr result (λ fault. FailsToSend table.now.schema rows.now
+    ensures err { IfErr result (λ fault. FailsToSend table.now.schema table.now.slots rows.now
         (X.written outlet.old) (X.written outlet.new) (X.faults outlet.old) (X.faults outlet.new) fault) }
     ensures started { X.started outlet.new ≡ X.started outlet.old }
-    ensures counted { X.faults outlet.old ≤ X.faults outlet.new }
+    ensures kept { OnOk result (X.faults outlet.new ≡ X.faults outlet.old) }
 {
     let mut writer = Writer::new(outlet);
     let sent = write_rows(alloc, table, rows, &mut writer);
@@ -93,11 +93,11 @@ pub fn write_rows<W: Sink>(
     requires room { length rows.now ≤ table.now.blocks * table.now.slots }
     ensures ok { IfOk result (λ batches. SendsRows table.now.schema table.now.slots table.now.blocks rows.now
         (W.written writer.old.0) (W.written writer.new.0) batches) }
-    ensures err { IfErr result (λ fault. FailsToSend table.now.schema rows.now
+    ensures err { IfErr result (λ fault. FailsToSend table.now.schema table.now.slots rows.now
         (W.written writer.old.0) (W.written writer.new.0) (W.faults writer.old.0) (W.faults writer.new.0) fault) }
     ensures started { W.started writer.new.0 ≡ W.started writer.old.0 }
     ensures loan { W.loan writer.new.0 ≡ W.loan writer.old.0 }
-    ensures counted { W.faults writer.old.0 ≤ W.faults writer.new.0 }
+    ensures kept { OnOk result (W.faults writer.new.0 ≡ W.faults writer.old.0) }
 {
     if let Err(fault) = writer.schema(alloc, &table.schema) {
         return Err(fault);

@@ -1,4 +1,4 @@
-//! Runs workloads over the store: `mainline run --export PATH` reads one from standard input, prints the replies, and
+//! Runs workloads over the store: `mainline run [--export PATH]` reads one from standard input, prints the replies, and
 //! writes the export as an Arrow stream to the path.
 #![tactic(auto)]
 
@@ -23,7 +23,7 @@ use std::process::ExitCode;
 fn main(rt: HostRuntime) -> ExitCode {
     let alloc = rt.alloc();
     let Ok(words) = told_words(&rt) else {
-        return ExitCode::from(Status::Memory.code());
+        return ExitCode::from(Status::Memory);
     };
     let mut source = StdSource::new(rt.stdin());
     let mut out = StdSink::new(rt.stdout());
@@ -37,7 +37,7 @@ fn main(rt: HostRuntime) -> ExitCode {
         &mut export,
         &OpenGate,
     );
-    ExitCode::from(status.code())
+    ExitCode::from(status)
 }
 
 /// The program's name and words; none where one is not UTF-8, since such words ask for nothing that the program does.

@@ -1,12 +1,12 @@
 //! A round of one session: its commands in order, and the text of the replies.
-ghost use Rattle.std.specs.Prelude.{◌≡◌, ◌≤◌, ◌∷◌, [], true, map, count_by, length, ◌++◌, IfOk, IfErr, OnOk, OnErr, IsErrOf};
+ghost use Rattle.std.specs.Prelude.{◌≡◌, ◌≤◌, ◌∷◌, [], true, map, count_by, length, ◌++◌, IfOk, IfErr, OnOk, OnErr};
 ghost use Rattle.workload_spec.specs.ReplyText.{reply_text};
 ghost use Rattle.outcome_laws.specs.Alone.{Alone, reply_of};
-ghost use Rattle.std.specs.List.{list_all, list_any};
+ghost use Rattle.std.specs.List.{list_all};
 ghost use Rattle.byte_ports.specs.Calls.{Rose};
 ghost use Rattle.cell_model.specs.declared.table.TableDecl.{TableDecl as Table};
 ghost use Rattle.workload_spec.specs.Valid.{is_export};
-ghost use Rattle.mainline.specs.Sent.{IsTable, RunsRound, ServesCommand, StopsRound, runs_today};
+ghost use Rattle.mainline.specs.Sent.{IsTable, RunsRound, ServesCommand, StopsRound, runs_today, CountsFault};
 ghost use Rattle.mainline.specs.Stands.{IsStore, Stands};
 
 use crate::export::export_table;
@@ -39,11 +39,9 @@ pub fn run_round<R: Wait + Threads + Sync, X: Outlet, G: Gate>(
     requires once { count_by (λ line. is_export line.command) round ≤ 1 }
     ensures ok { IfOk result (λ text. RunsRound tables.now (map (λ line. line.command) round) text.items
         (X.written export.old) (X.written export.new)) }
-    ensures stopped { OnErr result (StopsRound tables.now round (X.written export.old) (X.written export.new)) }
-    ensures fault { IsErrOf result RunFault.Export → Rose (X.faults export.old) (X.faults export.new) }
-    ensures asked { IsErrOf result RunFault.Export → list_any (λ line. is_export line.command) round ≡ true }
+    ensures stopped { IfErr result (λ fault. StopsRound tables.now round fault (X.written export.old) (X.written export.new)) }
+    ensures faults { CountsFault (X.faults export.old) (X.faults export.new) result }
     ensures started { X.started export.new ≡ X.started export.old }
-    ensures counted { X.faults export.old ≤ X.faults export.new }
 {
     let table = &tables[0];
     let mut store = Store::new(alloc, table.blocks as usize * table.slots as usize);
@@ -83,9 +81,9 @@ fn answer<X: Outlet>(
     ensures front { OnErr result ((alone : Alone) → Stands (table.now ∷ []) store.old alone
         → ServesCommand (table.now ∷ []) alone command Said.Memory store.new (X.written outlet.old) (X.written outlet.new)) }
     ensures err { OnErr result (Rose (X.faults outlet.old) (X.faults outlet.new)) }
+    ensures kept { OnOk result (X.faults outlet.new ≡ X.faults outlet.old) }
     ensures asked { OnErr result (is_export command ≡ true) }
     ensures started { X.started outlet.new ≡ X.started outlet.old }
-    ensures counted { X.faults outlet.old ≤ X.faults outlet.new }
 {
     match command {
         Command::Export { table: _ } => export_table(alloc, store, table, outlet),

@@ -1,6 +1,5 @@
 //! How a run of the program ends.
-ghost use Rattle.std.specs.Prelude.{◌≡◌};
-ghost use Rattle.mainline.specs.Codes.{status_code};
+use std::process::ExitCode;
 
 /// How a run ends; the program ends with its number.
 #[derive(Clone, Copy, Debug, PartialEq, Eq)]
@@ -25,11 +24,15 @@ pub enum Status {
     TooLong = 8,
 }
 
-impl Status {
-    /// The number of the status.
-    pub fn code(self) -> u8
-        ensures { result ≡ status_code self }
-    {
-        self as u8
+/// The program ends with the number of the status.
+impl From<Status> for ExitCode {
+    ghost use Rattle.std.specs.Prelude.{◌≡◌};
+    ghost use Rattle.std.specs.Process.{exit_status};
+    ghost use Rattle.mainline.specs.Codes.{status_code};
+
+    ghost from_gives = { λ status code. exit_status code ≡ status_code status };
+
+    fn from(status: Status) -> ExitCode {
+        ExitCode::from(status as u8)
     }
 }

@@ -144,6 +144,8 @@ const LATER: [&str; 9] = [
 
 const EXPORT: &str = "1 begin\n1 export b\n";
 
+const EXPORTED: &str = "1 1 1 at 0\n1 1 2 export 0 rows 0 batches 0 frozen 0\n";
+
 // The calls of the source, of the output and of the outlet that fail.
 #[derive(Clone, Copy)]
 struct Failing {
@@ -170,7 +172,7 @@ struct Fault {
     exported: usize,
 }
 
-const FAULTS: [Fault; 14] = [
+const FAULTS: [Fault; 16] = [
     Fault {
         words: &["mainline", "walk"],
         commands: EXPORT,
@@ -190,7 +192,28 @@ const FAULTS: [Fault; 14] = [
         exported: 0,
     },
     Fault {
-        words: &["mainline", "run", "--export", ""],
+        words: &["mainline", "run", "--export=e"],
+        commands: EXPORT,
+        failing: NOTHING_FAILS,
+        status: Status::Done,
+        printed: EXPORTED,
+        started: 1,
+        exported: 168,
+    },
+    Fault {
+        words: &["mainline", "run"],
+        commands: EXPORT,
+        failing: Failing {
+            outlet: &[1, 2, 3, 4],
+            ..NOTHING_FAILS
+        },
+        status: Status::Done,
+        printed: EXPORTED,
+        started: 0,
+        exported: 0,
+    },
+    Fault {
+        words: &["mainline", "show"],
         commands: EXPORT,
         failing: NOTHING_FAILS,
         status: Status::Usage,
@@ -199,7 +222,7 @@ const FAULTS: [Fault; 14] = [
         exported: 0,
     },
     Fault {
-        words: &["mainline", "run"],
+        words: &["mainline", "bench", "1", "4096"],
         commands: EXPORT,
         failing: NOTHING_FAILS,
         status: Status::Usage,

@@ -51,7 +51,7 @@ pub returns-in-Err-Memory-clause-ok : goal.returns-in-Err-Memory-clause-ok
 returns-in-Err-Memory-clause-ok g c = λ alone stands.
     let seen = part_is c.split_at.result.0.now c.deref.result.now c.args.store.now.rows.items take c.end_at.result (end_at c.args.store.now.ends.items c.in-Some.number)
     c.split_at.ensures.front c.end_at.ensures c.deref.ensures.value in
-    export_refused c.args.table.now c.args.store.now alone _ _ c.in-Some.number c.split_at.result.0.now stands c.in-Some.is seen (rw c.in-Err-Memory.field-0-is at c.in-Err-Memory.ensures.err)
+    export_refused c.args.table.now c.args.store.now alone _ _ c.in-Some.number c.split_at.result.0.now stands c.in-Some.is seen (rw c.in-Err-Memory.field-0-is at c.in-Err-Memory.ensures.err).1
 
 pub returns-in-Err-Sink-clause-front : goal.returns-in-Err-Sink-clause-front
 returns-in-Err-Sink-clause-front g c = λ alone stands.

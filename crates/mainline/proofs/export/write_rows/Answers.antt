@@ -4,8 +4,8 @@ use Rattle.mainline.proofs.export.write_rows.Goals as goal
 
 pub returns-in-Err-clause-err : goal.returns-in-Err-clause-err
 returns-in-Err-clause-err g c =
-    schema_fails (Unit {0}) g.W.Sink.written g.W.Sink.faults c.args.writer.now c.schema.new.self c.args.table.now.schema c.args.rows.now
-    c.in-Err.fault c.requires.fresh c.in-Err.ensures.answer
+    schema_fails (Unit {0}) g.W.Sink.written g.W.Sink.faults c.args.writer.now c.schema.new.self c.args.table.now.schema c.args.table.now.slots c.args.rows.now
+    c.in-Err.fault c.requires.slots c.requires.fresh c.in-Err.ensures.answer
 
 pub loop-block-init : goal.loop-block-init
 loop-block-init g c =
@@ -19,7 +19,7 @@ loop-block-init g c =
       fresh = c.in_default.ensures.answer.after;
       started = c.schema.ensures.started;
       loan = c.schema.ensures.loan;
-      counted = c.schema.ensures.counted;
+      kept = c.in_default.ensures.answer.kept;
     }
 
 pub returns-in-Err-rows-clause-err : goal.returns-in-Err-rows-clause-err
@@ -31,13 +31,13 @@ returns-in-Err-rows-clause-err g c =
     let left = steps.1.2 in
     block_fails (Unit {0}) g.W.Sink.written g.W.Sink.faults c.args.writer.now c.loop-block.writer c.rows.new.self c.args.table.now.schema c.args.table.now.slots c.args.rows.now
     c.loop-block.batches c.loop-block.block-iterator.rest.now c.in-Some.block.now _ c.in-Err-rows.fault
-    inv.fresh inv.sending steps.1.0 (omega (arith, size, some, left)) inv.counted c.in-Err-rows.ensures.answer
+    inv.fresh inv.sending steps.1.0 (omega (arith, size, some, left)) (omega (arith, size)) some inv.kept c.in-Err-rows.ensures.answer
 
 pub returns-in-Err-finish-clause-err : goal.returns-in-Err-finish-clause-err
 returns-in-Err-finish-clause-err g c =
     let inv = c.loop-block.invariant in
     end_fails (Unit {0}) g.W.Sink.written g.W.Sink.faults c.args.writer.now c.loop-block.writer c.finish.new.self c.args.table.now.schema c.args.table.now.slots c.args.rows.now
-    c.loop-block.batches _ c.in-Err-finish.fault inv.fresh inv.sending c.in-None.ensures.steps.1.0 inv.counted c.in-Err-finish.ensures.answer
+    c.loop-block.batches _ c.in-Err-finish.fault inv.fresh inv.sending c.in-None.ensures.steps.1.0 inv.kept c.in-Err-finish.ensures.answer
 
 pub overflow_add-batches : goal.overflow_add-batches
 overflow_add-batches g c =
@@ -56,7 +56,7 @@ loop-block-preserved g c =
       fresh = c.in_default-rows.ensures.answer.after;
       started = c.rows.ensures.started ∙ inv.started;
       loan = c.rows.ensures.loan ∙ inv.loan;
-      counted = omega (arith, inv.counted, c.rows.ensures.counted);
+      kept = c.in_default-rows.ensures.answer.kept ∙ inv.kept;
     }
 
 pub returns-in-Ok-clause-ok : goal.returns-in-Ok-clause-ok

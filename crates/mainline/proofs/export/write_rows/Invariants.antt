@@ -1,4 +1,4 @@
-use Rattle.std.proofs.Common.{◌≡◌, ◌≤◌, false}
+use Rattle.std.proofs.Common.{◌≡◌, false}
 use Rattle.mainline.proofs.Sending.{Sending}
 use Rattle.mainline.proofs.export.write_rows.Given as goal
 
@@ -9,5 +9,5 @@ invariant-loop-block g l = record {
   fresh : l.writer.1 ≡ false;
   started : g.W.Sink.started l.writer.0 ≡ g.W.Sink.started l.fn.writer.0;
   loan : g.W.Sink.loan l.writer.0 ≡ g.W.Sink.loan l.fn.writer.0;
-  counted : g.W.Sink.faults l.fn.writer.0 ≤ g.W.Sink.faults l.writer.0;
+  kept : g.W.Sink.faults l.writer.0 ≡ g.W.Sink.faults l.fn.writer.0;
 }

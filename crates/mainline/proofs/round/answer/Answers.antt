@@ -1,4 +1,4 @@
-use Rattle.std.proofs.Common.{[], ◌∷◌, refl, sym, subst, arith, IfOk, OnErr}
+use Rattle.std.proofs.Common.{[], ◌∷◌, refl, sym, subst, IfOk, OnErr}
 use Rattle.outcome_laws.specs.Alone.{Alone}
 use Rattle.workload_spec.specs.Supported.{is_supported_command}
 use Rattle.workload_spec.specs.Valid.{is_command}
@@ -34,7 +34,7 @@ returns-in_default g c =
           (no_export c.args.command c.in_default.not-Export);
       front = tt;
       err = tt;
+      kept = refl;
       asked = tt;
       started = refl;
-      counted = omega arith;
     }

@@ -4,7 +4,8 @@ use Rattle.std.specs.Vec.Iter.{into_iter_items}
 use Rattle.cell_model.specs.declared.table.TableDecl.{TableDecl}
 use Rattle.outcome_spec.specs.Tables.{blocks_at, slots_at}
 use Rattle.workload_spec.specs.declared.reply.Said.TheVariants as said
-use Rattle.mainline.specs.Sent.{IsTable}
+use Rattle.mainline.specs.Sent.{IsTable, RanFirst, StopsRound}
+use Rattle.mainline.specs.declared.fault.RunFault.{RunFault}
 use Rattle.mainline.proofs.Running.{Running, Turn, running_begins, turn_serves, turn_stops, stops_at_once, first_table}
 use Rattle.mainline.proofs.round.run_round.Goals as goal
 
@@ -22,7 +23,7 @@ loop-line-init g c =
       is_table = subst IsTable (sym first) c.requires.table.2;
       few = omega (arith, ap length c.into_vec-lines.ensures, c.into_vec-lines.result.ok.0, c.into_vec-lines.result.ok.1, c.into_vec-lines.result.small);
       started = refl;
-      counted = omega arith;
+      kept = refl;
     }
 
 pub returns-in_default-clause-stopped : goal.returns-in_default-clause-stopped
@@ -36,9 +37,12 @@ returns-in_default-answer-clause-stopped g c =
       all = c.requires.lines;
       once = c.requires.once;
       split = ap (λ lines. c.loop-line.yielded ++ lines) (sym c.in-Some.ensures.steps.0) ∙ inv.lines;
-    } in
-    turn_stops c.args.tables.now c.index-tables-0.result c.args.round c.loop-line.yielded c.in-Some.line (into_iter_items c.next.new.self) said.Memory
-    c.loop-line.store c.answer.new.store c.loop-line.text.items c.loop-line.index _ _ _ turn inv.running c.in_default-answer.ensures.front
+    } in (
+      c.loop-line.yielded ++ c.in-Some.line ∷ [],
+      turn_stops c.args.tables.now c.index-tables-0.result c.args.round c.loop-line.yielded c.in-Some.line (into_iter_items c.next.new.self) said.Memory
+          c.loop-line.store c.answer.new.store c.loop-line.text.items c.loop-line.index _ _ _ turn inv.running c.in_default-answer.ensures.front,
+      (c.loop-line.yielded, c.in-Some.line, refl, c.in_default-answer.ensures.asked),
+    )
 
 pub returns-in-Err-clause-stopped : goal.returns-in-Err-clause-stopped
 returns-in-Err-clause-stopped g c =
@@ -49,8 +53,12 @@ returns-in-Err-clause-stopped g c =
       once = c.requires.once;
       split = ap (λ lines. c.loop-line.yielded ++ lines) (sym c.in-Some.ensures.steps.0) ∙ inv.lines;
     } in
+    let lines = c.loop-line.yielded ++ c.in-Some.line ∷ [] in
+    let ran : RanFirst c.args.tables.now c.args.round lines (g.X.Sink.written c.args.export.now) (g.X.Sink.written c.answer.new.outlet) =
     turn_stops c.args.tables.now c.index-tables-0.result c.args.round c.loop-line.yielded c.in-Some.line (into_iter_items c.next.new.self) c.in-Ok-answer.said
-    c.loop-line.store c.answer.new.store c.loop-line.text.items c.loop-line.index _ _ _ turn inv.running c.in-Ok-answer.ensures.ok
+    c.loop-line.store c.answer.new.store c.loop-line.text.items c.loop-line.index _ _ _ turn inv.running c.in-Ok-answer.ensures.ok in
+    subst (λ (told : RunFault). StopsRound c.args.tables.now c.args.round told (g.X.Sink.written c.args.export.now) (g.X.Sink.written c.answer.new.outlet))
+    (sym c.in-Err.ensures.err) (lines, ran)
 
 pub loop-line-preserved : goal.loop-line-preserved
 loop-line-preserved g c =
@@ -69,5 +77,5 @@ loop-line-preserved g c =
       is_table = inv.is_table;
       few = inv.few;
       started = c.answer.ensures.started ∙ inv.started;
-      counted = omega (arith, inv.counted, c.answer.ensures.counted);
+      kept = c.in-Ok-answer.ensures.kept ∙ inv.kept;
     }

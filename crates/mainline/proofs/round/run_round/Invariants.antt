@@ -1,4 +1,4 @@
-use Rattle.std.proofs.Common.{◌≡◌, ◌≤◌, ◌<◌, ◌^◌, [], ◌∷◌, ◌++◌, map, length}
+use Rattle.std.proofs.Common.{◌≡◌, ◌<◌, ◌^◌, [], ◌∷◌, ◌++◌, map, length}
 use Rattle.std.specs.Vec.Iter.{into_iter_items}
 use Rattle.mainline.specs.Sent.{IsTable}
 use Rattle.mainline.proofs.Running.{Running}
@@ -12,5 +12,5 @@ invariant-loop-line g l = record {
   is_table : IsTable l.table;
   few : length l.fn.round < 2 ^ 63;
   started : g.X.Sink.started l.export ≡ g.X.Sink.started l.fn.export;
-  counted : g.X.Sink.faults l.fn.export ≤ g.X.Sink.faults l.export;
+  kept : g.X.Sink.faults l.export ≡ g.X.Sink.faults l.fn.export;
 }

@@ -1,0 +1,34 @@
+use Rattle.std.proofs.Common.{ℕ, List, option_map, subst, arith}
+use Rattle.workload_spec.specs.declared.script.Script.{Script}
+use Rattle.script_text.specs.Supported.{Spells}
+use Rattle.mainline.specs.Outcome.{Outside, ScriptEnds, outside}
+use Rattle.mainline.specs.declared.status.Status.{Status}
+use Rattle.mainline.proofs.Scripts.{refusal_ends, run_ends, spelled_workload}
+use Rattle.mainline.proofs.perform.run.Goals as goal
+
+pub returns-in-Ok-parsed-clause-ends : goal.returns-in-Ok-parsed-clause-ends
+returns-in-Ok-parsed-clause-ends g c =
+    run_ends (option_map (λ p. p.now) c.args.path) c.run_script.result c.in-Ok-parsed.script _ _
+    (record {
+      bytes = c.in-Ok.bytes.items;
+      input = record { read = c.in-Ok.ensures.bytes; ended = c.in-Ok.ensures.end; short = omega (arith, c.in-Ok.ensures.short, c.in-Ok.bytes.ok.0) };
+      workload = spelled_workload c.in-Ok.bytes.items c.in-Ok-parsed.script
+          (subst (λ (bytes : List ℕ). Spells bytes c.in-Ok-parsed.script) c.deref.ensures.value c.in-Ok-parsed.ensures.ok);
+    })
+    (c.run_script.ensures.ends (g.S.Source.left c.args.source.now) (g.S.Source.left c.read_to_end.new.source))
+
+pub returns-in-Ok-parsed-clause-read_faults : goal.returns-in-Ok-parsed-clause-read_faults
+returns-in-Ok-parsed-clause-read_faults g c =
+    let before : Outside = outside (g.S.Source.left c.args.source.now) (g.O.Sink.written c.args.out.now) (g.X.Sink.written c.args.export.now) (g.X.Sink.started c.args.export.now) in
+    let now : Outside = outside (g.S.Source.left c.read_to_end.new.source) (g.O.Sink.written c.run_script.new.out) (g.X.Sink.written c.run_script.new.export) (g.X.Sink.started c.run_script.new.export) in
+    record {
+      told = λ is. absurd (subst (λ (ended : Status). ScriptEnds (option_map (λ p. p.now) c.args.path) c.in-Ok-parsed.script ended before now) is
+          (c.run_script.ensures.ends (g.S.Source.left c.args.source.now) (g.S.Source.left c.read_to_end.new.source)));
+      kept = λ other. c.in-Ok.ensures.cause;
+    }
+
+pub returns-in-Err-clause-ends : goal.returns-in-Err-clause-ends
+returns-in-Err-clause-ends g c =
+    refusal_ends Script (option_map (λ p. p.now) c.args.path) c.refuse.result c.in-Err.fault c.in-Ok.bytes.items c.deref.result.now _ _ _ _ _ _
+    c.deref.ensures.value c.in-Ok.ensures.bytes c.in-Ok.ensures.end (omega (arith, c.in-Ok.ensures.short, c.in-Ok.bytes.ok.0))
+    c.in-Err.ensures.bad c.in-Err.ensures.exact c.refuse.ensures.ends
