@@ -1,12 +1,20 @@
-//! The metadata of Arrow's messages, written as flatbuffers (Arrow columnar format, "Encapsulated
-//! message format").
+//! The metadata of Arrow's messages, written as flatbuffers and read from bytes that nobody vouches for (Arrow columnar
+//! format, "Encapsulated message format").
 #![tactic(auto)]
 
 mod batch;
+mod batches;
 mod columns;
+mod fields;
+mod heads;
 mod message;
+mod schemas;
 
+pub use batches::{BatchMeta, read_batch};
+pub use fields::NotRead;
+pub use heads::read_head;
 pub use message::{batch_message, schema_message};
+pub use schemas::read_schema;
 
 #[cfg(test)]
 mod tests;

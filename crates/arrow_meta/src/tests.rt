@@ -1,9 +1,10 @@
 // Whole flatbuffers, byte by byte.
-use crate::{batch_message, schema_message};
+use crate::{batch_message, read_batch, read_head, read_schema, schema_message};
 use cell_model::{Bytes, Column, Kind, Schema, are_named};
 use std::alloc::Global;
 use std::process::Abort;
 use std::test::Fail;
+use stream_spec::HeadKind;
 
 // What a message tells: columns, or a batch's rows, nodes, buffers and body.
 enum Told {
@@ -130,5 +131,44 @@ fn flatbuffers_have_these_bytes(rt: HostRuntime) -> Result<(), Fail> {
         let bytes = message(&rt, rt.alloc(), &case.told)?;
         assert_eq!(rt; bytes.as_slice(), case.bytes, "in {}", case.name);
     }
+    Ok(())
+}
+
+#[test]
+fn flatbuffers_are_read(rt: HostRuntime) -> Result<(), Fail> {
+    let alloc = rt.alloc();
+    for case in &CASES {
+        let head = read_head(case.bytes).map_err(|_| Fail::from(case.name))?;
+        match case.told {
+            Told::Columns(told) => {
+                assert_eq!(rt; head.kind, HeadKind::Schema);
+                let columns = read_schema(alloc, case.bytes, head.header);
+                let Ok(columns) = columns else {
+                    return Err(Fail::from(case.name));
+                };
+                assert_eq!(rt; columns.len(), told.len());
+                for (column, (name, kind, nullable)) in columns.iter().zip(told) {
+                    assert_eq!(rt; column.name.as_slice(), name.as_bytes());
+                    assert_eq!(rt; column.kind, *kind);
+                    assert_eq!(rt; column.nullable, *nullable);
+                }
+            }
+            Told::Batch(rows, nodes, buffers, body) => {
+                assert_eq!(rt; head.kind, HeadKind::Batch);
+                assert_eq!(rt; head.body, body);
+                let Ok(batch) = read_batch(alloc, case.bytes, head.header) else {
+                    return Err(Fail::from(case.name));
+                };
+                assert_eq!(rt; batch.rows(), rows);
+                for (node, told) in batch.nodes().iter().zip(nodes) {
+                    assert_eq!(rt; (node.length, node.null_count), *told);
+                }
+                for (buffer, told) in batch.buffers().iter().zip(buffers) {
+                    assert_eq!(rt; (buffer.offset, buffer.length), *told);
+                }
+            }
+        }
+    }
+    assert_eq!(rt; read_head(b"\x08\x00\x00\x00".as_slice()).is_err(), true);
     Ok(())
 }

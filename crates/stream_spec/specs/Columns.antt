@@ -13,17 +13,19 @@ use Rattle.flat_read.specs.Reading.{number_from}
 use Rattle.stream_spec.specs.Checks.{◌>>=◌, rule}
 use Rattle.stream_spec.specs.declared.fault.Cause.{Cause}
 use Rattle.stream_spec.specs.declared.fault.Cause.TheVariants as cause
+use Rattle.stream_spec.specs.declared.message.BufferPlace.{BufferPlace}
+use Rattle.stream_spec.specs.declared.message.FieldNode.{FieldNode}
 use Rattle.stream_spec.specs.Metadata.{BatchTable}
 
 -- ---- buffers
 
 -- neither number is negative, and the buffer ends within the body
-abbrev pub lies_in : List ℕ → ℤ × ℤ → Bool
-lies_in body buffer = int_le (pos 0) buffer.0 && int_le (pos 0) buffer.1 && int_le (buffer.0 +ℤ buffer.1) (pos (length body))
+abbrev pub lies_in : List ℕ → BufferPlace → Bool
+lies_in body buffer = int_le (pos 0) buffer.offset && int_le (pos 0) buffer.length && int_le (buffer.offset +ℤ buffer.length) (pos (length body))
 
 -- the bytes of a buffer that lies in the body
-abbrev pub bytes_of : List ℕ → ℤ × ℤ → List ℕ
-bytes_of body buffer = take (unsigned_abs buffer.1) (drop (unsigned_abs buffer.0) body)
+abbrev pub bytes_of : List ℕ → BufferPlace → List ℕ
+bytes_of body buffer = take (unsigned_abs buffer.length) (drop (unsigned_abs buffer.offset) body)
 
 -- a bit of a bitmap, the least significant of each byte first
 abbrev pub bit_of : List ℕ → ℕ → Bool
@@ -50,17 +52,17 @@ data_needs texts rows = 4 * (rows + 1) ∷ 0 ∷ []
 data_needs blobs rows = 4 * (rows + 1) ∷ 0 ∷ []
 
 -- The buffer lies in the body and is long enough; for a batch without rows any length will do.
-abbrev pub is_buffer : List ℕ → ℕ → ℕ → ℤ × ℤ → Bool
-is_buffer body rows need buffer = lies_in body buffer && (rows == 0 || nat_le need (unsigned_abs buffer.1))
+abbrev pub is_buffer : List ℕ → ℕ → ℕ → BufferPlace → Bool
+is_buffer body rows need buffer = lies_in body buffer && (rows == 0 || nat_le need (unsigned_abs buffer.length))
 
-abbrev pub are_buffers : List ℕ → ℕ → List ℕ → List (ℤ × ℤ) → Bool
+abbrev pub are_buffers : List ℕ → ℕ → List ℕ → List BufferPlace → Bool
 are_buffers body rows needs [] = true
 are_buffers body rows [] (buffer ∷ buffers) = true
 are_buffers body rows (need ∷ needs) (buffer ∷ buffers) = is_buffer body rows need buffer && are_buffers body rows needs buffers
 
 -- A validity may have length 0, where no slot is null (Arrow columnar format, "Validity bitmaps").
-abbrev pub is_validity : List ℕ → ℕ → ℤ × ℤ → Bool
-is_validity body rows buffer = lies_in body buffer && (unsigned_abs buffer.1 == 0 || (rows == 0 || nat_le (bitmap_length rows) (unsigned_abs buffer.1)))
+abbrev pub is_validity : List ℕ → ℕ → BufferPlace → Bool
+is_validity body rows buffer = lies_in body buffer && (unsigned_abs buffer.length == 0 || (rows == 0 || nat_le (bitmap_length rows) (unsigned_abs buffer.length)))
 
 -- ---- slots
 
@@ -125,7 +127,7 @@ is_text (Blob bytes) = true
 -- ---- columns
 
 -- The cells of a column of so many rows with this null count and these buffers, the validity first.
-abbrev pub column_of : List ℕ → ℕ → Values → ℤ → ℤ × ℤ → List (ℤ × ℤ) → Result (List Cell) Cause
+abbrev pub column_of : List ℕ → ℕ → Values → ℤ → BufferPlace → List BufferPlace → Result (List Cell) Cause
 column_of body rows values nulls validity buffers = do
   inside ← rule cause.Buffer (is_validity body rows validity && are_buffers body rows (data_needs values rows) buffers)
   counted ← rule cause.NullCount (int_eq nulls (pos (null_count_of (bytes_of body validity) rows)))
@@ -134,12 +136,12 @@ column_of body rows values nulls validity buffers = do
   Ok (cells_of values (bytes_of body validity) (map (bytes_of body) buffers) rows)
 
 -- The columns, each with its node and its buffers.
-abbrev pub columns_of : List ℕ → ℕ → List Column → List (ℤ × ℤ) → List (ℤ × ℤ) → Result (List (List Cell)) Cause
+abbrev pub columns_of : List ℕ → ℕ → List Column → List FieldNode → List BufferPlace → Result (List (List Cell)) Cause
 columns_of body rows [] nodes buffers = Ok []
 columns_of body rows (column ∷ columns) [] buffers = Ok []
 columns_of body rows (column ∷ columns) (node ∷ nodes) [] = Ok []
 columns_of body rows (column ∷ columns) (node ∷ nodes) (validity ∷ buffers) = do
-  cells ← column_of body rows (values_of column.kind) node.1 validity (take (data_count (values_of column.kind)) buffers)
+  cells ← column_of body rows (values_of column.kind) node.null_count validity (take (data_count (values_of column.kind)) buffers)
   rest ← columns_of body rows columns nodes (drop (data_count (values_of column.kind)) buffers)
   Ok (cells ∷ rest)
 
@@ -158,6 +160,6 @@ abbrev pub rows_of : List Column → BatchTable → List ℕ → Result (List (L
 rows_of columns batch body = do
   nodes ← rule cause.Shape (length batch.nodes == length columns)
   buffers ← rule cause.Shape (length batch.buffers == buffer_count columns)
-  slots ← rule cause.Shape (list_all (λ node. int_eq node.0 (pos batch.rows)) batch.nodes)
+  slots ← rule cause.Shape (list_all (λ node. int_eq node.length (pos batch.rows)) batch.nodes)
   cells ← columns_of body batch.rows columns batch.nodes batch.buffers
   Ok (map (row_at cells) (range_with_len 0 batch.rows))

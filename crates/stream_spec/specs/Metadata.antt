@@ -1,7 +1,7 @@
 -- What a message's metadata denotes, wherever its objects stand: references are followed from the root, and a field that
 -- is absent has its default. Field numbers and the numbers of types are those of the public schemas Message.fbs and
 -- Schema.fbs; how a table, a vtable, a vector and a string are read is of the FlatBuffers internals.
-use Rattle.std.specs.Prelude.{ℕ, ◌+◌, ◌*◌, ◌^◌, Bool, true, false, ◌&&◌, ◌||◌, not, ◌==◌, nat_lt, List, [], map, find, ℤ, Option, None, Some, is_some, Result, Ok}
+use Rattle.std.specs.Prelude.{ℕ, ◌+◌, ◌*◌, ◌^◌, Bool, true, false, ◌&&◌, ◌||◌, not, ◌==◌, nat_lt, List, [], map, find, ℤ, if◌then◌else◌, Option, None, Some, is_some, Result, Ok}
 use Rattle.std.specs.Int.{w64, byte_len, cast_signed}
 use Rattle.std.specs.List.{range_with_len}
 use Rattle.std.specs.Str.{is_utf8}
@@ -14,6 +14,15 @@ use Rattle.flat_read.specs.Reading.{field_at, number_at, number_from, target_at,
 use Rattle.flat_read.specs.declared.FlatFault.{FlatFault}
 use Rattle.stream_spec.specs.Checks.{◌>>=◌, each_of, fault_as, or_fault, rule}
 use Rattle.stream_spec.specs.declared.fault.MetaFault.{MetaFault}
+use Rattle.stream_spec.specs.declared.message.BufferPlace.{BufferPlace}
+use Rattle.stream_spec.specs.declared.message.Elements.{Elements}
+use Rattle.stream_spec.specs.declared.message.FieldNode.{FieldNode}
+use Rattle.stream_spec.specs.declared.message.Head.{Head}
+use Rattle.stream_spec.specs.declared.message.HeadKind.{HeadKind}
+use Rattle.stream_spec.specs.declared.message.HeadKind.TheVariants as head
+use Rattle.stream_spec.specs.declared.message.IntTable.{IntTable}
+use Rattle.stream_spec.specs.declared.message.MessageTable.{MessageTable}
+use Rattle.stream_spec.specs.declared.message.SchemaTable.{SchemaTable}
 use Rattle.stream_spec.specs.declared.fault.MetaFault.TheVariants as fault
 
 -- ---- fields of a table
@@ -41,11 +50,7 @@ reference bytes table index = do
   place ← field_at bytes table index
   target_of bytes place
 
--- The elements of a vector: where the first stands, and how many there are. An absent vector has none.
-pub record Elements : Type 0 where
-  pub first : ℕ
-  pub count : ℕ
-
+-- the elements of a vector; an absent vector has none
 abbrev pub elements_of : List ℕ → ℕ → Option ℕ → Result Elements FlatFault
 elements_of bytes width None = Ok (record { first = 0; count = 0 })
 elements_of bytes width (Some place) = do
@@ -77,13 +82,7 @@ is_negative number = not (nat_lt number (2 ^ 63))
 
 -- ---- the message
 
--- A Message table: version (16 bits), header_type (8 bits), header (a reference), bodyLength (64 bits).
-pub record MessageTable : Type 0 where
-  pub version : ℕ
-  pub header_type : ℕ
-  pub header : Option ℕ
-  pub body : ℕ
-
+-- a Message table: version (16 bits), header_type (8 bits), header (a reference), bodyLength (64 bits)
 abbrev pub message_table_at : List ℕ → Result MessageTable FlatFault
 message_table_at bytes = do
   root ← target_at bytes 0
@@ -93,29 +92,29 @@ message_table_at bytes = do
   body ← scalar bytes root 3 8
   Ok (record { version = version; header_type = header_type; header = header; body = body })
 
--- A message's head: whether it is a schema's, else it is a record batch's; where its header stands; and how many bytes
--- of body follow it.
-pub record Head : Type 0 where
-  pub is_schema : Bool
-  pub header : ℕ
-  pub body : ℕ
+-- what the number of a message's header says: Schema 1, RecordBatch 3; none of others
+abbrev pub kind_of_header : ℕ → Option HeadKind
+kind_of_header number =
+    if number == 1 then Some head.Schema
+    else if number == 3 then Some head.Batch
+    else None
 
--- The head of a message with this metadata: V4 (3) or V5 (4), and a Schema (1) or a RecordBatch (3)
+-- The head of a message with this metadata: V4 (3) or V5 (4), and a schema or a record batch
 -- (Message.fbs, "Message" and "MessageHeader").
 abbrev pub head_of : List ℕ → Result Head MetaFault
 head_of bytes = do
   message ← fault_as fault.Flat (message_table_at bytes)
   version ← rule fault.Version (message.version == 3 || message.version == 4)
   dictionary ← rule fault.Dictionary (not (message.header_type == 2))
-  kind ← rule fault.Kind (message.header_type == 1 || message.header_type == 3)
+  kind ← or_fault fault.Kind (kind_of_header message.header_type)
   header ← or_fault fault.Shape message.header
   body ← rule fault.Shape (not (is_negative message.body))
-  Ok (record { is_schema = message.header_type == 1; header = header; body = message.body })
+  Ok (record { kind = kind; header = header; body = message.body })
 
 -- ---- a schema
 
 -- A Field table: name (a string), nullable (a byte), type_type (8 bits), type and dictionary (references), children (a
--- vector of tables).
+-- vector of tables); and the Int table of its type.
 pub record FieldTable : Type 0 where
   pub name : List ℕ
   pub nullable : Bool
@@ -123,12 +122,9 @@ pub record FieldTable : Type 0 where
   pub type' : Option ℕ
   pub dictionary : Bool
   pub children : ℕ
+  pub int : IntTable
 
--- What an Int table says: bitWidth (32 bits), is_signed (a byte). An absent table says 0 and false.
-pub record IntTable : Type 0 where
-  pub bits : ℕ
-  pub is_signed : Bool
-
+-- an Int table: bitWidth (32 bits), is_signed (a byte); an absent table says 0 and false
 abbrev pub int_table_of : List ℕ → Option ℕ → Result IntTable FlatFault
 int_table_of bytes None = Ok (record { bits = 0; is_signed = false })
 int_table_of bytes (Some table) = do
@@ -143,7 +139,7 @@ int_of_type bytes type_type table = elim (type_type == 2) [
   | false ↦ int_table_of bytes None
 ]
 
-abbrev pub field_table_at : List ℕ → ℕ → Result (FieldTable × IntTable) FlatFault
+abbrev pub field_table_at : List ℕ → ℕ → Result FieldTable FlatFault
 field_table_at bytes table = do
   name ← text bytes table 0
   nullable ← scalar bytes table 1 1
@@ -152,17 +148,15 @@ field_table_at bytes table = do
   dictionary ← field_at bytes table 4
   children ← elements bytes table 5 4
   int ← int_of_type bytes type_type type'
-  Ok (
-    record {
-      name = name;
-      nullable = not (nullable == 0);
-      type_type = type_type;
-      type' = type';
-      dictionary = is_some dictionary;
-      children = children.count;
-    },
-    int,
-  )
+  Ok (record {
+    name = name;
+    nullable = not (nullable == 0);
+    type_type = type_type;
+    type' = type';
+    dictionary = is_some dictionary;
+    children = children.count;
+    int = int;
+  })
 
 -- an Int type of so many bits, signed or not, has these values; other types say nothing more
 abbrev pub has_values : IntTable → Values → Bool
@@ -176,27 +170,30 @@ has_values int blobs = true
 abbrev pub kind_of_type : ℕ → IntTable → Option Kind
 kind_of_type type_type int = find (λ kind. (type_number kind == type_type) && has_values int (values_of kind)) kinds
 
--- The column of the field whose reference stands at a place (Schema.fbs, "Field").
+-- The kind of a field's values: its name is a text, it is not dictionary-encoded, its type is one that is read, and it
+-- has no children (Schema.fbs, "Field").
+abbrev pub kind_of_field : FieldTable → Result Kind MetaFault
+kind_of_field field = do
+  name ← rule fault.Utf8 (is_utf8 field.name)
+  dictionary ← rule fault.Dictionary (not field.dictionary)
+  kind ← or_fault fault.Kind (kind_of_type field.type_type field.int)
+  type' ← rule fault.Shape (is_some field.type')
+  childless ← rule fault.Shape (field.children == 0)
+  Ok kind
+
+-- the column of the field whose reference stands at a place
 abbrev pub column_at : List ℕ → ℕ → Result Column MetaFault
 column_at bytes place = do
   table ← fault_as fault.Flat (target_at bytes place)
-  read ← fault_as fault.Flat (field_table_at bytes table)
-  name ← rule fault.Utf8 (is_utf8 read.0.name)
-  dictionary ← rule fault.Dictionary (not read.0.dictionary)
-  kind ← or_fault fault.Kind (kind_of_type read.0.type_type read.1)
-  type' ← or_fault fault.Shape read.0.type'
-  childless ← rule fault.Shape (read.0.children == 0)
-  Ok (record { name = read.0.name; kind = kind; nullable = read.0.nullable })
+  field ← fault_as fault.Flat (field_table_at bytes table)
+  kind ← kind_of_field field
+  Ok (record { name = field.name; kind = kind; nullable = field.nullable })
 
 -- the places of so many elements of a width
 abbrev pub places_of : Elements → ℕ → List ℕ
 places_of elements width = map (λ i. elements.first + width * i) (range_with_len 0 elements.count)
 
--- A Schema table: endianness (16 bits), fields (a vector of tables).
-pub record SchemaTable : Type 0 where
-  pub endianness : ℕ
-  pub fields : Elements
-
+-- a Schema table: endianness (16 bits), fields (a vector of tables)
 abbrev pub schema_table_at : List ℕ → ℕ → Result SchemaTable FlatFault
 schema_table_at bytes table = do
   endianness ← scalar bytes table 0 2
@@ -213,33 +210,38 @@ columns_at bytes table = do
 
 -- ---- a record batch
 
--- A record batch as its metadata has it: how many rows, a node (length, null count) for each column, and where each
--- buffer lies in the body (offset, length) (Message.fbs, "RecordBatch", "FieldNode", "Buffer").
+-- A record batch as its metadata has it: how many rows, a node for each column, where each buffer lies in the body, and
+-- whether it is compressed (Message.fbs, "RecordBatch").
 pub record BatchTable : Type 0 where
   pub rows : ℕ
-  pub nodes : List (ℤ × ℤ)
-  pub buffers : List (ℤ × ℤ)
+  pub nodes : List FieldNode
+  pub buffers : List BufferPlace
+  pub compressed : Bool
 
--- the two signed numbers of 64 bits that stand at a place
-abbrev pub pair_at : List ℕ → ℕ → ℤ × ℤ
-pair_at bytes place = (signed_from bytes place, signed_from bytes (place + 8))
+abbrev pub node_at : List ℕ → ℕ → FieldNode
+node_at bytes place = record { length = signed_from bytes place; null_count = signed_from bytes (place + 8) }
 
-abbrev pub pairs_of : List ℕ → Elements → List (ℤ × ℤ)
-pairs_of bytes elements = map (pair_at bytes) (places_of elements 16)
+abbrev pub buffer_at : List ℕ → ℕ → BufferPlace
+buffer_at bytes place = record { offset = signed_from bytes place; length = signed_from bytes (place + 8) }
 
--- a RecordBatch table: length (64 bits), nodes and buffers (vectors of pairs), compression (a reference)
-abbrev pub batch_table_at : List ℕ → ℕ → Result (BatchTable × Bool) FlatFault
+-- a RecordBatch table: length (64 bits), nodes and buffers (vectors of structs), compression (a reference)
+abbrev pub batch_table_at : List ℕ → ℕ → Result BatchTable FlatFault
 batch_table_at bytes table = do
   rows ← scalar bytes table 0 8
   nodes ← elements bytes table 1 16
   buffers ← elements bytes table 2 16
   compression ← field_at bytes table 3
-  Ok (record { rows = rows; nodes = pairs_of bytes nodes; buffers = pairs_of bytes buffers }, is_some compression)
+  Ok (record {
+    rows = rows;
+    nodes = map (node_at bytes) (places_of nodes 16);
+    buffers = map (buffer_at bytes) (places_of buffers 16);
+    compressed = is_some compression;
+  })
 
 -- The batch: it is not compressed, and its length is not negative.
 abbrev pub batch_at : List ℕ → ℕ → Result BatchTable MetaFault
 batch_at bytes table = do
-  read ← fault_as fault.Flat (batch_table_at bytes table)
-  plain ← rule fault.Compressed (not read.1)
-  length' ← rule fault.Shape (not (is_negative read.0.rows))
-  Ok read.0
+  batch ← fault_as fault.Flat (batch_table_at bytes table)
+  plain ← rule fault.Compressed (not batch.compressed)
+  rows ← rule fault.Shape (not (is_negative batch.rows))
+  Ok batch

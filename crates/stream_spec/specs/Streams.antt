@@ -1,13 +1,16 @@
 -- What bytes read as, as a stream: its schema and its batches of rows, and the first fault, if there is one
 -- (Arrow columnar format, "IPC Streaming Format" and "Encapsulated message format").
-use Rattle.std.specs.Prelude.{◌≡◌, ℕ, zero, suc, ◌+◌, ◌^◌, Bool, true, false, not, ◌&&◌, ◌||◌, nat_lt, nat_le, List, [], ◌∷◌, length, take, drop, bytes_eq, Option, None, Some, Result, Ok, Err}
+use Rattle.std.specs.Prelude.{◌≡◌, ℕ, zero, suc, ◌+◌, ◌^◌, Bool, true, false, not, nat_lt, nat_le, List, [], ◌∷◌, length, take, drop, bytes_eq, Option, None, Some, Result, Ok, Err}
 use Rattle.cell_model.specs.declared.cell.Cell.{Cell}
 use Rattle.cell_model.specs.declared.column.Column.{Column}
 use Rattle.arrow_spec.specs.Streams.{continuation}
 use Rattle.flat_read.specs.Reading.{number_from}
 use Rattle.stream_spec.specs.Checks.{◌>>=◌, fault_as, rule}
 use Rattle.stream_spec.specs.Columns.{rows_of}
-use Rattle.stream_spec.specs.Metadata.{Head, batch_at, columns_at, head_of}
+use Rattle.stream_spec.specs.declared.message.Head.{Head}
+use Rattle.stream_spec.specs.declared.message.HeadKind.{HeadKind}
+use Rattle.stream_spec.specs.declared.message.HeadKind.TheVariants as kind
+use Rattle.stream_spec.specs.Metadata.{batch_at, columns_at, head_of}
 use Rattle.stream_spec.specs.declared.fault.Cause.{Cause}
 use Rattle.stream_spec.specs.declared.fault.Cause.TheVariants as cause
 use Rattle.stream_spec.specs.declared.fault.MetaFault.{MetaFault}
@@ -53,11 +56,18 @@ frame_of first (byte ∷ bytes) = do
   eight ← rule cause.Short (nat_le 8 (length (byte ∷ bytes)))
   sized first (number_from (byte ∷ bytes) 4 4) (drop 8 (byte ∷ bytes))
 
+-- the head is of this kind
+abbrev pub is_of_kind : HeadKind → HeadKind → Bool
+is_of_kind kind.Schema kind.Schema = true
+is_of_kind kind.Schema kind.Batch = false
+is_of_kind kind.Batch kind.Schema = false
+is_of_kind kind.Batch kind.Batch = true
+
 -- a message's head, of the kind that is due, with its body whole
-abbrev pub due_head : Bool → List ℕ → List ℕ → Result Head Cause
-due_head schema metadata rest = do
+abbrev pub due_head : HeadKind → List ℕ → List ℕ → Result Head Cause
+due_head due metadata rest = do
   head ← fault_as cause_of (head_of metadata)
-  kind ← rule cause.Shape ((head.is_schema && schema) || (not head.is_schema && not schema))
+  kind ← rule cause.Shape (is_of_kind due head.kind)
   body ← rule cause.Short (nat_le head.body (length rest))
   Ok head
 
@@ -78,7 +88,7 @@ pub record BatchRead : Type 0 where
 abbrev pub framed_batch : List Column → Frame → Result (Option BatchRead) Cause
 framed_batch columns ended = Ok None
 framed_batch columns (framed metadata rest) = do
-  head ← due_head false metadata rest
+  head ← due_head kind.Batch metadata rest
   batch ← fault_as cause_of (batch_at metadata head.header)
   rows ← rows_of columns batch (take head.body rest)
   Ok (Some (record { rows = rows; size = 8 + length metadata + head.body }))
@@ -112,7 +122,7 @@ pub record SchemaRead : Type 0 where
 abbrev pub framed_schema : Frame → Result SchemaRead Cause
 framed_schema ended = Err cause.Short
 framed_schema (framed metadata rest) = do
-  head ← due_head true metadata rest
+  head ← due_head kind.Schema metadata rest
   columns ← fault_as cause_of (columns_at metadata head.header)
   Ok (record { columns = columns; size = 8 + length metadata + head.body })
 

@@ -4,5 +4,9 @@
 
 pub mod examples;
 pub mod fault;
+pub mod message;
 
 pub use fault::{Cause, MetaFault, StreamFault};
+pub use message::{
+    BufferPlace, Elements, FieldNode, Head, HeadKind, IntTable, MessageTable, SchemaTable,
+};

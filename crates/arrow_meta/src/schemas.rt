@@ -1,0 +1,154 @@
+// The columns of a schema message (Schema.fbs, "Schema", "Field", "Type").
+ghost use Rattle.std.specs.Prelude.{◌≡◌, ◌+◌, ◌*◌, ◌≤◌, IfOk, IsErrOf, MatchResult, Ok, Err, length};
+ghost use Rattle.std.specs.Str.{is_utf8};
+ghost use Rattle.arrow_meta.specs.Fields.{field_of};
+ghost use Rattle.stream_spec.specs.Metadata.{column_at, columns_at, field_table_at, int_of_type, kind_of_field, kind_of_type, schema_table_at};
+ghost use Rattle.stream_spec.specs.declared.fault.MetaFault.{MetaFault as MetaFaultValue};
+
+use crate::fields::{NotRead, elements, int_table, reference, scalar, text};
+use cell_model::{Bytes, Column, Kind};
+use flat_read::{FlatFault, field, follow};
+use std::alloc::Global;
+use stream_spec::{IntTable, MetaFault, SchemaTable};
+
+/// The columns of the schema whose table stands at this place of the metadata; or the first fault, from the first
+/// column on: the metadata's form, big-endian numbers, no field; then each column's form, name, dictionary, type and
+/// children.
+pub fn read_schema(alloc: Global, bytes: &[u8], table: u64) -> Result<Vec<Column>, NotRead>
+    ensures ok { IfOk result (λ columns. columns_at bytes.now table ≡ Ok columns.items) }
+    ensures fault { (fault : MetaFaultValue) → IsErrOf result (NotRead.Fault fault) → columns_at bytes.now table ≡ Err fault }
+{
+    let schema = schema_table(bytes, table)?;
+    if schema.endianness != 0 {
+        return Err(NotRead::Fault(MetaFault::Endian));
+    }
+    if schema.fields.count == 0 {
+        return Err(NotRead::Fault(MetaFault::Shape));
+    }
+    let mut columns = Vec::with_capacity(alloc, schema.fields.count as usize)?;
+    for i in 0..schema.fields.count {
+        match column(alloc, bytes, schema.fields.first + 4 * i) {
+            Ok(column) => columns.push(column)?,
+            Err(fault) => return Err(fault),
+        }
+    }
+    Ok(columns)
+}
+
+fn schema_table(bytes: &[u8], table: u64) -> Result<SchemaTable, FlatFault>
+    ensures { result ≡ schema_table_at bytes.now table }
+{
+    let endianness = scalar(bytes, table, 0, 2)?;
+    let fields = elements(bytes, table, 1, 4)?;
+    Ok(SchemaTable { endianness, fields })
+}
+
+// A Field table (Schema.fbs, "Field").
+#[derive(Clone, Copy)]
+struct FieldTable<'a> {
+    name: &'a [u8],
+    nullable: bool,
+    type_type: u64,
+    type_table: Option<u64>,
+    dictionary: bool,
+    children: u64,
+    int: IntTable,
+}
+
+// The column of the field whose reference stands at this place.
+fn column(alloc: Global, bytes: &[u8], place: u64) -> Result<Column, NotRead>
+    ensures ok { IfOk result (λ column. column_at bytes.now place ≡ Ok column) }
+    ensures fault { (fault : MetaFaultValue) → IsErrOf result (NotRead.Fault fault) → column_at bytes.now place ≡ Err fault }
+{
+    let table = follow(bytes, place)?;
+    let field = field_table(bytes, table)?;
+    let kind = kind_of_field(&field)?;
+    Ok(Column {
+        name: Bytes::from_slice(alloc, field.name)?,
+        kind,
+        nullable: field.nullable,
+    })
+}
+
+fn field_table(bytes: &[u8], table: u64) -> Result<FieldTable<'_>, FlatFault>
+    ensures { MatchResult result (λ f. field_table_at bytes.now table ≡ Ok (field_of f)) (λ f. field_table_at bytes.now table ≡ Err f) }
+{
+    let name = text(bytes, table, 0)?;
+    let nullable = scalar(bytes, table, 1, 1)?;
+    let type_type = scalar(bytes, table, 2, 1)?;
+    let type_table = reference(bytes, table, 3)?;
+    let dictionary = field(bytes, table, 4)?;
+    let children = elements(bytes, table, 5, 4)?;
+    let int = int_of_type(bytes, type_type, type_table)?;
+    Ok(FieldTable {
+        name,
+        nullable: nullable != 0,
+        type_type,
+        type_table,
+        dictionary: dictionary.is_some(),
+        children: children.count,
+        int,
+    })
+}
+
+// The Int table of a field's type; those of other types are not looked at.
+fn int_of_type(bytes: &[u8], type_type: u64, table: Option<u64>) -> Result<IntTable, FlatFault>
+    ensures { result ≡ int_of_type bytes.now type_type table }
+{
+    if type_type == 2 {
+        int_table(bytes, table)
+    } else {
+        int_table(bytes, None)
+    }
+}
+
+// The kind of a field's values, or the first fault of the field.
+fn kind_of_field(field: &FieldTable<'_>) -> Result<Kind, MetaFault>
+    ensures { result ≡ kind_of_field (field_of field.now) }
+{
+    if !is_utf8(field.name) {
+        return Err(MetaFault::Utf8);
+    }
+    if field.dictionary {
+        return Err(MetaFault::Dictionary);
+    }
+    let Some(kind) = kind_of_type(field.type_type, field.int) else {
+        return Err(MetaFault::Kind);
+    };
+    if field.type_table.is_none() {
+        return Err(MetaFault::Shape);
+    }
+    if field.children != 0 {
+        return Err(MetaFault::Shape);
+    }
+    Ok(kind)
+}
+
+fn is_utf8(bytes: &[u8]) -> bool
+    ensures { result ≡ is_utf8 bytes.now }
+{
+    match str::from_utf8(bytes) {
+        Ok(_) => true,
+        Err(_) => false,
+    }
+}
+
+// The kind whose type has this number and this Int table.
+fn kind_of_type(type_type: u64, int: IntTable) -> Option<Kind>
+    ensures { result ≡ kind_of_type type_type int }
+{
+    match (type_type, int.bits, int.is_signed) {
+        (2, 8, true) => Some(Kind::I8),
+        (2, 16, true) => Some(Kind::I16),
+        (2, 32, true) => Some(Kind::I32),
+        (2, 64, true) => Some(Kind::I64),
+        (2, 8, false) => Some(Kind::U8),
+        (2, 16, false) => Some(Kind::U16),
+        (2, 32, false) => Some(Kind::U32),
+        (2, 64, false) => Some(Kind::U64),
+        (4, _, _) => Some(Kind::Binary),
+        (5, _, _) => Some(Kind::Utf8),
+        (6, _, _) => Some(Kind::Bool),
+        _ => None,
+    }
+}
