@@ -125,9 +125,24 @@ FullIsAllowed = Allows (after (begin 1) opening) (insert 1 5 (codes "x")) Full (
 abbrev pub MemoryIsAllowed : Type 0
 MemoryIsAllowed = Allows (after (begin 1) opening) (get 1 5) Memory (after (begin 1) opening)
 
--- without a transaction there is no want of memory, an insert is not refused as freezing, and what is missing not as full
+-- the machine where session 1 has inserted the key 5
+abbrev pub holding : IsolationMachine
+holding = after (insert 1 5 (codes "x")) (after (begin 1) opening)
+
+-- a row that stands may be freezing
+abbrev pub FreezingIsAllowed : Type 0
+FreezingIsAllowed = Allows holding (update 1 5 (codes "y")) Freezing holding
+
+-- without a transaction there is no want of memory, and none at a commit; an insert is not refused as freezing, and
+-- what is missing not; only an insert that would be accepted is refused as full; and nothing changes
 abbrev pub OthersAreNot : Type 0
 OthersAreNot =
     ¬ Allows opening (get 1 5) Memory opening
+    × ¬ Allows holding (commit 1) Memory holding
+    × ¬ Allows holding (get 1 5) Memory opening
     × ¬ Allows (after (begin 1) opening) (insert 1 5 (codes "x")) Freezing (after (begin 1) opening)
     × ¬ Allows (after (begin 1) opening) (update 1 5 (codes "x")) Freezing (after (begin 1) opening)
+    × ¬ Allows holding (update 1 5 (codes "y")) Freezing opening
+    × ¬ Allows holding (update 1 5 (codes "y")) Full holding
+    × ¬ Allows holding (insert 1 5 (codes "y")) Full holding
+    × ¬ Allows holding (insert 1 6 (codes "y")) Full opening

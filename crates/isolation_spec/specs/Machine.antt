@@ -1,6 +1,7 @@
 -- The snapshot-isolation machine: transactions that see the commits before them and their own writes, where
 -- the first to write a key wins.
-use Rattle.std.specs.Prelude.{ℕ, ◌+◌, Bool, ◌&&◌, not, ◌==◌, List, [], ◌∷◌, ◌++◌, map, length, drop, filter, find, if◌then◌else◌, Option, None, Some, is_some, is_none, unwrap_or, option_map}
+use Rattle.std.specs.Prelude.{ℕ, ◌+◌, ◌-◌, Bool, ◌&&◌, not, ◌==◌, nat_lt, List, [], ◌∷◌, ◌++◌, map, length, filter, find, slice_index_or, if◌then◌else◌, Option, None, Some, is_some, is_none, unwrap_or, option_map}
+use Rattle.std.specs.List.{last_or, range_with_len}
 use Rattle.std.specs.Option.{option_or}
 use Rattle.std.specs.BTreeMap.{insert_entry}
 use Rattle.cell_model.specs.declared.cell.Cell.{Cell}
@@ -43,17 +44,21 @@ writes_place place writes = is_some (at_place writes place)
 abbrev pub rival_of : IsolationMachine → ℕ → Place → Option Transaction
 rival_of machine session place = find (λ t. not (t.session == session) && writes_place place t.own) machine.open_transactions
 
--- the number of the last of these write sets that has the place, where the first has number `at`
-abbrev pub last_writer : Place → ℕ → List WriteSet → Option ℕ
-last_writer place at [] = None
-last_writer place at (writes ∷ later) = option_or (last_writer place (at + 1) later) (if writes_place place writes then Some at else None)
+-- the write set of a commit number, counted from 1
+abbrev pub write_set_at : History → ℕ → WriteSet
+write_set_at history number = slice_index_or history (number - 1) []
+
+-- The numbers of the commits after a snapshot whose write sets have the place, in order.
+abbrev pub later_writers : History → ℕ → Place → List ℕ
+later_writers history snapshot place =
+    filter (λ number. nat_lt snapshot number && writes_place place (write_set_at history number)) (range_with_len 1 (length history))
 
 -- A write conflict: another open transaction wrote the place, else a commit after the snapshot did, the
 -- last of which is named.
 abbrev pub conflict_of : IsolationMachine → Transaction → Place → Option Answer
 conflict_of machine t place = option_or
     (option_map (λ rival. answer.ConflictSession rival.session) (rival_of machine t.session place))
-    (option_map (λ number. answer.ConflictCommit number) (last_writer place (t.snapshot + 1) (drop t.snapshot machine.history)))
+    (option_map (λ number. answer.ConflictCommit number) (last_or None (later_writers machine.history t.snapshot place)))
 
 -- Why a write is refused: a conflict goes first, then an insert finds the row there, or another write finds none.
 abbrev pub refusal_of_insert : IsolationMachine → Transaction → Place → Option Answer

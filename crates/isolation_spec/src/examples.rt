@@ -1,5 +1,5 @@
 //! Worked examples of the machine: each is a fact that its definitions compute.
-ghost use Rattle.isolation_spec.specs.Examples.{OlderSnapshot, OpenRival, LaterCommit, LastCommit, SessionFirst, GoneIsAWrite, OneKeyThrice, OwnWrites, NoTransaction, OlderScan, ConflictBeforeExists, TwoTables, FullIsAllowed, MemoryIsAllowed, OthersAreNot};
+ghost use Rattle.isolation_spec.specs.Examples.{OlderSnapshot, OpenRival, LaterCommit, LastCommit, SessionFirst, GoneIsAWrite, OneKeyThrice, OwnWrites, NoTransaction, OlderScan, ConflictBeforeExists, TwoTables, FullIsAllowed, FreezingIsAllowed, MemoryIsAllowed, OthersAreNot};
 
 /// An older snapshot does not see a later commit.
 pub fn an_older_snapshot_does_not_see_a_later_commit()
@@ -66,12 +66,18 @@ pub fn a_store_may_be_full()
     ensures { FullIsAllowed }
 {}
 
+/// A store may refuse a change of a row that stands as freezing.
+pub fn a_store_may_be_freezing()
+    ensures { FreezingIsAllowed }
+{}
+
 /// A store may refuse memory to a read of an open transaction.
 pub fn a_store_may_want_memory()
     ensures { MemoryIsAllowed }
 {}
 
-/// A store refuses no memory without a transaction, and freezes neither inserts nor what is missing.
+/// A store refuses no memory without a transaction or at a commit, freezes neither inserts nor what is missing, is full to
+/// no update and to no row that stands; and a refusal changes nothing.
 pub fn a_store_refuses_nothing_else()
     ensures { OthersAreNot }
 {}

@@ -1,4 +1,6 @@
 -- What a workload that runs today is made of, and what its run shows.
+use Rattle.std.specs.Result.{result_ok}
+use Rattle.std.specs.Prelude.{Result}
 use Rattle.std.proofs.Common.{◌≡◌, ℕ, Bool, ◌||◌, true, ◌+◌, ◌*◌, ◌^◌, ◌/◌, ◌%◌, ◌<◌, ◌≤◌, ◌==◌, min, Option, None, Some, unwrap_or, List, [], ◌∷◌, ◌++◌, length, count_by, refl, ap, sym, ◌∙◌, subst, arith, nat_le, nat_lt, is_none, option_to_list, Err, inl, inr}
 use Rattle.std.specs.List.{list_all, list_any, flat_map}
 use Rattle.std.proofs.lemmas.List.Folds.{list_any-append}
@@ -159,7 +161,7 @@ round_explained script text exported_old exported_new valid supported runs =
     let read = served_is_read script runs.saids valid supported runs.served in
     let run_shown : run_in script text ≡ run_of script.tables (entries_from 1 commands runs.saids) =
     ap (λ (output : List ℕ). run_in script output) runs.printed
-    ∙ ap (λ (replies : Option (List Entry)). run_of script.tables (unwrap_or replies [])) read in
+    ∙ ap (λ (replies : Result (List Entry) ℕ). run_of script.tables (unwrap_or (result_ok replies) [])) read in
     let says : EachSays (run_of script.tables (entries_from 1 commands runs.saids)) runs.bytes (entries_from 1 commands runs.saids) =
     each_says (run_of script.tables (entries_from 1 commands runs.saids)) (alone-run script.tables commands runs.saids runs.served)
     1 [] opening commands runs.saids runs.bytes leads-opening runs.served runs.says refl (history-shown script.tables commands runs.saids runs.served) in (

@@ -64,18 +64,7 @@ runs_whole script round tables text before now tables_are lines runs =
 
 -- nothing is due to a workload without a round
 pub none_explained : (script : Script) → Explained (with_rounds [] script) []
-none_explained script = record {
-  forms = refl;
-  commit_numbers = refl;
-  snapshot_numbers = refl;
-  reads = refl;
-  writes = refl;
-  conflicts = refl;
-  freezing = refl;
-  full = refl;
-  exports = refl;
-  upkeep = refl;
-}
+none_explained script = record { forms = refl; replies = refl }
 
 -- the first lines of a round are the first ones of each session
 first_lines : (round lines rest : List Line) → round ≡ lines ++ rest → AreFirstLines lines round

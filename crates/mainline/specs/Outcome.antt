@@ -21,7 +21,7 @@ use Rattle.workload_spec.specs.Supported.{is_supported}
 use Rattle.workload_spec.specs.Valid.{is_valid, is_export, all_lines}
 use Rattle.outcome_spec.specs.Entries.{Entry}
 use Rattle.outcome_spec.specs.Explained.{Explained, run_in}
-use Rattle.outcome_spec.specs.Runs.{Run, Transaction, transaction_of}
+use Rattle.outcome_spec.specs.Runs.{Run, Span, transaction_of}
 use Rattle.outcome_spec.specs.Tables.{columns_at, slots_at}
 use Rattle.script_text.specs.Supported.{supported_of}
 use Rattle.mainline.specs.Words.{Asked, ToRun, ToShow, ToCheck, ToBench, usage_line}
@@ -54,7 +54,7 @@ pub record IsFrontOf (columns : List Column) (slots : ℕ) (contents : List (Lis
 
 -- The bytes are a front of a canonical stream of the table's rows at the snapshot of the reply's transaction.
 pub record IsFrontAt (run : Run) (entry : Entry) (table : ℕ) (bytes : List ℕ) : Type 0 where
-  pub transaction : Transaction
+  pub transaction : Span
   pub within : transaction_of run entry ≡ Some transaction
   pub front : IsFrontOf (columns_at run.tables table) (slots_at run.tables table) (contents_of table (state_at run.history transaction.snapshot)) bytes
 

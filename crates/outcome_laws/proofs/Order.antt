@@ -4,8 +4,7 @@ use Rattle.std.specs.List.{filter, list_any}
 use Rattle.std.proofs.lemmas.Bool.Decides.{nat_tests}
 use Rattle.std.proofs.lemmas.List.Elements.{filter-append}
 use Rattle.workload_spec.specs.declared.reply.Who.TheVariants.{Session}
-use Rattle.outcome_spec.specs.Entries.{Entry, is_same, is_before, is_not_after, before, after, not_after}
-use Rattle.outcome_spec.specs.Runs.{is_reply}
+use Rattle.outcome_spec.specs.Entries.{Entry, is_same, is_before, is_not_after, before, after, is_reply, not_after}
 
 -- a reply of the first session in the first round, whose index is its number
 pub record IsNumbered (entry : Entry) : Type 0 where
@@ -96,30 +95,29 @@ not_after-split front entry rest below here above =
     (ap not (before-self entry here))
     (Each-weaker (IsAbove entry.number) (λ other. is_not_after other entry ≡ false) (λ other q. ap not (before-above entry here other q)) rest above)
 
--- a session's replies not before one of it
-pub from-split : (front : List Entry) (entry : Entry) (rest : List Entry)
-    → Each (IsBelow entry.number) front → IsNumbered entry → Each (IsAbove entry.number) rest
-    → filter (λ other. is_same other.reply.who entry.reply.who && is_not_after entry other) (front ++ entry ∷ rest) ≡ entry ∷ rest
-from-split front entry rest below here above =
-    filter-split (λ other. is_same other.reply.who entry.reply.who && is_not_after entry other) false true true front entry rest
-    (Each-weaker (IsBelow entry.number) (λ other. (is_same other.reply.who entry.reply.who && is_not_after entry other) ≡ false)
-    (λ other q. rw (below-before entry here other q, same-is other entry q.numbered here) refl) front below)
-    (rw (before-self entry here, same-is entry entry here here) refl)
-    (Each-weaker (IsAbove entry.number) (λ other. (is_same other.reply.who entry.reply.who && is_not_after entry other) ≡ true)
-    (λ other q. rw (above-before entry here other q, same-is other entry q.numbered here) refl) rest above)
+-- replies of other indexes are others
+other-index : (entry other : Entry) → eqb entry.reply.index other.reply.index ≡ false → is_reply entry other ≡ false
+other-index entry other h = ap (λ (b : Bool). eqb entry.reply.round other.reply.round && is_same entry.reply.who other.reply.who && b) h ∙ no-last (eqb entry.reply.round other.reply.round && is_same entry.reply.who other.reply.who)
+  where
+    no-last : (b : Bool) → (b && false) ≡ false
+    no-last true = refl
+    no-last false = refl
 
 -- a reply isn't among those below or above it
-pub not_among-below : (entry : Entry) (entries : List Entry) → Each (IsBelow entry.number) entries → list_any (is_reply entry) entries ≡ false
-not_among-below entry [] h = refl
-not_among-below entry (other ∷ entries) h =
-    let e : eqb entry.number other.number ≡ false = grind (arith, nat_tests, h.0.below) in
-    rw e (not_among-below entry entries h.1)
+pub not_among-below : (entry : Entry) → IsNumbered entry → (entries : List Entry) → Each (IsBelow entry.number) entries → list_any (is_reply entry) entries ≡ false
+not_among-below entry here [] h = refl
+not_among-below entry here (other ∷ entries) h =
+    let e : eqb entry.reply.index other.reply.index ≡ false = grind (arith, nat_tests, here.index, h.0.numbered.index, h.0.below) in
+    rw (other-index entry other e) (not_among-below entry here entries h.1)
 
-pub not_among-above : (entry : Entry) (entries : List Entry) → Each (IsAbove entry.number) entries → list_any (is_reply entry) entries ≡ false
-not_among-above entry [] h = refl
-not_among-above entry (other ∷ entries) h =
-    let e : eqb entry.number other.number ≡ false = grind (arith, nat_tests, h.0.above) in
-    rw e (not_among-above entry entries h.1)
+pub not_among-above : (entry : Entry) → IsNumbered entry → (entries : List Entry) → Each (IsAbove entry.number) entries → list_any (is_reply entry) entries ≡ false
+not_among-above entry here [] h = refl
+not_among-above entry here (other ∷ entries) h =
+    let e : eqb entry.reply.index other.reply.index ≡ false = grind (arith, nat_tests, here.index, h.0.numbered.index, h.0.above) in
+    rw (other-index entry other e) (not_among-above entry here entries h.1)
 
-pub is_reply-self : (entry : Entry) → is_reply entry entry ≡ true
-is_reply-self entry = let e : eqb entry.number entry.number ≡ true = grind (arith, nat_tests) in e
+pub is_reply-self : (entry : Entry) → IsNumbered entry → is_reply entry entry ≡ true
+is_reply-self entry here =
+    let round : eqb entry.reply.round entry.reply.round ≡ true = grind (arith, nat_tests) in
+    let index : eqb entry.reply.index entry.reply.index ≡ true = grind (arith, nat_tests) in
+    rw (round, same-is entry entry here here, index) refl

@@ -1,13 +1,14 @@
 -- The transactions of one session's replies, read along the list, and the one that a reply belongs to.
 use Rattle.std.proofs.Common.{◌≡◌, ℕ, ◌+◌, ◌<◌, Bool, true, false, cond, ◌||◌, List, [], ◌∷◌, ◌++◌, Option, None, Some, refl, sym, ap, ◌∙◌, arith, append_assoc}
 use Rattle.std.specs.Prelude.{option_map}
-use Rattle.std.specs.List.{filter_map, find, list_any, cons_option}
+use Rattle.std.specs.List.{find, list_any, cons_option}
 use Rattle.std.proofs.lemmas.List.Folds.{list_any-append}
 use Rattle.workload_spec.specs.declared.reply.Who.TheVariants.{Session}
-use Rattle.outcome_spec.specs.Entries.{Entry, snapshot_in, is_end}
-use Rattle.outcome_spec.specs.Runs.{Transaction, up_to_end, transaction_from, transactions_of, transaction_with, is_reply}
+use Rattle.outcome_spec.specs.Entries.{Entry, is_reply, is_same, snapshot_in, is_end, thread}
+use Rattle.outcome_spec.specs.Runs.{Span, up_to_end, span_from, transactions_of, transaction_with}
+use Rattle.workload_spec.specs.declared.reply.Who.{Who}
 use Rattle.outcome_laws.proofs.Tests.{or-left, or-right}
-use Rattle.outcome_laws.proofs.Order.{IsNumbered, IsBelow, IsAbove, Each, Each-append, Each-weaker, from-split, not_among-below, not_among-above, is_reply-self}
+use Rattle.outcome_laws.proofs.Order.{IsNumbered, IsBelow, IsAbove, Each, Each-append, Each-weaker, not_among-below, not_among-above, is_reply-self}
 
 -- replies with the numbers from this one on
 abbrev pub Numbered : ℕ → List Entry → Type 0
@@ -27,37 +28,34 @@ below-more number front entry below here is =
     (record { numbered = here; below = omega arith }, tt)
 
 -- a transaction of the first session
-abbrev pub span : ℕ → List Entry → Transaction
+abbrev pub span : ℕ → List Entry → Span
 span snapshot replies = record { who = Session 1; snapshot = snapshot; replies = replies }
 
 -- the transactions, where each takes its replies from those behind its first
-abbrev pub spans : List Entry → List Transaction
+abbrev pub spans : List Entry → List Span
 spans [] = []
 spans (entry ∷ entries) = cons_option (option_map (λ snapshot. span snapshot (up_to_end (entry ∷ entries))) (snapshot_in entry.reply.said)) (spans entries)
 
-option_map-same : {X Y : Type 0} (f g : X → Y) (same : (x : X) → f x ≡ g x) (found : Option X) → option_map f found ≡ option_map g found
-option_map-same f g same None = refl
-option_map-same f g same (Some x) = ap Some (same x)
+-- each reply is the session's
+kept-all : (number : ℕ) (entries : List Entry) → Numbered number entries → thread (Session 1) entries ≡ entries
+kept-all number [] h = refl
+kept-all number (entry ∷ entries) h =
+    let same : is_same entry.reply.who (Session 1) ≡ true = ap (λ (w : Who). is_same w (Session 1)) h.0.who in
+    rw same (ap (λ (es : List Entry). entry ∷ es) (kept-all (number + 1) entries h.2))
 
-opened-same : (whole front : List Entry) (entry : Entry) (rest : List Entry) → whole ≡ front ++ entry ∷ rest
-    → Each (IsBelow entry.number) front → IsNumbered entry → Each (IsAbove entry.number) rest
-    → (snapshot : ℕ) → transaction_from whole entry snapshot ≡ span snapshot (up_to_end (entry ∷ rest))
-opened-same whole front entry rest whole_is below here above snapshot =
-    rw (whole_is, from-split front entry rest below here above, here.who) refl
-
-spans-from : (number : ℕ) (whole front suffix : List Entry) → whole ≡ front ++ suffix → Each (IsBelow number) front → Numbered number suffix
-    → filter_map (λ entry. option_map (transaction_from whole entry) (snapshot_in entry.reply.said)) suffix ≡ spans suffix
-spans-from number whole front [] whole_is below h = refl
-spans-from number whole front (entry ∷ rest) whole_is below h =
-    let here : Each (IsBelow entry.number) front = rw h.1 below in
-    let above : Each (IsAbove entry.number) rest = above-numbered entry.number (number + 1) rest (omega arith) h.2 in
-    let later = spans-from (number + 1) whole (front ++ entry ∷ []) rest (whole_is ∙ sym (append_assoc front (entry ∷ []) rest)) (below-more number front entry below h.0 h.1) h.2 in
-    let first = option_map-same (transaction_from whole entry) (λ snapshot. span snapshot (up_to_end (entry ∷ rest))) (opened-same whole front entry rest whole_is here h.0 above) (snapshot_in entry.reply.said) in
-    rw (first, later) refl
+opened : (entry : Entry) (entries : List Entry) (shown : Option ℕ) (later : List Span) → entry.reply.who ≡ Session 1 → thread (Session 1) entries ≡ entries
+    → cons_option (option_map (span_from entry entries) shown) later ≡ cons_option (option_map (λ snapshot. span snapshot (up_to_end (entry ∷ entries))) shown) later
+opened entry entries None later who all = refl
+opened entry entries (Some snapshot) later who all =
+    ap (λ (w : Who). record { who = w; snapshot = snapshot; replies = up_to_end (entry ∷ thread w entries) } ∷ later) who
+    ∙ ap (λ (es : List Entry). span snapshot (up_to_end (entry ∷ es)) ∷ later) all
 
 -- The transactions of numbered replies.
 pub spans-is : (number : ℕ) (entries : List Entry) → Numbered number entries → transactions_of entries ≡ spans entries
-spans-is number entries h = spans-from number entries [] entries refl tt h
+spans-is number [] h = refl
+spans-is number (entry ∷ entries) h =
+    ap (cons_option (option_map (span_from entry entries) (snapshot_in entry.reply.said))) (spans-is (number + 1) entries h.2)
+    ∙ opened entry entries (snapshot_in entry.reply.said) (spans entries) h.0.who (kept-all (number + 1) entries h.2)
 
 front-misses : (front : List Entry) (last entry : Entry) → list_any (is_reply entry) (front ++ last ∷ []) ≡ false → list_any (is_reply entry) front ≡ false
 front-misses front last entry h =
@@ -113,32 +111,32 @@ pub Each-up_to_end : (P : Entry → Type 0) (entries : List Entry) → Each P en
 Each-up_to_end P [] h = h
 Each-up_to_end P (entry ∷ entries) h = Each-cut P (is_end entry.reply.said) entry (up_to_end entries) h.0 (Each-up_to_end P entries h.1)
 
-find-past : (test : Transaction → Bool) (made : ℕ → Transaction) (shown : Option ℕ) (others : List Transaction)
+find-past : (test : Span → Bool) (made : ℕ → Span) (shown : Option ℕ) (others : List Span)
     → ((snapshot : ℕ) → test (made snapshot) ≡ false) → find test (cons_option (option_map made shown) others) ≡ find test others
 find-past test made None others fails = refl
 find-past test made (Some snapshot) others fails = rw (fails snapshot) refl
 
 -- a reply belongs to no transaction that is opened behind it
-pub none-behind : (entry : Entry) (rest : List Entry) → Each (IsAbove entry.number) rest → transaction_with (spans rest) entry ≡ None
-none-behind entry [] above = refl
-none-behind entry (other ∷ rest) above =
+pub none-behind : (entry : Entry) → IsNumbered entry → (rest : List Entry) → Each (IsAbove entry.number) rest → transaction_with (spans rest) entry ≡ None
+none-behind entry here [] above = refl
+none-behind entry here (other ∷ rest) above =
     find-past (λ t. list_any (is_reply entry) t.replies) (λ snapshot. span snapshot (up_to_end (other ∷ rest))) (snapshot_in other.reply.said) (spans rest)
-    (λ snapshot. not_among-above entry (up_to_end (other ∷ rest)) (Each-up_to_end (IsAbove entry.number) (other ∷ rest) above))
-    ∙ none-behind entry rest above.1
+    (λ snapshot. not_among-above entry here (up_to_end (other ∷ rest)) (Each-up_to_end (IsAbove entry.number) (other ∷ rest) above))
+    ∙ none-behind entry here rest above.1
 
 cut-has : (entry : Entry) (ends : Bool) (others : List Entry) → is_reply entry entry ≡ true → list_any (is_reply entry) (cond ends (entry ∷ []) (entry ∷ others)) ≡ true
 cut-has entry true others h = rw h refl
 cut-has entry false others h = rw h refl
 
 -- The transaction of a reply: none where none is open before it and it opens none, and else the one that is open.
-pub found-none : (front : List Entry) (entry : Entry) (rest : List Entry) → Skips front → Each (IsBelow entry.number) front → Each (IsAbove entry.number) rest
+pub found-none : (front : List Entry) (entry : Entry) (rest : List Entry) → IsNumbered entry → Skips front → Each (IsBelow entry.number) front → Each (IsAbove entry.number) rest
     → snapshot_in entry.reply.said ≡ None → transaction_with (spans (front ++ entry ∷ rest)) entry ≡ None
-found-none front entry rest skips below above none =
-    skips.at (entry ∷ rest) entry (not_among-below entry front below) ∙ (rw none (none-behind entry rest above))
+found-none front entry rest here skips below above none =
+    skips.at (entry ∷ rest) entry (not_among-below entry here front below) ∙ (rw none (none-behind entry here rest above))
 
-pub found-open : (front : List Entry) (entry : Entry) (rest : List Entry) (snapshot : ℕ) (replies : List Entry)
+pub found-open : (front : List Entry) (entry : Entry) (rest : List Entry) (snapshot : ℕ) (replies : List Entry) → IsNumbered entry
     → Opened front snapshot replies → Each (IsBelow entry.number) front
     → transaction_with (spans (front ++ entry ∷ rest)) entry ≡ Some (span snapshot (replies ++ up_to_end (entry ∷ rest)))
-found-open front entry rest snapshot replies opened below =
-    opened.at (entry ∷ rest) entry (not_among-below entry front below)
-    ∙ (rw (cut-has entry (is_end entry.reply.said) (up_to_end rest) (is_reply-self entry)) refl)
+found-open front entry rest snapshot replies here opened below =
+    opened.at (entry ∷ rest) entry (not_among-below entry here front below)
+    ∙ (rw (cut-has entry (is_end entry.reply.said) (up_to_end rest) (is_reply-self entry here)) refl)

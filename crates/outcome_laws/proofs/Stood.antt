@@ -8,7 +8,7 @@ use Rattle.isolation_spec.specs.Contents.{WriteSet, History, laid_over, state_at
 use Rattle.workload_spec.specs.declared.command.Command.{Command}
 use Rattle.workload_spec.specs.declared.reply.Said.{Said}
 use Rattle.outcome_spec.specs.Entries.{Entry, before, after, not_after, shown_in, snapshot_in, commit_in, is_end}
-use Rattle.outcome_spec.specs.Runs.{Run, Transaction, transaction_of, transaction_with, up_to_end, writes_in, commit_count, seen_at}
+use Rattle.outcome_spec.specs.Runs.{Run, Span, transaction_of, transaction_with, up_to_end, writes_in, commit_count, seen_at}
 use Rattle.outcome_laws.specs.Alone.{Alone, seen}
 use Rattle.outcome_laws.proofs.Order.{IsNumbered, IsBelow, IsAbove, Each, before-split, after-split, not_after-split}
 use Rattle.outcome_laws.proofs.Spans.{span, spans, Each-up_to_end, found-none, found-open}
@@ -50,17 +50,17 @@ module _ (run : Run) (number : ℕ) (front : List Entry) (asked : Command) (told
       → snapshot_in told ≡ None → transaction_of run (entry_of number asked told) ≡ None
   stood-none history inserts s none =
       ap (λ ts. transaction_with ts (entry_of number asked told)) s.transactions
-      ∙ found-none front (entry_of number asked told) rest s.leads.stands s.leads.below s.above none
+      ∙ found-none front (entry_of number asked told) rest (entry_of-numbered number asked told) s.leads.stands s.leads.below s.above none
 
   -- the open transaction, with what follows of it
-  abbrev pub open_at : (history : History) (own : WriteSet) (inserts : List ℕ) → Stood run number front (within history own inserts) asked told rest → Transaction
+  abbrev pub open_at : (history : History) (own : WriteSet) (inserts : List ℕ) → Stood run number front (within history own inserts) asked told rest → Span
   open_at history own inserts s = span (length history) (s.leads.stands.replies ++ up_to_end (entry_of number asked told ∷ rest))
 
   pub stood-open : (history : History) (own : WriteSet) (inserts : List ℕ) (s : Stood run number front (within history own inserts) asked told rest)
       → transaction_of run (entry_of number asked told) ≡ Some (open_at history own inserts s)
   stood-open history own inserts s =
       ap (λ ts. transaction_with ts (entry_of number asked told)) s.transactions
-      ∙ found-open front (entry_of number asked told) rest (length history) s.leads.stands.replies s.leads.stands.opened s.leads.below
+      ∙ found-open front (entry_of number asked told) rest (length history) s.leads.stands.replies (entry_of-numbered number asked told) s.leads.stands.opened s.leads.below
 
 cut-tail : (ends : Bool) (entry : Entry) (others : List Entry) → cond ends (entry ∷ []) (entry ∷ others) ≡ entry ∷ cond ends [] others
 cut-tail true entry others = refl

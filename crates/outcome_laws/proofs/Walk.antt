@@ -225,7 +225,7 @@ committed-open number front commits own later within below shown =
     let self : eqb (commits + 1) (commits + 1) ≡ true = grind (arith, nat_tests) in
     let line : commit_line (front ++ entry ∷ later) (commits + 1) ≡ Some entry =
     find-append (commits_as (commits + 1)) front (entry ∷ later) ∙ (rw (no-line (commits + 1) front low, self) refl) in
-    rw (line, found-open front entry later commits within.replies within.opened below)
+    rw (line, found-open front entry later commits within.replies (entry_of-numbered number command.Commit (said.Committed (Some (commits + 1)))) within.opened below)
     (writes-more within.replies entry refl ∙ within.writes)
 
 -- a commit of writes adds them to the history

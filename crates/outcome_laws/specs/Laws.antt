@@ -1,5 +1,5 @@
 -- That what a session alone is answered is an explained output, and that its text is read back as its replies.
-use Rattle.std.specs.Prelude.{◌≡◌, ℕ, true, List, map, Some}
+use Rattle.std.specs.Prelude.{◌≡◌, ℕ, true, List, map, Ok}
 use Rattle.cell_model.specs.declared.table.TableDecl.{TableDecl}
 use Rattle.workload_spec.specs.declared.command.Command.{Command}
 use Rattle.workload_spec.specs.declared.reply.Said.{Said}
@@ -24,7 +24,7 @@ abbrev pub ServedIsRead : Type 0
 ServedIsRead = (script : Script) (saids : List Said)
     → is_valid script ≡ true → is_supported script ≡ true
     → Served script.tables opening (commands_in script) saids
-    → replies_of script (text_of script saids) ≡ Some (entries_from 1 (commands_in script) saids)
+    → replies_of script (text_of script saids) ≡ Ok (entries_from 1 (commands_in script) saids)
 
 -- The history that the replies show is that of the store.
 abbrev pub ServedShowsItsHistory : Type 0

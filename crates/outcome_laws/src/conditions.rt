@@ -1,6 +1,6 @@
-//! Laws of the conditions of an explained output: each reply of a session alone meets each.
+//! Laws of the conditions of an explained output: the replies of a session alone meet each.
 ghost use Rattle.outcome_laws.specs.Laws.{ServedShowsItsHistory, ServedIsExplained};
-ghost use Rattle.outcome_laws.specs.Sound.{ServedIsSound, HistoryGrows};
+ghost use Rattle.outcome_laws.specs.Sound.{HistoryGrows};
 
 /// The history of a store only grows.
 pub fn history_grows()
@@ -10,11 +10,6 @@ pub fn history_grows()
 /// The history that the replies show is that of the store.
 pub fn replies_show_the_history()
     ensures { ServedShowsItsHistory }
-{}
-
-/// Each reply meets each condition but the forms.
-pub fn replies_are_sound()
-    ensures { ServedIsSound }
 {}
 
 /// The output is explained, since its text is read back.

@@ -36,20 +36,3 @@ both-right false b h = cc
 pub both : (a b : Bool) → a ≡ true → b ≡ true → (a && b) ≡ true
 both true b h k = k
 both false b h k = h
-
--- all pass both tests where all pass each
-pub all-left : {X : Type 0} (p q : X → Bool) (xs : List X) → list_all (λ x. p x && q x) xs ≡ true → list_all p xs ≡ true
-all-left p q [] h = refl
-all-left p q (x ∷ xs) h = both (p x) (list_all p xs) (both-left (p x) (q x) (both-left (p x && q x) (list_all (λ y. p y && q y) xs) h))
-    (all-left p q xs (both-right (p x && q x) (list_all (λ y. p y && q y) xs) h))
-
-pub all-right : {X : Type 0} (p q : X → Bool) (xs : List X) → list_all (λ x. p x && q x) xs ≡ true → list_all q xs ≡ true
-all-right p q [] h = refl
-all-right p q (x ∷ xs) h = both (q x) (list_all q xs) (both-right (p x) (q x) (both-left (p x && q x) (list_all (λ y. p y && q y) xs) h))
-    (all-right p q xs (both-right (p x && q x) (list_all (λ y. p y && q y) xs) h))
-
-pub all-both : {X : Type 0} (p q : X → Bool) (xs : List X) → list_all p xs ≡ true → list_all q xs ≡ true → list_all (λ x. p x && q x) xs ≡ true
-all-both p q [] h k = refl
-all-both p q (x ∷ xs) h k = both (p x && q x) (list_all (λ y. p y && q y) xs)
-    (both (p x) (q x) (both-left (p x) (list_all p xs) h) (both-left (q x) (list_all q xs) k))
-    (all-both p q xs (both-right (p x) (list_all p xs) h) (both-right (q x) (list_all q xs) k))

@@ -1,6 +1,6 @@
 -- What reads and writes are answered: what snapshot isolation gives at the transaction's snapshot, with its own
 -- writes laid over it.
-use Rattle.std.specs.Prelude.{Bool, true, false, not, List, is_some, is_none, bytes_eq}
+use Rattle.std.specs.Prelude.{ℕ, Bool, true, false, not, List, Option, None, Some, is_some, is_none, bytes_eq}
 use Rattle.std.specs.Bool.{beq}
 use Rattle.std.specs.Cmp.Lexicographic.{pointwise}
 use Rattle.std.specs.Option.{option_map_or}
@@ -8,6 +8,7 @@ use Rattle.std.specs.Ordering.{int_eq}
 use Rattle.cell_model.specs.declared.cell.Cell.{Cell}
 use Rattle.cell_model.specs.declared.cell.Cell.TheVariants.{Null, Num, Truth, Text, Blob}
 use Rattle.isolation_spec.specs.Contents.{State, at_place, contents_of, place_at, place_of}
+use Rattle.isolation_spec.specs.declared.place.Place.{Place}
 use Rattle.workload_spec.specs.declared.command.Command.{Command}
 use Rattle.workload_spec.specs.declared.command.Command.TheVariants as command
 use Rattle.workload_spec.specs.declared.reply.Said.{Said}
@@ -18,22 +19,71 @@ use Rattle.outcome_spec.specs.Runs.{Run, transaction_of, seen_at}
 -- the two are one cell, one row
 abbrev pub is_cell : Cell → Cell → Bool
 is_cell Null Null = true
+is_cell Null (Num b) = false
+is_cell Null (Truth b) = false
+is_cell Null (Text b) = false
+is_cell Null (Blob b) = false
+is_cell (Num a) Null = false
 is_cell (Num a) (Num b) = int_eq a b
+is_cell (Num a) (Truth b) = false
+is_cell (Num a) (Text b) = false
+is_cell (Num a) (Blob b) = false
+is_cell (Truth a) Null = false
+is_cell (Truth a) (Num b) = false
 is_cell (Truth a) (Truth b) = beq a b
+is_cell (Truth a) (Text b) = false
+is_cell (Truth a) (Blob b) = false
+is_cell (Text a) Null = false
+is_cell (Text a) (Num b) = false
+is_cell (Text a) (Truth b) = false
 is_cell (Text a) (Text b) = bytes_eq a b
+is_cell (Text a) (Blob b) = false
+is_cell (Blob a) Null = false
+is_cell (Blob a) (Num b) = false
+is_cell (Blob a) (Truth b) = false
+is_cell (Blob a) (Text b) = false
 is_cell (Blob a) (Blob b) = bytes_eq a b
-is_cell _ _ = false
 
 abbrev pub is_row : List Cell → List Cell → Bool
 is_row a b = pointwise is_cell a b
 
+-- the place that a get asks for, and the table that a scan does
+abbrev pub got_place : Command → Option Place
+got_place (command.Get table key) = Some (place_at table key)
+got_place _ = None
+
+abbrev pub scanned_table : Command → Option ℕ
+scanned_table (command.Scan table) = Some table
+scanned_table _ = None
+
 -- What a read shows of the rows that are seen: a get the row of its key or that there is none, a scan all rows of
 -- its table in the order of their keys.
 abbrev pub read_holds : State → Command → Said → Bool
-read_holds seen (command.Get table key) (said.Found row) = option_map_or (is_row row) (at_place seen (place_at table key)) false
-read_holds seen (command.Get table key) said.Absent = is_none (at_place seen (place_at table key))
-read_holds seen (command.Scan table) (said.Scanned rows) = pointwise is_row rows (contents_of table seen)
-read_holds seen _ _ = true
+read_holds seen asked (said.At number) = true
+read_holds seen asked said.InTransaction = true
+read_holds seen asked said.NoTransaction = true
+read_holds seen asked (said.Found row) = option_map_or (λ place. option_map_or (is_row row) (at_place seen place) false) (got_place asked) true
+read_holds seen asked said.Absent = option_map_or (λ place. is_none (at_place seen place)) (got_place asked) true
+read_holds seen asked (said.Scanned rows) = option_map_or (λ table. pointwise is_row rows (contents_of table seen)) (scanned_table asked) true
+read_holds seen asked said.Accepted = true
+read_holds seen asked (said.ConflictSession session) = true
+read_holds seen asked (said.ConflictCommit number) = true
+read_holds seen asked said.Exists = true
+read_holds seen asked said.Missing = true
+read_holds seen asked said.Full = true
+read_holds seen asked (said.Freezing table block stamp) = true
+read_holds seen asked (said.Committed number) = true
+read_holds seen asked said.Aborted = true
+read_holds seen asked (said.Cooling count) = true
+read_holds seen asked (said.Pruned count) = true
+read_holds seen asked (said.Moved count) = true
+read_holds seen asked (said.Sealed table block stamp) = true
+read_holds seen asked (said.NotSealed cause) = true
+read_holds seen asked (said.Frozen table block rows) = true
+read_holds seen asked said.NotFrozen = true
+read_holds seen asked (said.Exported number rows batches frozen) = true
+read_holds seen asked (said.Dirty key) = true
+read_holds seen asked said.Memory = true
 
 -- Reads.
 abbrev pub reads_hold : Run → Entry → Bool
@@ -44,7 +94,17 @@ abbrev pub is_acceptable : State → Command → Bool
 is_acceptable seen (command.Insert table row) = is_none (at_place seen (place_of table row))
 is_acceptable seen (command.Update table row) = is_some (at_place seen (place_of table row))
 is_acceptable seen (command.Delete table key) = is_some (at_place seen (place_at table key))
-is_acceptable seen _ = true
+is_acceptable seen command.Begin = true
+is_acceptable seen (command.Get table key) = true
+is_acceptable seen (command.Scan table) = true
+is_acceptable seen command.Commit = true
+is_acceptable seen command.Abort = true
+is_acceptable seen command.Observe = true
+is_acceptable seen command.Prune = true
+is_acceptable seen (command.Compact table) = true
+is_acceptable seen (command.Seal table block) = true
+is_acceptable seen (command.Gather table block) = true
+is_acceptable seen (command.Export table) = true
 
 -- `ok`, `freezing` and `full` stand only where the write is acceptable, `exists` and `missing` only where it isn't.
 abbrev pub write_holds : Bool → Said → Bool
@@ -53,7 +113,26 @@ write_holds acceptable (said.Freezing table block stamp) = acceptable
 write_holds acceptable said.Full = acceptable
 write_holds acceptable said.Exists = not acceptable
 write_holds acceptable said.Missing = not acceptable
-write_holds acceptable _ = true
+write_holds acceptable (said.At number) = true
+write_holds acceptable said.InTransaction = true
+write_holds acceptable said.NoTransaction = true
+write_holds acceptable (said.Found row) = true
+write_holds acceptable said.Absent = true
+write_holds acceptable (said.Scanned rows) = true
+write_holds acceptable (said.ConflictSession session) = true
+write_holds acceptable (said.ConflictCommit number) = true
+write_holds acceptable (said.Committed number) = true
+write_holds acceptable said.Aborted = true
+write_holds acceptable (said.Cooling count) = true
+write_holds acceptable (said.Pruned count) = true
+write_holds acceptable (said.Moved count) = true
+write_holds acceptable (said.Sealed table block stamp) = true
+write_holds acceptable (said.NotSealed cause) = true
+write_holds acceptable (said.Frozen table block rows) = true
+write_holds acceptable said.NotFrozen = true
+write_holds acceptable (said.Exported number rows batches frozen) = true
+write_holds acceptable (said.Dirty key) = true
+write_holds acceptable said.Memory = true
 
 -- Writes.
 abbrev pub writes_hold : Run → Entry → Bool

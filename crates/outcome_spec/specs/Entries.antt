@@ -7,8 +7,9 @@ use Rattle.workload_spec.specs.declared.reply.Who.TheVariants.{Session, Worker}
 use Rattle.workload_spec.specs.declared.reply.Said.{Said}
 use Rattle.workload_spec.specs.declared.reply.Said.TheVariants as said
 
--- A reply in an output: the number of its first line, counted from 1, the command that it answers (a worker's
--- answers the upkeep that the worker does), and what stands in its lines.
+-- A reply in an output: what stands in its lines, the command that it answers, and the number of its first line,
+-- counted from 1, by which a line that fails is named. A worker's line doesn't tell which step of its turn it
+-- answers, so here each of them has the same one, the first.
 pub record Entry : Type 0 where
   pub number : ℕ
   pub command : Command
@@ -20,6 +21,14 @@ is_same (Session a) (Session b) = a == b
 is_same (Session a) (Worker b) = false
 is_same (Worker a) (Session b) = false
 is_same (Worker a) (Worker b) = a == b
+
+-- The replies to one session or worker.
+abbrev pub thread : Who → List Entry → List Entry
+thread who entries = filter (λ entry. is_same entry.reply.who who) entries
+
+-- The two are one reply: they have the same round, session or worker, and index.
+abbrev pub is_reply : Entry → Entry → Bool
+is_reply a b = a.reply.round == b.reply.round && is_same a.reply.who b.reply.who && a.reply.index == b.reply.index
 
 -- A reply is before another in an earlier round, or in the same round, of the same session or worker, with a smaller index.
 abbrev pub is_before : Entry → Entry → Bool
@@ -63,7 +72,29 @@ is_commit _ = false
 abbrev pub is_end : Said → Bool
 is_end (said.Committed number) = true
 is_end said.Aborted = true
-is_end _ = false
+is_end (said.At number) = false
+is_end said.InTransaction = false
+is_end said.NoTransaction = false
+is_end (said.Found row) = false
+is_end said.Absent = false
+is_end (said.Scanned rows) = false
+is_end said.Accepted = false
+is_end (said.ConflictSession session) = false
+is_end (said.ConflictCommit number) = false
+is_end said.Exists = false
+is_end said.Missing = false
+is_end said.Full = false
+is_end (said.Freezing table block stamp) = false
+is_end (said.Cooling count) = false
+is_end (said.Pruned count) = false
+is_end (said.Moved count) = false
+is_end (said.Sealed table block stamp) = false
+is_end (said.NotSealed cause) = false
+is_end (said.Frozen table block rows) = false
+is_end said.NotFrozen = false
+is_end (said.Exported number rows batches frozen) = false
+is_end (said.Dirty key) = false
+is_end said.Memory = false
 
 abbrev pub is_accepted : Said → Bool
 is_accepted said.Accepted = true

@@ -1,13 +1,11 @@
 -- Which lines an output has: whom each of them answers, in which order, and what it may say.
-use Rattle.std.specs.Prelude.{ℕ, ◌+◌, ◌-◌, Bool, true, false, ◌&&◌, ◌||◌, not, ◌==◌, List, [], ◌∷◌, ◌++◌, map, filter, filter_map, flat_map, length, take, drop, replicate, find, count_by, sum_by, fold, ℤ, int_lt, bytes_eq, if◌then◌else◌, Option, None, Some}
+use Rattle.std.specs.Prelude.{ℕ, ◌+◌, max, Bool, true, false, ◌&&◌, ◌||◌, not, ◌==◌, List, [], ◌∷◌, ◌++◌, map, filter, filter_map, flat_map, length, take, drop, find, count_by, sum_by, fold, ℤ, bytes_eq, codes, decimal, if◌then◌else◌, Option, None, Some, Result, Ok, Err}
 use Rattle.std.specs.List.{list_all, starts_with, enumerate_from, range_with_len}
-use Rattle.std.specs.Option.{option_or}
+use Rattle.std.specs.Option.{option_map_or}
 use Rattle.std.specs.Ordering.{int_eq}
-use Rattle.cell_model.specs.declared.cell.Cell.{Cell}
 use Rattle.cell_model.specs.declared.column.Column.{Column}
 use Rattle.cell_model.specs.declared.kind.Kind.TheVariants as kind
 use Rattle.cell_model.specs.declared.table.TableDecl.{TableDecl}
-use Rattle.cell_model.specs.Rows.{fits}
 use Rattle.cell_model.specs.Values.{is_integer_of}
 use Rattle.isolation_spec.specs.Contents.{key_of}
 use Rattle.workload_spec.specs.declared.command.Command.{Command}
@@ -19,9 +17,11 @@ use Rattle.workload_spec.specs.declared.reply.Who.TheVariants.{Session, Worker}
 use Rattle.workload_spec.specs.declared.reply.Said.{Said}
 use Rattle.workload_spec.specs.declared.reply.Said.TheVariants as said
 use Rattle.workload_spec.specs.declared.reply.SealCause.TheVariants.{Phase, Head, Empty, Gaps, Versions, Hot, Last}
-use Rattle.workload_spec.specs.ReplyText.{reply_text, reply_lines}
+use Rattle.workload_spec.specs.Words.{line_feed, spaced}
+use Rattle.workload_spec.specs.declared.reply.ReplyLine.{ReplyLine}
+use Rattle.workload_spec.specs.ReplyText.{reply_text, reply_lines, who_text}
 use Rattle.outcome_spec.specs.Lines.{lines_of}
-use Rattle.outcome_spec.specs.Reading.{words_of, row_of, integer_of, word_at, u32_at, u64_at, tagged_u64_at}
+use Rattle.outcome_spec.specs.Reading.{words_in, row_of, rows_above, integer_at, u32_at, u64_at, tagged_u64_at}
 use Rattle.outcome_spec.specs.Entries.{Entry, is_same}
 use Rattle.outcome_spec.specs.Tables.{columns_at}
 
@@ -59,12 +59,45 @@ dues_of script = flat_map (λ entry. dues_in script entry.0 entry.1) (enumerate_
 abbrev pub is_silent : Said → Bool
 is_silent (said.NotSealed cause) = true
 is_silent said.NotFrozen = true
-is_silent _ = false
+is_silent (said.At number) = false
+is_silent said.InTransaction = false
+is_silent said.NoTransaction = false
+is_silent (said.Found row) = false
+is_silent said.Absent = false
+is_silent (said.Scanned rows) = false
+is_silent said.Accepted = false
+is_silent (said.ConflictSession session) = false
+is_silent (said.ConflictCommit number) = false
+is_silent said.Exists = false
+is_silent said.Missing = false
+is_silent said.Full = false
+is_silent (said.Freezing table block stamp) = false
+is_silent (said.Committed number) = false
+is_silent said.Aborted = false
+is_silent (said.Cooling count) = false
+is_silent (said.Pruned count) = false
+is_silent (said.Moved count) = false
+is_silent (said.Sealed table block stamp) = false
+is_silent (said.Frozen table block rows) = false
+is_silent (said.Exported number rows batches frozen) = false
+is_silent (said.Dirty key) = false
+is_silent said.Memory = false
 
 abbrev pub is_seal_or_gather : Command → Bool
 is_seal_or_gather (command.Seal table block) = true
 is_seal_or_gather (command.Gather table block) = true
-is_seal_or_gather _ = false
+is_seal_or_gather command.Begin = false
+is_seal_or_gather (command.Get table key) = false
+is_seal_or_gather (command.Scan table) = false
+is_seal_or_gather (command.Insert table row) = false
+is_seal_or_gather (command.Update table row) = false
+is_seal_or_gather (command.Delete table key) = false
+is_seal_or_gather command.Commit = false
+is_seal_or_gather command.Abort = false
+is_seal_or_gather command.Observe = false
+is_seal_or_gather command.Prune = false
+is_seal_or_gather (command.Compact table) = false
+is_seal_or_gather (command.Export table) = false
 
 abbrev pub is_worker : Who → Bool
 is_worker (Session number) = false
@@ -73,23 +106,13 @@ is_worker (Worker number) = true
 abbrev pub may_be_silent : Due → Bool
 may_be_silent due = is_worker due.who && is_seal_or_gather due.command
 
--- the keys rise from row to row
-abbrev pub is_ascending : List (List Cell) → Bool
-is_ascending [] = true
-is_ascending (row ∷ []) = true
-is_ascending (row ∷ next ∷ rows) = int_lt (key_of row) (key_of next) && is_ascending (next ∷ rows)
-
--- a scan's reply: the rows of the lines behind its first, as many as that says; rows of lines that are not there are left empty
+-- a scan's reply: the rows of the lines behind its first, as many as that says
 abbrev pub scan_replies : List Column → List (List ℕ) → List (List ℕ) → List Said
-scan_replies columns words behind =
-    let count = u64_at words 1 in
-    let rows = map (λ line. row_of (words_of line)) (take count behind) in
-    if list_all (fits columns) rows && is_ascending rows then said.Scanned (rows ++ replicate (count - length rows) []) ∷ [] else []
+scan_replies columns words behind = said.Scanned (rows_above columns None (take (u64_at words 1) behind)) ∷ []
 
 -- a get's row: one of the table that has the key
 abbrev pub row_replies : List Column → ℤ → List (List ℕ) → List Said
-row_replies columns key words =
-    if fits columns (row_of words) && int_eq (key_of (row_of words)) key then said.Found (row_of words) ∷ [] else []
+row_replies columns key words = option_map_or (λ row. if int_eq (key_of row) key then said.Found row ∷ [] else []) (row_of columns (drop 1 words)) []
 
 -- an export that is refused for a key, which is an i64
 abbrev pub dirty_replies : ℤ → List Said
@@ -122,7 +145,7 @@ replies_within tables words behind (command.Seal table block) =
     said.Sealed table block (u32_at words 3) ∷ map (λ cause. said.NotSealed cause) (Phase ∷ Head ∷ Empty ∷ Gaps ∷ Versions ∷ Hot ∷ Last ∷ [])
 replies_within tables words behind (command.Gather table block) = said.Frozen table block (u32_at words 3) ∷ said.NotFrozen ∷ said.Memory ∷ []
 replies_within tables words behind (command.Export table) =
-    said.Exported (u64_at words 1) (u64_at words 3) (u32_at words 5) (u32_at words 7) ∷ said.Memory ∷ dirty_replies (integer_of (word_at words 1))
+    said.Exported (u64_at words 1) (u64_at words 3) (u32_at words 5) (u32_at words 7) ∷ said.Memory ∷ dirty_replies (integer_at words 1)
 
 -- upkeep needs no transaction
 abbrev pub is_upkeep : Command → Bool
@@ -131,19 +154,60 @@ is_upkeep command.Prune = true
 is_upkeep (command.Compact table) = true
 is_upkeep (command.Seal table block) = true
 is_upkeep (command.Gather table block) = true
-is_upkeep _ = false
+is_upkeep command.Begin = false
+is_upkeep (command.Get table key) = false
+is_upkeep (command.Scan table) = false
+is_upkeep (command.Insert table row) = false
+is_upkeep (command.Update table row) = false
+is_upkeep (command.Delete table key) = false
+is_upkeep command.Commit = false
+is_upkeep command.Abort = false
+is_upkeep (command.Export table) = false
 
 -- what a command that needs a transaction may be told without one: `begin` opens it
 abbrev pub replies_without : List (List ℕ) → Command → List Said
 replies_without words command.Begin = said.At (u64_at words 1) ∷ []
-replies_without words _ = said.NoTransaction ∷ []
+replies_without words (command.Get table key) = said.NoTransaction ∷ []
+replies_without words (command.Scan table) = said.NoTransaction ∷ []
+replies_without words (command.Insert table row) = said.NoTransaction ∷ []
+replies_without words (command.Update table row) = said.NoTransaction ∷ []
+replies_without words (command.Delete table key) = said.NoTransaction ∷ []
+replies_without words command.Commit = said.NoTransaction ∷ []
+replies_without words command.Abort = said.NoTransaction ∷ []
+replies_without words command.Observe = said.NoTransaction ∷ []
+replies_without words command.Prune = said.NoTransaction ∷ []
+replies_without words (command.Compact table) = said.NoTransaction ∷ []
+replies_without words (command.Seal table block) = said.NoTransaction ∷ []
+replies_without words (command.Gather table block) = said.NoTransaction ∷ []
+replies_without words (command.Export table) = said.NoTransaction ∷ []
 
 -- whether its session is in a transaction behind a reply, where it was in one before it or not
 abbrev pub within_behind : Bool → Said → Bool
 within_behind within (said.At number) = true
 within_behind within (said.Committed number) = false
 within_behind within said.Aborted = false
-within_behind within _ = within
+within_behind within said.InTransaction = within
+within_behind within said.NoTransaction = within
+within_behind within (said.Found row) = within
+within_behind within said.Absent = within
+within_behind within (said.Scanned rows) = within
+within_behind within said.Accepted = within
+within_behind within (said.ConflictSession session) = within
+within_behind within (said.ConflictCommit number) = within
+within_behind within said.Exists = within
+within_behind within said.Missing = within
+within_behind within said.Full = within
+within_behind within (said.Freezing table block stamp) = within
+within_behind within (said.Cooling count) = within
+within_behind within (said.Pruned count) = within
+within_behind within (said.Moved count) = within
+within_behind within (said.Sealed table block stamp) = within
+within_behind within (said.NotSealed cause) = within
+within_behind within (said.Frozen table block rows) = within
+within_behind within said.NotFrozen = within
+within_behind within (said.Exported number rows batches frozen) = within
+within_behind within (said.Dirty key) = within
+within_behind within said.Memory = within
 
 -- Whether a session is in a transaction behind these replies, as its own among them say.
 abbrev pub is_within : Who → List Entry → Bool
@@ -159,12 +223,20 @@ replies_due tables earlier due words behind = filter (λ told. not (is_worker du
 abbrev pub line_count : List TableDecl → Entry → ℕ
 line_count tables entry = length (reply_lines tables entry.reply)
 
--- The reply behind these that answers what is due and says this: its number counts the lines so far, its index the
--- replies of the round to the same session or worker.
+-- the number of the line behind those of these replies
+abbrev pub next_line : List TableDecl → List Entry → ℕ
+next_line tables earlier = 1 + sum_by (line_count tables) earlier
+
+-- A worker's line doesn't tell which step of its turn it answers: each is taken for the first.
+abbrev pub command_shown : Due → Command
+command_shown due = if is_worker due.who then command.Observe else due.command
+
+-- The reply behind these that answers what is due and says this: its index counts the replies of the round to the same
+-- session or worker.
 abbrev pub entry_behind : List TableDecl → List Entry → Due → Said → Entry
 entry_behind tables earlier due told = record {
-  number = 1 + sum_by (line_count tables) earlier;
-  command = due.command;
+  number = next_line tables earlier;
+  command = command_shown due;
   reply = record {
     round = due.round;
     who = due.who;
@@ -173,26 +245,62 @@ entry_behind tables earlier due told = record {
   };
 }
 
--- the lines begin with all those of the reply's text; where the text is cut off, they may also end within them
-abbrev pub begins_with : Bool → List TableDecl → List (List ℕ) → Entry → Bool
-begins_with cut tables lines entry =
-    starts_with bytes_eq lines (lines_of (reply_text tables entry.reply))
-    || cut && starts_with bytes_eq (lines_of (reply_text tables entry.reply)) lines
+-- the lines begin with those of the reply's text
+abbrev pub begins_with : List TableDecl → List (List ℕ) → Entry → Bool
+begins_with tables lines entry = starts_with bytes_eq lines (lines_of (reply_text tables entry.reply))
 
 -- The reply at the front of a line and those behind it, where it is one that is due.
-abbrev pub reply_at : Bool → List TableDecl → List Entry → Due → List ℕ → List (List ℕ) → Option Entry
-reply_at cut tables earlier due line behind = find (begins_with cut tables (line ∷ behind))
-    (map (entry_behind tables earlier due) (replies_due tables earlier due (drop 3 (words_of line)) behind))
+abbrev pub reply_at : List TableDecl → List Entry → Due → List ℕ → List (List ℕ) → Option Entry
+reply_at tables earlier due line behind = find (begins_with tables (line ∷ behind))
+    (map (entry_behind tables earlier due) (replies_due tables earlier due (drop 3 (words_in line)) behind))
 
--- The replies of lines that follow earlier replies, with these. Each due reply has its lines, in order, but for
--- those that may be silent, and no line is left; where the text is cut off, it may end anywhere. None where the lines can't be read so.
-abbrev pub reading : Bool → List TableDecl → List Due → List Entry → List (List ℕ) → Option (List Entry)
-reading cut tables [] earlier [] = Some earlier
-reading cut tables [] earlier (line ∷ behind) = None
-reading cut tables (due ∷ dues) earlier [] = if cut || list_all may_be_silent (due ∷ dues) then Some earlier else None
-reading cut tables (due ∷ dues) earlier (line ∷ behind) = option_or
-    (elim (reply_at cut tables earlier due line behind) [
-      | Some entry ↦ reading cut tables dues (earlier ++ entry ∷ []) (drop (line_count tables entry) (line ∷ behind))
-      | None ↦ None
-    ])
-    (elim (may_be_silent due) [ true ↦ reading cut tables dues earlier (line ∷ behind) | false ↦ None ])
+-- the table that a command scans in a transaction
+abbrev pub scanned_by : Bool → Command → Option ℕ
+scanned_by within (command.Scan table) = if within then Some table else None
+scanned_by within _ = None
+
+-- the first line of a scan of so many rows
+abbrev pub scan_line : ReplyLine → ℕ → List ℕ
+scan_line reply count =
+    spaced (decimal reply.round ∷ who_text reply.who ∷ decimal reply.index ∷ codes "rows" ∷ decimal count ∷ []) ++ line_feed ∷ []
+
+-- how many lines of a scan that lacks rows stand at the front of these: its first, and the rows behind it up to the
+-- first line that is none
+abbrev pub lines_of_scan : List TableDecl → ReplyLine → List ℕ → List (List ℕ) → ℕ → ℕ
+lines_of_scan tables reply line behind table =
+    if bytes_eq line (scan_line reply (u64_at (drop 3 (words_in line)) 1))
+    then 1 + length (rows_above (columns_at tables table) None (take (u64_at (drop 3 (words_in line)) 1) behind)) else 0
+
+-- how many lines at the front of these may be those of what is due, where not all of it is there
+abbrev pub lines_begun : List TableDecl → List Entry → Due → List ℕ → List (List ℕ) → ℕ
+lines_begun tables earlier due line behind = option_map_or
+    (lines_of_scan tables (entry_behind tables earlier due said.Memory).reply line behind)
+    (scanned_by (is_within due.who earlier) due.command) 0
+
+-- Of two readings the one that comes to the end, the first one if both do, or else the later of the lines at which they fail.
+abbrev pub further : Result (List Entry) ℕ → Result (List Entry) ℕ → Result (List Entry) ℕ
+further (Ok entries) other = Ok entries
+further (Err line) (Ok entries) = Ok entries
+further (Err line) (Err other) = Err (max line other)
+
+-- The replies of lines that follow earlier replies, with these. Each due reply has its lines, in order, but for those
+-- that may be silent, and no line is left. Where the lines can't be read so, the first line that no way of reading them
+-- gets past; a line that is missing is the one after the last. A worker's `memory` may be its answer to the compaction
+-- that is due or to any gathering before the next compaction, or before its turn's end: whatever lets the lines behind
+-- it be read.
+abbrev pub reading : List TableDecl → List Due → List Entry → List (List ℕ) → Result (List Entry) ℕ
+reading tables [] earlier [] = Ok earlier
+reading tables [] earlier (line ∷ behind) = Err (next_line tables earlier)
+reading tables (due ∷ dues) earlier [] = if list_all may_be_silent (due ∷ dues) then Ok earlier else Err (next_line tables earlier)
+reading tables (due ∷ dues) earlier (line ∷ behind) = elim (may_be_silent due) [
+  | true ↦ further
+      (elim (reply_at tables earlier due line behind) [
+        | Some entry ↦ reading tables dues (earlier ++ entry ∷ []) (drop (line_count tables entry) (line ∷ behind))
+        | None ↦ Err (next_line tables earlier + lines_begun tables earlier due line behind)
+      ])
+      (reading tables dues earlier (line ∷ behind))
+  | false ↦ elim (reply_at tables earlier due line behind) [
+    | Some entry ↦ reading tables dues (earlier ++ entry ∷ []) (drop (line_count tables entry) (line ∷ behind))
+    | None ↦ Err (next_line tables earlier + lines_begun tables earlier due line behind)
+  ]
+]

@@ -22,7 +22,30 @@ is_commit_number run entry number =
 abbrev pub commit_holds : Run → Entry → Said → Bool
 commit_holds run entry (said.Committed None) = not (has_written run entry)
 commit_holds run entry (said.Committed (Some number)) = has_written run entry && is_commit_number run entry number
-commit_holds run entry _ = true
+commit_holds run entry (said.At number) = true
+commit_holds run entry said.InTransaction = true
+commit_holds run entry said.NoTransaction = true
+commit_holds run entry (said.Found row) = true
+commit_holds run entry said.Absent = true
+commit_holds run entry (said.Scanned rows) = true
+commit_holds run entry said.Accepted = true
+commit_holds run entry (said.ConflictSession session) = true
+commit_holds run entry (said.ConflictCommit number) = true
+commit_holds run entry said.Exists = true
+commit_holds run entry said.Missing = true
+commit_holds run entry said.Full = true
+commit_holds run entry (said.Freezing table block stamp) = true
+commit_holds run entry said.Aborted = true
+commit_holds run entry (said.Cooling count) = true
+commit_holds run entry (said.Pruned count) = true
+commit_holds run entry (said.Moved count) = true
+commit_holds run entry (said.Sealed table block stamp) = true
+commit_holds run entry (said.NotSealed cause) = true
+commit_holds run entry (said.Frozen table block rows) = true
+commit_holds run entry said.NotFrozen = true
+commit_holds run entry (said.Exported number rows batches frozen) = true
+commit_holds run entry (said.Dirty key) = true
+commit_holds run entry said.Memory = true
 
 -- Commit numbers.
 abbrev pub commit_numbers_hold : Run → Entry → Bool
@@ -34,7 +57,27 @@ number_shown (said.At number) = Some number
 number_shown (said.Committed number) = number
 number_shown (said.ConflictCommit number) = Some number
 number_shown (said.Exported number rows batches frozen) = Some number
-number_shown _ = None
+number_shown said.InTransaction = None
+number_shown said.NoTransaction = None
+number_shown (said.Found row) = None
+number_shown said.Absent = None
+number_shown (said.Scanned rows) = None
+number_shown said.Accepted = None
+number_shown (said.ConflictSession session) = None
+number_shown said.Exists = None
+number_shown said.Missing = None
+number_shown said.Full = None
+number_shown (said.Freezing table block stamp) = None
+number_shown said.Aborted = None
+number_shown (said.Cooling count) = None
+number_shown (said.Pruned count) = None
+number_shown (said.Moved count) = None
+number_shown (said.Sealed table block stamp) = None
+number_shown (said.NotSealed cause) = None
+number_shown (said.Frozen table block rows) = None
+number_shown said.NotFrozen = None
+number_shown (said.Dirty key) = None
+number_shown said.Memory = None
 
 -- `at n`: n is at most the count of commit numbers shown, at least each number shown before, and below each commit number after.
 abbrev pub snapshot_holds : Run → Entry → Said → Bool
@@ -42,7 +85,30 @@ snapshot_holds run entry (said.At number) =
     nat_le number (commit_count run.entries)
     && list_all (λ earlier. nat_le earlier number) (shown_in number_shown (before run.entries entry))
     && list_all (λ later. nat_lt number later) (shown_in commit_in (after run.entries entry))
-snapshot_holds run entry _ = true
+snapshot_holds run entry said.InTransaction = true
+snapshot_holds run entry said.NoTransaction = true
+snapshot_holds run entry (said.Found row) = true
+snapshot_holds run entry said.Absent = true
+snapshot_holds run entry (said.Scanned rows) = true
+snapshot_holds run entry said.Accepted = true
+snapshot_holds run entry (said.ConflictSession session) = true
+snapshot_holds run entry (said.ConflictCommit number) = true
+snapshot_holds run entry said.Exists = true
+snapshot_holds run entry said.Missing = true
+snapshot_holds run entry said.Full = true
+snapshot_holds run entry (said.Freezing table block stamp) = true
+snapshot_holds run entry (said.Committed number) = true
+snapshot_holds run entry said.Aborted = true
+snapshot_holds run entry (said.Cooling count) = true
+snapshot_holds run entry (said.Pruned count) = true
+snapshot_holds run entry (said.Moved count) = true
+snapshot_holds run entry (said.Sealed table block stamp) = true
+snapshot_holds run entry (said.NotSealed cause) = true
+snapshot_holds run entry (said.Frozen table block rows) = true
+snapshot_holds run entry said.NotFrozen = true
+snapshot_holds run entry (said.Exported number rows batches frozen) = true
+snapshot_holds run entry (said.Dirty key) = true
+snapshot_holds run entry said.Memory = true
 
 -- Snapshot numbers.
 abbrev pub snapshot_numbers_hold : Run → Entry → Bool

@@ -72,6 +72,11 @@ row_missing = FailsAt scan_of_two
     (codes "1 1 1 at 0" ∷ codes "1 1 2 ok" ∷ codes "1 1 3 ok" ∷ codes "1 1 4 rows 3" ∷ codes "| 1" ∷ codes "| 2"
     ∷ codes "1 1 5 aborted" ∷ []) 7
 
+-- however many rows it says, and however few there are
+abbrev pub rows_without_number : Type 0
+rows_without_number = FailsAt scan_of_two
+    (codes "1 1 1 at 0" ∷ codes "1 1 2 ok" ∷ codes "1 1 3 ok" ∷ codes "1 1 4 rows 18446744073709551615" ∷ codes "| 1" ∷ codes "| 2" ∷ []) 7
+
 -- a seal answers for its block
 abbrev pub other_block : Type 0
 other_block = FailsAt frozen_block

@@ -1,6 +1,6 @@
 -- The transactions of an output, what they wrote, and what the printed commit numbers make of it.
-use Rattle.std.specs.Prelude.{ℕ, Bool, false, ◌&&◌, ◌==◌, List, [], ◌∷◌, map, length, filter, filter_map, find, fold, if◌then◌else◌, Option, None, Some, option_map, option_and_then}
-use Rattle.std.specs.List.{list_any, range_with_len}
+use Rattle.std.specs.Prelude.{ℕ, Bool, false, ◌==◌, List, [], ◌∷◌, map, length, filter_map, find, fold, sum_by, if◌then◌else◌, Option, None, Some, option_map, option_and_then}
+use Rattle.std.specs.List.{list_any, range_with_len, cons_option}
 use Rattle.std.specs.Option.{option_map_or}
 use Rattle.std.specs.BTreeMap.{insert_entry}
 use Rattle.cell_model.specs.declared.cell.Cell.{Cell}
@@ -10,11 +10,11 @@ use Rattle.isolation_spec.specs.declared.place.Place.{Place}
 use Rattle.workload_spec.specs.declared.command.Command.{Command}
 use Rattle.workload_spec.specs.declared.command.Command.TheVariants as command
 use Rattle.workload_spec.specs.declared.reply.Who.{Who}
-use Rattle.outcome_spec.specs.Entries.{Entry, is_same, is_not_after, before, shown_in, snapshot_in, commit_in, is_end, is_accepted}
+use Rattle.outcome_spec.specs.Entries.{Entry, thread, is_reply, before, shown_in, snapshot_in, commit_in, is_commit, is_end, is_accepted}
 
--- A transaction: its session, the snapshot that its `at` shows, and its session's replies from that one to its
--- `committed` or `aborted`, or to the last where it has none.
-pub record Transaction : Type 0 where
+-- A transaction as it is printed: its session, the snapshot that its `at` shows, and its session's replies from that
+-- one to its `committed` or `aborted`, or to the last where it has none.
+pub record Span : Type 0 where
   pub who : Who
   pub snapshot : ℕ
   pub replies : List Entry
@@ -24,28 +24,25 @@ abbrev pub up_to_end : List Entry → List Entry
 up_to_end [] = []
 up_to_end (entry ∷ entries) = if is_end entry.reply.said then entry ∷ [] else entry ∷ up_to_end entries
 
--- the transaction that this reply opens, with this snapshot
-abbrev pub transaction_from : List Entry → Entry → ℕ → Transaction
-transaction_from entries opening snapshot = record {
+-- the transaction that the reply opens, with this snapshot: it, and of the replies behind it its own session's
+abbrev pub span_from : Entry → List Entry → ℕ → Span
+span_from opening behind snapshot = record {
   who = opening.reply.who;
   snapshot = snapshot;
-  replies = up_to_end (filter (λ entry. is_same entry.reply.who opening.reply.who && is_not_after opening entry) entries);
+  replies = up_to_end (opening ∷ thread opening.reply.who behind);
 }
 
--- The transactions, in the order of their first lines.
-abbrev pub transactions_of : List Entry → List Transaction
-transactions_of entries = filter_map (λ entry. option_map (transaction_from entries entry) (snapshot_in entry.reply.said)) entries
-
--- the two are one reply
-abbrev pub is_reply : Entry → Entry → Bool
-is_reply a b = a.number == b.number
+-- The transactions, in the order of their first lines: each reply that shows a snapshot opens one.
+abbrev pub transactions_of : List Entry → List Span
+transactions_of [] = []
+transactions_of (entry ∷ entries) = cons_option (option_map (span_from entry entries) (snapshot_in entry.reply.said)) (transactions_of entries)
 
 -- the transaction that the reply belongs to
-abbrev pub transaction_with : List Transaction → Entry → Option Transaction
+abbrev pub transaction_with : List Span → Entry → Option Span
 transaction_with transactions entry = find (λ t. list_any (is_reply entry) t.replies) transactions
 
 -- the reply that ends the transaction
-abbrev pub ending_of : Transaction → Option Entry
+abbrev pub ending_of : Span → Option Entry
 ending_of t = find (λ entry. is_end entry.reply.said) t.replies
 
 -- what a command writes: at its key's place the row, or none where the row is deleted
@@ -53,11 +50,29 @@ abbrev pub write_of : Command → Option (Place × Option (List Cell))
 write_of (command.Insert table row) = Some (place_of table row, Some row)
 write_of (command.Update table row) = Some (place_of table row, Some row)
 write_of (command.Delete table key) = Some (place_at table key, None)
-write_of _ = None
+write_of command.Begin = None
+write_of (command.Get table key) = None
+write_of (command.Scan table) = None
+write_of command.Commit = None
+write_of command.Abort = None
+write_of command.Observe = None
+write_of command.Prune = None
+write_of (command.Compact table) = None
+write_of (command.Seal table block) = None
+write_of (command.Gather table block) = None
+write_of (command.Export table) = None
 
 -- An accepted write: one that is answered `ok`.
 abbrev pub accepted_write : Entry → Option (Place × Option (List Cell))
 accepted_write entry = if is_accepted entry.reply.said then write_of entry.command else None
+
+-- how many accepted writes a transaction has that commits, and none where it doesn't
+abbrev pub writes_committed : Span → ℕ
+writes_committed t = if option_map_or (λ ending. is_commit ending.reply.said) (ending_of t) false then length (filter_map accepted_write t.replies) else 0
+
+-- how many accepted writes have the transactions that commit among these replies
+abbrev pub writes_committed_in : List Entry → ℕ
+writes_committed_in entries = sum_by writes_committed (transactions_of entries)
 
 -- the last accepted write of each key among these replies
 abbrev pub writes_in : List Entry → WriteSet
@@ -76,7 +91,7 @@ abbrev pub commit_line : List Entry → ℕ → Option Entry
 commit_line entries number = find (commits_as number) entries
 
 -- the write set of a commit number: that of the first transaction that showed it, and empty where none did
-abbrev pub committed_writes : List Entry → List Transaction → ℕ → WriteSet
+abbrev pub committed_writes : List Entry → List Span → ℕ → WriteSet
 committed_writes entries transactions number =
     option_map_or (λ t. writes_in t.replies) (option_and_then (transaction_with transactions) (commit_line entries number)) []
 
@@ -84,7 +99,7 @@ committed_writes entries transactions number =
 pub record Run : Type 0 where
   pub tables : List TableDecl
   pub entries : List Entry
-  pub transactions : List Transaction
+  pub transactions : List Span
   pub history : History
 
 abbrev pub run_of : List TableDecl → List Entry → Run
@@ -96,9 +111,9 @@ run_of tables entries = record {
 }
 
 -- the transaction that a reply belongs to
-abbrev pub transaction_of : Run → Entry → Option Transaction
+abbrev pub transaction_of : Run → Entry → Option Span
 transaction_of run entry = transaction_with run.transactions entry
 
 -- What a transaction sees at a reply: its accepted writes before it laid over the state at its snapshot.
-abbrev pub seen_at : Run → Transaction → Entry → State
+abbrev pub seen_at : Run → Span → Entry → State
 seen_at run t entry = laid_over (state_at run.history t.snapshot) (writes_in (before t.replies entry))

@@ -2,7 +2,7 @@
 #![tactic(auto, unfolding(crate::specs::Opened::digits, crate::specs::Opened::is_utf8, crate::specs::Opened::chars, crate::specs::Opened::encode))]
 
 ghost use Rattle.outcome_spec.specs.Examples.{one_session, older_snapshot, later_commit, open_rival, either_wins, first_committer, one_key_thrice, old_version, misuse, seal_and_gather, frozen_export, dirty_export, full_table, moved_rows, idle_worker, busy_worker, last_commit_named};
-ghost use Rattle.outcome_spec.specs.Refusals.{other_index, missing_line, line_without_end, line_too_many, other_key, leading_zero, wide_number, full_update, memory_at_commit, no_transaction, falling_keys, row_missing, other_block, worker_skips, memory_too_many, commit_above_count, commit_without_number, falling_commits, commit_number_twice, empty_commit_numbered, snapshot_of_the_future, snapshot_too_new, snapshot_too_old, newest_row, own_write_unseen, aborted_write_seen, exists_nowhere, inserted_twice, updated_nothing, conflict_passed_over, conflict_with_none, conflict_with_nobody, conflict_with_itself, conflict_with_no_commit, first_commit_named, open_writer_passed_over, open_session_passed_over, lost_update, never_sealed, other_stamp, frozen_already, full_too_early, too_few_rows, other_snapshot, crowded_batch, too_many_batches, never_frozen, not_the_least_key, dirty_and_exported, stamp_from_nothing, same_stamp, gathered_unsealed, too_many_frozen_rows, sealed_not_gathered, moved_too_many, pruned_too_many, pruned_uncommitted};
+ghost use Rattle.outcome_spec.specs.Refusals.{other_index, missing_line, line_without_end, line_too_many, other_key, leading_zero, wide_number, full_update, memory_at_commit, no_transaction, falling_keys, row_missing, rows_without_number, other_block, worker_skips, memory_too_many, commit_above_count, commit_without_number, falling_commits, commit_number_twice, empty_commit_numbered, snapshot_of_the_future, snapshot_too_new, snapshot_too_old, newest_row, own_write_unseen, aborted_write_seen, exists_nowhere, inserted_twice, updated_nothing, conflict_passed_over, conflict_with_none, conflict_with_nobody, conflict_with_itself, conflict_with_no_commit, first_commit_named, open_writer_passed_over, open_session_passed_over, lost_update, never_sealed, other_stamp, frozen_already, full_too_early, too_few_rows, other_snapshot, crowded_batch, too_many_batches, never_frozen, not_the_least_key, dirty_and_exported, stamp_from_nothing, same_stamp, gathered_unsealed, too_many_frozen_rows, sealed_not_gathered, moved_too_many, pruned_too_many, pruned_uncommitted};
 
 /// One session inserts a row, commits and reads it.
 pub fn one_session_writes_and_reads()
@@ -103,6 +103,7 @@ pub fn false_forms_are_found()
     ensures no_transaction_ { no_transaction }
     ensures falling_keys_ { falling_keys }
     ensures row_missing_ { row_missing }
+    ensures rows_without_number_ { rows_without_number }
     ensures other_block_ { other_block }
     ensures worker_skips_ { worker_skips }
     ensures memory_too_many_ { memory_too_many }

@@ -9,8 +9,7 @@ use Rattle.std.proofs.lemmas.List.Sums.{fold_push}
 use Rattle.cell_model.specs.declared.cell.Cell.{Cell}
 use Rattle.isolation_spec.specs.Contents.{WriteSet}
 use Rattle.isolation_spec.specs.declared.place.Place.{Place}
-use Rattle.isolation_spec.specs.Machine.{IsolationMachine, transaction_of}
-use Rattle.isolation_spec.specs.Machine.{Transaction as OpenTransaction}
+use Rattle.isolation_spec.specs.Machine.{IsolationMachine, transaction_of, Transaction}
 use Rattle.workload_spec.specs.declared.command.Command.{Command}
 use Rattle.workload_spec.specs.declared.reply.Who.{Who}
 use Rattle.workload_spec.specs.declared.reply.Who.TheVariants.{Session, Worker}
@@ -18,18 +17,19 @@ use Rattle.workload_spec.specs.declared.reply.Said.{Said}
 use Rattle.workload_spec.specs.declared.reply.Said.TheVariants as said
 use Rattle.outcome_spec.specs.Entries.{Entry, is_same, snapshot_in, is_end}
 use Rattle.outcome_spec.specs.Forms.{is_within, within_behind}
-use Rattle.timeline_spec.specs.Timeline.{thread, open_of}
+use Rattle.timeline_spec.specs.Timeline.{open_of}
+use Rattle.outcome_spec.specs.Entries.{thread}
 use Rattle.timeline_laws.proofs.Order.{same-is}
 use Rattle.timeline_laws.proofs.Machine.{at-begun, at-ended, at-written, entering, eqb-turned, its-session, eqb-itself}
 use Rattle.timeline_laws.proofs.Steps.{Change, quiet, opens, writes, ends, commits}
 
 -- ---- another's reply leaves what a session or worker has open
 
-or-kept : (old : Option OpenTransaction) → option_or old None ≡ old
+or-kept : (old : Option Transaction) → option_or old None ≡ old
 or-kept None = refl
 or-kept (Some t) = refl
 
-entering-other : (writer session : ℕ) (place : Place) (change : Option (List Cell)) (found : Option OpenTransaction) (ts : List OpenTransaction) → find (λ t. eqb t.session session) ts ≡ found
+entering-other : (writer session : ℕ) (place : Place) (change : Option (List Cell)) (found : Option Transaction) (ts : List Transaction) → find (λ t. eqb t.session session) ts ≡ found
     → eqb writer session ≡ false → option_map (entering writer place change) found ≡ found
 entering-other writer session place change None ts at apart = refl
 entering-other writer session place change (Some t) ts at apart =
@@ -83,7 +83,7 @@ quiet-within w (said.Committed n) h k = absurd (let never : ⊥ = cc in never)
 quiet-within w said.Aborted h k = absurd (let never : ⊥ = cc in never)
 quiet-within w _ h k = refl
 
-still-some : (f : OpenTransaction → OpenTransaction) (o : Option OpenTransaction) → is_some (option_map f o) ≡ is_some o
+still-some : (f : Transaction → Transaction) (o : Option Transaction) → is_some (option_map f o) ≡ is_some o
 still-some f None = refl
 still-some f (Some t) = refl
 
@@ -91,7 +91,7 @@ ended-within : (w : Bool) (told : Said) (own : WriteSet) → (told ≡ said.Abor
 ended-within w told own (inl is) = ap (within_behind w) is
 ended-within w told own (inr is) = ap (within_behind w) is.0
 
-abbrev new_open : ℕ → IsolationMachine → OpenTransaction
+abbrev new_open : ℕ → IsolationMachine → Transaction
 new_open session machine = record { session = session; snapshot = length machine.history; own = [] }
 
 -- the state behind its own reply
@@ -102,7 +102,7 @@ own-state who asked told machine after w is (opens o) =
     ap (within_behind w) o.said_is
     ∙ sym (ap (λ (v : Who). is_some (open_of v after)) o.who_is ∙ ap (λ (m : IsolationMachine). is_some (transaction_of o.session m)) o.is
     ∙ ap is_some (at-begun o.session o.session machine)
-    ∙ ap (λ (f : Option OpenTransaction). is_some (option_or f (cond (eqb o.session o.session) (Some (new_open o.session machine)) None))) o.none
+    ∙ ap (λ (f : Option Transaction). is_some (option_or f (cond (eqb o.session o.session) (Some (new_open o.session machine)) None))) o.none
     ∙ ap (λ (b : Bool). is_some (cond b (Some (new_open o.session machine)) None)) (eqb-itself o.session))
 own-state who asked told machine after w is (writes x) =
     ap (within_behind w) x.said_is ∙ is

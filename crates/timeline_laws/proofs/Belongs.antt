@@ -1,27 +1,27 @@
 -- The transaction that a reply belongs to, by what is open behind the replies in front of it.
-use Rattle.std.proofs.Common.{◌≡◌, ℕ, Bool, true, false, cond, ◌&&◌, ◌||◌, List, [], ◌∷◌, ◌++◌, Option, None, Some, refl, sym, ap, ◌∙◌, subst}
+use Rattle.std.proofs.Common.{◌≡◌, ℕ, Bool, true, false, cond, ◌||◌, List, [], ◌∷◌, ◌++◌, Option, None, Some, refl, sym, ap, ◌∙◌, subst}
 use Rattle.std.specs.Prelude.{option_map}
 use Rattle.std.specs.Option.{option_or}
-use Rattle.std.specs.List.{filter, filter_map, find, list_any, cons_option}
+use Rattle.std.specs.List.{filter, find, list_any, cons_option}
 use Rattle.std.proofs.lemmas.List.Folds.{list_any-append, find-append}
 use Rattle.std.proofs.lemmas.List.Elements.{filter-append}
-use Rattle.std.proofs.lemmas.Bool.{and_parts}
 use Rattle.workload_spec.specs.declared.reply.Who.{Who}
-use Rattle.outcome_spec.specs.Entries.{Entry, is_same, is_not_after, snapshot_in, is_end}
-use Rattle.outcome_spec.specs.Runs.{Transaction, up_to_end, transaction_from, transactions_of, transaction_with, is_reply}
-use Rattle.timeline_spec.specs.Timeline.{thread, Each, InOrder}
-use Rattle.timeline_laws.proofs.Order.{Each-first, Each-second, Each-weaker, Each-filter, Each-printed, same-is, same-itself}
-use Rattle.timeline_laws.proofs.Spans.{span, spans, EachSpan, Ended, Past, spans-is, order-filter}
+use Rattle.outcome_spec.specs.Entries.{Entry, is_same, is_reply, snapshot_in, is_end}
+use Rattle.outcome_spec.specs.Runs.{Span, up_to_end, span_from, transactions_of, transaction_with}
+use Rattle.timeline_spec.specs.Timeline.{Each, InOrder}
+use Rattle.outcome_spec.specs.Entries.{thread}
+use Rattle.timeline_laws.proofs.Order.{Each-first, Each-second, Each-filter, Each-printed, same-is, same-itself}
+use Rattle.timeline_laws.proofs.Spans.{span, spans, EachSpan, Ended, Past, spans-is, thread-of, order-filter}
 use Rattle.timeline_laws.proofs.Unique.{Only, none-in_front, none-behind, itself, any-none}
 
 -- what is found is found among those that pass a test which it passes
-find-kept-step : (a b : Bool) (t : Transaction) (kept all : List Transaction) (test : Transaction → Bool) → test t ≡ b → (b ≡ true → a ≡ true) → find test all ≡ find test kept
+find-kept-step : (a b : Bool) (t : Span) (kept all : List Span) (test : Span → Bool) → test t ≡ b → (b ≡ true → a ≡ true) → find test all ≡ find test kept
     → cond b (Some t) (find test all) ≡ find test (cond a (t ∷ kept) kept)
 find-kept-step true b t kept all test is h rest = rw is (ap (cond b (Some t)) rest)
 find-kept-step false true t kept all test is h rest = absurd (let e : false ≡ true = h refl in let never : ⊥ = cc in never)
 find-kept-step false false t kept all test is h rest = rest
 
-pub find-kept : (test choice : Transaction → Bool) (ts : List Transaction) → EachSpan (λ t. test t ≡ true → choice t ≡ true) ts → find test ts ≡ find test (filter choice ts)
+pub find-kept : (test choice : Span → Bool) (ts : List Span) → EachSpan (λ t. test t ≡ true → choice t ≡ true) ts → find test ts ≡ find test (filter choice ts)
 find-kept test choice [] h = refl
 find-kept test choice (t ∷ ts) h = find-kept-step (choice t) (test t) t (filter choice ts) ts test refl h.0 (find-kept test choice ts h.1)
 
@@ -44,39 +44,31 @@ pub Each-up_to_end : (P : Entry → Type 0) (entries : List Entry) → Each P en
 Each-up_to_end P [] h = h
 Each-up_to_end P (entry ∷ entries) h = cut-each P (is_end entry.reply.said) entry (up_to_end entries) h.0 (Each-up_to_end P entries h.1)
 
-filter-passes-step : (b : Bool) (p : Entry → Bool) (entry : Entry) (entries : List Entry) → p entry ≡ b → Each (λ other. p other ≡ true) (filter p entries) → Each (λ other. p other ≡ true) (cond b (entry ∷ filter p entries) (filter p entries))
-filter-passes-step true p entry entries is h = (is, h)
-filter-passes-step false p entry entries is h = h
-
-filter-passes : (p : Entry → Bool) (entries : List Entry) → Each (λ entry. p entry ≡ true) (filter p entries)
-filter-passes p [] = tt
-filter-passes p (entry ∷ entries) = filter-passes-step (p entry) p entry entries refl (filter-passes p entries)
-
 same-turned : (a b : Who) → is_same a b ≡ true → is_same b a ≡ true
 same-turned a b h = subst (λ (w : Who). is_same w a ≡ true) (same-is a b h) (same-itself a)
 
-from-whom : (entry : Entry) (whole : List Entry) → Only whole entry → (o : Entry) (snapshot : ℕ)
-    → list_any (is_reply entry) (transaction_from whole o snapshot).replies ≡ true → is_same o.reply.who entry.reply.who ≡ true
-from-whom entry whole only o snapshot h =
-    let p : Entry → Bool = λ other. is_same other.reply.who o.reply.who && is_not_after o other in
-    let among = Each-up_to_end (λ other. is_reply entry other ≡ true → other ≡ entry) (filter p whole) (Each-filter (λ other. is_reply entry other ≡ true → other ≡ entry) p whole only) in
-    let passes = Each-weaker (λ other. p other ≡ true) (λ other. is_same other.reply.who o.reply.who ≡ true) (λ other q. (and_parts (is_same other.reply.who o.reply.who) (is_not_after o other) q).0) (filter p whole) (filter-passes p whole) in
-    same-turned entry.reply.who o.reply.who (any-of entry o.reply.who (up_to_end (filter p whole)) among (Each-up_to_end (λ other. is_same other.reply.who o.reply.who ≡ true) (filter p whole) passes) h)
+from-whom : (entry o : Entry) (behind : List Entry) → Only (o ∷ behind) entry → (snapshot : ℕ)
+    → list_any (is_reply entry) (span_from o behind snapshot).replies ≡ true → is_same o.reply.who entry.reply.who ≡ true
+from-whom entry o behind only snapshot h =
+    let its = o ∷ thread o.reply.who behind in
+    let among = Each-up_to_end (λ other. is_reply entry other ≡ true → other ≡ entry) its (only.0, Each-filter (λ other. is_reply entry other ≡ true → other ≡ entry) (λ other. is_same other.reply.who o.reply.who) behind only.1) in
+    let passes = Each-up_to_end (λ other. is_same other.reply.who o.reply.who ≡ true) its (same-itself o.reply.who, thread-of o.reply.who behind) in
+    same-turned entry.reply.who o.reply.who (any-of entry o.reply.who (up_to_end its) among passes h)
 
-from-holds-step : (entry : Entry) (whole : List Entry) → Only whole entry → (o : Entry) (entries : List Entry) (shown : Option ℕ)
-    → EachSpan (λ t. list_any (is_reply entry) t.replies ≡ true → is_same t.who entry.reply.who ≡ true) (filter_map (λ o. option_map (transaction_from whole o) (snapshot_in o.reply.said)) entries)
-    → EachSpan (λ t. list_any (is_reply entry) t.replies ≡ true → is_same t.who entry.reply.who ≡ true) (cons_option (option_map (transaction_from whole o) shown) (filter_map (λ o. option_map (transaction_from whole o) (snapshot_in o.reply.said)) entries))
-from-holds-step entry whole only o entries None rest = rest
-from-holds-step entry whole only o entries (Some snapshot) rest = (from-whom entry whole only o snapshot, rest)
+from-holds-step : (entry o : Entry) (entries : List Entry) → Only (o ∷ entries) entry → (shown : Option ℕ)
+    → EachSpan (λ t. list_any (is_reply entry) t.replies ≡ true → is_same t.who entry.reply.who ≡ true) (transactions_of entries)
+    → EachSpan (λ t. list_any (is_reply entry) t.replies ≡ true → is_same t.who entry.reply.who ≡ true) (cons_option (option_map (span_from o entries) shown) (transactions_of entries))
+from-holds-step entry o entries only None rest = rest
+from-holds-step entry o entries only (Some snapshot) rest = (from-whom entry o entries only snapshot, rest)
 
 -- a transaction with the reply among its own is of the reply's session or worker
-from-holds : (entry : Entry) (whole : List Entry) → Only whole entry → (entries : List Entry)
-    → EachSpan (λ t. list_any (is_reply entry) t.replies ≡ true → is_same t.who entry.reply.who ≡ true) (filter_map (λ o. option_map (transaction_from whole o) (snapshot_in o.reply.said)) entries)
-from-holds entry whole only [] = tt
-from-holds entry whole only (o ∷ entries) = from-holds-step entry whole only o entries (snapshot_in o.reply.said) (from-holds entry whole only entries)
+from-holds : (entry : Entry) (entries : List Entry) → Only entries entry
+    → EachSpan (λ t. list_any (is_reply entry) t.replies ≡ true → is_same t.who entry.reply.who ≡ true) (transactions_of entries)
+from-holds entry [] only = tt
+from-holds entry (o ∷ entries) only = from-holds-step entry o entries only (snapshot_in o.reply.said) (from-holds entry entries only.1)
 
 -- none of the transactions that ended in front has the reply
-done-misses : (who : Who) (front : List Entry) (entry : Entry) (ts : List Transaction) → Each (λ other. is_reply entry other ≡ false) front → EachSpan (Ended who front) ts
+done-misses : (who : Who) (front : List Entry) (entry : Entry) (ts : List Span) → Each (λ other. is_reply entry other ≡ false) front → EachSpan (Ended who front) ts
     → find (λ t. list_any (is_reply entry) t.replies) ts ≡ None
 done-misses who front entry [] none h = refl
 done-misses who front entry (t ∷ ts) none h =
@@ -85,7 +77,7 @@ done-misses who front entry (t ∷ ts) none h =
     rw (any-none (is_reply entry) t.replies inside) (done-misses who front entry ts none h.1)
 
 -- nor one that is opened behind it
-find-past : (test : Transaction → Bool) (made : ℕ → Transaction) (shown : Option ℕ) (others : List Transaction)
+find-past : (test : Span → Bool) (made : ℕ → Span) (shown : Option ℕ) (others : List Span)
     → ((snapshot : ℕ) → test (made snapshot) ≡ false) → find test (cons_option (option_map made shown) others) ≡ find test others
 find-past test made None others fails = refl
 find-past test made (Some snapshot) others fails = rw (fails snapshot) refl
@@ -110,8 +102,8 @@ has-itself entry replies rest =
     list_any-append (is_reply entry) replies (up_to_end (entry ∷ rest))
     ∙ or-true (list_any (is_reply entry) replies) (list_any (is_reply entry) (up_to_end (entry ∷ rest))) (cut-has entry (is_end entry.reply.said) (up_to_end rest))
 
-find-behind : (test : Transaction → Bool) (a b : List Transaction) → find test a ≡ None → find test (a ++ b) ≡ find test b
-find-behind test a b none = find-append test a b ∙ ap (λ (o : Option Transaction). option_or o (find test b)) none
+find-behind : (test : Span → Bool) (a b : List Span) → find test a ≡ None → find test (a ++ b) ≡ find test b
+find-behind test a b none = find-append test a b ∙ ap (λ (o : Option Span). option_or o (find test b)) none
 
 -- The reply stands in a timeline at this place.
 pub record At (printed timeline front : List Entry) (entry : Entry) (rest : List Entry) : Type 0 where
@@ -139,14 +131,14 @@ module _ (printed timeline front : List Entry) (entry : Entry) (rest : List Entr
   pub threads-in-order : (who : Who) → InOrder (thread who printed)
   threads-in-order who = subst InOrder (sym (at.threads who)) (order-filter (λ other. is_same other.reply.who who) timeline at.order)
 
-  abbrev holds : Transaction → Bool
+  abbrev holds : Span → Bool
   holds t = list_any (is_reply entry) t.replies
 
   -- the reply's transaction is one of its session's or worker's
   found-own : transaction_with (transactions_of printed) entry ≡ find holds (spans its (thread its front ++ entry ∷ thread its rest))
   found-own =
-      find-kept holds (λ t. is_same t.who its) (transactions_of printed) (from-holds entry printed at.only printed)
-      ∙ ap (find holds) (spans-is its printed (threads-in-order its) ∙ ap (spans its) own-thread)
+      find-kept holds (λ t. is_same t.who its) (transactions_of printed) (from-holds entry printed at.only)
+      ∙ ap (find holds) (spans-is its printed ∙ ap (spans its) own-thread)
 
   misses-front : Each (λ other. is_reply entry other ≡ false) (thread its front)
   misses-front = Each-filter (λ other. is_reply entry other ≡ false) (λ other. is_same other.reply.who its) front (none-in_front front entry rest its-order timeline-only)

@@ -14,8 +14,7 @@ use Rattle.std.proofs.lemmas.List.Sorted.{sum_by-IsPermutation}
 use Rattle.std.proofs.lemmas.List.Sums.{sum_by-cons, sum_by-append, sum_by-le-sum_by}
 use Rattle.cell_model.specs.declared.table.TableDecl.{TableDecl}
 use Rattle.isolation_spec.specs.Contents.{state_at, contents_of, State, WriteSet}
-use Rattle.isolation_spec.specs.Machine.{IsolationMachine, opening}
-use Rattle.isolation_spec.specs.Machine.{Transaction as OpenTransaction}
+use Rattle.isolation_spec.specs.Machine.{IsolationMachine, opening, Transaction}
 use Rattle.workload_spec.specs.declared.command.Command.{Command}
 use Rattle.workload_spec.specs.declared.command.Command.TheVariants as command
 use Rattle.workload_spec.specs.declared.reply.Who.{Who}
@@ -23,12 +22,15 @@ use Rattle.workload_spec.specs.declared.reply.Who.TheVariants.{Session, Worker}
 use Rattle.workload_spec.specs.declared.reply.Said.{Said}
 use Rattle.workload_spec.specs.declared.reply.Said.TheVariants as said
 use Rattle.outcome_spec.specs.Entries.{Entry, is_before, is_not_after, before, not_after, shown_in}
-use Rattle.outcome_spec.specs.Runs.{Transaction, Run, writes_in, transactions_of}
+use Rattle.outcome_spec.specs.Runs.{Span, Run, writes_in}
 use Rattle.outcome_spec.specs.Tables.{slots_at, blocks_at}
-use Rattle.outcome_spec.specs.Upkeep.{stamp_in, rows_in, seals_in, freezes_in, stamp_count, freezing_reply_holds, freezing_holds, is_accepted_insert, full_reply_holds, full_holds, least_key, frozen_blocks, summary_holds, export_holds, exports_hold, seal_holds, freeze_holds, idle_gather_holds, pruned_in, moved_in, writes_committed, prune_holds, most_moved, upkeep_reply_holds, upkeep_holds}
+use Rattle.outcome_spec.specs.Upkeep.{stamp_in, rows_in, seals_in, freezes_in, stamp_count, freezing_reply_holds, freezing_holds, is_accepted_insert, full_reply_holds, full_holds, least_key, frozen_blocks, summary_holds, exports_hold, seal_holds, freeze_holds, pruned_in, moved_in, prune_holds, most_moved, upkeep_reply_holds, upkeep_holds, export_reply_holds, exported_table, inserted_table, inserts_in, capacity_at, gathered_block}
 use Rattle.outcome_spec.proofs.Conditions.{both}
 use Rattle.timeline_laws.proofs.Threads.{same-of}
-use Rattle.timeline_spec.specs.Timeline.{thread, open_of, Timeline, Runs, Counts, FindsUnsealed, blocks_frozen, writes_committed_in, Exports, ExportsWithin, ExportsBy, Aside, request_of, TakesAs}
+use Rattle.timeline_spec.specs.Timeline.{open_of, Timeline, Runs, Counts, FindsUnsealed, Exports, ExportsWithin, ExportsBy, Aside, request_of, TakesAs, FindsFull}
+use Rattle.outcome_spec.specs.Entries.{thread}
+use Rattle.outcome_spec.specs.Runs.{writes_committed_in}
+use Rattle.outcome_spec.specs.Upkeep.{frozen_blocks}
 use Rattle.timeline_laws.proofs.Tests.{at_most, same_number, all-three, all-four, all-seven}
 use Rattle.timeline_laws.proofs.Ranges.{range-push, range-append, all-below, all-above, count-below, count-above}
 use Rattle.timeline_laws.proofs.Order.{before-each, shown-each, shown-filter, shows_only}
@@ -247,29 +249,37 @@ module _ (tables : List TableDecl) (printed timeline : List Entry) (t : Timeline
 
   -- ---- full tables
 
-  full-by : (asked : Command) (told : Said) → Counts tables cut.front asked told → full_reply_holds the_run entry asked told ≡ true
-  full-by (command.Insert table row) said.Full counts =
+  full-of : (asked : Command) → FindsFull tables cut.front asked
+      → option_map_or (λ table. nat_le (capacity_at tables table) (inserts_in table (not_after printed entry))) (inserted_table asked) true ≡ true
+  full-of (command.Insert table row) counts =
       let f : Entry → ℕ = λ other. cond (is_accepted_insert table other.command other.reply.said) 1 0 in
       let more : sum_by f cut.front ≤ sum_by f (not_after printed entry) = more-not_after f in
-      let least : blocks_at tables table * slots_at tables table ≤ sum_by f cut.front = counts in
-      let all : blocks_at tables table * slots_at tables table ≤ sum_by f (not_after printed entry) = le_trans least more in
-      at_most (blocks_at tables table * slots_at tables table) (sum_by f (not_after printed entry)) all
-  full-by (command.Insert table row) _ counts = refl
-  full-by _ _ counts = refl
+      let least : capacity_at tables table ≤ sum_by f cut.front = counts in
+      let all : capacity_at tables table ≤ sum_by f (not_after printed entry) = le_trans least more in
+      at_most (capacity_at tables table) (sum_by f (not_after printed entry)) all
+  full-of _ counts = refl
+
+  full-by : (told : Said) → Counts tables cut.front entry.command told → full_reply_holds the_run entry told ≡ true
+  full-by said.Full counts = full-of entry.command counts
+  full-by _ counts = refl
 
   -- Full tables.
   pub full : full_holds the_run entry ≡ true
-  full = full-by entry.command entry.reply.said cut.counts
+  full = full-by entry.reply.said cut.counts
 
   -- ---- exports
 
-  frozen-more : (table : ℕ) → blocks_frozen tables table cut.front ≤ frozen_blocks the_run table (not_after printed entry)
+  frozen-more : (table : ℕ) → frozen_blocks tables table cut.front ≤ frozen_blocks tables table (not_after printed entry)
   frozen-more table =
       sum_by-le-sum_by (λ block. cond (nat_lt 0 (freezes_in table block cut.front)) 1 0) (λ block. cond (nat_lt 0 (freezes_in table block (not_after printed entry))) 1 0) (range_with_len 0 (blocks_at tables table))
       (λ block. one-more (freezes_in table block cut.front) (freezes_in table block (not_after printed entry)) (more-shown (rows_in table block)) (nat_lt 0 (freezes_in table block cut.front)) refl)
 
-  module _ (o : OpenTransaction) (at : open_of entry.reply.who cut.machine ≡ Some o) (within : Within entry.reply.who (thread entry.reply.who cut.front) o) where
-    abbrev its : Transaction
+  -- the condition of a command in a transaction
+  abbrev export_by : Span → Command → Bool
+  export_by u asked = option_map_or (λ table. export_reply_holds the_run u entry table entry.reply.said) (exported_table asked) true
+
+  module _ (o : Transaction) (at : open_of entry.reply.who cut.machine ≡ Some o) (within : Within entry.reply.who (thread entry.reply.who cut.front) o) where
+    abbrev its : Span
     its = belongs tables printed timeline t entry only cut o within
 
     own-is : writes_in (before its.replies entry) ≡ o.own
@@ -284,14 +294,14 @@ module _ (tables : List TableDecl) (printed timeline : List Entry) (t : Timeline
         let b : batches ≤ rows = h.some_rows in
         let c : rows ≤ batches * slots_at tables table = h.full_blocks in
         let d : batches ≤ blocks_at tables table = h.blocks in
-        let e : frozen ≤ blocks_frozen tables table cut.front = h.were_frozen in
+        let e : frozen ≤ frozen_blocks tables table cut.front = h.were_frozen in
         all-seven (eqb number o.snapshot) (eqb rows (length (contents_of table (state_at (the_run).history number)))) (nat_le frozen batches) (nat_le batches rows) (nat_le rows (batches * slots_at tables table))
-        (nat_le batches (blocks_at tables table)) (nat_le frozen (frozen_blocks the_run table (not_after printed entry)))
+        (nat_le batches (blocks_at tables table)) (nat_le frozen (frozen_blocks tables table (not_after printed entry)))
         (same_number number o.snapshot h.snapshot) (same_number rows (length (contents_of table (state_at (the_run).history number))) rows_are)
         (at_most frozen batches a) (at_most batches rows b) (at_most rows (batches * slots_at tables table) c) (at_most batches (blocks_at tables table) d)
-        (at_most frozen (frozen_blocks the_run table (not_after printed entry)) (le_trans e (frozen-more table)))
+        (at_most frozen (frozen_blocks tables table (not_after printed entry)) (le_trans e (frozen-more table)))
 
-    export-told : (table : ℕ) (told : Said) → ExportsWithin tables cut.front cut.machine o table told → export_holds the_run its entry (command.Export table) told ≡ true
+    export-told : (table : ℕ) (told : Said) → ExportsWithin tables cut.front cut.machine o table told → export_reply_holds the_run its entry table told ≡ true
     export-told table (said.Exported number rows batches frozen) h =
         both (is_none (least_key table (writes_in (before its.replies entry)))) (summary_holds the_run its entry table number rows batches frozen)
         (ap (λ (own : WriteSet). is_none (least_key table own)) own-is ∙ ap is_none h.clean) (summary-at table number rows batches frozen h)
@@ -301,19 +311,19 @@ module _ (tables : List TableDecl) (printed timeline : List Entry) (t : Timeline
     export-told table _ h = absurd h
 
     export-takes : (who : Who) (asked : Command) → open_of who cut.machine ≡ Some o → entry.reply.who ≡ who → entry.command ≡ asked → TakesAs tables cut.front cut.machine entry cut.after (request_of who asked)
-        → export_holds the_run its entry asked entry.reply.said ≡ true
+        → export_by its asked ≡ true
     export-takes (Worker worker) asked is_open is_who is_asked h = absurd (let never : ⊥ = cc in never)
     export-takes (Session session) (command.Export table) is_open is_who is_asked h =
         let aside : Aside tables cut.front cut.machine entry.reply.who (command.Export table) entry.reply.said = subst (λ (c : Command). Aside tables cut.front cut.machine entry.reply.who c entry.reply.said) is_asked h.0 in
-        export-told table entry.reply.said (subst (λ (found : Option OpenTransaction). ExportsBy tables cut.front cut.machine found table entry.reply.said) at aside)
+        export-told table entry.reply.said (subst (λ (found : Option Transaction). ExportsBy tables cut.front cut.machine found table entry.reply.said) at aside)
     export-takes (Session session) _ is_open is_who is_asked h = refl
 
   -- Exports.
   pub exports : exports_hold the_run entry ≡ true
   exports =
-      by-transaction tables printed timeline t entry only cut (λ u. export_holds the_run u entry entry.command entry.reply.said)
+      by-transaction tables printed timeline t entry only cut (λ u. export_by u entry.command)
       (λ o at within. export-takes o at within entry.reply.who entry.command at refl refl cut.takes)
-      (λ u is_asked is. ap (λ (asked : Command). export_holds the_run u entry asked entry.reply.said) is_asked)
+      (λ u is_asked is. ap (λ (asked : Command). export_by u asked) is_asked)
       (open_of entry.reply.who cut.machine) refl cut.change
 
   -- ---- upkeep
@@ -341,27 +351,28 @@ module _ (tables : List TableDecl) (printed timeline : List Entry) (t : Timeline
       (at_most 1 rows least) (at_most rows (slots_at tables table) most)
       (at_most (1 + freezes_in table block (before printed entry)) (seals_in table block (not_after printed entry)) (omega (arith, a, b, more)))
 
-  idle-at : (asked : Command) → FindsUnsealed cut.front asked → idle_gather_holds the_run entry asked ≡ true
-  idle-at (command.Gather table block) same =
+  idle-of : (asked : Command) → FindsUnsealed cut.front asked
+      → option_map_or (λ block. nat_le (seals_in block.0 block.1 (before printed entry)) (freezes_in block.0 block.1 (not_after printed entry))) (gathered_block asked) true ≡ true
+  idle-of (command.Gather table block) same =
       let a : seals_in table block (before printed entry) ≤ seals_in table block cut.front = fewer-shown (stamp_in table block) in
       let b : freezes_in table block cut.front ≤ freezes_in table block (not_after printed entry) = more-shown (rows_in table block) in
       let e : seals_in table block cut.front ≡ freezes_in table block cut.front = same in
       at_most (seals_in table block (before printed entry)) (freezes_in table block (not_after printed entry)) (omega (arith, a, b, e))
-  idle-at _ same = refl
+  idle-of _ same = refl
 
   prune-at : (count : ℕ) → count + sum (shown_in pruned_in cut.front) ≤ writes_committed_in cut.front + 2 * sum (shown_in moved_in cut.front)
-      → writes_committed_in cut.front ≤ sum_by (writes_committed entry) (transactions_of printed) → prune_holds the_run entry count ≡ true
+      → writes_committed_in cut.front ≤ writes_committed_in (not_after printed entry) → prune_holds the_run entry count ≡ true
   prune-at count h committed =
       let a : sum (shown_in pruned_in (before printed entry)) ≤ sum (shown_in pruned_in cut.front) = omega (arith, summed pruned_in (before printed entry), summed pruned_in cut.front, less-before (λ other. unwrap_or (pruned_in other.reply.said) 0)) in
       let b : sum (shown_in moved_in cut.front) ≤ sum (shown_in moved_in (not_after printed entry)) = omega (arith, summed moved_in cut.front, summed moved_in (not_after printed entry), more-not_after (λ other. unwrap_or (moved_in other.reply.said) 0)) in
-      let all : count + sum (shown_in pruned_in (before printed entry)) ≤ sum_by (writes_committed entry) (transactions_of printed) + 2 * sum (shown_in moved_in (not_after printed entry)) = omega (arith, a, b, h, committed) in
-      at_most (count + sum (shown_in pruned_in (before printed entry))) (sum_by (writes_committed entry) (transactions_of printed) + 2 * sum (shown_in moved_in (not_after printed entry))) all
+      let all : count + sum (shown_in pruned_in (before printed entry)) ≤ writes_committed_in (not_after printed entry) + 2 * sum (shown_in moved_in (not_after printed entry)) = omega (arith, a, b, h, committed) in
+      at_most (count + sum (shown_in pruned_in (before printed entry))) (writes_committed_in (not_after printed entry) + 2 * sum (shown_in moved_in (not_after printed entry))) all
 
-  upkeep-by : writes_committed_in cut.front ≤ sum_by (writes_committed entry) (transactions_of printed)
+  upkeep-by : writes_committed_in cut.front ≤ writes_committed_in (not_after printed entry)
       → (told : Said) → entry.reply.said ≡ told → Counts tables cut.front entry.command told → upkeep_reply_holds the_run entry told ≡ true
   upkeep-by committed (said.Sealed table block stamp) is counts = seal-at table block stamp is counts.0 counts.1
   upkeep-by committed (said.Frozen table block rows) is counts = freeze-at table block rows counts.0 counts.1 counts.2
-  upkeep-by committed said.NotFrozen is counts = idle-at entry.command counts
+  upkeep-by committed said.NotFrozen is counts = idle-of entry.command counts
   upkeep-by committed (said.Moved count) is counts = at_most count most_moved counts
   upkeep-by committed (said.Pruned count) is counts = prune-at count counts committed
   upkeep-by committed _ is counts = refl

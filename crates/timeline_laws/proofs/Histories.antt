@@ -11,16 +11,16 @@ use Rattle.std.proofs.lemmas.List.Sums.{sum_by-cons}
 use Rattle.std.proofs.lemmas.List.Sorted.{sum_by-IsPermutation}
 use Rattle.cell_model.specs.declared.table.TableDecl.{TableDecl}
 use Rattle.isolation_spec.specs.Contents.{WriteSet, History}
-use Rattle.isolation_spec.specs.Machine.{IsolationMachine, opening, transaction_of}
-use Rattle.isolation_spec.specs.Machine.{Transaction as OpenTransaction}
+use Rattle.isolation_spec.specs.Machine.{IsolationMachine, opening, transaction_of, Transaction}
 use Rattle.workload_spec.specs.declared.reply.Who.{Who}
 use Rattle.workload_spec.specs.declared.reply.Who.TheVariants.{Session}
 use Rattle.workload_spec.specs.declared.reply.Said.{Said}
 use Rattle.workload_spec.specs.declared.reply.Said.TheVariants as said
 use Rattle.outcome_spec.specs.Entries.{Entry, shown_in, commit_in, is_end}
-use Rattle.outcome_spec.specs.Runs.{Transaction, Run, run_of, up_to_end, transactions_of, transaction_with, accepted_write, writes_in, committed_writes, commit_line, commit_count, commits_as}
+use Rattle.outcome_spec.specs.Runs.{Span, Run, run_of, up_to_end, transactions_of, transaction_with, accepted_write, writes_in, committed_writes, commit_line, commit_count, commits_as}
 use Rattle.timeline_laws.proofs.Threads.{same-of}
-use Rattle.timeline_spec.specs.Timeline.{thread, open_of, Each, Runs, Timeline}
+use Rattle.timeline_spec.specs.Timeline.{open_of, Each, Runs, Timeline}
+use Rattle.outcome_spec.specs.Entries.{thread}
 use Rattle.timeline_laws.proofs.Ranges.{range-push, all-below, all-above}
 use Rattle.timeline_laws.proofs.Order.{Each-append, Each-printed, Each-timeline, Each-weaker, Each-at, each-all, shown-each, shows_only}
 use Rattle.timeline_laws.proofs.Unique.{Only, unique}
@@ -143,7 +143,7 @@ module _ (tables : List TableDecl) (printed timeline : List Entry) (t : Timeline
       → commit_line printed (length cut.machine.history + 1) ≡ Some entry
   line-is entry cut c = line-found entry cut c (commit_line printed (length cut.machine.history + 1)) refl
 
-  pub within-own : (who : Who) (session : ℕ) (machine : IsolationMachine) (past : List Entry) (open_one : OpenTransaction) → who ≡ Session session → transaction_of session machine ≡ Some open_one
+  pub within-own : (who : Who) (session : ℕ) (machine : IsolationMachine) (past : List Entry) (open_one : Transaction) → who ≡ Session session → transaction_of session machine ≡ Some open_one
       → Stands who past (open_of who machine) → Within who past open_one
   within-own who session machine past open_one is at h = subst (Stands who past) (ap (λ (w : Who). open_of w machine) is ∙ at) h
 
@@ -158,7 +158,7 @@ module _ (tables : List TableDecl) (printed timeline : List Entry) (t : Timeline
       let within = within-own entry.reply.who c.session cut.machine (thread entry.reply.who cut.front) c.t c.who_is c.at (cut.shown.stands entry.reply.who) in
       let its = found-open printed timeline cut.front entry cut.rest (at-cut entry only cut) c.t.snapshot within.replies within.spanned in
       ap (λ (o : Option Entry). option_map_or (λ t. writes_in t.replies) (option_and_then (transaction_with (transactions_of printed)) o) []) (line-is entry cut c)
-      ∙ ap (λ (o : Option Transaction). option_map_or (λ t. writes_in t.replies) o []) its
+      ∙ ap (λ (o : Option Span). option_map_or (λ t. writes_in t.replies) o []) its
       ∙ writes-ended within.replies entry (thread entry.reply.who cut.rest) (ap is_end c.said_is) (rw c.said_is refl)
       ∙ within.writes_are
 
@@ -190,7 +190,7 @@ module _ (tables : List TableDecl) (printed timeline : List Entry) (t : Timeline
 
   -- Each reply is the only one of its number.
   pub each-only : Each (Only printed) timeline
-  each-only = unique printed timeline t.threads t.numbers
+  each-only = unique printed timeline t.threads t.order
 
   -- The history that the printed replies show.
   pub history-shown : run.history ≡ last.history

@@ -1,10 +1,8 @@
 -- The lines of a text of replies, and the reply that is found at their front.
-use Rattle.std.proofs.Common.{◌≡◌, ℕ, ◌-◌, ◌⊎◌, Bool, true, false, cond, ◌&&◌, ◌||◌, not, List, [], ◌∷◌, ◌++◌, length, take, drop, map, Option, None, Some, refl, sym, ap, ◌∙◌, subst, arith, append-nil, append_assoc, inl, inr}
+use Rattle.std.proofs.Common.{◌≡◌, ℕ, ◌⊎◌, Bool, true, false, cond, ◌&&◌, ◌||◌, not, List, [], ◌∷◌, ◌++◌, length, drop, map, Some, refl, sym, ap, ◌∙◌, subst, append-nil, append_assoc, inl, inr}
 use Rattle.std.specs.Prelude.{bytes_eq, decimal, find}
-use Rattle.std.specs.Option.{option_or}
-use Rattle.std.specs.List.{starts_with, filter}
+use Rattle.std.specs.List.{starts_with, filter, list_all}
 use Rattle.std.proofs.lemmas.Bool.{cond-true, cond-false}
-use Rattle.std.proofs.lemmas.List.{take_at, length_push}
 use Rattle.std.proofs.lemmas.Slice.Eq.{bytes_eq-Decides}
 use Rattle.cell_model.specs.declared.table.TableDecl.{TableDecl}
 use Rattle.workload_spec.specs.declared.command.Command.{Command}
@@ -16,39 +14,22 @@ use Rattle.workload_spec.specs.ReplyText.{said_words, lines_behind, reply_lines,
 use Rattle.workload_spec.specs.Words.{spaced, lines_text}
 use Rattle.outcome_spec.specs.Entries.{Entry}
 use Rattle.outcome_spec.specs.Lines.{lines_of}
-use Rattle.outcome_spec.specs.Reading.{Bare, words_from, words_of}
-use Rattle.outcome_spec.specs.Forms.{Due, begins_with, replies_due, reply_at, reading, line_count, entry_behind, replies_within, replies_without, is_upkeep, is_worker, is_silent, is_within}
-use Rattle.timeline_spec.specs.Printed.{printed_from}
-use Rattle.timeline_spec.specs.Words.{IsWord, AreWords}
-use Rattle.timeline_laws.proofs.ReadLines.{is_unbroken, is_plain, plain_unbroken, unbroken_append, lines_behind_first, word_alone, word_first, equal_front}
+use Rattle.outcome_spec.specs.Reading.{words_in}
+use Rattle.outcome_spec.specs.Forms.{Due, begins_with, replies_due, reply_at, entry_behind, replies_within, replies_without, is_upkeep, is_worker, is_silent, is_within}
+use Rattle.workload_laws.proofs.Apart.{IsWord, AreWords, is_plain, is_whole, plain_word, words_whole}
+use Rattle.timeline_laws.proofs.ReadLines.{lines_behind_first, words_of_line, equal_front}
 use Rattle.timeline_laws.proofs.ReadNumbers.{plain_decimal}
 
 -- ---- words
 
-pub plain-word : (word : List ℕ) → is_plain word ≡ true → IsWord word
-plain-word word h = record { unbroken = plain_unbroken word h; first = λ rest. word_first word rest h; alone = word_alone word h }
-
-pub words-parted : (word : List ℕ) (words : List (List ℕ)) → AreWords (word ∷ words) → words_from Bare (spaced (word ∷ words)) ≡ word ∷ words
-words-parted word [] h = h.0.alone
-words-parted word (next ∷ words) h = h.0.first (spaced (next ∷ words)) ∙ ap (λ (ws : List (List ℕ)). word ∷ ws) (words-parted next words h.1)
-
-pub spaced-unbroken : (words : List (List ℕ)) → AreWords words → is_unbroken (spaced words) ≡ true
-spaced-unbroken [] h = refl
-spaced-unbroken (word ∷ []) h = h.0.unbroken
-spaced-unbroken (word ∷ next ∷ words) h = unbroken_append word (32 ∷ spaced (next ∷ words)) h.0.unbroken (spaced-unbroken (next ∷ words) h.1)
-
-pub without-last : (xs : List ℕ) (y : ℕ) → take (length (xs ++ y ∷ []) - 1) (xs ++ y ∷ []) ≡ xs
-without-last xs y = take_at xs (y ∷ []) (length (xs ++ y ∷ []) - 1) (omega (arith, length_push xs y))
-
--- the words of a line
-pub words-of-line : (word : List ℕ) (words : List (List ℕ)) → AreWords (word ∷ words) → words_of (spaced (word ∷ words) ++ 10 ∷ []) ≡ word ∷ words
-words-of-line word words h = ap (words_from Bare) (without-last (spaced (word ∷ words)) 10) ∙ words-parted word words h
+pub a-word : (word : List ℕ) → list_all is_plain word ≡ true → IsWord word
+a-word word h = plain_word word h
 
 -- ---- lines
 
 abbrev pub AreUnbroken : List (List ℕ) → Type 0
 AreUnbroken [] = Unit {0}
-AreUnbroken (line ∷ lines) = (is_unbroken line ≡ true) × AreUnbroken lines
+AreUnbroken (line ∷ lines) = (is_whole line ≡ true) × AreUnbroken lines
 
 -- the lines with their ends
 abbrev pub ended : List (List ℕ) → List (List ℕ)
@@ -83,33 +64,33 @@ unfoldable pub tail_of : List TableDecl → Said → List ℕ
 tail_of tables told = spaced (said_words tables told) ++ 10 ∷ []
 
 pub who-word : (who : Who) → IsWord (who_text who)
-who-word (Session n) = plain-word (decimal n) (plain_decimal n)
-who-word (Worker n) = plain-word (119 ∷ decimal n) (plain_decimal n)
+who-word (Session n) = a-word (decimal n) (plain_decimal n)
+who-word (Worker n) = a-word (119 ∷ decimal n) (plain_decimal n)
 
 -- the first line of a reply, without its end
-abbrev first_line : List TableDecl → ReplyLine → List ℕ
+abbrev pub first_line : List TableDecl → ReplyLine → List ℕ
 first_line tables reply = spaced (decimal reply.round ∷ who_text reply.who ∷ decimal reply.index ∷ said_words tables reply.said)
 
-all-words : (round index : ℕ) (who : Who) (words : List (List ℕ)) → AreWords words → AreWords (decimal round ∷ who_text who ∷ decimal index ∷ words)
-all-words round index who words h = (plain-word (decimal round) (plain_decimal round), (who-word who, (plain-word (decimal index) (plain_decimal index), h)))
+pub all-words : (round index : ℕ) (who : Who) (words : List (List ℕ)) → AreWords words → AreWords (decimal round ∷ who_text who ∷ decimal index ∷ words)
+all-words round index who words h = (a-word (decimal round) (plain_decimal round), (who-word who, (a-word (decimal index) (plain_decimal index), h)))
 
-said-words : (tables : List TableDecl) (told : Said) → IsSaid tables told → AreWords (said_words tables told)
+pub said-words : (tables : List TableDecl) (told : Said) → IsSaid tables told → AreWords (said_words tables told)
 said-words tables told h = subst AreWords (sym h.words) h.read
 
 pub reply-unbroken : (tables : List TableDecl) (reply : ReplyLine) → IsSaid tables reply.said → AreUnbroken (reply_lines tables reply)
 reply-unbroken tables reply h =
-    (spaced-unbroken (decimal reply.round ∷ who_text reply.who ∷ decimal reply.index ∷ said_words tables reply.said) (all-words reply.round reply.index reply.who (said_words tables reply.said) (said-words tables reply.said h)), h.behind)
+    (words_whole (decimal reply.round ∷ who_text reply.who ∷ decimal reply.index ∷ said_words tables reply.said) (all-words reply.round reply.index reply.who (said_words tables reply.said) (said-words tables reply.said h)), h.behind)
 
 -- the words of its line behind its index are those of what is said
-pub words-in-line : (tables : List TableDecl) (reply : ReplyLine) → IsSaid tables reply.said → drop 3 (words_of (first_line tables reply ++ 10 ∷ [])) ≡ said_words tables reply.said
+pub words-in-line : (tables : List TableDecl) (reply : ReplyLine) → IsSaid tables reply.said → drop 3 (words_in (first_line tables reply ++ 10 ∷ [])) ≡ said_words tables reply.said
 words-in-line tables reply h =
     ap (λ (words : List (List ℕ)). drop 3 words)
-    (words-of-line (decimal reply.round) (who_text reply.who ∷ decimal reply.index ∷ said_words tables reply.said) (all-words reply.round reply.index reply.who (said_words tables reply.said) (said-words tables reply.said h)))
+    (words_of_line (decimal reply.round) (who_text reply.who ∷ decimal reply.index ∷ said_words tables reply.said) (all-words reply.round reply.index reply.who (said_words tables reply.said) (said-words tables reply.said h)))
 
 -- ---- which reply is found
 
 -- what stands before what is said
-abbrev front_of : ℕ → Who → ℕ → List ℕ
+abbrev pub front_of : ℕ → Who → ℕ → List ℕ
 front_of round who index = decimal round ++ 32 ∷ (who_text who ++ 32 ∷ (decimal index ++ 32 ∷ []))
 
 parted : (a b c words : List ℕ) → (a ++ 32 ∷ (b ++ 32 ∷ (c ++ 32 ∷ words))) ++ 10 ∷ [] ≡ (a ++ 32 ∷ (b ++ 32 ∷ (c ++ 32 ∷ []))) ++ (words ++ 10 ∷ [])
@@ -118,24 +99,20 @@ parted a b c words = simp append_assoc
 spaced-more : (a b c : List ℕ) (first : List ℕ) (others : List (List ℕ)) → spaced (a ∷ b ∷ c ∷ first ∷ others) ≡ a ++ 32 ∷ (b ++ 32 ∷ (c ++ 32 ∷ spaced (first ∷ others)))
 spaced-more a b c first others = refl
 
-line-is : (tables : List TableDecl) (reply : ReplyLine) → IsSaid tables reply.said → first_line tables reply ++ 10 ∷ [] ≡ front_of reply.round reply.who reply.index ++ tail_of tables reply.said
+pub line-is : (tables : List TableDecl) (reply : ReplyLine) → IsSaid tables reply.said → first_line tables reply ++ 10 ∷ [] ≡ front_of reply.round reply.who reply.index ++ tail_of tables reply.said
 unfolding tail_of
 line-is tables reply h =
     ap (λ (words : List (List ℕ)). spaced (decimal reply.round ∷ who_text reply.who ∷ decimal reply.index ∷ words) ++ 10 ∷ []) h.words
     ∙ parted (decimal reply.round) (who_text reply.who) (decimal reply.index) (spaced (h.first ∷ h.others))
     ∙ ap (λ (words : List (List ℕ)). front_of reply.round reply.who reply.index ++ (spaced words ++ 10 ∷ [])) (sym h.words)
 
-either : (b : Bool) → (b && true || false) ≡ b
-either true = refl
-either false = refl
-
-or-begun : (b : Bool) → b ≡ true → (b || false) ≡ true
-or-begun true h = refl
-or-begun false h = absurd (let never : ⊥ = cc in never)
+only : (b : Bool) → (b && true) ≡ b
+only true = refl
+only false = refl
 
 -- a reply of one line, with the place of another, is found at the front of that one's lines where they say the same
 other-begins : (tables : List TableDecl) (number : ℕ) (asked : Command) (round index : ℕ) (who : Who) (other told : Said) (behind : List (List ℕ)) → IsSaid tables other → lines_behind other ≡ [] → IsSaid tables told
-    → begins_with false tables ((first_line tables (record { round = round; who = who; index = index; said = told }) ++ 10 ∷ []) ∷ behind)
+    → begins_with tables ((first_line tables (record { round = round; who = who; index = index; said = told }) ++ 10 ∷ []) ∷ behind)
     (record { number = number; command = asked; reply = record { round = round; who = who; index = index; said = other } })
     ≡ bytes_eq (tail_of tables other) (tail_of tables told)
 other-begins tables number asked round index who other told behind is_other one is_told =
@@ -143,8 +120,8 @@ other-begins tables number asked round index who other told behind is_other one 
     let line : List ℕ = first_line tables (record { round = round; who = who; index = index; said = told }) ++ 10 ∷ [] in
     let lines : lines_of (reply_text tables its) ≡ (first_line tables its ++ 10 ∷ []) ∷ [] =
     lines-alone (reply_lines tables its) (reply-unbroken tables its is_other) ∙ ap (λ (more : List (List ℕ)). (first_line tables its ++ 10 ∷ []) ∷ ended more) one in
-    ap (λ (ls : List (List ℕ)). starts_with bytes_eq (line ∷ behind) ls || false && starts_with bytes_eq ls (line ∷ behind)) lines
-    ∙ either (bytes_eq (first_line tables its ++ 10 ∷ []) line)
+    ap (λ (ls : List (List ℕ)). starts_with bytes_eq (line ∷ behind) ls) lines
+    ∙ only (bytes_eq (first_line tables its ++ 10 ∷ []) line)
     ∙ ap (λ (l : List ℕ). bytes_eq l line) (line-is tables its is_other)
     ∙ ap (bytes_eq (front_of round who index ++ tail_of tables other)) (line-is tables (record { round = round; who = who; index = index; said = told }) is_told)
     ∙ equal_front (front_of round who index) (tail_of tables other) (tail_of tables told)
@@ -155,10 +132,10 @@ Picks tables told [] = ⊥
 Picks tables told (other ∷ others) = (other ≡ told) ⊎ (IsSaid tables other × (lines_behind other ≡ []) × (bytes_eq (tail_of tables other) (tail_of tables told) ≡ false) × Picks tables told others)
 
 own-begins : (tables : List TableDecl) (entry : Entry) (rest : List (List ℕ)) → IsSaid tables entry.reply.said
-    → begins_with false tables (ended (reply_lines tables entry.reply) ++ rest) entry ≡ true
+    → begins_with tables (ended (reply_lines tables entry.reply) ++ rest) entry ≡ true
 own-begins tables entry rest h =
-    ap (λ (ls : List (List ℕ)). starts_with bytes_eq (ended (reply_lines tables entry.reply) ++ rest) ls || false && starts_with bytes_eq ls (ended (reply_lines tables entry.reply) ++ rest)) (lines-alone (reply_lines tables entry.reply) (reply-unbroken tables entry.reply h))
-    ∙ or-begun (starts_with bytes_eq (ended (reply_lines tables entry.reply) ++ rest) (ended (reply_lines tables entry.reply))) (starts-itself (ended (reply_lines tables entry.reply)) rest)
+    ap (starts_with bytes_eq (ended (reply_lines tables entry.reply) ++ rest)) (lines-alone (reply_lines tables entry.reply) (reply-unbroken tables entry.reply h))
+    ∙ starts-itself (ended (reply_lines tables entry.reply)) rest
 
 module _ (tables : List TableDecl) (earlier : List Entry) (due : Due) (told : Said) (rest : List (List ℕ)) (h : IsSaid tables told) where
   abbrev the_entry : Entry
@@ -167,12 +144,12 @@ module _ (tables : List TableDecl) (earlier : List Entry) (due : Due) (told : Sa
   abbrev the_lines : List (List ℕ)
   the_lines = ended (reply_lines tables (the_entry).reply) ++ rest
 
-  picked : (others : List Said) → Picks tables told others → find (begins_with false tables the_lines) (map (entry_behind tables earlier due) others) ≡ Some the_entry
+  picked : (others : List Said) → Picks tables told others → find (begins_with tables the_lines) (map (entry_behind tables earlier due) others) ≡ Some the_entry
   picked [] picks = absurd picks
   picked (other ∷ others) picks = elim picks [
-    | inl same ↦ ap (λ (s : Said). cond (begins_with false tables the_lines (entry_behind tables earlier due s)) (Some (entry_behind tables earlier due s)) (find (begins_with false tables the_lines) (map (entry_behind tables earlier due) others))) same
-        ∙ cond-true (begins_with false tables the_lines the_entry) (Some the_entry) (find (begins_with false tables the_lines) (map (entry_behind tables earlier due) others)) (own-begins tables the_entry rest h)
-    | inr next ↦ cond-false (begins_with false tables the_lines (entry_behind tables earlier due other)) (Some (entry_behind tables earlier due other)) (find (begins_with false tables the_lines) (map (entry_behind tables earlier due) others))
+    | inl same ↦ ap (λ (s : Said). cond (begins_with tables the_lines (entry_behind tables earlier due s)) (Some (entry_behind tables earlier due s)) (find (begins_with tables the_lines) (map (entry_behind tables earlier due) others))) same
+        ∙ cond-true (begins_with tables the_lines the_entry) (Some the_entry) (find (begins_with tables the_lines) (map (entry_behind tables earlier due) others)) (own-begins tables the_entry rest h)
+    | inr next ↦ cond-false (begins_with tables the_lines (entry_behind tables earlier due other)) (Some (entry_behind tables earlier due other)) (find (begins_with tables the_lines) (map (entry_behind tables earlier due) others))
         (other-begins tables (the_entry).number due.command due.round (the_entry).reply.index due.who other told (ended (lines_behind told) ++ rest) next.0 next.1 h ∙ next.2)
         ∙ picked others next.3
   ]
@@ -188,55 +165,45 @@ pub record IsRead (tables : List TableDecl) (within : Bool) (asked : Command) (t
   pub is_said : IsSaid tables told
   pub picks : (rest : List (List ℕ)) → Picks tables told (replies_at within tables (said_words tables told) (ended (lines_behind told) ++ rest) asked)
 
-abbrev pub AreRead : List TableDecl → List Entry → List Due → List Said → Type 0
-AreRead tables earlier [] [] = Unit {0}
-AreRead tables earlier [] (told ∷ saids) = ⊥
-AreRead tables earlier (due ∷ dues) [] = ⊥
-AreRead tables earlier (due ∷ dues) (told ∷ saids) =
-    (is_worker due.who ≡ false) × IsRead tables (is_within due.who earlier) due.command told × AreRead tables (earlier ++ entry_behind tables earlier due told ∷ []) dues saids
+-- of these replies those that a line may say: a worker says nothing of a step that does nothing
+abbrev pub is_said : Due → Said → Bool
+is_said due told = not (is_worker due.who && is_silent told)
 
-all-pass : (saids : List Said) → filter (λ told. true) saids ≡ saids
-all-pass [] = refl
-all-pass (told ∷ saids) = ap (λ (others : List Said). told ∷ others) (all-pass saids)
+picks-step : (tables : List TableDecl) (keep : Said → Bool) (told other : Said) (kept : List Said) (b : Bool) → IsSaid tables other → lines_behind other ≡ [] → bytes_eq (tail_of tables other) (tail_of tables told) ≡ false
+    → Picks tables told kept → Picks tables told (cond b (other ∷ kept) kept)
+picks-step tables keep told other kept true said one apart h = inr (said, one, apart, h)
+picks-step tables keep told other kept false said one apart h = h
 
-session-due : (tables : List TableDecl) (earlier : List Entry) (due : Due) (words behind : List (List ℕ)) → is_worker due.who ≡ false
-    → replies_due tables earlier due words behind ≡ replies_at (is_within due.who earlier) tables words behind due.command
-session-due tables earlier due words behind session =
-    ap (λ (b : Bool). filter (λ told. not (b && is_silent told)) (replies_at (is_within due.who earlier) tables words behind due.command)) session
-    ∙ all-pass (replies_at (is_within due.who earlier) tables words behind due.command)
+-- what is told is picked among those that a line may say
+picks-kept : (tables : List TableDecl) (keep : Said → Bool) (told : Said) → keep told ≡ true → (others : List Said) → Picks tables told others → Picks tables told (filter keep others)
+picks-kept tables keep told kept [] h = absurd h
+picks-kept tables keep told kept (other ∷ others) h = elim h [
+  | inl same ↦ subst (λ (s : Said). Picks tables told (cond (keep s) (s ∷ filter keep others) (filter keep others))) (sym same)
+      (subst (λ (b : Bool). Picks tables told (cond b (told ∷ filter keep others) (filter keep others))) (sym kept) (inl refl))
+  | inr next ↦ picks-step tables keep told other (filter keep others) (keep other) next.0 next.1 next.2 (picks-kept tables keep told kept others next.3)
+]
 
-reply-read : (tables : List TableDecl) (earlier : List Entry) (due : Due) (told : Said) (rest : List (List ℕ)) → is_worker due.who ≡ false → (read : IsRead tables (is_within due.who earlier) due.command told)
-    → reply_at false tables earlier due (first_line tables (entry_behind tables earlier due told).reply ++ 10 ∷ []) (ended (lines_behind told) ++ rest) ≡ Some (entry_behind tables earlier due told)
-reply-read tables earlier due told rest session read =
+pub reply-read : (tables : List TableDecl) (earlier : List Entry) (due : Due) (told : Said) (rest : List (List ℕ)) → is_said due told ≡ true → (read : IsRead tables (is_within due.who earlier) due.command told)
+    → reply_at tables earlier due (first_line tables (entry_behind tables earlier due told).reply ++ 10 ∷ []) (ended (lines_behind told) ++ rest) ≡ Some (entry_behind tables earlier due told)
+reply-read tables earlier due told rest kept read =
     let behind = ended (lines_behind told) ++ rest in
-    ap (λ (words : List (List ℕ)). find (begins_with false tables ((first_line tables (entry_behind tables earlier due told).reply ++ 10 ∷ []) ∷ behind)) (map (entry_behind tables earlier due) (replies_due tables earlier due words behind)))
+    ap (λ (words : List (List ℕ)). find (begins_with tables ((first_line tables (entry_behind tables earlier due told).reply ++ 10 ∷ []) ∷ behind)) (map (entry_behind tables earlier due) (replies_due tables earlier due words behind)))
     (words-in-line tables (entry_behind tables earlier due told).reply read.is_said)
-    ∙ ap (λ (saids : List Said). find (begins_with false tables ((first_line tables (entry_behind tables earlier due told).reply ++ 10 ∷ []) ∷ behind)) (map (entry_behind tables earlier due) saids)) (session-due tables earlier due (said_words tables told) behind session)
-    ∙ picked tables earlier due told rest read.is_said (replies_at (is_within due.who earlier) tables (said_words tables told) behind due.command) (read.picks rest)
+    ∙ picked tables earlier due told rest read.is_said (replies_due tables earlier due (said_words tables told) behind)
+    (picks-kept tables (is_said due) told kept (replies_at (is_within due.who earlier) tables (said_words tables told) behind due.command) (read.picks rest))
 
-dropped : (lines rest : List (List ℕ)) → drop (length lines) (ended lines ++ rest) ≡ rest
+pub dropped : (lines rest : List (List ℕ)) → drop (length lines) (ended lines ++ rest) ≡ rest
 dropped [] rest = refl
 dropped (line ∷ lines) rest = dropped lines rest
 
-goes-on : (o : Option Entry) (entry : Entry) (next : Entry → Option (List Entry)) (silent : Option (List Entry)) (entries : List Entry) → o ≡ Some entry → next entry ≡ Some entries
-    → option_or (elim o as (λ x. Option (List Entry)) [ Some e ↦ next e | None ↦ None ]) silent ≡ Some entries
-goes-on o entry next silent entries e h = rw (e, h) refl
+-- ---- the lines of printed replies
 
--- The text of replies, each read back where it is due, is read as these replies.
-pub replies-read : (tables : List TableDecl) (earlier : List Entry) (dues : List Due) (saids : List Said) → AreRead tables earlier dues saids
-    → reading false tables dues earlier (lines_of (replies_text tables (map (λ entry. entry.reply) (printed_from tables earlier dues (map Some saids)))))
-    ≡ Some (earlier ++ printed_from tables earlier dues (map Some saids))
-replies-read tables earlier [] [] h = ap Some (sym (append-nil earlier))
-replies-read tables earlier [] (told ∷ saids) h = absurd h
-replies-read tables earlier (due ∷ dues) [] h = absurd h
-replies-read tables earlier (due ∷ dues) (told ∷ saids) h =
-    let entry = entry_behind tables earlier due told in
-    let others = printed_from tables (earlier ++ entry ∷ []) dues (map Some saids) in
-    let rest = replies_text tables (map (λ e. e.reply) others) in
-    ap (reading false tables (due ∷ dues) earlier) (lines-of (reply_lines tables entry.reply) rest (reply-unbroken tables entry.reply h.1.is_said))
-    ∙ goes-on (reply_at false tables earlier due (first_line tables entry.reply ++ 10 ∷ []) (ended (lines_behind told) ++ lines_of rest)) entry
-    (λ e. reading false tables dues (earlier ++ e ∷ []) (drop (line_count tables e) (ended (reply_lines tables entry.reply) ++ lines_of rest)))
-    _ (earlier ++ entry ∷ others) (reply-read tables earlier due told (lines_of rest) h.0 h.1)
-    (ap (reading false tables dues (earlier ++ entry ∷ [])) (dropped (reply_lines tables entry.reply) (lines_of rest))
-    ∙ replies-read tables (earlier ++ entry ∷ []) dues saids h.2
-    ∙ ap Some (append_assoc earlier (entry ∷ []) others))
+-- the lines of replies
+abbrev pub lines_from : List TableDecl → List Entry → List (List ℕ)
+lines_from tables entries = lines_of (replies_text tables (map (λ entry. entry.reply) entries))
+
+-- the lines of the first reply, and those behind it
+pub lines-first : (tables : List TableDecl) (entry : Entry) (entries : List Entry) → IsSaid tables entry.reply.said
+    → lines_from tables (entry ∷ entries) ≡ (first_line tables entry.reply ++ 10 ∷ []) ∷ (ended (lines_behind entry.reply.said) ++ lines_from tables entries)
+lines-first tables entry entries h =
+    lines-of (reply_lines tables entry.reply) (replies_text tables (map (λ e. e.reply) entries)) (reply-unbroken tables entry.reply h)

@@ -17,8 +17,7 @@ use Rattle.cell_model.specs.declared.cell.Cell.{Cell}
 use Rattle.cell_model.specs.declared.table.TableDecl.{TableDecl}
 use Rattle.isolation_spec.specs.Contents.{place_cmp, WriteSet}
 use Rattle.isolation_spec.specs.declared.place.Place.{Place}
-use Rattle.isolation_spec.specs.Machine.{IsolationMachine, transaction_of}
-use Rattle.isolation_spec.specs.Machine.{Transaction as OpenTransaction}
+use Rattle.isolation_spec.specs.Machine.{IsolationMachine, transaction_of, Transaction}
 use Rattle.isolation_laws.proofs.Entries.{lookup-insert_entry}
 use Rattle.isolation_laws.proofs.Rows.{place_cmp-total}
 use Rattle.workload_spec.specs.declared.reply.Who.{Who}
@@ -26,11 +25,12 @@ use Rattle.workload_spec.specs.declared.reply.Who.TheVariants.{Session}
 use Rattle.workload_spec.specs.declared.reply.Said.{Said}
 use Rattle.workload_spec.specs.declared.reply.Said.TheVariants as said
 use Rattle.outcome_spec.specs.Entries.{Entry, is_before, before, after, shown_in, snapshot_in, commit_in, is_end}
-use Rattle.outcome_spec.specs.Runs.{Transaction, Run, up_to_end, accepted_write, writes_in, commit_count, commits_as}
+use Rattle.outcome_spec.specs.Runs.{Span, Run, up_to_end, accepted_write, writes_in, commit_count, commits_as}
 use Rattle.outcome_spec.specs.Runs.{transaction_of as belongs_to}
 use Rattle.outcome_spec.specs.Numbers.{has_written, commit_holds, commit_numbers_hold, number_shown, snapshot_holds, snapshot_numbers_hold}
 use Rattle.timeline_laws.proofs.Threads.{same-of}
-use Rattle.timeline_spec.specs.Timeline.{thread, Each, Timeline}
+use Rattle.timeline_spec.specs.Timeline.{Each, Timeline}
+use Rattle.outcome_spec.specs.Entries.{thread}
 use Rattle.timeline_laws.proofs.Tests.{all-three, or-false, at_most}
 use Rattle.timeline_laws.proofs.Ranges.{all-below, all-above}
 use Rattle.timeline_laws.proofs.Order.{before-each, after-each, shown-each, shown-filter, shows_only}
@@ -110,7 +110,7 @@ module _ (tables : List TableDecl) (printed timeline : List Entry) (t : Timeline
   its = entry.reply.who
 
   -- the end of a transaction has its replies in front, and itself
-  ended-is : (session : ℕ) (o : OpenTransaction) → its ≡ Session session → transaction_of session cut.machine ≡ Some o → is_end entry.reply.said ≡ true
+  ended-is : (session : ℕ) (o : Transaction) → its ≡ Session session → transaction_of session cut.machine ≡ Some o → is_end entry.reply.said ≡ true
       → (within : Within its (thread its cut.front) o) × (belongs_to the_run entry ≡ Some (span its o.snapshot (within.replies ++ entry ∷ [])))
   ended-is session o is at is_ended =
       let within = within-own tables printed timeline t its session cut.machine (thread its cut.front) o is at (cut.shown.stands its) in (
@@ -120,13 +120,13 @@ module _ (tables : List TableDecl) (printed timeline : List Entry) (t : Timeline
       )
 
   -- whether it wrote anything
-  written-is : (session : ℕ) (o : OpenTransaction) → its ≡ Session session → transaction_of session cut.machine ≡ Some o → is_end entry.reply.said ≡ true → accepted_write entry ≡ None
+  written-is : (session : ℕ) (o : Transaction) → its ≡ Session session → transaction_of session cut.machine ≡ Some o → is_end entry.reply.said ≡ true → accepted_write entry ≡ None
       → (replies : List Entry) × (writes_in replies ≡ o.own) × (has_written the_run entry ≡ list_any (λ other. is_some (accepted_write other)) replies)
   written-is session o is at is_ended none =
       let ended = ended-is session o is at is_ended in (
         ended.0.replies,
         ended.0.writes_are,
-        ap (λ (found : Option Transaction). option_map_or (λ u. list_any (λ other. is_some (accepted_write other)) u.replies) found false) ended.1
+        ap (λ (found : Option Span). option_map_or (λ u. list_any (λ other. is_some (accepted_write other)) u.replies) found false) ended.1
             ∙ list_any-append (λ other. is_some (accepted_write other)) ended.0.replies (entry ∷ [])
             ∙ (rw none (or-false (list_any (λ other. is_some (accepted_write other)) ended.0.replies))),
       )

@@ -10,7 +10,8 @@ use Rattle.workload_spec.specs.declared.reply.Who.TheVariants.{Session, Worker}
 use Rattle.workload_spec.specs.declared.reply.Said.{Said}
 use Rattle.outcome_spec.specs.Entries.{Entry, is_same, is_before, shown_in}
 use Rattle.outcome_spec.proofs.Conditions.{both, both-left, both-right}
-use Rattle.timeline_spec.specs.Timeline.{thread, Each, Follows, InOrder}
+use Rattle.timeline_spec.specs.Timeline.{Each, Follows, InOrder}
+use Rattle.outcome_spec.specs.Entries.{thread}
 use Rattle.timeline_laws.proofs.Tests.{and-false}
 
 pub Each-append : (P : Entry → Type 0) (a b : List Entry) → Each P a → Each P b → Each P (a ++ b)

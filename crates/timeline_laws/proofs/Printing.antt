@@ -1,5 +1,5 @@
 -- Printed replies are numbered, and may have come about in the order of their lines.
-use Rattle.timeline_laws.specs.Laws.{InTurnIsSound, PrintedAreInOrder, PrintedInTurn}
+use Rattle.timeline_laws.specs.Laws.{PrintedAreInOrder, PrintedInTurn}
 use Rattle.std.proofs.Common.{◌≡◌, ℕ, ◌+◌, ◌<◌, ◌≤◌, Bool, true, false, cond, ◌&&◌, ◌||◌, eqb, nat_lt, List, [], ◌∷◌, ◌++◌, Option, None, Some, refl, sym, ap, ◌∙◌, subst, arith}
 use Rattle.std.specs.List.{flat_map, count_by, sum_by, range_with_len, enumerate_from}
 use Rattle.std.proofs.lemmas.Bool.Decides.{nat_tests}
@@ -13,12 +13,11 @@ use Rattle.workload_spec.specs.declared.reply.Who.{Who}
 use Rattle.workload_spec.specs.declared.reply.Who.TheVariants.{Session, Worker}
 use Rattle.workload_spec.specs.declared.reply.Said.{Said}
 use Rattle.outcome_spec.specs.Entries.{Entry, is_same, is_before}
-use Rattle.outcome_spec.specs.Forms.{Due, commands_of, dues_to, dues_in, dues_of, turn_of, line_count, entry_behind}
-use Rattle.timeline_spec.specs.Timeline.{Each, Follows, InOrder, Numbered}
-use Rattle.timeline_spec.specs.Printed.{printed_from, printed_of}
+use Rattle.outcome_spec.specs.Forms.{Due, commands_of, dues_to, dues_in, dues_of, turn_of, entry_behind}
+use Rattle.timeline_spec.specs.Timeline.{Each, Follows, InOrder}
+use Rattle.timeline_spec.specs.Printed.{printed_from}
 use Rattle.timeline_laws.proofs.Tests.{and-false}
 use Rattle.timeline_laws.proofs.Order.{same-is, same-itself}
-use Rattle.timeline_laws.proofs.Sound.{timeline-sound}
 
 -- ---- the rounds of what is due
 
@@ -83,29 +82,22 @@ or-last false = refl
 abbrev with_it : Entry → Entry → Bool
 with_it entry other = eqb other.reply.round entry.reply.round && is_same other.reply.who entry.reply.who
 
--- a reply is among those so far: its index and its number count them
+-- a reply is among those so far: its index counts them
 record Counted (tables : List TableDecl) (whole : List Entry) (round : ℕ) (entry : Entry) : Type 0 where
   index : entry.reply.index ≤ count_by (with_it entry) whole
-  number : entry.number ≤ sum_by (line_count tables) whole
   low : entry.reply.round ≤ round
 
 counted-more : (tables : List TableDecl) (whole : List Entry) (round next : ℕ) (last entry : Entry) → round ≤ next → Counted tables whole round entry → Counted tables (whole ++ last ∷ []) next entry
 counted-more tables whole round next last entry up h =
     let a : entry.reply.index ≤ count_by (with_it entry) whole = h.index in
-    let b : entry.number ≤ sum_by (line_count tables) whole = h.number in
     let c : entry.reply.round ≤ round = h.low in
     record {
       index = omega (arith, a, sum_by-append (λ other. cond (with_it entry other) 1 0) whole (last ∷ []));
-      number = omega (arith, b, sum_by-append (line_count tables) whole (last ∷ []));
       low = omega (arith, c, up);
     }
 
 counted-on : (tables : List TableDecl) (whole : List Entry) (round next : ℕ) (entry : Entry) → round ≤ next → Counted tables whole round entry → Counted tables whole next entry
-counted-on tables whole round next entry up h = let c : entry.reply.round ≤ round = h.low in record { index = h.index; number = h.number; low = omega (arith, c, up) }
-
-module _ (tables : List TableDecl) where
-  some-lines : (entry : Entry) → 1 ≤ line_count tables entry
-  some-lines entry = omega arith
+counted-on tables whole round next entry up h = let c : entry.reply.round ≤ round = h.low in record { index = h.index; low = omega (arith, c, up) }
 
 module _ (tables : List TableDecl) (earlier : List Entry) (due : Due) (told : Said) where
   abbrev new : Entry
@@ -115,11 +107,8 @@ module _ (tables : List TableDecl) (earlier : List Entry) (due : Due) (told : Sa
   new-counted =
       let here : with_it new new ≡ true = let e : eqb due.round due.round ≡ true = grind (arith, nat_tests) in rw (e, same-itself due.who) refl in
       let one : sum_by (λ other. cond (with_it new other) 1 0) (new ∷ []) ≡ 1 = sum_by-cons (λ other. cond (with_it new other) 1 0) new [] ∙ (rw here refl) in
-      let lines : sum_by (line_count tables) (new ∷ []) ≡ line_count tables new + sum_by (line_count tables) [] = sum_by-cons (line_count tables) new [] in
-      let some : 1 ≤ line_count tables new = some-lines tables new in
       record {
         index = omega (arith, sum_by-append (λ other. cond (with_it new other) 1 0) earlier (new ∷ []), one);
-        number = omega (arith, sum_by-append (line_count tables) earlier (new ∷ []), lines, some);
         low = omega arith;
       }
 
@@ -180,46 +169,34 @@ module _ (tables : List TableDecl) (earlier : List Entry) (due : Due) (told : Sa
     in_turn = λ same. in-turn-by e h same (eqb e.reply.round due.round) refl;
   }
 
-  new-above : (e : Entry) → Counted tables earlier due.round e → e.number < new.number
-  new-above e h = let b : e.number ≤ sum_by (line_count tables) earlier = h.number in omega (arith, b)
-
 -- ---- all replies
 
 all-follow : (tables : List TableDecl) (earlier : List Entry) (dues : List Due) (told : List (Option Said)) (low : ℕ) (e : Entry) → Rises low dues → Counted tables earlier low e
-    → Each (Follows e) (printed_from tables earlier dues told) × Each (λ later. e.number < later.number) (printed_from tables earlier dues told)
-all-follow tables earlier [] told low e rise h = (tt, tt)
-all-follow tables earlier (due ∷ dues) [] low e rise h = (tt, tt)
+    → Each (Follows e) (printed_from tables earlier dues told)
+all-follow tables earlier [] told low e rise h = tt
+all-follow tables earlier (due ∷ dues) [] low e rise h = tt
 all-follow tables earlier (due ∷ dues) (None ∷ told) low e rise h = all-follow tables earlier dues told due.round e rise.1 (counted-on tables earlier low due.round e rise.0 h)
 all-follow tables earlier (due ∷ dues) (Some said ∷ told) low e rise h =
     let here = counted-on tables earlier low due.round e rise.0 h in
     let rest = all-follow tables (earlier ++ entry_behind tables earlier due said ∷ []) dues told due.round e rise.1 (counted-more tables earlier due.round due.round (entry_behind tables earlier due said) e (omega arith) here) in
-    ((new-follows tables earlier due said e here, rest.0), (new-above tables earlier due said e here, rest.1))
+    (new-follows tables earlier due said e here, rest)
 
 all-in-order : (tables : List TableDecl) (earlier : List Entry) (dues : List Due) (told : List (Option Said)) (low : ℕ) → Rises low dues
-    → Numbered (printed_from tables earlier dues told) × InOrder (printed_from tables earlier dues told)
-all-in-order tables earlier [] told low rise = (tt, tt)
-all-in-order tables earlier (due ∷ dues) [] low rise = (tt, tt)
+    → InOrder (printed_from tables earlier dues told)
+all-in-order tables earlier [] told low rise = tt
+all-in-order tables earlier (due ∷ dues) [] low rise = tt
 all-in-order tables earlier (due ∷ dues) (None ∷ told) low rise = all-in-order tables earlier dues told due.round rise.1
 all-in-order tables earlier (due ∷ dues) (Some said ∷ told) low rise =
     let e = entry_behind tables earlier due said in
     let behind = all-follow tables (earlier ++ e ∷ []) dues told due.round e rise.1 (new-counted tables earlier due said) in
     let rest = all-in-order tables (earlier ++ e ∷ []) dues told due.round rise.1 in
-    ((behind.1, rest.0), (behind.0, rest.1))
+    (behind, rest)
 
--- Printed replies are numbered and in order.
+-- Printed replies are in order.
 pub printed-in-order : PrintedAreInOrder
 printed-in-order script told = all-in-order script.tables [] (dues_of script) told 0 (rounds-rise script 0 1 script.rounds (omega arith))
 
--- Replies that came about as they are printed are a timeline, and sound.
+-- Replies that came about as they are printed are a timeline.
 pub printed-in-turn : PrintedInTurn
 printed-in-turn script told runs =
-    let order = printed-in-order script told in
-    record {
-      threads = λ who. refl;
-      numbers = order.0;
-      order = order.1;
-      runs = runs;
-    }
-
-pub in-turn-sound : InTurnIsSound
-in-turn-sound script told runs = timeline-sound script.tables (printed_of script told) (printed_of script told) (printed-in-turn script told runs)
+    record { threads = λ who. refl; order = printed-in-order script told; runs = runs }

@@ -1,11 +1,11 @@
 -- Each reply that may stand is read back where its command's is due.
-use Rattle.timeline_laws.specs.Laws.{RowsRead}
-use Rattle.std.proofs.Common.{◌≡◌, ℕ, ◌-◌, ◌^◌, ◌<◌, Bool, true, false, cond, ◌&&◌, List, [], ◌∷◌, ◌++◌, length, take, map, None, Some, refl, sym, ap, ◌∙◌, subst, arith, append-nil, inl, inr, ℤ}
-use Rattle.std.specs.Prelude.{bytes_eq, decimal, codes, replicate, ◌==◌}
+use Rattle.std.proofs.Common.{◌≡◌, ℕ, ◌^◌, ◌<◌, Bool, true, false, cond, List, [], ◌∷◌, ◌++◌, length, take, drop, map, Option, None, Some, refl, sym, ap, ◌∙◌, subst, arith, inl, inr, ℤ, int_lt}
+use Rattle.std.specs.Prelude.{bytes_eq, decimal, codes, ◌==◌, option_and_then}
 use Rattle.std.specs.Fmt.{signed_decimal}
 use Rattle.std.specs.List.{list_all}
 use Rattle.std.specs.Ordering.{int_eq}
-use Rattle.std.proofs.lemmas.Bool.{ne_eqb, and_from}
+use Rattle.std.proofs.lemmas.Bool.{ne_eqb}
+use Rattle.std.specs.Option.{option_map_or}
 use Rattle.cell_model.specs.declared.cell.Cell.{Cell}
 use Rattle.cell_model.specs.declared.column.Column.{Column}
 use Rattle.cell_model.specs.declared.kind.Kind.TheVariants as kind
@@ -18,34 +18,44 @@ use Rattle.workload_spec.specs.declared.command.Command.TheVariants as command
 use Rattle.workload_spec.specs.declared.reply.Said.{Said}
 use Rattle.workload_spec.specs.declared.reply.Said.TheVariants as said
 use Rattle.workload_spec.specs.declared.reply.SealCause.TheVariants.{Phase, Head, Empty, Gaps, Versions, Hot, Last}
-use Rattle.workload_spec.specs.ReplyText.{said_words, row_line, lines_behind, replies_text}
+use Rattle.workload_spec.specs.ReplyText.{said_words, row_line, lines_behind}
 use Rattle.workload_spec.specs.ScriptText.{name_of_table}
 use Rattle.workload_spec.specs.Words.{cell_words}
-use Rattle.outcome_spec.specs.Reading.{words_of, row_of, u32_at, u64_at, integer_of}
+use Rattle.outcome_spec.specs.Reading.{row_of, row_at, rows_above, u32_at, u64_at, integer_at}
 use Rattle.outcome_spec.specs.Tables.{columns_at}
-use Rattle.outcome_spec.specs.Forms.{is_ascending, is_upkeep, row_replies, dirty_replies, change_replies, replies_within, replies_without, is_worker, is_within, Due, entry_behind, reading}
-use Rattle.outcome_spec.specs.Entries.{Entry}
-use Rattle.outcome_spec.specs.Lines.{lines_of}
-use Rattle.timeline_spec.specs.Printed.{printed_from}
-use Rattle.timeline_spec.specs.Words.{AreWords, IsRowOf, AreRowsOf}
-use Rattle.timeline_spec.specs.Forms.{AreReplies, IsReply, IsReplyWithin, IsReplyWithout, IsChangeReply, IsInsertReply, IsGetReply, IsScanReply, IsCommitReply, IsExportReply, IsObserveReply, IsPruneReply, IsCompactReply, IsSealReply, IsGatherReply}
-use Rattle.timeline_laws.proofs.ReadLines.{is_plain, ArePlain, is_unbroken}
-use Rattle.timeline_laws.proofs.ReadNumbers.{plain_decimal, plain_signed, number_in_range, integer_of_signed, BeginsWithDigit, decimal_first}
-use Rattle.timeline_laws.proofs.Lines.{plain-word, AreUnbroken, ended, words-of-line, spaced-unbroken, IsSaid, tail_of, Picks, replies_at, IsRead, AreRead, replies-read}
+use Rattle.outcome_spec.specs.Forms.{is_upkeep, dirty_replies, change_replies, replies_within, replies_without}
+use Rattle.workload_laws.proofs.Apart.{AreWords, is_plain, is_whole, words_whole}
+use Rattle.workload_laws.proofs.Numbers.{Begins, decimal_begins}
+use Rattle.std.proofs.lemmas.Slice.Eq.{bytes_eq-Decides}
+use Rattle.timeline_spec.specs.Forms.{IsReplyWithin, IsBeginReply, IsChangeReply, IsInsertReply, IsGetReply, IsScanReply, IsCommitReply, IsExportReply, IsObserveReply, IsPruneReply, IsCompactReply, IsSealReply, IsGatherReply}
+use Rattle.timeline_laws.proofs.ReadLines.{words_of_line}
+use Rattle.timeline_laws.proofs.Cells.{row_back}
+use Rattle.timeline_laws.proofs.Stated.{RowsRise, GotFits, ScannedFits, RowsFit, IsReply}
+use Rattle.timeline_laws.proofs.ReadNumbers.{plain_decimal, plain_signed, u64_read, u32_read, key_read}
+use Rattle.timeline_laws.proofs.Lines.{a-word, AreUnbroken, ended, IsSaid, tail_of, Picks, replies_at, IsRead}
+
+abbrev pub ArePlain : List (List ℕ) → Type 0
+ArePlain [] = Unit {0}
+ArePlain (word ∷ words) = (list_all is_plain word ≡ true) × ArePlain words
 
 plain-words : (words : List (List ℕ)) → ArePlain words → AreWords words
 plain-words [] h = tt
-plain-words (word ∷ words) h = (plain-word word h.0, plain-words words h.1)
+plain-words (word ∷ words) h = (a-word word h.0, plain-words words h.1)
 
 -- what is said in plain words
 plainly : (tables : List TableDecl) (told : Said) (first : List ℕ) (others : List (List ℕ)) → said_words tables told ≡ first ∷ others → ArePlain (first ∷ others) → lines_behind told ≡ [] → IsSaid tables told
 plainly tables told first others words plain one = record { first = first; others = others; words = words; read = plain-words (first ∷ others) plain; behind = subst AreUnbroken (sym one) tt }
 
+-- a row that is read, and is above, goes before the others
+row-chosen : (o : Option (List Cell)) (row : List Cell) (test : List Cell → Bool) (next : List Cell → List (List Cell)) (more : List (List Cell)) → o ≡ Some row → test row ≡ true → next row ≡ more
+    → elim o as (λ x. List (List Cell)) [ Some r ↦ cond (test r) (r ∷ next r) [] | None ↦ [] ] ≡ row ∷ more
+row-chosen o row test next more is passes rest = rw (is, passes) (ap (λ (rs : List (List Cell)). row ∷ rs) rest)
+
 -- the tables have plain names
 abbrev pub NamesPlain : List TableDecl → Type 0
-NamesPlain tables = (table : ℕ) → is_plain (name_of_table tables table) ≡ true
+NamesPlain tables = (table : ℕ) → list_all is_plain (name_of_table tables table) ≡ true
 
-module _ (tables : List TableDecl) (names : NamesPlain tables) (rows_read : RowsRead) where
+module _ (tables : List TableDecl) (names : NamesPlain tables) where
   at-said : (n : ℕ) → IsSaid tables (said.At n)
   at-said n = plainly tables (said.At n) (codes "at") (decimal n ∷ []) refl (refl, (plain_decimal n, tt)) refl
 
@@ -70,7 +80,7 @@ module _ (tables : List TableDecl) (names : NamesPlain tables) (rows_read : Rows
   full-said : IsSaid tables said.Full
   full-said = plainly tables said.Full (codes "full") [] refl (refl, tt) refl
 
-  memory-said : IsSaid tables said.Memory
+  pub memory-said : IsSaid tables said.Memory
   memory-said = plainly tables said.Memory (codes "memory") [] refl (refl, tt) refl
 
   aborted-said : IsSaid tables said.Aborted
@@ -91,19 +101,19 @@ module _ (tables : List TableDecl) (names : NamesPlain tables) (rows_read : Rows
   committed-said : (n : ℕ) → IsSaid tables (said.Committed (Some n))
   committed-said n = plainly tables (said.Committed (Some n)) (codes "committed") (decimal n ∷ []) refl (refl, (plain_decimal n, tt)) refl
 
-  cooling-said : (n : ℕ) → IsSaid tables (said.Cooling n)
+  pub cooling-said : (n : ℕ) → IsSaid tables (said.Cooling n)
   cooling-said n = plainly tables (said.Cooling n) (codes "cooling") (decimal n ∷ []) refl (refl, (plain_decimal n, tt)) refl
 
-  pruned-said : (n : ℕ) → IsSaid tables (said.Pruned n)
+  pub pruned-said : (n : ℕ) → IsSaid tables (said.Pruned n)
   pruned-said n = plainly tables (said.Pruned n) (codes "pruned") (decimal n ∷ []) refl (refl, (plain_decimal n, tt)) refl
 
-  moved-said : (n : ℕ) → IsSaid tables (said.Moved n)
+  pub moved-said : (n : ℕ) → IsSaid tables (said.Moved n)
   moved-said n = plainly tables (said.Moved n) (codes "moved") (decimal n ∷ []) refl (refl, (plain_decimal n, tt)) refl
 
-  sealed-said : (t b g : ℕ) → IsSaid tables (said.Sealed t b g)
+  pub sealed-said : (t b g : ℕ) → IsSaid tables (said.Sealed t b g)
   sealed-said t b g = plainly tables (said.Sealed t b g) (codes "sealed") (name_of_table tables t ∷ decimal b ∷ decimal g ∷ []) refl (refl, (names t, (plain_decimal b, (plain_decimal g, tt)))) refl
 
-  frozen-said : (t b r : ℕ) → IsSaid tables (said.Frozen t b r)
+  pub frozen-said : (t b r : ℕ) → IsSaid tables (said.Frozen t b r)
   frozen-said t b r = plainly tables (said.Frozen t b r) (codes "frozen") (name_of_table tables t ∷ decimal b ∷ decimal r ∷ []) refl (refl, (names t, (plain_decimal b, (plain_decimal r, tt)))) refl
 
   idle-said : IsSaid tables said.NotFrozen
@@ -119,8 +129,8 @@ module _ (tables : List TableDecl) (names : NamesPlain tables) (rows_read : Rows
 
   -- ---- a transaction's begin and end
 
-  begin-read : (told : Said) → IsReplyWithout command.Begin told → IsRead tables false command.Begin told
-  begin-read (said.At n) small = record { is_said = at-said n; picks = λ rest. inl (ap said.At (number_in_range (2 ^ 64) n small small)) }
+  begin-read : (told : Said) → IsBeginReply told → IsRead tables false command.Begin told
+  begin-read (said.At n) small = record { is_said = at-said n; picks = λ rest. inl (ap said.At (u64_read n small)) }
   begin-read _ h = absurd h
 
   without-read : (asked : Command) (told : Said) → ((words behind : List (List ℕ)) → replies_at false tables words behind asked ≡ said.NoTransaction ∷ []) → told ≡ said.NoTransaction → IsRead tables false asked told
@@ -129,22 +139,19 @@ module _ (tables : List TableDecl) (names : NamesPlain tables) (rows_read : Rows
     picks = λ rest. subst (Picks tables said.NoTransaction) (sym (only (said_words tables said.NoTransaction) rest)) (inl refl);
   })
 
-  no-dash : (word : List ℕ) → BeginsWithDigit word → bytes_eq (codes "committed -\n") (codes "committed " ++ (word ++ 10 ∷ [])) ≡ false
-  no-dash word first = let other : (45 == first.digit) ≡ false = ne_eqb 45 first.digit (λ e. omega (arith, e, first.low)) in rw first.is (rw other refl)
+  no-dash : (word : List ℕ) → Begins word → bytes_eq (codes "committed -\n") (codes "committed " ++ (word ++ 10 ∷ [])) ≡ false
+  no-dash word first = let other : (45 == first.first) ≡ false = ne_eqb 45 first.first (λ e. omega (arith, e, first.least)) in rw first.is (rw other refl)
 
   commit-read : (told : Said) → IsCommitReply told → IsRead tables true command.Commit told
   unfolding tail_of
   commit-read (said.Committed None) h = record { is_said = nothing-said; picks = λ rest. inl refl }
   commit-read (said.Committed (Some n)) small = record {
     is_said = committed-said n;
-    picks = λ rest. inr (nothing-said, refl, no-dash (decimal n) (decimal_first n small), inl (ap (λ (m : ℕ). said.Committed (Some m)) (number_in_range (2 ^ 64) n small small)));
+    picks = λ rest. inr (nothing-said, refl, no-dash (decimal n) (decimal_begins n small), inl (ap (λ (m : ℕ). said.Committed (Some m)) (u64_read n small)));
   }
   commit-read _ h = absurd h
 
   -- ---- writes
-
-  u32-fits : (n : ℕ) → n < 2 ^ 32 → u32_at (decimal n ∷ []) 0 ≡ n
-  u32-fits n small = number_in_range (2 ^ 32) n (omega (arith, small)) small
 
   insert-read : (table : ℕ) (row : List Cell) (told : Said) → IsInsertReply told → IsRead tables true (command.Insert table row) told
   unfolding tail_of
@@ -154,18 +161,18 @@ module _ (tables : List TableDecl) (names : NamesPlain tables) (rows_read : Rows
   insert-read table row said.Memory h = record { is_said = memory-said; picks = λ rest. inr (ok-said, refl, refl, inr (exists-said, refl, refl, inr (full-said, refl, refl, inl refl))) }
   insert-read table row (said.ConflictSession n) small = record {
     is_said = session-said n;
-    picks = λ rest. inr (ok-said, refl, refl, inr (exists-said, refl, refl, inr (full-said, refl, refl, inr (memory-said, refl, refl, inl (ap said.ConflictSession (u32-fits n small))))));
+    picks = λ rest. inr (ok-said, refl, refl, inr (exists-said, refl, refl, inr (full-said, refl, refl, inr (memory-said, refl, refl, inl (ap said.ConflictSession (u32_read n small))))));
   }
   insert-read table row (said.ConflictCommit n) small = record {
     is_said = commit-said n;
-    picks = λ rest. inr (ok-said, refl, refl, inr (exists-said, refl, refl, inr (full-said, refl, refl, inr (memory-said, refl, refl, inr (session-said 0, refl, refl, inl (ap said.ConflictCommit (number_in_range (2 ^ 64) n small small)))))));
+    picks = λ rest. inr (ok-said, refl, refl, inr (exists-said, refl, refl, inr (full-said, refl, refl, inr (memory-said, refl, refl, inr (session-said (u32_at (said_words tables (said.ConflictCommit n)) 2), refl, refl, inl (ap said.ConflictCommit (u64_read n small)))))));
   }
   insert-read table row _ h = absurd h
 
   freezing-is : (table of b g : ℕ) → (of ≡ table) × (b < 2 ^ 32) × (g < 2 ^ 32) → said.Freezing table (u32_at (said_words tables (said.Freezing of b g)) 2) (u32_at (said_words tables (said.Freezing of b g)) 3) ≡ said.Freezing of b g
   freezing-is table of b g h =
-      let block : u32_at (said_words tables (said.Freezing of b g)) 2 ≡ b = u32-fits b h.1 in
-      let stamp : u32_at (said_words tables (said.Freezing of b g)) 3 ≡ g = u32-fits g h.2 in
+      let block : u32_at (said_words tables (said.Freezing of b g)) 2 ≡ b = u32_read b h.1 in
+      let stamp : u32_at (said_words tables (said.Freezing of b g)) 3 ≡ g = u32_read g h.2 in
       ap (λ (x : ℕ). said.Freezing table x (u32_at (said_words tables (said.Freezing of b g)) 3)) block ∙ ap (said.Freezing table b) stamp ∙ ap (λ (t : ℕ). said.Freezing t b g) (sym h.0)
 
   change-picks : (table : ℕ) (told : Said) → IsChangeReply table told → IsSaid tables told × Picks tables told (change_replies table (said_words tables told))
@@ -176,15 +183,15 @@ module _ (tables : List TableDecl) (names : NamesPlain tables) (rows_read : Rows
   change-picks table (said.Freezing of b g) h =
       (freezing-said of b g, inr (ok-said, refl, refl, inr (missing-said, refl, refl, inr (memory-said, refl, refl, inl (freezing-is table of b g h)))))
   change-picks table (said.ConflictSession n) small =
-      (session-said n, inr (ok-said, refl, refl, inr (missing-said, refl, refl, inr (memory-said, refl, refl, inr (freezing-said table (u32_at (said_words tables (said.ConflictSession n)) 2) 0, refl, refl, inl (ap said.ConflictSession (u32-fits n small)))))))
+      (session-said n, inr (ok-said, refl, refl, inr (missing-said, refl, refl, inr (memory-said, refl, refl, inr (freezing-said table (u32_at (said_words tables (said.ConflictSession n)) 2) (u32_at (said_words tables (said.ConflictSession n)) 3), refl, refl, inl (ap said.ConflictSession (u32_read n small)))))))
   change-picks table (said.ConflictCommit n) small =
-      (commit-said n, inr (ok-said, refl, refl, inr (missing-said, refl, refl, inr (memory-said, refl, refl, inr (freezing-said table 0 0, refl, refl, inr (session-said 0, refl, refl, inl (ap said.ConflictCommit (number_in_range (2 ^ 64) n small small))))))))
+      (commit-said n, inr (ok-said, refl, refl, inr (missing-said, refl, refl, inr (memory-said, refl, refl, inr (freezing-said table (u32_at (said_words tables (said.ConflictCommit n)) 2) (u32_at (said_words tables (said.ConflictCommit n)) 3), refl, refl, inr (session-said (u32_at (said_words tables (said.ConflictCommit n)) 2), refl, refl, inl (ap said.ConflictCommit (u64_read n small))))))))
   change-picks table _ h = absurd h
 
   -- ---- reads
 
   found-said : (row : List Cell) → AreWords (cell_words row) → IsSaid tables (said.Found row)
-  found-said row h = record { first = codes "row"; others = cell_words row; words = refl; read = (plain-word (codes "row") refl, h); behind = tt }
+  found-said row h = record { first = codes "row"; others = cell_words row; words = refl; read = (a-word (codes "row") refl, h); behind = tt }
 
   none-other : (row : List Cell) → bytes_eq (tail_of tables said.Absent) (tail_of tables (said.Found row)) ≡ false
   unfolding tail_of
@@ -196,91 +203,91 @@ module _ (tables : List TableDecl) (names : NamesPlain tables) (rows_read : Rows
   memory-other [] = refl
   memory-other (cell ∷ row) = refl
 
-  row-by : (columns : List Column) (key : ℤ) (words : List (List ℕ)) (row : List Cell) → row_of words ≡ row → fits columns row ≡ true → int_eq (key_of row) key ≡ true → row_replies columns key words ≡ said.Found row ∷ []
-  row-by columns key words row e f g =
-      subst (λ (r : List Cell). cond (fits columns r && int_eq (key_of r) key) (said.Found r ∷ []) [] ≡ said.Found row ∷ []) (sym e) (rw (f, g) refl)
+  row-by : (columns : List Column) (key : ℤ) (words : List (List ℕ)) (row : List Cell) → row_of columns words ≡ Some row → int_eq (key_of row) key ≡ true
+      → option_map_or (λ r. cond (int_eq (key_of r) key) (said.Found r ∷ []) []) (row_of columns words) [] ≡ said.Found row ∷ []
+  row-by columns key words row e g = rw (e, g) refl
 
-  get-read : (table : ℕ) (key : ℤ) (told : Said) → IsGetReply tables table key told → IsRead tables true (command.Get table key) told
+  get-read : (table : ℕ) (key : ℤ) (told : Said) → IsGetReply told → GotFits (columns_at tables table) key told → IsRead tables true (command.Get table key) told
   unfolding tail_of
-  get-read table key (said.Found row) h =
-      let back = rows_read (columns_at tables table) row h.0 in
+  get-read table key (said.Found row) h fit =
+      let read = row_back (columns_at tables table) row fit.0 in
       record {
-        is_said = found-said row back.0;
+        is_said = found-said row read.words;
         picks = λ rest. subst (λ (rows : List Said). Picks tables (said.Found row) (said.Absent ∷ said.Memory ∷ rows))
-            (sym (row-by (columns_at tables table) key (said_words tables (said.Found row)) row back.1 h.0.0 h.1))
+            (sym (row-by (columns_at tables table) key (cell_words row) row read.back fit.1))
             (inr (absent-said, refl, none-other row, inr (memory-said, refl, memory-other row, inl refl)));
       }
-  get-read table key said.Absent h = record { is_said = absent-said; picks = λ rest. inl refl }
-  get-read table key said.Memory h = record { is_said = memory-said; picks = λ rest. inr (absent-said, refl, refl, inl refl) }
-  get-read table key _ h = absurd h
+  get-read table key said.Absent h fit = record { is_said = absent-said; picks = λ rest. inl refl }
+  get-read table key said.Memory h fit = record { is_said = memory-said; picks = λ rest. inr (absent-said, refl, refl, inl refl) }
+  get-read table key _ h fit = absurd h
 
-  row-line-unbroken : (row : List Cell) → AreWords (cell_words row) → is_unbroken (row_line row) ≡ true
-  row-line-unbroken row h = spaced-unbroken (codes "|" ∷ cell_words row) (plain-word (codes "|") refl, h)
+  row-line-whole : (row : List Cell) → AreWords (cell_words row) → is_whole (row_line row) ≡ true
+  row-line-whole row h = words_whole (codes "|" ∷ cell_words row) (a-word (codes "|") refl, h)
 
-  lines-unbroken : (columns : List Column) (rows : List (List Cell)) → AreRowsOf columns rows → AreUnbroken (map row_line rows)
-  lines-unbroken columns [] h = tt
-  lines-unbroken columns (row ∷ rows) h = (row-line-unbroken row (rows_read columns row h.0).0, lines-unbroken columns rows h.1)
+  lines-whole : (columns : List Column) (key : Option ℤ) (rows : List (List Cell)) → RowsRise columns key rows → AreUnbroken (map row_line rows)
+  lines-whole columns key [] h = tt
+  lines-whole columns key (row ∷ rows) h = (row-line-whole row (row_back columns row h.0).words, lines-whole columns (Some (key_of row)) rows h.2)
 
-  rows-fit : (columns : List Column) (rows : List (List Cell)) → AreRowsOf columns rows → list_all (fits columns) rows ≡ true
-  rows-fit columns [] h = refl
-  rows-fit columns (row ∷ rows) h = and_from (fits columns row) (list_all (fits columns) rows) h.0.0 (rows-fit columns rows h.1)
+  -- the row of its line
+  line-back : (columns : List Column) (row : List Cell) → fits columns row ≡ true → row_at columns (row_line row ++ 10 ∷ []) ≡ Some row
+  line-back columns row fit =
+      let read = row_back columns row fit in
+      let same : bytes_eq (row_line row ++ 10 ∷ []) (row_line row ++ 10 ∷ []) ≡ true = (bytes_eq-Decides (row_line row ++ 10 ∷ []) (row_line row ++ 10 ∷ [])).1 refl in
+      ap (λ (words : List (List ℕ)). option_and_then (λ r. cond (bytes_eq (row_line r ++ 10 ∷ []) (row_line row ++ 10 ∷ [])) (Some r) None) (row_of columns (drop 1 words)))
+      (words_of_line (codes "|") (cell_words row) (a-word (codes "|") refl, read.words))
+      ∙ ap (option_and_then (λ r. cond (bytes_eq (row_line r ++ 10 ∷ []) (row_line row ++ 10 ∷ [])) (Some r) None)) read.back
+      ∙ ap (λ (b : Bool). cond b (Some row) None) same
 
-  row-back : (columns : List Column) (row : List Cell) → IsRowOf columns row → row_of (words_of (row_line row ++ 10 ∷ [])) ≡ row
-  row-back columns row h =
-      let back = rows_read columns row h in
-      ap row_of (words-of-line (codes "|") (cell_words row) (plain-word (codes "|") refl, back.0)) ∙ back.1
+  above-step : (columns : List Column) (key : Option ℤ) (row : List Cell) (line : List ℕ) (lines : List (List ℕ)) (more : List (List Cell)) → row_at columns line ≡ Some row
+      → option_map_or (λ below. int_lt below (key_of row)) key true ≡ true → rows_above columns (Some (key_of row)) lines ≡ more → rows_above columns key (line ∷ lines) ≡ row ∷ more
+  above-step columns key row line lines more is rises rest =
+      row-chosen (row_at columns line) row (λ r. option_map_or (λ below. int_lt below (key_of r)) key true) (λ r. rows_above columns (Some (key_of r)) lines) more is rises rest
 
-  rows-back : (columns : List Column) (rows : List (List Cell)) (rest : List (List ℕ)) → AreRowsOf columns rows
-      → map (λ line. row_of (words_of line)) (take (length rows) (ended (map row_line rows) ++ rest)) ≡ rows
-  rows-back columns [] rest h = refl
-  rows-back columns (row ∷ rows) rest h =
-      ap (λ (r : List Cell). r ∷ map (λ line. row_of (words_of line)) (take (length rows) (ended (map row_line rows) ++ rest))) (row-back columns row h.0)
-      ∙ ap (λ (rs : List (List Cell)). row ∷ rs) (rows-back columns rows rest h.1)
+  rows-back : (columns : List Column) (key : Option ℤ) (rows : List (List Cell)) (rest : List (List ℕ)) → RowsRise columns key rows
+      → rows_above columns key (take (length rows) (ended (map row_line rows) ++ rest)) ≡ rows
+  rows-back columns key [] rest h = refl
+  rows-back columns key (row ∷ rows) rest h =
+      above-step columns key row (row_line row ++ 10 ∷ []) (take (length rows) (ended (map row_line rows) ++ rest)) rows (line-back columns row h.0) h.1
+      (rows-back columns (Some (key_of row)) rows rest h.2)
 
-  -- the rows of a count
-  scan-by : (columns : List Column) (count : ℕ) (rows back : List (List Cell)) → back ≡ rows → count ≡ length rows → list_all (fits columns) rows ≡ true → is_ascending rows ≡ true
-      → cond (list_all (fits columns) back && is_ascending back) (said.Scanned (back ++ replicate (count - length back) []) ∷ []) [] ≡ said.Scanned rows ∷ []
-  scan-by columns count rows back same is f g =
-      let none : count - length rows ≡ 0 = omega (arith, is) in
-      subst (λ (r : List (List Cell)). cond (list_all (fits columns) r && is_ascending r) (said.Scanned (r ++ replicate (count - length r) []) ∷ []) [] ≡ said.Scanned rows ∷ []) (sym same)
-      (rw (f, g, none) (ap (λ (r : List (List Cell)). said.Scanned r ∷ []) (append-nil rows)))
-
-  scan-read : (table : ℕ) (told : Said) → IsScanReply tables table told → IsRead tables true (command.Scan table) told
+  scan-read : (table : ℕ) (told : Said) → IsScanReply told → ScannedFits (columns_at tables table) told → IsRead tables true (command.Scan table) told
   unfolding tail_of
-  scan-read table (said.Scanned rows) h =
+  scan-read table (said.Scanned rows) h fit =
       let columns = columns_at tables table in
-      let count : u64_at (said_words tables (said.Scanned rows)) 1 ≡ length rows = number_in_range (2 ^ 64) (length rows) h.0 h.0 in
+      let count : u64_at (said_words tables (said.Scanned rows)) 1 ≡ length rows = u64_read (length rows) h in
       record {
         is_said = record {
           first = codes "rows";
           others = decimal (length rows) ∷ [];
           words = refl;
           read = plain-words (codes "rows" ∷ decimal (length rows) ∷ []) (refl, (plain_decimal (length rows), tt));
-          behind = lines-unbroken columns rows h.1;
+          behind = lines-whole columns None rows fit;
         };
-        picks = λ rest. subst (λ (others : List Said). Picks tables (said.Scanned rows) (said.Memory ∷ others))
-            (sym (scan-by columns (u64_at (said_words tables (said.Scanned rows)) 1) rows
-            (map (λ line. row_of (words_of line)) (take (u64_at (said_words tables (said.Scanned rows)) 1) (ended (map row_line rows) ++ rest)))
-            (ap (λ (n : ℕ). map (λ line. row_of (words_of line)) (take n (ended (map row_line rows) ++ rest))) count ∙ rows-back columns rows rest h.1) count (rows-fit columns rows h.1) h.2))
-            (inr (memory-said, refl, refl, inl refl));
+        picks = λ rest. inr (
+          memory-said,
+          refl,
+          refl,
+          inl (ap said.Scanned
+              (ap (λ (n : ℕ). rows_above columns None (take n (ended (map row_line rows) ++ rest))) count ∙ rows-back columns None rows rest fit)),
+        );
       }
-  scan-read table said.Memory h = record { is_said = memory-said; picks = λ rest. inl refl }
-  scan-read table _ h = absurd h
+  scan-read table said.Memory h fit = record { is_said = memory-said; picks = λ rest. inl refl }
+  scan-read table _ h fit = absurd h
 
   -- ---- upkeep
 
   observe-read : (told : Said) (within : Bool) → IsObserveReply told → IsRead tables true command.Observe told
-  observe-read (said.Cooling n) within small = record { is_said = cooling-said n; picks = λ rest. inl (ap said.Cooling (number_in_range (2 ^ 64) n small small)) }
+  observe-read (said.Cooling n) within small = record { is_said = cooling-said n; picks = λ rest. inl (ap said.Cooling (u64_read n small)) }
   observe-read _ within h = absurd h
 
   prune-read : (told : Said) → IsPruneReply told → IsRead tables true command.Prune told
-  prune-read (said.Pruned n) small = record { is_said = pruned-said n; picks = λ rest. inl (ap said.Pruned (number_in_range (2 ^ 64) n small small)) }
+  prune-read (said.Pruned n) small = record { is_said = pruned-said n; picks = λ rest. inl (ap said.Pruned (u64_read n small)) }
   prune-read _ h = absurd h
 
   compact-read : (table : ℕ) (told : Said) → IsCompactReply told → IsRead tables true (command.Compact table) told
   unfolding tail_of
-  compact-read table (said.Moved n) small = record { is_said = moved-said n; picks = λ rest. inl (ap said.Moved (number_in_range (2 ^ 64) n small small)) }
-  compact-read table said.Memory h = record { is_said = memory-said; picks = λ rest. inr (moved-said 0, refl, refl, inl refl) }
+  compact-read table (said.Moved n) small = record { is_said = moved-said n; picks = λ rest. inl (ap said.Moved (u64_read n small)) }
+  compact-read table said.Memory h = record { is_said = memory-said; picks = λ rest. inr (moved-said (u64_at (said_words tables said.Memory) 1), refl, refl, inl refl) }
   compact-read table _ h = absurd h
 
   phase-said : IsSaid tables (said.NotSealed Phase)
@@ -308,7 +315,7 @@ module _ (tables : List TableDecl) (names : NamesPlain tables) (rows_read : Rows
   unfolding tail_of
   seal-read table block (said.Sealed of at g) h = record {
     is_said = sealed-said of at g;
-    picks = λ rest. inl (ap (said.Sealed table block) (u32-fits g h.2) ∙ ap (λ (t : ℕ). said.Sealed t block g) (sym h.0) ∙ ap (λ (b : ℕ). said.Sealed of b g) (sym h.1));
+    picks = λ rest. inl (ap (said.Sealed table block) (u32_read g h.2) ∙ ap (λ (t : ℕ). said.Sealed t block g) (sym h.0) ∙ ap (λ (b : ℕ). said.Sealed of b g) (sym h.1));
   }
   seal-read table block (said.NotSealed Phase) h = record { is_said = phase-said; picks = λ rest. inr (sealed-said table block (u32_at (said_words tables (said.NotSealed Phase)) 3), refl, refl, inl refl) }
   seal-read table block (said.NotSealed Head) h = record { is_said = head-said; picks = λ rest. inr (sealed-said table block (u32_at (said_words tables (said.NotSealed Head)) 3), refl, refl, inr (phase-said, refl, refl, inl refl)) }
@@ -323,7 +330,7 @@ module _ (tables : List TableDecl) (names : NamesPlain tables) (rows_read : Rows
   unfolding tail_of
   gather-read table block (said.Frozen of at r) h = record {
     is_said = frozen-said of at r;
-    picks = λ rest. inl (ap (said.Frozen table block) (u32-fits r h.2) ∙ ap (λ (t : ℕ). said.Frozen t block r) (sym h.0) ∙ ap (λ (b : ℕ). said.Frozen of b r) (sym h.1));
+    picks = λ rest. inl (ap (said.Frozen table block) (u32_read r h.2) ∙ ap (λ (t : ℕ). said.Frozen t block r) (sym h.0) ∙ ap (λ (b : ℕ). said.Frozen of b r) (sym h.1));
   }
   gather-read table block said.NotFrozen h = record { is_said = idle-said; picks = λ rest. inr (frozen-said table block (u32_at (said_words tables said.NotFrozen) 3), refl, refl, inl refl) }
   gather-read table block said.Memory h = record { is_said = memory-said; picks = λ rest. inr (frozen-said table block (u32_at (said_words tables said.Memory) 3), refl, refl, inr (idle-said, refl, refl, inl refl)) }
@@ -337,18 +344,18 @@ module _ (tables : List TableDecl) (names : NamesPlain tables) (rows_read : Rows
   export-read : (table : ℕ) (told : Said) → IsExportReply told → IsRead tables true (command.Export table) told
   unfolding tail_of
   export-read table (said.Exported n r b f) h =
-      let e = number_in_range (2 ^ 64) n h.0 h.0 in
-      let g = number_in_range (2 ^ 64) r h.1 h.1 in
-      let i = u32-fits b h.2 in
-      let j = u32-fits f h.3 in
+      let e = u64_read n h.0 in
+      let g = u64_read r h.1 in
+      let i = u32_read b h.2 in
+      let j = u32_read f h.3 in
       record { is_said = export-said n r b f; picks = λ rest. inl cc }
   export-read table (said.Dirty key) small = record {
     is_said = dirty-said key;
-    picks = λ rest. subst (λ (others : List Said). Picks tables (said.Dirty key) (said.Exported (u64_at (said_words tables (said.Dirty key)) 1) 0 0 0 ∷ said.Memory ∷ others))
-        (sym (dirty-by key (integer_of (signed_decimal key)) (integer_of_signed key small) small))
-        (inr (export-said (u64_at (said_words tables (said.Dirty key)) 1) 0 0 0, refl, refl, inr (memory-said, refl, refl, inl refl)));
+    picks = λ rest. subst (λ (others : List Said). Picks tables (said.Dirty key) (said.Exported (u64_at (said_words tables (said.Dirty key)) 1) (u64_at (said_words tables (said.Dirty key)) 3) (u32_at (said_words tables (said.Dirty key)) 5) (u32_at (said_words tables (said.Dirty key)) 7) ∷ said.Memory ∷ others))
+        (sym (dirty-by key (integer_at (said_words tables (said.Dirty key)) 1) (key_read key small) small))
+        (inr (export-said (u64_at (said_words tables (said.Dirty key)) 1) (u64_at (said_words tables (said.Dirty key)) 3) (u32_at (said_words tables (said.Dirty key)) 5) (u32_at (said_words tables (said.Dirty key)) 7), refl, refl, inr (memory-said, refl, refl, inl refl)));
   }
-  export-read table said.Memory h = record { is_said = memory-said; picks = λ rest. inr (export-said 0 0 0 0, refl, refl, inl refl) }
+  export-read table said.Memory h = record { is_said = memory-said; picks = λ rest. inr (export-said (u64_at (said_words tables said.Memory) 1) (u64_at (said_words tables said.Memory) 3) (u32_at (said_words tables said.Memory) 5) (u32_at (said_words tables said.Memory) 7), refl, refl, inl refl) }
   export-read table _ h = absurd h
 
   -- ---- each reply
@@ -359,46 +366,29 @@ module _ (tables : List TableDecl) (names : NamesPlain tables) (rows_read : Rows
     picks = λ rest. subst (λ (b : Bool). Picks tables told (cond b (replies_within tables (said_words tables told) (ended (lines_behind told) ++ rest) asked) (replies_without (said_words tables told) asked))) (sym up) (h.picks rest);
   }
 
-  within-read : (asked : Command) (told : Said) → IsReplyWithin tables asked told → IsRead tables true asked told
-  within-read command.Begin told is = subst (IsRead tables true command.Begin) (sym is) (record { is_said = in-said; picks = λ rest. inl refl })
-  within-read (command.Get table key) told h = get-read table key told h
-  within-read (command.Scan table) told h = scan-read table told h
-  within-read (command.Insert table row) told h = insert-read table row told h
-  within-read (command.Update table row) told h = let read = change-picks table told h in record { is_said = read.0; picks = λ rest. read.1 }
-  within-read (command.Delete table key) told h = let read = change-picks table told h in record { is_said = read.0; picks = λ rest. read.1 }
-  within-read command.Commit told h = commit-read told h
-  within-read command.Abort told is = subst (IsRead tables true command.Abort) (sym is) (record { is_said = aborted-said; picks = λ rest. inl refl })
-  within-read command.Observe told h = observe-read told true h
-  within-read command.Prune told h = prune-read told h
-  within-read (command.Compact table) told h = compact-read table told h
-  within-read (command.Seal table block) told h = seal-read table block told h
-  within-read (command.Gather table block) told h = gather-read table block told h
-  within-read (command.Export table) told h = export-read table told h
+  within-read : (asked : Command) (told : Said) → IsReplyWithin asked told → RowsFit tables asked told → IsRead tables true asked told
+  within-read command.Begin told is fit = subst (IsRead tables true command.Begin) (sym is) (record { is_said = in-said; picks = λ rest. inl refl })
+  within-read (command.Get table key) told h fit = get-read table key told h fit
+  within-read (command.Scan table) told h fit = scan-read table told h fit
+  within-read (command.Insert table row) told h fit = insert-read table row told h
+  within-read (command.Update table row) told h fit = let read = change-picks table told h in record { is_said = read.0; picks = λ rest. read.1 }
+  within-read (command.Delete table key) told h fit = let read = change-picks table told h in record { is_said = read.0; picks = λ rest. read.1 }
+  within-read command.Commit told h fit = commit-read told h
+  within-read command.Abort told is fit = subst (IsRead tables true command.Abort) (sym is) (record { is_said = aborted-said; picks = λ rest. inl refl })
+  within-read command.Observe told h fit = observe-read told true h
+  within-read command.Prune told h fit = prune-read told h
+  within-read (command.Compact table) told h fit = compact-read table told h
+  within-read (command.Seal table block) told h fit = seal-read table block told h
+  within-read (command.Gather table block) told h fit = gather-read table block told h
+  within-read (command.Export table) told h fit = export-read table told h
 
-  reply-back : (within : Bool) (asked : Command) (told : Said) → IsReply tables within asked told → IsRead tables within asked told
-  reply-back true asked told h = within-read asked told h
-  reply-back false command.Begin told h = begin-read told h
-  reply-back false command.Observe told h = again command.Observe told refl (within-read command.Observe told h)
-  reply-back false command.Prune told h = again command.Prune told refl (within-read command.Prune told h)
-  reply-back false (command.Compact table) told h = again (command.Compact table) told refl (within-read (command.Compact table) told h)
-  reply-back false (command.Seal table block) told h = again (command.Seal table block) told refl (within-read (command.Seal table block) told h)
-  reply-back false (command.Gather table block) told h = again (command.Gather table block) told refl (within-read (command.Gather table block) told h)
-  reply-back false asked told h = without-read asked told (λ words behind. refl) h
-
-  -- the dues of sessions
-  abbrev pub OfSessions : List Due → Type 0
-  OfSessions [] = Unit {0}
-  OfSessions (due ∷ dues) = (is_worker due.who ≡ false) × OfSessions dues
-
-  all-read : (earlier : List Entry) (dues : List Due) (saids : List Said) → OfSessions dues → AreReplies tables earlier dues saids → AreRead tables earlier dues saids
-  all-read earlier [] [] s h = tt
-  all-read earlier [] (told ∷ saids) s h = absurd h
-  all-read earlier (due ∷ dues) [] s h = absurd h
-  all-read earlier (due ∷ dues) (told ∷ saids) s h =
-      (s.0, reply-back (is_within due.who earlier) due.command told h.0, all-read (earlier ++ entry_behind tables earlier due told ∷ []) dues saids s.1 h.1)
-
-  -- The text of the replies to sessions is read as these replies.
-  pub session-replies-read : (earlier : List Entry) (dues : List Due) (saids : List Said) → OfSessions dues → AreReplies tables earlier dues saids
-      → reading false tables dues earlier (lines_of (replies_text tables (map (λ entry. entry.reply) (printed_from tables earlier dues (map Some saids)))))
-      ≡ Some (earlier ++ printed_from tables earlier dues (map Some saids))
-  session-replies-read earlier dues saids s h = replies-read tables earlier dues saids (all-read earlier dues saids s h)
+  -- A reply that may stand where it is due is read back.
+  pub reply-back : (within : Bool) (asked : Command) (told : Said) → IsReply within asked told → RowsFit tables asked told → IsRead tables within asked told
+  reply-back true asked told h fit = within-read asked told h fit
+  reply-back false command.Begin told h fit = begin-read told h
+  reply-back false command.Observe told h fit = again command.Observe told refl (within-read command.Observe told h fit)
+  reply-back false command.Prune told h fit = again command.Prune told refl (within-read command.Prune told h fit)
+  reply-back false (command.Compact table) told h fit = again (command.Compact table) told refl (within-read (command.Compact table) told h fit)
+  reply-back false (command.Seal table block) told h fit = again (command.Seal table block) told refl (within-read (command.Seal table block) told h fit)
+  reply-back false (command.Gather table block) told h fit = again (command.Gather table block) told refl (within-read (command.Gather table block) told h fit)
+  reply-back false asked told h fit = without-read asked told (λ words behind. refl) h

@@ -14,8 +14,7 @@ use Rattle.cell_model.specs.declared.cell.Cell.{Cell}
 use Rattle.cell_model.specs.declared.table.TableDecl.{TableDecl}
 use Rattle.isolation_spec.specs.Contents.{place_cmp, is_place, WriteSet, History}
 use Rattle.isolation_spec.specs.declared.place.Place.{Place}
-use Rattle.isolation_spec.specs.Machine.{IsolationMachine, transaction_of, writes_place, last_writer, seen_rows, with_own}
-use Rattle.isolation_spec.specs.Machine.{Transaction as OpenTransaction}
+use Rattle.isolation_spec.specs.Machine.{IsolationMachine, transaction_of, writes_place, seen_rows, with_own, Transaction, later_writers, write_set_at}
 use Rattle.isolation_laws.proofs.Rows.{place_cmp-total}
 use Rattle.workload_spec.specs.declared.command.Command.{Command}
 use Rattle.workload_spec.specs.declared.reply.Who.{Who}
@@ -23,18 +22,19 @@ use Rattle.workload_spec.specs.declared.reply.Who.TheVariants.{Session, Worker}
 use Rattle.workload_spec.specs.declared.reply.Said.{Said}
 use Rattle.workload_spec.specs.declared.reply.Said.TheVariants as said
 use Rattle.outcome_spec.specs.Entries.{Entry, is_same, is_before, is_not_after, before, not_after, shown_in, snapshot_in, commit_in, is_end, is_accepted}
-use Rattle.outcome_spec.specs.Runs.{Transaction, Run, up_to_end, ending_of, accepted_write, writes_in, write_of, commit_line, commits_as}
+use Rattle.outcome_spec.specs.Runs.{Span, Run, up_to_end, ending_of, accepted_write, writes_in, write_of, commit_line, commits_as}
 use Rattle.outcome_spec.specs.Answers.{is_acceptable}
-use Rattle.outcome_spec.specs.Conflicts.{write_set_at, later_writers, is_committed_before, is_committed_not_after, has_write, names_commit, names_session, passes_no_commit, passes_no_session, is_first_updater, is_memory, conflict_holds, conflicts_hold}
+use Rattle.outcome_spec.specs.Conflicts.{is_committed_before, is_committed_not_after, has_write, names_commit, names_session, passes_no_commit, passes_no_session, is_clear, is_first_updater, conflict_holds, conflicts_hold}
 use Rattle.outcome_spec.proofs.Conditions.{both}
-use Rattle.timeline_spec.specs.Timeline.{thread, open_of, Each, Follows, Timeline, Runs, request_of, TakesAs}
-use Rattle.timeline_laws.proofs.Tests.{or-holds, or-left, or-right, all-three, all-four, all-five}
+use Rattle.timeline_spec.specs.Timeline.{open_of, Each, Follows, Timeline, Runs, request_of, TakesAs}
+use Rattle.outcome_spec.specs.Entries.{thread}
+use Rattle.timeline_laws.proofs.Tests.{or-holds, or-left, or-right, all-three, all-four}
 use Rattle.timeline_laws.proofs.Ranges.{all-below, all-above}
 use Rattle.timeline_laws.proofs.Order.{Each-first, Each-second, Each-weaker, Each-filter, Each-timeline, before-each, after-each, before-itself, same-is, same-itself}
 use Rattle.timeline_laws.proofs.Spans.{span, spans, EachSpan, Ended, spans-is}
 use Rattle.timeline_laws.proofs.Unique.{Only}
-use Rattle.timeline_laws.proofs.Belongs.{Each-up_to_end, its-thread, threads-in-order}
-use Rattle.timeline_laws.proofs.Writers.{LastAt, last-some, last-none, writes-more}
+use Rattle.timeline_laws.proofs.Belongs.{Each-up_to_end, its-thread}
+use Rattle.timeline_laws.proofs.Writers.{last_writer, LastAt, last-some, last-none, writes-more}
 use Rattle.timeline_laws.proofs.Machine.{Rival, rival-some, Free, free-none, its-session, at-written, entering, eqb-itself}
 use Rattle.timeline_laws.proofs.Steps.{Change, quiet, opens, writes, ends, commits, Clear, Verdict, accepted, rival, later, refused, limited, memory, takes-verdict}
 use Rattle.timeline_laws.proofs.Walk.{Within, Stands, Shown, shown-step}
@@ -132,11 +132,11 @@ no-write-filter place p (entry ∷ entries) h = some-write-step place p (p entry
 
 -- ---- tests of the transactions, session by session
 
-kept-pass-step : (b : Bool) (who : Who) (t : Transaction) (kept : List Transaction) → is_same t.who who ≡ b → EachSpan (λ u. u.who ≡ who) kept → EachSpan (λ u. u.who ≡ who) (cond b (t ∷ kept) kept)
+kept-pass-step : (b : Bool) (who : Who) (t : Span) (kept : List Span) → is_same t.who who ≡ b → EachSpan (λ u. u.who ≡ who) kept → EachSpan (λ u. u.who ≡ who) (cond b (t ∷ kept) kept)
 kept-pass-step true who t kept is h = (same-is t.who who is, h)
 kept-pass-step false who t kept is h = h
 
-kept-pass : (who : Who) (ts : List Transaction) → EachSpan (λ u. u.who ≡ who) (filter (λ t. is_same t.who who) ts)
+kept-pass : (who : Who) (ts : List Span) → EachSpan (λ u. u.who ≡ who) (filter (λ t. is_same t.who who) ts)
 kept-pass who [] = tt
 kept-pass who (t ∷ ts) = kept-pass-step (is_same t.who who) who t (filter (λ u. is_same u.who who) ts) refl (kept-pass who ts)
 
@@ -152,35 +152,35 @@ session-apart : (who : Who) (session s : ℕ) → who ≡ Session session → is
 session-apart who session s is h = ap (λ (w : Who). is_same w (Session s)) (sym is) ∙ h
 
 -- some transaction passes where one of those that pass another test does
-any-kept-step : (a b : Bool) (rest : Bool) (t : Transaction) (kept : List Transaction) (test : Transaction → Bool) → test t ≡ b → list_any test (cond a (t ∷ kept) kept) ≡ true → (list_any test kept ≡ true → rest ≡ true) → (b || rest) ≡ true
+any-kept-step : (a b : Bool) (rest : Bool) (t : Span) (kept : List Span) (test : Span → Bool) → test t ≡ b → list_any test (cond a (t ∷ kept) kept) ≡ true → (list_any test kept ≡ true → rest ≡ true) → (b || rest) ≡ true
 any-kept-step a true rest t kept test is h more = refl
 any-kept-step true false rest t kept test is h more = more (sym (ap (λ (b : Bool). b || list_any test kept) is) ∙ h)
 any-kept-step false false rest t kept test is h more = more h
 
-pub any-kept : (test choice : Transaction → Bool) (ts : List Transaction) → list_any test (filter choice ts) ≡ true → list_any test ts ≡ true
+pub any-kept : (test choice : Span → Bool) (ts : List Span) → list_any test (filter choice ts) ≡ true → list_any test ts ≡ true
 any-kept test choice [] h = h
 any-kept test choice (t ∷ ts) h = any-kept-step (choice t) (test t) (list_any test ts) t (filter choice ts) test refl h (any-kept test choice ts)
 
-none-kept-step : (a b : Bool) (t : Transaction) (kept : List Transaction) (test : Transaction → Bool) → list_any test (cond a (t ∷ kept) kept) ≡ false → a ≡ true → (test t ≡ false) × (list_any test kept ≡ false)
+none-kept-step : (a b : Bool) (t : Span) (kept : List Span) (test : Span → Bool) → list_any test (cond a (t ∷ kept) kept) ≡ false → a ≡ true → (test t ≡ false) × (list_any test kept ≡ false)
 none-kept-step true b t kept test h is = (or-left (test t) (list_any test kept) h, or-right (test t) (list_any test kept) h)
 none-kept-step false b t kept test h is = absurd (let never : ⊥ = cc in never)
 
-none-tail-step : (a : Bool) (t : Transaction) (kept : List Transaction) (test : Transaction → Bool) → list_any test (cond a (t ∷ kept) kept) ≡ false → list_any test kept ≡ false
+none-tail-step : (a : Bool) (t : Span) (kept : List Span) (test : Span → Bool) → list_any test (cond a (t ∷ kept) kept) ≡ false → list_any test kept ≡ false
 none-tail-step true t kept test h = or-right (test t) (list_any test kept) h
 none-tail-step false t kept test h = h
 
 -- no transaction passes where none of any session or worker does
-pub none-any : (test : Transaction → Bool) (ts : List Transaction) → ((who : Who) → list_any test (filter (λ t. is_same t.who who) ts) ≡ false) → list_any test ts ≡ false
+pub none-any : (test : Span → Bool) (ts : List Span) → ((who : Who) → list_any test (filter (λ t. is_same t.who who) ts) ≡ false) → list_any test ts ≡ false
 none-any test [] h = refl
 none-any test (t ∷ ts) h =
     let first = none-kept-step (is_same t.who t.who) true t (filter (λ u. is_same u.who t.who) ts) test (h t.who) (same-itself t.who) in
     rw first.0 (none-any test ts (λ who. none-tail-step (is_same t.who who) t (filter (λ u. is_same u.who who) ts) test (h who)))
 
-none-spans : (test : Transaction → Bool) (ts : List Transaction) → EachSpan (λ t. test t ≡ false) ts → list_any test ts ≡ false
+none-spans : (test : Span → Bool) (ts : List Span) → EachSpan (λ t. test t ≡ false) ts → list_any test ts ≡ false
 none-spans test [] h = refl
 none-spans test (t ∷ ts) h = rw h.0 (none-spans test ts h.1)
 
-option-none : (test : Transaction → Bool) (o : Option Transaction) (others : List Transaction) → option_map_or test o false ≡ false → list_any test others ≡ false → list_any test (cons_option o others) ≡ false
+option-none : (test : Span → Bool) (o : Option Span) (others : List Span) → option_map_or test o false ≡ false → list_any test others ≡ false → list_any test (cons_option o others) ≡ false
 option-none test None others h k = k
 option-none test (Some t) others h k = rw h k
 
@@ -278,7 +278,7 @@ module _ (tables : List TableDecl) (printed timeline : List Entry) (t : Timeline
   not-after-line k least low = not-after-found k least low (commit_line printed k) refl
 
   -- the write set of a number in front is the machine's
-  pub set-is : (k : ℕ) → 1 ≤ k → k ≤ length so_far → write_set_at the_run k ≡ get_or so_far (k - 1) []
+  pub set-is : (k : ℕ) → 1 ≤ k → k ≤ length so_far → write_set_at (the_run).history k ≡ get_or so_far (k - 1) []
   set-is k least low =
       ap (λ (h : History). get_or h (k - 1) []) (history-shown tables printed timeline t ∙ cut.grows.is)
       ∙ get_or_append_left so_far cut.grows.more [] (k - 1) (omega (arith, least, low))
@@ -287,7 +287,7 @@ module _ (tables : List TableDecl) (printed timeline : List Entry) (t : Timeline
 
   -- a number above the snapshot whose write set has the place
   abbrev is_later : ℕ → Place → ℕ → Bool
-  is_later n place k = nat_lt n k && writes_place place (write_set_at the_run k)
+  is_later n place k = nat_lt n k && writes_place place (write_set_at (the_run).history k)
 
   -- a place without a writer behind the snapshot is in none of the write sets in front
   in-none : (n : ℕ) (place : Place) (k : ℕ) → n ≤ length so_far → last_writer place (n + 1) (drop n so_far) ≡ None → n < k → k ≤ length so_far → writes_place place (get_or so_far (k - 1) []) ≡ false
@@ -297,7 +297,7 @@ module _ (tables : List TableDecl) (printed timeline : List Entry) (t : Timeline
       ∙ ap (writes_place place) (sym (get_or-drop n so_far (k - 1 - n) []))
       ∙ last-none place (n + 1) (drop n so_far) none (k - 1 - n)
 
-  none-by : (n : ℕ) (place : Place) (k : ℕ) → n ≤ length so_far → last_writer place (n + 1) (drop n so_far) ≡ None → n < k → writes_place place (write_set_at the_run k) ≡ true
+  none-by : (n : ℕ) (place : Place) (k : ℕ) → n ≤ length so_far → last_writer place (n + 1) (drop n so_far) ≡ None → n < k → writes_place place (write_set_at (the_run).history k) ≡ true
       → (b : Bool) → nat_le k (length so_far) ≡ b → not (is_committed_before the_run entry k) ≡ true
   none-by n place k bound none low has true is =
       let high : k ≤ length so_far = leb-true k (length so_far) is in
@@ -308,20 +308,20 @@ module _ (tables : List TableDecl) (printed timeline : List Entry) (t : Timeline
 
   none-later : (n : ℕ) (place : Place) → n ≤ length so_far → last_writer place (n + 1) (drop n so_far) ≡ None → (k : ℕ) → is_later n place k ≡ true → not (is_committed_before the_run entry k) ≡ true
   none-later n place bound none k h =
-      let parts = and_parts (nat_lt n k) (writes_place place (write_set_at the_run k)) h in
+      let parts = and_parts (nat_lt n k) (writes_place place (write_set_at (the_run).history k)) h in
       let low : n < k = grind (arith, nat_tests, parts.0) in
       none-by n place k bound none low parts.1 (nat_le k (length so_far)) refl
 
-  pub no-commit : (u : Transaction) (place : Place) (told : Said) → u.snapshot ≤ length so_far → last_writer place (u.snapshot + 1) (drop u.snapshot so_far) ≡ None → passes_no_commit the_run u place entry told ≡ true
-  no-commit u place told bound none =
-      or-holds _ _ (filter-all (λ k. not (is_committed_before the_run entry k)) (is_later u.snapshot place) (none-later u.snapshot place bound none) (range_with_len 1 (length (the_run).history)))
+  pub no-commit : (u : Span) (place : Place) → u.snapshot ≤ length so_far → last_writer place (u.snapshot + 1) (drop u.snapshot so_far) ≡ None → passes_no_commit the_run u place entry ≡ true
+  no-commit u place bound none =
+      (filter-all (λ k. not (is_committed_before the_run entry k)) (is_later u.snapshot place) (none-later u.snapshot place bound none) (range_with_len 1 (length (the_run).history)))
 
   -- the last writer is the last of those before the reply
   last-by : (n : ℕ) (place : Place) (number k : ℕ) → n ≤ length so_far → (at : LastAt place (n + 1) (drop n so_far) number) → is_later n place k ≡ true
       → (b c : Bool) → nat_le k number ≡ b → nat_le k (length so_far) ≡ c → (nat_le k number || not (is_committed_before the_run entry k)) ≡ true
   last-by n place number k bound at h true c is is_c = rw is refl
   last-by n place number k bound at h false true is is_c =
-      let parts = and_parts (nat_lt n k) (writes_place place (write_set_at the_run k)) h in
+      let parts = and_parts (nat_lt n k) (writes_place place (write_set_at (the_run).history k)) h in
       let low : n < k = grind (arith, nat_tests, parts.0) in
       let above : number < k = grind (arith, nat_tests, is) in
       let high : k ≤ length so_far = leb-true k (length so_far) is_c in
@@ -334,7 +334,7 @@ module _ (tables : List TableDecl) (printed timeline : List Entry) (t : Timeline
   last-by n place number k bound at h false false is is_c =
       or-holds (nat_le k number) (not (is_committed_before the_run entry k)) (ap not (not-before k (let e : length so_far < k = grind (arith, nat_tests, is_c) in e)))
 
-  pub commit-named : (u : Transaction) (place : Place) (number : ℕ) → u.snapshot ≤ length so_far → last_writer place (u.snapshot + 1) (drop u.snapshot so_far) ≡ Some number → names_commit the_run u place entry (said.ConflictCommit number) ≡ true
+  pub commit-named : (u : Span) (place : Place) (number : ℕ) → u.snapshot ≤ length so_far → last_writer place (u.snapshot + 1) (drop u.snapshot so_far) ≡ Some number → names_commit the_run u place entry number ≡ true
   commit-named u place number bound is =
       let n = u.snapshot in
       let at = last-some place (n + 1) (drop n so_far) number is in
@@ -343,13 +343,13 @@ module _ (tables : List TableDecl) (printed timeline : List Entry) (t : Timeline
       let low : n < number = omega (arith, at.number_is) in
       let high : number ≤ length so_far = omega (arith, at.number_is, inside, size) in
       let index_is : n + at.index ≡ number - 1 = omega (arith, at.number_is) in
-      let has : writes_place place (write_set_at the_run number) ≡ true =
+      let has : writes_place place (write_set_at (the_run).history number) ≡ true =
       ap (writes_place place) (set-is number (omega (arith, low)) high ∙ ap (λ (i : ℕ). get_or so_far i []) (sym index_is) ∙ sym (get_or-drop n so_far at.index [])) ∙ at.has in
       let above : nat_lt n number ≡ true = grind (arith, nat_tests, low) in
       let long : length (the_run).history ≡ length so_far + length cut.grows.more = ap length (history-shown tables printed timeline t ∙ cut.grows.is) ∙ length-append so_far cut.grows.more in
-      all-three (list_any (λ later. eqb later number) (later_writers the_run u place)) (is_committed_not_after the_run entry number)
-      (list_all (λ later. nat_le later number || not (is_committed_before the_run entry later)) (later_writers the_run u place))
-      (range-any (is_later n place) number 1 (length (the_run).history) (omega (arith, low)) (omega (arith, high, long)) (both (nat_lt n number) (writes_place place (write_set_at the_run number)) above has))
+      all-three (list_any (λ later. eqb later number) (later_writers (the_run).history u.snapshot place)) (is_committed_not_after the_run entry number)
+      (list_all (λ later. nat_le later number || not (is_committed_before the_run entry later)) (later_writers (the_run).history u.snapshot place))
+      (range-any (is_later n place) number 1 (length (the_run).history) (omega (arith, low)) (omega (arith, high, long)) (both (nat_lt n number) (writes_place place (write_set_at (the_run).history number)) above has))
       (not-after-line number (omega (arith, low)) high)
       (filter-all (λ k. nat_le k number || not (is_committed_before the_run entry k)) (is_later n place)
       (λ k h. last-by n place number k bound at h (nat_le k number) (nat_le k (length so_far)) refl refl) (range_with_len 1 (length (the_run).history)))
@@ -362,7 +362,7 @@ module _ (tables : List TableDecl) (printed timeline : List Entry) (t : Timeline
 
   spans-of : (who : Who) → filter (λ u. is_same u.who who) (the_run).transactions ≡ spans who (thread who cut.front ++ rest_of who)
   spans-of who =
-      spans-is who printed (threads-in-order printed timeline cut.front entry cut.rest (at-cut tables printed timeline t entry only cut) who)
+      spans-is who printed
       ∙ ap (spans who) (its-thread printed timeline cut.front entry cut.rest (at-cut tables printed timeline t entry only cut) who)
 
   -- those in front are not after the reply, and those behind not before it
@@ -374,10 +374,10 @@ module _ (tables : List TableDecl) (printed timeline : List Entry) (t : Timeline
       (before-itself entry, Each-weaker (Follows entry) (λ other. is_before other entry ≡ false) (λ other follows. follows.not_before) cut.rest (rest-follows tables printed timeline t entry only cut))
 
   -- whether another session's transaction has a write of the place before the reply and its end after it
-  abbrev ends_later : Transaction → Bool
+  abbrev ends_later : Span → Bool
   ends_later u = option_map_or (λ ending. is_before entry ending) (ending_of u) true
 
-  abbrev passed_over : Who → Place → Transaction → Bool
+  abbrev passed_over : Who → Place → Span → Bool
   passed_over who place u = not (is_same u.who who) && has_write place (before u.replies entry) && ends_later u
 
   last-false : (a b : Bool) (c : Bool) → c ≡ false → (a && b && c) ≡ false
@@ -394,7 +394,7 @@ module _ (tables : List TableDecl) (printed timeline : List Entry) (t : Timeline
   first-false true b c h = absurd (let never : ⊥ = cc in never)
   first-false false b c h = refl
 
-  done-passed : (who its : Who) (place : Place) (ts : List Transaction) → EachSpan (Ended who (thread who cut.front)) ts → EachSpan (λ u. passed_over its place u ≡ false) ts
+  done-passed : (who its : Who) (place : Place) (ts : List Span) → EachSpan (Ended who (thread who cut.front)) ts → EachSpan (λ u. passed_over its place u ≡ false) ts
   done-passed who its place [] h = tt
   done-passed who its place (u ∷ ts) h =
       let inside : Each (λ other. is_before entry other ≡ false) u.replies =
@@ -408,7 +408,7 @@ module _ (tables : List TableDecl) (printed timeline : List Entry) (t : Timeline
   before-none [] h = refl
   before-none (other ∷ entries) h = rw h.0 (before-none entries h.1)
 
-  opened-put : (who its : Who) (place : Place) (entries : List Entry) → Each (λ other. is_before other entry ≡ false) entries → (shown : Option ℕ) (others : List Transaction)
+  opened-put : (who its : Who) (place : Place) (entries : List Entry) → Each (λ other. is_before other entry ≡ false) entries → (shown : Option ℕ) (others : List Span)
       → EachSpan (λ u. passed_over its place u ≡ false) others → EachSpan (λ u. passed_over its place u ≡ false) (cons_option (option_map (λ snapshot. span who snapshot (up_to_end entries)) shown) others)
   opened-put who its place entries h None others k = k
   opened-put who its place entries h (Some snapshot) others k = (
@@ -422,7 +422,7 @@ module _ (tables : List TableDecl) (printed timeline : List Entry) (t : Timeline
   opened-passed who its place (other ∷ entries) h =
       opened-put who its place (other ∷ entries) h (snapshot_in other.reply.said) (spans who entries) (opened-passed who its place entries h.1)
 
-  own-fails : (who : Who) (place : Place) (ts : List Transaction) → EachSpan (λ u. u.who ≡ who) ts → EachSpan (λ u. passed_over who place u ≡ false) ts
+  own-fails : (who : Who) (place : Place) (ts : List Span) → EachSpan (λ u. u.who ≡ who) ts → EachSpan (λ u. passed_over who place u ≡ false) ts
   own-fails who place [] h = tt
   own-fails who place (u ∷ ts) h =
       (first-false (not (is_same u.who who)) (has_write place (before u.replies entry)) (ends_later u) (ap not (ap (λ (w : Who). is_same w who) h.0 ∙ same-itself who)), own-fails who place ts h.1)
@@ -440,12 +440,12 @@ module _ (tables : List TableDecl) (printed timeline : List Entry) (t : Timeline
       ∙ append-nil (before replies entry))
       ∙ no-write-filter place (λ other. is_before other entry) replies lacks)
 
-  free-of : (who : Who) (s : ℕ) (place : Place) → Free s place cut.machine.open_transactions → is_same who (Session s) ≡ false → (o : OpenTransaction) → open_of who cut.machine ≡ Some o → writes_place place o.own ≡ false
+  free-of : (who : Who) (s : ℕ) (place : Place) → Free s place cut.machine.open_transactions → is_same who (Session s) ≡ false → (o : Transaction) → open_of who cut.machine ≡ Some o → writes_place place o.own ≡ false
   free-of (Session session) s place untouched apart o at = untouched session o at apart
   free-of (Worker worker) s place untouched apart o at = absurd (let never : ⊥ = cc in never)
 
   -- none of the transactions of another session passes
-  others-passed : (who : Who) (s : ℕ) (place : Place) → Free s place cut.machine.open_transactions → is_same who (Session s) ≡ false → (found : Option OpenTransaction) → open_of who cut.machine ≡ found
+  others-passed : (who : Who) (s : ℕ) (place : Place) → Free s place cut.machine.open_transactions → is_same who (Session s) ≡ false → (found : Option Transaction) → open_of who cut.machine ≡ found
       → Stands who (thread who cut.front) found → list_any (passed_over (Session s) place) (spans who (thread who cut.front ++ rest_of who)) ≡ false
   others-passed who s place untouched apart None at past =
       ap (list_any (passed_over (Session s) place)) (past.parts (rest_of who))
@@ -469,18 +469,18 @@ module _ (tables : List TableDecl) (printed timeline : List Entry) (t : Timeline
   each-passed s place untouched who false is =
       ap (list_any (passed_over (Session s) place)) (spans-of who) ∙ others-passed who s place untouched is (open_of who cut.machine) refl (cut.shown.stands who)
 
-  pub no-session : (u : Transaction) (s : ℕ) (place : Place) (told : Said) → u.who ≡ Session s → Free s place cut.machine.open_transactions → passes_no_session the_run u place entry told ≡ true
-  no-session u s place told is untouched =
-      or-holds _ _ (ap not (subst (λ (w : Who). list_any (passed_over w place) (the_run).transactions ≡ false) (sym is)
+  pub no-session : (u : Span) (s : ℕ) (place : Place) → u.who ≡ Session s → Free s place cut.machine.open_transactions → passes_no_session the_run u place entry ≡ true
+  no-session u s place is untouched =
+      (ap not (subst (λ (w : Who). list_any (passed_over w place) (the_run).transactions ≡ false) (sym is)
       (none-any (passed_over (Session s) place) (the_run).transactions (λ who. each-passed s place untouched who (is_same who (Session s)) refl))))
 
   -- the session that is named
-  abbrev named : ℕ → Who → Place → Transaction → Bool
+  abbrev named : ℕ → Who → Place → Span → Bool
   named session its place u = is_same u.who (Session session) && not (is_same u.who its)
       && has_write place (not_after u.replies entry)
       && option_map_or (λ ending. not (is_before ending entry)) (ending_of u) true
 
-  rival-named : (r : OpenTransaction) (s : ℕ) (place : Place) → transaction_of r.session cut.machine ≡ Some r → eqb r.session s ≡ false → writes_place place r.own ≡ true
+  rival-named : (r : Transaction) (s : ℕ) (place : Place) → transaction_of r.session cut.machine ≡ Some r → eqb r.session s ≡ false → writes_place place r.own ≡ true
       → (within : Within (Session r.session) (thread (Session r.session) cut.front) r)
       → named r.session (Session s) place (span (Session r.session) r.snapshot (within.replies ++ up_to_end (rest_of (Session r.session)))) ≡ true
   rival-named r s place at apart has within =
@@ -502,7 +502,7 @@ module _ (tables : List TableDecl) (printed timeline : List Entry) (t : Timeline
       all-four (is_same who (Session r.session)) (not (is_same who (Session s))) (has_write place (not_after (within.replies ++ later_ones) entry)) (option_map_or (λ ending. not (is_before ending entry)) (find (λ e. is_end e.reply.said) (within.replies ++ later_ones)) true)
       (same-itself who) (ap not apart) its_write goes_on
 
-  pub session-named : (u : Transaction) (s : ℕ) (place : Place) (r : OpenTransaction) → u.who ≡ Session s → Rival s place cut.machine.open_transactions r → names_session the_run u place entry (said.ConflictSession r.session) ≡ true
+  pub session-named : (u : Span) (s : ℕ) (place : Place) (r : Transaction) → u.who ≡ Session s → Rival s place cut.machine.open_transactions r → names_session the_run u place entry r.session ≡ true
   session-named u s place r is rivals =
       let who = Session r.session in
       let within = subst (Stands who (thread who cut.front)) rivals.at (cut.shown.stands who) in
@@ -532,31 +532,31 @@ lacks-in history n place k none low =
     ∙ ap (writes_place place) (sym (get_or-drop n history (k - 1 - n) []))
     ∙ last-none place (n + 1) (drop n history) none (k - 1 - n)
 
-module _ (tables : List TableDecl) (printed timeline : List Entry) (t : Timeline tables printed timeline) (u : Transaction) (place : Place) where
+module _ (tables : List TableDecl) (printed timeline : List Entry) (t : Timeline tables printed timeline) (u : Span) (place : Place) where
   abbrev run_of_all : Run
   run_of_all = run tables printed timeline t
 
   abbrev behind_snapshot : ℕ → Bool
-  behind_snapshot k = nat_lt u.snapshot k && writes_place place (write_set_at run_of_all k)
+  behind_snapshot k = nat_lt u.snapshot k && writes_place place (write_set_at (run_of_all).history k)
 
   -- the first end among replies commits below no other commit of the place
   abbrev commits_first : Option Entry → Type 0
-  commits_first found = option_map_or (λ number. list_all (nat_le number) (later_writers run_of_all u place)) (option_and_then (λ ending. commit_in ending.reply.said) found) true ≡ true
+  commits_first found = option_map_or (λ number. list_all (nat_le number) (later_writers (run_of_all).history u.snapshot place)) (option_and_then (λ ending. commit_in ending.reply.said) found) true ≡ true
 
   above-all : (history : History) → Grows history (last tables printed timeline t).history → last_writer place (u.snapshot + 1) (drop u.snapshot history) ≡ None
       → (k : ℕ) → behind_snapshot k ≡ true → (b : Bool) → nat_le (length history + 1) k ≡ b → nat_le (length history + 1) k ≡ true
   above-all history grows none k h true is = is
   above-all history grows none k h false is =
-      let parts = and_parts (nat_lt u.snapshot k) (writes_place place (write_set_at run_of_all k)) h in
+      let parts = and_parts (nat_lt u.snapshot k) (writes_place place (write_set_at (run_of_all).history k)) h in
       let low : u.snapshot < k = grind (arith, nat_tests, parts.0) in
       let high : k ≤ length history = grind (arith, nat_tests, is) in
-      let same : write_set_at run_of_all k ≡ get_or history (k - 1) [] =
+      let same : write_set_at (run_of_all).history k ≡ get_or history (k - 1) [] =
       ap (λ (xs : History). get_or xs (k - 1) []) (history-shown tables printed timeline t ∙ grows.is) ∙ get_or_append_left history grows.more [] (k - 1) (omega (arith, low, high)) in
       let never : true ≡ false = sym parts.1 ∙ ap (writes_place place) same ∙ lacks-in history u.snapshot place k none low in
       absurd (let impossible : ⊥ = cc in impossible)
 
   first-number : (history : History) → Grows history (last tables printed timeline t).history → last_writer place (u.snapshot + 1) (drop u.snapshot history) ≡ None
-      → list_all (nat_le (length history + 1)) (later_writers run_of_all u place) ≡ true
+      → list_all (nat_le (length history + 1)) (later_writers (run_of_all).history u.snapshot place) ≡ true
   first-number history grows none =
       filter-all (nat_le (length history + 1)) behind_snapshot (λ k h. above-all history grows none k h (nat_le (length history + 1) k) refl) (range_with_len 1 (length (run_of_all).history))
 
@@ -589,7 +589,7 @@ module _ (tables : List TableDecl) (printed timeline : List Entry) (t : Timeline
 
     -- the session's transaction behind its own write
     abbrev StillHas : IsolationMachine → Type 0
-    StillHas machine = (o : OpenTransaction) × (transaction_of s machine ≡ Some o) × (o.snapshot ≡ u.snapshot) × (writes_place place o.own ≡ true)
+    StillHas machine = (o : Transaction) × (transaction_of s machine ≡ Some o) × (o.snapshot ≡ u.snapshot) × (writes_place place o.own ≡ true)
 
     wrote-more : (machine after : IsolationMachine) (at : Place) (change : Option (List Cell)) → after ≡ with_own s at change machine → StillHas machine → StillHas after
     wrote-more machine after at change is h = (
@@ -616,7 +616,7 @@ module _ (tables : List TableDecl) (printed timeline : List Entry) (t : Timeline
     end-own front machine after e rest shown grows h more same (commits c) =
         let none = ap (λ (n : ℕ). last_writer place (n + 1) (drop n machine.history)) (sym h.2) ∙ shown.sane.first s h.0 place h.1 h.3 in
         ends-by e rest same (ap is_end c.said_is)
-        (ap (λ (told : Said). option_map_or (λ number. list_all (nat_le number) (later_writers run_of_all u place)) (commit_in told) true) c.said_is ∙ first-number machine.history grows none)
+        (ap (λ (told : Said). option_map_or (λ number. list_all (nat_le number) (later_writers (run_of_all).history u.snapshot place)) (commit_in told) true) c.said_is ∙ first-number machine.history grows none)
 
     end-step : (front : List Entry) (machine after : IsolationMachine) (e : Entry) (rest : List Entry) → Shown front machine → Change e.reply.who e.command e.reply.said machine after
         → Grows machine.history (last tables printed timeline t).history → StillHas machine
@@ -657,12 +657,12 @@ itself-place : (place : Place) → is_place place place ≡ true
 itself-place place = (eq_by_cmp_equiv place_cmp-total).refl place
 
 module _ (tables : List TableDecl) (printed timeline : List Entry) (t : Timeline tables printed timeline) (entry : Entry) (only : Only printed entry)
-    (cut : Cut tables timeline (last tables printed timeline t) entry) (s : ℕ) (o : OpenTransaction) (who_is : entry.reply.who ≡ Session s) (at : transaction_of s cut.machine ≡ Some o)
+    (cut : Cut tables timeline (last tables printed timeline t) entry) (s : ℕ) (o : Transaction) (who_is : entry.reply.who ≡ Session s) (at : transaction_of s cut.machine ≡ Some o)
     (within : Within entry.reply.who (thread entry.reply.who cut.front) o) (place : Place) (change : Option (List Cell)) (wrote : write_of entry.command ≡ Some (place, change)) where
   abbrev all_run : Run
   all_run = run tables printed timeline t
 
-  abbrev its_own : Transaction
+  abbrev its_own : Span
   its_own = belongs tables printed timeline t entry only cut o within
 
   session_is : o.session ≡ s
@@ -691,7 +691,7 @@ module _ (tables : List TableDecl) (printed timeline : List Entry) (t : Timeline
   still-has is (ends x) = absurd (ended-not entry.reply.said x.t.own is x.said_is)
   still-has is (commits c) = absurd (let e : said.Accepted ≡ said.Committed (Some (length (cut.machine).history + 1)) = sym is ∙ c.said_is in let never : ⊥ = cc in never)
 
-  first-updater : entry.reply.said ≡ said.Accepted → is_first_updater all_run its_own place said.Accepted ≡ true
+  first-updater : entry.reply.said ≡ said.Accepted → is_first_updater all_run its_own place ≡ true
   first-updater is =
       let behind = thread entry.reply.who cut.rest in
       let ending : ending_of its_own ≡ find (λ e. is_end e.reply.said) behind =
@@ -703,44 +703,35 @@ module _ (tables : List TableDecl) (printed timeline : List Entry) (t : Timeline
       subst (commits_first tables printed timeline t its_own place) (sym (ending ∙ ap (λ (w : Who). find (λ e. is_end e.reply.said) (thread w cut.rest)) who_is))
       (end-first tables printed timeline t its_own place s (cut.front ++ entry ∷ []) cut.after cut.rest cut.shown_after cut.runs_after cut.last_is (still-has is cut.change))
 
-  rules : (told : Said) → names_commit all_run its_own place entry told ≡ true → names_session all_run its_own place entry told ≡ true → passes_no_commit all_run its_own place entry told ≡ true
-      → passes_no_session all_run its_own place entry told ≡ true → is_first_updater all_run its_own place told ≡ true → conflict_holds all_run its_own place entry told ≡ true
-  rules told a b c d e =
-      or-holds (is_memory told) _
-      (all-five (names_commit all_run its_own place entry told) (names_session all_run its_own place entry told) (passes_no_commit all_run its_own place entry told)
-      (passes_no_session all_run its_own place entry told) (is_first_updater all_run its_own place told) a b c d e)
-
-  -- a reply of a place that is clear
-  clear-rules : (told : Said) → Clear cut.machine o place → names_commit all_run its_own place entry told ≡ true → names_session all_run its_own place entry told ≡ true
-      → is_first_updater all_run its_own place told ≡ true → conflict_holds all_run its_own place entry told ≡ true
-  clear-rules told clear a b e =
-      rules told a b (no-commit tables printed timeline t entry only cut its_own place told low clear.last) (no-session tables printed timeline t entry only cut its_own s place told who_is (free clear)) e
+  -- nobody is passed over where the place is clear
+  clear-holds : Clear cut.machine o place → is_clear all_run its_own place entry ≡ true
+  clear-holds clear =
+      both (passes_no_commit all_run its_own place entry) (passes_no_session all_run its_own place entry)
+      (no-commit tables printed timeline t entry only cut its_own place low clear.last) (no-session tables printed timeline t entry only cut its_own s place who_is (free clear))
 
   pub conflict-by : (acceptable : Bool) → Verdict cut.machine o place acceptable entry.reply.said → conflict_holds all_run its_own place entry entry.reply.said ≡ true
   conflict-by acceptable (accepted clear can is) =
-      subst (λ (told : Said). conflict_holds all_run its_own place entry told ≡ true) (sym is) (clear-rules said.Accepted clear refl refl (first-updater is))
+      ap (conflict_holds all_run its_own place entry) is ∙ both (is_clear all_run its_own place entry) (is_first_updater all_run its_own place) (clear-holds clear) (first-updater is)
   conflict-by acceptable (rival r found is) =
       let rivals = subst (λ (x : ℕ). Rival x place (cut.machine).open_transactions r) session_is (rival-some o.session place (cut.machine).open_transactions r cut.shown.sane.apart found) in
-      subst (λ (told : Said). conflict_holds all_run its_own place entry told ≡ true) (sym is)
-      (rules (said.ConflictSession r.session) refl (session-named tables printed timeline t entry only cut its_own s place r who_is rivals) refl refl refl)
+      ap (conflict_holds all_run its_own place entry) is ∙ session-named tables printed timeline t entry only cut its_own s place r who_is rivals
   conflict-by acceptable (later k none found is) =
-      subst (λ (told : Said). conflict_holds all_run its_own place entry told ≡ true) (sym is)
-      (rules (said.ConflictCommit k) (commit-named tables printed timeline t entry only cut its_own place k low found) refl refl
-      (no-session tables printed timeline t entry only cut its_own s place (said.ConflictCommit k) who_is (subst (λ (x : ℕ). Free x place (cut.machine).open_transactions) session_is (free-none o.session place (cut.machine).open_transactions none))) refl)
-  conflict-by acceptable (refused clear can (inl is)) = subst (λ (told : Said). conflict_holds all_run its_own place entry told ≡ true) (sym is) (clear-rules said.Exists clear refl refl refl)
-  conflict-by acceptable (refused clear can (inr is)) = subst (λ (told : Said). conflict_holds all_run its_own place entry told ≡ true) (sym is) (clear-rules said.Missing clear refl refl refl)
-  conflict-by acceptable (limited clear can (inl is)) = subst (λ (told : Said). conflict_holds all_run its_own place entry told ≡ true) (sym is) (clear-rules said.Full clear refl refl refl)
-  conflict-by acceptable (limited clear can (inr is)) =
-      subst (λ (told : Said). conflict_holds all_run its_own place entry told ≡ true) (sym is.3) (clear-rules (said.Freezing is.0 is.1 is.2) clear refl refl refl)
-  conflict-by acceptable (memory is) = subst (λ (told : Said). conflict_holds all_run its_own place entry told ≡ true) (sym is) refl
+      ap (conflict_holds all_run its_own place entry) is
+      ∙ both (names_commit all_run its_own place entry k) (passes_no_session all_run its_own place entry) (commit-named tables printed timeline t entry only cut its_own place k low found)
+      (no-session tables printed timeline t entry only cut its_own s place who_is (subst (λ (x : ℕ). Free x place (cut.machine).open_transactions) session_is (free-none o.session place (cut.machine).open_transactions none)))
+  conflict-by acceptable (refused clear can (inl is)) = ap (conflict_holds all_run its_own place entry) is ∙ clear-holds clear
+  conflict-by acceptable (refused clear can (inr is)) = ap (conflict_holds all_run its_own place entry) is ∙ clear-holds clear
+  conflict-by acceptable (limited clear can (inl is)) = ap (conflict_holds all_run its_own place entry) is ∙ clear-holds clear
+  conflict-by acceptable (limited clear can (inr is)) = ap (conflict_holds all_run its_own place entry) is.3 ∙ clear-holds clear
+  conflict-by acceptable (memory is) = ap (conflict_holds all_run its_own place entry) is
 
-abbrev conflict_test : Run → Entry → Transaction → Bool
+abbrev conflict_test : Run → Entry → Span → Bool
 conflict_test all entry u = option_map_or (λ write. conflict_holds all u write.0 entry entry.reply.said) (write_of entry.command) true
 
 module _ (tables : List TableDecl) (printed timeline : List Entry) (t : Timeline tables printed timeline) (entry : Entry) (only : Only printed entry)
     (cut : Cut tables timeline (last tables printed timeline t) entry) where
   -- a write in a transaction
-  conflict-inside : (who : Who) → entry.reply.who ≡ who → (o : OpenTransaction) → open_of who cut.machine ≡ Some o → (within : Within entry.reply.who (thread entry.reply.who cut.front) o)
+  conflict-inside : (who : Who) → entry.reply.who ≡ who → (o : Transaction) → open_of who cut.machine ≡ Some o → (within : Within entry.reply.who (thread entry.reply.who cut.front) o)
       → (write : Option (Place × Option (List Cell))) → write_of entry.command ≡ write
       → option_map_or (λ w. conflict_holds (run tables printed timeline t) (belongs tables printed timeline t entry only cut o within) w.0 entry entry.reply.said) write true ≡ true
   conflict-inside (Worker worker) is o at within write wrote = absurd (let never : ⊥ = cc in never)

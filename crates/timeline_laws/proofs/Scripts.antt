@@ -1,85 +1,259 @@
--- The replies to the sessions of a script are read back, and those that came about as they are printed explained.
-use Rattle.timeline_laws.specs.Laws.{InTurnIsExplained, RepliesAreRead, RowsRead, SessionsAreExplained}
-use Rattle.std.proofs.Common.{◌≡◌, ℕ, ◌+◌, Bool, true, false, ◌&&◌, ◌||◌, nat_le, nat_lt, eqb, zero, suc, List, [], ◌∷◌, ◌++◌, length, map, Some, refl, sym, subst, arith}
-use Rattle.std.specs.Prelude.{◌==◌}
-use Rattle.std.specs.List.{list_all, flat_map, count_by, range_with_len, enumerate_from}
-use Rattle.std.proofs.lemmas.Bool.{and_parts, and_from}
+-- What is due in a script: sessions' commands of its tables, and turns of its workers; and the law of a run.
+use Rattle.std.proofs.Common.{◌≡◌, ℕ, ◌+◌, ◌≤◌, Bool, true, false, cond, ◌&&◌, ◌||◌, inl, inr, nat_le, nat_lt, eqb, zero, suc, List, [], ◌∷◌, ◌++◌, length, Option, Some, None, Ok, refl, sym, ap, ◌∙◌, subst, arith, append-nil, append_assoc}
+use Rattle.std.specs.Prelude.{◌==◌, slice_get, is_some}
+use Rattle.std.specs.List.{list_all, flat_map, cons_option, count_by, range_with_len, enumerate_from}
+use Rattle.std.proofs.lemmas.Bool.{and_parts, and_from, leb-true, lt-ltb}
 use Rattle.std.proofs.lemmas.Bool.Decides.{nat_tests}
+use Rattle.std.proofs.lemmas.List.{map-append, length_push}
+use Rattle.std.proofs.lemmas.List.Folds.{list_all-append}
 use Rattle.cell_model.specs.declared.table.TableDecl.{TableDecl}
 use Rattle.workload_spec.specs.declared.command.Command.{Command}
+use Rattle.workload_spec.specs.declared.command.Command.TheVariants as command
 use Rattle.workload_spec.specs.declared.script.Line.{Line}
 use Rattle.workload_spec.specs.declared.script.Script.{Script}
 use Rattle.workload_spec.specs.declared.reply.Who.TheVariants.{Session, Worker}
-use Rattle.workload_spec.specs.Valid.{is_valid, has_head, is_table, is_name, is_name_byte, is_lower_case, is_within, are_columns, are_slots, are_blocks, have_own_names, most_tables, most_sessions, most_workers, most_turns, is_line, all_lines, is_export}
-use Rattle.outcome_spec.specs.Forms.{Due, commands_of, dues_to, dues_in, dues_of, turn_of}
-use Rattle.timeline_spec.specs.Printed.{printed_of}
-use Rattle.timeline_laws.proofs.ReadLines.{is_plain, is_plain_byte}
-use Rattle.timeline_laws.proofs.ReadBack.{NamesPlain, OfSessions, session-replies-read}
+use Rattle.workload_spec.specs.declared.reply.Said.{Said}
+use Rattle.workload_spec.specs.Grammar.{table_named}
+use Rattle.workload_spec.specs.Valid.{is_valid, has_head, is_table, is_table_place, is_command, is_name, is_name_byte, is_lower_case, is_within, are_columns, are_slots, are_blocks, have_own_names, most_tables, most_sessions, most_workers, most_turns, is_line, all_lines, is_export}
+use Rattle.workload_laws.proofs.Apart.{is_plain}
+use Rattle.workload_laws.proofs.CommandsBack.{place_stands}
+use Rattle.outcome_spec.specs.Forms.{Due, commands_of, dues_to, dues_in, dues_of, turn_of, is_upkeep}
+use Rattle.timeline_spec.specs.Printed.{printed_of, text_of}
+use Rattle.timeline_laws.specs.Laws.{TimelineIsRead, RunIsExplained, InTurnIsExplained}
+use Rattle.timeline_laws.proofs.ReadBack.{NamesPlain}
+use Rattle.timeline_laws.proofs.Turns.{IsStep, Named}
+use Rattle.timeline_laws.proofs.Silence.{AllSteps, AreFormed, BeginsFixed, Pieces, dues_in_pieces, pieces-read}
+use Rattle.timeline_laws.proofs.States.{EachDue, timeline-replies}
 use Rattle.timeline_laws.proofs.Printing.{printed-in-turn}
-use Rattle.timeline_laws.proofs.Cells.{rows-are-read}
-use Rattle.timeline_laws.proofs.States.{in-turn-replies, timeline-replies}
 use Rattle.timeline_laws.proofs.Sound.{timeline-explained}
+use Rattle.timeline_laws.proofs.Stated.{AreReplies}
+use Rattle.timeline_laws.proofs.Lines.{lines_from}
+use Rattle.outcome_spec.specs.Forms.{reading}
+use Rattle.timeline_spec.specs.Printed.{printed_from}
 
--- ---- the dues of sessions
+-- ---- dues in pieces
 
-module _ (tables : List TableDecl) (names : NamesPlain tables) (rows_read : RowsRead) where
-  abbrev Sessions : List Due → Type 0
-  Sessions dues = OfSessions tables names rows_read dues
+-- dues are in pieces that are formed, and no steps stand in front
+pub record Laid (tables : List TableDecl) (dues : List Due) : Type 0 where
+  pub pieces : Pieces
+  pub is : dues ≡ dues_in_pieces pieces
+  pub formed : AreFormed tables pieces
+  pub begins : BeginsFixed pieces
 
-  sessions-append : (a b : List Due) → Sessions a → Sessions b → Sessions (a ++ b)
-  sessions-append [] b h k = k
-  sessions-append (due ∷ a) b h k = (h.0, sessions-append a b h.1 k)
+in-pieces-append : (a b : Pieces) → dues_in_pieces (a ++ b) ≡ dues_in_pieces a ++ dues_in_pieces b
+in-pieces-append [] b = refl
+in-pieces-append (inl due ∷ a) b = ap (λ (dues : List Due). due ∷ dues) (in-pieces-append a b)
+in-pieces-append (inr steps ∷ a) b = ap (λ (dues : List Due). steps ++ dues) (in-pieces-append a b) ∙ sym (append_assoc steps (dues_in_pieces a) (dues_in_pieces b))
 
-  to-session : (round session : ℕ) (commands : List Command) → Sessions (dues_to round (Session session) commands)
-  to-session round session [] = tt
-  to-session round session (asked ∷ commands) = (refl, to-session round session commands)
+begins-append : (a b : Pieces) → BeginsFixed a → BeginsFixed b → BeginsFixed (a ++ b)
+begins-append [] b h k = k
+begins-append (inl due ∷ a) b h k = tt
+begins-append (inr steps ∷ a) b h k = h
 
-  flat-sessions : (f : ℕ → List Due) → ((x : ℕ) → Sessions (f x)) → (xs : List ℕ) → Sessions (flat_map f xs)
-  flat-sessions f h [] = tt
-  flat-sessions f h (x ∷ xs) = sessions-append (f x) (flat_map f xs) (h x) (flat-sessions f h xs)
+formed-append : (tables : List TableDecl) (a b : Pieces) → AreFormed tables a → AreFormed tables b → BeginsFixed b → AreFormed tables (a ++ b)
+formed-append tables [] b h k begins = k
+formed-append tables (inl due ∷ a) b h k begins = (h.0, formed-append tables a b h.1 k begins)
+formed-append tables (inr steps ∷ a) b h k begins = (h.0, begins-append a b h.1 begins, formed-append tables a b h.2 k begins)
 
-  in-sessions : (script : Script) (round : ℕ) (lines : List Line) → script.workers ≡ 0 → Sessions (dues_in script round lines)
-  in-sessions script round lines none =
-      sessions-append
-      (flat_map (λ session. dues_to round (Session session) (commands_of session lines)) (range_with_len 1 script.sessions))
-      (flat_map (λ worker. dues_to round (Worker worker) (flat_map (λ turn. turn_of script.tables) (range_with_len 1 script.turns))) (range_with_len 1 script.workers))
-      (flat-sessions (λ session. dues_to round (Session session) (commands_of session lines)) (λ session. to-session round session (commands_of session lines)) (range_with_len 1 script.sessions))
-      (subst (λ (n : ℕ). Sessions (flat_map (λ worker. dues_to round (Worker worker) (flat_map (λ turn. turn_of script.tables) (range_with_len 1 script.turns))) (range_with_len 1 n))) (sym none) tt)
+module _ (tables : List TableDecl) where
+  laid-none : Laid tables []
+  laid-none = record { pieces = []; is = refl; formed = tt; begins = tt }
 
-  rounds-sessions : (script : Script) (round : ℕ) (rounds : List (List Line)) → script.workers ≡ 0 → Sessions (flat_map (λ entry. dues_in script entry.0 entry.1) (enumerate_from round rounds))
-  rounds-sessions script round [] none = tt
-  rounds-sessions script round (lines ∷ rounds) none =
-      sessions-append (dues_in script round lines) (flat_map (λ entry. dues_in script entry.0 entry.1) (enumerate_from (round + 1) rounds)) (in-sessions script round lines none) (rounds-sessions script (round + 1) rounds none)
+  laid-append : (a b : List Due) → Laid tables a → Laid tables b → Laid tables (a ++ b)
+  laid-append a b h k = record {
+    pieces = h.pieces ++ k.pieces;
+    is = ap (λ (dues : List Due). dues ++ b) h.is ∙ ap (λ (dues : List Due). dues_in_pieces h.pieces ++ dues) k.is ∙ sym (in-pieces-append h.pieces k.pieces);
+    formed = formed-append tables h.pieces k.pieces h.formed k.formed k.begins;
+    begins = begins-append h.pieces k.pieces h.begins k.begins;
+  }
+
+  laid-flat : {X : Type 0} (f : X → List Due) → ((x : X) → Laid tables (f x)) → (xs : List X) → Laid tables (flat_map f xs)
+  laid-flat f h [] = laid-none
+  laid-flat f h (x ∷ xs) = laid-append (f x) (flat_map f xs) (h x) (laid-flat f h xs)
+
+  laid-session : (round session : ℕ) (commands : List Command) → Laid tables (dues_to round (Session session) commands)
+  laid-session round session [] = laid-none
+  laid-session round session (asked ∷ commands) =
+      let rest = laid-session round session commands in
+      record {
+        pieces = inl (record { round = round; who = Session session; command = asked }) ∷ rest.pieces;
+        is = ap (λ (dues : List Due). record { round = round; who = Session session; command = asked } ∷ dues) rest.is;
+        formed = (inl (session, refl), rest.formed);
+        begins = tt;
+      }
+
+  -- ---- a worker's turn
+
+  abbrev EachStep : List Command → Type 0
+  EachStep [] = Unit {0}
+  EachStep (asked ∷ commands) = IsStep tables asked × EachStep commands
+
+  each-append : (a b : List Command) → EachStep a → EachStep b → EachStep (a ++ b)
+  each-append [] b h k = k
+  each-append (asked ∷ a) b h k = (h.0, each-append a b h.1 k)
+
+  block-steps : (table first count : ℕ) → is_table_place tables table ≡ true → first + count ≤ 1024
+      → EachStep (flat_map (λ block. command.Seal table block ∷ command.Gather table block ∷ []) (range_with_len first count))
+  block-steps table first zero place few = tt
+  block-steps table first (suc count) place few =
+      ((place, omega (arith, few)), ((place, omega (arith, few)), block-steps table (first + 1) count place (omega (arith, few))))
+
+  place-at : (front rest : List TableDecl) (table : TableDecl) → slice_get (front ++ table ∷ rest) (length front) ≡ Some table
+  place-at [] rest table = refl
+  place-at (other ∷ front) rest table = place-at front rest table
+
+  table-blocks : (table : TableDecl) → is_table table ≡ true → table.blocks ≤ 1024
+  table-blocks table is =
+      let parts = and_parts (is_name table.name && are_columns table.schema && are_slots table.schema table.slots) (are_blocks table.blocks) is in
+      leb-true table.blocks 1024 (and_parts (nat_le 1 table.blocks) (nat_le table.blocks 1024) parts.1).1
+
+  table-steps : (front rest : List TableDecl) → tables ≡ front ++ rest → list_all is_table rest ≡ true
+      → EachStep (flat_map (λ entry. command.Compact entry.0 ∷ flat_map (λ block. command.Seal entry.0 block ∷ command.Gather entry.0 block ∷ []) (range_with_len 0 entry.1.blocks))
+      (enumerate_from (length front) rest))
+  table-steps front [] whole valid = tt
+  table-steps front (table ∷ rest) whole valid =
+      let parts = and_parts (is_table table) (list_all is_table rest) valid in
+      let there : is_table_place tables (length front) ≡ true = ap (λ (ts : List TableDecl). is_some (slice_get ts (length front))) whole ∙ ap is_some (place-at front rest table) in
+      let blocks : 0 + table.blocks ≤ 1024 = let e = table-blocks table parts.0 in omega (arith, e) in
+      let later = table-steps (front ++ table ∷ []) rest (whole ∙ sym (append_assoc front (table ∷ []) rest)) parts.1 in
+      each-append (command.Compact (length front) ∷ flat_map (λ block. command.Seal (length front) block ∷ command.Gather (length front) block ∷ []) (range_with_len 0 table.blocks)) _
+      (tt, block-steps (length front) 0 table.blocks there blocks)
+      (subst (λ (n : ℕ). EachStep (flat_map (λ entry. command.Compact entry.0 ∷ flat_map (λ block. command.Seal entry.0 block ∷ command.Gather entry.0 block ∷ []) (range_with_len 0 entry.1.blocks)) (enumerate_from n rest)))
+      (length_push front table) later)
+
+  all-steps : (round worker : ℕ) (commands : List Command) → EachStep commands → AllSteps tables round worker (dues_to round (Worker worker) commands)
+  all-steps round worker [] h = tt
+  all-steps round worker (asked ∷ commands) h = (refl, refl, h.0, all-steps round worker commands h.1)
+
+  laid-turn : (round worker : ℕ) → list_all is_table tables ≡ true → Laid tables (dues_to round (Worker worker) (turn_of tables))
+  laid-turn round worker valid =
+      let commands = flat_map (λ (entry : ℕ × TableDecl). command.Compact entry.0 ∷ flat_map (λ block. command.Seal entry.0 block ∷ command.Gather entry.0 block ∷ []) (range_with_len 0 entry.1.blocks)) (enumerate_from 0 tables) in
+      let observe : Due = record { round = round; who = Worker worker; command = command.Observe } in
+      let prune : Due = record { round = round; who = Worker worker; command = command.Prune } in
+      let steps = dues_to round (Worker worker) commands in
+      record {
+        pieces = inl observe ∷ inl prune ∷ inr steps ∷ [];
+        is = ap (λ (dues : List Due). observe ∷ prune ∷ dues) (sym (append-nil steps));
+        formed = (inr (worker, refl, inl refl), (inr (worker, refl, inr refl), ((round, worker, all-steps round worker commands (table-steps [] tables refl valid)), tt, tt)));
+        begins = tt;
+      }
+
+  laid-turns : (round worker : ℕ) → list_all is_table tables ≡ true → (turns : List ℕ) → Laid tables (dues_to round (Worker worker) (flat_map (λ turn. turn_of tables) turns))
+  laid-turns round worker valid [] = laid-none
+  laid-turns round worker valid (turn ∷ turns) =
+      let rest = flat_map (λ (turn : ℕ). turn_of tables) turns in
+      subst (Laid tables) (sym (map-append (λ (asked : Command). record { round = round; who = Worker worker; command = asked }) (turn_of tables) rest))
+      (laid-append (dues_to round (Worker worker) (turn_of tables)) (dues_to round (Worker worker) rest) (laid-turn round worker valid) (laid-turns round worker valid turns))
+
+-- What is due in a script is in pieces.
+pub script-laid : (script : Script) → list_all is_table script.tables ≡ true → Laid script.tables (dues_of script)
+script-laid script valid =
+    laid-flat script.tables (λ (entry : ℕ × List Line). dues_in script entry.0 entry.1) (λ entry.
+    laid-append script.tables (flat_map (λ session. dues_to entry.0 (Session session) (commands_of session entry.1)) (range_with_len 1 script.sessions)) _
+    (laid-flat script.tables (λ session. dues_to entry.0 (Session session) (commands_of session entry.1)) (λ session. laid-session script.tables entry.0 session (commands_of session entry.1)) (range_with_len 1 script.sessions))
+    (laid-flat script.tables (λ worker. dues_to entry.0 (Worker worker) (flat_map (λ turn. turn_of script.tables) (range_with_len 1 script.turns)))
+    (λ worker. laid-turns script.tables entry.0 worker valid (range_with_len 1 script.turns)) (range_with_len 1 script.workers)))
+    (enumerate_from 1 script.rounds)
+
+-- ---- whose each due is
+
+module _ (tables : List TableDecl) where
+  due-append : (a b : List Due) → EachDue tables a → EachDue tables b → EachDue tables (a ++ b)
+  due-append [] b h k = k
+  due-append (due ∷ a) b h k = (h.0, due-append a b h.1 k)
+
+  due-flat : {X : Type 0} (f : X → List Due) → ((x : X) → EachDue tables (f x)) → (xs : List X) → EachDue tables (flat_map f xs)
+  due-flat f h [] = tt
+  due-flat f h (x ∷ xs) = due-append (f x) (flat_map f xs) (h x) (due-flat f h xs)
+
+  abbrev EachUpkeep : List Command → Type 0
+  EachUpkeep [] = Unit {0}
+  EachUpkeep (asked ∷ commands) = (is_upkeep asked ≡ true) × EachUpkeep commands
+
+  upkeep-append : (a b : List Command) → EachUpkeep a → EachUpkeep b → EachUpkeep (a ++ b)
+  upkeep-append [] b h k = k
+  upkeep-append (asked ∷ a) b h k = (h.0, upkeep-append a b h.1 k)
+
+  upkeep-flat : {X : Type 0} (f : X → List Command) → ((x : X) → EachUpkeep (f x)) → (xs : List X) → EachUpkeep (flat_map f xs)
+  upkeep-flat f h [] = tt
+  upkeep-flat f h (x ∷ xs) = upkeep-append (f x) (flat_map f xs) (h x) (upkeep-flat f h xs)
+
+  turn-upkeep : (of : List TableDecl) → EachUpkeep (turn_of of)
+  turn-upkeep of = (refl, (refl, upkeep-flat table_commands table_upkeep (enumerate_from 0 of)))
+    where
+      block_commands : ℕ → ℕ → List Command
+      block_commands table block = command.Seal table block ∷ command.Gather table block ∷ []
+
+      block_upkeep : (table block : ℕ) → EachUpkeep (block_commands table block)
+      block_upkeep table block = (refl, (refl, tt))
+
+      table_commands : ℕ × TableDecl → List Command
+      table_commands entry = command.Compact entry.0 ∷ flat_map (block_commands entry.0) (range_with_len 0 entry.1.blocks)
+
+      table_upkeep : (entry : ℕ × TableDecl) → EachUpkeep (table_commands entry)
+      table_upkeep entry = (refl, upkeep-flat (block_commands entry.0) (block_upkeep entry.0) (range_with_len 0 entry.1.blocks))
+
+  due-worker : (round worker : ℕ) (commands : List Command) → EachUpkeep commands → EachDue tables (dues_to round (Worker worker) commands)
+  due-worker round worker [] h = tt
+  due-worker round worker (asked ∷ commands) h = (inr (worker, refl, h.0), due-worker round worker commands h.1)
+
+  abbrev EachValid : List Command → Type 0
+  EachValid [] = Unit {0}
+  EachValid (asked ∷ commands) = (is_command tables asked ≡ true) × EachValid commands
+
+  due-session : (round session : ℕ) (commands : List Command) → EachValid commands → EachDue tables (dues_to round (Session session) commands)
+  due-session round session [] h = tt
+  due-session round session (asked ∷ commands) h = (inl (session, refl, h.0), due-session round session commands h.1)
+
+  kept-command : (b : Bool) (asked : Command) (commands : List Command) → is_command tables asked ≡ true → EachValid commands → EachValid (cons_option (cond b (Some asked) None) commands)
+  kept-command true asked commands h k = (h, k)
+  kept-command false asked commands h k = k
+
+commands-valid : (script : Script) (session : ℕ) (lines : List Line) → list_all (is_line script) lines ≡ true → EachValid script.tables (commands_of session lines)
+commands-valid script session [] h = tt
+commands-valid script session (line ∷ lines) h =
+    let parts = and_parts (is_line script line) (list_all (is_line script) lines) h in
+    kept-command script.tables (line.session == session) line.command (commands_of session lines)
+    (and_parts (is_within 1 script.sessions line.session) (is_command script.tables line.command) parts.0).1 (commands-valid script session lines parts.1)
+
+rounds-due : (script : Script) (round : ℕ) (rounds : List (List Line)) → list_all (is_line script) (flat_map (λ lines. lines) rounds) ≡ true
+    → EachDue script.tables (flat_map (λ entry. dues_in script entry.0 entry.1) (enumerate_from round rounds))
+rounds-due script round [] h = tt
+rounds-due script round (lines ∷ rounds) h =
+    let parts = and_parts (list_all (is_line script) lines) (list_all (is_line script) (flat_map (λ lines. lines) rounds)) (sym (list_all-append (is_line script) lines (flat_map (λ lines. lines) rounds)) ∙ h) in
+    due-append script.tables (dues_in script round lines) _
+    (due-append script.tables (flat_map (λ session. dues_to round (Session session) (commands_of session lines)) (range_with_len 1 script.sessions)) _
+    (due-flat script.tables (λ session. dues_to round (Session session) (commands_of session lines)) (λ session. due-session script.tables round session (commands_of session lines) (commands-valid script session lines parts.0)) (range_with_len 1 script.sessions))
+    (due-flat script.tables (λ worker. dues_to round (Worker worker) (flat_map (λ turn. turn_of script.tables) (range_with_len 1 script.turns)))
+    (λ worker. due-worker script.tables round worker _ (upkeep-flat script.tables (λ turn. turn_of script.tables) (λ turn. turn-upkeep script.tables script.tables) (range_with_len 1 script.turns))) (range_with_len 1 script.workers)))
+    (rounds-due script (round + 1) rounds parts.1)
 
 -- ---- names
 
-plain-byte : (byte : ℕ) → eqb byte 32 ≡ false → eqb byte 34 ≡ false → eqb byte 10 ≡ false → is_plain_byte byte ≡ true
-plain-byte byte a b c = rw (a, b, c) refl
-
-name-byte-by : (byte : ℕ) (lower digit under : Bool) → (nat_le 97 byte && nat_le byte 122) ≡ lower → (nat_le 48 byte && nat_le byte 57) ≡ digit → eqb byte 95 ≡ under → (lower || digit || under) ≡ true → is_plain_byte byte ≡ true
-name-byte-by byte true digit under l d u h = let parts = and_parts (nat_le 97 byte) (nat_le byte 122) l in plain-byte byte (grind (arith, nat_tests, parts.0)) (grind (arith, nat_tests, parts.0)) (grind (arith, nat_tests, parts.0))
-name-byte-by byte false true under l d u h = let parts = and_parts (nat_le 48 byte) (nat_le byte 57) d in plain-byte byte (grind (arith, nat_tests, parts.0)) (grind (arith, nat_tests, parts.0)) (grind (arith, nat_tests, parts.0))
-name-byte-by byte false false true l d u h = plain-byte byte (grind (arith, nat_tests, u)) (grind (arith, nat_tests, u)) (grind (arith, nat_tests, u))
+name-byte-by : (byte : ℕ) (lower digit under : Bool) → (nat_le 97 byte && nat_le byte 122) ≡ lower → (nat_le 48 byte && nat_le byte 57) ≡ digit → eqb byte 95 ≡ under → (lower || digit || under) ≡ true → is_plain byte ≡ true
+name-byte-by byte true digit under l d u h = let parts = and_parts (nat_le 97 byte) (nat_le byte 122) l in lt-ltb 34 byte (let e : 97 ≤ byte = leb-true 97 byte parts.0 in omega (arith, e))
+name-byte-by byte false true under l d u h = let parts = and_parts (nat_le 48 byte) (nat_le byte 57) d in lt-ltb 34 byte (let e : 48 ≤ byte = leb-true 48 byte parts.0 in omega (arith, e))
+name-byte-by byte false false true l d u h = let e : nat_lt 34 byte ≡ true = grind (arith, nat_tests, u) in e
 name-byte-by byte false false false l d u h = absurd (let never : ⊥ = cc in never)
 
-name-byte : (byte : ℕ) → is_name_byte byte ≡ true → is_plain_byte byte ≡ true
+name-byte : (byte : ℕ) → is_name_byte byte ≡ true → is_plain byte ≡ true
 name-byte byte h = name-byte-by byte (nat_le 97 byte && nat_le byte 122) (nat_le 48 byte && nat_le byte 57) (eqb byte 95) refl refl refl h
 
-lower-byte : (byte : ℕ) → is_lower_case byte ≡ true → is_plain_byte byte ≡ true
-lower-byte byte h = let parts = and_parts (nat_le 97 byte) (nat_le byte 122) h in plain-byte byte (grind (arith, nat_tests, parts.0)) (grind (arith, nat_tests, parts.0)) (grind (arith, nat_tests, parts.0))
+lower-byte : (byte : ℕ) → is_lower_case byte ≡ true → is_plain byte ≡ true
+lower-byte byte h = let parts = and_parts (nat_le 97 byte) (nat_le byte 122) h in lt-ltb 34 byte (let e : 97 ≤ byte = leb-true 97 byte parts.0 in omega (arith, e))
 
-name-rest : (word : List ℕ) → list_all is_name_byte word ≡ true → is_plain word ≡ true
+name-rest : (word : List ℕ) → list_all is_name_byte word ≡ true → list_all is_plain word ≡ true
 name-rest [] h = refl
 name-rest (byte ∷ word) h =
     let parts = and_parts (is_name_byte byte) (list_all is_name_byte word) h in
-    and_from (is_plain_byte byte) (is_plain word) (name-byte byte parts.0) (name-rest word parts.1)
+    and_from (is_plain byte) (list_all is_plain word) (name-byte byte parts.0) (name-rest word parts.1)
 
-name-plain : (word : List ℕ) → is_name word ≡ true → is_plain word ≡ true
+name-plain : (word : List ℕ) → is_name word ≡ true → list_all is_plain word ≡ true
 name-plain [] h = refl
 name-plain (first ∷ rest) h =
     let parts = and_parts (is_lower_case first && list_all is_name_byte rest) (nat_lt (length rest) 32) h in
     let inner = and_parts (is_lower_case first) (list_all is_name_byte rest) parts.0 in
-    and_from (is_plain_byte first) (is_plain rest) (lower-byte first inner.0) (name-rest rest inner.1)
+    and_from (is_plain first) (list_all is_plain rest) (lower-byte first inner.0) (name-rest rest inner.1)
 
 names-plain : (tables : List TableDecl) → list_all is_table tables ≡ true → NamesPlain tables
 names-plain [] h table = refl
@@ -90,9 +264,23 @@ names-plain (decl ∷ tables) h zero =
     name-plain decl.name (and_parts (is_name decl.name) (are_columns decl.schema) third.0).0
 names-plain (decl ∷ tables) h (suc table) = names-plain tables (and_parts (is_table decl) (list_all is_table tables) h).1 table
 
--- the tables of a script are tables
-tables-valid : (script : Script) → is_valid script ≡ true → list_all is_table script.tables ≡ true
-tables-valid script h =
+names-apart : (tables : List TableDecl) → list_all is_table tables ≡ true → have_own_names tables ≡ true → Named tables
+names-apart tables all own a b at_a at_b same =
+    let first = place_stands tables a all own at_a in
+    let second = place_stands tables b all own at_b in
+    let e = sym first.named ∙ ap (table_named tables) same ∙ second.named in
+    cc
+
+-- ---- valid scripts
+
+-- what of a valid script is used: its tables, their names and its lines
+pub record IsSound (script : Script) : Type 0 where
+  pub tables : list_all is_table script.tables ≡ true
+  pub names : have_own_names script.tables ≡ true
+  pub lines : list_all (is_line script) (all_lines script) ≡ true
+
+script-sound : (script : Script) → is_valid script ≡ true → IsSound script
+script-sound script h =
     let a = and_parts (has_head script && nat_lt 0 (length script.rounds) && list_all (is_line script) (all_lines script)) (nat_le (count_by (λ line. is_export line.command) (all_lines script)) 1) h in
     let b = and_parts (has_head script && nat_lt 0 (length script.rounds)) (list_all (is_line script) (all_lines script)) a.0 in
     let c = and_parts (has_head script) (nat_lt 0 (length script.rounds)) b.0 in
@@ -106,22 +294,27 @@ tables-valid script h =
     let e = and_parts (first && second && third && fourth && fifth) sixth d.0 in
     let f = and_parts (first && second && third && fourth) fifth e.0 in
     let g = and_parts (first && second && third) fourth f.0 in
-    (and_parts (first && second) third g.0).1
+    record { tables = (and_parts (first && second) third g.0).1; names = g.1; lines = b.1 }
 
--- The printed replies to sessions are read back.
-pub replies-are-read : RepliesAreRead
-replies-are-read script saids valid none replies =
-    let names = names-plain script.tables (tables-valid script valid) in
-    session-replies-read script.tables names rows-are-read [] (dues_of script) saids (rounds-sessions script.tables names rows-are-read script 1 script.rounds none) replies
+-- ---- the law of a run
 
--- Those that came about as they are printed are explained.
+abbrev IsReadBack : Script → List Due → List (Option Said) → Type 0
+IsReadBack script dues told = reading script.tables dues [] (lines_from script.tables (printed_from script.tables [] dues told)) ≡ Ok ([] ++ printed_from script.tables [] dues told)
+
+-- The printed text of a timeline is read back.
+pub timeline-read : TimelineIsRead
+timeline-read script told timeline valid may t =
+    let sound = script-sound script valid in
+    let laid = script-laid script sound.tables in
+    let replies = timeline-replies script told timeline (rounds-due script 1 script.rounds sound.lines) may t in
+    subst (λ (dues : List Due). IsReadBack script dues told) (sym laid.is)
+    (pieces-read script.tables (names-plain script.tables sound.tables) (names-apart script.tables sound.tables sound.names) laid.pieces laid.formed [] told
+    (subst (λ (dues : List Due). AreReplies script.tables [] dues told) laid.is replies))
+
+-- The printed text of a timeline is explained.
+pub run-explained : RunIsExplained
+run-explained script told timeline valid may t = timeline-explained script (text_of script told) (printed_of script told) timeline (timeline-read script told timeline valid may t) t
+
+-- So is that of replies that came about as they are printed.
 pub in-turn-explained : InTurnIsExplained
-in-turn-explained script saids valid none may_stand runs =
-    let replies = in-turn-replies script saids may_stand runs in
-    timeline-explained script _ (printed_of script (map Some saids)) (printed_of script (map Some saids)) (replies-are-read script saids valid none replies) (printed-in-turn script (map Some saids) runs)
-
--- Those that came about in some order are explained.
-pub sessions-explained : SessionsAreExplained
-sessions-explained script saids timeline valid none may_stand t =
-    let replies = timeline-replies script saids timeline may_stand t in
-    timeline-explained script _ (printed_of script (map Some saids)) timeline (replies-are-read script saids valid none replies) t
+in-turn-explained script told valid may runs = run-explained script told (printed_of script told) valid may (printed-in-turn script told runs)

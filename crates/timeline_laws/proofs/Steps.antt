@@ -1,4 +1,5 @@
 -- What a reply makes of the machine, and why a write is answered as it is.
+use Rattle.std.specs.List.{last_or}
 use Rattle.std.proofs.Common.{◌≡◌, ℕ, ◌+◌, ◌<◌, ◌≤◌, Bool, true, false, cond, nat_le, List, [], ◌∷◌, length, drop, Option, None, Some, refl, sym, ap, ◌∙◌, subst, arith, ◌⊎◌, inl, inr, ℤ}
 use Rattle.std.specs.Prelude.{option_map, is_some, is_none, unwrap_or}
 use Rattle.std.specs.Option.{option_or, option_map_or}
@@ -8,7 +9,7 @@ use Rattle.cell_model.specs.declared.cell.Cell.{Cell}
 use Rattle.cell_model.specs.declared.table.TableDecl.{TableDecl}
 use Rattle.isolation_spec.specs.Contents.{at_place, place_at, place_of, contents_of, WriteSet}
 use Rattle.isolation_spec.specs.declared.place.Place.{Place}
-use Rattle.isolation_spec.specs.Machine.{IsolationMachine, Transaction, transaction_of, seen_rows, rival_of, last_writer, refusal_of_insert, refusal_of_change, with_own, without, commit, step, step_of}
+use Rattle.isolation_spec.specs.Machine.{IsolationMachine, Transaction, transaction_of, seen_rows, rival_of, refusal_of_insert, refusal_of_change, with_own, without, commit, step, step_of, later_writers}
 use Rattle.isolation_spec.specs.Store.{Outcome, Answered, Freezing, Full, Memory, Allows}
 use Rattle.isolation_spec.specs.declared.command.Command.{Command as Request}
 use Rattle.isolation_spec.specs.declared.command.Act.{Act}
@@ -26,7 +27,7 @@ use Rattle.outcome_spec.specs.Runs.{write_of}
 use Rattle.outcome_spec.specs.Numbers.{number_shown}
 use Rattle.outcome_spec.specs.Answers.{is_acceptable}
 use Rattle.timeline_spec.specs.Timeline.{said_of, request_of, Tells, open_of, ExportsBy, ExportsWithin, is_of_upkeep, Aside, TakesAs, Takes}
-use Rattle.timeline_laws.proofs.Writers.{last-some}
+use Rattle.timeline_laws.proofs.Writers.{last_writer, last-later, last-some}
 use Rattle.timeline_laws.proofs.Machine.{Sane, begun, committed, its-session}
 
 -- what is written where the write is accepted
@@ -151,14 +152,14 @@ pub insert-verdict : (machine : IsolationMachine) (t : Transaction) (table : ℕ
 insert-verdict machine t table row =
     let there = at_place (seen_rows machine t) (place_of table row) in
     verdict-exists machine t (place_of table row) (is_none there) (is_some there) (rival_of machine t.session (place_of table row))
-    (last_writer (place_of table row) (t.snapshot + 1) (drop t.snapshot machine.history)) refl refl (none-there there) (there-not there)
+    (last_or None (later_writers machine.history t.snapshot (place_of table row))) refl (sym (last-later machine.history t.snapshot (place_of table row))) (none-there there) (there-not there)
 
 change-verdict : (machine : IsolationMachine) (t : Transaction) (place : Place)
     → Verdict machine t place (is_some (at_place (seen_rows machine t) place)) (said_of (unwrap_or (refusal_of_change machine t place) answer.Accepted))
 change-verdict machine t place =
     let there = at_place (seen_rows machine t) place in
     verdict-missing machine t place (is_some there) (is_none there) (rival_of machine t.session place)
-    (last_writer place (t.snapshot + 1) (drop t.snapshot machine.history)) refl refl (none-some there) (some-none there)
+    (last_or None (later_writers machine.history t.snapshot place)) refl (sym (last-later machine.history t.snapshot place)) (none-some there) (some-none there)
 
 -- ---- what a reply to a write tells
 
@@ -279,22 +280,22 @@ module _ (machine : IsolationMachine) (sane : Sane machine) (session : ℕ) wher
   insert-stepped table row None at = untold (command.Insert table row)
   insert-stepped table row (Some t) at =
       write-cases (command.Insert table row) machine sane session t at (place_of table row) (Some row) (is_some (at_place (seen_rows machine t) (place_of table row))) answer.Exists
-      (rival_of machine t.session (place_of table row)) (last_writer (place_of table row) (t.snapshot + 1) (drop t.snapshot machine.history)) refl
-      (quietly (command.Insert table row) machine said.Exists refl refl refl refl refl) refl refl
+      (rival_of machine t.session (place_of table row)) (last_or None (later_writers machine.history t.snapshot (place_of table row))) refl
+      (quietly (command.Insert table row) machine said.Exists refl refl refl refl refl) refl (sym (last-later machine.history t.snapshot (place_of table row)))
 
   update-stepped : (table : ℕ) (row : List Cell) (found : Option Transaction) → transaction_of session machine ≡ found → Stepped (command.Update table row) (act.Update table row) found
   update-stepped table row None at = untold (command.Update table row)
   update-stepped table row (Some t) at =
       write-cases (command.Update table row) machine sane session t at (place_of table row) (Some row) (is_none (at_place (seen_rows machine t) (place_of table row))) answer.Missing
-      (rival_of machine t.session (place_of table row)) (last_writer (place_of table row) (t.snapshot + 1) (drop t.snapshot machine.history)) refl
-      (quietly (command.Update table row) machine said.Missing refl refl refl refl refl) refl refl
+      (rival_of machine t.session (place_of table row)) (last_or None (later_writers machine.history t.snapshot (place_of table row))) refl
+      (quietly (command.Update table row) machine said.Missing refl refl refl refl refl) refl (sym (last-later machine.history t.snapshot (place_of table row)))
 
   delete-stepped : (table : ℕ) (key : ℤ) (found : Option Transaction) → transaction_of session machine ≡ found → Stepped (command.Delete table key) (act.Delete table key) found
   delete-stepped table key None at = untold (command.Delete table key)
   delete-stepped table key (Some t) at =
       write-cases (command.Delete table key) machine sane session t at (place_at table key) None (is_none (at_place (seen_rows machine t) (place_at table key))) answer.Missing
-      (rival_of machine t.session (place_at table key)) (last_writer (place_at table key) (t.snapshot + 1) (drop t.snapshot machine.history)) refl
-      (quietly (command.Delete table key) machine said.Missing refl refl refl refl refl) refl refl
+      (rival_of machine t.session (place_at table key)) (last_or None (later_writers machine.history t.snapshot (place_at table key))) refl
+      (quietly (command.Delete table key) machine said.Missing refl refl refl refl refl) refl (sym (last-later machine.history t.snapshot (place_at table key)))
 
   begin-stepped : (found : Option Transaction) → transaction_of session machine ≡ found → Stepped command.Begin act.Begin found
   begin-stepped None at = opens (record { asked_is = refl; session = session; who_is = refl; none = at; said_is = refl; is = refl })

@@ -6,7 +6,8 @@ use Rattle.std.proofs.lemmas.List.Sorted.{IsPermutation-refl, IsPermutation-tran
 use Rattle.cell_model.specs.declared.table.TableDecl.{TableDecl}
 use Rattle.workload_spec.specs.declared.reply.Who.{Who}
 use Rattle.outcome_spec.specs.Entries.{Entry, is_same}
-use Rattle.timeline_spec.specs.Timeline.{thread, Timeline}
+use Rattle.timeline_spec.specs.Timeline.{Timeline}
+use Rattle.outcome_spec.specs.Entries.{thread}
 use Rattle.timeline_laws.proofs.Order.{same-is, same-itself}
 
 abbrev others : Who → List Entry → List Entry

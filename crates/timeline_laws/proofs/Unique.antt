@@ -1,52 +1,71 @@
--- Each reply of a timeline has a number of its own, so no other reply is it.
-use Rattle.std.proofs.Common.{◌≡◌, ◌<◌, Bool, true, false, eqb, List, [], ◌∷◌, ◌++◌, refl, sym, ◌∙◌, subst, arith, append_assoc}
+-- No two replies of a timeline have one round, session or worker, and index.
+use Rattle.std.proofs.Common.{◌≡◌, Bool, true, false, ◌&&◌, eqb, nat_lt, List, [], ◌∷◌, ◌++◌, refl, sym, ◌∙◌, subst, arith, append_assoc}
 use Rattle.std.specs.List.{list_any}
+use Rattle.std.proofs.lemmas.Bool.{and_parts, eqb-true, eq-eqb}
 use Rattle.std.proofs.lemmas.Bool.Decides.{nat_tests}
 use Rattle.workload_spec.specs.declared.reply.Who.{Who}
 use Rattle.outcome_spec.specs.Entries.{Entry, is_same, is_before}
-use Rattle.outcome_spec.specs.Runs.{is_reply}
-use Rattle.timeline_spec.specs.Timeline.{thread, Each, Follows, InOrder, Numbered}
-use Rattle.timeline_laws.proofs.Order.{Each-append, Each-weaker, Each-timeline, Each-first, Each-second, before-itself, order-front, order-rest, same-itself}
+use Rattle.outcome_spec.specs.Entries.{is_reply}
+use Rattle.timeline_spec.specs.Timeline.{Each, Follows, InOrder}
+use Rattle.outcome_spec.specs.Entries.{thread}
+use Rattle.timeline_laws.proofs.Tests.{and-false}
+use Rattle.timeline_laws.proofs.Order.{Each-append, Each-weaker, Each-printed, Each-first, Each-second, before-itself, order-front, order-rest, same-is, same-itself}
 
--- no other reply among these has the reply's number
+-- no other reply among these is the same one
 abbrev pub Only : List Entry → Entry → Type 0
 Only entries entry = Each (λ other. is_reply entry other ≡ true → other ≡ entry) entries
 
-apart-less : (entry other : Entry) → entry.number < other.number → is_reply entry other ≡ true → other ≡ entry
-apart-less entry other less h =
-    let e : eqb entry.number other.number ≡ false = grind (arith, nat_tests, less) in
-    absurd (let f : true ≡ false = sym h ∙ e in let never : ⊥ = cc in never)
+-- a reply that is the same one has its round, session or worker, and index
+same-parts : (a b : Entry) → is_reply a b ≡ true → (a.reply.round ≡ b.reply.round) × (a.reply.who ≡ b.reply.who) × (a.reply.index ≡ b.reply.index)
+same-parts a b h =
+    let outer = and_parts (eqb a.reply.round b.reply.round && is_same a.reply.who b.reply.who) (eqb a.reply.index b.reply.index) h in
+    let inner = and_parts (eqb a.reply.round b.reply.round) (is_same a.reply.who b.reply.who) outer.0 in
+    (eqb-true a.reply.round b.reply.round inner.0, same-is a.reply.who b.reply.who inner.1, eqb-true a.reply.index b.reply.index outer.1)
 
-apart-more : (entry other : Entry) → other.number < entry.number → is_reply entry other ≡ true → other ≡ entry
-apart-more entry other less h =
-    let e : eqb entry.number other.number ≡ false = grind (arith, nat_tests, less) in
-    absurd (let f : true ≡ false = sym h ∙ e in let never : ⊥ = cc in never)
+-- so it isn't before that
+not-before-same : (a b : Entry) → is_reply a b ≡ true → is_before a b ≡ false
+not-before-same a b h =
+    let same = same-parts a b h in
+    let round : nat_lt a.reply.round b.reply.round ≡ false = grind (arith, nat_tests, same.0) in
+    let index : nat_lt a.reply.index b.reply.index ≡ false = grind (arith, nat_tests, same.2) in
+    rw (round, index) (and-false (eqb a.reply.round b.reply.round && is_same a.reply.who b.reply.who))
 
-lower : (front : List Entry) (entry : Entry) (rest : List Entry) → Each (λ later. Each (λ earlier. earlier.number < later.number) front) rest → Each (λ later. entry.number < later.number) rest
-    → Each (λ later. Each (λ earlier. earlier.number < later.number) (front ++ entry ∷ [])) rest
-lower front entry [] h k = tt
-lower front entry (later ∷ rest) h k = (Each-append (λ earlier. earlier.number < later.number) front (entry ∷ []) h.0 (k.0, tt), lower front entry rest h.1 k.1)
+turned : (a b : Entry) → is_reply a b ≡ true → is_reply b a ≡ true
+turned a b h =
+    let same = same-parts a b h in
+    let round : eqb b.reply.round a.reply.round ≡ true = eq-eqb b.reply.round a.reply.round (sym same.0) in
+    let who : is_same b.reply.who a.reply.who ≡ true = subst (λ (w : Who). is_same w a.reply.who ≡ true) same.1 (same-itself a.reply.who) in
+    let index : eqb b.reply.index a.reply.index ≡ true = eq-eqb b.reply.index a.reply.index (sym same.2) in
+    rw (round, who, index) refl
 
-Each-nothing : (rest : List Entry) → Each (λ later. Each (λ earlier. earlier.number < later.number) []) rest
-Each-nothing [] = tt
-Each-nothing (later ∷ rest) = (tt, Each-nothing rest)
+-- of two replies in order one is not the other
+apart-behind : (earlier later : Entry) → Follows earlier later → is_reply earlier later ≡ true → later ≡ earlier
+apart-behind earlier later follows h =
+    let same = same-parts earlier later h in
+    let who : is_same later.reply.who earlier.reply.who ≡ true = subst (λ (w : Who). is_same w earlier.reply.who ≡ true) same.1 (same-itself earlier.reply.who) in
+    let is_not : is_before earlier later ≡ false = not-before-same earlier later h in
+    absurd (let f : true ≡ false = sym (follows.in_turn who) ∙ is_not in let never : ⊥ = cc in never)
 
--- each reply behind these is the only one of its number
-unique-from : (front rest : List Entry) → Numbered rest → Each (λ entry. Each (λ earlier. earlier.number < entry.number) front) rest → Each (Only (front ++ rest)) rest
-unique-from front [] h low = tt
-unique-from front (entry ∷ rest) h low = (
+apart-ahead : (earlier later : Entry) → Follows earlier later → is_reply later earlier ≡ true → earlier ≡ later
+apart-ahead earlier later follows h = sym (apart-behind earlier later follows (turned later earlier h))
+
+-- each reply behind these, which all follow those, is the only one of its round, session or worker, and index
+unique-from : (front rest : List Entry) → InOrder (front ++ rest) → Each (Only (front ++ rest)) rest
+unique-from front [] order = tt
+unique-from front (entry ∷ rest) order = (
   Each-append (λ other. is_reply entry other ≡ true → other ≡ entry) front (entry ∷ rest)
-      (Each-weaker (λ other. other.number < entry.number) (λ other. is_reply entry other ≡ true → other ≡ entry) (apart-more entry) front low.0) (
+      (Each-weaker (λ earlier. Follows earlier entry) (λ other. is_reply entry other ≡ true → other ≡ entry) (λ other follows. apart-ahead other entry follows) front (order-front front entry rest order)) (
         λ same. refl,
-        Each-weaker (λ other. entry.number < other.number) (λ other. is_reply entry other ≡ true → other ≡ entry) (apart-less entry) rest h.0,
+        Each-weaker (Follows entry) (λ other. is_reply entry other ≡ true → other ≡ entry) (λ other follows. apart-behind entry other follows) rest (order-rest front entry rest order),
       ),
   subst (λ (whole : List Entry). Each (Only whole) rest) (append_assoc front (entry ∷ []) rest)
-      (unique-from (front ++ entry ∷ []) rest h.1 (lower front entry rest low.1 h.0)),
+      (unique-from (front ++ entry ∷ []) rest (subst InOrder (sym (append_assoc front (entry ∷ []) rest)) order)),
 )
 
-pub unique : (printed timeline : List Entry) → ((who : Who) → thread who printed ≡ thread who timeline) → Numbered printed → Each (Only printed) timeline
-unique printed timeline threads h =
-    Each-timeline (Only printed) printed timeline threads (unique-from [] printed h (Each-nothing printed))
+-- Each reply of a timeline is the only printed one of its round, session or worker, and index.
+pub unique : (printed timeline : List Entry) → ((who : Who) → thread who printed ≡ thread who timeline) → InOrder timeline → Each (Only printed) timeline
+unique printed timeline threads order =
+    Each-weaker (Only timeline) (Only printed) (λ entry only. Each-printed (λ other. is_reply entry other ≡ true → other ≡ entry) printed timeline threads only) timeline (unique-from [] timeline order)
 
 -- no reply in front of one, nor behind it, is that one
 earlier-by : (entry other : Entry) → Follows other entry → (is_reply entry other ≡ true → other ≡ entry) → (b : Bool) → is_reply entry other ≡ b → is_reply entry other ≡ false
@@ -84,7 +103,10 @@ none-behind front entry rest order only =
     none-later entry rest (order-rest front entry rest order) (Each-second (λ other. is_reply entry other ≡ true → other ≡ entry) front (entry ∷ rest) only).1
 
 pub itself : (entry : Entry) → is_reply entry entry ≡ true
-itself entry = let e : eqb entry.number entry.number ≡ true = grind (arith, nat_tests) in e
+itself entry =
+    let round : eqb entry.reply.round entry.reply.round ≡ true = eq-eqb entry.reply.round entry.reply.round refl in
+    let index : eqb entry.reply.index entry.reply.index ≡ true = eq-eqb entry.reply.index entry.reply.index refl in
+    rw (round, same-itself entry.reply.who, index) refl
 
 pub any-none : (p : Entry → Bool) (entries : List Entry) → Each (λ entry. p entry ≡ false) entries → list_any p entries ≡ false
 any-none p [] h = refl

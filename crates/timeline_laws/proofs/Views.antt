@@ -18,8 +18,7 @@ use Rattle.isolation_spec.specs.declared.command.Act.TheVariants as act
 use Rattle.isolation_spec.specs.declared.command.Answer.{Answer}
 use Rattle.isolation_spec.specs.declared.command.Answer.TheVariants as answer
 use Rattle.isolation_spec.specs.Store.{Outcome, Answered, Freezing, Full, Memory, Allows}
-use Rattle.isolation_spec.specs.Machine.{IsolationMachine, seen_rows, step, step_of, commit}
-use Rattle.isolation_spec.specs.Machine.{Transaction as OpenTransaction}
+use Rattle.isolation_spec.specs.Machine.{IsolationMachine, seen_rows, step, step_of, commit, Transaction}
 use Rattle.workload_spec.specs.declared.command.Command.{Command}
 use Rattle.workload_spec.specs.declared.command.Command.TheVariants as command
 use Rattle.workload_spec.specs.declared.reply.Who.{Who}
@@ -27,11 +26,12 @@ use Rattle.workload_spec.specs.declared.reply.Who.TheVariants.{Session, Worker}
 use Rattle.workload_spec.specs.declared.reply.Said.{Said}
 use Rattle.workload_spec.specs.declared.reply.Said.TheVariants as said
 use Rattle.outcome_spec.specs.Entries.{Entry, is_same, is_before, before, snapshot_in, is_end}
-use Rattle.outcome_spec.specs.Runs.{Transaction, Run, up_to_end, writes_in, seen_at}
+use Rattle.outcome_spec.specs.Runs.{Span, Run, up_to_end, writes_in, seen_at}
 use Rattle.outcome_spec.specs.Runs.{transaction_of as belongs_to}
-use Rattle.outcome_spec.specs.Answers.{is_cell, is_row, read_holds, reads_hold, is_acceptable, write_holds, writes_hold}
+use Rattle.outcome_spec.specs.Answers.{is_cell, is_row, read_holds, reads_hold, is_acceptable, write_holds, writes_hold, got_place, scanned_table}
 use Rattle.outcome_spec.proofs.Conditions.{both}
-use Rattle.timeline_spec.specs.Timeline.{thread, open_of, Each, Follows, InOrder, Timeline, said_of, Tells, request_of, TakesAs, Aside, ExportsBy, is_of_upkeep}
+use Rattle.timeline_spec.specs.Timeline.{open_of, Each, Follows, InOrder, Timeline, said_of, Tells, request_of, TakesAs, Aside, ExportsBy, is_of_upkeep}
+use Rattle.outcome_spec.specs.Entries.{thread}
 use Rattle.timeline_laws.proofs.Order.{Each-second, Each-weaker, Each-filter, before-itself, order-front, order-rest, same-is, same-itself}
 use Rattle.timeline_laws.proofs.Spans.{span}
 use Rattle.timeline_laws.proofs.Unique.{Only}
@@ -80,7 +80,7 @@ front-before entry (other ∷ front) of h =
     let same : is_same entry.reply.who other.reply.who ≡ true = subst (λ (w : Who). is_same entry.reply.who w ≡ true) (sym (same-is other.reply.who entry.reply.who of.0)) (same-itself entry.reply.who) in
     (h.0.in_turn same, front-before entry front of.1 h.1)
 
-bound-of : (machine : IsolationMachine) → Sane machine → (who : Who) (o : OpenTransaction) → open_of who machine ≡ Some o → o.snapshot ≤ length machine.history
+bound-of : (machine : IsolationMachine) → Sane machine → (who : Who) (o : Transaction) → open_of who machine ≡ Some o → o.snapshot ≤ length machine.history
 bound-of machine sane (Session session) o at = sane.bound session o at
 bound-of machine sane (Worker worker) o at = absurd (let never : ⊥ = cc in never)
 
@@ -114,7 +114,7 @@ module _ (tables : List TableDecl) (printed timeline : List Entry) (t : Timeline
   rest-follows = order-rest cut.front entry cut.rest cut-order
 
   -- the replies of a transaction in front are before the reply
-  replies-before : (o : OpenTransaction) (within : Within its (thread its cut.front) o) → Each (λ other. is_before other entry ≡ true) within.replies
+  replies-before : (o : Transaction) (within : Within its (thread its cut.front) o) → Each (λ other. is_before other entry ≡ true) within.replies
   replies-before o within =
       Each-second (λ other. is_before other entry ≡ true) within.ahead within.replies
       (subst (Each (λ other. is_before other entry ≡ true)) within.split
@@ -130,19 +130,19 @@ module _ (tables : List TableDecl) (printed timeline : List Entry) (t : Timeline
   none-or true = rw (before-itself entry) refl
   none-or false = rw (before-itself entry) (filter-none (λ other. is_before other entry) (up_to_end behind_it) behind-not)
 
-  pub before-is : (o : OpenTransaction) (within : Within its (thread its cut.front) o) → before (within.replies ++ up_to_end (entry ∷ behind_it)) entry ≡ within.replies
+  pub before-is : (o : Transaction) (within : Within its (thread its cut.front) o) → before (within.replies ++ up_to_end (entry ∷ behind_it)) entry ≡ within.replies
   before-is o within =
       filter-append (λ other. is_before other entry) within.replies (up_to_end (entry ∷ behind_it))
       ∙ (rw (filter-each (λ other. is_before other entry) within.replies (replies-before o within), none-or (is_end entry.reply.said)) (append-nil within.replies))
 
   -- the transaction that the reply belongs to
-  abbrev pub belongs : (o : OpenTransaction) → Within its (thread its cut.front) o → Transaction
+  abbrev pub belongs : (o : Transaction) → Within its (thread its cut.front) o → Span
   belongs o within = span its o.snapshot (within.replies ++ up_to_end (entry ∷ behind_it))
 
-  pub within-open : (o : OpenTransaction) → open_of its cut.machine ≡ Some o → Within its (thread its cut.front) o
+  pub within-open : (o : Transaction) → open_of its cut.machine ≡ Some o → Within its (thread its cut.front) o
   within-open o at = subst (Stands its (thread its cut.front)) at (cut.shown.stands its)
 
-  pub belongs-is : (o : OpenTransaction) (within : Within its (thread its cut.front) o) → belongs_to here entry ≡ Some (belongs o within)
+  pub belongs-is : (o : Transaction) (within : Within its (thread its cut.front) o) → belongs_to here entry ≡ Some (belongs o within)
   belongs-is o within = found-open printed timeline cut.front entry cut.rest (at-cut tables printed timeline t entry only cut) o.snapshot within.replies within.spanned
 
   pub belongs-none : open_of its cut.machine ≡ None → snapshot_in entry.reply.said ≡ None → belongs_to here entry ≡ None
@@ -155,11 +155,11 @@ module _ (tables : List TableDecl) (printed timeline : List Entry) (t : Timeline
       ap (λ (h : History). fold laid_over [] (take n h)) (history-shown tables printed timeline t ∙ cut.grows.is)
       ∙ ap (fold laid_over []) (take-append-le n cut.machine.history cut.grows.more low)
 
-  pub bound-is : (o : OpenTransaction) → open_of its cut.machine ≡ Some o → o.snapshot ≤ length cut.machine.history
+  pub bound-is : (o : Transaction) → open_of its cut.machine ≡ Some o → o.snapshot ≤ length cut.machine.history
   bound-is o at = bound-of cut.machine cut.shown.sane its o at
 
   -- What the transaction sees.
-  pub seen-is : (o : OpenTransaction) (at : open_of its cut.machine ≡ Some o) (within : Within its (thread its cut.front) o) → seen_at here (belongs o within) entry ≡ seen_rows cut.machine o
+  pub seen-is : (o : Transaction) (at : open_of its cut.machine ≡ Some o) (within : Within its (thread its cut.front) o) → seen_at here (belongs o within) entry ≡ seen_rows cut.machine o
   seen-is o at within =
       ap (λ (s : State). laid_over s (writes_in (before (belongs o within).replies entry))) (state-is o.snapshot (bound-is o at))
       ∙ ap (λ (es : List Entry). laid_over (state_at cut.machine.history o.snapshot) (writes_in es)) (before-is o within)
@@ -183,18 +183,25 @@ outcome-read machine session asked act seen own told after is holds held Freezin
 outcome-read machine session asked act seen own told after is holds held Full tells allows f g = ap (read_holds seen asked) tells ∙ g
 outcome-read machine session asked act seen own told after is holds held Memory tells allows f g = ap (read_holds seen asked) tells ∙ held
 
-takes-read : (tables : List TableDecl) (front : List Entry) (machine : IsolationMachine) (entry : Entry) (after : IsolationMachine) (who : Who) (asked : Command) (o : OpenTransaction)
+-- a command that is no get and no scan shows no rows that are seen
+other-read : (seen : State) (asked : Command) (told : Said) → got_place asked ≡ None → scanned_table asked ≡ None → read_holds seen asked told ≡ true
+other-read seen asked (said.Found row) got scanned = ap (λ (f : Option Place). option_map_or (λ place. option_map_or (is_row row) (at_place seen place) false) f true) got
+other-read seen asked said.Absent got scanned = ap (λ (f : Option Place). option_map_or (λ place. is_none (at_place seen place)) f true) got
+other-read seen asked (said.Scanned rows) got scanned = ap (λ (f : Option ℕ). option_map_or (λ table. pointwise is_row rows (contents_of table seen)) f true) scanned
+other-read seen asked _ got scanned = refl
+
+takes-read : (tables : List TableDecl) (front : List Entry) (machine : IsolationMachine) (entry : Entry) (after : IsolationMachine) (who : Who) (asked : Command) (o : Transaction)
     → entry.command ≡ asked → open_of who machine ≡ Some o → TakesAs tables front machine entry after (request_of who asked) → read_holds (seen_rows machine o) asked entry.reply.said ≡ true
 takes-read tables front machine entry after (Worker worker) asked o is at h = absurd (let never : ⊥ = cc in never)
 takes-read tables front machine entry after (Session session) (command.Get table key) o is at h =
     outcome-read machine session (command.Get table key) (act.Get table key) (seen_rows machine o) (answer.Found (at_place (seen_rows machine o) (place_at table key))) entry.reply.said after
-    (ap (λ (f : Option OpenTransaction). (step_of machine (asks session (act.Get table key)) f).0) at)
+    (ap (λ (f : Option Transaction). (step_of machine (asks session (act.Get table key)) f).0) at)
     (got-holds (seen_rows machine o) table key (at_place (seen_rows machine o) (place_at table key)) refl) refl h.outcome h.tells h.allows (λ t b s. refl) refl
 takes-read tables front machine entry after (Session session) (command.Scan table) o is at h =
     outcome-read machine session (command.Scan table) (act.Scan table) (seen_rows machine o) (answer.Rows (contents_of table (seen_rows machine o))) entry.reply.said after
-    (ap (λ (f : Option OpenTransaction). (step_of machine (asks session (act.Scan table)) f).0) at)
+    (ap (λ (f : Option Transaction). (step_of machine (asks session (act.Scan table)) f).0) at)
     (rows-themselves (contents_of table (seen_rows machine o))) refl h.outcome h.tells h.allows (λ t b s. refl) refl
-takes-read tables front machine entry after (Session session) _ o is at h = refl
+takes-read tables front machine entry after (Session session) asked o is at h = other-read (seen_rows machine o) asked entry.reply.said refl refl
 
 -- ---- writes by the rows
 
@@ -209,7 +216,7 @@ unrefused said.Exists h = absurd (let never : ⊥ = cc in never)
 unrefused said.Missing h = absurd (let never : ⊥ = cc in never)
 unrefused _ h = refl
 
-verdict-write : (machine : IsolationMachine) (o : OpenTransaction) (place : Place) (acceptable : Bool) (told : Said) → Verdict machine o place acceptable told → write_holds acceptable told ≡ true
+verdict-write : (machine : IsolationMachine) (o : Transaction) (place : Place) (acceptable : Bool) (told : Said) → Verdict machine o place acceptable told → write_holds acceptable told ≡ true
 verdict-write machine o place acceptable told (accepted clear can is) = ap (write_holds acceptable) is ∙ can
 verdict-write machine o place acceptable told (rival r found is) = ap (write_holds acceptable) is
 verdict-write machine o place acceptable told (later k none found is) = ap (write_holds acceptable) is
@@ -231,7 +238,7 @@ got-unrefused : (o : Option (List Cell)) → refuses (said_of (answer.Found o)) 
 got-unrefused None = refl
 got-unrefused (Some row) = refl
 
-commit-unrefused : (machine : IsolationMachine) (o : OpenTransaction) (own : WriteSet) → refuses (said_of (commit machine o own).0) ≡ false
+commit-unrefused : (machine : IsolationMachine) (o : Transaction) (own : WriteSet) → refuses (said_of (commit machine o own).0) ≡ false
 commit-unrefused machine o [] = refl
 commit-unrefused machine o (first ∷ rest) = refl
 
@@ -240,23 +247,23 @@ upkeep-unrefused said.Exists h = absurd (let never : ⊥ = cc in never)
 upkeep-unrefused said.Missing h = absurd (let never : ⊥ = cc in never)
 upkeep-unrefused _ h = refl
 
-export-unrefused : (tables : List TableDecl) (front : List Entry) (machine : IsolationMachine) (found : Option OpenTransaction) (table : ℕ) (told : Said) → ExportsBy tables front machine found table told → refuses told ≡ false
+export-unrefused : (tables : List TableDecl) (front : List Entry) (machine : IsolationMachine) (found : Option Transaction) (table : ℕ) (told : Said) → ExportsBy tables front machine found table told → refuses told ≡ false
 export-unrefused tables front machine None table told h = ap refuses h
 export-unrefused tables front machine (Some o) table said.Exists h = absurd h
 export-unrefused tables front machine (Some o) table said.Missing h = absurd h
 export-unrefused tables front machine (Some o) table _ h = refl
 
-takes-write : (tables : List TableDecl) (front : List Entry) (machine : IsolationMachine) (entry : Entry) (after : IsolationMachine) (who : Who) (asked : Command) (o : OpenTransaction)
+takes-write : (tables : List TableDecl) (front : List Entry) (machine : IsolationMachine) (entry : Entry) (after : IsolationMachine) (who : Who) (asked : Command) (o : Transaction)
     → entry.command ≡ asked → open_of who machine ≡ Some o → TakesAs tables front machine entry after (request_of who asked) → write_holds (is_acceptable (seen_rows machine o) asked) entry.reply.said ≡ true
 takes-write tables front machine entry after (Worker worker) asked o is at h = absurd (let never : ⊥ = cc in never)
 takes-write tables front machine entry after (Session session) command.Begin o is at h =
-    unrefused entry.reply.said (outcome-unrefused machine session act.Begin answer.InTransaction entry.reply.said after (ap (λ (f : Option OpenTransaction). (step_of machine (asks session act.Begin) f).0) at) refl h.outcome h.tells h.allows)
+    unrefused entry.reply.said (outcome-unrefused machine session act.Begin answer.InTransaction entry.reply.said after (ap (λ (f : Option Transaction). (step_of machine (asks session act.Begin) f).0) at) refl h.outcome h.tells h.allows)
 takes-write tables front machine entry after (Session session) (command.Get table key) o is at h =
     unrefused entry.reply.said (outcome-unrefused machine session (act.Get table key) (answer.Found (at_place (seen_rows machine o) (place_at table key))) entry.reply.said after
-    (ap (λ (f : Option OpenTransaction). (step_of machine (asks session (act.Get table key)) f).0) at) (got-unrefused (at_place (seen_rows machine o) (place_at table key))) h.outcome h.tells h.allows)
+    (ap (λ (f : Option Transaction). (step_of machine (asks session (act.Get table key)) f).0) at) (got-unrefused (at_place (seen_rows machine o) (place_at table key))) h.outcome h.tells h.allows)
 takes-write tables front machine entry after (Session session) (command.Scan table) o is at h =
     unrefused entry.reply.said (outcome-unrefused machine session (act.Scan table) (answer.Rows (contents_of table (seen_rows machine o))) entry.reply.said after
-    (ap (λ (f : Option OpenTransaction). (step_of machine (asks session (act.Scan table)) f).0) at) refl h.outcome h.tells h.allows)
+    (ap (λ (f : Option Transaction). (step_of machine (asks session (act.Scan table)) f).0) at) refl h.outcome h.tells h.allows)
 takes-write tables front machine entry after (Session session) (command.Insert table row) o is at h =
     verdict-write machine o _ (is_acceptable (seen_rows machine o) (command.Insert table row)) entry.reply.said
     (takes-verdict tables front machine session o (command.Insert table row) entry.reply.said after entry _ _ is refl at refl h)
@@ -268,9 +275,9 @@ takes-write tables front machine entry after (Session session) (command.Delete t
     (takes-verdict tables front machine session o (command.Delete table key) entry.reply.said after entry _ _ is refl at refl h)
 takes-write tables front machine entry after (Session session) command.Commit o is at h =
     unrefused entry.reply.said (outcome-unrefused machine session act.Commit (commit machine o o.own).0 entry.reply.said after
-    (ap (λ (f : Option OpenTransaction). (step_of machine (asks session act.Commit) f).0) at) (commit-unrefused machine o o.own) h.outcome h.tells h.allows)
+    (ap (λ (f : Option Transaction). (step_of machine (asks session act.Commit) f).0) at) (commit-unrefused machine o o.own) h.outcome h.tells h.allows)
 takes-write tables front machine entry after (Session session) command.Abort o is at h =
-    unrefused entry.reply.said (outcome-unrefused machine session act.Abort answer.Aborted entry.reply.said after (ap (λ (f : Option OpenTransaction). (step_of machine (asks session act.Abort) f).0) at) refl h.outcome h.tells h.allows)
+    unrefused entry.reply.said (outcome-unrefused machine session act.Abort answer.Aborted entry.reply.said after (ap (λ (f : Option Transaction). (step_of machine (asks session act.Abort) f).0) at) refl h.outcome h.tells h.allows)
 takes-write tables front machine entry after (Session session) (command.Export table) o is at h =
     let aside : Aside tables front machine entry.reply.who (command.Export table) entry.reply.said = subst (λ (c : Command). Aside tables front machine entry.reply.who c entry.reply.said) is h.0 in
     unrefused entry.reply.said (export-unrefused tables front machine (open_of entry.reply.who machine) table entry.reply.said aside)
@@ -285,13 +292,13 @@ begun-read seen (command.Scan table) number = refl
 begun-read seen _ number = refl
 
 -- a test of the transaction that a reply belongs to, if it belongs to one
-pub at-some : (test : Transaction → Bool) (found : Option Transaction) (u : Transaction) → found ≡ Some u → test u ≡ true → option_map_or test found true ≡ true
-at-some test found u is h = ap (λ (o : Option Transaction). option_map_or test o true) is ∙ h
+pub at-some : (test : Span → Bool) (found : Option Span) (u : Span) → found ≡ Some u → test u ≡ true → option_map_or test found true ≡ true
+at-some test found u is h = ap (λ (o : Option Span). option_map_or test o true) is ∙ h
 
-pub at-none : (test : Transaction → Bool) (found : Option Transaction) → found ≡ None → option_map_or test found true ≡ true
-at-none test found is = ap (λ (o : Option Transaction). option_map_or test o true) is
+pub at-none : (test : Span → Bool) (found : Option Span) → found ≡ None → option_map_or test found true ≡ true
+at-none test found is = ap (λ (o : Option Span). option_map_or test o true) is
 
-pub at-any : (test : Transaction → Bool) (found : Option Transaction) → ((u : Transaction) → test u ≡ true) → option_map_or test found true ≡ true
+pub at-any : (test : Span → Bool) (found : Option Span) → ((u : Span) → test u ≡ true) → option_map_or test found true ≡ true
 at-any test None h = refl
 at-any test (Some u) h = h u
 
@@ -306,10 +313,10 @@ module _ (tables : List TableDecl) (printed timeline : List Entry) (t : Timeline
   run_here = run tables printed timeline t
 
   -- A condition on the transaction of a reply: it holds where a transaction is open in front, and where the reply opens one.
-  pub by-transaction : (test : Transaction → Bool)
-      → ((o : OpenTransaction) (at : open_of entry.reply.who cut.machine ≡ Some o) (within : Within entry.reply.who (thread entry.reply.who cut.front) o) → test (belongs tables printed timeline t entry only cut o within) ≡ true)
-      → ((u : Transaction) → entry.command ≡ command.Begin → entry.reply.said ≡ said.At (length cut.machine.history) → test u ≡ true)
-      → (found : Option OpenTransaction) → open_of entry.reply.who cut.machine ≡ found → Change entry.reply.who entry.command entry.reply.said cut.machine cut.after
+  pub by-transaction : (test : Span → Bool)
+      → ((o : Transaction) (at : open_of entry.reply.who cut.machine ≡ Some o) (within : Within entry.reply.who (thread entry.reply.who cut.front) o) → test (belongs tables printed timeline t entry only cut o within) ≡ true)
+      → ((u : Span) → entry.command ≡ command.Begin → entry.reply.said ≡ said.At (length cut.machine.history) → test u ≡ true)
+      → (found : Option Transaction) → open_of entry.reply.who cut.machine ≡ found → Change entry.reply.who entry.command entry.reply.said cut.machine cut.after
       → option_map_or test (belongs_to run_here entry) true ≡ true
   by-transaction test inside begins (Some o) at change =
       let within = within-open tables printed timeline t entry only cut o at in

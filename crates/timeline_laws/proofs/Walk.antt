@@ -14,8 +14,7 @@ use Rattle.std.proofs.lemmas.List.Sums.{fold_push}
 use Rattle.cell_model.specs.declared.cell.Cell.{Cell}
 use Rattle.isolation_spec.specs.Contents.{place_cmp, WriteSet, History}
 use Rattle.isolation_spec.specs.declared.place.Place.{Place}
-use Rattle.isolation_spec.specs.Machine.{IsolationMachine, opening, transaction_of, with_own, without}
-use Rattle.isolation_spec.specs.Machine.{Transaction as OpenTransaction}
+use Rattle.isolation_spec.specs.Machine.{IsolationMachine, opening, transaction_of, with_own, without, Transaction}
 use Rattle.workload_spec.specs.declared.reply.Who.{Who}
 use Rattle.workload_spec.specs.declared.reply.Who.TheVariants.{Session, Worker}
 use Rattle.workload_spec.specs.declared.reply.Said.{Said}
@@ -24,7 +23,8 @@ use Rattle.outcome_spec.specs.Entries.{Entry, is_same, shown_in, snapshot_in, co
 use Rattle.outcome_spec.specs.Runs.{accepted_write, writes_in}
 use Rattle.outcome_spec.specs.Numbers.{number_shown}
 use Rattle.outcome_spec.proofs.Conditions.{both}
-use Rattle.timeline_spec.specs.Timeline.{thread, open_of}
+use Rattle.timeline_spec.specs.Timeline.{open_of}
+use Rattle.outcome_spec.specs.Entries.{thread}
 use Rattle.timeline_laws.proofs.Ranges.{range-push}
 use Rattle.timeline_laws.proofs.Order.{same-is}
 use Rattle.timeline_laws.proofs.Spans.{Past, past-nil, past-idle, past-opens, past-goes_on, past-ends}
@@ -33,7 +33,7 @@ use Rattle.timeline_laws.proofs.Agrees.{Agree, agree-by, others-open}
 use Rattle.timeline_laws.proofs.Steps.{Change, quiet, opens, writes, ends, commits, Quiet, shows_at_most}
 
 -- the open transaction of a session, among its replies
-pub record Within (who : Who) (past : List Entry) (t : OpenTransaction) : Type 0 where
+pub record Within (who : Who) (past : List Entry) (t : Transaction) : Type 0 where
   pub ahead : List Entry
   pub replies : List Entry
   pub split : past ≡ ahead ++ replies
@@ -41,7 +41,7 @@ pub record Within (who : Who) (past : List Entry) (t : OpenTransaction) : Type 0
   pub on : find (λ entry. is_end entry.reply.said) replies ≡ None
   pub writes_are : writes_in replies ≡ t.own
 
-abbrev pub Stands : Who → List Entry → Option OpenTransaction → Type 0
+abbrev pub Stands : Who → List Entry → Option Transaction → Type 0
 Stands who past None = Past who past None
 Stands who past (Some t) = Within who past t
 
@@ -60,7 +60,7 @@ write-more front entry place row some =
     rw (filter_map-append accepted_write front (entry ∷ []), some)
     (fold_push (λ writes (write : Place × Option (List Cell)). insert_entry place_cmp writes write.0 write.1) [] (filter_map accepted_write front) (place, row))
 
-stands-quiet : (who : Who) (past : List Entry) (entry : Entry) (found : Option OpenTransaction) → Stands who past found
+stands-quiet : (who : Who) (past : List Entry) (entry : Entry) (found : Option Transaction) → Stands who past found
     → snapshot_in entry.reply.said ≡ None → is_end entry.reply.said ≡ false → accepted_write entry ≡ None → Stands who (past ++ entry ∷ []) found
 stands-quiet who past entry None h a b c = past-idle who past entry h a
 stands-quiet who past entry (Some t) h a b c = record {
@@ -83,7 +83,7 @@ stands-begin who past entry session count h is = record {
   writes_are = rw is refl;
 }
 
-stands-write : (who : Who) (past : List Entry) (entry : Entry) (t : OpenTransaction) (place : Place) (change : Option (List Cell)) → Within who past t → entry.reply.said ≡ said.Accepted
+stands-write : (who : Who) (past : List Entry) (entry : Entry) (t : Transaction) (place : Place) (change : Option (List Cell)) → Within who past t → entry.reply.said ≡ said.Accepted
     → accepted_write entry ≡ Some (place, change) → Within who (past ++ entry ∷ []) (record t { own = insert_entry place_cmp t.own place change })
 stands-write who past entry t place change h is wrote = record {
   ahead = h.ahead;
@@ -94,7 +94,7 @@ stands-write who past entry t place change h is wrote = record {
   writes_are = write-more h.replies entry place change wrote ∙ ap (λ (own : WriteSet). insert_entry place_cmp own place change) h.writes_are;
 }
 
-stands-end : (who : Who) (past : List Entry) (entry : Entry) (t : OpenTransaction) → Within who past t → snapshot_in entry.reply.said ≡ None → is_end entry.reply.said ≡ true
+stands-end : (who : Who) (past : List Entry) (entry : Entry) (t : Transaction) → Within who past t → snapshot_in entry.reply.said ≡ None → is_end entry.reply.said ≡ true
     → Past who (past ++ entry ∷ []) None
 stands-end who past entry t h a b = past-ends who past entry t.snapshot h.replies h.ahead h.spanned h.split a b
 
@@ -109,11 +109,11 @@ module _ (who : Who) (past : List Entry) (machine after : IsolationMachine) (ent
       let before : open_of who machine ≡ None = ap (λ (w : Who). open_of w machine) is ∙ none in
       let now : open_of who after ≡ Some (record { session = session; snapshot = length machine.history; own = [] }) =
       ap (λ (w : Who). open_of w after) is ∙ ap (transaction_of session) is_after ∙ at-begun session session machine
-      ∙ ap (λ (o : Option OpenTransaction). option_or o (cond (eqb session session) (Some (record { session = session; snapshot = length machine.history; own = [] })) None)) none
+      ∙ ap (λ (o : Option Transaction). option_or o (cond (eqb session session) (Some (record { session = session; snapshot = length machine.history; own = [] })) None)) none
       ∙ ap (λ (b : Bool). cond b (Some (record { session = session; snapshot = length machine.history; own = [] })) None) (eqb-itself session) in
       subst (Stands who (past ++ entry ∷ [])) (sym now) (stands-begin who past entry session (length machine.history) (subst (Stands who past) before h) said_is)
 
-  own-writes : (session : ℕ) (t : OpenTransaction) (place : Place) (change : Option (List Cell)) → who ≡ Session session → transaction_of session machine ≡ Some t → entry.reply.said ≡ said.Accepted
+  own-writes : (session : ℕ) (t : Transaction) (place : Place) (change : Option (List Cell)) → who ≡ Session session → transaction_of session machine ≡ Some t → entry.reply.said ≡ said.Accepted
       → accepted_write entry ≡ Some (place, change) → after ≡ with_own session place change machine
       → Stands who past (open_of who machine) → Stands who (past ++ entry ∷ []) (open_of who after)
   own-writes session t place change is at said_is wrote is_after h =
@@ -125,7 +125,7 @@ module _ (who : Who) (past : List Entry) (machine after : IsolationMachine) (ent
       ∙ ap (λ (b : Bool). Some (cond b (record t { own = insert_entry place_cmp t.own place change }) t)) (ap (λ (s : ℕ). eqb s session) its ∙ eqb-itself session) in
       subst (Stands who (past ++ entry ∷ [])) (sym now) (stands-write who past entry t place change (subst (Stands who past) before h) said_is wrote)
 
-  own-ends : (session : ℕ) (t : OpenTransaction) → who ≡ Session session → transaction_of session machine ≡ Some t → snapshot_in entry.reply.said ≡ None → is_end entry.reply.said ≡ true
+  own-ends : (session : ℕ) (t : Transaction) → who ≡ Session session → transaction_of session machine ≡ Some t → snapshot_in entry.reply.said ≡ None → is_end entry.reply.said ≡ true
       → transaction_of session after ≡ None → Stands who past (open_of who machine) → Stands who (past ++ entry ∷ []) (open_of who after)
   own-ends session t is at a b none h =
       let before : open_of who machine ≡ Some t = ap (λ (w : Who). open_of w machine) is ∙ at in

@@ -1,5 +1,6 @@
-//! The law of a run: replies that came about in some order, each as snapshot isolation and the counts of blocks allow, are sound.
-ghost use Rattle.timeline_laws.specs.Laws.{InTurnAreReplies, InTurnIsExplained, InTurnIsSound, PrintedAreInOrder, PrintedInTurn, RepliesAreRead, RowsRead, SessionsAreExplained, TimelineAreReplies, TimelineIsExplained, TimelineIsSound};
+//! The law of a run: replies that came about in some order, each as snapshot isolation and the counts of blocks allow,
+//! are an explained output, in whatever order they are printed.
+ghost use Rattle.timeline_laws.specs.Laws.{InTurnIsExplained, PrintedAreInOrder, PrintedInTurn, RunIsExplained, TimelineIsExplained, TimelineIsRead, TimelineIsSound};
 
 /// The replies of a timeline meet each condition of an explained output but the forms, in whatever order they came about.
 pub fn a_timeline_is_sound()
@@ -11,7 +12,7 @@ pub fn a_timeline_is_explained()
     ensures { TimelineIsExplained }
 {}
 
-/// Printed replies are numbered, and stand in an order in which they may have come about.
+/// Printed replies stand in an order in which they may have come about.
 pub fn printed_replies_are_in_order()
     ensures { PrintedAreInOrder }
 {}
@@ -21,37 +22,17 @@ pub fn printed_in_turn_is_a_timeline()
     ensures { PrintedInTurn }
 {}
 
-/// So they are sound.
-pub fn printed_in_turn_is_sound()
-    ensures { InTurnIsSound }
+/// The printed text of a timeline is read back as its replies: of sessions and workers, for all kinds of cells.
+pub fn a_timeline_is_read()
+    ensures { TimelineIsRead }
 {}
 
-/// The printed replies to sessions are read back.
-pub fn replies_to_sessions_are_read()
-    ensures { RepliesAreRead }
+/// The printed text of a timeline of a workload is an explained output, in whatever order the replies came about.
+pub fn a_run_is_explained()
+    ensures { RunIsExplained }
 {}
 
-/// Replies to sessions that came about as they are printed are an explained output.
+/// So is the text of replies that came about one after the other as they are printed.
 pub fn printed_in_turn_is_explained()
     ensures { InTurnIsExplained }
-{}
-
-/// Rows are read back from the words of their cells.
-pub fn rows_are_read()
-    ensures { RowsRead }
-{}
-
-/// Replies that came about as they are printed, and of which each may stand in some state, stand in the right states.
-pub fn printed_in_turn_are_replies()
-    ensures { InTurnAreReplies }
-{}
-
-/// Replies of a timeline, of which each may stand in some state, stand in the right states.
-pub fn replies_of_a_timeline_stand()
-    ensures { TimelineAreReplies }
-{}
-
-/// Replies to sessions that came about in some order are an explained output.
-pub fn sessions_in_any_order_are_explained()
-    ensures { SessionsAreExplained }
 {}

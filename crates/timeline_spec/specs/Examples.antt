@@ -1,22 +1,27 @@
 -- Worked examples: how a worker's line of refused memory is read, and a timeline that is not the order of the lines.
-use Rattle.std.specs.Prelude.{◌≡◌, List, [], ◌∷◌, ◌++◌, map, take, drop, codes, Some, option_map}
-use Rattle.workload_spec.specs.Words.{lines_text}
-use Rattle.workload_spec.specs.declared.command.Command.TheVariants as command
+use Rattle.std.specs.Prelude.{◌≡◌, List, [], ◌∷◌, ◌++◌, map, take, drop, codes, Option, None, Some, Ok}
 use Rattle.outcome_spec.specs.Explained.{replies_of}
 use Rattle.workload_spec.specs.declared.script.Script.{Script}
+use Rattle.workload_spec.specs.declared.reply.Said.{Said}
 use Rattle.workload_spec.specs.declared.reply.Said.TheVariants as said
 use Rattle.outcome_spec.specs.Entries.{Entry}
 use Rattle.outcome_spec.specs.Samples.{texts, sessions, with_worker, begin, insert}
 use Rattle.timeline_spec.specs.Timeline.{Timeline}
-use Rattle.timeline_spec.specs.Printed.{printed_of}
+use Rattle.timeline_spec.specs.Printed.{printed_of, text_of}
 
--- A worker's turn over two blocks, whose one gathering was refused memory. The line doesn't tell its block, and is
--- read as the answer to the first gathering, also where the second one gave it.
-abbrev pub FirstGathering : Type 0
-FirstGathering =
-    option_map (λ entries. map (λ entry. entry.command) entries)
-    (replies_of (with_worker (texts 2) ([] ∷ [])) (lines_text (codes "1 w1 1 cooling 0" ∷ codes "1 w1 2 pruned 0" ∷ codes "1 w1 3 moved 0" ∷ codes "1 w1 4 memory" ∷ [])))
-    ≡ Some (command.Observe ∷ command.Prune ∷ command.Compact 0 ∷ command.Gather 0 0 ∷ [])
+-- one round of a worker alone, over two blocks
+abbrev pub two_blocks : Script
+two_blocks = with_worker (texts 2) ([] ∷ [])
+
+-- its turn, with these answers to its two gatherings; it seals nothing
+abbrev pub gathers : Option Said → Option Said → List (Option Said)
+gathers first second = Some (said.Cooling 0) ∷ Some (said.Pruned 0) ∷ Some (said.Moved 0) ∷ None ∷ first ∷ None ∷ second ∷ []
+
+-- Where one of the two gatherings was refused memory, the lines don't tell which, nor does what is read from them.
+abbrev pub OneWasRefused : Type 0
+OneWasRefused =
+    (replies_of two_blocks (text_of two_blocks (gathers None (Some said.Memory))) ≡ Ok (printed_of two_blocks (gathers (Some said.Memory) None)))
+    × (printed_of two_blocks (gathers None (Some said.Memory)) ≡ printed_of two_blocks (gathers (Some said.Memory) None))
 
 -- One round of two sessions that insert one key: the first session's lines are printed first, but the second one's
 -- replies came about first.

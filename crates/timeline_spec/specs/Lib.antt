@@ -1,5 +1,5 @@
 pub mod Timeline
 pub mod Printed
-pub mod Words
 pub mod Forms
+pub mod Fronts
 pub mod Examples

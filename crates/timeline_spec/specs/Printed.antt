@@ -20,5 +20,5 @@ abbrev pub printed_of : Script → List (Option Said) → List Entry
 printed_of script told = printed_from script.tables [] (dues_of script) told
 
 -- The text of the printed replies.
-abbrev pub text_of : Script → List Said → List ℕ
-text_of script saids = replies_text script.tables (map (λ entry. entry.reply) (printed_of script (map Some saids)))
+abbrev pub text_of : Script → List (Option Said) → List ℕ
+text_of script told = replies_text script.tables (map (λ entry. entry.reply) (printed_of script told))

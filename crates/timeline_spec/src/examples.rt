@@ -1,11 +1,11 @@
 //! Worked examples: facts that the definitions compute.
 #![tactic(auto, unfolding(outcome_spec::specs::Opened::digits, outcome_spec::specs::Opened::is_utf8, outcome_spec::specs::Opened::chars, outcome_spec::specs::Opened::encode))]
 
-ghost use Rattle.timeline_spec.specs.Examples.{FirstGathering, SecondCameFirst};
+ghost use Rattle.timeline_spec.specs.Examples.{OneWasRefused, SecondCameFirst};
 
-/// A worker's line of refused memory is read as the answer to its first gathering.
-pub fn refused_memory_is_read_at_the_first_gathering()
-    ensures { FirstGathering }
+/// Which of a worker's gatherings was refused memory is not told by its line, and not by what is read from it.
+pub fn a_refused_gathering_does_not_tell_its_block()
+    ensures { OneWasRefused }
 {}
 
 /// Of two sessions in one round the second's replies may come about first, though its lines are printed last.

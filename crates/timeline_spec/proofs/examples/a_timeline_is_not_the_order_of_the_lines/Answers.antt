@@ -63,7 +63,6 @@ never_same h = absurd (let never : ⊥ = cc in never)
 pub returns : goal.returns
 returns c = record {
   threads = λ who. crossed (λ entry. is_same entry.reply.who who) first_begin first_insert second_begin second_insert (is_same (Session 1) who) (is_same (Session 2) who) refl refl refl refl (apart who);
-  numbers = ((omega arith, (omega arith, (omega arith, tt))), ((omega arith, (omega arith, tt)), ((omega arith, tt), (tt, tt))));
   order = (
     (record { not_before = refl; in_turn = λ h. refl }, (record { not_before = refl; in_turn = never_same }, (record { not_before = refl; in_turn = never_same }, tt))),
     ((record { not_before = refl; in_turn = never_same }, (record { not_before = refl; in_turn = never_same }, tt)), ((record { not_before = refl; in_turn = λ h. refl }, tt), (tt, tt))),
