@@ -1,0 +1,11 @@
+pub mod Opened
+pub mod Cases
+pub mod Lines
+pub mod Cells
+pub mod Rows
+pub mod States
+pub mod Turns
+pub mod Commits
+pub mod Capacity
+pub mod Blocks
+pub mod Snapshots
