@@ -5,7 +5,7 @@ use Rattle.std.proofs.Common.{◌≡◌, ℕ, Bool, ◌||◌, true, ◌+◌, ◌
 use Rattle.std.specs.List.{list_all, list_any, flat_map}
 use Rattle.std.proofs.lemmas.List.Folds.{list_any-append}
 use Rattle.std.specs.Io.KnownBytes.{Appends, Consumes, IsAtEnd}
-use Rattle.std.proofs.lemmas.Bool.{and_parts, and_from, leb-true}
+use Rattle.std.proofs.lemmas.Bool.{and_parts, and_from, leb-true, ltb-true, eq-eqb}
 use Rattle.std.proofs.lemmas.List.{append-nil, append_assoc}
 use Rattle.cell_model.specs.declared.column.Column.{Column}
 use Rattle.cell_model.specs.declared.table.TableDecl.{TableDecl}
@@ -37,12 +37,13 @@ use Rattle.mainline.specs.Outcome.{IsStreamOf, IsFrontOf, SaysOfBytes, EachSays,
 use Rattle.mainline.specs.declared.status.Status.{Status}
 use Rattle.mainline.specs.declared.status.Status.TheVariants as status
 use Rattle.byte_ports.specs.Calls.{AppendsFront}
-use Rattle.script_text.specs.Answers.{OnBad, LineFails}
+use Rattle.std.specs.Prelude.{Result, Ok, IfOk}
+use Rattle.script_text.specs.Answers.{LineFails, LineGives}
 use Rattle.script_text.specs.declared.fault.ScriptFault.{ScriptFault}
 use Rattle.script_text.specs.declared.fault.ScriptFault.TheVariants as fault
-use Rattle.workload_spec.specs.Grammar.{Fault, refused_text}
-use Rattle.script_text.specs.Supported.{Spells, supported_of}
-use Rattle.workload_laws.proofs.OneGrammar.{supported_grammar}
+use Rattle.workload_spec.specs.Grammar.{read_with}
+use Rattle.workload_spec.specs.Extents.{today, is_taken, RunsWithin}
+use Rattle.workload_laws.proofs.OneGrammar.{read_is_text}
 
 -- a table's limits
 table_limits : (table : TableDecl) → is_table table ≡ true → (length table.schema == 1) ≡ true → IsTable table
@@ -194,55 +195,95 @@ pub popped_round : (script : Script) (parts : Parts script) (items front : List 
 popped_round script parts items front popped round items_are split is =
     last_of_one front round parts.round (ap (λ (last : Option (List Line)). front ++ option_to_list last) (sym is) ∙ sym split ∙ items_are ∙ parts.rounds_are)
 
--- bytes that are read as a workload of today are its text
-pub spelled_workload : (bytes : List ℕ) (script : Script) → Spells bytes script → IsWorkload bytes script
-spelled_workload bytes script spells =
-    let text = (supported_grammar bytes script spells.supported).0 spells.read in
-    record { text = text.0; valid = text.1; supported = spells.supported }
+exactly_one : (count : ℕ) → 1 ≤ count → nat_le count 1 ≡ true → (count == 1) ≡ true
+exactly_one count some few = eq-eqb count 1 (omega (arith, some, leb-true count 1 few))
 
-pub workload_spelled : (bytes : List ℕ) (script : Script) → IsWorkload bytes script → Spells bytes script
-workload_spelled bytes script workload = record {
-  read = (supported_grammar bytes script workload.supported).1 (workload.text, workload.valid);
-  supported = workload.supported;
-}
+exactly_none : (count : ℕ) → nat_le count 0 ≡ true → (count == 0) ≡ true
+exactly_none count few = eq-eqb count 0 (omega (arith, leb-true count 0 few))
 
--- bytes that are read as no workload of today are refused
-refused_is : (Prints : Option (List ℕ) → Option (List ℕ) → List ℕ → Type 0) (bytes read : List ℕ) (told : Fault) (left_old left_new printed_old printed_new exported : Option (List ℕ)) (started : Option (List (List ℕ)))
-    → read ≡ bytes → Consumes left_old left_new bytes → IsAtEnd left_new → length bytes < 2 ^ 32
-    → ((script : Script) → Spells read script → ⊥) → supported_of read ≡ Err told → Prints printed_old printed_new (refused_text told)
+taken_command : (asked : Command) → is_taken today.commands asked ≡ true → is_supported_command asked ≡ true
+taken_command command.Begin is = refl
+taken_command (command.Get table key) is = refl
+taken_command (command.Insert table row) is = refl
+taken_command command.Commit is = refl
+taken_command (command.Export table) is = refl
+taken_command _ is = absurd cc
+
+taken_lines : (lines : List Line) → list_all (λ (line : Line). is_taken today.commands line.command) lines ≡ true → list_all (λ (line : Line). is_supported_command line.command) lines ≡ true
+taken_lines [] are = refl
+taken_lines (line ∷ lines) are =
+    let parts = and_parts (is_taken today.commands line.command) (list_all (λ (l : Line). is_taken today.commands l.command) lines) are in
+    and_from _ _ (taken_command line.command parts.0) (taken_lines lines parts.1)
+
+some_column : (columns : List Column) → begins_with_key columns ≡ true → 1 ≤ length columns
+some_column [] is = absurd cc
+some_column (column ∷ columns) is = omega arith
+
+one_column : (tables : List TableDecl) → list_all is_table tables ≡ true → list_all (λ (table : TableDecl). nat_le (length table.schema) 1) tables ≡ true → list_all (λ (table : TableDecl). length table.schema == 1) tables ≡ true
+one_column [] valid few = refl
+one_column (table ∷ tables) valid few =
+    let v = and_parts (is_table table) (list_all is_table tables) valid in
+    let f = and_parts (nat_le (length table.schema) 1) (list_all (λ (t : TableDecl). nat_le (length t.schema) 1) tables) few in
+    let parts = parts_of_four (is_name table.name) (are_columns table.schema) (are_slots table.schema table.slots) (are_blocks table.blocks) v.0 in
+    let columns = parts_of_four (begins_with_key table.schema) (nat_le (length table.schema) most_columns) (is_none (first_twins 0 table.schema)) (list_all (λ (column : Column). is_name column.name) table.schema) parts.1 in
+    and_from _ _ (exactly_one (length table.schema) (some_column table.schema columns.0) f.0) (one_column tables v.1 f.1)
+
+-- a workload within what runs today has one table of the key alone, one session, no worker, and one round
+supported_today : (script : Script) → is_valid script ≡ true → RunsWithin today script → is_supported script ≡ true
+supported_today script valid within =
+    let runs = parts_of_seven (nat_le (length script.tables) 1) (list_all (λ (table : TableDecl). nat_le (length table.schema) 1) script.tables) (nat_le script.sessions 1) (nat_le script.workers 0) (nat_le script.turns 0) (nat_le (length script.rounds) 1)
+    (list_all (λ (line : Line). is_taken today.commands line.command) (all_lines script)) within in
+    let whole = parts_of_four (has_head script) (nat_lt 0 (length script.rounds)) (list_all (is_line script) (all_lines script)) (nat_le (count_by (λ (line : Line). is_export line.command) (all_lines script)) 1) valid in
+    let head = parts_of_seven (script.version == 1) (is_within 1 most_tables (length script.tables)) (list_all is_table script.tables) (have_own_names script.tables) (is_within 1 most_sessions script.sessions)
+    (nat_le script.workers most_workers) (nat_le script.turns most_turns) whole.0 in
+    let tables = leb-true 1 (length script.tables) (and_parts (nat_le 1 (length script.tables)) (nat_le (length script.tables) most_tables) head.1).0 in
+    let sessions = leb-true 1 script.sessions (and_parts (nat_le 1 script.sessions) (nat_le script.sessions most_sessions) head.4).0 in
+    and_from _ _ (and_from _ _ (and_from _ _ (and_from _ _ (and_from _ _ (and_from _ _
+    (exactly_one (length script.tables) tables runs.0) (one_column script.tables head.2 runs.1)) (exactly_one script.sessions sessions runs.2)) (exactly_none script.workers runs.3)) (exactly_none script.turns runs.4))
+    (exactly_one (length script.rounds) (ltb-true 0 (length script.rounds) whole.1) runs.5)) (taken_lines (all_lines script) runs.6)
+
+-- what bytes of today are read as is a workload
+pub read_valid : (bytes : List ℕ) (script : Script) → IsWorkload bytes script → is_valid script ≡ true
+read_valid bytes script read = (read_is_text today bytes script refl read).1.valid
+
+pub read_supported : (bytes : List ℕ) (script : Script) → IsWorkload bytes script → is_supported script ≡ true
+read_supported bytes script read = let w = (read_is_text today bytes script refl read).1 in supported_today script w.valid w.within
+
+-- so is what was read of them
+pub valid_read : (bytes : List ℕ) (read : Result Script ScriptFault) → LineGives (λ script. script) read (read_with today bytes) → IfOk read (λ script. is_valid script ≡ true)
+valid_read bytes (Ok script) gives = read_valid bytes script gives
+valid_read bytes (Err bad) gives = tt
+
+pub supported_read : (bytes : List ℕ) (read : Result Script ScriptFault) → LineGives (λ script. script) read (read_with today bytes) → IfOk read (λ script. is_supported script ≡ true)
+supported_read bytes (Ok script) gives = read_supported bytes script gives
+supported_read bytes (Err bad) gives = tt
+
+-- a fault that is told is a bad line, the first of the bytes, which are refused
+told_fault : (Prints : Option (List ℕ) → Option (List ℕ) → List ℕ → Type 0) (bad : ScriptFault) (bytes : List ℕ) (left_old left_new printed_old printed_new exported : Option (List ℕ)) (started : Option (List (List ℕ)))
+    → Consumes left_old left_new bytes → IsAtEnd left_new → length bytes < 2 ^ 32 → LineFails bad (read_with today bytes) → TellsFault Prints bad printed_old printed_new
     → IsRefused Prints (outside left_old printed_old exported started) (outside left_new printed_new exported started)
-refused_is Prints bytes read told left_old left_new printed_old printed_new exported started same consumes ended short none first printed = record {
+told_fault Prints (fault.Bad line cause) bytes left_old left_new printed_old printed_new exported started consumes ended short first printed = record {
   bytes = bytes;
   input = record { read = consumes; ended = ended; short = short };
-  none = λ script workload. none script (subst (λ (bs : List ℕ). Spells bs script) (sym same) (workload_spelled bytes script workload));
-  fault = told;
-  first = ap supported_of (sym same) ∙ first;
+  fault = record { line = line; cause = cause };
+  first = first;
   printed = printed;
   outlet = record { exported = refl; started = refl };
 }
-
--- a fault that is told is a bad line, the first of the bytes
-told_fault : (Prints : Option (List ℕ) → Option (List ℕ) → List ℕ → Type 0) (X : Type 0) (bad : ScriptFault) (fact : Type 0) (bytes : List ℕ) (before now : Option (List ℕ))
-    → OnBad {X = X} (Err bad) fact → LineFails bad (supported_of bytes) → TellsFault Prints bad before now
-    → fact × ((told : Fault) × ((supported_of bytes ≡ Err told) × Prints before now (refused_text told)))
-told_fault Prints X (fault.Bad line cause) fact bytes before now none first told = (none, (record { line = line; cause = cause }, (first, told)))
-told_fault Prints X (fault.Memory refused) fact bytes before now none first told = absurd told
+told_fault Prints (fault.Memory refused) bytes left_old left_new printed_old printed_new exported started consumes ended short first printed = absurd printed
 
 -- how a run ends whose input was refused
-pub refusal_ends : (X : Type 0) (path : Option (List ℕ)) (ended : Status) (bad : ScriptFault) (bytes read : List ℕ) (left_old left_new printed_old printed_new exported : Option (List ℕ)) (started : Option (List (List ℕ)))
-    → read ≡ bytes → Consumes left_old left_new bytes → IsAtEnd left_new → length bytes < 2 ^ 32
-    → OnBad {X = X} (Err bad) ((script : Script) → Spells read script → ⊥) → LineFails bad (supported_of read)
-    → RefusalEnds bad ended printed_old printed_new
+pub refusal_ends : (path : Option (List ℕ)) (ended : Status) (bad : ScriptFault) (bytes : List ℕ) (left_old left_new printed_old printed_new exported : Option (List ℕ)) (started : Option (List (List ℕ)))
+    → Consumes left_old left_new bytes → IsAtEnd left_new → length bytes < 2 ^ 32
+    → LineFails bad (read_with today bytes) → RefusalEnds bad ended printed_old printed_new
     → RunEnds path ended (outside left_old printed_old exported started) (outside left_new printed_new exported started)
-refusal_ends X path status.Refused bad bytes read left_old left_new printed_old printed_new exported started same consumes ended short none first told =
-    let fault = told_fault Appends X bad ((script : Script) → Spells read script → ⊥) read printed_old printed_new none first told in
-    refused_is Appends bytes read fault.1.0 left_old left_new printed_old printed_new exported started same consumes ended short fault.0 fault.1.1.0 fault.1.1.1
-refusal_ends X path status.OutFault bad bytes read left_old left_new printed_old printed_new exported started same consumes ended short none first told =
-    let fault = told_fault AppendsFront X bad ((script : Script) → Spells read script → ⊥) read printed_old printed_new none first told in
-    inl (refused_is AppendsFront bytes read fault.1.0 left_old left_new printed_old printed_new exported started same consumes ended short fault.0 fault.1.1.0 fault.1.1.1)
-refusal_ends X path status.Memory bad bytes read left_old left_new printed_old printed_new exported started same consumes ended short none first told =
+refusal_ends path status.Refused bad bytes left_old left_new printed_old printed_new exported started consumes ended short first told =
+    told_fault Appends bad bytes left_old left_new printed_old printed_new exported started consumes ended short first told
+refusal_ends path status.OutFault bad bytes left_old left_new printed_old printed_new exported started consumes ended short first told =
+    inl (told_fault AppendsFront bad bytes left_old left_new printed_old printed_new exported started consumes ended short first told)
+refusal_ends path status.Memory bad bytes left_old left_new printed_old printed_new exported started consumes ended short first told =
     inl (record { printed = told; outlet = record { exported = refl; started = refl } })
-refusal_ends X path _ bad bytes read left_old left_new printed_old printed_new exported started same consumes ended short none first told = absurd told
+refusal_ends path _ bad bytes left_old left_new printed_old printed_new exported started consumes ended short first told = absurd told
 
 -- how a run ends whose input is a workload
 pub run_ends : (path : Option (List ℕ)) (ended : Status) (script : Script) (before now : Outside)

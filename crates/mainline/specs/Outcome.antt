@@ -1,5 +1,5 @@
 -- How a run of the program ends: what each status says of what was read, printed and sent.
-use Rattle.std.specs.Prelude.{◌≡◌, ◌≢◌, ◌<◌, ◌≤◌, ◌^◌, ◌⊎◌, ◌==◌, ℕ, Bool, true, length, false, List, [], ◌∷◌, ◌++◌, All, Option, None, Some, option_map, filter, Err, IsSome, if◌then◌else◌}
+use Rattle.std.specs.Prelude.{◌≡◌, ◌≢◌, ◌<◌, ◌≤◌, ◌^◌, ◌⊎◌, ◌==◌, ℕ, Bool, true, length, false, List, [], ◌∷◌, ◌++◌, All, Option, None, Some, option_map, filter, Ok, Err, IsSome, if◌then◌else◌}
 use Rattle.std.specs.List.{list_any}
 use Rattle.std.specs.List.Sorted.{IsPermutation}
 use Rattle.std.specs.Io.KnownBytes.{Appends, Consumes, IsAtEnd}
@@ -15,15 +15,14 @@ use Rattle.workload_spec.specs.declared.reply.Said.{Said}
 use Rattle.workload_spec.specs.declared.reply.Said.TheVariants as said
 use Rattle.workload_spec.specs.declared.script.Line.{Line}
 use Rattle.workload_spec.specs.declared.script.Script.{Script}
-use Rattle.workload_spec.specs.Grammar.{Fault, refused_text}
+use Rattle.workload_spec.specs.Grammar.{Fault, read_with, refused_text}
 use Rattle.workload_spec.specs.ScriptText.{script_text}
-use Rattle.workload_spec.specs.Supported.{is_supported}
+use Rattle.workload_spec.specs.Extents.{today}
 use Rattle.workload_spec.specs.Valid.{is_valid, is_export, all_lines}
 use Rattle.outcome_spec.specs.Entries.{Entry}
 use Rattle.outcome_spec.specs.Explained.{Explained, run_in}
 use Rattle.outcome_spec.specs.Runs.{Run, Span, transaction_of}
 use Rattle.outcome_spec.specs.Tables.{columns_at, slots_at}
-use Rattle.script_text.specs.Supported.{supported_of}
 use Rattle.mainline.specs.Words.{Asked, ToRun, ToShow, ToCheck, ToBench, usage_line}
 use Rattle.mainline.specs.declared.status.Status.{Status}
 use Rattle.mainline.specs.declared.status.Status.TheVariants as status
@@ -125,11 +124,9 @@ Delivers (Some path) script ran output before now =
 
 -- ---- the input
 
--- The bytes are the text of this workload, which runs today.
-pub record IsWorkload (bytes : List ℕ) (script : Script) : Type 0 where
-  pub text : script_text script ≡ bytes
-  pub valid : is_valid script ≡ true
-  pub supported : is_supported script ≡ true
+-- The bytes are read as this workload, in the part of the format that runs today.
+abbrev pub IsWorkload : List ℕ → Script → Type 0
+IsWorkload bytes script = read_with today bytes ≡ Ok script
 
 -- The bytes were read, to the end of the input, and are fewer than 2^32.
 pub record IsRead (bytes : List ℕ) (before now : Outside) : Type 0 where
@@ -158,9 +155,8 @@ pub record IsUsage (Prints : Option (List ℕ) → Option (List ℕ) → List �
 pub record IsRefused (Prints : Option (List ℕ) → Option (List ℕ) → List ℕ → Type 0) (before now : Outside) : Type 0 where
   pub bytes : List ℕ
   pub input : IsRead bytes before now
-  pub none : (script : Script) → ¬ IsWorkload bytes script
   pub fault : Fault
-  pub first : supported_of bytes ≡ Err fault
+  pub first : read_with today bytes ≡ Err fault
   pub printed : Prints before.printed now.printed (refused_text fault)
   pub outlet : LeavesOutlet before now
 

@@ -1,9 +1,12 @@
 //! What the program does with its words, its input, its output and its outlet.
-ghost use Rattle.std.specs.Prelude.{◌≡◌, ◌≢◌, ℕ, List, Option, map, true, string_bytes, option_map, OnOk, OnErr, if◌then◌else◌, ◌++◌, ◌∷◌, []};
+ghost use Rattle.std.specs.Prelude.{◌≡◌, ◌≢◌, ℕ, List, Option, map, true, string_bytes, option_map, IfOk, OnOk, OnErr, if◌then◌else◌, ◌++◌, ◌∷◌, []};
 ghost use Rattle.std.specs.List.{list_any};
 ghost use Rattle.byte_ports.specs.Calls.{Rose};
 ghost use Rattle.workload_spec.specs.Valid.{is_valid, is_export};
+ghost use Rattle.workload_spec.specs.Extents.{today};
+ghost use Rattle.workload_spec.specs.Grammar.{read_with};
 ghost use Rattle.workload_spec.specs.Supported.{is_supported};
+ghost use Rattle.script_text.specs.Answers.{LineGives};
 ghost use Rattle.mainline.specs.Outcome.{Ends, RunEnds, ScriptEnds, UsageEnds, TellsFaults, has_export, outside, started_by};
 ghost use Rattle.mainline.specs.Sent.{RefusalEnds, PlayEnds};
 ghost use Rattle.mainline.specs.Words.{asked_by};
@@ -20,7 +23,7 @@ use script_text::{ScriptFault, parse};
 use std::alloc::{AllocError, Global};
 use std::sync::Wait;
 use std::thread::Threads;
-use workload_spec::{Command, Round, Script};
+use workload_spec::{Command, Extent, Round, Script};
 
 /// As many bytes of input, or more, are too long.
 const MOST_BYTES: usize = 1 << 32;
@@ -93,13 +96,22 @@ fn run<R: Wait + Threads + Sync, S: Source, O: Sink, X: Outlet, G: Gate>(
         Err(InputFault::TooLong) => return Status::TooLong,
         Err(InputFault::Memory) => return Status::Memory,
     };
-    let parsed = parse(alloc, &bytes);
+    let parsed = parse_today(alloc, &bytes);
     // The run needs the memory of the text more than the text.
     drop(bytes);
     match parsed {
         Ok(script) => run_script(rt, alloc, script, path, out, export, gate),
         Err(fault) => refuse(alloc, fault, out),
     }
+}
+
+/// The workload that the bytes are, in the part of the format that runs today.
+fn parse_today(alloc: Global, bytes: &[u8]) -> Result<Script, ScriptFault>
+    ensures read { LineGives (λ script. script) result (read_with today bytes.now) }
+    ensures valid { IfOk result (λ script. is_valid script ≡ true) }
+    ensures supported { IfOk result (λ script. is_supported script ≡ true) }
+{
+    parse(alloc, &Extent::today(), bytes)
 }
 
 /// Prints at which line and for which cause the input is refused.

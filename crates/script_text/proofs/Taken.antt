@@ -9,7 +9,7 @@ use Rattle.cell_model.specs.declared.kind.Kind.{Kind}
 use Rattle.workload_spec.specs.declared.script.Cause.{Cause}
 use Rattle.workload_spec.specs.declared.script.Cause.TheVariants as cause
 use Rattle.workload_spec.specs.Valid.{is_name}
-use Rattle.workload_spec.specs.Extents.{whole as entire}
+use Rattle.workload_spec.specs.declared.extent.Extent.{Extent}
 use Rattle.workload_spec.specs.Grammar.{◌>>=◌, before_colon, after_colon, kind_of, has_colon, column_of, columns_from}
 use Rattle.std.proofs.lemmas.Bool.{le-ltb, lt-ltb}
 
@@ -25,22 +25,22 @@ pub taken_name : (name : List ℕ) (columns : List Column) → is_none (place_of
 taken_name name columns = ap is_none (position_from-zero (λ (column : Column). bytes_eq column.name name) columns) ∙ none_from (λ (column : Column). bytes_eq column.name name) columns 0
 
 -- a column that is read, by the answers of its tests
-pub no_kind : (columns : List Column) (word : List ℕ) → is_name (before_colon word) ≡ true → list_any (λ column. bytes_eq column.name (before_colon word)) columns ≡ false
-    → kind_of (after_colon word) ≡ None → column_of entire columns word ≡ Err cause.Kind
-no_kind columns word named own kind = rw (named, taken_name (before_colon word) columns, own, kind) refl
+pub no_kind : (extent : Extent) (columns : List Column) (word : List ℕ) → is_name (before_colon word) ≡ true → list_any (λ column. bytes_eq column.name (before_colon word)) columns ≡ false
+    → kind_of (after_colon word) ≡ None → column_of extent columns word ≡ Err cause.Kind
+no_kind extent columns word named own kind = rw (named, taken_name (before_colon word) columns, own, kind) refl
 
-pub no_room : (columns : List Column) (word : List ℕ) (kind : Kind × Bool) → is_name (before_colon word) ≡ true → list_any (λ column. bytes_eq column.name (before_colon word)) columns ≡ false
-    → kind_of (after_colon word) ≡ Some kind → 32 ≤ length columns → column_of entire columns word ≡ Err cause.Columns
-no_room columns word kind named own known full = rw (named, taken_name (before_colon word) columns, own, known, le-ltb (length columns) 32 full) refl
+pub no_room : (extent : Extent) (columns : List Column) (word : List ℕ) (kind : Kind × Bool) → is_name (before_colon word) ≡ true → list_any (λ column. bytes_eq column.name (before_colon word)) columns ≡ false
+    → kind_of (after_colon word) ≡ Some kind → extent.columns ≤ length columns → column_of extent columns word ≡ Err cause.Columns
+no_room extent columns word kind named own known full = rw (named, taken_name (before_colon word) columns, own, known, le-ltb (length columns) extent.columns full) refl
 
-pub column_read : (columns : List Column) (word : List ℕ) (kind : Kind × Bool) → is_name (before_colon word) ≡ true → list_any (λ column. bytes_eq column.name (before_colon word)) columns ≡ false
-    → kind_of (after_colon word) ≡ Some kind → length columns < 32 → column_of entire columns word ≡ Ok (record { name = before_colon word; kind = kind.0; nullable = kind.1 })
-column_read columns word kind named own known room = rw (named, taken_name (before_colon word) columns, own, known, lt-ltb (length columns) 32 room) refl
+pub column_read : (extent : Extent) (columns : List Column) (word : List ℕ) (kind : Kind × Bool) → is_name (before_colon word) ≡ true → list_any (λ column. bytes_eq column.name (before_colon word)) columns ≡ false
+    → kind_of (after_colon word) ≡ Some kind → length columns < extent.columns → column_of extent columns word ≡ Ok (record { name = before_colon word; kind = kind.0; nullable = kind.1 })
+column_read extent columns word kind named own known room = rw (named, taken_name (before_colon word) columns, own, known, lt-ltb (length columns) extent.columns room) refl
 
 chosen : {A B : Type 0} (b : Bool) (r : Result A Cause) (value : A) (next : A → Result B Cause) (stop : Result B Cause) → b ≡ true → r ≡ Ok value → elim b [ true ↦ r >>= next | false ↦ stop ] ≡ next value
 chosen true r value next stop e f = rw f refl
 chosen false r value next stop e f = absurd cc
 
-pub columns_step : (columns : List Column) (words : List (List ℕ)) (word : List ℕ) (behind : List (List ℕ)) (column : Column) → words ≡ word ∷ behind → has_colon word ≡ true → column_of entire columns word ≡ Ok column
-    → columns_from entire columns words ≡ columns_from entire (columns ++ column ∷ []) behind
-columns_step columns words word behind column first colon read = ap (columns_from entire columns) first ∙ chosen (has_colon word) (column_of entire columns word) column (λ (made : Column). columns_from entire (columns ++ made ∷ []) behind) (Ok (columns, word ∷ behind)) colon read
+pub columns_step : (extent : Extent) (columns : List Column) (words : List (List ℕ)) (word : List ℕ) (behind : List (List ℕ)) (column : Column) → words ≡ word ∷ behind → has_colon word ≡ true → column_of extent columns word ≡ Ok column
+    → columns_from extent columns words ≡ columns_from extent (columns ++ column ∷ []) behind
+columns_step extent columns words word behind column first colon read = ap (columns_from extent columns) first ∙ chosen (has_colon word) (column_of extent columns word) column (λ (made : Column). columns_from extent (columns ++ made ∷ []) behind) (Ok (columns, word ∷ behind)) colon read

@@ -1,4 +1,9 @@
 pub mod Cursor
 pub mod Answers
 pub mod Numbers
-pub mod Supported
+pub mod Spellings
+pub mod Tables
+pub mod Heads
+pub mod Verbs
+pub mod Commands
+pub mod Partings

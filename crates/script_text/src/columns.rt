@@ -1,8 +1,8 @@
 //! Columns of a table line: `NAME:KIND`, as far as words have a colon.
-ghost use Rattle.std.specs.Prelude.{◌≡◌, ◌≤◌, ◌∷◌, [], length, take, bytes_eq, IfOk};
+ghost use Rattle.std.specs.Prelude.{◌≡◌, ◌≤◌, ◌∷◌, [], length, take, bytes_eq, IfOk, true};
 ghost use Rattle.std.specs.List.{list_all, list_any};
 ghost use Rattle.workload_spec.specs.Valid.{is_name, is_name_byte, is_lower_case};
-ghost use Rattle.workload_spec.specs.Extents.{whole};
+ghost use Rattle.workload_spec.specs.Extents.{is_extent};
 ghost use Rattle.workload_spec.specs.Grammar.{has_colon, before_colon, after_colon, column_of, columns_from, key_column};
 ghost use Rattle.script_text.specs.Cursor.{words_behind};
 ghost use Rattle.script_text.specs.Answers.{Gives};
@@ -10,9 +10,9 @@ ghost use Rattle.script_text.specs.Answers.{Gives};
 use crate::fault::WordFault;
 use crate::kinds::kind_of;
 use crate::words::word_behind;
-use cell_model::{Bytes, Column, Kind, MOST_COLUMNS};
+use cell_model::{Bytes, Column, Kind, Schema};
 use std::alloc::{AllocError, Global};
-use workload_spec::Cause;
+use workload_spec::{Cause, Extent};
 
 /// Whether the bytes are a name: a lower-case letter, and then at most 31 lower-case letters, digits and underscores.
 pub fn is_name(bytes: &[u8]) -> bool
@@ -43,7 +43,7 @@ fn is_name_byte(byte: u8) -> bool
 }
 
 /// Whether a colon stands in the word.
-pub fn has_colon(word: &[u8]) -> bool
+fn has_colon(word: &[u8]) -> bool
     ensures { result ≡ has_colon word.now }
 {
     word.iter().any(|byte| *byte == b':')
@@ -73,10 +73,15 @@ fn colon_place(word: &[u8]) -> usize
     word.len()
 }
 
-/// A column behind others: a name that none of them has, a colon and a kind.
+/// A column behind others, where there is room for it: a name that none of them has, a colon and a kind.
 #[tactic(auto, using(crate::proofs::Taken::taken_name))]
-pub fn column_of(alloc: Global, columns: &[Column], word: &[u8]) -> Result<Column, WordFault>
-    ensures { Gives (λ column. column) result (column_of whole columns.now word.now) }
+fn column_of(
+    alloc: Global,
+    extent: &Extent,
+    columns: &[Column],
+    word: &[u8],
+) -> Result<Column, WordFault>
+    ensures { Gives (λ column. column) result (column_of extent.now columns.now word.now) }
 {
     let (name, kind) = split_colon(word);
     if !is_name(name) {
@@ -88,7 +93,7 @@ pub fn column_of(alloc: Global, columns: &[Column], word: &[u8]) -> Result<Colum
     let Some((kind, nullable)) = kind_of(kind) else {
         return Err(WordFault::Bad(Cause::Kind));
     };
-    if columns.len() >= MOST_COLUMNS {
+    if columns.len() >= extent.columns as usize {
         return Err(WordFault::Bad(Cause::Columns));
     }
     Ok(Column {
@@ -105,9 +110,29 @@ fn is_taken(name: &[u8], columns: &[Column]) -> bool
     columns.iter().any(|column| column.name.as_slice() == name)
 }
 
-/// The key's column and those of the words that have a colon, and what stands behind the last of them.
-pub fn columns_of(alloc: Global, words: &[u8]) -> Result<(Vec<Column>, &[u8]), WordFault>
-    ensures { Gives (λ x. (x.0.items, words_behind x.1.now)) result (columns_from whole (key_column ∷ []) (words_behind words.now)) }
+/// The columns of a table, the key's and those of the words that have a colon, and what stands behind the last.
+pub fn schema_of<'a>(
+    alloc: Global,
+    extent: &Extent,
+    words: &'a [u8],
+) -> Result<(Schema, &'a [u8]), WordFault>
+    requires { is_extent extent.now ≡ true }
+    ensures { Gives (λ x. (x.0, words_behind x.1.now)) result (columns_from extent.now (key_column ∷ []) (words_behind words.now)) }
+{
+    let (columns, rest) = columns_of(alloc, extent, words)?;
+    match Schema::new(columns) {
+        Ok(schema) => Ok((schema, rest)),
+        Err(_) => unreachable!(),
+    }
+}
+
+/// The same as a list.
+fn columns_of<'a>(
+    alloc: Global,
+    extent: &Extent,
+    words: &'a [u8],
+) -> Result<(Vec<Column>, &'a [u8]), WordFault>
+    ensures { Gives (λ x. (x.0.items, words_behind x.1.now)) result (columns_from extent.now (key_column ∷ []) (words_behind words.now)) }
 {
     let mut columns = Vec::new(alloc);
     columns.push(key_column(alloc)?)?;
@@ -116,7 +141,7 @@ pub fn columns_of(alloc: Global, words: &[u8]) -> Result<(Vec<Column>, &[u8]), W
         if !has_colon(word) {
             break;
         }
-        let column = column_of(alloc, &columns, word)?;
+        let column = column_of(alloc, extent, &columns, word)?;
         columns.push(column)?;
         rest = behind;
     }
@@ -124,7 +149,7 @@ pub fn columns_of(alloc: Global, words: &[u8]) -> Result<(Vec<Column>, &[u8]), W
 }
 
 /// The key's column.
-pub fn key_column(alloc: Global) -> Result<Column, AllocError>
+fn key_column(alloc: Global) -> Result<Column, AllocError>
     ensures { IfOk result (λ column. column ≡ key_column) }
 {
     Ok(Column {

@@ -1,41 +1,43 @@
 //! The lines of a round: a session and a command.
-ghost use Rattle.std.specs.Prelude.{◌≡◌, ◌∷◌, [], length, IfOk};
-ghost use Rattle.cell_model.specs.declared.cell.Cell.TheVariants.{Num};
+ghost use Rattle.std.specs.Prelude.{◌≡◌, ◌^◌, ◌<◌, ℕ, ℤ, List, length, position, bytes_eq, drop, nat_lt, IfSome};
+ghost use Rattle.cell_model.specs.declared.cell.Cell.{Cell as CellValue};
+ghost use Rattle.workload_spec.specs.declared.command.Command.{Command as CommandValue};
 ghost use Rattle.workload_spec.specs.Reading.{words_of};
-ghost use Rattle.workload_spec.specs.Valid.{is_export};
-ghost use Rattle.workload_spec.specs.Grammar.{table_named, formed, OfTable, OfKey, OfRow};
-ghost use Rattle.workload_spec.specs.declared.command.Command.TheVariants as command;
+ghost use Rattle.workload_spec.specs.Valid.{is_export, is_block_of};
+ghost use Rattle.workload_spec.specs.Grammar.{table_named, schema_at, formed, line_of, OfTable, OfKey, OfRow, OfBlock};
 ghost use Rattle.script_text.specs.Cursor.{words_behind};
-ghost use Rattle.script_text.specs.Supported.{supported_command, supported_line};
+ghost use Rattle.script_text.specs.Commands.{command_read, alone_read};
+ghost use Rattle.script_text.specs.Verbs.{verb_form};
 ghost use Rattle.script_text.specs.Answers.{Gives};
 
+use crate::cells::row_of;
 use crate::fault::WordFault;
-use crate::numbers::{first_number, key};
-use crate::words::{next_word, no_word};
-use cell_model::{Cell, Row, TableDecl};
-use std::alloc::{AllocError, Global};
-use workload_spec::{Cause, Command, Line};
+use crate::numbers::{first_number, key, natural};
+use crate::verbs::{Verb, takes, verb_of};
+use crate::words::{next_word, no_word, word_count};
+use cell_model::{Cell, Column, Row, TableDecl};
+use std::alloc::Global;
+use workload_spec::{Cause, Command, Extent, Line};
 
-/// The line of a round that the bytes are, where they are one that runs today; an export only where none was before.
+/// The line of a round that the bytes are: one of so many sessions and a command; an export only where none was before.
 pub fn line_of(
     alloc: Global,
-    table: &TableDecl,
+    extent: &Extent,
+    tables: &[TableDecl],
+    sessions: u32,
     exported: bool,
     line: &[u8],
 ) -> Result<Line, WordFault>
-    requires { length table.now.schema ≡ 1 }
-    ensures { Gives (λ read. read) result (supported_line (table.now ∷ []) exported (words_of line.now)) }
+    requires { length tables.now < 2 ^ 32 }
+    ensures { Gives (λ read. read) result (line_of extent.now tables.now sessions exported (words_of line.now)) }
 {
-    let (session, rest) = first_number(Cause::Session, 1, 1, line)?;
+    let (session, rest) = first_number(Cause::Session, 1, sessions, line)?;
     let (first, rest) = next_word(Cause::Command, rest)?;
-    let command = command_of(alloc, table, first, rest)?;
+    let command = command_of(alloc, extent, tables, first, rest)?;
     if exported && is_export(&command) {
         return Err(WordFault::Bad(Cause::Export));
     }
-    Ok(Line {
-        session: session as u32,
-        command,
-    })
+    Ok(Line { session, command })
 }
 
 /// Whether the command exports a table.
@@ -45,82 +47,180 @@ pub fn is_export(command: &Command) -> bool
     matches!(command, Command::Export { .. })
 }
 
-/// The command of this first word with the words behind it.
+/// The command of this first word, where it is taken, with the words behind it.
+#[tactic(auto, using(crate::proofs::VerbForms::form_by_verb))]
 fn command_of(
     alloc: Global,
-    table: &TableDecl,
+    extent: &Extent,
+    tables: &[TableDecl],
     first: &[u8],
     words: &[u8],
 ) -> Result<Command, WordFault>
-    requires { length table.now.schema ≡ 1 }
-    ensures { Gives (λ command. command) result (supported_command (table.now ∷ []) first.now (words_behind words.now)) }
+    requires { length tables.now < 2 ^ 32 }
+    ensures { Gives (λ command. command) result (command_read extent.now tables.now first.now (words_behind words.now)) }
 {
-    if b"begin".as_slice() == first {
-        no_word(Cause::Command, words)?;
-        Ok(Command::Begin)
-    } else if b"get".as_slice() == first {
-        get_of(table, words)
-    } else if b"insert".as_slice() == first {
-        insert_of(alloc, table, words)
-    } else if b"commit".as_slice() == first {
-        no_word(Cause::Command, words)?;
-        Ok(Command::Commit)
-    } else if b"export".as_slice() == first {
-        export_of(table, words)
-    } else {
-        Err(WordFault::Bad(Cause::Command))
+    match verb_of(first) {
+        Some(verb) if takes(&extent.commands, verb) => command_by(alloc, tables, verb, words),
+        _ => Err(WordFault::Bad(Cause::Command)),
     }
 }
 
-fn get_of(table: &TableDecl, words: &[u8]) -> Result<Command, WordFault>
-    ensures { Gives (λ command. command) result (formed (table.now ∷ []) (OfKey command.Get) (words_behind words.now)) }
+/// The command of this first word with the words behind it.
+fn command_by(
+    alloc: Global,
+    tables: &[TableDecl],
+    verb: Verb,
+    words: &[u8],
+) -> Result<Command, WordFault>
+    requires { length tables.now < 2 ^ 32 }
+    ensures { Gives (λ command. command) result (formed tables.now (verb_form verb) (words_behind words.now)) }
+{
+    match verb {
+        Verb::Begin => alone(Command::Begin, words),
+        Verb::Get => key_in(tables, words).map(|x| Command::Get {
+            table: x.0,
+            key: x.1,
+        }),
+        Verb::Scan => table_in(tables, words).map(|table| Command::Scan { table }),
+        Verb::Insert => row_in(alloc, tables, words).map(|x| Command::Insert {
+            table: x.0,
+            row: x.1,
+        }),
+        Verb::Update => row_in(alloc, tables, words).map(|x| Command::Update {
+            table: x.0,
+            row: x.1,
+        }),
+        Verb::Delete => key_in(tables, words).map(|x| Command::Delete {
+            table: x.0,
+            key: x.1,
+        }),
+        Verb::Commit => alone(Command::Commit, words),
+        Verb::Abort => alone(Command::Abort, words),
+        Verb::Observe => alone(Command::Observe, words),
+        Verb::Prune => alone(Command::Prune, words),
+        Verb::Compact => table_in(tables, words).map(|table| Command::Compact { table }),
+        Verb::Seal => block_in(tables, words).map(|x| Command::Seal {
+            table: x.0,
+            block: x.1,
+        }),
+        Verb::Gather => block_in(tables, words).map(|x| Command::Gather {
+            table: x.0,
+            block: x.1,
+        }),
+        Verb::Export => table_in(tables, words).map(|table| Command::Export { table }),
+    }
+}
+
+/// The command, where no word stands behind its first.
+fn alone(command: Command, words: &[u8]) -> Result<Command, WordFault>
+    ensures { Gives (λ made. made) result (alone_read command (words_behind words.now)) }
+{
+    no_word(Cause::Command, words)?;
+    Ok(command)
+}
+
+/// The table that the one word names.
+fn table_in(tables: &[TableDecl], words: &[u8]) -> Result<u32, WordFault>
+    requires { length tables.now < 2 ^ 32 }
+    ensures { (make : ℕ → CommandValue) → Gives make result (formed tables.now (OfTable make) (words_behind words.now)) }
+{
+    let (name, rest) = next_word(Cause::Command, words)?;
+    no_word(Cause::Command, rest)?;
+    table_named(tables, name)
+}
+
+/// The table and the key that the two words name.
+fn key_in(tables: &[TableDecl], words: &[u8]) -> Result<(u32, i64), WordFault>
+    requires { length tables.now < 2 ^ 32 }
+    ensures { (make : ℕ → ℤ → CommandValue) → Gives (λ x. make x.0 x.1) result (formed tables.now (OfKey make) (words_behind words.now)) }
 {
     let (name, rest) = next_word(Cause::Command, words)?;
     let (key_word, rest) = next_word(Cause::Command, rest)?;
     no_word(Cause::Command, rest)?;
-    let table = table_named(table, name)?;
+    let table = table_named(tables, name)?;
     let key = key(key_word)?;
-    Ok(Command::Get { table, key })
+    Ok((table, key))
 }
 
-fn insert_of(alloc: Global, table: &TableDecl, words: &[u8]) -> Result<Command, WordFault>
-    requires { length table.now.schema ≡ 1 }
-    ensures { Gives (λ command. command) result (formed (table.now ∷ []) (OfRow command.Insert) (words_behind words.now)) }
+/// The table that the first word names, and the row of the others.
+fn row_in(alloc: Global, tables: &[TableDecl], words: &[u8]) -> Result<(u32, Row), WordFault>
+    requires { length tables.now < 2 ^ 32 }
+    ensures { (make : ℕ → List CellValue → CommandValue) → Gives (λ x. make x.0 x.1) result (formed tables.now (OfRow make) (words_behind words.now)) }
 {
     let (name, rest) = next_word(Cause::Command, words)?;
     let (key_word, rest) = next_word(Cause::Command, rest)?;
-    let table = table_named(table, name)?;
-    no_word(Cause::Command, rest)?;
+    let table = table_named(tables, name)?;
+    let columns = columns_at(tables, table);
+    if columns.len() != word_count(rest) + 1 {
+        return Err(WordFault::Bad(Cause::Command));
+    }
     let key = key(key_word)?;
-    let row = row_of(alloc, key)?;
-    Ok(Command::Insert { table, row })
+    let row = row_of(alloc, Cell::Num(key as i128), further(columns), rest)?;
+    Ok((table, row))
 }
 
-/// The row of the key alone.
-fn row_of(alloc: Global, key: i64) -> Result<Row, AllocError>
-    ensures { IfOk result (λ row. row ≡ Num key ∷ []) }
-{
-    let mut cells = Vec::with_capacity(alloc, 1)?;
-    cells.push(Cell::Num(key as i128))?;
-    Ok(Row::from(cells))
-}
-
-fn export_of(table: &TableDecl, words: &[u8]) -> Result<Command, WordFault>
-    ensures { Gives (λ command. command) result (formed (table.now ∷ []) (OfTable command.Export) (words_behind words.now)) }
+/// The table and the block that the two words name.
+fn block_in(tables: &[TableDecl], words: &[u8]) -> Result<(u32, u32), WordFault>
+    requires { length tables.now < 2 ^ 32 }
+    ensures { (make : ℕ → ℕ → CommandValue) → Gives (λ x. make x.0 x.1) result (formed tables.now (OfBlock make) (words_behind words.now)) }
 {
     let (name, rest) = next_word(Cause::Command, words)?;
+    let (block_word, rest) = next_word(Cause::Command, rest)?;
     no_word(Cause::Command, rest)?;
-    let table = table_named(table, name)?;
-    Ok(Command::Export { table })
+    let table = table_named(tables, name)?;
+    let blocks = blocks_at(tables, table) as u64;
+    match natural(block_word) {
+        Some(block) if block < blocks => Ok((table, block as u32)),
+        _ => Err(WordFault::Bad(Cause::Block)),
+    }
 }
 
-/// The place of the table of this name, which is 0.
-fn table_named(table: &TableDecl, name: &[u8]) -> Result<u32, WordFault>
-    ensures { Gives (λ place. place) result (table_named (table.now ∷ []) name.now) }
+/// The place of the table of this name.
+fn table_named(tables: &[TableDecl], name: &[u8]) -> Result<u32, WordFault>
+    requires { length tables.now < 2 ^ 32 }
+    ensures { Gives (λ place. place) result (table_named tables.now name.now) }
 {
-    if table.name.as_slice() == name {
-        Ok(0)
-    } else {
-        Err(WordFault::Bad(Cause::Unknown))
+    match place_of_name(tables, name) {
+        Some(place) => Ok(place as u32),
+        None => Err(WordFault::Bad(Cause::Unknown)),
+    }
+}
+
+fn place_of_name(tables: &[TableDecl], name: &[u8]) -> Option<usize>
+    ensures place { result ≡ position (λ table. bytes_eq table.name name.now) tables.now }
+    ensures below { IfSome result (λ place. place < length tables.now) }
+{
+    tables
+        .iter()
+        .position(|table| table.name.as_slice() == name)
+}
+
+/// How many blocks the table at this place has.
+fn blocks_at(tables: &[TableDecl], table: u32) -> u32
+    ensures { (block : ℕ) → is_block_of tables.now table block ≡ nat_lt block result }
+{
+    match tables.get(table as usize) {
+        Some(declared) => declared.blocks,
+        None => 0,
+    }
+}
+
+/// The columns of the table at this place.
+fn columns_at(tables: &[TableDecl], table: u32) -> &[Column]
+    ensures { result.now ≡ schema_at tables.now table }
+{
+    match tables.get(table as usize) {
+        Some(declared) => declared.schema.columns(),
+        None => &[],
+    }
+}
+
+/// The columns behind the first.
+fn further(columns: &[Column]) -> &[Column]
+    ensures { result.now ≡ drop 1 columns.now }
+{
+    match columns {
+        [] => columns,
+        [_, others @ ..] => others,
     }
 }

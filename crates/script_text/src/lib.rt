@@ -2,6 +2,8 @@
 //! one text of a script.
 #![tactic(auto)]
 
+mod cells;
+mod checking;
 mod columns;
 mod commands;
 mod fault;
@@ -11,9 +13,13 @@ mod lines;
 mod numbers;
 mod parsing;
 mod printing;
+mod rounds;
 mod table;
+mod texts;
+mod verbs;
 mod words;
 
+pub use checking::parse_checked;
 pub use fault::ScriptFault;
 pub use parsing::parse;
 pub use printing::{print, put_cells, put_key, put_natural, put_number, put_table_name};

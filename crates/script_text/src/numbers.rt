@@ -1,5 +1,5 @@
 //! Numbers: the words that are the decimal spelling of one.
-ghost use Rattle.std.specs.Prelude.{◌≡◌, ◌≤◌, ◌&&◌, if◌then◌else◌, IfOk, IfSome};
+ghost use Rattle.std.specs.Prelude.{◌≡◌, ◌&&◌, if◌then◌else◌};
 ghost use Rattle.workload_spec.specs.Reading.{words_of, natural_of, natural_within, integer_of, value_of_digits};
 ghost use Rattle.workload_spec.specs.Grammar.{number, key_in};
 ghost use Rattle.script_text.specs.Numbers.{are_digits, is_small, is_unpadded, small_natural, small_integer};
@@ -63,9 +63,8 @@ pub fn integer(word: &[u8]) -> Option<i128>
 }
 
 /// A number between two, both counted, as the next word; what stands behind it too.
-pub fn number(cause: Cause, low: u64, high: u64, words: &[u8]) -> Result<(u64, &[u8]), WordFault>
-    ensures read { Gives (λ x. (x.0, words_behind x.1.now)) result (number cause low high (words_behind words.now)) }
-    ensures within { IfOk result (λ x. (low ≤ x.0) × (x.0 ≤ high)) }
+pub fn number(cause: Cause, low: u32, high: u32, words: &[u8]) -> Result<(u32, &[u8]), WordFault>
+    ensures { Gives (λ x. (x.0, words_behind x.1.now)) result (number cause low high (words_behind words.now)) }
 {
     let (word, rest) = next_word(cause, words)?;
     match natural_within(low, high, word) {
@@ -77,12 +76,11 @@ pub fn number(cause: Cause, low: u64, high: u64, words: &[u8]) -> Result<(u64, &
 /// The same as a line's first word.
 pub fn first_number(
     cause: Cause,
-    low: u64,
-    high: u64,
+    low: u32,
+    high: u32,
     line: &[u8],
-) -> Result<(u64, &[u8]), WordFault>
-    ensures read { Gives (λ x. (x.0, words_behind x.1.now)) result (number cause low high (words_of line.now)) }
-    ensures within { IfOk result (λ x. (low ≤ x.0) × (x.0 ≤ high)) }
+) -> Result<(u32, &[u8]), WordFault>
+    ensures { Gives (λ x. (x.0, words_behind x.1.now)) result (number cause low high (words_of line.now)) }
 {
     let (word, rest) = split_word(line);
     match natural_within(low, high, word) {
@@ -93,12 +91,11 @@ pub fn first_number(
 
 /// The number that the word spells, where it lies between two, both counted.
 #[tactic(auto, using(crate::proofs::Decimals::within_small))]
-fn natural_within(low: u64, high: u64, word: &[u8]) -> Option<u64>
-    ensures value { result ≡ natural_within low high word.now }
-    ensures within { IfSome result (λ value. (low ≤ value) × (value ≤ high)) }
+fn natural_within(low: u32, high: u32, word: &[u8]) -> Option<u32>
+    ensures { result ≡ natural_within low high word.now }
 {
     match natural(word) {
-        Some(value) if low <= value && value <= high => Some(value),
+        Some(value) if low as u64 <= value && value <= high as u64 => Some(value as u32),
         _ => None,
     }
 }

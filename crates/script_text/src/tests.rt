@@ -1,10 +1,13 @@
-use crate::columns::columns_of;
+ghost use Rattle.std.specs.Prelude.{◌≡◌, true};
+ghost use Rattle.workload_spec.specs.Extents.{is_extent};
+
+use crate::columns::schema_of;
 use crate::numbers::{integer, key, natural};
 use crate::*;
 use cell_model::{Bytes, Cell, Column, Kind, Row, Schema, TableDecl, are_named};
 use std::alloc::{AllocError, Global};
 use std::test::*;
-use workload_spec::{Cause, Command, Line, Round, Rounds, Script, Tables};
+use workload_spec::{Cause, Command, Extent, Line, Round, Rounds, Script, Tables};
 
 #[test]
 fn decimal_digits_alone_are_numbers(rt: HostRuntime) {
@@ -31,9 +34,10 @@ fn decimal_digits_alone_are_numbers(rt: HostRuntime) {
 
 #[test]
 fn words_with_a_colon_are_columns(rt: HostRuntime) -> Result<(), Fail> {
-    let (columns, rest) = columns_of(rt.alloc(), b" v:utf8? slots 8")
+    let (schema, rest) = schema_of(rt.alloc(), &Extent::whole(), b" v:utf8? slots 8")
         .ok()
-        .ok_or("the word is a column")?;
+        .ok_or("the words are columns")?;
+    let columns = schema.columns();
     assert_eq!(rt; columns.len(), 2);
     assert_eq!(rt; columns[1].name.as_slice(), b"v".as_slice());
     assert_eq!(rt; columns[1].kind, Kind::Utf8);
@@ -94,9 +98,10 @@ fn a_script_is_printed_line_by_line(rt: HostRuntime) -> Result<(), Fail> {
     Ok(())
 }
 
-const TABLE: &[u8] = b"store 1\ntable b key:i64 slots 8 blocks 1\n";
+const TABLE: &[u8] = b"store 1\ntable a key:i64 v:utf8? slots 8 blocks 2\n";
 
-const HEAD: &[u8] = b"store 1\ntable b key:i64 slots 8 blocks 1\nsessions 1\nworkers 0 0\ngo\n";
+const HEAD: &[u8] =
+    b"store 1\ntable a key:i64 v:utf8? slots 8 blocks 2\nsessions 2\nworkers 0 0\ngo\n";
 
 fn texts_joined(alloc: Global, first: &[u8], second: &[u8]) -> Result<Vec<u8>, AllocError> {
     let mut bytes = Vec::from_slice(alloc, first)?;
@@ -104,99 +109,193 @@ fn texts_joined(alloc: Global, first: &[u8], second: &[u8]) -> Result<Vec<u8>, A
     Ok(bytes)
 }
 
-fn fault_in(alloc: Global, bytes: &[u8]) -> Option<(u64, Cause)> {
-    match parse(alloc, bytes) {
+fn fault_in(alloc: Global, extent: &Extent, bytes: &[u8]) -> Option<(u64, Cause)>
+    requires { is_extent extent.now ≡ true }
+{
+    match parse(alloc, extent, bytes) {
         Err(ScriptFault::Bad { line, cause }) => Some((line, cause)),
         _ => None,
     }
 }
 
 #[test]
-fn a_head_is_refused_by_its_first_bad_line(rt: HostRuntime) -> Result<(), Fail> {
+fn heads_are_refused_by_their_first_fault(rt: HostRuntime) -> Result<(), Fail> {
     let alloc = rt.alloc();
     let cases: [(&[u8], &[u8], u64, Cause); 12] = [
         (b"", b"", 1, Cause::Version),
         (b"store 9\n", b"", 1, Cause::Version),
         (b"store 1", b"", 1, Cause::Line),
-        (b"store 1\n", b"", 2, Cause::Table),
+        (b"store 1\n", b"tables\n", 2, Cause::Table),
+        (TABLE, b"", 3, Cause::Sessions),
+        (TABLE, b"sessions 0\n", 3, Cause::Sessions),
+        (TABLE, b"sessions 65\n", 3, Cause::Sessions),
+        (TABLE, b"sessions 64\nworkers 17 0\n", 4, Cause::Workers),
+        (TABLE, b"sessions 64\nworkers 16 101\n", 4, Cause::Workers),
+        (TABLE, b"sessions 64\nworkers 16 100\n", 5, Cause::Go),
+        (TABLE, b"sessions 2\nworkers 0 0\nstop\n", 5, Cause::Go),
         (
-            b"store 1\n",
-            b"table b key:i64 v:u9 slots 8 blocks 1\n",
-            2,
-            Cause::Kind,
+            TABLE,
+            b"sessions 2\nworkers 0 0\ngo\n1 begin",
+            6,
+            Cause::Line,
         ),
+    ];
+    for (first, second, line, cause) in cases {
+        let bytes = texts_joined(alloc, first, second)?;
+        assert_eq!(rt;
+            fault_in(alloc, &Extent::whole(), &bytes),
+            Some((line, cause))
+        );
+    }
+    Ok(())
+}
+
+#[test]
+fn table_lines_are_refused_by_their_first_fault(rt: HostRuntime) -> Result<(), Fail> {
+    let alloc = rt.alloc();
+    let cases: [(&[u8], Cause); 16] = [
+        (b"table\n", Cause::Name),
+        (b"table A key:i32 slots 8 blocks 1\n", Cause::Name),
+        (b"table a key:i64 \"x y:i8 slots 8 blocks 1\n", Cause::Name),
+        (b"table a key:i32 9:u9 slots 8 blocks 1\n", Cause::Key),
+        (b"table b\n", Cause::Key),
+        (b"table b key:i64 9:u9 slots 8 blocks 1\n", Cause::Name),
+        (b"table b key:i64 key:u9 slots 8 blocks 1\n", Cause::Twice),
+        (b"table b key:i64 n:u9 slots 7 blocks 1\n", Cause::Kind),
+        (b"table b key:i64 n slots 8 blocks 1\n", Cause::Slots),
+        (b"table b key:i64 slots 12 blocks 0\n", Cause::Slots),
+        (b"table b key:i64 slots 32776 blocks 1\n", Cause::Slots),
+        (b"table b key:i64 slots 08 blocks 1\n", Cause::Slots),
+        (b"table b key:i64 slots 8\n", Cause::Blocks),
+        (b"table b key:i64 slots 8 blocks 0\n", Cause::Blocks),
+        (b"table b key:i64 slots 8 blocks 1025\n", Cause::Blocks),
+        (b"table b key:i64 slots 8 blocks 1 x\n", Cause::Blocks),
+    ];
+    for (line, cause) in cases {
+        let bytes = texts_joined(alloc, b"store 1\n", line)?;
+        assert_eq!(rt; fault_in(alloc, &Extent::whole(), &bytes), Some((2, cause)));
+    }
+    let twice = texts_joined(alloc, TABLE, b"table a key:i32 slots 8 blocks 1\n")?;
+    assert_eq!(rt;
+        fault_in(alloc, &Extent::whole(), &twice),
+        Some((3, Cause::Twice))
+    );
+    Ok(())
+}
+
+#[test]
+fn lines_of_rounds_are_refused_by_their_first_fault(rt: HostRuntime) -> Result<(), Fail> {
+    let alloc = rt.alloc();
+    let cases: [(&[u8], u64, Cause); 16] = [
+        (b"1 begin\n3 walk\n", 7, Cause::Session),
+        (b"0 begin\n", 6, Cause::Session),
+        (b"1\n", 6, Cause::Command),
+        (b"1 walk z\n", 6, Cause::Command),
+        (b"1 insert a 01 \"x\" 7\n", 6, Cause::Command),
+        (b"1 insert z\n", 6, Cause::Command),
+        (b"1 insert z 1 2 3\n", 6, Cause::Unknown),
+        (b"1 get z 01\n", 6, Cause::Unknown),
+        (b"1 insert a 01 7\n", 6, Cause::Number),
+        (b"1 get a 9223372036854775808\n", 6, Cause::Number),
+        (b"1 insert a 1 7\n", 6, Cause::Cell),
+        (b"1 insert a 1 \"\\x1F\"\n", 6, Cause::Cell),
+        (b"1 seal z 02\n", 6, Cause::Unknown),
+        (b"1 seal a 2\n", 6, Cause::Block),
+        (b"1 export a\n--\n2 export z\n", 8, Cause::Unknown),
+        (b"1 export a\n--\n2 export a\n", 8, Cause::Export),
+    ];
+    for (lines, line, cause) in cases {
+        let bytes = texts_joined(alloc, HEAD, lines)?;
+        assert_eq!(rt;
+            fault_in(alloc, &Extent::whole(), &bytes),
+            Some((line, cause))
+        );
+    }
+    Ok(())
+}
+
+#[test]
+fn what_passes_an_extent_is_refused(rt: HostRuntime) -> Result<(), Fail> {
+    let alloc = rt.alloc();
+    let extent = Extent {
+        tables: 1,
+        columns: 2,
+        sessions: 2,
+        workers: 0,
+        turns: 0,
+        parts_rounds: false,
+        commands: Extent::today().commands,
+    };
+    let cases: [(&[u8], &[u8], u64, Cause); 6] = [
         (
             b"store 1\n",
-            b"table b key:i64 v:u8 slots 8 blocks 1\n",
+            b"table a key:i64 v:utf8 w:i8 slots 8 blocks 1\n",
             2,
             Cause::Columns,
         ),
         (
-            b"store 1\n",
-            b"table b key:i64 slots 08 blocks 1\n",
-            2,
-            Cause::Slots,
-        ),
-        (
-            b"store 1\n",
-            b"table b key:i64 slots 8 blocks 1025\n",
-            2,
-            Cause::Blocks,
-        ),
-        (
             TABLE,
-            b"table c key:i64 slots 8 blocks 1\n",
+            b"table a key:i64 slots 8 blocks 1\n",
             3,
             Cause::Table,
         ),
-        (TABLE, b"sessions 2\n", 3, Cause::Sessions),
-        (TABLE, b"sessions 1\nworkers 1 0\n", 4, Cause::Workers),
-        (TABLE, b"sessions 1\nworkers 0 0\nstop\n", 5, Cause::Go),
+        (TABLE, b"sessions 3\n", 3, Cause::Sessions),
+        (TABLE, b"sessions 2\nworkers 0 1\n", 4, Cause::Workers),
+        (HEAD, b"2 begin\n--\n", 7, Cause::Session),
+        (HEAD, b"1 scan a\n", 6, Cause::Command),
     ];
     for (first, second, line, cause) in cases {
         let bytes = texts_joined(alloc, first, second)?;
-        assert_eq!(rt; fault_in(alloc, &bytes), Some((line, cause)));
+        assert_eq!(rt; fault_in(alloc, &extent, &bytes), Some((line, cause)));
     }
     Ok(())
 }
 
 #[test]
-fn a_round_is_refused_by_its_first_bad_line(rt: HostRuntime) -> Result<(), Fail> {
+fn a_workload_of_each_command_and_kind_is_read_and_printed_back(
+    rt: HostRuntime,
+) -> Result<(), Fail> {
     let alloc = rt.alloc();
-    let cases: [(&[u8], u64, Cause); 12] = [
-        (b"1 begin\n3 begin\n", 7, Cause::Session),
-        (b"--\n", 6, Cause::Session),
-        (b"1 begin", 6, Cause::Line),
-        (b"1 scan b\n", 6, Cause::Command),
-        (b"1 insert b 1 2\n", 6, Cause::Command),
-        (b"1 insert z\n", 6, Cause::Command),
-        (b"1 insert z 1 2\n", 6, Cause::Unknown),
-        (b"1 get z 1\n", 6, Cause::Unknown),
-        (b"1 get b 01\n", 6, Cause::Number),
-        (b"1 insert b -0\n", 6, Cause::Number),
-        (b"1 insert b 9223372036854775808\n", 6, Cause::Number),
-        (b"1 export b\n1 export b\n", 7, Cause::Export),
+    let head =
+        b"store 1\ntable a key:i64 b:i8? c:u64 d:bool e:utf8? f:binary? slots 8 blocks 2\ntable b key:i64 slots 16 blocks 1\nsessions 2\nworkers 1 3\ngo\n";
+    let rounds =
+        b"1 begin\n1 insert a -9223372036854775808 -128 18446744073709551615 true \"a \\\"\\\\\\x1f\\x7f\xc3\xa9\" x00ff\n1 update a 1 null 0 false null null\n--\n--\n2 get b 7\n2 scan b\n2 delete a -1\n1 commit\n1 abort\n1 observe\n1 prune\n1 compact a\n1 seal a 1\n1 gather a 0\n2 export b\n";
+    let bytes = texts_joined(alloc, head, rounds)?;
+    let script = parse(alloc, &Extent::whole(), &bytes)
+        .ok()
+        .ok_or("the bytes are a workload")?;
+    assert_eq!(rt; script.tables.len(), 2);
+    assert_eq!(rt; script.sessions, 2);
+    assert_eq!(rt; script.workers, 1);
+    assert_eq!(rt; script.turns, 3);
+    assert_eq!(rt; script.rounds.len(), 3);
+    let printed = print(alloc, &script)?;
+    assert_eq!(rt; printed.as_slice(), bytes.as_slice());
+    Ok(())
+}
+
+#[test]
+fn a_workload_and_its_output_are_parted(rt: HostRuntime) -> Result<(), Fail> {
+    let alloc = rt.alloc();
+    let whole = texts_joined(alloc, HEAD, b"1 begin\n====\n1 1 1 at 0\n====\n")?;
+    let (script, output) = parse_checked(alloc, &Extent::whole(), &whole)
+        .ok()
+        .ok_or("the line parts a workload and an output")?;
+    assert_eq!(rt; script.rounds.len(), 1);
+    assert_eq!(rt; output, b"1 1 1 at 0\n====\n".as_slice());
+    let cases: [(&[u8], u64, Cause); 4] = [
+        (b"1 begin\n", 7, Cause::Parting),
+        (b"1 begin\n====", 7, Cause::Line),
+        (b"1 walk\n", 6, Cause::Command),
+        (b"1 walk\n====\n", 6, Cause::Command),
     ];
     for (lines, line, cause) in cases {
         let bytes = texts_joined(alloc, HEAD, lines)?;
-        assert_eq!(rt; fault_in(alloc, &bytes), Some((line, cause)));
+        let fault = match parse_checked(alloc, &Extent::whole(), &bytes) {
+            Err(ScriptFault::Bad { line, cause }) => Some((line, cause)),
+            _ => None,
+        };
+        assert_eq!(rt; fault, Some((line, cause)));
     }
-    Ok(())
-}
-
-#[test]
-fn a_script_that_runs_today_is_read_and_printed_back(rt: HostRuntime) -> Result<(), Fail> {
-    let alloc = rt.alloc();
-    let lines = b"1 begin\n1 insert b -9223372036854775808\n1 get b 7\n1 commit\n1 export b\n";
-    let bytes = texts_joined(alloc, HEAD, lines)?;
-    let script = parse(alloc, &bytes).ok().ok_or("the bytes are a script")?;
-    assert_eq!(rt; script.tables.len(), 1);
-    assert_eq!(rt; script.sessions, 1);
-    assert_eq!(rt; script.rounds.len(), 1);
-    for round in script.rounds.as_slice() {
-        assert_eq!(rt; round.len(), 5);
-    }
-    let printed = print(alloc, &script)?;
-    assert_eq!(rt; printed.as_slice(), bytes.as_slice());
     Ok(())
 }

@@ -72,6 +72,20 @@ pub fn word_behind(words: &[u8]) -> Option<(&[u8], &[u8])>
     }
 }
 
+/// How many words stand behind a word.
+pub fn word_count(words: &[u8]) -> usize
+    ensures value { result ≡ length (words_behind words.now) }
+    ensures within { result ≤ length words.now }
+{
+    let mut count = 0;
+    let mut rest = words;
+    while let Some((_, behind)) = word_behind(rest) {
+        count += 1;
+        rest = behind;
+    }
+    count
+}
+
 /// The same, where a word is to be there.
 pub fn next_word(cause: Cause, words: &[u8]) -> Result<(&[u8], &[u8]), WordFault>
     ensures { Gives (λ x. (x.0.now, words_behind x.1.now)) result (word cause (words_behind words.now)) }

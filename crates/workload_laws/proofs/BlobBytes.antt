@@ -57,7 +57,7 @@ cell_by : (b : Bool) (k : Kind) (word : List ℕ) → cell_text (if b then Null 
 cell_by true k word e = refl
 cell_by false k word e = value_bytes k word e
 
-found_is : {X : Type 0} (text_of : X → List ℕ) (word : List ℕ) (value found : X) → spelled text_of word value ≡ Some found → value ≡ found
+pub found_is : {X : Type 0} (text_of : X → List ℕ) (word : List ℕ) (value found : X) → spelled text_of word value ≡ Some found → value ≡ found
 found_is text_of word value found e = by (bytes_eq (text_of value) word) e
   where
     by : (b : Bool) → (if b then Some value else None) ≡ Some found → value ≡ found

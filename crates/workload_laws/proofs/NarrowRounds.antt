@@ -245,12 +245,12 @@ onto_some line [] = omega arith
 onto_some line (round ∷ rounds) = omega arith
 
 -- what is read of the lines behind a first, as `rounds_from` goes on
-abbrev behind_line : Extent → List TableDecl → ℕ → ℕ → Bool → List ℕ → List (List ℕ) → Result (List (List Line)) Fault
+abbrev pub behind_line : Extent → List TableDecl → ℕ → ℕ → Bool → List ℕ → List (List ℕ) → Result (List (List Line)) Fault
 behind_line extent tables sessions at exported line rest =
     on_line at (line_of extent tables sessions exported (words_of line)) >>= λ read.
     rounds_from extent tables sessions (at + 1) (exported || is_export read.command) rest >>= λ rounds. Ok (onto_first read rounds)
 
-abbrev behind_parting : Extent → List TableDecl → ℕ → ℕ → Bool → List (List ℕ) → Result (List (List Line)) Fault
+abbrev pub behind_parting : Extent → List TableDecl → ℕ → ℕ → Bool → List (List ℕ) → Result (List (List Line)) Fault
 behind_parting extent tables sessions at exported rest = rounds_from extent tables sessions (at + 1) exported rest >>= λ rounds. Ok ([] ∷ rounds)
 
 abbrev behind_either : Extent → List TableDecl → ℕ → ℕ → Bool → List ℕ → List (List ℕ) → Bool → Result (List (List Line)) Fault
@@ -268,7 +268,7 @@ some_by extent tables sessions at exported false line rest rounds e =
     let f : onto_first read others ≡ rounds = cc in omega (arith, ap length f, onto_some read others)))
 
 -- there is a round
-rounds_some : (extent : Extent) (tables : List TableDecl) (sessions at : ℕ) (exported : Bool) (lines : List (List ℕ)) (rounds : List (List Line)) → rounds_from extent tables sessions at exported lines ≡ Ok rounds → 0 < length rounds
+pub rounds_some : (extent : Extent) (tables : List TableDecl) (sessions at : ℕ) (exported : Bool) (lines : List (List ℕ)) (rounds : List (List Line)) → rounds_from extent tables sessions at exported lines ≡ Ok rounds → 0 < length rounds
 rounds_some extent tables sessions at exported [] rounds e = let f : ([] ∷ []) ≡ rounds = cc in omega (arith, ap length f)
 rounds_some extent tables sessions at exported ([] ∷ []) rounds e = let f : ([] ∷ []) ≡ rounds = cc in omega (arith, ap length f)
 rounds_some extent tables sessions at exported ((byte ∷ bytes) ∷ []) rounds e = absurd cc

@@ -22,15 +22,15 @@ use Rattle.workload_laws.proofs.NarrowTables.{FewTables, narrow_tables}
 use Rattle.workload_laws.proofs.NarrowRounds.{RoundsTaken, narrow_rounds}
 
 -- the bounds of an extent
-record Bounds (extent : Extent) : Type 0 where
-  tables : extent.tables ≤ most_tables
-  some : 1 ≤ extent.columns
-  columns : extent.columns ≤ most_columns
-  sessions : extent.sessions ≤ most_sessions
-  workers : extent.workers ≤ most_workers
-  turns : extent.turns ≤ most_turns
+pub record Bounds (extent : Extent) : Type 0 where
+  pub tables : extent.tables ≤ most_tables
+  pub some : 1 ≤ extent.columns
+  pub columns : extent.columns ≤ most_columns
+  pub sessions : extent.sessions ≤ most_sessions
+  pub workers : extent.workers ≤ most_workers
+  pub turns : extent.turns ≤ most_turns
 
-bounds : (extent : Extent) → is_extent extent ≡ true → Bounds extent
+pub bounds : (extent : Extent) → is_extent extent ≡ true → Bounds extent
 bounds extent is =
     let d = both (nat_le extent.tables most_tables && is_within 1 most_columns extent.columns && nat_le extent.sessions most_sessions && nat_le extent.workers most_workers) (nat_le extent.turns most_turns) is in
     let c = both (nat_le extent.tables most_tables && is_within 1 most_columns extent.columns && nat_le extent.sessions most_sessions) (nat_le extent.workers most_workers) d.0 in

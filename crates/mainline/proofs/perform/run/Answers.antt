@@ -1,9 +1,12 @@
 use Rattle.std.proofs.Common.{ℕ, List, option_map, subst, arith}
 use Rattle.workload_spec.specs.declared.script.Script.{Script}
-use Rattle.script_text.specs.Supported.{Spells}
-use Rattle.mainline.specs.Outcome.{Outside, ScriptEnds, outside}
+use Rattle.std.specs.Prelude.{Ok}
+use Rattle.workload_spec.specs.Extents.{today}
+use Rattle.workload_spec.specs.Grammar.{read_with}
+use Rattle.script_text.specs.Answers.{LineFails}
+use Rattle.mainline.specs.Outcome.{IsWorkload, Outside, ScriptEnds, outside}
 use Rattle.mainline.specs.declared.status.Status.{Status}
-use Rattle.mainline.proofs.Scripts.{refusal_ends, run_ends, spelled_workload}
+use Rattle.mainline.proofs.Scripts.{refusal_ends, run_ends}
 use Rattle.mainline.proofs.perform.run.Goals as goal
 
 pub returns-in-Ok-parsed-clause-ends : goal.returns-in-Ok-parsed-clause-ends
@@ -12,8 +15,7 @@ returns-in-Ok-parsed-clause-ends g c =
     (record {
       bytes = c.in-Ok.bytes.items;
       input = record { read = c.in-Ok.ensures.bytes; ended = c.in-Ok.ensures.end; short = omega (arith, c.in-Ok.ensures.short, c.in-Ok.bytes.ok.0) };
-      workload = spelled_workload c.in-Ok.bytes.items c.in-Ok-parsed.script
-          (subst (λ (bytes : List ℕ). Spells bytes c.in-Ok-parsed.script) c.deref.ensures.value c.in-Ok-parsed.ensures.ok);
+      workload = subst (λ (bytes : List ℕ). IsWorkload bytes c.in-Ok-parsed.script) c.deref.ensures.value c.in-Ok-parsed.ensures.read;
     })
     (c.run_script.ensures.ends (g.S.Source.left c.args.source.now) (g.S.Source.left c.read_to_end.new.source))
 
@@ -29,6 +31,6 @@ returns-in-Ok-parsed-clause-read_faults g c =
 
 pub returns-in-Err-clause-ends : goal.returns-in-Err-clause-ends
 returns-in-Err-clause-ends g c =
-    refusal_ends Script (option_map (λ p. p.now) c.args.path) c.refuse.result c.in-Err.fault c.in-Ok.bytes.items c.deref.result.now _ _ _ _ _ _
-    c.deref.ensures.value c.in-Ok.ensures.bytes c.in-Ok.ensures.end (omega (arith, c.in-Ok.ensures.short, c.in-Ok.bytes.ok.0))
-    c.in-Err.ensures.bad c.in-Err.ensures.exact c.refuse.ensures.ends
+    refusal_ends (option_map (λ p. p.now) c.args.path) c.refuse.result c.in-Err.fault c.in-Ok.bytes.items _ _ _ _ _ _
+    c.in-Ok.ensures.bytes c.in-Ok.ensures.end (omega (arith, c.in-Ok.ensures.short, c.in-Ok.bytes.ok.0))
+    (rw c.deref.ensures.value at c.in-Err.ensures.read) c.refuse.ensures.ends

@@ -13,15 +13,15 @@ returns-in_default c =
     let named : is_name (before_colon c.args.word.now) ≡ true = cc (c.is_name.ensures, c.if-not-is_name.false, before) in
     let own : list_any (λ column. bytes_eq column.name (before_colon c.args.word.now)) c.args.columns.now ≡ false = ap (λ name. list_any (λ column. bytes_eq column.name name) c.args.columns.now) (sym before) ∙ sym c.is_taken.ensures ∙ c.if-is_taken.false in
     let kind : kind_of (after_colon c.args.word.now) ≡ None = ap kind_of (sym after) ∙ sym c.kind_of.ensures ∙ c.in_default.is in
-    no_kind c.args.columns.now c.args.word.now named own kind
+    no_kind c.args.extent.now c.args.columns.now c.args.word.now named own kind
 
-pub returns-then-columns-ge-MOST_COLUMNS : goal.returns-then-columns-ge-MOST_COLUMNS
-returns-then-columns-ge-MOST_COLUMNS c =
+pub returns-then-columns-extent : goal.returns-then-columns-extent
+returns-then-columns-extent c =
     let before = c.split_colon.ensures.before in
     let after = c.split_colon.ensures.after in
     let named : is_name (before_colon c.args.word.now) ≡ true = cc (c.is_name.ensures, c.if-not-is_name.false, before) in
     let own : list_any (λ column. bytes_eq column.name (before_colon c.args.word.now)) c.args.columns.now ≡ false = ap (λ name. list_any (λ column. bytes_eq column.name name) c.args.columns.now) (sym before) ∙ sym c.is_taken.ensures ∙ c.if-is_taken.false in
-    no_room c.args.columns.now c.args.word.now _ named own (ap kind_of (sym after) ∙ sym c.kind_of.ensures ∙ c.in-Some.is) (omega arith)
+    no_room c.args.extent.now c.args.columns.now c.args.word.now _ named own (ap kind_of (sym after) ∙ sym c.kind_of.ensures ∙ c.in-Some.is) (omega arith)
 
 pub returns : goal.returns
 returns c =
@@ -29,5 +29,5 @@ returns c =
     let after = c.split_colon.ensures.after in
     let named : is_name (before_colon c.args.word.now) ≡ true = cc (c.is_name.ensures, c.if-not-is_name.false, before) in
     let own : list_any (λ column. bytes_eq column.name (before_colon c.args.word.now)) c.args.columns.now ≡ false = ap (λ name. list_any (λ column. bytes_eq column.name name) c.args.columns.now) (sym before) ∙ sym c.is_taken.ensures ∙ c.if-is_taken.false in
-    let read = column_read c.args.columns.now c.args.word.now _ named own (ap kind_of (sym after) ∙ sym c.kind_of.ensures ∙ c.in-Some.is) (omega arith) in
+    let read = column_read c.args.extent.now c.args.columns.now c.args.word.now _ named own (ap kind_of (sym after) ∙ sym c.kind_of.ensures ∙ c.in-Some.is) (omega arith) in
     rw (c.in_ok-from_slice.ensures, before) read

@@ -1,12 +1,14 @@
-use Rattle.script_text.proofs.SupportedScripts.{spelled, not_spelled}
-use Rattle.script_text.proofs.ValidScripts.{valid}
+use Rattle.std.proofs.Common.{rules}
+use Rattle.workload_spec.specs.Words.{line_feed}
+use Rattle.workload_spec.specs.Reading.{parts}
+use Rattle.script_text.proofs.Flat.{script_parts}
 use Rattle.script_text.proofs.parsing.parse.Goals as goal
 
-pub returns-clause-ok : goal.returns-clause-ok
-returns-clause-ok c = spelled c.args.bytes.now c.read_script.result c.read_script.ensures
+pub returns-in_err-sessions : goal.returns-in_err-sessions
+returns-in_err-sessions c = rw (script_parts c.args.extent.now (parts line_feed c.args.bytes.now)) (search rules)
 
-pub returns-clause-bad : goal.returns-clause-bad
-returns-clause-bad c = not_spelled c.args.bytes.now c.read_script.result c.read_script.ensures
+pub returns-in_err-workers : goal.returns-in_err-workers
+returns-in_err-workers c = rw (script_parts c.args.extent.now (parts line_feed c.args.bytes.now)) (search rules)
 
-pub returns-clause-valid : goal.returns-clause-valid
-returns-clause-valid c = valid c.args.bytes.now c.read_script.result c.read_script.ensures
+pub returns-in_err-rest-2 : goal.returns-in_err-rest-2
+returns-in_err-rest-2 c = rw (script_parts c.args.extent.now (parts line_feed c.args.bytes.now)) (search rules)

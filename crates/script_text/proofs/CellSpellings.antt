@@ -1,0 +1,103 @@
+-- The cells of columns, by what words spell.
+use Rattle.std.proofs.Common.{◌≡◌, ℕ, ◌+◌, ◌-◌, ◌^◌, ◌<◌, ◌≤◌, Bool, true, false, List, refl, sym, ap, ◌∙◌, arith}
+use Rattle.std.specs.Prelude.{◌&&◌, int_le, Option, Some, None, option_map, option_and_then, bytes_eq, codes, if◌then◌else◌, ℤ, pos, negsuc}
+use Rattle.std.specs.Fmt.{signed_decimal}
+use Rattle.std.proofs.lemmas.Bool.{ltb-false, lt-leb, and_right}
+use Rattle.std.proofs.lemmas.Slice.Eq.{bytes_eq-Decides}
+use Rattle.cell_model.specs.declared.cell.Cell.{Cell}
+use Rattle.cell_model.specs.declared.cell.Cell.TheVariants.{Null, Num, Truth, Text, Blob}
+use Rattle.cell_model.specs.declared.column.Column.{Column}
+use Rattle.cell_model.specs.declared.kind.Kind.{Kind}
+use Rattle.cell_model.specs.declared.kind.Kind.TheVariants as kind
+use Rattle.cell_model.specs.Values.{is_integer_of}
+use Rattle.workload_spec.specs.Words.{cell_text, quoted}
+use Rattle.workload_spec.specs.Reading.{spelled, integer_in, integer_of, text_in, blob_in, value_in, cell_of}
+use Rattle.script_text.specs.Numbers.{is_small, small_integer, magnitude}
+use Rattle.script_text.specs.Spellings.{truth_of, text_of, value_spelled, standing}
+use Rattle.script_text.proofs.TextSpellings.{text_spelled, blob_spelled, marked}
+
+-- a value spelled as another
+mapped : {X : Type 0} (make : X → Cell) (text_of : X → List ℕ) (word : List ℕ) (value : X) → ((x : X) → cell_text (make x) ≡ text_of x) → spelled cell_text word (make value) ≡ option_map make (spelled text_of word value)
+mapped make text_of word value same = ap (λ (text : List ℕ). if bytes_eq text word then Some (make value) else None) (same value) ∙ by (bytes_eq (text_of value) word)
+  where
+    by : (b : Bool) → (if b then Some (make value) else None) ≡ option_map make (if b then Some value else None)
+    by true = refl
+    by false = refl
+
+truth_by : (yes other : Bool) (word : List ℕ) → bytes_eq word (codes "true") ≡ yes → bytes_eq word (codes "false") ≡ other → spelled cell_text word (Truth (bytes_eq word (codes "true"))) ≡ option_map Truth (truth_of word)
+truth_by true other word y n =
+    let same : word ≡ codes "true" = (bytes_eq-Decides word (codes "true")).0 y in
+    rw same refl
+truth_by false true word y n =
+    let same : word ≡ codes "false" = (bytes_eq-Decides word (codes "false")).0 n in
+    rw same refl
+truth_by false false word y n =
+    let third : bytes_eq (codes "false") word ≡ false = none (bytes_eq (codes "false") word) refl in
+    rw (y, n, third) refl
+  where
+    none : (b : Bool) → bytes_eq (codes "false") word ≡ b → b ≡ false
+    none true e = absurd (let same = (bytes_eq-Decides (codes "false") word).0 e in let f = (bytes_eq-Decides word (codes "false")).1 (sym same) in cc)
+    none false e = refl
+
+truth_spelled : (word : List ℕ) → spelled cell_text word (Truth (bytes_eq word (codes "true"))) ≡ option_map Truth (truth_of word)
+truth_spelled word = truth_by (bytes_eq word (codes "true")) (bytes_eq word (codes "false")) word refl refl
+
+above : (n most : ℕ) → 2 ^ 64 ≤ n → most < 2 ^ 64 → int_le (pos n) (pos most) ≡ false
+above n most large few = lt-leb n most (omega arith)
+
+below : (n most : ℕ) → 2 ^ 64 ≤ n + 1 → most + 1 < 2 ^ 64 → int_le (negsuc most) (negsuc n) ≡ false
+below n most large few = lt-leb n most (omega arith)
+
+signed_large : (n : ℤ) (low high : ℕ) → low + 1 < 2 ^ 64 → high < 2 ^ 64 → is_small (magnitude n) ≡ false → (int_le (negsuc low) n && int_le n (pos high)) ≡ false
+signed_large (pos n) low high few much large = and_right (int_le (negsuc low) (pos n)) (int_le (pos n) (pos high)) (above n high (ltb-false n (2 ^ 64) large) much)
+signed_large (negsuc n) low high few much large = let f = below n low (ltb-false (n + 1) (2 ^ 64) large) few in rw f refl
+
+unsigned_large : (n : ℤ) (high : ℕ) → high < 2 ^ 64 → is_small (magnitude n) ≡ false → (int_le (pos 0) n && int_le n (pos high)) ≡ false
+unsigned_large (pos n) high much large = and_right (int_le (pos 0) (pos n)) (int_le (pos n) (pos high)) (above n high (ltb-false n (2 ^ 64) large) much)
+unsigned_large (negsuc n) high much large = refl
+
+-- an integer that is not small is none of a kind
+large_none : (k : Kind) (n : ℤ) → is_small (magnitude n) ≡ false → is_integer_of k n ≡ false
+large_none kind.I8 n large = signed_large n (2 ^ 7 - 1) (2 ^ 7 - 1) (omega arith) (omega arith) large
+large_none kind.I16 n large = signed_large n (2 ^ 15 - 1) (2 ^ 15 - 1) (omega arith) (omega arith) large
+large_none kind.I32 n large = signed_large n (2 ^ 31 - 1) (2 ^ 31 - 1) (omega arith) (omega arith) large
+large_none kind.I64 n large = signed_large n (2 ^ 63 - 1) (2 ^ 63 - 1) (omega arith) (omega arith) large
+large_none kind.U8 n large = unsigned_large n (2 ^ 8 - 1) (omega arith) large
+large_none kind.U16 n large = unsigned_large n (2 ^ 16 - 1) (omega arith) large
+large_none kind.U32 n large = unsigned_large n (2 ^ 32 - 1) (omega arith) large
+large_none kind.U64 n large = unsigned_large n (2 ^ 64 - 1) (omega arith) large
+large_none kind.Bool n large = refl
+large_none kind.Utf8 n large = refl
+large_none kind.Binary n large = refl
+
+number_by : (column : Column) (n : ℤ) (small : Bool) → is_small (magnitude n) ≡ small → standing column (Num n) ≡ option_and_then (standing column) (option_map Num (small_integer (Some n)))
+number_by column n true e = rw e refl
+number_by column n false e = rw (e, large_none column.kind n e) refl
+
+number_of : (column : Column) (o : Option ℤ) → option_and_then (standing column) (option_map Num o) ≡ option_and_then (standing column) (option_map Num (small_integer o))
+number_of column None = refl
+number_of column (Some n) = number_by column n (is_small (magnitude n)) refl
+
+number_case : (column : Column) (word : List ℕ) → option_and_then (standing column) (spelled cell_text word (Num (integer_in word))) ≡ option_and_then (standing column) (option_map Num (small_integer (integer_of word)))
+number_case column word = ap (option_and_then (standing column)) (mapped Num signed_decimal word (integer_in word) (λ n. refl)) ∙ number_of column (integer_of word)
+
+value_case : (column : Column) (word : List ℕ) (k : Kind) → option_and_then (standing column) (spelled cell_text word (value_in k word)) ≡ option_and_then (standing column) (value_spelled k word)
+value_case column word kind.I8 = number_case column word
+value_case column word kind.I16 = number_case column word
+value_case column word kind.I32 = number_case column word
+value_case column word kind.I64 = number_case column word
+value_case column word kind.U8 = number_case column word
+value_case column word kind.U16 = number_case column word
+value_case column word kind.U32 = number_case column word
+value_case column word kind.U64 = number_case column word
+value_case column word kind.Bool = ap (option_and_then (standing column)) (truth_spelled word)
+value_case column word kind.Utf8 = ap (option_and_then (standing column)) (mapped Text quoted word (text_in word) (λ text. refl) ∙ ap (option_map Text) (text_spelled word))
+value_case column word kind.Binary = ap (option_and_then (standing column)) (mapped Blob marked word (blob_in word) (λ blob. refl) ∙ ap (option_map Blob) (blob_spelled word))
+
+-- the word `null`
+pub cell_null : (column : Column) (word : List ℕ) → word ≡ codes "null" → cell_of column word ≡ standing column Null
+cell_null column word is = rw is refl
+
+-- any other word
+pub cell_value : (column : Column) (word : List ℕ) → bytes_eq word (codes "null") ≡ false → cell_of column word ≡ option_and_then (standing column) (value_spelled column.kind word)
+cell_value column word other = ap (λ (b : Bool). option_and_then (standing column) (spelled cell_text word (if b then Null else value_in column.kind word))) other ∙ value_case column word column.kind

@@ -1,0 +1,90 @@
+//! Cells: the words that are a value of a column, or none.
+ghost use Rattle.std.specs.Prelude.{◌≡◌, IfOk};
+ghost use Rattle.workload_spec.specs.declared.script.Cause.TheVariants as cause;
+ghost use Rattle.workload_spec.specs.Reading.{cell_of};
+ghost use Rattle.workload_spec.specs.Grammar.{or_cause};
+ghost use Rattle.script_text.specs.Cursor.{words_behind};
+ghost use Rattle.script_text.specs.Spellings.{truth_of, value_spelled, standing};
+ghost use Rattle.script_text.specs.Commands.{row_read};
+ghost use Rattle.script_text.specs.Answers.{Gives};
+
+use crate::fault::WordFault;
+use crate::numbers::integer;
+use crate::texts::{blob_of, text_of};
+use crate::words::word_behind;
+use cell_model::{Bytes, Cell, Column, Kind, Row};
+use std::alloc::{AllocError, Global};
+use workload_spec::Cause;
+
+/// The row of a key's cell and the words of the further columns.
+pub fn row_of(alloc: Global, key: Cell, columns: &[Column], words: &[u8]) -> Result<Row, WordFault>
+    ensures { Gives (λ row. row) result (row_read columns.now key (words_behind words.now)) }
+{
+    let mut cells = Vec::with_capacity(alloc, columns.len() + 1)?;
+    cells.push(key)?;
+    let mut rest = words;
+    for column in columns {
+        let Some((word, behind)) = word_behind(rest) else {
+            break;
+        };
+        cells.push(cell_of(alloc, column, word)?)?;
+        rest = behind;
+    }
+    Ok(Row::from(cells))
+}
+
+/// The cell of a column that the word spells.
+#[tactic(auto, using(crate::proofs::CellSpellings::cell_null, crate::proofs::CellSpellings::cell_value))]
+fn cell_of(alloc: Global, column: &Column, word: &[u8]) -> Result<Cell, WordFault>
+    ensures { Gives (λ cell. cell) result (or_cause cause.Cell (cell_of column.now word.now)) }
+{
+    if word == b"null".as_slice() {
+        return standing(column, Cell::Null);
+    }
+    match value_of(alloc, column.kind, word)? {
+        Some(cell) => standing(column, cell),
+        None => Err(WordFault::Bad(Cause::Cell)),
+    }
+}
+
+/// The cell, where it may stand in the column.
+fn standing(column: &Column, cell: Cell) -> Result<Cell, WordFault>
+    ensures { Gives (λ cell. cell) result (or_cause cause.Cell (standing column.now cell)) }
+{
+    match column.check(0, &cell) {
+        Ok(()) => Ok(cell),
+        Err(_) => Err(WordFault::Bad(Cause::Cell)),
+    }
+}
+
+/// The value that the word spells for a kind; none where it spells none, or an integer that no kind has.
+fn value_of(alloc: Global, kind: Kind, word: &[u8]) -> Result<Option<Cell>, AllocError>
+    ensures { IfOk result (λ cell. cell ≡ value_spelled kind word.now) }
+{
+    match kind {
+        Kind::Bool => Ok(truth_of(word).map(Cell::Truth)),
+        Kind::Utf8 => Ok(text_of(alloc, word)?.map(|text| Cell::Text(Bytes::from(text)))),
+        Kind::Binary => Ok(blob_of(alloc, word)?.map(|blob| Cell::Blob(Bytes::from(blob)))),
+        Kind::I8
+        | Kind::I16
+        | Kind::I32
+        | Kind::I64
+        | Kind::U8
+        | Kind::U16
+        | Kind::U32
+        | Kind::U64 => Ok(integer(word).map(Cell::Num)),
+    }
+}
+
+/// The truth value that the word spells.
+fn truth_of(word: &[u8]) -> Option<bool>
+    ensures { result ≡ truth_of word.now }
+{
+    if word == b"true".as_slice() {
+        Some(true)
+    } else if word == b"false".as_slice() {
+        Some(false)
+    } else {
+        None
+    }
+}

@@ -1,0 +1,77 @@
+//! The rounds of a workload.
+ghost use Rattle.std.specs.Prelude.{◌≡◌, ◌&&◌, false, bytes_eq, codes, length, ◌<◌, ◌^◌};
+ghost use Rattle.workload_spec.specs.Words.{line_feed};
+ghost use Rattle.workload_spec.specs.Reading.{parts};
+ghost use Rattle.workload_spec.specs.Grammar.{rounds_from};
+ghost use Rattle.script_text.specs.Answers.{LineGives};
+
+use crate::commands::{is_export, line_of};
+use crate::fault::ScriptFault;
+use crate::lines::split_line;
+use cell_model::TableDecl;
+use std::alloc::Global;
+use workload_spec::{Cause, Extent, Line, Round};
+
+/// The rounds of the lines that are left, the first of which has this number.
+pub fn rounds_of(
+    alloc: Global,
+    extent: &Extent,
+    tables: &[TableDecl],
+    sessions: u32,
+    first: u64,
+    bytes: &[u8],
+) -> Result<Vec<Round>, ScriptFault>
+    requires few { length tables.now < 2 ^ 32 }
+    requires early { first < 2 ^ 32 }
+    ensures { LineGives (λ rounds. rounds.items) result (rounds_from extent.now tables.now sessions first false (parts line_feed bytes.now)) }
+{
+    let mut rounds = Vec::new(alloc);
+    let mut lines = Vec::with_capacity(alloc, lines_of_round(extent, bytes))?;
+    let mut exported = false;
+    let mut at = first;
+    let mut rest = bytes;
+    while let Some((line, behind)) = split_line(rest) {
+        if is_parting(extent, line) {
+            rounds.push(Round::from(lines))?;
+            lines = Vec::with_capacity(alloc, lines_of_round(extent, behind))?;
+        } else {
+            let read = match line_of(alloc, extent, tables, sessions, exported, line) {
+                Ok(read) => read,
+                Err(fault) => return Err(fault.on_line(at)),
+            };
+            exported |= is_export(&read.command);
+            lines.push(read)?;
+        }
+        rest = behind;
+        at += 1;
+    }
+    if !rest.is_empty() {
+        return Err(ScriptFault::Bad {
+            line: at,
+            cause: Cause::Line,
+        });
+    }
+    rounds.push(Round::from(lines))?;
+    Ok(rounds)
+}
+
+/// Whether the line parts two rounds.
+fn is_parting(extent: &Extent, line: &[u8]) -> bool
+    ensures { result ≡ (extent.now.parts_rounds && bytes_eq line.now (codes "--")) }
+{
+    extent.parts_rounds && line == b"--".as_slice()
+}
+
+/// How many lines there are up to the next that parts two rounds.
+fn lines_of_round(extent: &Extent, bytes: &[u8]) -> usize {
+    let mut count = 0;
+    let mut rest = bytes;
+    while let Some((line, behind)) = split_line(rest) {
+        if is_parting(extent, line) {
+            break;
+        }
+        count += 1;
+        rest = behind;
+    }
+    count
+}
