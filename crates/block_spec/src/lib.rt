@@ -4,6 +4,7 @@
 
 pub mod change;
 pub mod examples;
+pub mod laws;
 pub mod look;
 pub mod patch;
 pub mod phase;

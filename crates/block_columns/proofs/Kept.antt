@@ -1,0 +1,205 @@
+-- What a column keeps is given back as the cells that it keeps.
+use Rattle.std.proofs.Common.{◌≡◌, ℕ, zero, suc, ◌<◌, ◌≤◌, get_or, Bool, true, false, cond, List, [], ◌∷◌, ◌++◌, length, replicate, map, refl, sym, ap, ◌∙◌, subst, arith, ℤ, pos}
+use Rattle.std.specs.Prelude.{slice_set, All, IsTrue, ◌&&◌, Option, Some, None, IfSome, IfNone}
+use Rattle.std.proofs.lemmas.List.{map-set, map-append}
+use Rattle.std.proofs.Math.ListN.{get_or-map}
+use Rattle.std.proofs.lemmas.List.Elements.{All-head, All-tail, All-set, All-append, All-replicate}
+use Rattle.cell_model.specs.declared.cell.Cell.{Cell}
+use Rattle.cell_model.specs.declared.cell.Cell.TheVariants.{Null, Num, Truth, Text, Blob}
+use Rattle.cell_model.specs.declared.kind.Kind.{Kind}
+use Rattle.cell_model.specs.Kinds.{Values, signed, unsigned, truths, texts, blobs, values_of, are_truths, are_texts, are_blobs}
+use Rattle.cell_model.specs.Values.{is_integer_in}
+use Rattle.arrow_spec.specs.Arrays.{number_of, truth_of, value_of}
+use Rattle.block_columns.specs.declared.store.Store.{Store}
+use Rattle.block_columns.specs.declared.store.Store.TheVariants as store
+use Rattle.block_columns.specs.Cells.{IsSlotOf, Keeps, Stores, IsStoreOf, AreNumbers, AreTruths, AreBytes, cells_in, masked, bytes_in, valid_bit, bytes_at}
+use Rattle.block_columns.proofs.Lists.{map-replicate}
+
+-- the kinds of numbers have no other values
+no_truth : (v : Values) (bits : ℕ) (sign p : Bool) → AreNumbers v bits sign → IsTrue (are_truths v && p) → ⊥
+no_truth (signed w) bits sign p known h = cc
+no_truth (unsigned w) bits sign p known h = cc
+no_truth truths bits sign p known h = absurd known
+no_truth texts bits sign p known h = absurd known
+no_truth blobs bits sign p known h = absurd known
+
+no_text : (v : Values) (bits : ℕ) (sign p q : Bool) → AreNumbers v bits sign → IsTrue ((are_texts v && p) && q) → ⊥
+no_text (signed w) bits sign p q known h = cc
+no_text (unsigned w) bits sign p q known h = cc
+no_text truths bits sign p q known h = absurd known
+no_text texts bits sign p q known h = absurd known
+no_text blobs bits sign p q known h = absurd known
+
+no_blob : (v : Values) (bits : ℕ) (sign p q : Bool) → AreNumbers v bits sign → IsTrue ((are_blobs v && p) && q) → ⊥
+no_blob (signed w) bits sign p q known h = cc
+no_blob (unsigned w) bits sign p q known h = cc
+no_blob truths bits sign p q known h = absurd known
+no_blob texts bits sign p q known h = absurd known
+no_blob blobs bits sign p q known h = absurd known
+
+number_back : (kind : Kind) (bits : ℕ) (sign : Bool) (c : Cell) → AreNumbers (values_of kind) bits sign → IsSlotOf kind c → cond (valid_bit c) (Num (number_of c)) Null ≡ c
+number_back kind bits sign Null known slot = refl
+number_back kind bits sign (Num n) known slot = refl
+number_back kind bits sign (Truth b) known slot = absurd (no_truth (values_of kind) bits sign _ known slot)
+number_back kind bits sign (Text t) known slot = absurd (no_text (values_of kind) bits sign _ _ known slot)
+number_back kind bits sign (Blob t) known slot = absurd (no_blob (values_of kind) bits sign _ _ known slot)
+
+-- the kind of truth values has no other values
+truth_alone : (v : Values) (n : ℤ) (p q : Bool) → AreTruths v → (IsTrue (is_integer_in v n && p) → ⊥) × (IsTrue ((are_texts v && p) && q) → ⊥) × (IsTrue ((are_blobs v && p) && q) → ⊥)
+truth_alone (signed w) n p q known = absurd known
+truth_alone (unsigned w) n p q known = absurd known
+truth_alone truths n p q known = ((λ h. cc), (λ h. cc), (λ h. cc))
+truth_alone texts n p q known = absurd known
+truth_alone blobs n p q known = absurd known
+
+truth_back : (kind : Kind) (c : Cell) → AreTruths (values_of kind) → IsSlotOf kind c → cond (valid_bit c) (Truth (truth_of c)) Null ≡ c
+truth_back kind Null known slot = refl
+truth_back kind (Num n) known slot = absurd ((truth_alone (values_of kind) n _ true known).0 slot)
+truth_back kind (Truth b) known slot = refl
+truth_back kind (Text t) known slot = absurd ((truth_alone (values_of kind) (pos 0) _ _ known).1 slot)
+truth_back kind (Blob t) known slot = absurd ((truth_alone (values_of kind) (pos 0) _ _ known).2 slot)
+
+-- the kinds of bytes have no numbers and truth values
+bytes_alone : (v : Values) (n : ℤ) (p : Bool) → AreBytes v → (IsTrue (is_integer_in v n && p) → ⊥) × (IsTrue (are_truths v && p) → ⊥)
+bytes_alone (signed w) n p known = absurd known
+bytes_alone (unsigned w) n p known = absurd known
+bytes_alone truths n p known = absurd known
+bytes_alone texts n p known = ((λ h. cc), (λ h. cc))
+bytes_alone blobs n p known = ((λ h. cc), (λ h. cc))
+
+text_back : (v : Values) (t : List ℕ) (p q : Bool) → AreBytes v → IsTrue ((are_texts v && p) && q) → bytes_in v t ≡ Text t
+text_back (signed w) t p q known h = absurd known
+text_back (unsigned w) t p q known h = absurd known
+text_back truths t p q known h = absurd known
+text_back texts t p q known h = refl
+text_back blobs t p q known h = cc
+
+blob_back : (v : Values) (t : List ℕ) (p q : Bool) → AreBytes v → IsTrue ((are_blobs v && p) && q) → bytes_in v t ≡ Blob t
+blob_back (signed w) t p q known h = absurd known
+blob_back (unsigned w) t p q known h = absurd known
+blob_back truths t p q known h = absurd known
+blob_back texts t p q known h = cc
+blob_back blobs t p q known h = refl
+
+bytes_back : (kind : Kind) (c : Cell) → AreBytes (values_of kind) → IsSlotOf kind c → cond (valid_bit c) (bytes_in (values_of kind) (value_of c)) Null ≡ c
+bytes_back kind Null known slot = refl
+bytes_back kind (Num n) known slot = absurd ((bytes_alone (values_of kind) n _ known).0 slot)
+bytes_back kind (Truth b) known slot = absurd ((bytes_alone (values_of kind) (pos 0) _ known).1 slot)
+bytes_back kind (Text t) known slot = text_back (values_of kind) t _ _ known slot
+bytes_back kind (Blob t) known slot = blob_back (values_of kind) t _ _ known slot
+
+-- cell by cell
+masked-back : {X : Type 0} (kind : Kind) (full : X → Cell) (value : Cell → X) → ((c : Cell) → IsSlotOf kind c → cond (valid_bit c) (full (value c)) Null ≡ c)
+    → (cells : List Cell) → All (IsSlotOf kind) cells → masked (map valid_bit cells) (map full (map value cells)) ≡ cells
+masked-back kind full value back [] each = refl
+masked-back kind full value back (c ∷ cs) each =
+    ap (λ (x : Cell). x ∷ masked (map valid_bit cs) (map full (map value cs))) (back c (All-head (IsSlotOf kind) c cs each))
+    ∙ ap (λ (xs : List Cell). c ∷ xs) (masked-back kind full value back cs (All-tail (IsSlotOf kind) c cs each))
+
+-- a column that keeps cells gives them back
+pub keeps-cells : (kind : Kind) (valid : List Bool) (kept : Store) (cells : List Cell) → Keeps kind valid kept cells → cells_in kind valid kept ≡ cells
+keeps-cells kind valid (store.Numbers f) cells k =
+    ap (λ (bits : List Bool). masked bits (map Num f.values)) k.bits ∙ ap (λ (xs : List ℤ). masked (map valid_bit cells) (map Num xs)) k.stored
+    ∙ masked-back kind Num number_of (λ c slot. number_back kind f.width f.signed c k.known slot) cells k.each
+keeps-cells kind valid (store.Truths bits) cells k =
+    ap (λ (xs : List Bool). masked xs (map Truth bits)) k.bits ∙ ap (λ (xs : List Bool). masked (map valid_bit cells) (map Truth xs)) k.stored
+    ∙ masked-back kind Truth truth_of (λ c slot. truth_back kind c k.known slot) cells k.each
+keeps-cells kind valid (store.Values v) cells k =
+    ap (λ (xs : List Bool). masked xs (map (bytes_in (values_of kind)) v.items)) k.bits
+    ∙ ap (λ (xs : List (List ℕ)). masked (map valid_bit cells) (map (bytes_in (values_of kind)) xs)) k.stored
+    ∙ masked-back kind (bytes_in (values_of kind)) value_of (λ c slot. bytes_back kind c k.known slot) cells k.each
+
+pub keeps-itself : (kind : Kind) (valid : List Bool) (kept : Store) (cells : List Cell) → Keeps kind valid kept cells → Keeps kind valid kept (cells_in kind valid kept)
+keeps-itself kind valid kept cells k = subst (λ (cs : List Cell). Keeps kind valid kept cs) (sym (keeps-cells kind valid kept cells k)) k
+
+-- a cell is put
+pub keeps-set : (kind : Kind) (valid valid' : List Bool) (kept kept' : Store) (cells : List Cell) (at : ℕ) (bit : Bool) (c : Cell) → Keeps kind valid kept cells
+    → IsSlotOf kind c → valid' ≡ slice_set valid at bit → bit ≡ valid_bit c → IsStoreOf kind kept' → (Stores kept cells → Stores kept' (slice_set cells at c))
+    → Keeps kind valid' kept' (slice_set cells at c)
+keeps-set kind valid valid' kept kept' cells at bit c k slot put is known stores = record {
+  bits = put ∙ ap (λ b. slice_set valid at b) is ∙ ap (λ (bs : List Bool). slice_set bs at (valid_bit c)) k.bits ∙ sym (map-set valid_bit cells at c);
+  known = known;
+  stored = stores k.stored;
+  each = All-set (IsSlotOf kind) cells at c slot k.each;
+}
+
+-- nulls are added
+pub keeps-extend : (kind : Kind) (valid valid' : List Bool) (kept kept' : Store) (cells : List Cell) (n : ℕ) → Keeps kind valid kept cells
+    → valid' ≡ valid ++ replicate n false → IsStoreOf kind kept' → (Stores kept cells → Stores kept' (cells ++ replicate n Null))
+    → Keeps kind valid' kept' (cells ++ replicate n Null)
+keeps-extend kind valid valid' kept kept' cells n k more known stores = record {
+  bits = more ∙ ap (λ (bs : List Bool). bs ++ replicate n false) k.bits ∙ ap (λ (bs : List Bool). map valid_bit cells ++ bs) (sym (map-replicate valid_bit n Null))
+      ∙ sym (map-append valid_bit cells (replicate n Null));
+  known = known;
+  stored = stores k.stored;
+  each = All-append (IsSlotOf kind) cells (replicate n Null) k.each (All-replicate (IsSlotOf kind) n Null refl);
+}
+
+-- another store of the same cells
+pub keeps-as : (kind : Kind) (valid : List Bool) (kept kept' : Store) (cells : List Cell) → Keeps kind valid kept cells → IsStoreOf kind kept' → (Stores kept cells → Stores kept' cells) → Keeps kind valid kept' cells
+keeps-as kind valid kept kept' cells k known stores = record { bits = k.bits; known = known; stored = stores k.stored; each = k.each }
+
+-- a cell of the slots, or the null beyond them
+slot_at : (kind : Kind) (cells : List Cell) (at : ℕ) → All (IsSlotOf kind) cells → IsSlotOf kind (get_or cells at Null)
+slot_at kind [] at each = refl
+slot_at kind (c ∷ cs) zero each = All-head (IsSlotOf kind) c cs each
+slot_at kind (c ∷ cs) (suc at) each = slot_at kind cs at (All-tail (IsSlotOf kind) c cs each)
+
+number_has_none : (kind : Kind) (bits : ℕ) (sign : Bool) (c : Cell) → AreNumbers (values_of kind) bits sign → IsSlotOf kind c → [] ≡ value_of c
+number_has_none kind bits sign Null known slot = refl
+number_has_none kind bits sign (Num n) known slot = refl
+number_has_none kind bits sign (Truth b) known slot = refl
+number_has_none kind bits sign (Text t) known slot = absurd (no_text (values_of kind) bits sign _ _ known slot)
+number_has_none kind bits sign (Blob t) known slot = absurd (no_blob (values_of kind) bits sign _ _ known slot)
+
+truth_has_none : (kind : Kind) (c : Cell) → AreTruths (values_of kind) → IsSlotOf kind c → [] ≡ value_of c
+truth_has_none kind Null known slot = refl
+truth_has_none kind (Num n) known slot = refl
+truth_has_none kind (Truth b) known slot = refl
+truth_has_none kind (Text t) known slot = absurd ((truth_alone (values_of kind) (pos 0) _ _ known).1 slot)
+truth_has_none kind (Blob t) known slot = absurd ((truth_alone (values_of kind) (pos 0) _ _ known).2 slot)
+
+-- the bytes that are stored are the cell's
+pub keeps-bytes : (kind : Kind) (valid : List Bool) (kept : Store) (cells : List Cell) (at : ℕ) → Keeps kind valid kept cells → bytes_at kept at ≡ value_of (get_or cells at Null)
+keeps-bytes kind valid (store.Numbers f) cells at k = number_has_none kind f.width f.signed (get_or cells at Null) k.known (slot_at kind cells at k.each)
+keeps-bytes kind valid (store.Truths bits) cells at k = truth_has_none kind (get_or cells at Null) k.known (slot_at kind cells at k.each)
+keeps-bytes kind valid (store.Values v) cells at k = ap (λ (xs : List (List ℕ)). get_or xs at []) k.stored ∙ get_or-map value_of cells at Null
+
+long_back : (kind : Kind) (c : Cell) → AreBytes (values_of kind) → IsSlotOf kind c → 12 < length (value_of c) → bytes_in (values_of kind) (value_of c) ≡ c
+long_back kind Null known slot long = absurd (omega (arith, long))
+long_back kind (Num n) known slot long = absurd (omega (arith, long))
+long_back kind (Truth b) known slot long = absurd (omega (arith, long))
+long_back kind (Text t) known slot long = bytes_back kind (Text t) known slot
+long_back kind (Blob t) known slot long = bytes_back kind (Blob t) known slot
+
+-- and make the cell where they are many
+pub keeps-long : (kind : Kind) (valid : List Bool) (kept : Store) (cells : List Cell) (at : ℕ) → Keeps kind valid kept cells → 12 < length (bytes_at kept at)
+    → bytes_in (values_of kind) (bytes_at kept at) ≡ get_or cells at Null
+keeps-long kind valid (store.Numbers f) cells at k long = absurd (omega (arith, long))
+keeps-long kind valid (store.Truths bits) cells at k long = absurd (omega (arith, long))
+keeps-long kind valid (store.Values v) cells at k long =
+    let is : bytes_at (store.Values v) at ≡ value_of (get_or cells at Null) = keeps-bytes kind valid (store.Values v) cells at k in
+    ap (λ (bytes : List ℕ). bytes_in (values_of kind) bytes) is
+    ∙ long_back kind (get_or cells at Null) k.known (slot_at kind cells at k.each) (subst (λ (bytes : List ℕ). 12 < length bytes) is long)
+
+-- the cell of a valid bit is the value
+pub masked-get : (bits : List Bool) (cells : List Cell) (at : ℕ) → get_or (masked bits cells) at Null ≡ cond (get_or bits at false) (get_or cells at Null) Null
+masked-get [] cells at = refl
+masked-get (b ∷ bs) [] at = none (get_or (b ∷ bs) at false)
+  where
+    none : (bit : Bool) → Null ≡ cond bit Null Null
+    none true = refl
+    none false = refl
+masked-get (b ∷ bs) (c ∷ cs) zero = refl
+masked-get (b ∷ bs) (c ∷ cs) (suc at) = masked-get bs cs at
+
+-- a cell is moved out: its bytes where they are many, else what was copied before
+pub keeps-moved : (kind : Kind) (valid : List Bool) (kept : Store) (cells : List Cell) (at : ℕ) (moved : Option (List ℕ)) (cell spare : Cell) → Keeps kind valid kept cells
+    → IfSome moved (λ bytes. bytes ≡ bytes_at kept at) → IfSome moved (λ bytes. 12 < length bytes) → IfNone moved (length (bytes_at kept at) ≤ 12)
+    → IfSome moved (λ bytes. cell ≡ bytes_in (values_of kind) bytes) → IfNone moved (cell ≡ spare)
+    → (length (value_of (get_or cells at Null)) ≤ 12 → spare ≡ get_or cells at Null) → cell ≡ get_or cells at Null
+keeps-moved kind valid kept cells at (Some bytes) cell spare k is long short some none copied =
+    some ∙ ap (λ (b : List ℕ). bytes_in (values_of kind) b) is
+    ∙ keeps-long kind valid kept cells at k (subst (λ (b : List ℕ). 12 < length b) is long)
+keeps-moved kind valid kept cells at None cell spare k is long short some none copied =
+    none ∙ copied (subst (λ (b : List ℕ). length b ≤ 12) (keeps-bytes kind valid kept cells at k) short)

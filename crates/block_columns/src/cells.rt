@@ -1,0 +1,162 @@
+//! The cells of a column, as Arrow's bytes.
+ghost use Rattle.std.specs.Prelude.{◌≡◌, ◌<◌, ◌≤◌, ◌++◌, [], IfOk, OnOk, OnErr, IsTrue, ◌↔◌, length, replicate, slice_set, slice_index_or, take};
+ghost use Rattle.cell_model.specs.declared.cell.Cell.TheVariants as cell;
+ghost use Rattle.cell_model.specs.Values.{is_null};
+ghost use Rattle.arrow_spec.specs.Arrays.{null_count, value_of};
+ghost use Rattle.block_spec.specs.Fitting.{unnamed};
+ghost use Rattle.block_columns.specs.Cells.{IsSlotOf};
+
+use crate::store::{Store, moved_cell};
+use cell_model::{Cell, Column, Kind};
+use flat_column::Bits;
+use std::alloc::{AllocError, Global};
+use std::marker::Model;
+
+/// The cells of a column, one for each slot.
+#[derive(Drop)]
+pub struct ColumnCells {
+    kind: Kind,
+    nullable: bool,
+    valid: Bits,
+    store: Store,
+}
+
+impl Model for ColumnCells {
+    ghost use Rattle.std.specs.Prelude.{[]};
+    ghost use Rattle.block_columns.specs.Cells.{ColumnValue, Keeps, cells_in};
+
+    ghost Value = { ColumnValue };
+
+    ghost view = { λ c. record {
+      column = record { name = []; kind = c.kind; nullable = c.nullable };
+      cells = cells_in c.kind c.valid c.store;
+    } };
+
+    ghost invariant = { λ c. Keeps c.kind c.valid c.store (cells_in c.kind c.valid c.store) };
+}
+
+impl ColumnCells {
+    /// No cell, which takes no memory.
+    pub fn new(alloc: Global, column: &Column) -> Result<ColumnCells, AllocError>
+        ensures { IfOk result (λ c. c ≡ record { column = unnamed column.now; cells = [] }) }
+    {
+        Ok(ColumnCells {
+            kind: column.kind,
+            nullable: column.nullable,
+            valid: Bits::new(alloc, 0)?,
+            store: Store::new(alloc, column.kind)?,
+        })
+    }
+
+    /// How many cells there are.
+    pub fn len(&self) -> usize
+        ensures { result ≡ length self.now.cells }
+    {
+        self.valid.len()
+    }
+
+    /// Adds `n` nulls at the end. Without memory the cells stay.
+    pub fn extend(&mut self, n: usize) -> Result<(), AllocError>
+        ensures ok { OnOk result (self.new ≡ record self.old { cells = self.old.cells ++ replicate n cell.Null }) }
+        ensures err { OnErr result (self.new ≡ self.old) }
+    {
+        let mut valid = self.valid.clone()?;
+        valid.extend(n)?;
+        self.store.extend(n)?;
+        self.valid = valid;
+        Ok(())
+    }
+
+    /// Lays a cell in a slot, which takes no memory.
+    pub fn lay(&mut self, at: usize, cell: Cell)
+        requires slot { IsSlotOf self.old.column.kind cell }
+        requires at { at < length self.old.cells }
+        ensures { self.new ≡ record self.old { cells = slice_set self.old.cells at cell } }
+    {
+        self.valid.set(at, !cell.is_null());
+        self.store.lay(self.kind, at, cell);
+    }
+
+    /// Writes a copy of a cell in a slot. Without memory the cells stay.
+    pub fn write(&mut self, alloc: Global, at: usize, cell: &Cell) -> Result<(), AllocError>
+        requires slot { IsSlotOf self.old.column.kind cell.now }
+        requires at { at < length self.old.cells }
+        ensures ok { OnOk result (self.new ≡ record self.old { cells = slice_set self.old.cells at cell.now }) }
+        ensures err { OnErr result (self.new ≡ self.old) }
+    {
+        self.store.write(alloc, self.kind, at, cell)?;
+        self.valid.set(at, !cell.is_null());
+        Ok(())
+    }
+
+    /// Whether the cell of a slot is null.
+    pub fn is_null(&self, at: usize) -> bool
+        requires { at < length self.now.cells }
+        ensures { result ≡ is_null (slice_index_or self.now.cells at cell.Null) }
+    {
+        !self.valid.get(at)
+    }
+
+    /// A copy of the cell of a slot.
+    pub fn get(&self, alloc: Global, at: usize) -> Result<Cell, AllocError>
+        requires { at < length self.now.cells }
+        ensures { IfOk result (λ found. found ≡ slice_index_or self.now.cells at cell.Null) }
+    {
+        if !self.valid.get(at) {
+            return Ok(Cell::Null);
+        }
+        self.store.get(alloc, self.kind, at)
+    }
+
+    /// A copy of the cell of a slot, or any cell where `take` moves the value out, which takes no memory.
+    pub fn spare(&self, alloc: Global, at: usize) -> Result<Cell, AllocError>
+        requires { at < length self.now.cells }
+        ensures { IfOk result (λ spare. length (value_of (slice_index_or self.now.cells at cell.Null)) ≤ 12 →
+            spare ≡ slice_index_or self.now.cells at cell.Null) }
+    {
+        if self.store.is_long(at) {
+            return Ok(Cell::Null);
+        }
+        self.get(alloc, at)
+    }
+
+    /// Moves the cell of a slot out and leaves a null, which takes no memory.
+    pub fn take(&mut self, at: usize, spare: Cell) -> Cell
+        requires at { at < length self.old.cells }
+        requires spare { length (value_of (slice_index_or self.old.cells at cell.Null)) ≤ 12 →
+            spare ≡ slice_index_or self.old.cells at cell.Null }
+        ensures taken { result ≡ slice_index_or self.old.cells at cell.Null }
+        ensures left { self.new ≡ record self.old { cells = slice_set self.old.cells at cell.Null } }
+        ensures slot { IsSlotOf self.old.column.kind result }
+    {
+        self.valid.set(at, false);
+        let moved = self.store.clear(at);
+        moved_cell(self.kind, moved, spare)
+    }
+
+    /// The same cells again.
+    pub fn copy(&self, alloc: Global) -> Result<ColumnCells, AllocError>
+        ensures { IfOk result (λ c. c ≡ self.now) }
+    {
+        Ok(ColumnCells {
+            kind: self.kind,
+            nullable: self.nullable,
+            valid: self.valid.clone()?,
+            store: self.store.copy(alloc)?,
+        })
+    }
+
+    /// How many of the first `n` cells are null.
+    pub fn nulls(&self, n: usize) -> usize
+        requires { n ≤ length self.now.cells }
+        ensures { result ≡ null_count (take n self.now.cells) }
+    {
+        let mut nulls = 0;
+        for at in 0..n {
+            if self.is_null(at) {
+                nulls += 1;
+            }
+        }
+        nulls
+    }
+}

@@ -1,0 +1,297 @@
+//! The columns of a block.
+ghost use Rattle.std.specs.Prelude.{◌≡◌, ◌+◌, ◌<◌, ◌≤◌, ◌↔◌, ℕ, None, Some, IfOk, IfErr, OnOk, OnErr, IsTrue, IsSome, is_some, option_map, length, replicate, slice_index_or, slice_set, ◌^◌, if◌then◌else◌};
+ghost use Rattle.cell_model.specs.Rows.{Fits};
+ghost use Rattle.block_spec.specs.declared.change.Change.TheVariants as change;
+ghost use Rattle.block_spec.specs.Fitting.{BeforeFits, PatchFits, columns_of};
+ghost use Rattle.block_spec.specs.Slots.{image_before, laid_back, patched, row_after};
+ghost use Rattle.block_columns.specs.Columns.{WantsRow};
+
+use crate::cells::ColumnCells;
+use crate::patches::{exchange_patch, lay_patch};
+use crate::rows::{fill_row, lay_row, lengthen, read_row, take_row, wipe};
+use block_spec::{Before, Patch};
+use cell_model::{Cell, Row, Schema};
+use flat_column::Bits;
+use std::alloc::{AllocError, Global};
+use std::marker::Model;
+use std::sync::ledger::Ledger;
+use steps::Steps;
+
+/// The columns of a block: for each slot whether it has a row, and its cells.
+///
+/// The first slots have memory, which grows as slots are used; the others have none and no row.
+#[derive(Drop)]
+pub struct Columns {
+    alloc: Global,
+    slots: u32,
+    // Which of the slots with memory have a row.
+    taken: Bits,
+    columns: Vec<ColumnCells>,
+}
+
+impl Model for Columns {
+    ghost use Rattle.std.specs.Prelude.{length};
+    ghost use Rattle.block_columns.specs.Columns.{AreColumns, ColumnsValue, columns_in, rows_in};
+
+    ghost Value = { ColumnsValue };
+
+    ghost view = { λ c. record {
+      columns = columns_in c.columns.items;
+      rows = rows_in c.taken c.columns.items c.slots;
+      room = length c.taken;
+    } };
+
+    ghost invariant = { λ c. AreColumns c.taken c.columns.items c.slots };
+}
+
+impl Columns {
+    /// Columns of a schema with so many slots, none of which has a row or memory.
+    pub fn new(alloc: Global, schema: &Schema, slots: u32) -> Result<Columns, AllocError>
+        ensures { IfOk result (λ c. c ≡ record {
+          columns = columns_of schema.now;
+          rows = replicate slots None;
+          room = 0;
+        }) }
+    {
+        let declared = schema.columns();
+        let mut columns = Vec::with_capacity(alloc, declared.len())?;
+        for column in declared {
+            columns.push(ColumnCells::new(alloc, column)?)?;
+        }
+        Ok(Columns {
+            alloc,
+            slots,
+            taken: Bits::new(alloc, 0)?,
+            columns,
+        })
+    }
+
+    /// How many columns there are.
+    pub fn width(&self) -> usize
+        ensures { result ≡ length self.now.columns }
+    {
+        self.columns.len()
+    }
+
+    /// How many slots there are.
+    pub fn slots(&self) -> u32
+        ensures { result ≡ length self.now.rows }
+    {
+        self.slots
+    }
+
+    /// How many of the first slots have memory.
+    pub fn room(&self) -> usize
+        ensures room { result ≡ self.now.room }
+        ensures within { result ≤ length self.now.rows }
+    {
+        self.taken.len()
+    }
+
+    /// Whether a slot has a row.
+    pub fn has_row(&self, slot: u32) -> bool
+        ensures { IsTrue result ↔ IsSome (slice_index_or self.now.rows slot None) }
+    {
+        let at = slot as usize;
+        at < self.taken.len() && self.taken.get(at)
+    }
+
+    /// A copy of the row of a slot, which is a step where there is one.
+    pub fn row<L: Ledger>(&self, slot: u32, steps: &mut Steps<L>) -> Result<Option<Row>, AllocError>
+        requires { slot < length self.now.rows }
+        ensures row { IfOk result (λ row. row ≡ slice_index_or self.now.rows slot None) }
+        ensures steps { steps.new ≡ steps.old + (if is_some (slice_index_or self.now.rows slot None) then 1 else 0) }
+    {
+        if !self.has_row(slot) {
+            return Ok(None);
+        }
+        steps.tick();
+        let cells = read_row(self.alloc, self.columns.as_slice(), slot as usize)?;
+        Ok(Some(Row::from(cells)))
+    }
+
+    /// Makes memory for a slot and those before it, at least twice as many as had it. The rows stay.
+    pub fn reserve(&mut self, slot: u32) -> Result<(), AllocError>
+        requires { slot < length self.old.rows }
+        ensures ok { OnOk result (slot < self.new.room) }
+        ensures columns { self.new.columns ≡ self.old.columns }
+        ensures rows { self.new.rows ≡ self.old.rows }
+        ensures room { self.old.room ≤ self.new.room }
+    {
+        let at = slot as usize;
+        let len = self.taken.len();
+        if at < len {
+            return Ok(());
+        }
+        let room = larger(len, at, self.slots as usize);
+        lengthen(self.columns.as_mut_slice(), room)?;
+        self.taken.extend(room - len)
+    }
+
+    /// Puts a copy of a row in a slot, and hands out what stood there. Without memory the rows stay.
+    pub fn put(&mut self, slot: u32, row: &Row) -> Result<Before, AllocError>
+        requires slot { slot < length self.old.rows }
+        requires fits { Fits self.old.columns row.now }
+        ensures before { IfOk result (λ before. before ≡ image_before (slice_index_or self.old.rows slot None) (change.Put row.now)) }
+        ensures fits { IfOk result (BeforeFits self.old.columns) }
+        ensures ok { OnOk result (self.new.rows ≡ slice_set self.old.rows slot (Some row.now)) }
+        ensures err { OnErr result (self.new.rows ≡ self.old.rows) }
+        ensures columns { self.new.columns ≡ self.old.columns }
+        ensures room { self.old.room ≤ self.new.room }
+        ensures within { OnOk result (slot < self.new.room) }
+    {
+        self.reserve(slot)?;
+        let before = self.clear(slot)?;
+        match self.fill(slot, row.as_slice()) {
+            Ok(()) => Ok(before),
+            Err(error) => {
+                self.restore(slot, before);
+                Err(error)
+            }
+        }
+    }
+
+    /// Puts copies of the cells of a patch in the row of a slot, and hands out what stood in their
+    /// columns. Without memory the rows stay.
+    pub fn patch(&mut self, slot: u32, patch: &Patch) -> Result<Before, AllocError>
+        requires slot { IsSome (slice_index_or self.old.rows slot None) }
+        requires fits { PatchFits self.old.columns patch.now }
+        ensures before { IfOk result (λ before. before ≡ image_before (slice_index_or self.old.rows slot None) (change.Patch patch.now)) }
+        ensures fits { IfOk result (BeforeFits self.old.columns) }
+        ensures ok { OnOk result (self.new.rows ≡
+            slice_set self.old.rows slot (row_after (slice_index_or self.old.rows slot None) (change.Patch patch.now))) }
+        ensures err { OnErr result (self.new.rows ≡ self.old.rows) }
+        ensures columns { self.new.columns ≡ self.old.columns }
+        ensures room { self.new.room ≡ self.old.room }
+    {
+        let at = slot as usize;
+        let before = exchange_patch(
+            self.alloc,
+            self.columns.as_mut_slice(),
+            at,
+            patch.as_slice(),
+        )?;
+        Ok(Before::Part(Patch::from(before)))
+    }
+
+    /// Takes the row of a slot away and hands it out; none where there is none. Without memory the rows
+    /// stay.
+    pub fn clear(&mut self, slot: u32) -> Result<Before, AllocError>
+        ensures before { IfOk result (λ before. before ≡ image_before (slice_index_or self.old.rows slot None) change.Gone) }
+        ensures fits { IfOk result (BeforeFits self.old.columns) }
+        ensures ok { OnOk result (self.new.rows ≡ slice_set self.old.rows slot None) }
+        ensures err { OnErr result (self.new.rows ≡ self.old.rows) }
+        ensures columns { self.new.columns ≡ self.old.columns }
+        ensures room { self.new.room ≡ self.old.room }
+    {
+        if !self.has_row(slot) {
+            return Ok(Before::Empty);
+        }
+        let at = slot as usize;
+        let cells = take_row(self.alloc, self.columns.as_mut_slice(), at)?;
+        self.taken.set(at, false);
+        Ok(Before::Whole(Row::from(cells)))
+    }
+
+    /// Lays a before-image back in a slot that has memory, which takes none. An image of attributes
+    /// wants a row there.
+    pub fn restore(&mut self, slot: u32, before: Before)
+        requires slot { slot < self.old.room }
+        requires fits { BeforeFits self.old.columns before }
+        requires row { WantsRow before (slice_index_or self.old.rows slot None) }
+        ensures rows { self.new.rows ≡ slice_set self.old.rows slot (laid_back (slice_index_or self.old.rows slot None) before) }
+        ensures columns { self.new.columns ≡ self.old.columns }
+        ensures room { self.new.room ≡ self.old.room }
+    {
+        match before {
+            Before::Empty => self.erase(slot),
+            Before::Whole(row) => self.lay(slot, row),
+            Before::Part(patch) => self.lay_part(slot, patch),
+        }
+    }
+
+    /// The same columns and rows again.
+    pub fn copy(&self) -> Result<Columns, AllocError>
+        ensures { IfOk result (λ c. c ≡ self.now) }
+    {
+        let mut columns = Vec::with_capacity(self.alloc, self.columns.len())?;
+        for column in &self.columns {
+            columns.push(column.copy(self.alloc)?)?;
+        }
+        Ok(Columns {
+            alloc: self.alloc,
+            slots: self.slots,
+            taken: self.taken.clone()?,
+            columns,
+        })
+    }
+
+    // Writes copies of the cells of a row in a slot that has memory and no row. Without memory the
+    // rows stay.
+    fn fill(&mut self, slot: u32, cells: &[Cell]) -> Result<(), AllocError>
+        requires slot { slot < self.old.room }
+        requires none { slice_index_or self.old.rows slot None ≡ None }
+        requires fits { Fits self.old.columns cells.now }
+        ensures ok { OnOk result (self.new.rows ≡ slice_set self.old.rows slot (Some cells.now)) }
+        ensures err { OnErr result (self.new.rows ≡ self.old.rows) }
+        ensures columns { self.new.columns ≡ self.old.columns }
+        ensures room { self.new.room ≡ self.old.room }
+    {
+        let at = slot as usize;
+        fill_row(self.alloc, self.columns.as_mut_slice(), at, cells)?;
+        self.taken.set(at, true);
+        Ok(())
+    }
+
+    // Leaves a slot without a row.
+    fn erase(&mut self, slot: u32)
+        requires { slot < self.old.room }
+        ensures rows { self.new.rows ≡ slice_set self.old.rows slot None }
+        ensures columns { self.new.columns ≡ self.old.columns }
+        ensures room { self.new.room ≡ self.old.room }
+    {
+        let at = slot as usize;
+        wipe(self.columns.as_mut_slice(), at);
+        self.taken.set(at, false);
+    }
+
+    // Lays a row in a slot.
+    fn lay(&mut self, slot: u32, row: Row)
+        requires slot { slot < self.old.room }
+        requires fits { Fits self.old.columns row }
+        ensures rows { self.new.rows ≡ slice_set self.old.rows slot (Some row) }
+        ensures columns { self.new.columns ≡ self.old.columns }
+        ensures room { self.new.room ≡ self.old.room }
+    {
+        let at = slot as usize;
+        let mut cells = row.into_vec();
+        lay_row(self.columns.as_mut_slice(), at, cells.as_mut_slice());
+        self.taken.set(at, true);
+    }
+
+    // Lays attributes in the row of a slot.
+    fn lay_part(&mut self, slot: u32, patch: Patch)
+        requires slot { IsSome (slice_index_or self.old.rows slot None) }
+        requires fits { PatchFits self.old.columns patch }
+        ensures rows { self.new.rows ≡
+            slice_set self.old.rows slot (option_map (λ cells. patched cells patch) (slice_index_or self.old.rows slot None)) }
+        ensures columns { self.new.columns ≡ self.old.columns }
+        ensures room { self.new.room ≡ self.old.room }
+    {
+        let at = slot as usize;
+        let mut assignments = patch.into_vec();
+        lay_patch(self.columns.as_mut_slice(), at, assignments.as_mut_slice());
+    }
+}
+
+// How many slots have memory next: twice as many, up to all, and as many as the place needs.
+fn larger(len: usize, at: usize, slots: usize) -> usize
+    requires place { at < slots }
+    requires within { len ≤ slots }
+    requires few { slots < 2 ^ 32 }
+    ensures most { result ≤ slots }
+    ensures place { at < result }
+    ensures more { len ≤ result }
+{
+    (2 * len).max(8).min(slots).max(at + 1)
+}

@@ -1,0 +1,20 @@
+//! The columns of a block: Arrow's bytes of fixed width, entries of values of any length, and which
+//! slots have a row. Contracts see a list of slots with or without a row.
+#![tactic(auto)]
+
+mod cells;
+mod columns;
+mod image;
+mod patches;
+mod rows;
+mod store;
+mod value;
+
+pub use block_spec::{Assignment, Before, Patch};
+pub use cells::ColumnCells;
+pub use columns::Columns;
+pub use image::Image;
+pub use value::Value;
+
+#[cfg(test)]
+mod tests;

@@ -1,0 +1,251 @@
+//! What a column stores for each cell.
+ghost use Rattle.std.specs.Prelude.{◌≡◌, ◌<◌, ◌≤◌, ◌++◌, [], ℕ, IfOk, OnOk, OnErr, IfNone, IfSome, List, length, replicate, slice_set, slice_index_or, IsTrue, ◌↔◌, ◌^◌, true, false, Bool};
+ghost use Rattle.cell_model.specs.declared.cell.Cell.TheVariants as cell;
+ghost use Rattle.cell_model.specs.declared.cell.Cell.{Cell as CellValue};
+ghost use Rattle.cell_model.specs.declared.kind.Kind.{Kind as KindValue};
+ghost use Rattle.flat_column.specs.Numbers.{IsWidth};
+ghost use Rattle.arrow_spec.specs.Arrays.{number_of, truth_of, value_of};
+ghost use Rattle.block_columns.specs.Cells.{IsSlotOf, IsStoreOf, Stores, StoresNone, bytes_at, bytes_in, full_cells, stored_length};
+ghost use Rattle.cell_model.specs.Kinds.{values_of};
+
+use crate::value::Value;
+use cell_model::{Bytes, Cell, Kind};
+use flat_column::{Bits, Fixed};
+use std::alloc::{AllocError, Global};
+use std::mem;
+
+// A value for each cell; that of a null is zero, false or no bytes.
+#[derive(Drop)]
+pub enum Store {
+    Numbers(Fixed),
+    Truths(Bits),
+    Values(Vec<Value>),
+}
+
+impl Store {
+    // No value of the kind, which takes no memory.
+    pub fn new(alloc: Global, kind: Kind) -> Result<Store, AllocError>
+        ensures known { IfOk result (λ store. IsStoreOf kind store) }
+        ensures empty { IfOk result (λ store. Stores store []) }
+    {
+        match kind {
+            Kind::I8 => numbers(alloc, 8, true),
+            Kind::I16 => numbers(alloc, 16, true),
+            Kind::I32 => numbers(alloc, 32, true),
+            Kind::I64 => numbers(alloc, 64, true),
+            Kind::U8 => numbers(alloc, 8, false),
+            Kind::U16 => numbers(alloc, 16, false),
+            Kind::U32 => numbers(alloc, 32, false),
+            Kind::U64 => numbers(alloc, 64, false),
+            Kind::Bool => Ok(Store::Truths(Bits::new(alloc, 0)?)),
+            Kind::Utf8 | Kind::Binary => Ok(Store::Values(Vec::new(alloc))),
+        }
+    }
+
+    // Values of `n` more nulls. Without memory nothing changes.
+    pub fn extend(&mut self, n: usize) -> Result<(), AllocError>
+        ensures known { (kind : KindValue) → IsStoreOf kind self.old → IsStoreOf kind self.new }
+        ensures ok { OnOk result ((cells : List CellValue) → Stores self.old cells →
+            Stores self.new (cells ++ replicate n cell.Null)) }
+        ensures err { OnErr result ((cells : List CellValue) → Stores self.old cells →
+            Stores self.new cells) }
+    {
+        match self {
+            Store::Numbers(numbers) => numbers.extend(n),
+            Store::Truths(truths) => truths.extend(n),
+            Store::Values(values) => add_empty(values, n),
+        }
+    }
+
+    // Puts the value of a cell, which takes no memory.
+    pub fn lay(&mut self, kind: Kind, at: usize, value: Cell)
+        requires known { IsStoreOf kind self.old }
+        requires slot { IsSlotOf kind value }
+        requires at { at < stored_length self.old }
+        ensures known { IsStoreOf kind self.new }
+        ensures laid { (cells : List CellValue) → Stores self.old cells →
+            Stores self.new (slice_set cells at value) }
+    {
+        match self {
+            Store::Numbers(numbers) => numbers.set(at, number_of(&value)),
+            Store::Truths(truths) => truths.set(at, truth_of(&value)),
+            Store::Values(values) => values[at] = owned_value(value),
+        }
+    }
+
+    // Puts a copy of the value of a cell. Without memory nothing changes.
+    pub fn write(
+        &mut self,
+        alloc: Global,
+        kind: Kind,
+        at: usize,
+        value: &Cell,
+    ) -> Result<(), AllocError>
+        requires known { IsStoreOf kind self.old }
+        requires slot { IsSlotOf kind value.now }
+        requires at { at < stored_length self.old }
+        ensures known { IsStoreOf kind self.new }
+        ensures ok { OnOk result ((cells : List CellValue) → Stores self.old cells →
+            Stores self.new (slice_set cells at value.now)) }
+        ensures err { OnErr result ((cells : List CellValue) → Stores self.old cells →
+            Stores self.new cells) }
+    {
+        match self {
+            Store::Numbers(numbers) => numbers.set(at, number_of(value)),
+            Store::Truths(truths) => truths.set(at, truth_of(value)),
+            Store::Values(values) => values[at] = Value::copied(alloc, value_of(value))?,
+        }
+        Ok(())
+    }
+
+    // Puts the value of a null, and moves the value out that has bytes of its own.
+    pub fn clear(&mut self, at: usize) -> Option<Bytes>
+        requires at { at < stored_length self.old }
+        ensures known { (kind : KindValue) → IsStoreOf kind self.old → IsStoreOf kind self.new }
+        ensures cleared { (cells : List CellValue) → Stores self.old cells →
+            Stores self.new (slice_set cells at cell.Null) }
+        ensures moved { IfSome result (λ bytes. bytes ≡ bytes_at self.old at) }
+        ensures long { IfSome result (λ bytes. 12 < length bytes) }
+        ensures short { IfNone result (length (bytes_at self.old at) ≤ 12) }
+    {
+        match self {
+            Store::Numbers(numbers) => {
+                numbers.set(at, 0);
+                None
+            }
+            Store::Truths(truths) => {
+                truths.set(at, false);
+                None
+            }
+            Store::Values(values) => mem::replace(&mut values[at], Value::empty()).into_owned(),
+        }
+    }
+
+    // A copy of the value as a cell that is not null.
+    pub fn get(&self, alloc: Global, kind: Kind, at: usize) -> Result<Cell, AllocError>
+        requires { at < stored_length self.now }
+        ensures { IfOk result (λ found. found ≡ slice_index_or (full_cells kind self.now) at cell.Null) }
+    {
+        match self {
+            Store::Numbers(numbers) => Ok(Cell::Num(numbers.get(at))),
+            Store::Truths(truths) => Ok(Cell::Truth(truths.get(at))),
+            Store::Values(values) => {
+                let bytes = Bytes::from_slice(alloc, values[at].as_slice())?;
+                Ok(cell_of_bytes(kind, bytes))
+            }
+        }
+    }
+
+    // The same values again.
+    pub fn copy(&self, alloc: Global) -> Result<Store, AllocError>
+        ensures known { (kind : KindValue) → IsStoreOf kind self.now → IfOk result (IsStoreOf kind) }
+        ensures same { (cells : List CellValue) → Stores self.now cells → IfOk result (λ store. Stores store cells) }
+    {
+        match self {
+            Store::Numbers(numbers) => Ok(Store::Numbers(numbers.clone()?)),
+            Store::Truths(truths) => Ok(Store::Truths(truths.clone()?)),
+            Store::Values(values) => Ok(Store::Values(copied_values(alloc, values.as_slice())?)),
+        }
+    }
+
+    // Whether the value is one of more than 12 bytes.
+    pub fn is_long(&self, at: usize) -> bool
+        requires { at < stored_length self.now }
+        ensures { IsTrue result ↔ (12 < length (bytes_at self.now at)) }
+    {
+        match self {
+            Store::Numbers(_) | Store::Truths(_) => false,
+            Store::Values(values) => !values[at].is_inline(),
+        }
+    }
+}
+
+// Bytes as a cell of a kind.
+fn cell_of_bytes(kind: Kind, bytes: Bytes) -> Cell
+    ensures { result ≡ bytes_in (values_of kind) bytes }
+{
+    match kind {
+        Kind::Utf8 => Cell::Text(bytes),
+        _ => Cell::Blob(bytes),
+    }
+}
+
+// The bytes that were moved out as a cell of a kind, or the spare cell where there are none.
+pub fn moved_cell(kind: Kind, moved: Option<Bytes>, spare: Cell) -> Cell
+    ensures some { IfSome moved (λ bytes. result ≡ bytes_in (values_of kind) bytes) }
+    ensures none { IfNone moved (result ≡ spare) }
+{
+    match moved {
+        Some(bytes) => cell_of_bytes(kind, bytes),
+        None => spare,
+    }
+}
+
+fn numbers(alloc: Global, width: u32, signed: bool) -> Result<Store, AllocError>
+    requires { IsWidth width }
+    ensures { IfOk result (λ store. StoresNone width signed store) }
+{
+    Ok(Store::Numbers(Fixed::new(alloc, width, signed, 0)?))
+}
+
+fn copied_values(alloc: Global, values: &[Value]) -> Result<Vec<Value>, AllocError>
+    ensures { IfOk result (λ copies. copies.items ≡ values.now) }
+{
+    let mut copies = Vec::with_capacity(alloc, values.len())?;
+    for value in values {
+        copies.push(value.copy(alloc)?)?;
+    }
+    Ok(copies)
+}
+
+fn add_empty(values: &mut Vec<Value>, n: usize) -> Result<(), AllocError>
+    ensures ok { OnOk result (values.new.items ≡ values.old.items ++ replicate n []) }
+    ensures err { OnErr result (values.new.items ≡ values.old.items) }
+{
+    values.reserve(n)?;
+    for added in 0..n {
+        values.push_reserved(Value::empty());
+    }
+    Ok(())
+}
+
+// The number of a cell, 0 of a null.
+fn number_of(cell: &Cell) -> i128
+    ensures { result ≡ number_of cell.now }
+{
+    match cell {
+        Cell::Num(number) => *number,
+        _ => 0,
+    }
+}
+
+// The truth value of a cell, false of a null.
+fn truth_of(cell: &Cell) -> bool
+    ensures { result ≡ truth_of cell.now }
+{
+    match cell {
+        Cell::Truth(truth) => *truth,
+        _ => false,
+    }
+}
+
+// The bytes of a cell, none of a null.
+fn value_of(cell: &Cell) -> &[u8]
+    ensures { result.now ≡ value_of cell.now }
+{
+    match cell {
+        Cell::Text(bytes) | Cell::Blob(bytes) => bytes.as_slice(),
+        _ => &[],
+    }
+}
+
+// The bytes of a cell, moved.
+fn owned_value(cell: Cell) -> Value
+    requires { length (value_of cell) < 2 ^ 32 }
+    ensures { result ≡ value_of cell }
+{
+    match cell {
+        Cell::Text(bytes) | Cell::Blob(bytes) => Value::owned(bytes),
+        _ => Value::empty(),
+    }
+}
