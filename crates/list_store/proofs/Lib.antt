@@ -1,0 +1,9 @@
+pub mod Standing
+pub mod Calls
+pub mod Entering
+pub mod Tables
+pub mod Inserting
+pub mod Refused
+pub mod Opening
+pub mod Written
+pub mod Blocks
