@@ -1,14 +1,14 @@
 -- A run that stopped is the run of the front of its workload.
-use Rattle.std.proofs.Common.{◌≡◌, ℕ, zero, suc, ◌+◌, ◌<◌, ◌≤◌, Bool, true, false, cond, ◌&&◌, nat_le, nat_lt, eqb, List, [], ◌∷◌, ◌++◌, length, map, take, drop, get_or, Option, None, Some, refl, sym, ap, ◌∙◌, subst, arith, append-nil, append_assoc, sum_by}
+use Rattle.std.proofs.Common.{◌≡◌, ℕ, zero, suc, ◌+◌, ◌<◌, ◌≤◌, Bool, true, false, cond, ◌&&◌, nat_le, nat_lt, List, [], ◌∷◌, ◌++◌, length, take, drop, get_or, Option, None, Some, refl, sym, ap, ◌∙◌, subst, arith, append-nil, append_assoc, sum_by}
 use Rattle.std.specs.Prelude.{◌==◌}
 use Rattle.std.specs.List.{count_by, cons_option, enumerate_from, flat_map, list_all, range_with_len}
-use Rattle.std.proofs.lemmas.Bool.{and_parts, and_from, eqb-true, eq-eqb, leb-true, le-leb, lt-ltb}
+use Rattle.std.proofs.lemmas.Bool.{and_parts, and_from, eqb-true, leb-true, le-leb, lt-ltb}
 use Rattle.std.proofs.lemmas.Bool.Decides.{nat_tests}
 use Rattle.std.proofs.lemmas.List.{length_push}
 use Rattle.std.proofs.lemmas.List.Folds.{list_all-append}
 use Rattle.std.proofs.lemmas.List.Sums.{sum_by-append, sum_by-cons}
 use Rattle.cell_model.specs.declared.table.TableDecl.{TableDecl}
-use Rattle.isolation_spec.specs.Machine.{IsolationMachine, opening}
+use Rattle.isolation_spec.specs.Machine.{opening}
 use Rattle.workload_spec.specs.Valid.{is_valid, is_line, is_export, all_lines, has_head}
 use Rattle.workload_spec.specs.declared.command.Command.{Command}
 use Rattle.workload_spec.specs.declared.reply.Said.{Said}
@@ -18,10 +18,10 @@ use Rattle.workload_spec.specs.declared.script.Script.{Script}
 use Rattle.outcome_spec.specs.Entries.{Entry}
 use Rattle.outcome_spec.specs.Forms.{Due, commands_of, dues_in, dues_of, dues_to, entry_behind, turn_of}
 use Rattle.timeline_spec.specs.Forms.{AllMayStand}
-use Rattle.timeline_spec.specs.Fronts.{first_rounds, front_of, lines_up_to}
+use Rattle.timeline_spec.specs.Fronts.{lines_up_to}
 use Rattle.timeline_spec.specs.Printed.{printed_from, printed_of}
 use Rattle.timeline_spec.specs.Timeline.{Runs}
-use Rattle.timeline_laws.specs.Fronts.{FrontRuns, IsDueFirst, RoundsAreDueFirst, RoundsAreValid, FrontIsDueFirst, FrontIsValid, FrontIsExplained}
+use Rattle.timeline_laws.specs.Fronts.{FrontRuns, RoundsAreDueFirst, RoundsAreValid, FrontIsDueFirst, FrontIsValid, FrontIsExplained}
 use Rattle.timeline_laws.proofs.Scripts.{in-turn-explained}
 
 -- The first replies of a run.
