@@ -1,7 +1,7 @@
 //! Worked examples: facts that the definitions compute.
 #![tactic(auto, unfolding(outcome_spec::specs::Opened::digits, outcome_spec::specs::Opened::is_utf8, outcome_spec::specs::Opened::chars, outcome_spec::specs::Opened::encode))]
 
-ghost use Rattle.timeline_spec.specs.Examples.{OneWasRefused, SecondCameFirst};
+ghost use Rattle.timeline_spec.specs.Examples.{OneWasRefused, SecondCameFirst, BlocksComeAbout, OthersDoNot, OthersAreNotExported, OthersAreNoTimeline};
 
 /// Which of a worker's gatherings was refused memory is not told by its line, and not by what is read from it.
 pub fn a_refused_gathering_does_not_tell_its_block()
@@ -11,4 +11,24 @@ pub fn a_refused_gathering_does_not_tell_its_block()
 /// Of two sessions in one round the second's replies may come about first, though its lines are printed last.
 pub fn a_timeline_is_not_the_order_of_the_lines()
     ensures { SecondCameFirst }
+{}
+
+/// Replies to one session do not come about in another order than theirs.
+pub fn others_are_no_timeline()
+    ensures { OthersAreNoTimeline }
+{}
+
+/// A table is filled, and its block sealed, gathered, exported and compacted.
+pub fn blocks_come_about()
+    ensures { BlocksComeAbout }
+{}
+
+/// What the counts of a block's replies rule out.
+pub fn others_do_not()
+    ensures { OthersDoNot }
+{}
+
+/// What an export is not told.
+pub fn others_are_not_exported()
+    ensures { OthersAreNotExported }
 {}
