@@ -7,3 +7,5 @@ pub mod Refused
 pub mod Opening
 pub mod Written
 pub mod Blocks
+pub mod Clean
+pub mod Fitting
