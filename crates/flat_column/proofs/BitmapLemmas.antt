@@ -14,7 +14,8 @@ use Rattle.std.specs.Prelude.{count_ones, Some, slice_get}
 use Rattle.std.specs.Int.{div_ceil, bit_at, from_le_bytes, w64}
 use Rattle.std.specs.List.{sum_by, count_by}
 use Rattle.std.specs.Simd.{first_chunks}
-use Rattle.flat_column.specs.Bitmap.{AreBytes, IsPadded, PutsBit, number_of_bits, bitmap_bytes, bitmap_bit, bitmap_bits}
+use Rattle.flat_column.specs.Bitmap.{AreBytes, IsPadded, PutsBit, bitmap_bit, bitmap_bits}
+use Rattle.arrow_spec.specs.Bytes.{byte_of_bits, bitmap}
 
 by_cases_lt : {P : Type 0} (m n : ℕ) → (m < n → P) → (n ≤ m → P) → P
 by_cases_lt m n f g = elim (cases_lt m n) [ inl h ↦ f h | inr h ↦ g h ]
@@ -23,8 +24,8 @@ pub length-first_chunks : {X : Type 0} (n k : ℕ) (xs : List X) → length (fir
 length-first_chunks n zero xs = refl
 length-first_chunks n (suc k) xs = ap suc (length-first_chunks n k (drop n xs))
 
-pub length-bitmap_bytes : (bits : List Bool) → length (bitmap_bytes bits) ≡ (length bits + 7) / 8
-length-bitmap_bytes bits = length-map _ _ ∙ length-first_chunks 8 ((length bits + 7) / 8) bits
+pub length-bitmap : (bits : List Bool) → length (bitmap bits) ≡ (length bits + 7) / 8
+length-bitmap bits = length-map _ _ ∙ length-first_chunks 8 ((length bits + 7) / 8) bits
 
 pub get_or-map-first_chunks : {X Y : Type 0} (f : List X → Y) (n k : ℕ) (xs : List X) (j : ℕ) (d : Y) → j < k
     → get_or (map f (first_chunks n k xs)) j d ≡ f (take n (drop (n * j) xs))
@@ -38,52 +39,52 @@ get_or-map-first_chunks f n (suc k) xs (suc j) d h =
 digit : Bool → ℕ
 digit bit = cond bit 1 0
 
-pub number_of_bits-lt : (bits : List Bool) (k : ℕ) → length bits ≤ k → number_of_bits bits < 2 ^ k
-number_of_bits-lt [] k h = pow_pos k
-number_of_bits-lt (bit ∷ bits) zero h = absurd (omega arith)
-number_of_bits-lt (true ∷ bits) (suc k) h = let r = number_of_bits-lt bits k (omega arith) in omega arith
-number_of_bits-lt (false ∷ bits) (suc k) h = let r = number_of_bits-lt bits k (omega arith) in omega arith
+pub byte_of_bits-lt : (bits : List Bool) (k : ℕ) → length bits ≤ k → byte_of_bits bits < 2 ^ k
+byte_of_bits-lt [] k h = pow_pos k
+byte_of_bits-lt (bit ∷ bits) zero h = absurd (omega arith)
+byte_of_bits-lt (true ∷ bits) (suc k) h = let r = byte_of_bits-lt bits k (omega arith) in omega arith
+byte_of_bits-lt (false ∷ bits) (suc k) h = let r = byte_of_bits-lt bits k (omega arith) in omega arith
 
-pub bit_at-number_of_bits : (bits : List Bool) (i : ℕ) → bit_at (number_of_bits bits) i ≡ cond (get_or bits i false) 1 0
-bit_at-number_of_bits [] i = bit_at-zero i
-bit_at-number_of_bits (true ∷ bits) zero = bit_at_lowest (1 + 2 * number_of_bits bits) ∙ omega arith
-bit_at-number_of_bits (false ∷ bits) zero = bit_at_lowest (0 + 2 * number_of_bits bits) ∙ omega arith
-bit_at-number_of_bits (true ∷ bits) (suc i) =
-    let half : (1 + 2 * number_of_bits bits) / 2 ≡ number_of_bits bits = omega arith in
-    bit_at-suc (1 + 2 * number_of_bits bits) i ∙ ap (λ (n : ℕ). bit_at n i) half ∙ bit_at-number_of_bits bits i
-bit_at-number_of_bits (false ∷ bits) (suc i) =
-    let half : (0 + 2 * number_of_bits bits) / 2 ≡ number_of_bits bits = omega arith in
-    bit_at-suc (0 + 2 * number_of_bits bits) i ∙ ap (λ (n : ℕ). bit_at n i) half ∙ bit_at-number_of_bits bits i
+pub bit_at-byte_of_bits : (bits : List Bool) (i : ℕ) → bit_at (byte_of_bits bits) i ≡ cond (get_or bits i false) 1 0
+bit_at-byte_of_bits [] i = bit_at-zero i
+bit_at-byte_of_bits (true ∷ bits) zero = bit_at_lowest (1 + 2 * byte_of_bits bits) ∙ omega arith
+bit_at-byte_of_bits (false ∷ bits) zero = bit_at_lowest (0 + 2 * byte_of_bits bits) ∙ omega arith
+bit_at-byte_of_bits (true ∷ bits) (suc i) =
+    let half : (1 + 2 * byte_of_bits bits) / 2 ≡ byte_of_bits bits = omega arith in
+    bit_at-suc (1 + 2 * byte_of_bits bits) i ∙ ap (λ (n : ℕ). bit_at n i) half ∙ bit_at-byte_of_bits bits i
+bit_at-byte_of_bits (false ∷ bits) (suc i) =
+    let half : (0 + 2 * byte_of_bits bits) / 2 ≡ byte_of_bits bits = omega arith in
+    bit_at-suc (0 + 2 * byte_of_bits bits) i ∙ ap (λ (n : ℕ). bit_at n i) half ∙ bit_at-byte_of_bits bits i
 
 one_or_zero : (b : Bool) → eqb (cond b 1 0) 1 ≡ b
 one_or_zero true = refl
 one_or_zero false = refl
 
 -- a bitmap has the bits that it was made of, and zeros after them
-pub bitmap_bit-bitmap_bytes : (bits : List Bool) (i : ℕ) → bitmap_bit (bitmap_bytes bits) i ≡ get_or bits i false
-bitmap_bit-bitmap_bytes bits i =
+pub bitmap_bit-bitmap : (bits : List Bool) (i : ℕ) → bitmap_bit (bitmap bits) i ≡ get_or bits i false
+bitmap_bit-bitmap bits i =
     by_cases_lt (i / 8) ((length bits + 7) / 8)
     (λ below.
-    let byte = get_or-map-first_chunks number_of_bits 8 ((length bits + 7) / 8) bits (i / 8) 0 below in
+    let byte = get_or-map-first_chunks byte_of_bits 8 ((length bits + 7) / 8) bits (i / 8) 0 below in
     let place : 8 * (i / 8) + i % 8 ≡ i = omega arith in
     let low : i % 8 < 8 = omega arith in
     ap (λ (n : ℕ). eqb (bit_at n (i % 8)) 1) byte
-    ∙ ap (λ (n : ℕ). eqb n 1) (bit_at-number_of_bits (take 8 (drop (8 * (i / 8)) bits)) (i % 8))
+    ∙ ap (λ (n : ℕ). eqb n 1) (bit_at-byte_of_bits (take 8 (drop (8 * (i / 8)) bits)) (i % 8))
     ∙ one_or_zero (get_or (take 8 (drop (8 * (i / 8)) bits)) (i % 8) false)
     ∙ get_or-take 8 (drop (8 * (i / 8)) bits) (i % 8) false low
     ∙ get_or-drop (8 * (i / 8)) bits (i % 8) false
     ∙ ap (λ (n : ℕ). get_or bits n false) place)
     (λ past.
-    let none = get_or_past (bitmap_bytes bits) (i / 8) 0 (rw length-bitmap_bytes past) in
+    let none = get_or_past (bitmap bits) (i / 8) 0 (rw length-bitmap past) in
     ap (λ (n : ℕ). eqb (bit_at n (i % 8)) 1) none
     ∙ ap (λ (n : ℕ). eqb n 1) (bit_at-zero (i % 8))
     ∙ sym (get_or_past bits i false (omega arith)))
 
 -- the bits of a bitmap are those that it was made of
-pub bitmap_bits-bitmap_bytes : (bits : List Bool) → bitmap_bits (bitmap_bytes bits) (length bits) ≡ bits
-bitmap_bits-bitmap_bytes bits =
-    sym (fill_by_all (bitmap_bit (bitmap_bytes bits)) bits (length bits) false refl
-    (λ k h. sym (bitmap_bit-bitmap_bytes bits k)))
+pub bitmap_bits-bitmap : (bits : List Bool) → bitmap_bits (bitmap bits) (length bits) ≡ bits
+bitmap_bits-bitmap bits =
+    sym (fill_by_all (bitmap_bit (bitmap bits)) bits (length bits) false refl
+    (λ k h. sym (bitmap_bit-bitmap bits k)))
 
 same_bit : (a b : ℕ) → a < 2 → b < 2 → eqb a 1 ≡ eqb b 1 → a ≡ b
 same_bit a b p q e = grind (arith, common_steps)
@@ -99,25 +100,25 @@ same_bitmaps xs ys same p q bits =
     let e = rw (byte, place) at (bits (8 * k + j) (omega arith)) in
     same_bit (bit_at (get_or xs k 0) j) (bit_at (get_or ys k 0) j) (bit_at-lt (get_or xs k 0) j) (bit_at-lt (get_or ys k 0) j) e))
 
-pub AreBytes-bitmap_bytes : (bits : List Bool) → AreBytes (bitmap_bytes bits)
-AreBytes-bitmap_bytes bits = record {
+pub AreBytes-bitmap : (bits : List Bool) → AreBytes (bitmap bits)
+AreBytes-bitmap bits = record {
   below = λ k.
       by_cases_lt k ((length bits + 7) / 8)
       (λ below.
-      rw (get_or-map-first_chunks number_of_bits 8 ((length bits + 7) / 8) bits k 0 below)
-      (number_of_bits-lt (take 8 (drop (8 * k) bits)) 8 (rw length-take (omega arith))))
-      (λ past. rw (get_or_past (bitmap_bytes bits) k 0 (rw length-bitmap_bytes past)) (omega arith));
+      rw (get_or-map-first_chunks byte_of_bits 8 ((length bits + 7) / 8) bits k 0 below)
+      (byte_of_bits-lt (take 8 (drop (8 * k) bits)) 8 (rw length-take (omega arith))))
+      (λ past. rw (get_or_past (bitmap bits) k 0 (rw length-bitmap past)) (omega arith));
 }
 
 -- the bits of bytes that are the bitmap of a list
-pub bitmap_bits_is : (bytes : List ℕ) (len : ℕ) (bits : List Bool) → bytes ≡ bitmap_bytes bits → len ≡ length bits
+pub bitmap_bits_is : (bytes : List ℕ) (len : ℕ) (bits : List Bool) → bytes ≡ bitmap bits → len ≡ length bits
     → bitmap_bits bytes len ≡ bits
-bitmap_bits_is bytes len bits e n = rw (e, n) (bitmap_bits-bitmap_bytes bits)
+bitmap_bits_is bytes len bits e n = rw (e, n) (bitmap_bits-bitmap bits)
 
 -- so the bytes are the bitmap of their own bits
-pub bitmap_bytes_is : (bytes : List ℕ) (len : ℕ) (bits : List Bool) → bytes ≡ bitmap_bytes bits → len ≡ length bits
-    → bytes ≡ bitmap_bytes (bitmap_bits bytes len)
-bitmap_bytes_is bytes len bits e n = e ∙ ap bitmap_bytes (sym (bitmap_bits_is bytes len bits e n))
+pub bitmap_is : (bytes : List ℕ) (len : ℕ) (bits : List Bool) → bytes ≡ bitmap bits → len ≡ length bits
+    → bytes ≡ bitmap (bitmap_bits bytes len)
+bitmap_is bytes len bits e n = e ∙ ap bitmap (sym (bitmap_bits_is bytes len bits e n))
 
 -- ---- zeros at the end
 
@@ -156,20 +157,20 @@ get_or-append_falses bits n i =
     ∙ sym (get_or_past bits i false past))
 
 -- zero bits at the end of a list are zero bytes at the end of its bitmap
-pub bitmap_bytes-append_falses : (bits : List Bool) (n m : ℕ) → (length bits + 7) / 8 + m ≡ (length bits + n + 7) / 8
-    → bitmap_bytes (bits ++ replicate n false) ≡ bitmap_bytes bits ++ replicate m 0
-bitmap_bytes-append_falses bits n m fits =
+pub bitmap-append_falses : (bits : List Bool) (n m : ℕ) → (length bits + 7) / 8 + m ≡ (length bits + n + 7) / 8
+    → bitmap (bits ++ replicate n false) ≡ bitmap bits ++ replicate m 0
+bitmap-append_falses bits n m fits =
     let longer : length (bits ++ replicate n false) ≡ length bits + n = length-append bits (replicate n false) ∙ ap (λ (k : ℕ). length bits + k) (length-replicate n false) in
-    let same : length (bitmap_bytes (bits ++ replicate n false)) ≡ length (bitmap_bytes bits ++ replicate m 0) =
-    length-bitmap_bytes (bits ++ replicate n false) ∙ ap (λ (k : ℕ). (k + 7) / 8) longer ∙ sym fits
-    ∙ sym (length-append (bitmap_bytes bits) (replicate m 0) ∙ ap (λ (k : ℕ). k + length (replicate {A = ℕ} m 0)) (length-bitmap_bytes bits)
+    let same : length (bitmap (bits ++ replicate n false)) ≡ length (bitmap bits ++ replicate m 0) =
+    length-bitmap (bits ++ replicate n false) ∙ ap (λ (k : ℕ). (k + 7) / 8) longer ∙ sym fits
+    ∙ sym (length-append (bitmap bits) (replicate m 0) ∙ ap (λ (k : ℕ). k + length (replicate {A = ℕ} m 0)) (length-bitmap bits)
     ∙ ap (λ (k : ℕ). (length bits + 7) / 8 + k) (length-replicate {A = ℕ} m 0)) in
-    same_bitmaps (bitmap_bytes (bits ++ replicate n false)) (bitmap_bytes bits ++ replicate m 0) same
-    (AreBytes-bitmap_bytes (bits ++ replicate n false))
-    (AreBytes-append_zeros (bitmap_bytes bits) m (AreBytes-bitmap_bytes bits))
+    same_bitmaps (bitmap (bits ++ replicate n false)) (bitmap bits ++ replicate m 0) same
+    (AreBytes-bitmap (bits ++ replicate n false))
+    (AreBytes-append_zeros (bitmap bits) m (AreBytes-bitmap bits))
     (λ i h.
-    bitmap_bit-bitmap_bytes (bits ++ replicate n false) i ∙ get_or-append_falses bits n i
-    ∙ sym (bitmap_bit-append_zeros (bitmap_bytes bits) m i ∙ bitmap_bit-bitmap_bytes bits i))
+    bitmap_bit-bitmap (bits ++ replicate n false) i ∙ get_or-append_falses bits n i
+    ∙ sym (bitmap_bit-append_zeros (bitmap bits) m i ∙ bitmap_bit-bitmap bits i))
 
 -- ---- a bit put
 
@@ -185,39 +186,39 @@ AreBytes-set bytes i b h small = record {
 }
 
 bit_put : (bits : List Bool) (index : ℕ) (bit : Bool) (new : ℕ) → index < length bits
-    → PutsBit (get_or (bitmap_bytes bits) (index / 8) 0) new (index % 8) bit
-    → (i : ℕ) → bitmap_bit (set (bitmap_bytes bits) (index / 8) new) i ≡ get_or (set bits index bit) i false
+    → PutsBit (get_or (bitmap bits) (index / 8) 0) new (index % 8) bit
+    → (i : ℕ) → bitmap_bit (set (bitmap bits) (index / 8) new) i ≡ get_or (set bits index bit) i false
 bit_put bits index bit new within puts i =
-    let in_bytes : index / 8 < length (bitmap_bytes bits) = rw length-bitmap_bytes (omega arith) in
+    let in_bytes : index / 8 < length (bitmap bits) = rw length-bitmap (omega arith) in
     elim (cases_eq i index) [
       | inl here ↦
           rw here (
-          ap (λ (n : ℕ). eqb (bit_at n (index % 8)) 1) (get_or-set_same (bitmap_bytes bits) (index / 8) new 0 in_bytes)
+          ap (λ (n : ℕ). eqb (bit_at n (index % 8)) 1) (get_or-set_same (bitmap bits) (index / 8) new 0 in_bytes)
           ∙ ap (λ (n : ℕ). eqb n 1) puts.same ∙ one_or_zero bit ∙ sym (get_or-set_same bits index bit false within))
       | inr there ↦
           elim (cases_eq (i / 8) (index / 8)) [
             | inl byte ↦
                 let low : i % 8 ≢ index % 8 = λ e. there (omega arith) in
-                rw (byte, get_or-set_same (bitmap_bytes bits) (index / 8) new 0 in_bytes, puts.others (i % 8) (omega arith) low)
-                (rw (← byte) (bitmap_bit-bitmap_bytes bits i) ∙ sym (get_or-set_other bits index i bit false there))
+                rw (byte, get_or-set_same (bitmap bits) (index / 8) new 0 in_bytes, puts.others (i % 8) (omega arith) low)
+                (rw (← byte) (bitmap_bit-bitmap bits i) ∙ sym (get_or-set_other bits index i bit false there))
             | inr apart ↦
-                ap (λ (n : ℕ). eqb (bit_at n (i % 8)) 1) (get_or-set_other (bitmap_bytes bits) (index / 8) (i / 8) new 0 apart)
-                ∙ bitmap_bit-bitmap_bytes bits i ∙ sym (get_or-set_other bits index i bit false there)
+                ap (λ (n : ℕ). eqb (bit_at n (i % 8)) 1) (get_or-set_other (bitmap bits) (index / 8) (i / 8) new 0 apart)
+                ∙ bitmap_bit-bitmap bits i ∙ sym (get_or-set_other bits index i bit false there)
           ]
     ]
 
 -- a bit put into a list is a bit put into a byte of its bitmap
-pub bitmap_bytes-set : (bits : List Bool) (index : ℕ) (bit : Bool) (new : ℕ) → index < length bits
-    → PutsBit (get_or (bitmap_bytes bits) (index / 8) 0) new (index % 8) bit
-    → set (bitmap_bytes bits) (index / 8) new ≡ bitmap_bytes (set bits index bit)
-bitmap_bytes-set bits index bit new within puts =
-    let same : length (set (bitmap_bytes bits) (index / 8) new) ≡ length (bitmap_bytes (set bits index bit)) =
-    length-set (bitmap_bytes bits) (index / 8) new ∙ length-bitmap_bytes bits
-    ∙ sym (length-bitmap_bytes (set bits index bit) ∙ ap (λ (k : ℕ). (k + 7) / 8) (length-set bits index bit)) in
-    same_bitmaps (set (bitmap_bytes bits) (index / 8) new) (bitmap_bytes (set bits index bit)) same
-    (AreBytes-set (bitmap_bytes bits) (index / 8) new (AreBytes-bitmap_bytes bits) puts.byte)
-    (AreBytes-bitmap_bytes (set bits index bit))
-    (λ i h. bit_put bits index bit new within puts i ∙ sym (bitmap_bit-bitmap_bytes (set bits index bit) i))
+pub bitmap-set : (bits : List Bool) (index : ℕ) (bit : Bool) (new : ℕ) → index < length bits
+    → PutsBit (get_or (bitmap bits) (index / 8) 0) new (index % 8) bit
+    → set (bitmap bits) (index / 8) new ≡ bitmap (set bits index bit)
+bitmap-set bits index bit new within puts =
+    let same : length (set (bitmap bits) (index / 8) new) ≡ length (bitmap (set bits index bit)) =
+    length-set (bitmap bits) (index / 8) new ∙ length-bitmap bits
+    ∙ sym (length-bitmap (set bits index bit) ∙ ap (λ (k : ℕ). (k + 7) / 8) (length-set bits index bit)) in
+    same_bitmaps (set (bitmap bits) (index / 8) new) (bitmap (set bits index bit)) same
+    (AreBytes-set (bitmap bits) (index / 8) new (AreBytes-bitmap bits) puts.byte)
+    (AreBytes-bitmap (set bits index bit))
+    (λ i h. bit_put bits index bit new within puts i ∙ sym (bitmap_bit-bitmap (set bits index bit) i))
 
 -- ---- the first bits
 
@@ -252,53 +253,53 @@ AreBytes-push bytes b h small = record {
       ]);
 }
 
-length-bitmap_bytes-take : (bits : List Bool) (n : ℕ) → n ≤ length bits → length (bitmap_bytes (take n bits)) ≡ (n + 7) / 8
-length-bitmap_bytes-take bits n within =
-    length-bitmap_bytes (take n bits) ∙ ap (λ (k : ℕ). (k + 7) / 8) (length-take-le n bits within)
+length-bitmap-take : (bits : List Bool) (n : ℕ) → n ≤ length bits → length (bitmap (take n bits)) ≡ (n + 7) / 8
+length-bitmap-take bits n within =
+    length-bitmap (take n bits) ∙ ap (λ (k : ℕ). (k + 7) / 8) (length-take-le n bits within)
 
 -- whole bytes of a bitmap are the bitmap of their bits
-pub bitmap_bytes-take_whole : (bits : List Bool) (n : ℕ) → n ≤ length bits → n % 8 ≡ 0
-    → bitmap_bytes (take n bits) ≡ take (n / 8) (bitmap_bytes bits)
-bitmap_bytes-take_whole bits n within whole =
-    let long : length (bitmap_bytes (take n bits)) ≡ n / 8 = length-bitmap_bytes-take bits n within ∙ omega arith in
-    let inside : n / 8 ≤ length (bitmap_bytes bits) = rw length-bitmap_bytes (omega arith) in
-    same_bitmaps (bitmap_bytes (take n bits)) (take (n / 8) (bitmap_bytes bits))
-    (long ∙ sym (length-take-le (n / 8) (bitmap_bytes bits) inside))
-    (AreBytes-bitmap_bytes (take n bits)) (AreBytes-take (bitmap_bytes bits) (n / 8) (AreBytes-bitmap_bytes bits))
+pub bitmap-take_whole : (bits : List Bool) (n : ℕ) → n ≤ length bits → n % 8 ≡ 0
+    → bitmap (take n bits) ≡ take (n / 8) (bitmap bits)
+bitmap-take_whole bits n within whole =
+    let long : length (bitmap (take n bits)) ≡ n / 8 = length-bitmap-take bits n within ∙ omega arith in
+    let inside : n / 8 ≤ length (bitmap bits) = rw length-bitmap (omega arith) in
+    same_bitmaps (bitmap (take n bits)) (take (n / 8) (bitmap bits))
+    (long ∙ sym (length-take-le (n / 8) (bitmap bits) inside))
+    (AreBytes-bitmap (take n bits)) (AreBytes-take (bitmap bits) (n / 8) (AreBytes-bitmap bits))
     (λ i h.
     let low : i < 8 * (n / 8) = rw long at h in
     let byte : i / 8 < n / 8 = omega arith in
-    bitmap_bit-bitmap_bytes (take n bits) i ∙ get_or-take n bits i false (omega arith)
-    ∙ sym (ap (λ (k : ℕ). eqb (bit_at k (i % 8)) 1) (get_or-take (n / 8) (bitmap_bytes bits) (i / 8) 0 byte)
-    ∙ bitmap_bit-bitmap_bytes bits i))
+    bitmap_bit-bitmap (take n bits) i ∙ get_or-take n bits i false (omega arith)
+    ∙ sym (ap (λ (k : ℕ). eqb (bit_at k (i % 8)) 1) (get_or-take (n / 8) (bitmap bits) (i / 8) 0 byte)
+    ∙ bitmap_bit-bitmap bits i))
 
 -- and the first bits of one byte more, with the byte's other bits off
-pub bitmap_bytes-take_part : (bits : List Bool) (n : ℕ) → n ≤ length bits → n % 8 ≢ 0
-    → bitmap_bytes (take n bits)
-    ≡ take (n / 8) (bitmap_bytes bits) ++ bit_and (get_or (bitmap_bytes bits) (n / 8) 0) (2 ^ (n % 8) - 1) ∷ []
-bitmap_bytes-take_part bits n within part =
-    let last = bit_and (get_or (bitmap_bytes bits) (n / 8) 0) (2 ^ (n % 8) - 1) in
-    let front = take (n / 8) (bitmap_bytes bits) in
-    let long : length (bitmap_bytes (take n bits)) ≡ n / 8 + 1 = length-bitmap_bytes-take bits n within ∙ omega arith in
-    let inside : n / 8 ≤ length (bitmap_bytes bits) = rw length-bitmap_bytes (omega arith) in
-    let front_long : length front ≡ n / 8 = length-take-le (n / 8) (bitmap_bytes bits) inside in
+pub bitmap-take_part : (bits : List Bool) (n : ℕ) → n ≤ length bits → n % 8 ≢ 0
+    → bitmap (take n bits)
+    ≡ take (n / 8) (bitmap bits) ++ bit_and (get_or (bitmap bits) (n / 8) 0) (2 ^ (n % 8) - 1) ∷ []
+bitmap-take_part bits n within part =
+    let last = bit_and (get_or (bitmap bits) (n / 8) 0) (2 ^ (n % 8) - 1) in
+    let front = take (n / 8) (bitmap bits) in
+    let long : length (bitmap (take n bits)) ≡ n / 8 + 1 = length-bitmap-take bits n within ∙ omega arith in
+    let inside : n / 8 ≤ length (bitmap bits) = rw length-bitmap (omega arith) in
+    let front_long : length front ≡ n / 8 = length-take-le (n / 8) (bitmap bits) inside in
     let small : last < 256 =
-    let a = and_le_l (get_or (bitmap_bytes bits) (n / 8) 0) (2 ^ (n % 8) - 1) in
-    let b = (AreBytes-bitmap_bytes bits).below (n / 8) in omega arith in
-    same_bitmaps (bitmap_bytes (take n bits)) (front ++ last ∷ [])
+    let a = and_le_l (get_or (bitmap bits) (n / 8) 0) (2 ^ (n % 8) - 1) in
+    let b = (AreBytes-bitmap bits).below (n / 8) in omega arith in
+    same_bitmaps (bitmap (take n bits)) (front ++ last ∷ [])
     (long ∙ sym (length_push front last ∙ ap (λ (k : ℕ). k + 1) front_long))
-    (AreBytes-bitmap_bytes (take n bits))
-    (AreBytes-push front last (AreBytes-take (bitmap_bytes bits) (n / 8) (AreBytes-bitmap_bytes bits)) small)
+    (AreBytes-bitmap (take n bits))
+    (AreBytes-push front last (AreBytes-take (bitmap bits) (n / 8) (AreBytes-bitmap bits)) small)
     (λ i h.
     let low : i < 8 * (n / 8 + 1) = rw long at h in
-    bitmap_bit-bitmap_bytes (take n bits) i
+    bitmap_bit-bitmap (take n bits) i
     ∙ by_cases_lt (i / 8) (n / 8)
     (λ byte.
     get_or-take n bits i false (omega arith)
     ∙ sym (ap (λ (k : ℕ). eqb (bit_at k (i % 8)) 1)
     (get_or_append_left front (last ∷ []) 0 (i / 8) (rw front_long byte)
-    ∙ get_or-take (n / 8) (bitmap_bytes bits) (i / 8) 0 byte)
-    ∙ bitmap_bit-bitmap_bytes bits i))
+    ∙ get_or-take (n / 8) (bitmap bits) (i / 8) 0 byte)
+    ∙ bitmap_bit-bitmap bits i))
     (λ past.
     let here : i / 8 ≡ n / 8 = omega arith in
     let at : get_or (front ++ last ∷ []) (i / 8) 0 ≡ last = get_or_push front last 0 (i / 8) (front_long ∙ sym here) in
@@ -306,13 +307,13 @@ bitmap_bytes-take_part bits n within part =
     (λ inner.
     get_or-take n bits i false (omega arith)
     ∙ sym (ap (λ (k : ℕ). eqb (bit_at k (i % 8)) 1) at
-    ∙ ap (λ (k : ℕ). eqb k 1) (bit_at-low (get_or (bitmap_bytes bits) (n / 8) 0) (n % 8) (i % 8) inner)
-    ∙ ap (λ (k : ℕ). eqb (bit_at (get_or (bitmap_bytes bits) k 0) (i % 8)) 1) (sym here)
-    ∙ bitmap_bit-bitmap_bytes bits i))
+    ∙ ap (λ (k : ℕ). eqb k 1) (bit_at-low (get_or (bitmap bits) (n / 8) 0) (n % 8) (i % 8) inner)
+    ∙ ap (λ (k : ℕ). eqb (bit_at (get_or (bitmap bits) k 0) (i % 8)) 1) (sym here)
+    ∙ bitmap_bit-bitmap bits i))
     (λ spare.
     get_or_past (take n bits) i false (rw (length-take-le n bits within) (omega arith))
     ∙ sym (ap (λ (k : ℕ). eqb (bit_at k (i % 8)) 1) at
-    ∙ ap (λ (k : ℕ). eqb k 1) (bit_at-high (get_or (bitmap_bytes bits) (n / 8) 0) (n % 8) (i % 8) spare)))))
+    ∙ ap (λ (k : ℕ). eqb k 1) (bit_at-high (get_or (bitmap bits) (n / 8) 0) (n % 8) (i % 8) spare)))))
 
 -- ---- ones
 
@@ -324,33 +325,33 @@ ones_one : ones 1 ≡ 1
 unfolding ones ones_in
 ones_one = refl
 
-count_ones-number_of_bits : (bits : List Bool) → count_ones (number_of_bits bits) ≡ count_by (λ bit. bit) bits
-count_ones-number_of_bits [] = ones_zero
-count_ones-number_of_bits (true ∷ bits) =
-    let turned : 1 + 2 * number_of_bits bits ≡ number_of_bits bits * 2 ^ 1 + 1 = omega arith in
-    ap count_ones turned ∙ ones_cat 1 (number_of_bits bits) 1 (omega arith)
-    ∙ ap (λ (n : ℕ). n + ones 1) (count_ones-number_of_bits bits) ∙ ap (λ (n : ℕ). count_by (λ bit. bit) bits + n) ones_one
+count_ones-byte_of_bits : (bits : List Bool) → count_ones (byte_of_bits bits) ≡ count_by (λ bit. bit) bits
+count_ones-byte_of_bits [] = ones_zero
+count_ones-byte_of_bits (true ∷ bits) =
+    let turned : 1 + 2 * byte_of_bits bits ≡ byte_of_bits bits * 2 ^ 1 + 1 = omega arith in
+    ap count_ones turned ∙ ones_cat 1 (byte_of_bits bits) 1 (omega arith)
+    ∙ ap (λ (n : ℕ). n + ones 1) (count_ones-byte_of_bits bits) ∙ ap (λ (n : ℕ). count_by (λ bit. bit) bits + n) ones_one
     ∙ add_comm (count_by (λ bit. bit) bits) 1 ∙ sym (sum_by-cons (λ (bit : Bool). cond bit 1 0) true bits)
-count_ones-number_of_bits (false ∷ bits) =
-    let turned : 0 + 2 * number_of_bits bits ≡ number_of_bits bits * 2 ^ 1 + 0 = omega arith in
-    ap count_ones turned ∙ ones_cat 1 (number_of_bits bits) 0 (omega arith)
-    ∙ ap (λ (n : ℕ). n + ones 0) (count_ones-number_of_bits bits) ∙ ap (λ (n : ℕ). count_by (λ bit. bit) bits + n) ones_zero
+count_ones-byte_of_bits (false ∷ bits) =
+    let turned : 0 + 2 * byte_of_bits bits ≡ byte_of_bits bits * 2 ^ 1 + 0 = omega arith in
+    ap count_ones turned ∙ ones_cat 1 (byte_of_bits bits) 0 (omega arith)
+    ∙ ap (λ (n : ℕ). n + ones 0) (count_ones-byte_of_bits bits) ∙ ap (λ (n : ℕ). count_by (λ bit. bit) bits + n) ones_zero
     ∙ add_comm (count_by (λ bit. bit) bits) 0 ∙ sym (sum_by-cons (λ (bit : Bool). cond bit 1 0) false bits)
 
 sum_by-first_chunks : (k : ℕ) (bits : List Bool)
-    → sum_by count_ones (map number_of_bits (first_chunks 8 k bits)) ≡ count_by (λ bit. bit) (take (8 * k) bits)
+    → sum_by count_ones (map byte_of_bits (first_chunks 8 k bits)) ≡ count_by (λ bit. bit) (take (8 * k) bits)
 sum_by-first_chunks zero bits = refl
 sum_by-first_chunks (suc k) bits =
     let longer : 8 * suc k ≡ 8 + 8 * k = omega arith in
-    sum_by-cons count_ones (number_of_bits (take 8 bits)) (map number_of_bits (first_chunks 8 k (drop 8 bits)))
-    ∙ ap (λ (n : ℕ). n + sum_by count_ones (map number_of_bits (first_chunks 8 k (drop 8 bits)))) (count_ones-number_of_bits (take 8 bits))
+    sum_by-cons count_ones (byte_of_bits (take 8 bits)) (map byte_of_bits (first_chunks 8 k (drop 8 bits)))
+    ∙ ap (λ (n : ℕ). n + sum_by count_ones (map byte_of_bits (first_chunks 8 k (drop 8 bits)))) (count_ones-byte_of_bits (take 8 bits))
     ∙ ap (λ (n : ℕ). count_by (λ bit. bit) (take 8 bits) + n) (sum_by-first_chunks k (drop 8 bits))
     ∙ sym (sum_by-append (λ (bit : Bool). cond bit 1 0) (take 8 bits) (take (8 * k) (drop 8 bits)))
     ∙ ap (count_by (λ bit. bit)) (sym (take-add 8 (8 * k) bits) ∙ ap (λ (n : ℕ). take n bits) (sym longer))
 
 -- the ones of a bitmap are the ones of its bits
-pub sum_by-bitmap_bytes : (bits : List Bool) → sum_by count_ones (bitmap_bytes bits) ≡ count_by (λ bit. bit) bits
-sum_by-bitmap_bytes bits =
+pub sum_by-bitmap : (bits : List Bool) → sum_by count_ones (bitmap bits) ≡ count_by (λ bit. bit) bits
+sum_by-bitmap bits =
     sum_by-first_chunks ((length bits + 7) / 8) bits
     ∙ ap (count_by (λ bit. bit)) (take_all (8 * ((length bits + 7) / 8)) bits (omega arith))
 
@@ -428,27 +429,27 @@ count-from_All (false ∷ bits) all =
 
 -- the bytes are the bitmap of the list that the fields show, and the length is its length
 pub record Holds (bytes : List ℕ) (len : ℕ) (bits : List Bool) : Type 0 where
-  pub bitmap : bytes ≡ bitmap_bytes bits
+  pub padded : bytes ≡ bitmap bits
   pub size : len ≡ length bits
 
 pub Holds-from : (bytes : List ℕ) (len : ℕ) (bits : List Bool) → bitmap_bits bytes len ≡ bits → IsPadded bytes len
     → Holds bytes len bits
 Holds-from bytes len bits view invariant = record {
-  bitmap = invariant.bitmap ∙ ap bitmap_bytes view;
+  padded = invariant.padded ∙ ap bitmap view;
   size = sym (length-map-range_with_len (bitmap_bit bytes) 0 len) ∙ ap length view;
 }
 
 pub Holds-length : (bytes : List ℕ) (len : ℕ) (bits : List Bool) → Holds bytes len bits → length bytes ≡ (length bits + 7) / 8
-Holds-length bytes len bits h = ap length h.bitmap ∙ length-bitmap_bytes bits
+Holds-length bytes len bits h = ap length h.padded ∙ length-bitmap bits
 
 pub div_ceil-eight : (n : ℕ) → div_ceil n 8 ≡ (n + 7) / 8
 div_ceil-eight n = grind (arith, common_steps)
 
 pub Holds-view : (bytes : List ℕ) (len : ℕ) (bits : List Bool) → Holds bytes len bits → bitmap_bits bytes len ≡ bits
-Holds-view bytes len bits h = bitmap_bits_is bytes len bits h.bitmap h.size
+Holds-view bytes len bits h = bitmap_bits_is bytes len bits h.padded h.size
 
 pub Holds-invariant : (bytes : List ℕ) (len : ℕ) (bits : List Bool) → Holds bytes len bits → len < 2 ^ 64 → IsPadded bytes len
-Holds-invariant bytes len bits h fits = record { bitmap = bitmap_bytes_is bytes len bits h.bitmap h.size; fits = fits }
+Holds-invariant bytes len bits h fits = record { padded = bitmap_is bytes len bits h.padded h.size; fits = fits }
 
 -- bytes that were filled up with zeros hold the list with zeros at its end
 pub Holds-extended : (bytes new : List ℕ) (len longer n k m : ℕ) (bits : List Bool) → Holds bytes len bits → longer ≡ len + n
@@ -460,9 +461,9 @@ Holds-extended bytes new len longer n k m bits h sum at is grown =
     let up : k ≡ (length bits + n + 7) / 8 = at ∙ div_ceil-eight longer ∙ ap (λ (j : ℕ). (j + 7) / 8) total in
     let room : (length bits + 7) / 8 + (k - m) ≡ (length bits + n + 7) / 8 = omega arith in
     record {
-      bitmap =
-          grown ∙ ap (λ (front : List ℕ). front ++ replicate (k - m) 0) (take_all k bytes (omega arith) ∙ h.bitmap)
-          ∙ sym (bitmap_bytes-append_falses bits n (k - m) room);
+      padded =
+          grown ∙ ap (λ (front : List ℕ). front ++ replicate (k - m) 0) (take_all k bytes (omega arith) ∙ h.padded)
+          ∙ sym (bitmap-append_falses bits n (k - m) room);
       size = total ∙ sym (length-append bits (replicate n false) ∙ ap (λ (j : ℕ). length bits + j) (length-replicate n false));
     }
 
@@ -489,7 +490,7 @@ pub Holds-set : (bytes : List ℕ) (len : ℕ) (bits : List Bool) (index : ℕ) 
 Holds-set bytes len bits index bit new h within puts =
     let P : List ℕ → Type 0 = λ all. PutsBit (get_or all (index / 8) 0) new (index % 8) bit in
     record {
-      bitmap = ap (λ (all : List ℕ). set all (index / 8) new) h.bitmap ∙ bitmap_bytes-set bits index bit new within (subst P h.bitmap puts);
+      padded = ap (λ (all : List ℕ). set all (index / 8) new) h.padded ∙ bitmap-set bits index bit new within (subst P h.padded puts);
       size = h.size ∙ sym (length-set bits index bit);
     }
 
@@ -505,9 +506,9 @@ pub Holds-get : (bytes : List ℕ) (len : ℕ) (bits : List Bool) (index byte : 
 Holds-get bytes len bits index byte h within read =
     slice_get-get_or bits index false within
     ∙ ap (λ (b : Bool). Some b)
-    (sym (ap (λ (n : ℕ). eqb n 1) (shr_and_one byte (index % 8) ∙ ap (λ (n : ℕ). bit_at n (index % 8)) (read ∙ ap (λ (all : List ℕ). get_or all (index / 8) 0) h.bitmap))
-    ∙ bitmap_bit-bitmap_bytes bits index))
+    (sym (ap (λ (n : ℕ). eqb n 1) (shr_and_one byte (index % 8) ∙ ap (λ (n : ℕ). bit_at n (index % 8)) (read ∙ ap (λ (all : List ℕ). get_or all (index / 8) 0) h.padded))
+    ∙ bitmap_bit-bitmap bits index))
 
 pub Holds-count : (bytes : List ℕ) (len : ℕ) (bits : List Bool) → Holds bytes len bits
     → sum_by count_ones bytes ≡ count_by (λ bit. bit) bits
-Holds-count bytes len bits h = ap (sum_by count_ones) h.bitmap ∙ sum_by-bitmap_bytes bits
+Holds-count bytes len bits h = ap (sum_by count_ones) h.padded ∙ sum_by-bitmap bits

@@ -1,16 +1,7 @@
-use Rattle.std.specs.Prelude.{◌≡◌, ◌≢◌, ℕ, ◌<◌, ◌+◌, ◌*◌, ◌/◌, ◌%◌, ◌^◌, Bool, ◌==◌, if◌then◌else◌, List, [], ◌∷◌, length, map, slice_index}
+use Rattle.std.specs.Prelude.{◌≡◌, ◌≢◌, ℕ, ◌<◌, ◌/◌, ◌%◌, ◌^◌, Bool, ◌==◌, if◌then◌else◌, List, map, slice_index}
 use Rattle.std.specs.Int.{bit_at}
+use Rattle.arrow_spec.specs.Bytes.{bitmap}
 use Rattle.std.specs.List.{range_with_len}
-use Rattle.std.specs.Simd.{first_chunks}
-
--- the number whose binary digits these are, the lowest first
-abbrev pub number_of_bits : List Bool → ℕ
-number_of_bits [] = 0
-number_of_bits (bit ∷ bits) = (if bit then 1 else 0) + 2 * number_of_bits bits
-
--- the bitmap of a list of bits: eight a byte in their order, the first in the lowest place, and zeros after the last
-abbrev pub bitmap_bytes : List Bool → List ℕ
-bitmap_bytes bits = map number_of_bits (first_chunks 8 ((length bits + 7) / 8) bits)
 
 -- the bit at a place of a bitmap
 abbrev pub bitmap_bit : List ℕ → ℕ → Bool
@@ -22,7 +13,7 @@ bitmap_bits bytes len = map (bitmap_bit bytes) (range_with_len 0 len)
 
 -- bytes are the bitmap of their first bits, so the bits after those are zeros
 pub record IsPadded (bytes : List ℕ) (len : ℕ) : Type 0 where
-  pub bitmap : bytes ≡ bitmap_bytes (bitmap_bits bytes len)
+  pub padded : bytes ≡ bitmap (bitmap_bits bytes len)
   pub fits : len < 2 ^ 64
 
 -- every element is a byte

@@ -2,7 +2,8 @@
 
 ghost use Rattle.std.specs.Prelude.{◌≡◌, ℕ, [], slice_index_or, ◌<◌, ◌≤◌, ◌^◌, ◌++◌, ◌↔◌, false, IfOk, IsTrue, OnErr, OnOk, Some, count_ones, length, replicate, slice_get, slice_set, take};
 ghost use Rattle.std.specs.List.{All, count_by, sum_by};
-ghost use Rattle.flat_column.specs.Bitmap.{AreBytes, PutsBit, bitmap_bytes};
+ghost use Rattle.flat_column.specs.Bitmap.{AreBytes, PutsBit};
+ghost use Rattle.arrow_spec.specs.Bytes.{bitmap};
 
 use std::alloc::{AllocError, Global};
 use std::marker::Model;
@@ -90,6 +91,20 @@ impl Bits {
         ones(self.bytes.as_slice())
     }
 
+    /// How many of the first `n` bits are ones.
+    pub fn count_first(&self, n: usize) -> usize
+        requires { n ≤ length self.now }
+        ensures { result ≡ count_by (λ bit. bit) (take n self.now) }
+    {
+        let (whole, _) = self.bytes.as_slice().split_at(n / 8);
+        let front = ones(whole);
+        if n % 8 == 0 {
+            return front;
+        }
+        let last = self.bytes[n / 8] & ((1 << (n % 8)) - 1);
+        front + last.count_ones() as usize
+    }
+
     /// Whether every bit is a one.
     pub fn all_ones(&self) -> bool
         ensures { IsTrue result ↔ All IsTrue self.now }
@@ -101,7 +116,7 @@ impl Bits {
     /// stays.
     pub fn copy_to(&self, n: usize, out: &mut Vec<u8>) -> Result<(), AllocError>
         requires { n ≤ length self.now }
-        ensures ok { OnOk result (out.new.items ≡ out.old.items ++ bitmap_bytes (take n self.now)) }
+        ensures ok { OnOk result (out.new.items ≡ out.old.items ++ bitmap (take n self.now)) }
         ensures err { OnErr result (out.new.items ≡ out.old.items) }
     {
         let (whole, _) = self.bytes.as_slice().split_at(n / 8);

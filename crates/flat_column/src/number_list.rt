@@ -1,6 +1,9 @@
 //! A list of numbers of one width as Arrow data.
 
-ghost use Rattle.std.specs.Prelude.{◌≡◌, ◌+◌, ◌<◌, ◌≤◌, ◌/◌, ◌++◌, ◌↔◌, pos, IfOk, IsTrue, OnErr, OnOk, Some, drop, length, replicate, slice_get, slice_set, take};
+ghost use Rattle.std.specs.Prelude.{◌≡◌, ◌+◌, ◌*◌, ◌<◌, ◌≤◌, ◌/◌, ◌++◌, ◌↔◌, pos, IfOk, IsTrue, OnErr, OnOk, Some, drop, length, replicate, slice_get, slice_set, take};
+ghost use Rattle.std.specs.Int.{Width, byte_len};
+ghost use Rattle.std.specs.List.{flat_map};
+ghost use Rattle.arrow_spec.specs.Bytes.{number_bytes as arrow_bytes};
 ghost use Rattle.flat_column.specs.Numbers.{IsInRange, IsWidth, first_value, number_bytes, numbers_bytes};
 
 use byteorder::{ByteOrder, LittleEndian};
@@ -142,7 +145,9 @@ impl Fixed {
     /// The Arrow data of the first `n` numbers, lent.
     pub fn bytes(&self, n: usize) -> &[u8]
         requires { n ≤ length self.now.values }
-        ensures { result.now ≡ numbers_bytes self.now.width (take n self.now.values) }
+        ensures bytes { result.now ≡ numbers_bytes self.now.width (take n self.now.values) }
+        ensures arrow { (width : Width) → self.now.width ≡ 8 * byte_len width →
+            result.now ≡ flat_map (arrow_bytes width) (take n self.now.values) }
     {
         let (bytes, _) = self.bytes.as_slice().split_at(self.size() * n);
         bytes

@@ -41,6 +41,10 @@ fn a_bitmap_of_the_first_bits_has_no_spare_ones(rt: HostRuntime) -> Result<(), F
         bits.set(place, true);
     }
     assert!(rt; bits.all_ones());
+    for n in [0, 3, 8, 11, 12] {
+        assert!(rt; n <= bits.len());
+        assert_eq!(rt; bits.count_first(n), n);
+    }
     let mut out = Vec::from_slice(rt.alloc(), &[0xaa])?;
     assert!(rt; bits.len() >= 11);
     bits.copy_to(11, &mut out)?;
