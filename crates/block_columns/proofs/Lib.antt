@@ -5,3 +5,4 @@ pub mod Tables
 pub mod Fitted
 pub mod Undoing
 pub mod Rowed
+pub mod Lent

@@ -1,9 +1,9 @@
 -- The rows that the bits and the columns give.
 use Rattle.std.proofs.Common.{◌≡◌, ◌≢◌, ℕ, zero, suc, ◌<◌, ◌≤◌, ◌+◌, inl, inr, get_or, Bool, true, false, cond, List, [], ◌∷◌, ◌++◌, length, take, drop, replicate, map, refl, sym, ap, ◌∙◌, subst, arith, zero-add}
-use Rattle.std.specs.Prelude.{slice_set, All, Option, None, Some, IsSome, Result, Ok, Err, OnOk, OnErr}
+use Rattle.std.specs.Prelude.{slice_set, slice_get, All, Option, None, Some, IsSome, Result, Ok, Err, OnOk, OnErr}
 use Rattle.std.specs.List.{AllZip, range_with_len}
 use Rattle.std.proofs.lemmas.Bool.{cases_lt}
-use Rattle.std.proofs.lemmas.List.{get_or_past, drop_all, append-nil, take_all, length-append, length-replicate, append_assoc, replicate-append-replicate, get_or-set_same, get_or-set_other}
+use Rattle.std.proofs.lemmas.List.{get_or_past, drop_all, append-nil, take_all, length-append, length-replicate, append_assoc, replicate-append-replicate, get_or-set_same, get_or-set_other, same_lists, length-take-le, length-map, get_or-take, get_or_default, get_or-map}
 use Rattle.std.proofs.lemmas.Bool.Decides.{eqb_tells}
 use Rattle.std.proofs.lemmas.List.Elements.{All-head, All-tail, All-cons, All-nil}
 use Rattle.std.proofs.lemmas.List.FromFn.{length-map-range_with_len, get_or-map-range_with_len}
@@ -12,7 +12,7 @@ use Rattle.cell_model.specs.declared.cell.Cell.TheVariants.{Null}
 use Rattle.cell_model.specs.declared.column.Column.{Column}
 use Rattle.cell_model.specs.declared.kind.Kind.TheVariants as kind
 use Rattle.block_columns.specs.Cells.{ColumnValue}
-use Rattle.block_columns.specs.Columns.{AreColumns, CellFits, ColumnsValue, IsLonger, cells_at, columns_in, row_in, rows_in, with_row}
+use Rattle.block_columns.specs.Columns.{AreColumns, CellFits, ColumnsValue, IsLonger, cell_of, cells_at, columns_in, row_in, rows_in, with_row}
 use Rattle.block_spec.specs.declared.change.Change.TheVariants as change
 use Rattle.block_spec.specs.Fitting.{columns_of, unnamed}
 use Rattle.block_spec.specs.Slots.{Row, image_before, laid_back}
@@ -252,3 +252,47 @@ new_names (d ∷ ds) = ap (λ (l : List Column). unnamed d ∷ l) (new_names ds)
 pub laid_again : (row : Option Row) → laid_back None (image_before row change.Gone) ≡ row
 laid_again None = refl
 laid_again (Some r) = refl
+
+-- a column's cell in a slot is its row's
+pub column_cell : (taken : List Bool) (cs : List ColumnValue) (slots column slot : ℕ) (d : ColumnValue) → AreColumns taken cs slots → column < length cs
+    → get_or (get_or cs column d).cells slot Null ≡ cell_of column (get_or (rows_in taken cs slots) slot None)
+column_cell taken cs slots column slot d are lt =
+    cell_there cs column d lt
+    ∙ go (get_or taken slot false) refl
+    ∙ sym (ap (λ (o : Option (List Cell)). cell_of column o) (row_at taken cs slots slot are))
+  where
+    cell_there : (cs : List ColumnValue) (k : ℕ) (d : ColumnValue) → k < length cs → get_or (get_or cs k d).cells slot Null ≡ get_or (cells_at slot cs) k Null
+    cell_there [] k d lt = absurd (omega (arith, lt))
+    cell_there (c ∷ cs) zero d lt = refl
+    cell_there (c ∷ cs) (suc k) d lt = cell_there cs k d (omega (arith, lt))
+
+    null_there : (xs : List Cell) (k : ℕ) → All (λ (cell : Cell). cell ≡ Null) xs → get_or xs k Null ≡ Null
+    null_there [] k null = refl
+    null_there (x ∷ xs) zero null = All-head (λ (cell : Cell). cell ≡ Null) x xs null
+    null_there (x ∷ xs) (suc k) null = null_there xs k (All-tail (λ (cell : Cell). cell ≡ Null) x xs null)
+
+    go : (bit : Bool) → get_or taken slot false ≡ bit → get_or (cells_at slot cs) column Null ≡ cell_of column (cond (get_or taken slot false) (Some (cells_at slot cs)) None)
+    go true is = sym (ap (λ b. cell_of column (cond b (Some (cells_at slot cs)) None)) is)
+    go false is = null_there (cells_at slot cs) column (are.bare slot is) ∙ sym (ap (λ b. cell_of column (cond b (Some (cells_at slot cs)) None)) is)
+
+pub column_there : (cs : List ColumnValue) (k : ℕ) (d : ColumnValue) → k < length cs → slice_get (columns_in cs) k ≡ Some (get_or cs k d).column
+column_there [] k d lt = absurd (omega (arith, lt))
+column_there (c ∷ cs) zero d lt = refl
+column_there (c ∷ cs) (suc k) d lt = column_there cs k d (omega (arith, lt))
+
+-- the first cells of a column are those of the first rows
+pub first_cells : (taken : List Bool) (cs : List ColumnValue) (slots column n : ℕ) (d : ColumnValue) → AreColumns taken cs slots → column < length cs → n ≤ length taken
+    → take n (get_or cs column d).cells ≡ map (cell_of column) (take n (rows_in taken cs slots))
+first_cells taken cs slots column n d are lt room =
+    let cells : List Cell = (get_or cs column d).cells in
+    let rows : List (Option (List Cell)) = rows_in taken cs slots in
+    let many : n ≤ length cells = omega (arith, are.room column d lt, room) in
+    let some : n ≤ length rows = omega (arith, are.within, room, rows_long taken cs slots) in
+    same_lists (take n cells) (map (cell_of column) (take n rows))
+    (length-take-le n cells many ∙ sym (length-map (take n rows) (cell_of column) ∙ length-take-le n rows some))
+    (λ k e below.
+    let short : k < n = omega (arith, below, length-take-le n cells many) in
+    get_or-take n cells k e short ∙ get_or_default cells k e Null (omega (arith, short, many))
+    ∙ column_cell taken cs slots column k d are lt
+    ∙ sym (get_or-map (cell_of column) (take n rows) k None e (omega (arith, short, length-take-le n rows some))
+    ∙ ap (cell_of column) (get_or-take n rows k None short)))

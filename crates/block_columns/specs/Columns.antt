@@ -34,6 +34,11 @@ row_in taken columns at = if slice_index_or taken at false then Some (cells_at a
 abbrev pub rows_in : List Bool → List ColumnValue → ℕ → List (Option Row)
 rows_in taken columns slots = map (row_in taken columns) (range_with_len 0 slots)
 
+-- the cell of a column in a slot; a slot without a row counts as null
+abbrev pub cell_of : ℕ → Option Row → Cell
+cell_of column None = Null
+cell_of column (Some row) = slice_index_or row column Null
+
 abbrev pub with_cell : ℕ → ColumnValue → Cell → ColumnValue
 with_cell at c cell = record c { cells = slice_set c.cells at cell }
 

@@ -1,8 +1,11 @@
 //! The cells of a column, as Arrow's bytes.
-ghost use Rattle.std.specs.Prelude.{◌≡◌, ◌<◌, ◌≤◌, ◌++◌, [], IfOk, OnOk, OnErr, IsTrue, ◌↔◌, length, replicate, slice_set, slice_index_or, take};
+ghost use Rattle.std.specs.Prelude.{◌≡◌, ◌<◌, ◌≤◌, ◌++◌, [], IfOk, OnOk, OnErr, IsTrue, ◌↔◌, length, replicate, slice_set, slice_index_or, map, not, take};
 ghost use Rattle.cell_model.specs.declared.cell.Cell.TheVariants as cell;
 ghost use Rattle.cell_model.specs.Values.{is_null};
-ghost use Rattle.arrow_spec.specs.Arrays.{null_count, value_of};
+ghost use Rattle.std.specs.Int.{Width};
+ghost use Rattle.std.specs.List.{flat_map};
+ghost use Rattle.arrow_spec.specs.Arrays.{boolean, fixed, layout_of, null_count, number_of, truth_of, value_of};
+ghost use Rattle.arrow_spec.specs.Bytes.{bitmap, number_bytes};
 ghost use Rattle.block_spec.specs.Fitting.{unnamed};
 ghost use Rattle.block_columns.specs.Cells.{IsSlotOf};
 
@@ -151,12 +154,50 @@ impl ColumnCells {
         requires { n ≤ length self.now.cells }
         ensures { result ≡ null_count (take n self.now.cells) }
     {
-        let mut nulls = 0;
-        for at in 0..n {
-            if self.is_null(at) {
-                nulls += 1;
-            }
-        }
-        nulls
+        n - self.valid.count_first(n)
+    }
+
+    /// What the cells have to be.
+    pub fn kind(&self) -> Kind
+        ensures { result ≡ self.now.column.kind }
+    {
+        self.kind
+    }
+
+    /// Appends the bitmap that tells which of the first `n` cells are not null. Without memory `out`
+    /// stays.
+    pub fn copy_validity(&self, n: usize, out: &mut Vec<u8>) -> Result<(), AllocError>
+        requires { n ≤ length self.now.cells }
+        ensures ok { OnOk result (out.new.items ≡
+            out.old.items ++ bitmap (map (λ cell. not (is_null cell)) (take n self.now.cells))) }
+        ensures err { OnErr result (out.new.items ≡ out.old.items) }
+    {
+        self.valid.copy_to(n, out)
+    }
+
+    /// The Arrow bytes of the numbers of the first `n` cells, lent, with zero for a null.
+    pub fn numbers(&self, n: usize) -> &[u8]
+        requires { n ≤ length self.now.cells }
+        ensures { (width : Width) → layout_of self.now.column.kind ≡ fixed width →
+            result.now ≡ flat_map (λ cell. number_bytes width (number_of cell)) (take n self.now.cells) }
+    {
+        self.store.numbers(n)
+    }
+
+    /// Appends the bitmap of the truth values of the first `n` cells, with a zero bit for a null.
+    pub fn copy_truths(&self, n: usize, out: &mut Vec<u8>) -> Result<(), AllocError>
+        requires { n ≤ length self.now.cells }
+        ensures { OnOk result (layout_of self.now.column.kind ≡ boolean →
+            out.new.items ≡ out.old.items ++ bitmap (map truth_of (take n self.now.cells))) }
+    {
+        self.store.copy_truths(n, out)
+    }
+
+    /// The bytes of a cell, lent; none of a null, a number or a truth value.
+    pub fn bytes(&self, at: usize) -> &[u8]
+        requires { at < length self.now.cells }
+        ensures { result.now ≡ value_of (slice_index_or self.now.cells at cell.Null) }
+    {
+        self.store.bytes(at)
     }
 }

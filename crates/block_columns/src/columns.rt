@@ -1,10 +1,16 @@
 //! The columns of a block.
-ghost use Rattle.std.specs.Prelude.{◌≡◌, ◌+◌, ◌<◌, ◌≤◌, ◌↔◌, ℕ, None, Some, IfOk, IfErr, OnOk, OnErr, IsTrue, IsSome, is_some, option_map, length, replicate, slice_index_or, slice_set, ◌^◌, if◌then◌else◌};
+ghost use Rattle.std.specs.Prelude.{◌≡◌, ◌+◌, ◌<◌, ◌≤◌, ◌↔◌, ℕ, None, Some, IfOk, OnOk, OnErr, IsTrue, IsSome, is_some, option_map, length, replicate, slice_get, slice_index_or, slice_set, take, ◌^◌, if◌then◌else◌};
+ghost use Rattle.std.specs.Int.{Width};
+ghost use Rattle.std.specs.List.{flat_map};
+ghost use Rattle.arrow_spec.specs.Arrays.{fixed, layout_of, number_of};
+ghost use Rattle.arrow_spec.specs.Bytes.{number_bytes};
+ghost use Rattle.cell_model.specs.declared.cell.Cell.TheVariants as cell;
+ghost use Rattle.cell_model.specs.declared.column.Column.{Column as ColumnDecl};
 ghost use Rattle.cell_model.specs.Rows.{Fits};
 ghost use Rattle.block_spec.specs.declared.change.Change.TheVariants as change;
 ghost use Rattle.block_spec.specs.Fitting.{BeforeFits, PatchFits, columns_of};
 ghost use Rattle.block_spec.specs.Slots.{image_before, laid_back, patched, row_after};
-ghost use Rattle.block_columns.specs.Columns.{WantsRow};
+ghost use Rattle.block_columns.specs.Columns.{WantsRow, cell_of};
 
 use crate::cells::ColumnCells;
 use crate::patches::{exchange_patch, lay_patch};
@@ -86,6 +92,29 @@ impl Columns {
         ensures within { result ≤ length self.now.rows }
     {
         self.taken.len()
+    }
+
+    /// The cells of a column, lent: those of its slots' rows, with a null where there is no row.
+    pub fn column(&self, column: usize) -> &ColumnCells
+        requires { column < length self.now.columns }
+        ensures column { slice_get self.now.columns column ≡ Some result.now.column }
+        ensures room { self.now.room ≤ length result.now.cells }
+        ensures cells { (slot : ℕ) → slice_index_or result.now.cells slot cell.Null ≡
+            cell_of column (slice_index_or self.now.rows slot None) }
+    {
+        &self.columns[column]
+    }
+
+    /// The Arrow bytes of the numbers of the first `n` slots of a column of fixed width, lent, with
+    /// zero for a null and for a slot without a row. These slots have memory.
+    pub fn fixed_bytes(&self, column: usize, n: usize) -> &[u8]
+        requires column { column < length self.now.columns }
+        requires room { n ≤ self.now.room }
+        ensures { (width : Width) (c : ColumnDecl) → slice_get self.now.columns column ≡ Some c →
+            layout_of c.kind ≡ fixed width → result.now ≡
+            flat_map (λ row. number_bytes width (number_of (cell_of column row))) (take n self.now.rows) }
+    {
+        self.columns[column].numbers(n)
     }
 
     /// Whether a slot has a row.

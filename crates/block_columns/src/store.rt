@@ -1,10 +1,13 @@
 //! What a column stores for each cell.
-ghost use Rattle.std.specs.Prelude.{◌≡◌, ◌<◌, ◌≤◌, ◌++◌, [], ℕ, IfOk, OnOk, OnErr, IfNone, IfSome, List, length, replicate, slice_set, slice_index_or, IsTrue, ◌↔◌, ◌^◌, true, false, Bool};
+ghost use Rattle.std.specs.Prelude.{◌≡◌, ◌<◌, ◌≤◌, ◌++◌, [], ℕ, IfOk, OnOk, OnErr, IfNone, IfSome, List, length, map, take, replicate, slice_set, slice_index_or, IsTrue, ◌↔◌, ◌^◌, true, false, Bool};
 ghost use Rattle.cell_model.specs.declared.cell.Cell.TheVariants as cell;
 ghost use Rattle.cell_model.specs.declared.cell.Cell.{Cell as CellValue};
 ghost use Rattle.cell_model.specs.declared.kind.Kind.{Kind as KindValue};
 ghost use Rattle.flat_column.specs.Numbers.{IsWidth};
-ghost use Rattle.arrow_spec.specs.Arrays.{number_of, truth_of, value_of};
+ghost use Rattle.std.specs.Int.{Width};
+ghost use Rattle.std.specs.List.{flat_map};
+ghost use Rattle.arrow_spec.specs.Arrays.{boolean, fixed, layout_of, number_of, truth_of, value_of};
+ghost use Rattle.arrow_spec.specs.Bytes.{bitmap, number_bytes};
 ghost use Rattle.block_columns.specs.Cells.{IsSlotOf, IsStoreOf, Stores, StoresNone, bytes_at, bytes_in, full_cells, stored_length};
 ghost use Rattle.cell_model.specs.Kinds.{values_of};
 
@@ -145,6 +148,43 @@ impl Store {
             Store::Numbers(numbers) => Ok(Store::Numbers(numbers.clone()?)),
             Store::Truths(truths) => Ok(Store::Truths(truths.clone()?)),
             Store::Values(values) => Ok(Store::Values(copied_values(alloc, values.as_slice())?)),
+        }
+    }
+
+    // The Arrow bytes of the first `n` numbers, lent; none where other values are stored.
+    pub fn numbers(&self, n: usize) -> &[u8]
+        requires { n ≤ stored_length self.now }
+        ensures { (kind : KindValue) (width : Width) (cells : List CellValue) → IsStoreOf kind self.now →
+            Stores self.now cells → layout_of kind ≡ fixed width →
+            result.now ≡ flat_map (λ cell. number_bytes width (number_of cell)) (take n cells) }
+    {
+        match self {
+            Store::Numbers(numbers) => numbers.bytes(n),
+            Store::Truths(_) | Store::Values(_) => &[],
+        }
+    }
+
+    // Appends the bitmap of the first `n` truth values; nothing where other values are stored.
+    pub fn copy_truths(&self, n: usize, out: &mut Vec<u8>) -> Result<(), AllocError>
+        requires { n ≤ stored_length self.now }
+        ensures { OnOk result ((kind : KindValue) (cells : List CellValue) → IsStoreOf kind self.now →
+            Stores self.now cells → layout_of kind ≡ boolean →
+            out.new.items ≡ out.old.items ++ bitmap (map truth_of (take n cells))) }
+    {
+        match self {
+            Store::Truths(truths) => truths.copy_to(n, out),
+            Store::Numbers(_) | Store::Values(_) => Ok(()),
+        }
+    }
+
+    // The bytes of a value, lent; none where numbers or truth values are stored.
+    pub fn bytes(&self, at: usize) -> &[u8]
+        requires { at < stored_length self.now }
+        ensures { result.now ≡ bytes_at self.now at }
+    {
+        match self {
+            Store::Values(values) => values[at].as_slice(),
+            Store::Numbers(_) | Store::Truths(_) => &[],
         }
     }
 

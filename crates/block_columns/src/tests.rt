@@ -135,6 +135,10 @@ fn an_image_lends_its_columns(rt: HostRuntime) -> Result<(), Fail> {
     assert_eq!(rt; columns.slots(), 4);
     assert_eq!(rt; columns.room(), 0);
     assert_eq!(rt; columns.width(), buffers.len());
+    assert!(rt; columns.width() == 4);
+    assert_eq!(rt; columns.column(3).kind(), Kind::Utf8);
+    assert_eq!(rt; columns.column(1).nulls(0), 0);
+    assert_eq!(rt; columns.fixed_bytes(0, 0), b"".as_slice());
     let image = Image::of(columns, 0, buffers);
     assert_eq!(rt; image.rows(), 0);
     assert!(rt; image.buffers(3).is_some());
