@@ -6,7 +6,7 @@ use Rattle.std.proofs.lemmas.List.Sums.{sum_by-cons}
 use Rattle.cell_model.specs.declared.cell.Cell.{Cell}
 use Rattle.cell_model.specs.Values.{is_null}
 use Rattle.cell_model.specs.Kinds.{Values, signed, unsigned, truths, texts, blobs}
-use Rattle.arrow_spec.specs.Arrays.{Layout, fixed, boolean, variable, layout_in, null_count}
+use Rattle.arrow_spec.specs.Arrays.{fixed, layout_in, null_count}
 use Rattle.block_columns.specs.Cells.{AreNumbers, valid_bit}
 
 -- numbers of a fixed layout have its width

@@ -296,3 +296,16 @@ first_cells taken cs slots column n d are lt room =
     ∙ column_cell taken cs slots column k d are lt
     ∙ sym (get_or-map (cell_of column) (take n rows) k None e (omega (arith, short, length-take-le n rows some))
     ∙ ap (cell_of column) (get_or-take n rows k None short)))
+
+-- cells that are those of rows one by one are those of the first rows
+pub cells_of_rows : (cells : List Cell) (rows : List (Option Row)) (column n : ℕ) → n ≤ length cells → n ≤ length rows
+    → ((slot : ℕ) → get_or cells slot Null ≡ cell_of column (get_or rows slot None)) → take n cells ≡ map (cell_of column) (take n rows)
+cells_of_rows cells rows column n many some each =
+    same_lists (take n cells) (map (cell_of column) (take n rows))
+    (length-take-le n cells many ∙ sym (length-map (take n rows) (cell_of column) ∙ length-take-le n rows some))
+    (λ k e below.
+    let short : k < n = omega (arith, below, length-take-le n cells many) in
+    get_or-take n cells k e short ∙ get_or_default cells k e Null (omega (arith, short, many))
+    ∙ each k
+    ∙ sym (get_or-map (cell_of column) (take n rows) k None e (omega (arith, short, length-take-le n rows some))
+    ∙ ap (cell_of column) (get_or-take n rows k None short)))

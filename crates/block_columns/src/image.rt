@@ -1,5 +1,7 @@
 //! The columns of a frozen block with their Arrow buffers.
-ghost use Rattle.std.specs.Prelude.{◌≡◌, length, option_copied, slice_get};
+ghost use Rattle.std.specs.Prelude.{◌≡◌, ◌<◌, ◌≤◌, length, map, option_copied, slice_get, take};
+ghost use Rattle.arrow_spec.specs.Arrays.{null_count};
+ghost use Rattle.block_columns.specs.Columns.{cell_of};
 
 use crate::columns::Columns;
 use cell_model::Buffers;
@@ -25,12 +27,15 @@ impl Model for Image {
       rows = i.rows;
       buffers = i.buffers.items;
     } };
+
+    ghost invariant = { λ i. i.rows ≤ i.columns.room };
 }
 
 impl Image {
     /// The image of the columns whose first rows have these buffers, a list for each column.
     pub fn of(columns: Columns, rows: u32, buffers: Vec<Buffers>) -> Image
-        requires { length buffers.items ≡ length columns.columns }
+        requires each { length buffers.items ≡ length columns.columns }
+        requires rows { rows ≤ columns.room }
         ensures { result ≡ record {
           columns = columns.columns;
           slots = columns.rows;
@@ -58,6 +63,16 @@ impl Image {
         ensures rows { result.now.rows ≡ self.now.slots }
     {
         &self.columns
+    }
+
+    /// How many of the rows that the buffers are of have a null in a column.
+    pub fn nulls(&self, column: usize) -> usize
+        requires { column < length self.now.columns }
+        ensures { result ≡ null_count (map (cell_of column) (take self.now.rows self.now.slots)) }
+    {
+        // The slots with memory are some of all slots.
+        let _room = self.columns.room();
+        self.columns.column(column).nulls(self.rows as usize)
     }
 
     /// The buffers of a column, lent.

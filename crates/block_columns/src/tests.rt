@@ -141,6 +141,7 @@ fn an_image_lends_its_columns(rt: HostRuntime) -> Result<(), Fail> {
     assert_eq!(rt; columns.fixed_bytes(0, 0), b"".as_slice());
     let image = Image::of(columns, 0, buffers);
     assert_eq!(rt; image.rows(), 0);
+    assert_eq!(rt; image.nulls(1), 0);
     assert!(rt; image.buffers(3).is_some());
     assert!(rt; !image.columns().has_row(0));
     assert_eq!(rt; image.into_columns().slots(), 4);

@@ -1,4 +1,4 @@
-use Rattle.std.proofs.Common.{◌≡◌, ℕ, Bool, List, ◌++◌, take, map, ap, ◌∙◌}
+use Rattle.std.proofs.Common.{Bool, List, ◌++◌, take, map, ap, ◌∙◌}
 use Rattle.std.proofs.lemmas.List.{take-map}
 use Rattle.std.proofs.lemmas.Result.{on_ok_weaker}
 use Rattle.arrow_spec.specs.Bytes.{bitmap}

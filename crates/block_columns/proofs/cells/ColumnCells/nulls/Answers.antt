@@ -1,7 +1,6 @@
-use Rattle.std.proofs.Common.{◌≡◌, ℕ, ◌+◌, Bool, List, length, take, map, ap, ◌∙◌, arith}
+use Rattle.std.proofs.Common.{◌≡◌, Bool, List, take, map, ap, ◌∙◌, arith}
 use Rattle.std.specs.List.{count_by}
 use Rattle.std.proofs.lemmas.List.{take-map, length-take-le}
-use Rattle.arrow_spec.specs.Arrays.{null_count}
 use Rattle.block_columns.specs.Cells.{ColumnValue, cells_in, valid_bit}
 use Rattle.block_columns.proofs.Lent.{nulls_and_others}
 use Rattle.block_columns.proofs.cells.ColumnCells.nulls.Goals as goal

@@ -1,4 +1,4 @@
-use Rattle.std.proofs.Common.{◌≡◌, ℕ, ℤ, List, take, map, ap, ◌∙◌, subst}
+use Rattle.std.proofs.Common.{ℤ, List, take, ap, ◌∙◌, subst}
 use Rattle.std.specs.Int.{Width}
 use Rattle.std.specs.List.{flat_map}
 use Rattle.std.proofs.lemmas.List.{take-map}
