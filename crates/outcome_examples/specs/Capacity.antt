@@ -16,6 +16,8 @@ capacities_cases =
     explained two_tables (codes "1 begin\n1 insert b 1\n1 export a\n") (codes "1 1 1 at 0\n1 1 2 ok\n1 1 3 export 0 rows 0 batches 0 frozen 0\n") ∷
     -- dirty of a deleted key
     explained keys (codes "1 begin\n1 insert a 1\n1 delete a 1\n1 export a\n") (codes "1 1 1 at 0\n1 1 2 ok\n1 1 3 ok\n1 1 4 dirty 1\n") ∷
+    -- dirty of a key below 0
+    explained keys (codes "1 begin\n1 insert a -3\n1 insert a 2\n1 export a\n") (codes "1 1 1 at 0\n1 1 2 ok\n1 1 3 ok\n1 1 4 dirty -3\n") ∷
     -- dirty by two tables
     explained two_tables (codes "1 begin\n1 insert a 7\n1 insert b 3\n1 insert b 5\n1 export b\n") (codes "1 1 1 at 0\n1 1 2 ok\n1 1 3 ok\n1 1 4 ok\n1 1 5 dirty 3\n") ∷ []
 

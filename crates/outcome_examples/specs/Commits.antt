@@ -22,6 +22,14 @@ commits_cases =
     explained keys (codes "1 begin\n1 insert a 1\n1 abort\n2 begin\n2 insert a 1\n") (codes "1 1 1 at 0\n1 1 2 ok\n1 1 3 aborted\n1 2 1 at 0\n1 2 2 conflict session 1\n") ∷
     -- smaller number, greater beside
     explained three_sessions (codes "1 begin\n--\n2 begin\n2 insert a 1\n2 commit\n--\n2 begin\n2 update a 1\n2 commit\n1 update a 1\n") (codes "1 1 1 at 0\n2 2 1 at 0\n2 2 2 ok\n2 2 3 committed 1\n3 1 1 conflict #1\n3 2 1 at 1\n3 2 2 ok\n3 2 3 committed 2\n") ∷
+    -- rival ends beside the accepted write
+    explained keys (codes "1 begin\n2 begin\n2 insert a 1\n--\n1 insert a 1\n2 abort\n") (codes "1 1 1 at 0\n1 2 1 at 0\n1 2 2 ok\n2 1 1 ok\n2 2 1 aborted\n") ∷
+    -- rival ends after the accepted write
+    fails_at 4 keys (codes "1 begin\n2 begin\n2 insert a 1\n--\n1 insert a 1\n--\n2 abort\n") (codes "1 1 1 at 0\n1 2 1 at 0\n1 2 2 ok\n2 1 1 ok\n3 2 1 aborted\n") ∷
+    -- rival writes after the conflict
+    fails_at 2 keys (codes "1 begin\n1 insert a 1\n2 begin\n--\n2 insert a 1\n") (codes "1 1 1 at 0\n1 1 2 conflict session 2\n1 2 1 at 0\n2 2 1 ok\n") ∷
+    -- commit after the conflict that names it
+    fails_at 2 keys (codes "1 begin\n1 insert a 1\n2 begin\n--\n2 insert a 1\n2 commit\n") (codes "1 1 1 at 0\n1 1 2 conflict #1\n1 2 1 at 0\n2 2 1 ok\n2 2 2 committed 1\n") ∷
     -- missing beside a commit
     explained keys (codes "1 begin\n--\n1 update a 1\n2 begin\n2 insert a 1\n2 commit\n") (codes "1 1 1 at 0\n2 1 1 missing\n2 2 1 at 0\n2 2 2 ok\n2 2 3 committed 1\n") ∷
     -- missing after a commit

@@ -20,6 +20,10 @@ snapshots_cases =
     explained keys (codes "1 begin\n1 insert a 1\n--\n2 begin\n2 get a 1\n--\n1 get a 1\n1 commit\n--\n2 get a 1\n") (codes "1 1 1 at 0\n1 1 2 ok\n2 2 1 at 0\n2 2 2 none\n3 1 1 row 1\n3 1 2 committed 1\n4 2 1 none\n") ∷
     -- scan of another table
     explained two_tables (codes "1 begin\n1 insert a 1\n1 insert b 2\n1 scan b\n") (codes "1 1 1 at 0\n1 1 2 ok\n1 1 3 ok\n1 1 4 rows 1\n| 2\n") ∷
+    -- a row that stands is missing
+    fails_at 3 keys (codes "1 begin\n1 insert a 1\n1 update a 1\n") (codes "1 1 1 at 0\n1 1 2 ok\n1 1 3 missing\n") ∷
+    -- a row that stands is none
+    fails_at 3 keys (codes "1 begin\n1 insert a 1\n1 get a 1\n") (codes "1 1 1 at 0\n1 1 2 ok\n1 1 3 none\n") ∷
     -- gone in a scan
     explained keys (codes "1 begin\n1 insert a 1\n1 commit\n--\n1 begin\n1 delete a 1\n1 scan a\n") (codes "1 1 1 at 0\n1 1 2 ok\n1 1 3 committed 1\n2 1 1 at 1\n2 1 2 ok\n2 1 3 rows 0\n") ∷
     -- snapshot below its own conflict's number
