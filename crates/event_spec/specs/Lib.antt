@@ -1,0 +1,12 @@
+pub mod Parts
+pub mod Judged
+pub mod Effects
+pub mod Replies
+pub mod Plans
+pub mod Touched
+pub mod Lawful
+pub mod Replay
+pub mod SlotSound
+pub mod Follows
+pub mod Sound
+pub mod Examples
