@@ -1,0 +1,93 @@
+// Messages as they are framed (Arrow columnar format, "Encapsulated message format").
+ghost use Rattle.std.specs.Prelude.{◌≡◌, ◌<◌, ◌≤◌, ◌^◌, IfOk, MatchResult, Ok, Err, length};
+ghost use Rattle.ipc_read.specs.Frames.{frame_value, metadata_of};
+ghost use Rattle.stream_spec.specs.Streams.{due_head, frame_of, is_of_kind, sized};
+
+use crate::faults::cause_of;
+use arrow_meta::read_head;
+use byteorder::{ByteOrder, LittleEndian};
+use stream_spec::{Cause, Head, HeadKind};
+
+// A message: its metadata, and the bytes behind that, with which its body begins; or none, at the end.
+#[derive(Clone, Copy)]
+pub enum Frame<'a> {
+    Ended,
+    Framed { metadata: &'a [u8], rest: &'a [u8] },
+}
+
+// What stands behind a message's first eight bytes, whose size word this is.
+fn sized_frame(first: bool, size: u32, rest: &[u8]) -> Result<Frame<'_>, Cause>
+    ensures short { IfOk result (λ f. length (metadata_of f) < 2 ^ 31) }
+    ensures frame { MatchResult result (λ f. sized first size rest.now ≡ Ok (frame_value f)) (λ c. sized first size rest.now ≡ Err c) }
+{
+    if size == 0 {
+        return if first {
+            Err(Cause::Short)
+        } else {
+            Ok(Frame::Ended)
+        };
+    }
+    if size >= 1 << 31 {
+        return Err(Cause::Flat);
+    }
+    let size = size as usize;
+    if size > rest.len() {
+        return Err(Cause::Short);
+    }
+    Ok(Frame::Framed {
+        metadata: &rest[..size],
+        rest: &rest[size..],
+    })
+}
+
+// The next message. The stream ends with the input or with a size of 0, but not before its first message.
+pub fn next_frame(first: bool, bytes: &[u8]) -> Result<Frame<'_>, Cause>
+    ensures short { IfOk result (λ f. length (metadata_of f) < 2 ^ 31) }
+    ensures frame { MatchResult result (λ f. frame_of first bytes.now ≡ Ok (frame_value f)) (λ c. frame_of first bytes.now ≡ Err c) }
+{
+    if bytes.is_empty() {
+        return if first {
+            Err(Cause::Short)
+        } else {
+            Ok(Frame::Ended)
+        };
+    }
+    if bytes.len() < 4 {
+        return Err(Cause::Short);
+    }
+    if &bytes[..4] != [0xff; 4].as_slice() {
+        return Err(Cause::Marker);
+    }
+    if bytes.len() < 8 {
+        return Err(Cause::Short);
+    }
+    sized_frame(first, LittleEndian::read_u32(&bytes[4..]), &bytes[8..])
+}
+
+// The head is of this kind.
+fn is_of_kind(due: HeadKind, kind: HeadKind) -> bool
+    ensures { result ≡ is_of_kind due kind }
+{
+    match (due, kind) {
+        (HeadKind::Schema, HeadKind::Schema) | (HeadKind::Batch, HeadKind::Batch) => true,
+        (HeadKind::Schema, HeadKind::Batch) | (HeadKind::Batch, HeadKind::Schema) => false,
+    }
+}
+
+// A message's head, of the kind that is due, with its body whole.
+pub fn due_head(due: HeadKind, metadata: &[u8], rest: &[u8]) -> Result<Head, Cause>
+    ensures head { result ≡ due_head due metadata.now rest.now }
+    ensures whole { IfOk result (λ h. h.body ≤ length rest.now) }
+{
+    let head = match read_head(metadata) {
+        Ok(head) => head,
+        Err(fault) => return Err(cause_of(fault)),
+    };
+    if !is_of_kind(due, head.kind) {
+        return Err(Cause::Shape);
+    }
+    if head.body > rest.len() as u64 {
+        return Err(Cause::Short);
+    }
+    Ok(head)
+}

@@ -1,0 +1,66 @@
+//! The schema message with which a stream begins.
+ghost use Rattle.std.specs.Prelude.{◌≡◌, IfOk, IsErrOf, Ok, Err};
+ghost use Rattle.stream_spec.specs.Streams.{first_schema};
+ghost use Rattle.stream_spec.specs.declared.fault.Cause.{Cause as CauseValue};
+
+use crate::faults::NotRead;
+use crate::frames::{Frame, due_head, next_frame};
+use arrow_meta::read_schema;
+use cell_model::Column;
+use std::alloc::Global;
+use std::marker::Model;
+use stream_spec::{Cause, HeadKind};
+
+/// A stream's columns, and how many bytes its schema's message has.
+#[derive(Debug, Drop)]
+pub struct SchemaMessage {
+    columns: Vec<Column>,
+    size: u64,
+}
+
+impl Model for SchemaMessage {
+    ghost use Rattle.stream_spec.specs.Streams.{SchemaRead};
+
+    ghost Value = { SchemaRead };
+
+    ghost view = { λ s. record { columns = s.columns.items; size = s.size } };
+}
+
+impl SchemaMessage {
+    /// The columns, lent.
+    pub fn columns(&self) -> &[Column]
+        ensures { result.now ≡ self.now.columns }
+    {
+        self.columns.as_slice()
+    }
+
+    /// How many bytes the message has; the first batch stands behind them.
+    pub fn size(&self) -> u64
+        ensures { result ≡ self.now.size }
+    {
+        self.size
+    }
+
+    /// Gives the columns back.
+    pub fn into_columns(self) -> Vec<Column>
+        ensures { result.items ≡ self.columns }
+    {
+        let SchemaMessage { columns, size: _ } = self;
+        columns
+    }
+}
+
+/// The schema with which the bytes begin, or the cause that they are no stream.
+pub fn first_schema(alloc: Global, bytes: &[u8]) -> Result<SchemaMessage, NotRead>
+    ensures ok { IfOk result (λ schema. first_schema bytes.now ≡ Ok schema) }
+    ensures fault { (cause : CauseValue) → IsErrOf result (NotRead.Fault cause) → first_schema bytes.now ≡ Err cause }
+{
+    let Frame::Framed { metadata, rest } = next_frame(true, bytes)? else {
+        return Err(NotRead::Fault(Cause::Short));
+    };
+    let head = due_head(HeadKind::Schema, metadata, rest)?;
+    Ok(SchemaMessage {
+        columns: read_schema(alloc, metadata, head.header)?,
+        size: 8 + metadata.len() as u64 + head.body,
+    })
+}
