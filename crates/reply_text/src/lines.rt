@@ -5,8 +5,8 @@ ghost use Rattle.workload_spec.specs.ReplyText.{row_line, lines_behind, who_text
 
 use crate::said::put_said;
 use cell_model::{Bytes, Row, TableDecl};
-use script_text::{put_cells, put_natural, put_number};
 use std::alloc::{AllocError, Global};
+use word_text::{put_cells, put_natural, put_number};
 use workload_spec::{ReplyLine, Said, Who};
 
 /// The text of a reply.

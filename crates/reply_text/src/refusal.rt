@@ -2,8 +2,8 @@
 ghost use Rattle.std.specs.Prelude.{◌≡◌, ◌++◌, OnOk};
 ghost use Rattle.workload_spec.specs.Grammar.{cause_word, refused_text};
 
-use script_text::put_number;
 use std::alloc::AllocError;
+use word_text::put_number;
 use workload_spec::Cause;
 
 /// Puts the line of a refusal behind `out`: `refused`, the first line that is none of a workload, counted from 1,

@@ -4,12 +4,12 @@ ghost use Rattle.std.specs.Fmt.{signed_decimal};
 ghost use Rattle.workload_spec.specs.Words.{cell_words};
 ghost use Rattle.workload_spec.specs.ScriptText.{name_of_table};
 ghost use Rattle.workload_spec.specs.ReplyText.{said_words, cause_text};
-ghost use Rattle.script_text.specs.Cursor.{behind_spaces};
+ghost use Rattle.word_text.specs.Words.{behind_spaces};
 ghost use Rattle.reply_text.specs.Upkeep.{is_upkeep};
 
 use cell_model::{Row, TableDecl};
-use script_text::{put_cells, put_key, put_natural, put_number, put_table_name};
 use std::alloc::AllocError;
+use word_text::{put_cells, put_key, put_natural, put_number, put_table_name};
 use workload_spec::{Said, SealCause};
 
 /// The words of a reply; those of a scan are its first line's.

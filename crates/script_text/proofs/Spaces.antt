@@ -8,15 +8,9 @@ use Rattle.workload_spec.specs.declared.script.Line.{Line}
 use Rattle.workload_spec.specs.declared.script.Script.{Script}
 use Rattle.workload_spec.specs.Words.{spaced, line_feed, lines_text}
 use Rattle.workload_spec.specs.ScriptText.{column_text, table_text, line_text, round_lines, script_text}
-use Rattle.script_text.specs.Cursor.{behind_spaces, rounds_behind}
-
-pub spaced_first : (word : List ℕ) (words : List (List ℕ)) → spaced (word ∷ words) ≡ word ++ behind_spaces words
-spaced_first word [] = sym (append-nil word)
-spaced_first word (next ∷ words) = ap (λ (text : List ℕ). word ++ 32 ∷ text) (spaced_first next words)
-
-pub behind_spaces-append : (words more : List (List ℕ)) → behind_spaces (words ++ more) ≡ behind_spaces words ++ behind_spaces more
-behind_spaces-append [] more = refl
-behind_spaces-append (word ∷ words) more = ap (λ (text : List ℕ). 32 ∷ (word ++ text)) (behind_spaces-append words more) ∙ ap (λ (text : List ℕ). 32 ∷ text) (sym (append_assoc word (behind_spaces words) (behind_spaces more)))
+use Rattle.script_text.specs.Cursor.{rounds_behind}
+use Rattle.word_text.specs.Words.{behind_spaces}
+use Rattle.word_text.proofs.Spaces.{spaced_first, behind_spaces-append}
 
 pub lines-append : (lines more : List (List ℕ)) → lines_text (lines ++ more) ≡ lines_text lines ++ lines_text more
 lines-append lines more = flat_map-append (λ (line : List ℕ). line ++ line_feed ∷ []) lines more

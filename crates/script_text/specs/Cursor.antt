@@ -17,11 +17,6 @@ word_end position [] = 0
 word_end position (byte ∷ bytes) =
     if byte == space && is_outside position then 0 else word_end (position_after position byte) bytes + 1
 
--- words, each behind a space
-abbrev pub behind_spaces : List (List ℕ) → List ℕ
-behind_spaces [] = []
-behind_spaces (word ∷ words) = space ∷ (word ++ behind_spaces words)
-
 -- the lines of rounds, each round behind a line `--`
 abbrev pub rounds_behind : List TableDecl → List (List Line) → List ℕ
 rounds_behind tables [] = []

@@ -22,7 +22,7 @@ mod words;
 pub use checking::parse_checked;
 pub use fault::ScriptFault;
 pub use parsing::parse;
-pub use printing::{print, put_cells, put_key, put_natural, put_number, put_table_name};
+pub use printing::print;
 
 #[cfg(test)]
 mod tests;

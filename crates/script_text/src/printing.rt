@@ -1,145 +1,15 @@
 //! The text of a script.
-ghost use Rattle.std.specs.Prelude.{◌≡◌, ◌++◌, ◌∷◌, [], codes, decimal, flat_map, map, OnOk, IfOk, length, ◌<◌};
+ghost use Rattle.std.specs.Prelude.{◌≡◌, ◌++◌, ◌∷◌, [], codes, decimal, map, OnOk, IfOk};
 ghost use Rattle.std.specs.Fmt.{signed_decimal};
-ghost use Rattle.std.specs.Char.{digit_char};
-ghost use Rattle.workload_spec.specs.Words.{escaped, quoted, hex_digits, cell_text, cell_words, spaced, lines_text};
+ghost use Rattle.workload_spec.specs.Words.{cell_words, spaced, lines_text};
 ghost use Rattle.workload_spec.specs.ScriptText.{kind_text, column_text, table_text, name_of_table, command_words, line_text, round_lines, script_text};
-ghost use Rattle.script_text.specs.Cursor.{behind_spaces, rounds_behind};
+ghost use Rattle.script_text.specs.Cursor.{rounds_behind};
+ghost use Rattle.word_text.specs.Words.{behind_spaces};
 
-use cell_model::{Bytes, Cell, Column, Kind, Row, TableDecl};
-use itoa::Buffer;
+use cell_model::{Bytes, Column, Kind, Row, TableDecl};
 use std::alloc::{AllocError, Global};
+use word_text::{put_cells, put_key, put_natural, put_number, put_table_name, put_word};
 use workload_spec::{Command, Line, Round, Script};
-
-/// The digits of a number.
-pub fn put_natural(out: &mut Vec<u8>, number: u64) -> Result<(), AllocError>
-    ensures { OnOk result (out.new.items ≡ out.old.items ++ decimal number) }
-{
-    let mut buffer = Buffer::new();
-    out.extend_from_slice(buffer.format(number).as_bytes())
-}
-
-fn put_integer(out: &mut Vec<u8>, number: i128) -> Result<(), AllocError>
-    ensures { OnOk result (out.new.items ≡ out.old.items ++ signed_decimal number) }
-{
-    let mut buffer = Buffer::new();
-    out.extend_from_slice(buffer.format(number).as_bytes())
-}
-
-/// Two lower-case hexadecimal digits.
-fn put_hex(out: &mut Vec<u8>, byte: u8) -> Result<(), AllocError>
-    ensures { OnOk result (out.new.items ≡ out.old.items ++ hex_digits byte) }
-{
-    out.push(hex_digit(byte / 16))?;
-    out.push(hex_digit(byte % 16))?;
-    Ok(())
-}
-
-fn hex_digit(digit: u8) -> u8
-    requires { digit < 16 }
-    ensures { result ≡ digit_char digit }
-{
-    if digit < 10 {
-        b'0' + digit
-    } else {
-        b'a' - 10 + digit
-    }
-}
-
-fn put_escaped(out: &mut Vec<u8>, byte: u8) -> Result<(), AllocError>
-    ensures { OnOk result (out.new.items ≡ out.old.items ++ escaped byte) }
-{
-    if byte == b'"' || byte == b'\\' {
-        out.push(b'\\')?;
-        out.push(byte)?;
-    } else if byte < 0x20 || byte == 0x7f {
-        out.extend_from_slice(b"\\x")?;
-        put_hex(out, byte)?;
-    } else {
-        out.push(byte)?;
-    }
-    Ok(())
-}
-
-/// A text between quotes.
-fn put_quoted(out: &mut Vec<u8>, text: &[u8]) -> Result<(), AllocError>
-    ensures { OnOk result (out.new.items ≡ out.old.items ++ quoted text.now) }
-{
-    out.push(b'"')?;
-    for byte in text {
-        put_escaped(out, *byte)?;
-    }
-    out.push(b'"')?;
-    Ok(())
-}
-
-fn put_blob(out: &mut Vec<u8>, bytes: &[u8]) -> Result<(), AllocError>
-    ensures { OnOk result (out.new.items ≡ out.old.items ++ 120 ∷ flat_map hex_digits bytes.now) }
-{
-    out.push(b'x')?;
-    for byte in bytes {
-        put_hex(out, *byte)?;
-    }
-    Ok(())
-}
-
-fn put_cell(out: &mut Vec<u8>, cell: &Cell) -> Result<(), AllocError>
-    ensures { OnOk result (out.new.items ≡ out.old.items ++ cell_text cell.now) }
-{
-    match cell {
-        Cell::Null => out.extend_from_slice(b"null"),
-        Cell::Num(number) => put_integer(out, *number),
-        Cell::Truth(true) => out.extend_from_slice(b"true"),
-        Cell::Truth(false) => out.extend_from_slice(b"false"),
-        Cell::Text(text) => put_quoted(out, text.as_slice()),
-        Cell::Blob(bytes) => put_blob(out, bytes.as_slice()),
-    }
-}
-
-/// The cells, each behind a space.
-pub fn put_cells(out: &mut Vec<u8>, cells: &[Cell]) -> Result<(), AllocError>
-    ensures { OnOk result (out.new.items ≡ out.old.items ++ behind_spaces (cell_words cells.now)) }
-{
-    for cell in cells {
-        out.push(b' ')?;
-        put_cell(out, cell)?;
-    }
-    Ok(())
-}
-
-fn put_word(out: &mut Vec<u8>, word: &[u8]) -> Result<(), AllocError>
-    ensures { OnOk result (out.new.items ≡ out.old.items ++ 32 ∷ word.now) }
-{
-    out.push(b' ')?;
-    out.extend_from_slice(word)
-}
-
-/// A number behind a space.
-pub fn put_number(out: &mut Vec<u8>, number: u64) -> Result<(), AllocError>
-    ensures { OnOk result (out.new.items ≡ out.old.items ++ 32 ∷ decimal number) }
-{
-    out.push(b' ')?;
-    put_natural(out, number)
-}
-
-/// A key behind a space.
-pub fn put_key(out: &mut Vec<u8>, key: i64) -> Result<(), AllocError>
-    ensures { OnOk result (out.new.items ≡ out.old.items ++ 32 ∷ signed_decimal key) }
-{
-    out.push(b' ')?;
-    put_integer(out, key as i128)
-}
-
-/// The name of a table by its place, behind a space; nothing more than the space where no table has this place.
-pub fn put_table_name(out: &mut Vec<u8>, tables: &[TableDecl], place: u32) -> Result<(), AllocError>
-    ensures { OnOk result (out.new.items ≡ out.old.items ++ 32 ∷ name_of_table tables.now place) }
-{
-    out.push(b' ')?;
-    match tables.get(place as usize) {
-        Some(table) => out.extend_from_slice(table.name.as_slice()),
-        None => Ok(()),
-    }
-}
 
 fn put_of_table(
     out: &mut Vec<u8>,

@@ -1,6 +1,6 @@
 use Rattle.std.proofs.Common.{rules, append_assoc, ◌∷◌, decimal}
 use Rattle.workload_spec.specs.ReplyText.{said_words, who_text}
-use Rattle.script_text.proofs.Spaces.{spaced_first}
+use Rattle.word_text.proofs.Spaces.{spaced_first}
 use Rattle.reply_text.proofs.lines.put_line.Goals as goal
 
 pub returns : goal.returns

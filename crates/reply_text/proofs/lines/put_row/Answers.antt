@@ -1,6 +1,6 @@
 use Rattle.std.proofs.Common.{rules, append_assoc, codes}
 use Rattle.workload_spec.specs.Words.{cell_words}
-use Rattle.script_text.proofs.Spaces.{spaced_first}
+use Rattle.word_text.proofs.Spaces.{spaced_first}
 use Rattle.reply_text.proofs.lines.put_row.Goals as goal
 
 pub returns : goal.returns

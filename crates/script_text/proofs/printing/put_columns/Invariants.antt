@@ -1,6 +1,6 @@
 use Rattle.std.proofs.Common.{◌≡◌, ◌++◌, drop, map}
 use Rattle.workload_spec.specs.ScriptText.{column_text}
-use Rattle.script_text.specs.Cursor.{behind_spaces}
+use Rattle.word_text.specs.Words.{behind_spaces}
 use Rattle.script_text.proofs.printing.put_columns.Given as goal
 
 abbrev pub invariant-loop-column : goal.invariant-loop-column

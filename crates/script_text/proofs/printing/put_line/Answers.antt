@@ -1,6 +1,6 @@
 use Rattle.std.proofs.Common.{rules, append_assoc, decimal}
 use Rattle.workload_spec.specs.ScriptText.{command_words}
-use Rattle.script_text.proofs.Spaces.{spaced_first}
+use Rattle.word_text.proofs.Spaces.{spaced_first}
 use Rattle.script_text.proofs.printing.put_line.Goals as goal
 
 pub returns : goal.returns

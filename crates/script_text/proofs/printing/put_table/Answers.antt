@@ -1,7 +1,7 @@
 use Rattle.std.proofs.Common.{◌++◌, ◌∷◌, ap, ◌∙◌, map, List, ℕ}
 use Rattle.cell_model.specs.declared.column.Column.{Column}
 use Rattle.workload_spec.specs.ScriptText.{column_text}
-use Rattle.script_text.specs.Cursor.{behind_spaces}
+use Rattle.word_text.specs.Words.{behind_spaces}
 use Rattle.script_text.proofs.Spaces.{table_line}
 use Rattle.script_text.proofs.printing.put_table.Goals as goal
 
