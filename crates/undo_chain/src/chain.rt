@@ -1,4 +1,4 @@
-ghost use Rattle.std.specs.Prelude.{◌≡◌, ◌≢◌, ◌<◌, ◌≤◌, ◌++◌, [], ◌∷◌, not, false, OnOk, IsTrue, OnSome, IfSome, IsSome, ◌↔◌, ℕ, IfNone, IsOk, is_some, length, drop, take, map, filter, count_by, reverse, option_to_list};
+ghost use Rattle.std.specs.Prelude.{◌≡◌, ◌≢◌, ◌<◌, ◌≤◌, ◌++◌, [], ◌∷◌, not, false, OnOk, IsTrue, OnSome, IfSome, IsSome, ◌↔◌, ℕ, IfNone, IsOk, is_some, length, drop, take, map, filter, count_by, reverse, option_to_list, max};
 ghost use Rattle.std.specs.List.{list_any};
 ghost use Rattle.undo_chain.specs.Entry.{is_own, is_stamped_by, is_in_view};
 ghost use Rattle.undo_chain.specs.Visible.{images_laid_back};
@@ -84,13 +84,19 @@ impl<D> Chain<D> {
         true
     }
 
-    /// Makes room for one more entry. The entries stay, also where there is no memory for it.
+    /// Makes room for one more entry, in a chain without entries for one alone, since most chains come
+    /// to no more. The entries stay, also where there is no memory for it.
     pub fn reserve(&mut self) -> Result<(), AllocError>
         ensures entries { self.new.entries ≡ self.old.entries }
         ensures ok { OnOk result (length self.new.entries < self.new.room) }
+        ensures first { OnOk result (length self.old.entries ≡ 0 → self.new.room ≡ max self.old.room 1) }
         ensures succeeds { length self.old.entries < self.old.room → IsOk result }
     {
-        self.oldest_first.reserve(1)
+        if self.oldest_first.is_empty() {
+            self.oldest_first.reserve_exact(1)
+        } else {
+            self.oldest_first.reserve(1)
+        }
     }
 
     /// Adds the entry of a change that is made with it, for which room was reserved. A reader that has

@@ -1,4 +1,3 @@
-mod laws;
 mod worked;
 
 ghost use Rattle.undo_chain.specs.Lawful.{IsLawful};

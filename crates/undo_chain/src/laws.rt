@@ -7,8 +7,8 @@ ghost use Rattle.undo_chain.specs.Visible.{visible_row};
 ghost use Rattle.undo_chain.specs.Lawful.{IsLawful};
 ghost use Rattle.undo_chain.specs.Stamped.{stamped};
 
-// A change whose before-image undoes it is seen by nobody who has its entry not in view; and the other
-// way round, laying the image of an entry back as the entry is taken off.
+/// A change whose before-image undoes it is seen by nobody who has its entry not in view; and the
+/// other way round, laying the image of an entry back as the entry is taken off.
 pub fn a_change_with_its_entry<Row, D>()
     ensures { (lay_back : Row → D → Row) (row changed : Row) (undo : UndoOf D) (entries : List (UndoOf D))
         (stamp session : ℕ) → lay_back changed undo.before ≡ row → is_in_view undo stamp session ≡ false →
@@ -16,7 +16,7 @@ pub fn a_change_with_its_entry<Row, D>()
         visible_row lay_back row entries stamp session }
 {}
 
-// An uncommitted write is in no other session's view, and an entry with a stamp in none below it.
+/// An uncommitted write is in no other session's view, and an entry with a stamp in none below it.
 pub fn entries_out_of_view<D>()
     ensures open { (undo : UndoOf D) (stamp session : ℕ) → IsTrue (is_own undo undo.session) →
         session ≢ undo.session → is_in_view undo stamp session ≡ false }
@@ -24,7 +24,7 @@ pub fn entries_out_of_view<D>()
         is_in_view undo stamp session ≡ false }
 {}
 
-// A commit is seen by no other session below its stamp.
+/// A commit is seen by no other session below its stamp.
 pub fn a_commit<Row, D>()
     ensures { (lay_back : Row → D → Row) (row : Row) (entries : List (UndoOf D)) (session commit number stamp me : ℕ) →
         me ≢ session → stamp < commit →
@@ -32,7 +32,7 @@ pub fn a_commit<Row, D>()
         visible_row lay_back row entries stamp me }
 {}
 
-// Pruning is seen by nobody at that stamp or later.
+/// Pruning is seen by nobody at that stamp or later.
 pub fn a_pruning<Row, D>()
     ensures { (lay_back : Row → D → Row) (row : Row) (entries : List (UndoOf D)) (oldest stamp me : ℕ) →
         IsLawful entries → oldest ≤ stamp →

@@ -2,7 +2,7 @@ use Rattle.std.proofs.Common.{not, filter}
 use Rattle.undo_chain.specs.Entry.{is_stamped_by}
 use Rattle.undo_chain.proofs.Rows.{visible_row-same}
 use Rattle.undo_chain.proofs.Views.{images_after_prune}
-use Rattle.undo_chain.proofs.tests.laws.a_pruning.Goals as goal
+use Rattle.undo_chain.proofs.laws.a_pruning.Goals as goal
 
 pub returns : goal.returns
 returns g c =

@@ -2,7 +2,7 @@ use Rattle.std.proofs.Common.{map}
 use Rattle.undo_chain.specs.Stamped.{stamped}
 use Rattle.undo_chain.proofs.Rows.{visible_row-same}
 use Rattle.undo_chain.proofs.Views.{images_after_commit}
-use Rattle.undo_chain.proofs.tests.laws.a_commit.Goals as goal
+use Rattle.undo_chain.proofs.laws.a_commit.Goals as goal
 
 pub returns : goal.returns
 returns g c =
