@@ -1,0 +1,15 @@
+pub mod Later
+pub mod Overlays
+pub mod Machines
+pub mod Desks
+pub mod Firsts
+pub mod Begins
+pub mod Aborts
+pub mod Commits
+pub mod Sessions
+pub mod Finds
+pub mod Accepts
+pub mod Writes
+pub mod Prunes
+pub mod Moves
+pub mod Stepping

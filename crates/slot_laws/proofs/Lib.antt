@@ -1,0 +1,10 @@
+pub mod Keys
+pub mod Views
+pub mod Endings
+pub mod Kept
+pub mod Written
+pub mod Prunings
+pub mod Halves
+pub mod Others
+pub mod Patches
+pub mod Meetings
