@@ -1,5 +1,5 @@
 -- A message is read as its metadata and what follows it; the end word and the end of the input end the stream.
-use Rattle.std.proofs.Common.{◌≡◌, ℕ, zero, suc, ◌+◌, ◌-◌, ◌^◌, ◌<◌, ◌≤◌, Bool, true, List, [], ◌++◌, length, take, drop, replicate, refl, ap, ◌∙◌, arith, append_assoc, length-append, Ok}
+use Rattle.std.proofs.Common.{◌≡◌, ℕ, zero, suc, ◌+◌, ◌-◌, ◌^◌, ◌<◌, ◌≤◌, Bool, true, false, List, [], ◌++◌, length, take, drop, replicate, refl, ap, ◌∙◌, arith, append_assoc, length-append, Ok}
 use Rattle.std.specs.Prelude.{nat_lt, nat_le}
 use Rattle.std.specs.Int.{next_multiple_of}
 use Rattle.std.proofs.lemmas.List.{length-replicate, take_at, drop_at}
@@ -7,11 +7,11 @@ use Rattle.std.proofs.lemmas.Bool.{le-leb, lt-ltb}
 use Rattle.byteorder.specs.Numbers.{little_number-reads_back}
 use Rattle.arrow_spec.specs.Bytes.{padded}
 use Rattle.arrow_spec.specs.Metadata.{Header, flatbuffer_of}
-use Rattle.arrow_spec.specs.Streams.{message}
+use Rattle.arrow_spec.specs.Streams.{end_word, message}
 use Rattle.flat_read.specs.Reading.{number_from}
 use Rattle.stream_spec.specs.declared.message.HeadKind.{HeadKind}
 use Rattle.stream_spec.specs.declared.message.HeadKind.TheVariants as kind
-use Rattle.stream_spec.specs.Streams.{framed, sized, frame_of, is_of_kind, due_head}
+use Rattle.stream_spec.specs.Streams.{ended, framed, sized, frame_of, is_of_kind, due_head}
 use Rattle.stream_laws.proofs.Pieces.{has-between}
 use Rattle.stream_laws.proofs.Messages.{HasMessage, header_laid, kind_of, message-there, head-read}
 
@@ -41,6 +41,13 @@ message-framed first metadata body rest some small =
     let parts : tail ≡ padded metadata ++ (body ++ rest) = append_assoc (padded metadata) body rest in
     rw (four, eight, size)
     (ap (sized first (length (padded metadata))) parts ∙ sized-read first (length (padded metadata)) (padded metadata) (body ++ rest) refl some small)
+
+-- the end word, whatever follows it
+pub end-framed : (after : List ℕ) → frame_of false (end_word ++ after) ≡ Ok ended
+end-framed after =
+    let four : nat_le 4 (length (end_word ++ after)) ≡ true = le-leb 4 (length (end_word ++ after)) (omega arith) in
+    let eight : nat_le 8 (length (end_word ++ after)) ≡ true = le-leb 8 (length (end_word ++ after)) (omega arith) in
+    rw (four, eight) refl
 
 -- how long a message is
 pub length-message : (metadata body : List ℕ) → length (message metadata body) ≡ 8 + length (padded metadata) + length body

@@ -6,3 +6,12 @@ pub mod Schemas
 pub mod Frames
 pub mod Sizes
 pub mod SchemaMessages
+pub mod BatchTables
+pub mod Bitmaps
+pub mod Parts
+pub mod Cells
+pub mod Buffers
+pub mod Rows
+pub mod BodySizes
+pub mod BatchMessages
+pub mod Streams

@@ -1,7 +1,10 @@
 -- Bytes that have a piece at a place, and the numbers that are read there.
-use Rattle.std.proofs.Common.{◌≡◌, ℕ, ◌+◌, ◌-◌, ◌^◌, ◌<◌, ◌≤◌, List, [], ◌++◌, length, take, drop, get_or, sym, ap, ◌∙◌, arith, append-nil, length-append, length-drop}
+use Rattle.std.proofs.Common.{ℤ, pos, negsuc, ◌≡◌, ℕ, ◌+◌, ◌-◌, ◌^◌, ◌<◌, ◌≤◌, List, [], ◌++◌, length, take, drop, get_or, sym, ap, ◌∙◌, arith, append-nil, length-append, length-drop}
 use Rattle.std.proofs.lemmas.List.{get_or-take, get_or-drop, get_or_append_left, get_or-append-add, length-take-le, ext_get_or}
-use Rattle.std.specs.Int.{Width, byte_len, to_le_bytes}
+use Rattle.std.specs.Int.{Width, w8, w16, w32, w64, w128, byte_len, cast_signed, cast_unsigned, to_le_bytes}
+use Rattle.std.proofs.lemmas.Int.{to_z-of_z}
+use mir.Val.{SFits}
+use Rattle.arrow_spec.specs.Bytes.{number_bytes}
 use Rattle.byteorder.specs.Endian.{little_number}
 use Rattle.byteorder.specs.Numbers.{length-bytes_low_first, little_from-take, little_number-reads_back}
 use Rattle.flat_read.specs.Reading.{number_from}
@@ -65,3 +68,23 @@ has-number bytes place width value small has =
     sym (little_from-take 0 size size (drop place bytes) (omega arith))
     ∙ ap (little_number size) (taken ∙ sym (append-nil piece))
     ∙ little_number-reads_back size value [] small
+
+-- a number with a sign fits a width as bits
+signed-bits : (width : Width) (value : ℤ) → SFits width value → cast_unsigned width value < 256 ^ byte_len width
+signed-bits w8 (pos n) fits = omega (arith, fits.sfits)
+signed-bits w8 (negsuc n) fits = omega (arith, fits.sfits)
+signed-bits w16 (pos n) fits = omega (arith, fits.sfits)
+signed-bits w16 (negsuc n) fits = omega (arith, fits.sfits)
+signed-bits w32 (pos n) fits = omega (arith, fits.sfits)
+signed-bits w32 (negsuc n) fits = omega (arith, fits.sfits)
+signed-bits w64 (pos n) fits = omega (arith, fits.sfits)
+signed-bits w64 (negsuc n) fits = omega (arith, fits.sfits)
+signed-bits w128 (pos n) fits = omega (arith, fits.sfits)
+signed-bits w128 (negsuc n) fits = omega (arith, fits.sfits)
+
+-- A number with a sign that stands at a place is read there.
+pub has-signed : (bytes : List ℕ) (place : ℕ) (width : Width) (value : ℤ) → SFits width value → Has bytes place (number_bytes width value)
+    → cast_signed width (number_from bytes place (byte_len width)) ≡ value
+has-signed bytes place width value fits has =
+    ap (cast_signed width) (has-number bytes place width (cast_unsigned width value) (signed-bits width value fits) has)
+    ∙ to_z-of_z width value fits

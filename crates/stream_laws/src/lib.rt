@@ -1,14 +1,36 @@
 //! Laws of Arrow streams: what the canonical bytes of a schema, a batch and a stream read as.
+//!
+//! Each function here is one law. It does nothing; its contract is the law.
 #![tactic(auto)]
 
-ghost use Rattle.stream_laws.specs.Laws.{OneReading, SchemaIsRead};
-
-/// Bytes are a stream of one schema with one list of batches at most.
-pub fn bytes_are_one_stream_at_most()
-    ensures { OneReading }
-{}
+ghost use Rattle.stream_laws.specs.Laws.{BatchIsRead, OneReading, SchemaIsRead, StreamEnds, StreamIsRead, TablesAreTold};
 
 /// A schema's message, whatever follows it, reads as its columns.
 pub fn a_schema_is_read_back()
     ensures { SchemaIsRead }
+{}
+
+/// A batch's message, whatever follows it, reads as its rows.
+pub fn a_batch_is_read_back()
+    ensures { BatchIsRead }
+{}
+
+/// A stream reads as its columns and exactly its batches.
+pub fn a_stream_is_read_back()
+    ensures { StreamIsRead }
+{}
+
+/// What follows a stream's end word is not looked at.
+pub fn a_stream_ends_with_its_end_word()
+    ensures { StreamEnds }
+{}
+
+/// The columns of a table are some that a stream can tell.
+pub fn the_columns_of_a_table_are_told()
+    ensures { TablesAreTold }
+{}
+
+/// Bytes are a stream of one schema with one list of batches at most.
+pub fn bytes_are_one_stream_at_most()
+    ensures { OneReading }
 {}

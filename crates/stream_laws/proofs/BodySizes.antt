@@ -1,0 +1,102 @@
+-- How many bytes the body of a batch has at most, so that each number that tells of it fits 64 bits with a sign.
+use Rattle.std.proofs.Common.{◌≡◌, ℕ, ◌+◌, ◌*◌, ◌^◌, ◌<◌, ◌≤◌, List, [], ◌∷◌, ◌++◌, length, map, get_or, ap, ◌∙◌, arith, inl, inr, length-append}
+use Rattle.std.specs.Prelude.{flat_map}
+use Rattle.std.proofs.lemmas.List.{length-map}
+use Rattle.std.proofs.lemmas.List.Concat.{flat_map-append}
+use Rattle.std.proofs.lemmas.List.Sums.{count_by-le-length}
+use Rattle.std.specs.Int.{Width, w8, w16, w32, w64, w128, byte_len, to_le_bytes}
+use Rattle.std.proofs.Math.Nat.{mul-le-mul_left}
+use Rattle.cell_model.specs.Kinds.{Values, signed, unsigned, truths, texts, blobs, values_of}
+use Rattle.cell_model.specs.Values.{is_null}
+use Rattle.cell_model.specs.declared.cell.Cell.{Cell}
+use Rattle.cell_model.specs.declared.cell.Cell.TheVariants.{Null}
+use Rattle.cell_model.specs.declared.column.Column.{Column}
+use Rattle.arrow_spec.specs.Arrays.{layout_in, data_buffers, validity, value_of, number_of, offsets, truth_of, null_count}
+use Rattle.arrow_spec.specs.Batches.{buffer_places, column_cells}
+use Rattle.arrow_spec.specs.Bytes.{bitmap, number_bytes, padded}
+use Rattle.stream_spec.specs.Columns.{bitmap_length}
+use Rattle.stream_laws.proofs.Frames.{length-padded}
+use Rattle.stream_laws.proofs.Parts.{length-pieces}
+use Rattle.stream_laws.proofs.Pieces.{length-number}
+use Rattle.stream_laws.proofs.BatchTables.{AllFit}
+use Rattle.stream_laws.proofs.Bitmaps.{length-bitmap, validity-long}
+use Rattle.stream_laws.proofs.Buffers.{HasBuffers, length-numbers}
+use Rattle.stream_laws.proofs.Cells.{Few, length-offsets, values-few}
+use Rattle.stream_laws.proofs.Rows.{AllFrom, buffers_from, column-slots, nodes_from}
+
+byte_len_small : (width : Width) → byte_len width ≤ 16
+byte_len_small w8 = omega arith
+byte_len_small w16 = omega arith
+byte_len_small w32 = omega arith
+byte_len_small w64 = omega arith
+byte_len_small w128 = omega arith
+
+-- a buffer with its padding
+padded-short : (buffer : List ℕ) → length (padded buffer) ≤ length buffer + 7
+padded-short buffer = omega (arith, length-padded buffer)
+
+one-short : (most : ℕ) (buffer : List ℕ) → length buffer ≤ most → length (flat_map padded (buffer ∷ [])) ≤ most + 7
+one-short most buffer short = omega (arith, length-append (padded buffer) [], padded-short buffer)
+
+numbers-short : (width : Width) (cells : List Cell) → length cells ≤ 2 ^ 15 → length (flat_map (λ cell. number_bytes width (number_of cell)) cells) ≤ 2 ^ 19
+numbers-short width cells few =
+    let product : length cells * byte_len width ≤ length cells * 16 = mul-le-mul_left (length cells) (byte_len_small width) in
+    omega (arith, length-numbers width cells, product)
+
+validity-short : (cells : List Cell) → length cells ≤ 2 ^ 15 → length (validity cells) ≤ 2 ^ 13
+validity-short cells few = elim (validity-long cells) [ inl none ↦ omega arith | inr all ↦ omega arith ]
+
+variable-short : (cells : List Cell) → length cells ≤ 2 ^ 15 → Few cells
+    → length (flat_map padded (flat_map (to_le_bytes w32) (offsets 0 cells) ∷ flat_map value_of cells ∷ [])) ≤ 2 ^ 31 + 2 ^ 20
+variable-short cells few values =
+    let ends : List ℕ = flat_map (to_le_bytes w32) (offsets 0 cells) in
+    let long : length ends ≡ length (offsets 0 cells) * 4 = length-pieces (to_le_bytes w32) 4 (offsets 0 cells) (length-number w32) in
+    let rest = one-short (length (flat_map value_of cells)) (flat_map value_of cells) (omega arith) in
+    omega (arith, length-append (padded ends) (flat_map padded (flat_map value_of cells ∷ [])), padded-short ends, long, length-offsets 0 cells, rest)
+
+data-short : (values : Values) (cells : List Cell) → length cells ≤ 2 ^ 15 → Few cells → length (flat_map padded (data_buffers (layout_in values) cells)) ≤ 2 ^ 31 + 2 ^ 20
+data-short (signed width) cells few values =
+    omega (arith, one-short (2 ^ 19) (flat_map (λ cell. number_bytes width (number_of cell)) cells) (numbers-short width cells few))
+data-short (unsigned width) cells few values =
+    omega (arith, one-short (2 ^ 19) (flat_map (λ cell. number_bytes width (number_of cell)) cells) (numbers-short width cells few))
+data-short truths cells few values =
+    let long : length (bitmap (map truth_of cells)) ≡ bitmap_length (length cells) = length-bitmap (map truth_of cells) ∙ ap bitmap_length (length-map cells truth_of) in
+    omega (arith, one-short (2 ^ 13) (bitmap (map truth_of cells)) (omega arith))
+data-short texts cells few values = variable-short cells few values
+data-short blobs cells few values = variable-short cells few values
+
+-- the buffers of the columns, counted from a number on
+pub body-short : (k : ℕ) (columns : List Column) (rows : List (List Cell)) → length rows ≤ 2 ^ 15 → AllFrom k columns rows
+    → length (flat_map padded (buffers_from k columns rows)) ≤ 2 ^ 32 * length columns
+body-short k [] rows few all = omega arith
+body-short k (column ∷ columns) rows few all =
+    let values : Values = values_of column.kind in
+    let cells : List Cell = column_cells k rows in
+    let long : length cells ≡ length rows = length-map rows (λ row. get_or row k Null) in
+    let small = values-few values cells (column-slots k column columns rows all) (omega arith) in
+    let filled : List (List ℕ) = data_buffers (layout_in values) cells in
+    let more : List (List ℕ) = buffers_from (k + 1) columns rows in
+    let own = data-short values cells (omega arith) small in
+    let valid = validity-short cells (omega arith) in
+    let rest = body-short (k + 1) columns rows few (λ i inside. (all i inside).1) in
+    let split : length (flat_map padded (filled ++ more)) ≡ length (flat_map padded filled) + length (flat_map padded more) =
+    ap length (flat_map-append padded filled more) ∙ length-append (flat_map padded filled) (flat_map padded more) in
+    omega (arith, length-append (padded (validity cells)) (flat_map padded (filled ++ more)), padded-short (validity cells), own, valid, rest, split)
+
+-- places in a body fit
+pub places-fit : (body : List ℕ) (from : ℕ) (buffers : List (List ℕ)) → length body < 2 ^ 63 → HasBuffers body from buffers → AllFit (buffer_places from buffers)
+places-fit body from [] small has = tt
+places-fit body from (buffer ∷ buffers) small has = (
+  record { sfits = omega (arith, has.0.within) },
+  record { sfits = omega (arith, has.0.within) },
+  places-fit body (from + length (padded buffer)) buffers small has.1,
+)
+
+-- counts of rows and nulls fit
+pub nodes-fit : (k : ℕ) (columns : List Column) (rows : List (List Cell)) → length rows ≤ 2 ^ 15 → AllFit (nodes_from k columns rows)
+nodes-fit k [] rows few = tt
+nodes-fit k (column ∷ columns) rows few =
+    let cells : List Cell = column_cells k rows in
+    let long : length cells ≡ length rows = length-map rows (λ row. get_or row k Null) in
+    let nulls : null_count cells ≤ length cells = count_by-le-length is_null cells in
+    (record { sfits = omega arith }, record { sfits = omega arith }, nodes-fit (k + 1) columns rows few)
