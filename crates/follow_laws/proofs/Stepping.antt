@@ -40,7 +40,7 @@ has_pass desk session snapshot has =
 
 -- ---- what a session is told
 
-answers : (rival number : Option ℕ) → answer_of (conflict_by rival number) ≡ sessions.answer_of rival number
+pub answers : (rival number : Option ℕ) → answer_of (conflict_by rival number) ≡ sessions.answer_of rival number
 answers (Some writer) number = refl
 answers None (Some number) = refl
 answers None None = refl
