@@ -26,14 +26,17 @@ few-data truths = omega arith
 few-data texts = omega arith
 few-data blobs = omega arith
 
-length-buffer_places : (from : ℕ) (buffers : List (List ℕ)) → length (buffer_places from buffers) ≡ length buffers
+length-buffer_places : (from : ℕ) (buffers : List (List ℕ))
+    → length (buffer_places from buffers) ≡ length buffers
 length-buffer_places from [] = refl
-length-buffer_places from (buffer ∷ buffers) = ap suc (length-buffer_places (from + length (padded buffer)) buffers)
+length-buffer_places from (buffer ∷ buffers) =
+    ap suc (length-buffer_places (from + length (padded buffer)) buffers)
 
 -- a column has three buffers at most
 few-buffers : (columns : List Column) → buffer_count columns ≤ 3 * length columns
 few-buffers [] = omega arith
-few-buffers (column ∷ columns) = omega (arith, few-data (values_of column.kind), few-buffers columns)
+few-buffers (column ∷ columns) =
+    omega (arith, few-data (values_of column.kind), few-buffers columns)
 
 pub batch_is_read : BatchIsRead
 batch_is_read columns rows rest told is =
@@ -43,22 +46,31 @@ batch_is_read columns rows rest told is =
     let laid : List ℕ = flatbuffer_of header (length body) in
     let metadata : List ℕ = padded laid in
     let each = each-row columns rows is.fit in
-    let buffers : HasBuffers body 0 (buffers_from 0 columns rows) = buffers-there body 0 (buffers_from 0 columns rows) (has-whole body) in
-    let body_small : length body < 2 ^ 63 = omega (arith, body-short 0 columns rows is.few (λ i inside. (each i inside).slots), told.few) in
-    let places_count : length batch.buffers ≡ buffer_count columns = length-buffer_places 0 (buffers_from 0 columns rows) ∙ length-buffers 0 columns rows in
-    let size : length laid ≡ 96 + 16 * length batch.nodes + 16 * length batch.buffers = length-batch batch.rows batch.nodes batch.buffers (length body) in
+    let buffers : HasBuffers body 0 (buffers_from 0 columns rows) =
+    buffers-there body 0 (buffers_from 0 columns rows) (has-whole body) in
+    let body_small : length body < 2 ^ 63 =
+    omega (arith, body-short 0 columns rows is.few (λ i inside. (each i inside).slots), told.few) in
+    let places_count : length batch.buffers ≡ buffer_count columns =
+    length-buffer_places 0 (buffers_from 0 columns rows) ∙ length-buffers 0 columns rows in
+    let size : length laid ≡ 96 + 16 * length batch.nodes + 16 * length batch.buffers =
+    length-batch batch.rows batch.nodes batch.buffers (length body) in
     let long : length metadata ≡ next_multiple_of (length laid) 8 = length-padded laid in
-    let small : length metadata < 2 ^ 31 = omega (arith, told.few, length-nodes 0 columns rows, few-buffers columns) in
+    let small : length metadata < 2 ^ 31 =
+    omega (arith, told.few, length-nodes 0 columns rows, few-buffers columns) in
     let has : HasMessage metadata header (length body) = padded-message header (length body) in
     let table = header-there metadata header (length body) has in
     let there = batch-there metadata 44 batch.rows batch.nodes batch.buffers table in
     let frame = message-framed false laid body rest (omega (arith, there.inside)) small in
     let head = head-found metadata (body ++ rest) header (length body) has
-    (omega (arith, table-behind 44 20 (batch_fields batch.rows batch.nodes batch.buffers))) (omega (arith, there.inside)) body_small (omega (arith, length-append body rest)) in
-    let found = batch-read metadata 44 batch.rows batch.nodes batch.buffers small (omega (arith, is.few))
-    (nodes-fit 0 columns rows is.few) (places-fit body 0 (buffers_from 0 columns rows) body_small buffers) table in
+    (omega (arith, table-behind 44 20 (batch_fields batch.rows batch.nodes batch.buffers)))
+    (omega (arith, there.inside)) body_small (omega (arith, length-append body rest)) in
+    let found = batch-read metadata 44 batch.rows batch.nodes batch.buffers small
+    (omega (arith, is.few))
+    (nodes-fit 0 columns rows is.few) (places-fit body 0 (buffers_from 0 columns rows) body_small
+    buffers) table in
     let own : take (length body) (body ++ rest) ≡ body = take_at body rest (length body) refl in
     let read = rows-read columns rows is.fit is.few in
     let total = length-message laid body in
-    let answer : ℕ → Result (Option BatchRead) Cause = λ n. Ok (Some (record { rows = rows; size = n })) in
+    let answer : ℕ → Result (Option BatchRead) Cause =
+    λ n. Ok (Some (record { rows = rows; size = n })) in
     rw (frame, head, found, own, read) (ap answer (omega arith))

@@ -1,4 +1,5 @@
--- How many bytes the body of a batch has at most, so that each number that tells of it fits 64 bits with a sign.
+-- How many bytes the body of a batch has at most, so that each number that tells of it fits 64 bits
+-- with a sign.
 use Rattle.std.proofs.Common.{◌≡◌, ℕ, ◌+◌, ◌*◌, ◌^◌, ◌<◌, ◌≤◌, List, [], ◌∷◌, ◌++◌, length, map, get_or, ap, ◌∙◌, arith, inl, inr, length-append}
 use Rattle.std.specs.Prelude.{flat_map}
 use Rattle.std.proofs.lemmas.List.{length-map}
@@ -35,38 +36,63 @@ byte_len_small w128 = omega arith
 padded-short : (buffer : List ℕ) → length (padded buffer) ≤ length buffer + 7
 padded-short buffer = omega (arith, length-padded buffer)
 
-one-short : (most : ℕ) (buffer : List ℕ) → length buffer ≤ most → length (flat_map padded (buffer ∷ [])) ≤ most + 7
+one-short : (most : ℕ) (buffer : List ℕ) → length buffer ≤ most
+    → length (flat_map padded (buffer ∷ [])) ≤ most + 7
 one-short most buffer short = omega (arith, length-append (padded buffer) [], padded-short buffer)
 
-numbers-short : (width : Width) (cells : List Cell) → length cells ≤ 2 ^ 15 → length (flat_map (λ cell. number_bytes width (number_of cell)) cells) ≤ 2 ^ 19
+numbers-short : (width : Width) (cells : List Cell) → length cells ≤ 2 ^ 15
+    → length (flat_map (λ cell. number_bytes width (number_of cell)) cells) ≤ 2 ^ 19
 numbers-short width cells few =
-    let product : length cells * byte_len width ≤ length cells * 16 = mul-le-mul_left (length cells) (byte_len_small width) in
+    let product : length cells * byte_len width ≤ length cells * 16 =
+    mul-le-mul_left (length cells) (byte_len_small width) in
     omega (arith, length-numbers width cells, product)
 
 validity-short : (cells : List Cell) → length cells ≤ 2 ^ 15 → length (validity cells) ≤ 2 ^ 13
-validity-short cells few = elim (validity-long cells) [ inl none ↦ omega arith | inr all ↦ omega arith ]
+validity-short cells few =
+    elim (validity-long cells) [ inl none ↦ omega arith | inr all ↦ omega arith ]
 
 variable-short : (cells : List Cell) → length cells ≤ 2 ^ 15 → Few cells
-    → length (flat_map padded (flat_map (to_le_bytes w32) (offsets 0 cells) ∷ flat_map value_of cells ∷ [])) ≤ 2 ^ 31 + 2 ^ 20
+    → length (flat_map padded (flat_map (to_le_bytes w32) (offsets 0 cells) ∷ flat_map value_of
+    cells ∷ [])) ≤ 2 ^ 31 + 2 ^ 20
 variable-short cells few values =
     let ends : List ℕ = flat_map (to_le_bytes w32) (offsets 0 cells) in
-    let long : length ends ≡ length (offsets 0 cells) * 4 = length-pieces (to_le_bytes w32) 4 (offsets 0 cells) (length-number w32) in
-    let rest = one-short (length (flat_map value_of cells)) (flat_map value_of cells) (omega arith) in
-    omega (arith, length-append (padded ends) (flat_map padded (flat_map value_of cells ∷ [])), padded-short ends, long, length-offsets 0 cells, rest)
+    let long : length ends ≡ length (offsets 0 cells) * 4 =
+    length-pieces (to_le_bytes w32) 4 (offsets 0 cells) (length-number w32) in
+    let rest =
+    one-short (length (flat_map value_of cells)) (flat_map value_of cells) (omega arith) in
+    omega (
+      arith,
+      length-append (padded ends) (flat_map padded (flat_map value_of cells ∷ [])),
+      padded-short ends,
+      long,
+      length-offsets 0 cells,
+      rest,
+    )
 
-data-short : (values : Values) (cells : List Cell) → length cells ≤ 2 ^ 15 → Few cells → length (flat_map padded (data_buffers (layout_in values) cells)) ≤ 2 ^ 31 + 2 ^ 20
+data-short : (values : Values) (cells : List Cell) → length cells ≤ 2 ^ 15 → Few cells
+    → length (flat_map padded (data_buffers (layout_in values) cells)) ≤ 2 ^ 31 + 2 ^ 20
 data-short (signed width) cells few values =
-    omega (arith, one-short (2 ^ 19) (flat_map (λ cell. number_bytes width (number_of cell)) cells) (numbers-short width cells few))
+    omega (
+      arith,
+      one-short (2 ^ 19) (flat_map (λ cell. number_bytes width (number_of cell)) cells)
+          (numbers-short width cells few),
+    )
 data-short (unsigned width) cells few values =
-    omega (arith, one-short (2 ^ 19) (flat_map (λ cell. number_bytes width (number_of cell)) cells) (numbers-short width cells few))
+    omega (
+      arith,
+      one-short (2 ^ 19) (flat_map (λ cell. number_bytes width (number_of cell)) cells)
+          (numbers-short width cells few),
+    )
 data-short truths cells few values =
-    let long : length (bitmap (map truth_of cells)) ≡ bitmap_length (length cells) = length-bitmap (map truth_of cells) ∙ ap bitmap_length (length-map cells truth_of) in
+    let long : length (bitmap (map truth_of cells)) ≡ bitmap_length (length cells) =
+    length-bitmap (map truth_of cells) ∙ ap bitmap_length (length-map cells truth_of) in
     omega (arith, one-short (2 ^ 13) (bitmap (map truth_of cells)) (omega arith))
 data-short texts cells few values = variable-short cells few values
 data-short blobs cells few values = variable-short cells few values
 
 -- the buffers of the columns, counted from a number on
-pub body-short : (k : ℕ) (columns : List Column) (rows : List (List Cell)) → length rows ≤ 2 ^ 15 → AllFrom k columns rows
+pub body-short : (k : ℕ) (columns : List Column) (rows : List (List Cell)) → length rows ≤ 2 ^ 15
+    → AllFrom k columns rows
     → length (flat_map padded (buffers_from k columns rows)) ≤ 2 ^ 32 * length columns
 body-short k [] rows few all = omega arith
 body-short k (column ∷ columns) rows few all =
@@ -79,12 +105,23 @@ body-short k (column ∷ columns) rows few all =
     let own = data-short values cells (omega arith) small in
     let valid = validity-short cells (omega arith) in
     let rest = body-short (k + 1) columns rows few (λ i inside. (all i inside).1) in
-    let split : length (flat_map padded (filled ++ more)) ≡ length (flat_map padded filled) + length (flat_map padded more) =
-    ap length (flat_map-append padded filled more) ∙ length-append (flat_map padded filled) (flat_map padded more) in
-    omega (arith, length-append (padded (validity cells)) (flat_map padded (filled ++ more)), padded-short (validity cells), own, valid, rest, split)
+    let split : length (flat_map padded (filled ++ more))
+    ≡ length (flat_map padded filled) + length (flat_map padded more) =
+    ap length (flat_map-append padded filled more)
+    ∙ length-append (flat_map padded filled) (flat_map padded more) in
+    omega (
+      arith,
+      length-append (padded (validity cells)) (flat_map padded (filled ++ more)),
+      padded-short (validity cells),
+      own,
+      valid,
+      rest,
+      split,
+    )
 
 -- places in a body fit
-pub places-fit : (body : List ℕ) (from : ℕ) (buffers : List (List ℕ)) → length body < 2 ^ 63 → HasBuffers body from buffers → AllFit (buffer_places from buffers)
+pub places-fit : (body : List ℕ) (from : ℕ) (buffers : List (List ℕ)) → length body < 2 ^ 63
+    → HasBuffers body from buffers → AllFit (buffer_places from buffers)
 places-fit body from [] small has = tt
 places-fit body from (buffer ∷ buffers) small has = (
   record { sfits = omega (arith, has.0.within) },
@@ -93,10 +130,15 @@ places-fit body from (buffer ∷ buffers) small has = (
 )
 
 -- counts of rows and nulls fit
-pub nodes-fit : (k : ℕ) (columns : List Column) (rows : List (List Cell)) → length rows ≤ 2 ^ 15 → AllFit (nodes_from k columns rows)
+pub nodes-fit : (k : ℕ) (columns : List Column) (rows : List (List Cell)) → length rows ≤ 2 ^ 15
+    → AllFit (nodes_from k columns rows)
 nodes-fit k [] rows few = tt
 nodes-fit k (column ∷ columns) rows few =
     let cells : List Cell = column_cells k rows in
     let long : length cells ≡ length rows = length-map rows (λ row. get_or row k Null) in
-    let nulls : null_count cells ≤ length cells = count_by-le-length is_null cells in
-    (record { sfits = omega arith }, record { sfits = omega arith }, nodes-fit (k + 1) columns rows few)
+    let nulls : null_count cells ≤ length cells = count_by-le-length is_null cells in (
+      record { sfits = omega arith },
+      record { sfits = omega arith },
+      nodes-fit (k + 1) columns rows
+          few,
+    )

@@ -23,58 +23,75 @@ use Rattle.stream_laws.proofs.Cells.{AllSlots, cells-back, length-offsets, offse
 -- the body has the buffers, each behind the padding of the one before
 abbrev pub HasBuffers : List ℕ → ℕ → List (List ℕ) → Type 0
 HasBuffers body from [] = Unit {0}
-HasBuffers body from (buffer ∷ buffers) = Has body from buffer × HasBuffers body (from + length (padded buffer)) buffers
+HasBuffers body from (buffer ∷ buffers) =
+    Has body from buffer × HasBuffers body (from + length (padded buffer)) buffers
 
 -- where the buffers lie, as the reader has it
 abbrev pub places : ℕ → List (List ℕ) → List BufferPlace
 places from buffers = map buffer_of (buffer_places from buffers)
 
-pub buffers-there : (body : List ℕ) (from : ℕ) (buffers : List (List ℕ)) → Has body from (flat_map padded buffers) → HasBuffers body from buffers
+pub buffers-there : (body : List ℕ) (from : ℕ) (buffers : List (List ℕ))
+    → Has body from (flat_map padded buffers) → HasBuffers body from buffers
 buffers-there body from [] has = tt
 buffers-there body from (buffer ∷ buffers) has =
     let zeros : List ℕ = replicate (next_multiple_of (length buffer) 8 - length buffer) 0 in (
-      has-left body from buffer zeros (has-left body from (padded buffer) (flat_map padded buffers) has),
-      buffers-there body (from + length (padded buffer)) buffers (has-right body from (padded buffer) (flat_map padded buffers) has),
+      has-left body from buffer zeros (has-left body from (padded buffer) (flat_map padded buffers)
+          has),
+      buffers-there body (from + length (padded buffer)) buffers
+          (has-right body from (padded buffer) (flat_map padded buffers) has),
     )
 
 -- the first buffers, and those behind them
-pub buffers-split : (body : List ℕ) (from : ℕ) (some more : List (List ℕ)) → HasBuffers body from (some ++ more)
+pub buffers-split : (body : List ℕ) (from : ℕ) (some more : List (List ℕ))
+    → HasBuffers body from (some ++ more)
     → HasBuffers body from some × HasBuffers body (from + length (flat_map padded some)) more
 buffers-split body from [] more has =
     let P : ℕ → Type 0 = λ n. HasBuffers body n more in
     (tt, subst P (omega arith) has)
 buffers-split body from (buffer ∷ some) more has =
     let rest = buffers-split body (from + length (padded buffer)) some more has.1 in
-    let P : ℕ → Type 0 = λ n. HasBuffers body n more in
-    ((has.0, rest.0), subst P (omega (arith, length-append (padded buffer) (flat_map padded some))) rest.1)
+    let P : ℕ → Type 0 = λ n. HasBuffers body n more in (
+      (has.0, rest.0),
+      subst P (omega (arith, length-append (padded buffer) (flat_map padded some)))
+          rest.1,
+    )
 
-pub places-split : (from : ℕ) (some more : List (List ℕ)) → places from (some ++ more) ≡ places from some ++ places (from + length (flat_map padded some)) more
+pub places-split : (from : ℕ) (some more : List (List ℕ))
+    → places from (some ++ more) ≡ places from some
+    ++ places (from + length (flat_map padded some)) more
 places-split from [] more = ap (λ (n : ℕ). places n more) (omega arith)
 places-split from (buffer ∷ some) more =
-    let end : from + length (padded buffer) + length (flat_map padded some) ≡ from + length (flat_map padded (buffer ∷ some)) =
+    let end : from + length (padded buffer) + length (flat_map padded some)
+    ≡ from + length (flat_map padded (buffer ∷ some)) =
     omega (arith, length-append (padded buffer) (flat_map padded some)) in
     let first : BufferPlace = buffer_of (pos from, pos (length buffer)) in
     ap (λ (all : List BufferPlace). first ∷ all)
     (places-split (from + length (padded buffer)) some more
     ∙ ap (λ (n : ℕ). places (from + length (padded buffer)) some ++ places n more) end)
 
-pub length-places : (from : ℕ) (buffers : List (List ℕ)) → length (places from buffers) ≡ length buffers
+pub length-places : (from : ℕ) (buffers : List (List ℕ))
+    → length (places from buffers) ≡ length buffers
 length-places from [] = refl
-length-places from (buffer ∷ buffers) = ap suc (length-places (from + length (padded buffer)) buffers)
+length-places from (buffer ∷ buffers) =
+    ap suc (length-places (from + length (padded buffer)) buffers)
 
 -- each place tells the bytes of its buffer
-bytes-back : (body : List ℕ) (from : ℕ) (buffers : List (List ℕ)) → HasBuffers body from buffers → map (bytes_of body) (places from buffers) ≡ buffers
+bytes-back : (body : List ℕ) (from : ℕ) (buffers : List (List ℕ)) → HasBuffers body from buffers
+    → map (bytes_of body) (places from buffers) ≡ buffers
 bytes-back body from [] has = refl
 bytes-back body from (buffer ∷ buffers) has =
-    let first : bytes_of body (buffer_of (pos from, pos (length buffer))) ≡ buffer = has-taken body from buffer has.0 in
+    let first : bytes_of body (buffer_of (pos from, pos (length buffer))) ≡ buffer =
+    has-taken body from buffer has.0 in
     rw (first, bytes-back body (from + length (padded buffer)) buffers has.1) refl
 
 -- a buffer lies in the body
-lies : (body : List ℕ) (from : ℕ) (buffer : List ℕ) → Has body from buffer → lies_in body (buffer_of (pos from, pos (length buffer))) ≡ true
+lies : (body : List ℕ) (from : ℕ) (buffer : List ℕ) → Has body from buffer
+    → lies_in body (buffer_of (pos from, pos (length buffer))) ≡ true
 lies body from buffer has =
     let low : nat_le 0 from ≡ true = le-leb 0 from (omega arith) in
     let some : nat_le 0 (length buffer) ≡ true = le-leb 0 (length buffer) (omega arith) in
-    let high : nat_le (from + length buffer) (length body) ≡ true = le-leb (from + length buffer) (length body) has.within in
+    let high : nat_le (from + length buffer) (length body) ≡ true =
+    le-leb (from + length buffer) (length body) has.within in
     rw (low, some, high) refl
 
 -- the buffers are as long as they need to be
@@ -83,49 +100,80 @@ AreLong needs [] = Unit {0}
 AreLong [] (buffer ∷ buffers) = Unit {0}
 AreLong (need ∷ needs) (buffer ∷ buffers) = (need ≤ length buffer) × AreLong needs buffers
 
-buffers-are : (body : List ℕ) (from rows : ℕ) (needs : List ℕ) (buffers : List (List ℕ)) → HasBuffers body from buffers → AreLong needs buffers
+buffers-are : (body : List ℕ) (from rows : ℕ) (needs : List ℕ) (buffers : List (List ℕ))
+    → HasBuffers body from buffers → AreLong needs buffers
     → are_buffers body rows needs (places from buffers) ≡ true
 buffers-are body from rows [] [] has long = refl
 buffers-are body from rows (need ∷ needs) [] has long = refl
 buffers-are body from rows [] (buffer ∷ buffers) has long = refl
 buffers-are body from rows (need ∷ needs) (buffer ∷ buffers) has long =
     let place : BufferPlace = buffer_of (pos from, pos (length buffer)) in
-    and_from (is_buffer body rows need place) (are_buffers body rows needs (places (from + length (padded buffer)) buffers))
-    (and_from (lies_in body place) (rows == 0 || nat_le need (length buffer)) (lies body from buffer has.0)
+    and_from (is_buffer body rows need place)
+    (are_buffers body rows needs (places (from + length (padded buffer)) buffers))
+    (and_from (lies_in body place) (rows == 0 || nat_le need (length buffer))
+    (lies body from buffer has.0)
     (or_right (rows == 0) (nat_le need (length buffer)) (le-leb need (length buffer) long.0)))
     (buffers-are body (from + length (padded buffer)) rows needs buffers has.1 long.1)
 
-pub length-numbers : (width : Width) (cells : List Cell) → length (flat_map (λ cell. number_bytes width (number_of cell)) cells) ≡ length cells * byte_len width
-length-numbers width cells = length-pieces (λ cell. number_bytes width (number_of cell)) (byte_len width) cells (λ cell. length-number width _)
+pub length-numbers : (width : Width) (cells : List Cell)
+    → length (flat_map (λ cell. number_bytes width (number_of cell)) cells)
+    ≡ length cells * byte_len width
+length-numbers width cells =
+    length-pieces (λ cell. number_bytes width (number_of cell)) (byte_len width) cells
+    (λ cell. length-number width _)
 
-data-long : (values : Values) (cells : List Cell) → AreLong (data_needs values (length cells)) (data_buffers (layout_in values) cells)
+data-long : (values : Values) (cells : List Cell)
+    → AreLong (data_needs values (length cells)) (data_buffers (layout_in values) cells)
 data-long (signed width) cells = (omega (arith, length-numbers width cells), tt)
 data-long (unsigned width) cells = (omega (arith, length-numbers width cells), tt)
-data-long truths cells = (omega (arith, length-bitmap (map truth_of cells) ∙ ap bitmap_length (length-map cells truth_of)), tt)
-data-long texts cells =
-    (omega (arith, length-pieces (to_le_bytes w32) 4 (offsets 0 cells) (length-number w32), length-offsets 0 cells), (omega arith, tt))
-data-long blobs cells =
-    (omega (arith, length-pieces (to_le_bytes w32) 4 (offsets 0 cells) (length-number w32), length-offsets 0 cells), (omega arith, tt))
+data-long truths cells = (
+  omega (
+    arith,
+    length-bitmap (map truth_of cells)
+        ∙ ap bitmap_length (length-map cells truth_of),
+  ),
+  tt,
+)
+data-long texts cells = (
+  omega (
+    arith,
+    length-pieces (to_le_bytes w32) 4 (offsets 0 cells) (length-number w32),
+    length-offsets 0 cells,
+  ),
+  (omega arith, tt),
+)
+data-long blobs cells = (
+  omega (
+    arith,
+    length-pieces (to_le_bytes w32) 4 (offsets 0 cells) (length-number w32),
+    length-offsets 0 cells,
+  ),
+  (omega arith, tt),
+)
 
 validity-is : (body : List ℕ) (from : ℕ) (cells : List Cell) → Has body from (validity cells)
     → is_validity body (length cells) (buffer_of (pos from, pos (length (validity cells)))) ≡ true
 validity-is body from cells has =
     let size : ℕ = length (validity cells) in
     let rows : ℕ = length cells in
-    and_from (lies_in body (buffer_of (pos from, pos size))) (size == 0 || (rows == 0 || nat_le (bitmap_length rows) size))
+    and_from (lies_in body (buffer_of (pos from, pos size)))
+    (size == 0 || (rows == 0 || nat_le (bitmap_length rows) size))
     (lies body from (validity cells) has)
     (elim (validity-long cells) [
-      | inl none ↦ or_left (size == 0) (rows == 0 || nat_le (bitmap_length rows) size) (eq-eqb size 0 none)
+      | inl none ↦ or_left (size == 0) (rows == 0 || nat_le (bitmap_length rows) size)
+          (eq-eqb size 0 none)
       | inr all ↦
           or_right (size == 0) (rows == 0 || nat_le (bitmap_length rows) size)
-          (or_right (rows == 0) (nat_le (bitmap_length rows) size) (le-leb (bitmap_length rows) size (omega (arith, all))))
+          (or_right (rows == 0) (nat_le (bitmap_length rows) size)
+          (le-leb (bitmap_length rows) size (omega (arith, all))))
     ])
 
 pub same-count : (n : ℕ) → int_eq (pos n) (pos n) ≡ true
 same-count n = let test = le-ltb n n (omega arith) in rw test refl
 
 -- how many buffers stand behind the validity
-pub length-data : (values : Values) (cells : List Cell) → length (data_buffers (layout_in values) cells) ≡ data_count values
+pub length-data : (values : Values) (cells : List Cell)
+    → length (data_buffers (layout_in values) cells) ≡ data_count values
 length-data (signed width) cells = refl
 length-data (unsigned width) cells = refl
 length-data truths cells = refl
@@ -134,18 +182,24 @@ length-data blobs cells = refl
 
 -- The cells of a column are read back from where its buffers lie.
 pub column-read : (body : List ℕ) (from : ℕ) (values : Values) (cells : List Cell)
-    → HasBuffers body from (validity cells ∷ data_buffers (layout_in values) cells) → AllSlots values cells → length cells ≤ 2 ^ 15
-    → column_of body (length cells) values (pos (null_count cells)) (buffer_of (pos from, pos (length (validity cells))))
+    → HasBuffers body from (validity cells ∷ data_buffers (layout_in values) cells)
+    → AllSlots values cells → length cells ≤ 2 ^ 15
+    → column_of body (length cells) values (pos (null_count cells))
+    (buffer_of (pos from, pos (length (validity cells))))
     (places (from + length (padded (validity cells))) (data_buffers (layout_in values) cells))
     ≡ Ok cells
 column-read body from values cells has slots short =
     let filled : List (List ℕ) = data_buffers (layout_in values) cells in
     let few = values-few values cells slots short in
     let behind : ℕ = from + length (padded (validity cells)) in
-    let first : bytes_of body (buffer_of (pos from, pos (length (validity cells)))) ≡ validity cells = has-taken body from (validity cells) has.0 in
-    let others : map (bytes_of body) (places behind filled) ≡ filled = bytes-back body behind filled has.1 in
+    let first : bytes_of body (buffer_of (pos from, pos (length (validity cells))))
+    ≡ validity cells = has-taken body from (validity cells) has.0 in
+    let others : map (bytes_of body) (places behind filled) ≡ filled =
+    bytes-back body behind filled has.1 in
     let one = validity-is body from cells has.0 in
-    let two = buffers-are body behind (length cells) (data_needs values (length cells)) filled has.1 (data-long values cells) in
+    let two =
+    buffers-are body behind (length cells) (data_needs values (length cells)) filled has.1
+    (data-long values cells) in
     let counted = nulls-back cells in
     let rising = offsets-are values cells few in
     let all = cells-back values cells few slots in

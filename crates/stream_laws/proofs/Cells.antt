@@ -33,7 +33,8 @@ is_value_in values (Blob bytes) = are_blobs values && are_bytes bytes
 -- a slot is null, or has one of the values, which is not too long
 pub data IsSlot (values : Values) (cell : Cell) : Type 0 where
   null : is_null cell ≡ true → IsSlot values cell
-  value : is_null cell ≡ false → is_value_in values cell ≡ true → byte_length cell ≤ most_bytes → IsSlot values cell
+  value : is_null cell ≡ false → is_value_in values cell ≡ true → byte_length cell ≤ most_bytes
+      → IsSlot values cell
 
 abbrev pub AllSlots : Values → List Cell → Type 0
 AllSlots values cells = (i : ℕ) → i < length cells → IsSlot values (get_or cells i Null)
@@ -68,14 +69,18 @@ whole_some w32 = lit< tt
 whole_some w64 = lit< tt
 whole_some w128 = lit< tt
 
-signed-fits : (width : Width) (number : ℤ) → is_integer_in (signed width) number ≡ true → SFits width number
+signed-fits : (width : Width) (number : ℤ) → is_integer_in (signed width) number ≡ true
+    → SFits width number
 signed-fits width (pos n) test =
     let top : ℕ = 2 ^ (8 * byte_len width - 1) - 1 in
-    let high : n ≤ top = leb-true n top (and_parts (int_le (negsuc top) (pos n)) (int_le (pos n) (pos top)) test).1 in
+    let high : n ≤ top =
+    leb-true n top (and_parts (int_le (negsuc top) (pos n)) (int_le (pos n) (pos top)) test).1 in
     record { sfits = omega (arith, half width, half_some width, high) }
 signed-fits width (negsuc n) test =
     let top : ℕ = 2 ^ (8 * byte_len width - 1) - 1 in
-    let low : n ≤ top = leb-true n top (and_parts (int_le (negsuc top) (negsuc n)) (int_le (negsuc n) (pos top)) test).0 in
+    let low : n ≤ top =
+    leb-true n top (and_parts (int_le (negsuc top) (negsuc n)) (int_le (negsuc n) (pos top))
+    test).0 in
     record { sfits = omega (arith, half width, half_some width, low) }
 
 module _ (width : Width) (cells : List Cell) (i : ℕ) (inside : i < length cells) where
@@ -85,30 +90,39 @@ module _ (width : Width) (cells : List Cell) (i : ℕ) (inside : i < length cell
   abbrev buffer : List ℕ
   buffer = flat_map bytes_of_cell cells
 
-  number-there : (cell : Cell) → get_or cells i Null ≡ cell → Has buffer (i * byte_len width) (bytes_of_cell cell)
+  number-there : (cell : Cell) → get_or cells i Null ≡ cell
+      → Has buffer (i * byte_len width) (bytes_of_cell cell)
   number-there cell is =
       let P : ℕ → Type 0 = λ n. Has buffer n (bytes_of_cell (get_or cells i Null)) in
       let Q : Cell → Type 0 = λ c. Has buffer (i * byte_len width) (bytes_of_cell c) in
-      let even = begins-even bytes_of_cell (byte_len width) cells i (λ c. length-number width _) (omega arith) in
+      let even =
+      begins-even bytes_of_cell (byte_len width) cells i (λ c. length-number width _)
+      (omega arith) in
       subst Q is (subst P even (piece-there bytes_of_cell cells i Null inside))
 
-  signed-back : (number : ℤ) → get_or cells i Null ≡ Num number → is_integer_in (signed width) number ≡ true
+  signed-back : (number : ℤ) → get_or cells i Null ≡ Num number
+      → is_integer_in (signed width) number ≡ true
       → cast_signed width (number_from buffer (i * byte_len width) (byte_len width)) ≡ number
   signed-back number is test =
-      has-signed buffer (i * byte_len width) width number (signed-fits width number test) (number-there (Num number) is)
+      has-signed buffer (i * byte_len width) width number (signed-fits width number test)
+      (number-there (Num number) is)
 
-  unsigned-back : (number : ℤ) → get_or cells i Null ≡ Num number → is_integer_in (unsigned width) number ≡ true
+  unsigned-back : (number : ℤ) → get_or cells i Null ≡ Num number
+      → is_integer_in (unsigned width) number ≡ true
       → pos (number_from buffer (i * byte_len width) (byte_len width)) ≡ number
   unsigned-back (pos n) is test =
       let top : ℕ = 2 ^ (8 * byte_len width) - 1 in
-      let high : n ≤ top = leb-true n top (and_parts (int_le (pos 0) (pos n)) (int_le (pos n) (pos top)) test).1 in
-      ap pos (has-number buffer (i * byte_len width) width n (omega (arith, whole width, whole_some width, high)) (number-there (Num (pos n)) is))
+      let high : n ≤ top =
+      leb-true n top (and_parts (int_le (pos 0) (pos n)) (int_le (pos n) (pos top)) test).1 in
+      ap pos (has-number buffer (i * byte_len width) width n
+      (omega (arith, whole width, whole_some width, high)) (number-there (Num (pos n)) is))
   unsigned-back (negsuc n) is test = absurd (cc)
 
 -- ---- values of any length
 
 -- offsets begin where the values begin
-offset-is : (from : ℕ) (cells : List Cell) (i : ℕ) → i ≤ length cells → get_or (offsets from cells) i 0 ≡ from + begins bytes_of_value cells i
+offset-is : (from : ℕ) (cells : List Cell) (i : ℕ) → i ≤ length cells
+    → get_or (offsets from cells) i 0 ≡ from + begins bytes_of_value cells i
 offset-is from [] zero inside = omega arith
 offset-is from [] (suc i) inside = absurd (omega arith)
 offset-is from (cell ∷ cells) zero inside = omega arith
@@ -118,7 +132,8 @@ offset-is from (cell ∷ cells) (suc i) inside =
 
 pub length-offsets : (from : ℕ) (cells : List Cell) → length (offsets from cells) ≡ length cells + 1
 length-offsets from [] = refl
-length-offsets from (cell ∷ cells) = omega (arith, length-offsets (from + length (bytes_of_value cell)) cells)
+length-offsets from (cell ∷ cells) =
+    omega (arith, length-offsets (from + length (bytes_of_value cell)) cells)
 
 -- the values together are below 2^31 bytes
 abbrev pub Few : List Cell → Type 0
@@ -140,30 +155,39 @@ module _ (cells : List Cell) (few : Few cells) where
       let room : i < length words = omega (arith, length-offsets 0 cells) in
       let is : get_or words i 0 ≡ begin i = offset-is 0 cells i inside ∙ omega arith in
       let small : begin i < 2 ^ 31 = omega (arith, begins-within bytes_of_value cells i) in
-      let even : begins (to_le_bytes w32) words i ≡ 4 * i = begins-even (to_le_bytes w32) 4 words i (length-number w32) (omega arith) ∙ omega arith in
+      let even : begins (to_le_bytes w32) words i ≡ 4 * i =
+      begins-even (to_le_bytes w32) 4 words i (length-number w32) (omega arith) ∙ omega arith in
       let P : ℕ → Type 0 = λ n. Has ends n (to_le_bytes w32 (get_or words i 0)) in
       let Q : ℕ → Type 0 = λ n. Has ends (4 * i) (to_le_bytes w32 n) in
       let there = subst Q is (subst P even (piece-there (to_le_bytes w32) words i 0 room)) in
       ap (cast_signed w32) (has-number ends (4 * i) w32 (begin i) (omega arith) there)
       ∙ to_z_pos w32 (begin i) small
 
-  pub value-back : (i : ℕ) → i < length cells → value_of ends values_bytes i ≡ bytes_of_value (get_or cells i Null)
+  pub value-back : (i : ℕ) → i < length cells
+      → value_of ends values_bytes i ≡ bytes_of_value (get_or cells i Null)
   value-back i inside =
       let cell : Cell = get_or cells i Null in
       let piece : List ℕ = bytes_of_value cell in
       let low = offset-back i (omega arith) in
       let high = offset-back (i + 1) (omega arith) in
-      let long : begin (i + 1) - begin i ≡ length piece = omega (arith, begins-next bytes_of_value cells i Null inside) in
-      rw (low, high, long) (has-taken values_bytes (begin i) piece (piece-there bytes_of_value cells i Null inside))
+      let long : begin (i + 1) - begin i ≡ length piece =
+      omega (arith, begins-next bytes_of_value cells i Null inside) in
+      rw (low, high, long) (has-taken values_bytes (begin i) piece
+      (piece-there bytes_of_value cells i Null inside))
 
-  all-rise : (k n : ℕ) → k + n ≤ length cells → list_all (λ i. int_le (offset_of ends i) (offset_of ends (i + 1))) (range_with_len k n) ≡ true
+  all-rise : (k n : ℕ) → k + n ≤ length cells
+      → list_all (λ i. int_le (offset_of ends i) (offset_of ends (i + 1))) (range_with_len k n)
+      ≡ true
   all-rise k zero inside = refl
   all-rise k (suc n) inside =
       let low = offset-back k (omega arith) in
       let high = offset-back (k + 1) (omega arith) in
       let rises : nat_le (begin k) (begin (k + 1)) ≡ true =
-      le-leb (begin k) (begin (k + 1)) (omega (arith, begins-next bytes_of_value cells k Null (omega arith))) in
-      and_from (int_le (offset_of ends k) (offset_of ends (k + 1))) (list_all (λ i. int_le (offset_of ends i) (offset_of ends (i + 1))) (range_with_len (k + 1) n))
+      le-leb (begin k) (begin (k + 1)) (omega
+      (arith, begins-next bytes_of_value cells k Null (omega arith))) in
+      and_from (int_le (offset_of ends k) (offset_of ends (k + 1)))
+      (list_all (λ i. int_le (offset_of ends i) (offset_of ends (i + 1)))
+      (range_with_len (k + 1) n))
       (rw (low, high) rises)
       (all-rise (k + 1) n (omega arith))
 
@@ -173,13 +197,17 @@ module _ (cells : List Cell) (few : Few cells) where
       let first = offset-back 0 (omega arith) in
       let last = offset-back rows (omega arith) in
       let positive : nat_le 0 (begin 0) ≡ true = le-leb 0 (begin 0) (omega arith) in
-      let ending : nat_le (begin rows) (length values_bytes) ≡ true = le-leb (begin rows) (length values_bytes) (begins-within bytes_of_value cells rows) in
+      let ending : nat_le (begin rows) (length values_bytes) ≡ true =
+      le-leb (begin rows) (length values_bytes) (begins-within bytes_of_value cells rows) in
       let rising = all-rise 0 rows (omega arith) in
       let low : int_le (pos 0) (offset_of ends 0) ≡ true = rw first positive in
       let high : int_le (offset_of ends rows) (pos (length values_bytes)) ≡ true = rw last ending in
-      let rise : Bool = list_all (λ i. int_le (offset_of ends i) (offset_of ends (i + 1))) (range_with_len 0 rows) in
-      or_right (rows == 0) (int_le (pos 0) (offset_of ends 0) && rise && int_le (offset_of ends rows) (pos (length values_bytes)))
-      (and_from (int_le (pos 0) (offset_of ends 0) && rise) (int_le (offset_of ends rows) (pos (length values_bytes)))
+      let rise : Bool =
+      list_all (λ i. int_le (offset_of ends i) (offset_of ends (i + 1))) (range_with_len 0 rows) in
+      or_right (rows == 0) (int_le (pos 0) (offset_of ends 0) && rise && int_le
+      (offset_of ends rows) (pos (length values_bytes)))
+      (and_from (int_le (pos 0) (offset_of ends 0) && rise)
+      (int_le (offset_of ends rows) (pos (length values_bytes)))
       (and_from (int_le (pos 0) (offset_of ends 0)) rise low rising) high)
 
 -- ---- a column
@@ -199,29 +227,38 @@ null-length (Truth truth) is = absurd (cc)
 null-length (Text text) is = absurd (cc)
 null-length (Blob bytes) is = absurd (cc)
 
-slot-short : (values : Values) (cell : Cell) → IsSlot values cell → length (bytes_of_value cell) ≤ most_bytes
+slot-short : (values : Values) (cell : Cell) → IsSlot values cell
+    → length (bytes_of_value cell) ≤ most_bytes
 slot-short values cell (null is) = omega (arith, length-value cell, null-length cell is)
 slot-short values cell (value some is short) = omega (arith, length-value cell, short)
 
 -- the values of a column are few enough for their offsets
-values-short : (values : Values) (cells : List Cell) → AllSlots values cells → length (flat_map bytes_of_value cells) ≤ most_bytes * length cells
+values-short : (values : Values) (cells : List Cell) → AllSlots values cells
+    → length (flat_map bytes_of_value cells) ≤ most_bytes * length cells
 values-short values [] slots = omega arith
 values-short values (cell ∷ cells) slots =
     let first = slot-short values cell (slots 0 (omega arith)) in
     let rest = values-short values cells (λ i inside. slots (suc i) (omega arith)) in
     omega (arith, length-append (bytes_of_value cell) (flat_map bytes_of_value cells), first, rest)
 
-pub values-few : (values : Values) (cells : List Cell) → AllSlots values cells → length cells ≤ 2 ^ 15 → Few cells
+pub values-few : (values : Values) (cells : List Cell) → AllSlots values cells
+    → length cells ≤ 2 ^ 15 → Few cells
 values-few values cells slots few = omega (arith, values-short values cells slots)
 
 -- the value in a slot
-slot-value : (values : Values) (cells : List Cell) (i : ℕ) (cell : Cell) → Few cells → i < length cells → get_or cells i Null ≡ cell → is_value_in values cell ≡ true
+slot-value : (values : Values) (cells : List Cell) (i : ℕ) (cell : Cell) → Few cells
+    → i < length cells → get_or cells i Null ≡ cell → is_value_in values cell ≡ true
     → value_at values (data_buffers (layout_in values) cells) i ≡ cell
-slot-value (signed width) cells i (Num number) few inside is test = ap Num (signed-back width cells i inside number is test)
-slot-value (unsigned width) cells i (Num number) few inside is test = ap Num (unsigned-back width cells i inside number is test)
-slot-value truths cells i (Truth truth) few inside is test = ap Truth (truth-back cells i inside ∙ ap truth_of is)
-slot-value texts cells i (Text text) few inside is test = ap Text (value-back cells few i inside ∙ ap bytes_of_value is)
-slot-value blobs cells i (Blob bytes) few inside is test = ap Blob (value-back cells few i inside ∙ ap bytes_of_value is)
+slot-value (signed width) cells i (Num number) few inside is test =
+    ap Num (signed-back width cells i inside number is test)
+slot-value (unsigned width) cells i (Num number) few inside is test =
+    ap Num (unsigned-back width cells i inside number is test)
+slot-value truths cells i (Truth truth) few inside is test =
+    ap Truth (truth-back cells i inside ∙ ap truth_of is)
+slot-value texts cells i (Text text) few inside is test =
+    ap Text (value-back cells few i inside ∙ ap bytes_of_value is)
+slot-value blobs cells i (Blob bytes) few inside is test =
+    ap Blob (value-back cells few i inside ∙ ap bytes_of_value is)
 slot-value values cells i cell few inside is test = absurd (cc)
 
 null-is : (cell : Cell) → is_null cell ≡ true → cell ≡ Null
@@ -232,8 +269,10 @@ null-is (Text text) is = absurd (cc)
 null-is (Blob bytes) is = absurd (cc)
 
 -- the cell in a slot
-cell-back : (values : Values) (cells : List Cell) (i : ℕ) → Few cells → i < length cells → IsSlot values (get_or cells i Null)
-    → cell_at values (validity cells) (data_buffers (layout_in values) cells) i ≡ get_or cells i Null
+cell-back : (values : Values) (cells : List Cell) (i : ℕ) → Few cells → i < length cells
+    → IsSlot values (get_or cells i Null)
+    → cell_at values (validity cells) (data_buffers (layout_in values) cells) i
+    ≡ get_or cells i Null
 cell-back values cells i few inside (null is) =
     let there : Cell = value_at values (data_buffers (layout_in values) cells) i in
     ap (λ (valid : Bool). if valid then there else Null) (valid-back cells i inside ∙ ap not is)
@@ -245,13 +284,16 @@ cell-back values cells i few inside (value some is short) =
 
 -- The cells are read back.
 pub cells-back : (values : Values) (cells : List Cell) → Few cells → AllSlots values cells
-    → cells_of values (validity cells) (data_buffers (layout_in values) cells) (length cells) ≡ cells
+    → cells_of values (validity cells) (data_buffers (layout_in values) cells) (length cells)
+    ≡ cells
 cells-back values cells few slots =
-    sym (fill_by_all (cell_at values (validity cells) (data_buffers (layout_in values) cells)) cells (length cells) Null refl
+    sym (fill_by_all (cell_at values (validity cells) (data_buffers (layout_in values) cells)) cells
+    (length cells) Null refl
     (λ i inside. sym (cell-back values cells i few inside (slots i inside))))
 
 -- the offsets are lawful
-pub offsets-are : (values : Values) (cells : List Cell) → Few cells → has_offsets values (data_buffers (layout_in values) cells) (length cells) ≡ true
+pub offsets-are : (values : Values) (cells : List Cell) → Few cells
+    → has_offsets values (data_buffers (layout_in values) cells) (length cells) ≡ true
 offsets-are (signed width) cells few = refl
 offsets-are (unsigned width) cells few = refl
 offsets-are truths cells few = refl
@@ -263,11 +305,13 @@ slot-text values Null slot = refl
 slot-text values (Num number) slot = refl
 slot-text values (Truth truth) slot = refl
 slot-text values (Text text) (null is) = absurd (cc)
-slot-text values (Text text) (value some is short) = (and_parts (are_texts values) (is_utf8 text) is).1
+slot-text values (Text text) (value some is short) =
+    (and_parts (are_texts values) (is_utf8 text) is).1
 slot-text values (Blob bytes) slot = refl
 
 -- each text is one in UTF-8
-pub texts-are : (values : Values) (cells : List Cell) → AllSlots values cells → list_all is_text cells ≡ true
+pub texts-are : (values : Values) (cells : List Cell) → AllSlots values cells
+    → list_all is_text cells ≡ true
 texts-are values [] slots = refl
 texts-are values (cell ∷ cells) slots =
     and_from (is_text cell) (list_all is_text cells) (slot-text values cell (slots 0 (omega arith)))

@@ -21,7 +21,8 @@ use Rattle.stream_laws.proofs.Tables.{IsTableAt, number-read, target-read, field
 pub table-behind : (end size : ℕ) (fields : List Field) → end ≤ (table size fields end).place
 table-behind end size fields = omega arith
 
-module _ (bytes : List ℕ) (end size : ℕ) (fields : List Field) (laid : IsTableAt bytes end size fields) where
+module _ (bytes : List ℕ) (end size : ℕ) (fields : List Field)
+    (laid : IsTableAt bytes end size fields) where
   abbrev place : ℕ
   place = (table size fields end).place
 
@@ -31,35 +32,50 @@ module _ (bytes : List ℕ) (end size : ℕ) (fields : List Field) (laid : IsTab
   pub field-found : (index : ℕ) → field_at bytes place index ≡ Ok (entry index)
   field-found index = field-read bytes (aligned end) place size fields laid.vtable index
 
-  pub scalar-found : (index at : ℕ) (width : Width) (value : ℕ) → entry index ≡ Some (place + at) → value < 256 ^ byte_len width
-      → Has bytes (place + at) (to_le_bytes width value) → scalar bytes place index (byte_len width) ≡ Ok value
+  pub scalar-found : (index at : ℕ) (width : Width) (value : ℕ) → entry index ≡ Some (place + at)
+      → value < 256 ^ byte_len width
+      → Has bytes (place + at) (to_le_bytes width value)
+      → scalar bytes place index (byte_len width) ≡ Ok value
   scalar-found index at width value there small has =
-      let reads : Result (Option ℕ) FlatFault → Result ℕ FlatFault = λ found. found >>= λ here. number_or bytes (byte_len width) 0 here in
-      ap reads (field-found index ∙ ap (λ (o : Option ℕ). Ok o) there) ∙ number-read bytes (place + at) width value small has
+      let reads : Result (Option ℕ) FlatFault → Result ℕ FlatFault =
+      λ found. found >>= λ here. number_or bytes (byte_len width) 0 here in
+      ap reads (field-found index ∙ ap (λ (o : Option ℕ). Ok o) there)
+      ∙ number-read bytes (place + at) width value small has
 
-  pub reference-found : (index at target : ℕ) → entry index ≡ Some (place + at) → place + at ≤ target → target < 2 ^ 32
-      → Has bytes (place + at) (to_le_bytes w32 (target - (place + at))) → reference_at bytes place index ≡ Ok (Some target)
+  pub reference-found : (index at target : ℕ) → entry index ≡ Some (place + at)
+      → place + at ≤ target → target < 2 ^ 32
+      → Has bytes (place + at) (to_le_bytes w32 (target - (place + at)))
+      → reference_at bytes place index ≡ Ok (Some target)
   reference-found index at target there ahead small has =
-      let reads : Result (Option ℕ) FlatFault → Result (Option ℕ) FlatFault = λ found. found >>= λ here. target_of bytes here in
-      let wraps : Result ℕ FlatFault → Result (Option ℕ) FlatFault = λ found. found >>= λ leads. Ok (Some leads) in
-      ap reads (field-found index ∙ ap (λ (o : Option ℕ). Ok o) there) ∙ ap wraps (target-read bytes (place + at) target ahead small has)
+      let reads : Result (Option ℕ) FlatFault → Result (Option ℕ) FlatFault =
+      λ found. found >>= λ here. target_of bytes here in
+      let wraps : Result ℕ FlatFault → Result (Option ℕ) FlatFault =
+      λ found. found >>= λ leads. Ok (Some leads) in
+      ap reads (field-found index ∙ ap (λ (o : Option ℕ). Ok o) there)
+      ∙ ap wraps (target-read bytes (place + at) target ahead small has)
 
   pub absent-found : (index : ℕ) → entry index ≡ None → field_at bytes place index ≡ Ok None
   absent-found index there = field-found index ∙ ap (λ (o : Option ℕ). Ok o) there
 
 -- the elements of a vector that a reference leads to
-pub elements-found : (bytes : List ℕ) (table index width target first count : ℕ) → reference_at bytes table index ≡ Ok (Some target)
-    → vector_at bytes target width ≡ Ok (first, count) → elements bytes table index width ≡ Ok (record { first = first; count = count })
+pub elements-found : (bytes : List ℕ) (table index width target first count : ℕ)
+    → reference_at bytes table index ≡ Ok (Some target)
+    → vector_at bytes target width ≡ Ok (first, count)
+    → elements bytes table index width ≡ Ok (record { first = first; count = count })
 elements-found bytes table index width target first count leads found =
-    let reads : Result (Option ℕ) FlatFault → Result Elements FlatFault = λ there. there >>= λ here. elements_of bytes width here in
-    let wraps : Result (ℕ × ℕ) FlatFault → Result Elements FlatFault = λ there. there >>= λ vector. Ok (record { first = vector.0; count = vector.1 }) in
+    let reads : Result (Option ℕ) FlatFault → Result Elements FlatFault =
+    λ there. there >>= λ here. elements_of bytes width here in
+    let wraps : Result (ℕ × ℕ) FlatFault → Result Elements FlatFault =
+    λ there. there >>= λ vector. Ok (record { first = vector.0; count = vector.1 }) in
     ap reads leads ∙ ap wraps found
 
 -- the text of a string that a reference leads to
-pub text-found : (bytes : List ℕ) (table index target : ℕ) (string : List ℕ) → reference_at bytes table index ≡ Ok (Some target)
+pub text-found : (bytes : List ℕ) (table index target : ℕ) (string : List ℕ)
+    → reference_at bytes table index ≡ Ok (Some target)
     → text_at bytes target ≡ Ok string → text bytes table index ≡ Ok string
 text-found bytes table index target string leads found =
-    let reads : Result (Option ℕ) FlatFault → Result (List ℕ) FlatFault = λ there. there >>= λ here. text_or_empty bytes here in
+    let reads : Result (Option ℕ) FlatFault → Result (List ℕ) FlatFault =
+    λ there. there >>= λ here. text_or_empty bytes here in
     ap reads leads ∙ found
 
 -- ---- the message
@@ -71,7 +87,8 @@ kind_of (record_batch rows nodes buffers) = kind.Batch
 
 abbrev pub message_fields : Header → ℕ → List Field
 message_fields header body_length =
-    number 16 w16 4 ∷ number 18 w8 (header_number header) ∷ reference 4 (header_table header) ∷ number 8 w64 body_length ∷ []
+    number 16 w16 4 ∷ number 18 w8 (header_number header) ∷ reference 4
+    (header_table header) ∷ number 8 w64 body_length ∷ []
 
 header_small : (header : Header) → header_number header < 256 ^ byte_len w8
 header_small (schema columns) = lit< tt
@@ -85,7 +102,8 @@ pub record HasMessage (bytes : List ℕ) (header : Header) (body_length : ℕ) :
   pub root : Has bytes 0 (to_le_bytes w32 24)
   pub message : Has bytes 8 (message_table header body_length 8).bytes
 
-pub message-there : (bytes : List ℕ) (header : Header) (body_length : ℕ) → Has bytes 0 (flatbuffer_of header body_length) → HasMessage bytes header body_length
+pub message-there : (bytes : List ℕ) (header : Header) (body_length : ℕ)
+    → Has bytes 0 (flatbuffer_of header body_length) → HasMessage bytes header body_length
 message-there bytes header body_length has =
     let root : List ℕ = to_le_bytes w32 24 in
     let zeros : List ℕ = replicate 4 0 in
@@ -95,40 +113,61 @@ message-there bytes header body_length has =
       message = has-right bytes 0 (root ++ zeros) laid has;
     }
 
-pub message-fields-there : (bytes : List ℕ) (header : Header) (body_length : ℕ) → HasMessage bytes header body_length
+pub message-fields-there : (bytes : List ℕ) (header : Header) (body_length : ℕ)
+    → HasMessage bytes header body_length
     → IsTableAt bytes 8 20 (message_fields header body_length)
 message-fields-there bytes header body_length has =
-    table-there bytes 8 20 (message_fields header body_length) (record { apart = refl; fit = refl }) has.message
+    table-there bytes 8 20 (message_fields header body_length) (record { apart = refl; fit = refl })
+    has.message
 
 -- the header's table is laid
-pub header-there : (bytes : List ℕ) (header : Header) (body_length : ℕ) → HasMessage bytes header body_length → Has bytes 44 (header_laid header).bytes
-header-there bytes header body_length has = (message-fields-there bytes header body_length has).laid.1.1.1
+pub header-there : (bytes : List ℕ) (header : Header) (body_length : ℕ)
+    → HasMessage bytes header body_length → Has bytes 44 (header_laid header).bytes
+header-there bytes header body_length has =
+    (message-fields-there bytes header body_length has).laid.1.1.1
 
-message-read : (bytes : List ℕ) (header : Header) (body_length : ℕ) → HasMessage bytes header body_length
+message-read : (bytes : List ℕ) (header : Header) (body_length : ℕ)
+    → HasMessage bytes header body_length
     → 28 ≤ (header_laid header).place → (header_laid header).place < 2 ^ 32 → body_length < 2 ^ 64
-    → message_table_at bytes ≡ Ok (record { version = 4; header_type = header_number header; header = Some (header_laid header).place; body = body_length })
+    → message_table_at bytes ≡ Ok (record {
+      version = 4;
+      header_type = header_number header;
+      header = Some (header_laid header).place;
+      body = body_length;
+    })
 message-read bytes header body_length has ahead near small =
     let fields : List Field = message_fields header body_length in
     let there = message-fields-there bytes header body_length has in
-    let root : target_at bytes 0 ≡ Ok 24 = target-read bytes 0 24 (omega arith) (lit< tt) has.root in
-    let version : scalar bytes 24 0 2 ≡ Ok 4 = scalar-found bytes 8 20 fields there 0 16 w16 4 refl (lit< tt) there.laid.0 in
+    let root : target_at bytes 0 ≡ Ok 24 =
+    target-read bytes 0 24 (omega arith) (lit< tt) has.root in
+    let version : scalar bytes 24 0 2 ≡ Ok 4 =
+    scalar-found bytes 8 20 fields there 0 16 w16 4 refl (lit< tt) there.laid.0 in
     let header_type : scalar bytes 24 1 1 ≡ Ok (header_number header) =
-    scalar-found bytes 8 20 fields there 1 18 w8 (header_number header) refl (header_small header) there.laid.1.0 in
+    scalar-found bytes 8 20 fields there 1 18 w8 (header_number header) refl (header_small header)
+    there.laid.1.0 in
     let leads : reference_at bytes 24 2 ≡ Ok (Some (header_laid header).place) =
-    reference-found bytes 8 20 fields there 2 4 (header_laid header).place refl ahead near there.laid.1.1.0 in
+    reference-found bytes 8 20 fields there 2 4 (header_laid header).place refl ahead near
+    there.laid.1.1.0 in
     let body : scalar bytes 24 3 8 ≡ Ok body_length =
     scalar-found bytes 8 20 fields there 3 8 w64 body_length refl small there.laid.1.1.2.0 in
     rw (root, version, header_type, leads, body) refl
 
--- The head of a message is of its header's kind, and tells where its table stands and how long the body is.
-pub head-read : (bytes : List ℕ) (header : Header) (body_length : ℕ) → HasMessage bytes header body_length
+-- The head of a message is of its header's kind, and tells where its table stands and how long the
+-- body is.
+pub head-read : (bytes : List ℕ) (header : Header) (body_length : ℕ)
+    → HasMessage bytes header body_length
     → 28 ≤ (header_laid header).place → (header_laid header).place < 2 ^ 32 → body_length < 2 ^ 63
-    → head_of bytes ≡ Ok (record { kind = kind_of header; header = (header_laid header).place; body = body_length })
+    → head_of bytes ≡ Ok (record {
+      kind = kind_of header;
+      header = (header_laid header).place;
+      body = body_length;
+    })
 head-read bytes (schema columns) body_length has ahead near small =
     let message = message-read bytes (schema columns) body_length has ahead near (omega arith) in
     let positive : nat_lt body_length (2 ^ 63) ≡ true = lt-ltb body_length (2 ^ 63) small in
     rw (message, positive) refl
 head-read bytes (record_batch rows nodes buffers) body_length has ahead near small =
-    let message = message-read bytes (record_batch rows nodes buffers) body_length has ahead near (omega arith) in
+    let message =
+    message-read bytes (record_batch rows nodes buffers) body_length has ahead near (omega arith) in
     let positive : nat_lt body_length (2 ^ 63) ≡ true = lt-ltb body_length (2 ^ 63) small in
     rw (message, positive) refl

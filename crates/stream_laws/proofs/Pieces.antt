@@ -22,7 +22,8 @@ has-between front piece back = record {
 }
 
 -- the first part of a piece
-pub has-left : (bytes : List ℕ) (place : ℕ) (one two : List ℕ) → Has bytes place (one ++ two) → Has bytes place one
+pub has-left : (bytes : List ℕ) (place : ℕ) (one two : List ℕ) → Has bytes place (one ++ two)
+    → Has bytes place one
 has-left bytes place one two has =
     let long : length (one ++ two) ≡ length one + length two = length-append one two in
     record {
@@ -31,7 +32,8 @@ has-left bytes place one two has =
     }
 
 -- the second part of a piece
-pub has-right : (bytes : List ℕ) (place : ℕ) (one two : List ℕ) → Has bytes place (one ++ two) → Has bytes (place + length one) two
+pub has-right : (bytes : List ℕ) (place : ℕ) (one two : List ℕ) → Has bytes place (one ++ two)
+    → Has bytes (place + length one) two
 has-right bytes place one two has =
     let long : length (one ++ two) ≡ length one + length two = length-append one two in
     record {
@@ -43,7 +45,8 @@ has-right bytes place one two has =
     }
 
 -- a piece is what is taken
-pub has-taken : (bytes : List ℕ) (place : ℕ) (piece : List ℕ) → Has bytes place piece → take (length piece) (drop place bytes) ≡ piece
+pub has-taken : (bytes : List ℕ) (place : ℕ) (piece : List ℕ) → Has bytes place piece
+    → take (length piece) (drop place bytes) ≡ piece
 has-taken bytes place piece has =
     let left : length (drop place bytes) ≡ length bytes - place = length-drop place bytes in
     let long : length (take (length piece) (drop place bytes)) ≡ length piece =
@@ -58,19 +61,22 @@ pub length-number : (width : Width) (value : ℕ) → length (to_le_bytes width 
 length-number width value = length-bytes_low_first 0 (byte_len width) value
 
 -- A number that stands at a place is read there.
-pub has-number : (bytes : List ℕ) (place : ℕ) (width : Width) (value : ℕ) → value < 256 ^ byte_len width
+pub has-number : (bytes : List ℕ) (place : ℕ) (width : Width) (value : ℕ)
+    → value < 256 ^ byte_len width
     → Has bytes place (to_le_bytes width value) → number_from bytes place (byte_len width) ≡ value
 has-number bytes place width value small has =
     let size : ℕ = byte_len width in
     let piece : List ℕ = to_le_bytes width value in
     let taken : take size (drop place bytes) ≡ piece =
-    ap (λ (n : ℕ). take n (drop place bytes)) (sym (length-number width value)) ∙ has-taken bytes place piece has in
+    ap (λ (n : ℕ). take n (drop place bytes)) (sym (length-number width value))
+    ∙ has-taken bytes place piece has in
     sym (little_from-take 0 size size (drop place bytes) (omega arith))
     ∙ ap (little_number size) (taken ∙ sym (append-nil piece))
     ∙ little_number-reads_back size value [] small
 
 -- a number with a sign fits a width as bits
-signed-bits : (width : Width) (value : ℤ) → SFits width value → cast_unsigned width value < 256 ^ byte_len width
+signed-bits : (width : Width) (value : ℤ) → SFits width value
+    → cast_unsigned width value < 256 ^ byte_len width
 signed-bits w8 (pos n) fits = omega (arith, fits.sfits)
 signed-bits w8 (negsuc n) fits = omega (arith, fits.sfits)
 signed-bits w16 (pos n) fits = omega (arith, fits.sfits)
@@ -83,8 +89,10 @@ signed-bits w128 (pos n) fits = omega (arith, fits.sfits)
 signed-bits w128 (negsuc n) fits = omega (arith, fits.sfits)
 
 -- A number with a sign that stands at a place is read there.
-pub has-signed : (bytes : List ℕ) (place : ℕ) (width : Width) (value : ℤ) → SFits width value → Has bytes place (number_bytes width value)
+pub has-signed : (bytes : List ℕ) (place : ℕ) (width : Width) (value : ℤ) → SFits width value
+    → Has bytes place (number_bytes width value)
     → cast_signed width (number_from bytes place (byte_len width)) ≡ value
 has-signed bytes place width value fits has =
-    ap (cast_signed width) (has-number bytes place width (cast_unsigned width value) (signed-bits width value fits) has)
+    ap (cast_signed width) (has-number bytes place width (cast_unsigned width value)
+    (signed-bits width value fits) has)
     ∙ to_z-of_z width value fits

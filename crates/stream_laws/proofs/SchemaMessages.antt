@@ -14,13 +14,19 @@ pub schema_is_read : SchemaIsRead
 schema_is_read columns rest told =
     let metadata : List ℕ = padded (flatbuffer_of (schema columns) 0) in
     let short = schema-short columns told.named.each in
-    let long : length metadata ≡ next_multiple_of (length (flatbuffer_of (schema columns) 0)) 8 = length-padded (flatbuffer_of (schema columns) 0) in
+    let long : length metadata ≡ next_multiple_of (length (flatbuffer_of (schema columns) 0)) 8 =
+    length-padded (flatbuffer_of (schema columns) 0) in
     let small : length metadata < 2 ^ 31 = omega (arith, told.few) in
     let has : HasMessage metadata (schema columns) 0 = padded-message (schema columns) 0 in
     let laid = header-there metadata (schema columns) 0 has in
     let there = schema-there metadata 44 columns laid in
-    let frame = message-framed true (flatbuffer_of (schema columns) 0) [] rest (omega (arith, there.inside)) small in
-    let head = head-found metadata rest (schema columns) 0 has (omega (arith, table-behind 44 10 (schema_fields columns))) (omega (arith, there.inside)) (omega arith) (omega arith) in
+    let frame =
+    message-framed true (flatbuffer_of (schema columns) 0) [] rest (omega (arith, there.inside))
+    small in
+    let head =
+    head-found metadata rest (schema columns) 0 has
+    (omega (arith, table-behind 44 10 (schema_fields columns))) (omega (arith, there.inside))
+    (omega arith) (omega arith) in
     let found = schema-read metadata 44 columns small told.some told.named.each laid in
     let size = length-message (flatbuffer_of (schema columns) 0) [] in
     let answer : ℕ → Result SchemaRead _ = λ n. Ok (record { columns = columns; size = n }) in

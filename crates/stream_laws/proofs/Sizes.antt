@@ -24,16 +24,20 @@ AddsAtMost object most = (end : ℕ) → length (object end).bytes ≤ most
 abbrev LeadTo : ℕ → List Field → Type 0
 LeadTo most [] = Unit {0}
 LeadTo most (number at width value ∷ fields) = LeadTo most fields
-LeadTo most (reference at object ∷ fields) = (one : ℕ) × (AddsAtMost object one × (one ≤ most) × LeadTo (most - one) fields)
+LeadTo most (reference at object ∷ fields) =
+    (one : ℕ) × (AddsAtMost object one × (one ≤ most) × LeadTo (most - one) fields)
 LeadTo most (absent ∷ fields) = LeadTo most fields
 
-laid-short : (place size most : ℕ) (body : List ℕ) (fields : List Field) → are_apart size fields ≡ true → size ≤ length body → LeadTo most fields
+laid-short : (place size most : ℕ) (body : List ℕ) (fields : List Field)
+    → are_apart size fields ≡ true → size ≤ length body → LeadTo most fields
     → length (with_fields place body fields) ≤ length body + most
 laid-short place size most body [] test room leads = omega arith
 laid-short place size most body (number at width value ∷ fields) test room leads =
     let first = first-of at (byte_len width) size fields test in
     let same = length-numbered body at size width value first.ends room in
-    let rest = laid-short place size most (numbered body at width value) fields first.rest (omega arith) leads in
+    let rest =
+    laid-short place size most (numbered body at width value) fields first.rest (omega arith)
+    leads in
     omega arith
 laid-short place size most body (reference at object ∷ fields) test room leads =
     let first = first-of at 4 size fields test in
@@ -43,12 +47,16 @@ laid-short place size most body (reference at object ∷ fields) test room leads
     let same = length-numbered body at size w32 (target.place - (place + at)) first.ends room in
     let joined = length-append over target.bytes in
     let adds : length target.bytes ≤ one = leads.1.0 (place + length body) in
-    let rest = laid-short place size (most - one) (over ++ target.bytes) fields first.rest (omega arith) leads.1.2 in
+    let rest =
+    laid-short place size (most - one) (over ++ target.bytes) fields first.rest (omega arith)
+    leads.1.2 in
     omega (arith, adds, leads.1.1)
-laid-short place size most body (absent ∷ fields) test room leads = laid-short place size most body fields test room leads
+laid-short place size most body (absent ∷ fields) test room leads =
+    laid-short place size most body fields test room leads
 
 -- a table with its vtable, the gaps, and what it leads to
-table-short : (size most : ℕ) (fields : List Field) → IsTable size fields → LeadTo most fields → AddsAtMost (table size fields) (18 + 2 * length fields + size + most)
+table-short : (size most : ℕ) (fields : List Field) → IsTable size fields → LeadTo most fields
+    → AddsAtMost (table size fields) (18 + 2 * length fields + size + most)
 table-short size most fields is leads end =
     let vtable : List ℕ = vtable_of size fields in
     let first : ℕ = aligned end in
@@ -57,24 +65,31 @@ table-short size most fields is leads end =
     let all : List Field = number 0 w32 (place - first) ∷ fields in
     let body : List ℕ = with_fields place (replicate size 0) all in
     let one : length (gap end first) ≡ first - end = length-replicate (first - end) 0 in
-    let two : length (gap first_end place) ≡ place - first_end = length-replicate (place - first_end) 0 in
+    let two : length (gap first_end place) ≡ place - first_end =
+    length-replicate (place - first_end) 0 in
     let room : length (replicate {A = ℕ} size 0) ≡ size = length-replicate size 0 in
     let words : length vtable ≡ 4 + 2 * length fields = length-vtable size fields in
-    let a : length (gap end first ++ vtable) ≡ length (gap end first) + length vtable = length-append (gap end first) vtable in
-    let b : length (gap end first ++ vtable ++ gap first_end place) ≡ length (gap end first ++ vtable) + length (gap first_end place) =
+    let a : length (gap end first ++ vtable) ≡ length (gap end first) + length vtable =
+    length-append (gap end first) vtable in
+    let b : length (gap end first ++ vtable ++ gap first_end place)
+    ≡ length (gap end first ++ vtable) + length (gap first_end place) =
     length-append (gap end first ++ vtable) (gap first_end place) in
-    let c : length (gap end first ++ vtable ++ gap first_end place ++ body) ≡ length (gap end first ++ vtable ++ gap first_end place) + length body =
+    let c : length (gap end first ++ vtable ++ gap first_end place ++ body)
+    ≡ length (gap end first ++ vtable ++ gap first_end place) + length body =
     length-append (gap end first ++ vtable ++ gap first_end place) body in
-    let short : length body ≤ length (replicate {A = ℕ} size 0) + most = laid-short place size most (replicate size 0) all is.apart (omega arith) leads in
+    let short : length body ≤ length (replicate {A = ℕ} size 0) + most =
+    laid-short place size most (replicate size 0) all is.apart (omega arith) leads in
     omega arith
 
-vector-short : (count : ℕ) (elements : List ℕ) → AddsAtMost (vector count elements) (11 + length elements)
+vector-short : (count : ℕ) (elements : List ℕ)
+    → AddsAtMost (vector count elements) (11 + length elements)
 vector-short count elements end =
     let zeros : List ℕ = gap end (length_place end) in
     let word : List ℕ = to_le_bytes w32 count in
     let one : length zeros ≡ length_place end - end = length-replicate (length_place end - end) 0 in
     let a : length (zeros ++ word) ≡ length zeros + length word = length-append zeros word in
-    let b : length (zeros ++ word ++ elements) ≡ length (zeros ++ word) + length elements = length-append (zeros ++ word) elements in
+    let b : length (zeros ++ word ++ elements) ≡ length (zeros ++ word) + length elements =
+    length-append (zeros ++ word) elements in
     let four : length word ≡ 4 = length-number w32 count in
     omega arith
 
@@ -84,7 +99,8 @@ string-short text end =
     let all = vector-short (length text) (text ++ 0 ∷ []) end in
     omega arith
 
-tables-short : (most : ℕ) (tables : List Object) → LeadTo most (references 4 tables) → AddsAtMost (vector_of_tables tables) (11 + 4 * length tables + most)
+tables-short : (most : ℕ) (tables : List Object) → LeadTo most (references 4 tables)
+    → AddsAtMost (vector_of_tables tables) (11 + 4 * length tables + most)
 tables-short most tables leads end =
     let place : ℕ = length_place end in
     let size : ℕ = 4 + 4 * length tables in
@@ -94,32 +110,56 @@ tables-short most tables leads end =
     let one : length zeros ≡ place - end = length-replicate (place - end) 0 in
     let room : length (replicate {A = ℕ} size 0) ≡ size = length-replicate size 0 in
     let a : length (zeros ++ body) ≡ length zeros + length body = length-append zeros body in
-    let short : length body ≤ length (replicate {A = ℕ} size 0) + most = laid-short place size most (replicate size 0) all (references-apart tables) (omega arith) leads in
+    let short : length body ≤ length (replicate {A = ℕ} size 0) + most =
+    laid-short place size most (replicate size 0) all (references-apart tables) (omega arith)
+    leads in
     omega arith
 
 type-short : (values : Values) → AddsAtMost (type_table_in values) 31
-type-short (signed width) end = table-short 9 0 (int_fields (8 * byte_len width) 1) (record { apart = refl; fit = refl }) tt end
-type-short (unsigned width) end = table-short 9 0 (int_fields (8 * byte_len width) 0) (record { apart = refl; fit = refl }) tt end
-type-short truths end = let short = table-short 4 0 [] (record { apart = refl; fit = refl }) tt end in omega arith
-type-short texts end = let short = table-short 4 0 [] (record { apart = refl; fit = refl }) tt end in omega arith
-type-short blobs end = let short = table-short 4 0 [] (record { apart = refl; fit = refl }) tt end in omega arith
+type-short (signed width) end =
+    table-short 9 0 (int_fields (8 * byte_len width) 1) (record { apart = refl; fit = refl }) tt end
+type-short (unsigned width) end =
+    table-short 9 0 (int_fields (8 * byte_len width) 0) (record { apart = refl; fit = refl }) tt end
+type-short truths end =
+    let short = table-short 4 0 [] (record { apart = refl; fit = refl }) tt end in omega arith
+type-short texts end =
+    let short = table-short 4 0 [] (record { apart = refl; fit = refl }) tt end in omega arith
+type-short blobs end =
+    let short = table-short 4 0 [] (record { apart = refl; fit = refl }) tt end in omega arith
 
 -- how many bytes a column's field adds at most, with a name of as many as there may be
 abbrev most_of_field : ℕ
 most_of_field = 65637
 
-field-short : (column : Column) → length column.name ≤ most_bytes → AddsAtMost (field_table column) most_of_field
+field-short : (column : Column) → length column.name ≤ most_bytes
+    → AddsAtMost (field_table column) most_of_field
 field-short column short end =
-    let name : AddsAtMost (string column.name) 65547 = λ at. (let all = string-short column.name at in omega arith) in
+    let name : AddsAtMost (string column.name) 65547 =
+    λ at. (let all = string-short column.name at in omega arith) in
     let none = tables-short 0 [] tt in
-    table-short 18 65589 (column_fields column) (record { apart = refl; fit = refl })
-    (65547, (name, omega arith, (31, (type-short (values_of column.kind), omega arith, (11, (none, omega arith, tt)))))) end
+    table-short 18 65589 (column_fields column) (record { apart = refl; fit = refl }) (
+      65547,
+      (
+        name,
+        omega arith,
+        (
+          31,
+          (
+            type-short (values_of column.kind),
+            omega arith,
+            (11, (none, omega arith, tt)),
+          ),
+        ),
+      ),
+    ) end
 
-fields-lead : (from : ℕ) (columns : List Column) → All IsName columns → LeadTo (most_of_field * length columns) (references from (map field_table columns))
+fields-lead : (from : ℕ) (columns : List Column) → All IsName columns
+    → LeadTo (most_of_field * length columns) (references from (map field_table columns))
 fields-lead from [] named = tt
 fields-lead from (column ∷ columns) named =
     let P : ℕ → Type 0 = λ n. LeadTo n (references (from + 4) (map field_table columns)) in
-    let left : most_of_field * length columns ≡ most_of_field * length (column ∷ columns) - most_of_field = omega arith in (
+    let left : most_of_field * length columns
+    ≡ most_of_field * length (column ∷ columns) - most_of_field = omega arith in (
       most_of_field,
       (
         field-short column (All-head IsName column columns named).1,
@@ -132,15 +172,20 @@ fields-lead from (column ∷ columns) named =
 abbrev pub most_of_schema : ℕ → ℕ
 most_of_schema columns = 97 + 65641 * columns
 
-pub schema-short : (columns : List Column) → All IsName columns → length (flatbuffer_of (schema columns) 0) ≤ most_of_schema (length columns)
+pub schema-short : (columns : List Column) → All IsName columns
+    → length (flatbuffer_of (schema columns) 0) ≤ most_of_schema (length columns)
 schema-short columns named =
     let tables : List Object = map field_table columns in
     let count : length tables ≡ length columns = length-map columns field_table in
     let fields : ℕ = most_of_field * length columns in
     let vector : ℕ = 11 + 4 * length tables + fields in
-    let vector_adds : AddsAtMost (vector_of_tables tables) vector = tables-short fields tables (fields-lead 4 columns named) in
+    let vector_adds : AddsAtMost (vector_of_tables tables) vector =
+    tables-short fields tables (fields-lead 4 columns named) in
     let schema_adds : AddsAtMost (schema_table columns) (18 + 2 * 2 + 10 + vector) =
-    table-short 10 vector (schema_fields columns) (record { apart = refl; fit = refl }) (vector, (vector_adds, omega arith, tt)) in
+    table-short 10 vector (schema_fields columns) (record { apart = refl; fit = refl })
+    (vector, (vector_adds, omega arith, tt)) in
     let one : ℕ = 18 + 2 * 2 + 10 + vector in
-    let message = table-short 20 one (message_fields (schema columns) 0) (record { apart = refl; fit = refl }) (one, (schema_adds, omega arith, tt)) 8 in
+    let message =
+    table-short 20 one (message_fields (schema columns) 0) (record { apart = refl; fit = refl })
+    (one, (schema_adds, omega arith, tt)) 8 in
     omega arith

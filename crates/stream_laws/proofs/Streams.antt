@@ -16,25 +16,41 @@ use Rattle.stream_laws.proofs.Frames.{end-framed, length-message}
 use Rattle.stream_laws.proofs.SchemaMessages.{schema_is_read}
 
 -- a message has some bytes
-message-some : (columns : List Column) (rows : List (List Cell)) → 0 < length (batch_message columns rows)
+message-some : (columns : List Column) (rows : List (List Cell))
+    → 0 < length (batch_message columns rows)
 message-some columns rows =
     let batch : Batch = batch_of columns rows in
-    omega (arith, length-message (flatbuffer_of (record_batch batch.rows batch.nodes batch.buffers) (length batch.body)) batch.body)
+    omega (
+      arith,
+      length-message (flatbuffer_of (record_batch batch.rows batch.nodes batch.buffers)
+          (length batch.body)) batch.body,
+    )
 
 -- so there are no more batches than bytes
-batches-few : (columns : List Column) (batches : List (List (List Cell))) → length batches ≤ length (flat_map (batch_message columns) batches)
+batches-few : (columns : List Column) (batches : List (List (List Cell)))
+    → length batches ≤ length (flat_map (batch_message columns) batches)
 batches-few columns [] = omega arith
 batches-few columns (rows ∷ batches) =
-    omega (arith, length-append (batch_message columns rows) (flat_map (batch_message columns) batches), message-some columns rows, batches-few columns batches)
+    omega (
+      arith,
+      length-append (batch_message columns rows)
+          (flat_map (batch_message columns) batches),
+      message-some columns rows,
+      batches-few columns
+          batches,
+    )
 
 -- the end word ends the batches, whatever follows it
-end-read : (columns : List Column) (after : List ℕ) → next_batch columns (end_word ++ after) ≡ Ok None
+end-read : (columns : List Column) (after : List ℕ)
+    → next_batch columns (end_word ++ after) ≡ Ok None
 end-read columns after = let is = end-framed after in rw is refl
 
 -- the batches from a place on, up to the end word
-batches-read : (more place : ℕ) (columns : List Column) (batches : List (List (List Cell))) (after : List ℕ)
+batches-read : (more place : ℕ) (columns : List Column) (batches : List (List (List Cell)))
+    (after : List ℕ)
     → AreTold columns → All (IsBatch columns) batches → length batches < more
-    → batches_from more columns place (flat_map (batch_message columns) batches ++ (end_word ++ after))
+    → batches_from more columns place (flat_map (batch_message columns) batches
+    ++ (end_word ++ after))
     ≡ record { schema = Some columns; batches = batches; fault = None }
 batches-read zero place columns batches after told all few = absurd (omega arith)
 batches-read (suc more) place columns [] after told all few =
@@ -43,14 +59,17 @@ batches-read (suc more) place columns (rows ∷ batches) after told all few =
     let message : List ℕ = batch_message columns rows in
     let rest : List ℕ = flat_map (batch_message columns) batches ++ (end_word ++ after) in
     let is : IsBatch columns rows = All-head (IsBatch columns) rows batches all in
-    let parts : flat_map (batch_message columns) (rows ∷ batches) ++ (end_word ++ after) ≡ message ++ rest =
+    let parts : flat_map (batch_message columns) (rows ∷ batches) ++ (end_word ++ after) ≡ message
+    ++ rest =
     append_assoc message (flat_map (batch_message columns) batches) (end_word ++ after) in
     let one = batch_is_read columns rows rest told is in
-    let behind : drop (length message) (message ++ rest) ≡ rest = drop_at message rest (length message) refl in
+    let behind : drop (length message) (message ++ rest) ≡ rest =
+    drop_at message rest (length message) refl in
     let others =
     batches-read more (place + length message) columns batches after told
     (All-tail (IsBatch columns) rows batches all) (omega arith) in
-    ap (batches_from (suc more) columns place) parts ∙ rw (one, batches_from) (rw (behind, others) refl)
+    ap (batches_from (suc more) columns place) parts
+    ∙ rw (one, batches_from) (rw (behind, others) refl)
 
 pub stream_ends : StreamEnds
 stream_ends columns batches after told all =
@@ -59,17 +78,21 @@ stream_ends columns batches after told all =
     let rest : List ℕ = messages ++ (end_word ++ after) in
     let bytes : List ℕ = stream_of columns batches ++ after in
     let parts : bytes ≡ schema ++ rest =
-    append_assoc (schema ++ messages) end_word after ∙ append_assoc schema messages (end_word ++ after) in
+    append_assoc (schema ++ messages) end_word after
+    ∙ append_assoc schema messages (end_word ++ after) in
     let first : first_schema bytes ≡ Ok (record { columns = columns; size = length schema }) =
     ap first_schema parts ∙ schema_is_read columns rest told in
     let behind : drop (length schema) bytes ≡ rest =
     ap (drop (length schema)) parts ∙ drop_at schema rest (length schema) refl in
-    let long : length bytes ≡ length schema + length rest = ap length parts ∙ length-append schema rest in
+    let long : length bytes ≡ length schema + length rest =
+    ap length parts ∙ length-append schema rest in
     let enough : length batches < length bytes + 1 =
     omega (arith, long, length-append messages (end_word ++ after), batches-few columns batches) in
-    let others = batches-read (length bytes + 1) (length schema) columns batches after told all enough in
+    let others =
+    batches-read (length bytes + 1) (length schema) columns batches after told all enough in
     rw (first, reading_of) (rw behind others)
 
 pub stream_is_read : StreamIsRead
 stream_is_read columns batches told all =
-    ap reading_of (sym (append-nil (stream_of columns batches))) ∙ stream_ends columns batches [] told all
+    ap reading_of (sym (append-nil (stream_of columns batches)))
+    ∙ stream_ends columns batches [] told all

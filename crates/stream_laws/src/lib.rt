@@ -3,7 +3,7 @@
 //! Each function here is one law. It does nothing; its contract is the law.
 #![tactic(auto)]
 
-ghost use Rattle.stream_laws.specs.Laws.{BatchIsRead, OneReading, SchemaIsRead, StreamEnds, StreamIsRead, TablesAreTold};
+ghost use Rattle.stream_laws.specs.Laws.{BatchIsRead, NineRowsAreTold, OneReading, SchemaIsRead, StreamEnds, StreamIsRead, TablesAreTold};
 
 /// A schema's message, whatever follows it, reads as its columns.
 pub fn a_schema_is_read_back()
@@ -28,6 +28,11 @@ pub fn a_stream_ends_with_its_end_word()
 /// The columns of a table are some that a stream can tell.
 pub fn the_columns_of_a_table_are_told()
     ensures { TablesAreTold }
+{}
+
+/// The nine rows of the worked example are batches that a stream can tell.
+pub fn nine_rows_are_told()
+    ensures { NineRowsAreTold }
 {}
 
 /// Bytes are a stream of one schema with one list of batches at most.

@@ -8,5 +8,8 @@ same_columns columns others is = cc
 
 pub returns : goal.returns
 returns c = λ bytes columns others batches more one two.
-    let both = sym one ∙ two in
-    (same_columns columns others (ap (λ (reading : Reading). reading.schema) both), ap (λ (reading : Reading). reading.batches) both)
+    let both = sym one ∙ two in (
+      same_columns columns others (ap (λ (reading : Reading). reading.schema) both),
+      ap
+          (λ (reading : Reading). reading.batches) both,
+    )

@@ -8,4 +8,10 @@ some-columns [] key = absurd (cc)
 some-columns (column ∷ columns) key = omega arith
 
 pub returns : goal.returns
-returns c = λ columns is. record { some = some-columns columns is.key; few = omega (arith, is.few); named = is.named }
+returns c =
+    λ columns is. record {
+      some = some-columns columns is.key;
+      few = omega (arith, is.few);
+      named =
+          is.named;
+    }
