@@ -62,8 +62,10 @@ pairs-read {X} reads bytes first k (pair ∷ pairs) fit has =
 
 abbrev pub batch_fields : ℕ → List (ℤ × ℤ) → List (ℤ × ℤ) → List Field
 batch_fields rows nodes buffers =
-    number 8 w64 rows ∷ reference 4 (vector_of_pairs nodes) ∷ reference 16
-    (vector_of_pairs buffers) ∷ []
+    number 8 w64 rows
+    ∷ reference 4 (vector_of_pairs nodes)
+    ∷ reference 16 (vector_of_pairs buffers)
+    ∷ []
 
 pub batch-there : (bytes : List ℕ) (end rows : ℕ) (nodes buffers : List (ℤ × ℤ))
     → Has bytes end (record_batch_table rows nodes buffers end).bytes
