@@ -1,5 +1,6 @@
 pub mod WordEnds
 pub mod Decimals
+pub mod NameLemmas
 pub mod Taken
 pub mod Spaces
 pub mod LineEnds

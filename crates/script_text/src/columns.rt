@@ -1,5 +1,5 @@
 //! Columns of a table line: `NAME:KIND`, as far as words have a colon.
-ghost use Rattle.std.specs.Prelude.{◌≡◌, ◌≤◌, ◌∷◌, [], length, take, bytes_eq, IfOk, true};
+ghost use Rattle.std.specs.Prelude.{◌≡◌, ◌≤◌, ◌∷◌, [], false, length, map, take, bytes_eq, IfOk, true};
 ghost use Rattle.std.specs.List.{list_all, list_any};
 ghost use Rattle.workload_spec.specs.Valid.{is_name, is_name_byte, is_lower_case};
 ghost use Rattle.workload_spec.specs.Extents.{is_extent};
@@ -9,6 +9,7 @@ ghost use Rattle.script_text.specs.Answers.{Gives};
 
 use crate::fault::WordFault;
 use crate::kinds::kind_of;
+use crate::names::Names;
 use crate::words::word_behind;
 use cell_model::{Bytes, Column, Kind, Schema};
 use std::alloc::{AllocError, Global};
@@ -73,21 +74,24 @@ fn colon_place(word: &[u8]) -> usize
     word.len()
 }
 
-/// A column behind others, where there is room for it: a name that none of them has, a colon and a kind.
-#[tactic(auto, using(crate::proofs::Taken::taken_name))]
+/// A column behind others, which have these names, where there is room for it: a name that none of them has, a colon
+/// and a kind.
 fn column_of(
     alloc: Global,
     extent: &Extent,
     columns: &[Column],
+    names: &Names,
     word: &[u8],
 ) -> Result<Column, WordFault>
-    ensures { Gives (λ column. column) result (column_of extent.now columns.now word.now) }
+    requires { names.now ≡ map (λ column. column.name) columns.now }
+    ensures read { Gives (λ column. column) result (column_of extent.now columns.now word.now) }
+    ensures own { IfOk result (λ column. list_any (λ name. bytes_eq name column.name) names.now ≡ false) }
 {
     let (name, kind) = split_colon(word);
     if !is_name(name) {
         return Err(WordFault::Bad(Cause::Name));
     }
-    if is_taken(name, columns) {
+    if names.contains(name) {
         return Err(WordFault::Bad(Cause::Twice));
     }
     let Some((kind, nullable)) = kind_of(kind) else {
@@ -101,13 +105,6 @@ fn column_of(
         kind,
         nullable,
     })
-}
-
-/// Whether one of the columns has the name.
-fn is_taken(name: &[u8], columns: &[Column]) -> bool
-    ensures { result ≡ list_any (λ column. bytes_eq column.name name.now) columns.now }
-{
-    columns.iter().any(|column| column.name.as_slice() == name)
 }
 
 /// The columns of a table, the key's and those of the words that have a colon, and what stands behind the last.
@@ -136,12 +133,15 @@ fn columns_of<'a>(
 {
     let mut columns = Vec::new(alloc);
     columns.push(key_column(alloc)?)?;
+    let mut names = Names::new(alloc);
+    names.push(alloc, b"key")?;
     let mut rest = words;
     while let Some((word, behind)) = word_behind(rest) {
         if !has_colon(word) {
             break;
         }
-        let column = column_of(alloc, extent, &columns, word)?;
+        let column = column_of(alloc, extent, &columns, &names, word)?;
+        names.push(alloc, column.name.as_slice())?;
         columns.push(column)?;
         rest = behind;
     }

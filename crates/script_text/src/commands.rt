@@ -1,5 +1,5 @@
 //! The lines of a round: a session and a command.
-ghost use Rattle.std.specs.Prelude.{◌≡◌, ◌^◌, ◌<◌, ℕ, ℤ, List, length, position, bytes_eq, drop, nat_lt, IfSome};
+ghost use Rattle.std.specs.Prelude.{◌≡◌, ◌^◌, ◌<◌, ℕ, ℤ, List, length, drop, nat_lt};
 ghost use Rattle.cell_model.specs.declared.cell.Cell.{Cell as CellValue};
 ghost use Rattle.workload_spec.specs.declared.command.Command.{Command as CommandValue};
 ghost use Rattle.workload_spec.specs.Reading.{words_of};
@@ -11,11 +11,12 @@ ghost use Rattle.script_text.specs.Verbs.{verb_form};
 ghost use Rattle.script_text.specs.Answers.{Gives};
 
 use crate::cells::row_of;
+use crate::declared::Declared;
 use crate::fault::WordFault;
 use crate::numbers::{first_number, key, natural};
 use crate::verbs::{Verb, takes, verb_of};
 use crate::words::{next_word, no_word, word_count};
-use cell_model::{Cell, Column, Row, TableDecl};
+use cell_model::{Cell, Column, Row};
 use std::alloc::Global;
 use workload_spec::{Cause, Command, Extent, Line};
 
@@ -23,7 +24,7 @@ use workload_spec::{Cause, Command, Extent, Line};
 pub fn line_of(
     alloc: Global,
     extent: &Extent,
-    tables: &[TableDecl],
+    tables: &Declared,
     sessions: u32,
     exported: bool,
     line: &[u8],
@@ -52,7 +53,7 @@ pub fn is_export(command: &Command) -> bool
 fn command_of(
     alloc: Global,
     extent: &Extent,
-    tables: &[TableDecl],
+    tables: &Declared,
     first: &[u8],
     words: &[u8],
 ) -> Result<Command, WordFault>
@@ -68,7 +69,7 @@ fn command_of(
 /// The command of this first word with the words behind it.
 fn command_by(
     alloc: Global,
-    tables: &[TableDecl],
+    tables: &Declared,
     verb: Verb,
     words: &[u8],
 ) -> Result<Command, WordFault>
@@ -120,7 +121,7 @@ fn alone(command: Command, words: &[u8]) -> Result<Command, WordFault>
 }
 
 /// The table that the one word names.
-fn table_in(tables: &[TableDecl], words: &[u8]) -> Result<u32, WordFault>
+fn table_in(tables: &Declared, words: &[u8]) -> Result<u32, WordFault>
     requires { length tables.now < 2 ^ 32 }
     ensures { (make : ℕ → CommandValue) → Gives make result (formed tables.now (OfTable make) (words_behind words.now)) }
 {
@@ -130,7 +131,7 @@ fn table_in(tables: &[TableDecl], words: &[u8]) -> Result<u32, WordFault>
 }
 
 /// The table and the key that the two words name.
-fn key_in(tables: &[TableDecl], words: &[u8]) -> Result<(u32, i64), WordFault>
+fn key_in(tables: &Declared, words: &[u8]) -> Result<(u32, i64), WordFault>
     requires { length tables.now < 2 ^ 32 }
     ensures { (make : ℕ → ℤ → CommandValue) → Gives (λ x. make x.0 x.1) result (formed tables.now (OfKey make) (words_behind words.now)) }
 {
@@ -143,7 +144,7 @@ fn key_in(tables: &[TableDecl], words: &[u8]) -> Result<(u32, i64), WordFault>
 }
 
 /// The table that the first word names, and the row of the others.
-fn row_in(alloc: Global, tables: &[TableDecl], words: &[u8]) -> Result<(u32, Row), WordFault>
+fn row_in(alloc: Global, tables: &Declared, words: &[u8]) -> Result<(u32, Row), WordFault>
     requires { length tables.now < 2 ^ 32 }
     ensures { (make : ℕ → List CellValue → CommandValue) → Gives (λ x. make x.0 x.1) result (formed tables.now (OfRow make) (words_behind words.now)) }
 {
@@ -160,7 +161,7 @@ fn row_in(alloc: Global, tables: &[TableDecl], words: &[u8]) -> Result<(u32, Row
 }
 
 /// The table and the block that the two words name.
-fn block_in(tables: &[TableDecl], words: &[u8]) -> Result<(u32, u32), WordFault>
+fn block_in(tables: &Declared, words: &[u8]) -> Result<(u32, u32), WordFault>
     requires { length tables.now < 2 ^ 32 }
     ensures { (make : ℕ → ℕ → CommandValue) → Gives (λ x. make x.0 x.1) result (formed tables.now (OfBlock make) (words_behind words.now)) }
 {
@@ -176,40 +177,31 @@ fn block_in(tables: &[TableDecl], words: &[u8]) -> Result<(u32, u32), WordFault>
 }
 
 /// The place of the table of this name.
-fn table_named(tables: &[TableDecl], name: &[u8]) -> Result<u32, WordFault>
+fn table_named(tables: &Declared, name: &[u8]) -> Result<u32, WordFault>
     requires { length tables.now < 2 ^ 32 }
     ensures { Gives (λ place. place) result (table_named tables.now name.now) }
 {
-    match place_of_name(tables, name) {
+    match tables.place(name) {
         Some(place) => Ok(place as u32),
         None => Err(WordFault::Bad(Cause::Unknown)),
     }
 }
 
-fn place_of_name(tables: &[TableDecl], name: &[u8]) -> Option<usize>
-    ensures place { result ≡ position (λ table. bytes_eq table.name name.now) tables.now }
-    ensures below { IfSome result (λ place. place < length tables.now) }
-{
-    tables
-        .iter()
-        .position(|table| table.name.as_slice() == name)
-}
-
 /// How many blocks the table at this place has.
-fn blocks_at(tables: &[TableDecl], table: u32) -> u32
+fn blocks_at(tables: &Declared, table: u32) -> u32
     ensures { (block : ℕ) → is_block_of tables.now table block ≡ nat_lt block result }
 {
-    match tables.get(table as usize) {
+    match tables.get(table) {
         Some(declared) => declared.blocks,
         None => 0,
     }
 }
 
 /// The columns of the table at this place.
-fn columns_at(tables: &[TableDecl], table: u32) -> &[Column]
+fn columns_at(tables: &Declared, table: u32) -> &[Column]
     ensures { result.now ≡ schema_at tables.now table }
 {
-    match tables.get(table as usize) {
+    match tables.get(table) {
         Some(declared) => declared.schema.columns(),
         None => &[],
     }

@@ -7,14 +7,14 @@ ghost use Rattle.workload_spec.specs.Grammar.{read_with, tables_from};
 ghost use Rattle.script_text.specs.Heads.{version_in, tables_in, sessions_in, workers_in, go_in};
 ghost use Rattle.script_text.specs.Answers.{LineGives};
 
+use crate::declared::Declared;
 use crate::fault::ScriptFault;
 use crate::head::{sessions_of, workers_of};
 use crate::lines::{next_line, split_line};
 use crate::rounds::rounds_of;
 use crate::table::{is_table_line, table_of};
-use cell_model::TableDecl;
 use std::alloc::Global;
-use workload_spec::{Cause, Extent, Rounds, Script, Tables};
+use workload_spec::{Cause, Extent, Rounds, Script};
 
 /// The workload within the extent that the bytes are, or the first line that is none of one, counted from 1, with the
 /// cause of the first word or rule on it that fails. An extent has room for a column, and no more than the whole format.
@@ -31,7 +31,7 @@ pub fn parse(alloc: Global, extent: &Extent, bytes: &[u8]) -> Result<Script, Scr
     let rounds = rounds_of(alloc, extent, &tables, sessions, at + 3, rest)?;
     Ok(Script {
         version: 1,
-        tables: Tables::from(tables),
+        tables: tables.into_tables(),
         sessions,
         workers,
         turns,
@@ -59,10 +59,10 @@ fn tables_of<'a>(
     alloc: Global,
     extent: &Extent,
     bytes: &'a [u8],
-) -> Result<(Vec<TableDecl>, &'a [u8]), ScriptFault>
+) -> Result<(Declared, &'a [u8]), ScriptFault>
     requires { is_extent extent.now ≡ true }
-    ensures read { LineGives (λ x. (x.0.items, parts line_feed x.1.now)) result (tables_in extent.now (parts line_feed bytes.now)) }
-    ensures few { IfOk result (λ x. length x.0.items < 2 ^ 31) }
+    ensures read { LineGives (λ x. (x.0, parts line_feed x.1.now)) result (tables_in extent.now (parts line_feed bytes.now)) }
+    ensures few { IfOk result (λ x. length x.0 < 2 ^ 31) }
 {
     let (first, _) = next_line(2, Cause::Table, bytes)?;
     if !is_table_line(first) {
@@ -79,12 +79,12 @@ fn further_tables<'a>(
     alloc: Global,
     extent: &Extent,
     bytes: &'a [u8],
-) -> Result<(Vec<TableDecl>, &'a [u8]), ScriptFault>
+) -> Result<(Declared, &'a [u8]), ScriptFault>
     requires { is_extent extent.now ≡ true }
-    ensures read { LineGives (λ x. (x.0.items, parts line_feed x.1.now)) result (tables_from extent.now 2 [] (parts line_feed bytes.now)) }
-    ensures few { IfOk result (λ x. length x.0.items < 2 ^ 31) }
+    ensures read { LineGives (λ x. (x.0, parts line_feed x.1.now)) result (tables_from extent.now 2 [] (parts line_feed bytes.now)) }
+    ensures few { IfOk result (λ x. length x.0 < 2 ^ 31) }
 {
-    let mut tables = Vec::new(alloc);
+    let mut tables = Declared::new(alloc);
     let mut rest = bytes;
     while let Some((line, behind)) = split_line(rest) {
         if !is_table_line(line) {
@@ -98,7 +98,7 @@ fn further_tables<'a>(
             });
         }
         match table_of(alloc, extent, &tables, line) {
-            Ok(table) => tables.push(table)?,
+            Ok(table) => tables = tables.with(alloc, table)?,
             Err(fault) => return Err(fault.on_line(at)),
         }
         rest = behind;

@@ -6,9 +6,9 @@ ghost use Rattle.workload_spec.specs.Grammar.{rounds_from};
 ghost use Rattle.script_text.specs.Answers.{LineGives};
 
 use crate::commands::{is_export, line_of};
+use crate::declared::Declared;
 use crate::fault::ScriptFault;
 use crate::lines::split_line;
-use cell_model::TableDecl;
 use std::alloc::Global;
 use workload_spec::{Cause, Extent, Line, Round};
 
@@ -16,7 +16,7 @@ use workload_spec::{Cause, Extent, Line, Round};
 pub fn rounds_of(
     alloc: Global,
     extent: &Extent,
-    tables: &[TableDecl],
+    tables: &Declared,
     sessions: u32,
     first: u64,
     bytes: &[u8],

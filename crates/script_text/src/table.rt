@@ -1,6 +1,5 @@
 //! A table's line.
-ghost use Rattle.std.specs.Prelude.{◌≡◌, ◌%◌, ◌==◌, true, codes, bytes_eq, Ok};
-ghost use Rattle.std.specs.List.{list_any};
+ghost use Rattle.std.specs.Prelude.{◌≡◌, ◌%◌, ◌==◌, true, false, codes, bytes_eq, IfOk, Ok};
 ghost use Rattle.cell_model.specs.Schemas.{most_slots_of};
 ghost use Rattle.workload_spec.specs.declared.script.Cause.TheVariants as cause;
 ghost use Rattle.workload_spec.specs.Extents.{is_extent};
@@ -12,6 +11,7 @@ ghost use Rattle.script_text.specs.Tables.{limits_of};
 ghost use Rattle.script_text.specs.Answers.{Gives};
 
 use crate::columns::{is_name, schema_of};
+use crate::declared::Declared;
 use crate::fault::WordFault;
 use crate::numbers::number;
 use crate::words::{first_keyword, keyword, next_word, no_word, split_word};
@@ -35,18 +35,19 @@ pub fn is_table_line(line: &[u8]) -> bool
 pub fn table_of(
     alloc: Global,
     extent: &Extent,
-    tables: &[TableDecl],
+    tables: &Declared,
     line: &[u8],
 ) -> Result<TableDecl, WordFault>
     requires { is_extent extent.now ≡ true }
-    ensures { Gives (λ table. table) result (table_of extent.now tables.now (words_of line.now)) }
+    ensures read { Gives (λ table. table) result (table_of extent.now tables.now (words_of line.now)) }
+    ensures own { IfOk result (λ table. is_declared table.name tables.now ≡ false) }
 {
     let rest = first_keyword(Cause::Table, b"table", line)?;
     let (name, rest) = next_word(Cause::Name, rest)?;
     if !is_name(name) {
         return Err(WordFault::Bad(Cause::Name));
     }
-    if is_declared(name, tables) {
+    if tables.contains(name) {
         return Err(WordFault::Bad(Cause::Twice));
     }
     let rest = keyword(Cause::Key, b"key:i64", rest)?;
@@ -58,13 +59,6 @@ pub fn table_of(
         slots,
         blocks,
     })
-}
-
-/// Whether one of the tables has the name.
-fn is_declared(name: &[u8], tables: &[TableDecl]) -> bool
-    ensures { result ≡ is_declared name.now tables.now }
-{
-    tables.iter().any(|table| table.name.as_slice() == name)
 }
 
 /// How many slots a block has, and how many blocks the table.

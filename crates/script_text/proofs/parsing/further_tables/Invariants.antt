@@ -6,8 +6,8 @@ use Rattle.script_text.proofs.parsing.further_tables.Given as goal
 
 abbrev pub invariant-loop-line : goal.invariant-loop-line
 invariant-loop-line l = record {
-  few : length l.tables.items ≤ l.extent.tables;
-  read : tables_from l.extent 2 [] (parts line_feed l.bytes) ≡ tables_from l.extent (length l.tables.items + 2) l.tables.items (parts line_feed l.rest);
+  few : length l.tables ≤ l.extent.tables;
+  read : tables_from l.extent 2 [] (parts line_feed l.bytes) ≡ tables_from l.extent (length l.tables + 2) l.tables (parts line_feed l.rest);
 }
 
 abbrev pub decreases-loop-line : goal.decreases-loop-line
