@@ -1,5 +1,5 @@
 -- What the calls of a store answer, and what it holds after them.
-use Rattle.std.proofs.Common.{◌≡◌, ◌+◌, ◌≤◌, ◌==◌, ◌&&◌, not, filter, fold, take_all, length-append, ap₂, IsSome, IsPermutation, ℕ, ℤ, Bool, true, false, List, [], ◌∷◌, ◌++◌, Option, None, Some, length, refl, ap, sym, ◌∙◌, subst, arith, inl}
+use Rattle.std.proofs.Common.{◌≡◌, ◌+◌, ◌≤◌, ◌==◌, ◌&&◌, not, filter, fold, take_all, length-append, ap₂, IsSome, IsPermutation, ℕ, ℤ, Bool, true, false, List, [], ◌∷◌, ◌++◌, Option, None, Some, length, refl, ap, sym, ◌∙◌, subst, arith, inl, inr, ◌<◌, ◌^◌}
 use Rattle.cell_model.specs.declared.cell.Cell.{Cell}
 use Rattle.cell_model.specs.declared.table.TableDecl.{TableDecl}
 use Rattle.std.specs.List.{list_all}
@@ -17,6 +17,7 @@ use Rattle.isolation_spec.specs.declared.command.Act.TheVariants as act
 use Rattle.isolation_spec.specs.declared.command.Answer.TheVariants as answer
 use Rattle.isolation_laws.proofs.Entries.{inserted, map_values}
 use Rattle.outcome_spec.specs.Entries.{Entry}
+use Rattle.timeline_spec.specs.Forms.{IsReplyWithin}
 use Rattle.timeline_spec.specs.Timeline.{Counts, said_of}
 use Rattle.workload_spec.specs.declared.command.Command.TheVariants as command
 use Rattle.workload_spec.specs.declared.reply.Said.TheVariants as said
@@ -29,9 +30,9 @@ abbrev pub request : Act → Request
 request asked = record { session = 1; act = asked }
 
 pub begun : (tables : List TableDecl) (store : Store) (front : List Entry) (machine : IsolationMachine) (number : ℕ)
-    → Holds tables store front machine → store.is_open ≡ false → number ≡ store.commits
+    → Holds tables store front machine → store.is_open ≡ false → number ≡ store.commits → number < 2 ^ 64
     → Answers tables front machine command.Begin (said.At number) (record store { is_open = true })
-begun tables store front machine number holds closed same =
+begun tables store front machine number holds closed same small =
     let after : IsolationMachine = record machine {
       open_transactions = machine.open_transactions ++ record { session = 1; snapshot = length machine.history; own = [] } ∷ [];
     } in
@@ -45,6 +46,7 @@ begun tables store front machine number holds closed same =
         allows = ap (step_of machine (request act.Begin)) (none_open tables store front machine holds closed);
       };
       counts = tt;
+      may_stand = inr small;
       holds = λ at round index. quiet tables (record store { is_open = true }) front after (reply at round index command.Begin (said.At number)) (λ table. refl) (record {
         own = [];
         seen = holds.seen ∙ ap (inserted place_cmp (state_at machine.history (length machine.history))) own_empty;
@@ -88,6 +90,7 @@ refused_without tables store front machine holds closed = (
       allows = ap (step_of machine (request (act.Get table key))) (none_open tables store front machine holds closed);
     };
     counts = tt;
+    may_stand = inr refl;
     holds = λ at round index. quiet tables store front machine (reply at round index (command.Get table key) said.NoTransaction) (λ other. refl) holds;
   },
   λ table row. record {
@@ -98,6 +101,7 @@ refused_without tables store front machine holds closed = (
       allows = ap (step_of machine (request (act.Insert table row))) (none_open tables store front machine holds closed);
     };
     counts = tt;
+    may_stand = inr refl;
     holds = λ at round index. quiet tables store front machine (reply at round index (command.Insert table row) said.NoTransaction) (λ other. unaccepted other table) holds;
   },
   record {
@@ -108,6 +112,7 @@ refused_without tables store front machine holds closed = (
       allows = ap (step_of machine (request act.Commit)) (none_open tables store front machine holds closed);
     };
     counts = tt;
+    may_stand = inr refl;
     holds = λ at round index. quiet tables store front machine (reply at round index command.Commit said.NoTransaction) (λ other. refl) holds;
   },
 )
@@ -115,6 +120,10 @@ refused_without tables store front machine holds closed = (
 counted : (tables : List TableDecl) (front : List Entry) (table : ℕ) (key : ℤ) (found : Option (List Cell)) → Counts tables front (command.Get table key) (said_of (answer.Found found))
 counted tables front table key None = tt
 counted tables front table key (Some row) = tt
+
+got_stands : (table : ℕ) (key : ℤ) (found : Option (List Cell)) → IsReplyWithin (command.Get table key) (said_of (answer.Found found))
+got_stands table key None = tt
+got_stands table key (Some row) = tt
 
 -- a call that a store answers as the machine does and that changes nothing, in a transaction
 pub answered_within : (tables : List TableDecl) (store : Store) (front : List Entry) (machine : IsolationMachine) (table : ℕ) (key : ℤ) (found : Option (List Cell))
@@ -132,6 +141,7 @@ answered_within tables store front machine table key found holds is same =
             ∙ ap (λ (f : Option (List Cell)). (answer.Found f, machine)) (sym same);
       };
       counts = counted tables front table key found;
+      may_stand = inl (got_stands table key found);
       holds = λ at round index. quiet tables store front machine (reply at round index (command.Get table key) (said_of (answer.Found found))) (λ other. refl) holds;
     }
 
@@ -146,6 +156,7 @@ get_refused tables store front machine table key holds is = record {
     allows = (inl tt, subst IsSome (sym (one_open tables store front machine holds is)) refl, refl);
   };
   counts = tt;
+  may_stand = inl tt;
   holds = λ at round index. quiet tables store front machine (reply at round index (command.Get table key) said.Memory) (λ other. refl) holds;
 }
 
@@ -159,6 +170,7 @@ begun_before tables store front machine holds is = record {
     allows = ap (step_of machine (request act.Begin)) (one_open tables store front machine holds is);
   };
   counts = tt;
+  may_stand = inl refl;
   holds = λ at round index. quiet tables store front machine (reply at round index command.Begin said.InTransaction) (λ other. refl) holds;
 }
 
@@ -183,8 +195,9 @@ pub committed_by : (tables : List TableDecl) (store after : Store) (front : List
     → (holds : Holds tables store front machine) → holds.own ≡ own → store.is_open ≡ true
     → after.seen.entries ≡ store.seen.entries → after.written.entries ≡ [] → after.is_open ≡ false → after.tables.items ≡ store.tables.items
     → ((own ≡ [] → after.commits ≡ store.commits) × ((e : Place × List Cell) (es : State) → own ≡ e ∷ es → after.commits ≡ store.commits + 1))
+    → ((e : Place × List Cell) (es : State) → own ≡ e ∷ es → after.commits < 2 ^ 64)
     → Answers tables front machine command.Commit (said.Committed (numbered own store.commits)) after
-committed_by tables store after front machine [] holds own_is is seen written closed keyed counts =
+committed_by tables store after front machine [] holds own_is is seen written closed keyed counts small =
     let open_is : machine.open_transactions ≡ opened true (length machine.history) holds.own = holds.transactions ∙ ap (λ (b : Bool). opened b (length machine.history) holds.own) is in
     let next : IsolationMachine = without 1 machine in
     record {
@@ -196,6 +209,7 @@ committed_by tables store after front machine [] holds own_is is seen written cl
             ∙ ap (λ (own : State). step_within machine (transaction (length machine.history) own) act.Commit) own_is;
       };
       counts = tt;
+      may_stand = inl tt;
       holds = λ at round index. quiet tables after front next (reply at round index command.Commit (said.Committed None)) (λ other. refl) (record {
         own = [];
         seen = seen ∙ holds.seen ∙ ap (inserted place_cmp (state_at machine.history (length machine.history))) own_is;
@@ -216,7 +230,7 @@ committed_by tables store after front machine [] holds own_is is seen written cl
         counted = λ table. holds.counted table ∙ ap (λ ts. length (keys_in ts table)) (sym keyed);
       });
     }
-committed_by tables store after front machine (e ∷ es) holds own_is is seen written closed keyed counts =
+committed_by tables store after front machine (e ∷ es) holds own_is is seen written closed keyed counts small =
     let open_is : machine.open_transactions ≡ opened true (length machine.history) holds.own = holds.transactions ∙ ap (λ (b : Bool). opened b (length machine.history) holds.own) is in
     let writes : WriteSet = map_values Some (e ∷ es) in
     let next : IsolationMachine = record (without 1 machine) { history = machine.history ++ writes ∷ [] } in
@@ -230,6 +244,7 @@ committed_by tables store after front machine (e ∷ es) holds own_is is seen wr
             ∙ ap (λ (own : State). step_within machine (transaction (length machine.history) own) act.Commit) own_is;
       };
       counts = tt;
+      may_stand = inl (let same = counts.1 e es refl in let few = small e es refl in omega (arith, same, few));
       holds = λ at round index. quiet tables after front next (reply at round index command.Commit (said.Committed (Some (store.commits + 1)))) (λ other. refl) (record {
         own = [];
         seen = seen ∙ holds.seen ∙ ap (inserted place_cmp (state_at machine.history (length machine.history))) own_is
@@ -271,26 +286,26 @@ pub committed_none : (tables : List TableDecl) (store : Store) (front : List Ent
 committed_none tables store front machine holds is none =
     let own_is : holds.own ≡ [] = none_written holds.own (sym (own_of_written tables store front machine holds) ∙ none) in
     committed_by tables store (record store { is_open = false }) front machine [] holds own_is is refl (holds.written ∙ ap (map_values (λ _. tt)) own_is) refl refl
-    (λ _. refl, λ e es bad. absurd cc)
+    (λ _. refl, λ e es bad. absurd cc) (λ e es bad. absurd cc)
 
 committed_some_by : (tables : List TableDecl) (store after : Store) (front : List Entry) (machine : IsolationMachine) (own : State)
     → (holds : Holds tables store front machine) → holds.own ≡ own → store.is_open ≡ true → (length store.written.entries ≡ 0 → ⊥)
     → after.seen.entries ≡ store.seen.entries → after.written.entries ≡ [] → after.is_open ≡ false → after.tables.items ≡ store.tables.items
-    → after.commits ≡ store.commits + 1
+    → after.commits ≡ store.commits + 1 → after.commits < 2 ^ 64
     → Answers tables front machine command.Commit (said.Committed (Some after.commits)) after
-committed_some_by tables store after front machine [] holds own_is is some seen written closed keyed counted =
+committed_some_by tables store after front machine [] holds own_is is some seen written closed keyed counted small =
     absurd (some (own_of_written tables store front machine holds ∙ ap length own_is))
-committed_some_by tables store after front machine (e ∷ es) holds own_is is some seen written closed keyed counted =
+committed_some_by tables store after front machine (e ∷ es) holds own_is is some seen written closed keyed counted small =
     subst (λ (n : ℕ). Answers tables front machine command.Commit (said.Committed (Some n)) after) (sym counted)
-    (committed_by tables store after front machine (e ∷ es) holds own_is is seen written closed keyed (λ bad. absurd cc, λ _ _ _. counted))
+    (committed_by tables store after front machine (e ∷ es) holds own_is is seen written closed keyed (λ bad. absurd cc, λ _ _ _. counted) (λ _ _ _. small))
 
 -- a commit that wrote
 pub committed_some : (tables : List TableDecl) (store after : Store) (front : List Entry) (machine : IsolationMachine)
     → Holds tables store front machine → store.is_open ≡ true → (length store.written.entries ≡ 0 → ⊥)
     → after.seen.entries ≡ store.seen.entries → after.written.entries ≡ [] → after.is_open ≡ false → after.tables.items ≡ store.tables.items
-    → ((store.commits + 1 ≤ length store.seen.entries) → after.commits ≡ store.commits + 1)
+    → ((store.commits + 1 ≤ length store.seen.entries) → after.commits ≡ store.commits + 1) → after.commits < 2 ^ 64
     → Answers tables front machine command.Commit (said.Committed (Some after.commits)) after
-committed_some tables store after front machine holds is some seen written closed keyed counted =
+committed_some tables store after front machine holds is some seen written closed keyed counted small =
     let own = own_of_written tables store front machine holds in
     let least : 1 ≤ length holds.own = some_length (length holds.own) (λ none. some (own ∙ none)) in
-    committed_some_by tables store after front machine holds.own holds refl is some seen written closed keyed (counted (omega (arith, holds.bounded, least)))
+    committed_some_by tables store after front machine holds.own holds refl is some seen written closed keyed (counted (omega (arith, holds.bounded, least))) small

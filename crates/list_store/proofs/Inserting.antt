@@ -1,5 +1,5 @@
 -- What an insert is answered, and what the store holds after it.
-use Rattle.std.proofs.Common.{◌≡◌, ◌≢◌, ◌+◌, ◌<◌, ◌≤◌, ◌==◌, ◌&&◌, ℕ, ℤ, zero, suc, Bool, true, false, cond, not, nat_lt, ap₂, Less, Equal, Greater, List, [], ◌∷◌, ◌++◌, Option, None, Some, Ordering, IsSome, IsPermutation, count_by, filter, find, is_some, length, map, refl, ap, sym, ◌∙◌, subst, arith, inr, ⊎_elim, option_map, if◌then◌else◌, length-append}
+use Rattle.std.proofs.Common.{inl, ◌≡◌, ◌≢◌, ◌+◌, ◌<◌, ◌≤◌, ◌==◌, ◌&&◌, ℕ, ℤ, zero, suc, Bool, true, false, cond, not, nat_lt, ap₂, Less, Equal, Greater, List, [], ◌∷◌, ◌++◌, Option, None, Some, Ordering, IsSome, IsPermutation, count_by, filter, find, is_some, length, map, refl, ap, sym, ◌∙◌, subst, arith, inr, ⊎_elim, option_map, if◌then◌else◌, length-append}
 use Rattle.std.specs.BTreeMap.{insert_entry}
 use Rattle.std.specs.Cmp.{tied_itself}
 use Rattle.std.specs.List.{cons_option, last_or, list_all, range_with_len}
@@ -95,6 +95,7 @@ exists tables store front machine table row holds is seen = record {
     allows = step_is tables store front machine holds table row true is seen;
   };
   counts = tt;
+  may_stand = inl tt;
   holds = λ at round index. quiet tables store front machine (reply at round index (command.Insert table row) said.Exists) (λ other. uncounted_by (table == other)) holds;
 }
 
@@ -111,6 +112,7 @@ full tables store front machine table row holds is seen room = record {
     allows = (tt, ap (λ stepped. stepped.0) (step_is tables store front machine holds table row false is seen), refl);
   };
   counts = (let counted = holds.counted table in let rooms = holds.rooms table in omega (arith, room, counted, rooms));
+  may_stand = inl tt;
   holds = λ at round index. quiet tables store front machine (reply at round index (command.Insert table row) said.Full) (λ other. uncounted_by (table == other)) holds;
 }
 
@@ -126,6 +128,7 @@ refused tables store after front machine table row holds is left = record {
     allows = (inr (inr tt), subst IsSome (sym (one_open tables store front machine holds is)) refl, refl);
   };
   counts = tt;
+  may_stand = inl tt;
   holds = λ at round index. quiet tables after front machine (reply at round index (command.Insert table row) said.Memory) (λ other. uncounted_by (table == other)) (record {
     own = holds.own;
     seen = left.seen ∙ holds.seen;
@@ -293,6 +296,7 @@ accepted tables store after front machine table row holds is fresh fitting room 
         allows = step_is tables store front machine holds table row false is (ap is_some fresh);
       };
       counts = tt;
+      may_stand = inl tt;
       holds = λ at round index. record {
         own = own;
         seen = keeps.seen ∙ ap (λ (es : State). insert_entry place_cmp es place row) holds.seen

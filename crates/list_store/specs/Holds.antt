@@ -14,6 +14,7 @@ use Rattle.isolation_laws.proofs.Entries.{inserted, map_values}
 use Rattle.outcome_spec.specs.Entries.{Entry}
 use Rattle.outcome_spec.specs.Tables.{blocks_at, columns_at, slots_at}
 use Rattle.outcome_spec.specs.Upkeep.{is_accepted_insert}
+use Rattle.timeline_spec.specs.Forms.{MayStand}
 use Rattle.timeline_spec.specs.Timeline.{Counts, Takes}
 use Rattle.workload_spec.specs.declared.command.Command.{Command}
 use Rattle.workload_spec.specs.declared.reply.Said.{Said}
@@ -115,4 +116,5 @@ pub record Answers (tables : List TableDecl) (front : List Entry) (machine : Iso
   pub after : IsolationMachine
   pub takes : (number round index : ℕ) → Takes tables front machine (reply number round index asked told) after
   pub counts : Counts tables front asked told
+  pub may_stand : MayStand asked told
   pub holds : (number round index : ℕ) → Holds tables store (front ++ reply number round index asked told ∷ []) after

@@ -72,6 +72,17 @@ impl Store {
         Said::At(self.commits as u64)
     }
 
+    /// The snapshot of the open transaction: how many commits it sees; none where none is open.
+    pub fn snapshot(&self) -> Option<u64>
+        ensures { (tables : List Table) (front : List Entry) (machine : IsolationMachine) → Holds tables self.now front machine
+            → result ≡ option_map (λ t. t.snapshot) (transaction_of 1 machine) }
+    {
+        if !self.is_open {
+            return None;
+        }
+        Some(self.commits as u64)
+    }
+
     /// Asks for the row of a key.
     pub fn get(&self, table: u32, key: i64) -> Said
         ensures { (tables : List Table) (front : List Entry) (machine : IsolationMachine) → Holds tables self.now front machine

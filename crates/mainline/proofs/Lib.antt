@@ -1,13 +1,8 @@
 pub mod Asking
-pub mod Ends
-pub mod Replies
-pub mod Begins
-pub mod Lookups
-pub mod Inserted
-pub mod Committed
 pub mod Sending
 pub mod Exported
-pub mod Placed
 pub mod Running
+pub mod Asked
 pub mod Scripts
+pub mod Said
 pub mod Stopped

@@ -9,12 +9,10 @@ use Rattle.std.proofs.lemmas.List.Elements.{filter-append}
 use Rattle.std.proofs.lemmas.List.Folds.{list_all-append, list_any-append}
 use Rattle.std.proofs.lemmas.List.Sums.{sum_by-append}
 use Rattle.cell_model.specs.declared.table.TableDecl.{TableDecl}
-use Rattle.workload_spec.specs.Supported.{is_supported, is_supported_command}
+use Rattle.workload_spec.specs.Extents.{is_taken, RunsWithin}
 use Rattle.workload_spec.specs.Valid.{is_valid, is_export, is_line, is_within, is_command, has_head, all_lines}
 use Rattle.workload_spec.specs.declared.script.Line.{Line}
 use Rattle.workload_spec.specs.declared.script.Script.{Script}
-use Rattle.outcome_laws.specs.Laws.{commands_in}
-use Rattle.outcome_laws.proofs.ReadScripts.{parts_of_four, parts_of_seven}
 use Rattle.outcome_spec.specs.Explained.{Explained}
 use Rattle.byte_ports.specs.Calls.{AppendsFront}
 use Rattle.mainline.specs.Outcome.{AreFirstLines, Delivers, EndAtExport, Outside, Sends, Stops, lines_of, with_rounds}
@@ -22,7 +20,10 @@ use Rattle.mainline.specs.declared.fault.RunFault.{RunFault}
 use Rattle.mainline.specs.declared.fault.RunFault.TheVariants as fault
 use Rattle.mainline.specs.declared.status.Status.TheVariants as status
 use Rattle.mainline.specs.Sent.{LastExports, PlayEnds, RanFirst, RunsRound, StopsRound, status_of}
-use Rattle.mainline.proofs.Scripts.{Parts, round_explained}
+use Rattle.mainline.specs.Today.{today}
+use Rattle.mainline.proofs.Asked.{parts_of_four, parts_of_seven}
+use Rattle.mainline.proofs.Said.{round_explained}
+use Rattle.mainline.proofs.Scripts.{Parts, of_session_1, parts_of_script}
 
 -- what all have, the first have
 all_first : (test : Line → Bool) (all lines rest : List Line) → all ≡ lines ++ rest → list_all test all ≡ true → list_all test lines ≡ true
@@ -43,11 +44,11 @@ first_valid script lines rest first valid =
     (ap (λ (ls : List Line). nat_le (count_by is_sent ls) 1) own ∙ le-leb (count_by is_sent lines) 1 few)
 
 -- and it runs today where that does
-first_supported : (script : Script) (lines rest : List Line) → all_lines script ≡ lines ++ rest → is_supported script ≡ true → is_supported (with_rounds (lines ∷ []) script) ≡ true
-first_supported script lines rest first supported =
-    let runs : Line → Bool = λ line. is_supported_command line.command in
-    let whole = parts_of_seven (length script.tables == 1) (list_all (λ (table : TableDecl). length table.schema == 1) script.tables) (script.sessions == 1) (script.workers == 0) (script.turns == 0) (length script.rounds == 1)
-    (list_all runs (all_lines script)) supported in
+first_within : (script : Script) (lines rest : List Line) → all_lines script ≡ lines ++ rest → RunsWithin today script → RunsWithin today (with_rounds (lines ∷ []) script)
+first_within script lines rest first within =
+    let runs : Line → Bool = λ line. is_taken today.commands line.command in
+    let whole = parts_of_seven (nat_le (length script.tables) 16) (list_all (λ (table : TableDecl). nat_le (length table.schema) 32) script.tables) (nat_le script.sessions 1) (nat_le script.workers 0) (nat_le script.turns 0) (nat_le (length script.rounds) 1)
+    (list_all runs (all_lines script)) within in
     let own : all_lines (with_rounds (lines ∷ []) script) ≡ lines = append-nil lines in
     let checked = all_first runs (all_lines script) lines rest first whole.6 in
     and_from _ _ (and_from _ _ (and_from _ _ (and_from _ _ (and_from _ _ (and_from _ _ whole.0 whole.1) whole.2) whole.3) whole.4) refl)
@@ -57,9 +58,9 @@ first_supported script lines rest first supported =
 runs_whole : (script : Script) (round : List Line) (tables : List TableDecl) (text : List ℕ) (before now : Option (List ℕ))
     → tables ≡ script.tables → round ≡ all_lines script
     → RunsRound tables (map (λ (line : Line). line.command) round) text before now
-    → RunsRound script.tables (commands_in script) text before now
+    → RunsRound script.tables (map (λ (line : Line). line.command) (all_lines script)) text before now
 runs_whole script round tables text before now tables_are lines runs =
-    subst (λ (ts : List TableDecl). RunsRound ts (commands_in script) text before now) tables_are
+    subst (λ (ts : List TableDecl). RunsRound ts (map (λ (line : Line). line.command) (all_lines script)) text before now) tables_are
     (subst (λ (ls : List Line). RunsRound tables (map (λ (line : Line). line.command) ls) text before now) lines runs)
 
 -- nothing is due to a workload without a round
@@ -92,29 +93,24 @@ ends_at_export lines session all last = record {
 }
 
 -- the one session of a workload of today has all its lines
-all_of_one : (script : Script) (lines : List Line) → is_supported script ≡ true → list_all (is_line script) lines ≡ true → list_all (λ (line : Line). line.session == 1) lines ≡ true
-all_of_one script [] supported valid = refl
-all_of_one script (line ∷ lines) supported valid =
+all_of_one : (script : Script) (lines : List Line) → script.sessions ≡ 1 → list_all (is_line script) lines ≡ true → list_all (λ (line : Line). line.session == 1) lines ≡ true
+all_of_one script [] one valid = refl
+all_of_one script (line ∷ lines) one valid =
     let parts = and_parts (is_line script line) (list_all (is_line script) lines) valid in
-    let sessions : script.sessions ≡ 1 = eqb-true script.sessions 1 (parts_of_seven (length script.tables == 1) (list_all (λ (table : TableDecl). length table.schema == 1) script.tables) (script.sessions == 1) (script.workers == 0) (script.turns == 0) (length script.rounds == 1)
-    (list_all (λ (line : Line). is_supported_command line.command) (all_lines script)) supported).2 in
-    let bounds = and_parts (nat_le 1 line.session) (nat_le line.session script.sessions) (and_parts (is_within 1 script.sessions line.session) (is_command script.tables line.command) parts.0).0 in
-    let least : 1 ≤ line.session = leb-true 1 line.session bounds.0 in
-    let most : line.session ≤ script.sessions = leb-true line.session script.sessions bounds.1 in
-    let one : line.session ≡ 1 = omega (arith, least, most, sessions) in
-    and_from _ _ (eq-eqb line.session 1 one) (all_of_one script lines supported parts.1)
+    and_from _ _ (eq-eqb line.session 1 (of_session_1 script line one parts.0)) (all_of_one script lines one parts.1)
 
 -- a run whose one round stopped within these lines
 round_stops : (path : Option (List ℕ)) (script : Script) (parts : Parts script) (round lines : List Line) (before now : Outside) (exported exported_now : Option (List ℕ))
-    → is_valid script ≡ true → is_supported script ≡ true → round ≡ parts.round
+    → is_valid script ≡ true → RunsWithin today script → round ≡ parts.round
     → RanFirst script.tables round lines exported exported_now → now.printed ≡ before.printed
     → ((ran : Script) (output : List ℕ) → Sends ran output exported exported_now → Delivers path script ran output before now)
     → Stops path script lines before now
-round_stops path script parts round lines before now exported exported_now valid supported same ran printed delivers =
+round_stops path script parts round lines before now exported exported_now valid within same ran printed delivers =
     let first : all_lines script ≡ lines ++ ran.rest = parts.lines_are ∙ sym same ∙ ran.first in
     let own : all_lines (with_rounds (lines ∷ []) script) ≡ lines = append-nil lines in
     let explained = round_explained (with_rounds (lines ∷ []) script) ran.text exported exported_now
-    (first_valid script lines ran.rest first valid) (first_supported script lines ran.rest first supported)
+    (first_valid script lines ran.rest first valid)
+    (parts_of_script (with_rounds (lines ∷ []) script) (first_valid script lines ran.rest first valid) (first_within script lines ran.rest first within))
     (subst (λ (ls : List Line). RunsRound script.tables (map (λ (line : Line). line.command) ls) ran.text exported exported_now) (sym own) ran.runs) in
     record {
       whole = [];
@@ -143,14 +139,14 @@ last_asks lines last =
 
 -- how a run ends whose one round stopped
 pub stop_ends : (script : Script) (parts : Parts script) (round : List Line) (tables : List TableDecl) (told : RunFault) (printed exported exported_now : Option (List ℕ))
-    → is_valid script ≡ true → is_supported script ≡ true → round ≡ parts.round → tables ≡ script.tables
+    → is_valid script ≡ true → RunsWithin today script → round ≡ parts.round → tables ≡ script.tables
     → StopsRound tables round told exported exported_now → PlayEnds script (status_of told) printed printed exported exported_now
-stop_ends script parts round tables fault.Memory printed exported exported_now valid supported same tables_are stops = λ path before now was is delivers named. record {
+stop_ends script parts round tables fault.Memory printed exported exported_now valid within same tables_are stops = λ path before now was is delivers named. record {
   lines = stops.0;
-  stop = round_stops path script parts round stops.0 before now exported exported_now valid supported same
+  stop = round_stops path script parts round stops.0 before now exported exported_now valid within same
       (subst (λ (ts : List TableDecl). RanFirst ts round stops.0 exported exported_now) tables_are stops.1) (is ∙ sym was) delivers;
 }
-stop_ends script parts round tables fault.Export printed exported exported_now valid supported same tables_are stops = λ path before now was is delivers named.
+stop_ends script parts round tables fault.Export printed exported exported_now valid within same tables_are stops = λ path before now was is delivers named.
     let ran : RanFirst script.tables round stops.0 exported exported_now =
     subst (λ (ts : List TableDecl). RanFirst ts round stops.0 exported exported_now) tables_are stops.1 in
     let first : all_lines script ≡ stops.0 ++ ran.rest = parts.lines_are ∙ sym same ∙ ran.first in
@@ -163,19 +159,19 @@ stop_ends script parts round tables fault.Export printed exported exported_now v
           ∙ ap (λ (b : Bool). b || list_any (λ (line : Line). is_export line.command) ran.rest) (last_asks stops.0 stops.2);
       failed = inr (record {
         lines = stops.0;
-        last = ends_at_export stops.0 1 (all_of_one script stops.0 supported lines) stops.2;
-        stop = round_stops path script parts round stops.0 before now exported exported_now valid supported same ran (is ∙ sym was) delivers;
+        last = ends_at_export stops.0 1 (all_of_one script stops.0 parts.sessions_are lines) stops.2;
+        stop = round_stops path script parts round stops.0 before now exported exported_now valid within same ran (is ∙ sym was) delivers;
       });
     }
 
 -- how a run ends whose one round was run, and its text printed whole or in part
 pub whole_ends : (script : Script) (parts : Parts script) (round : List Line) (tables : List TableDecl) (text : List ℕ) (printed printed_now exported exported_now : Option (List ℕ))
-    → is_valid script ≡ true → is_supported script ≡ true → round ≡ parts.round → tables ≡ script.tables
+    → is_valid script ≡ true → RunsWithin today script → round ≡ parts.round → tables ≡ script.tables
     → RunsRound tables (map (λ (line : Line). line.command) round) text exported exported_now
     → (Appends printed printed_now text → PlayEnds script status.Done printed printed_now exported exported_now)
     × (AppendsFront printed printed_now text → PlayEnds script status.OutFault printed printed_now exported exported_now)
-whole_ends script parts round tables text printed printed_now exported exported_now valid supported same tables_are runs =
-    let explained = round_explained script text exported exported_now valid supported
+whole_ends script parts round tables text printed printed_now exported exported_now valid within same tables_are runs =
+    let explained = round_explained script text exported exported_now valid parts
     (runs_whole script round tables text exported exported_now tables_are (same ∙ sym parts.lines_are) runs) in (
       λ grown. λ path before now was is delivers named. record {
         output = text;

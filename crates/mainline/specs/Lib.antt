@@ -1,4 +1,4 @@
-pub mod Stands
+pub mod Today
 pub mod Words
 pub mod Codes
 pub mod Outcome

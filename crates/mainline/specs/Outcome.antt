@@ -17,12 +17,12 @@ use Rattle.workload_spec.specs.declared.script.Line.{Line}
 use Rattle.workload_spec.specs.declared.script.Script.{Script}
 use Rattle.workload_spec.specs.Grammar.{Fault, read_with, refused_text}
 use Rattle.workload_spec.specs.ScriptText.{script_text}
-use Rattle.workload_spec.specs.Extents.{today}
 use Rattle.workload_spec.specs.Valid.{is_valid, is_export, all_lines}
 use Rattle.outcome_spec.specs.Entries.{Entry}
 use Rattle.outcome_spec.specs.Explained.{Explained, run_in}
 use Rattle.outcome_spec.specs.Runs.{Run, Span, transaction_of}
 use Rattle.outcome_spec.specs.Tables.{columns_at, slots_at}
+use Rattle.mainline.specs.Today.{today}
 use Rattle.mainline.specs.Words.{Asked, ToRun, ToShow, ToCheck, ToBench, usage_line}
 use Rattle.mainline.specs.declared.status.Status.{Status}
 use Rattle.mainline.specs.declared.status.Status.TheVariants as status

@@ -1,27 +1,34 @@
--- What an export sends of a table's rows.
-use Rattle.std.specs.Prelude.{◌≡◌, ◌==◌, ◌&&◌, Bool, ℕ, ◌*◌, ◌^◌, ◌<◌, ◌≤◌, true, false, List, [], ◌∷◌, ◌++◌, length, map, All, Option, IsSome, Result, Ok, Err}
+-- What an export sends of a table's rows, and how the calls within a run end.
+use Rattle.std.specs.Prelude.{◌≡◌, ℕ, ◌<◌, ◌≤◌, ◌^◌, true, false, List, [], ◌∷◌, ◌++◌, length, map, All, Option, None, Some, IsSome, Result, Ok, Err}
 use Rattle.std.specs.Io.KnownBytes.{Appends}
+use Rattle.std.specs.List.{list_any, range_with_len}
 use Rattle.cell_model.specs.declared.cell.Cell.{Cell}
 use Rattle.cell_model.specs.declared.column.Column.{Column}
-use Rattle.arrow_spec.specs.Streams.{stream_of}
+use Rattle.cell_model.specs.declared.table.TableDecl.{TableDecl}
+use Rattle.cell_model.specs.Rows.{Fits}
+use Rattle.arrow_spec.specs.Streams.{batch_message, stream_of}
 use Rattle.byte_ports.specs.Calls.{AppendsFront, Rose}
 use Rattle.ipc_write.specs.declared.faults.PieceFault.{PieceFault}
 use Rattle.ipc_write.specs.declared.faults.PieceFault.TheVariants.{Sink, Memory}
 use Rattle.isolation_laws.specs.Inserts.{all_rows}
-use Rattle.std.specs.List.{list_any}
-use Rattle.cell_model.specs.declared.table.TableDecl.{TableDecl}
-use Rattle.cell_model.specs.Schemas.{begins_with_key}
-use Rattle.isolation_spec.specs.Contents.{contents_of}
+use Rattle.isolation_spec.specs.Contents.{contents_of, state_at}
+use Rattle.isolation_spec.specs.Machine.{IsolationMachine, Transaction, opening}
+use Rattle.outcome_spec.specs.Entries.{Entry}
+use Rattle.outcome_spec.specs.Forms.{Due, dues_to}
 use Rattle.outcome_spec.specs.Tables.{columns_at, slots_at}
-use Rattle.outcome_laws.specs.Alone.{Alone, opening, committed_state, after_answer, Served, replies_from}
+use Rattle.timeline_spec.specs.Forms.{AllMayStand}
+use Rattle.timeline_spec.specs.Printed.{printed_from}
+use Rattle.timeline_spec.specs.Timeline.{Runs, open_of}
+use Rattle.list_store.specs.Holds.{Answers, Holds, rows_in_block}
+use Rattle.list_store.specs.declared.store.Store.{Store}
 use Rattle.mainline.specs.Outcome.{IsStreamOf, IsFrontOf, Outside, Delivers, Sends, ScriptEnds}
-use Rattle.mainline.specs.Stands.{Answers}
-use Rattle.mainline.specs.declared.store.Store.{Store}
 use Rattle.workload_spec.specs.ReplyText.{replies_text}
-use Rattle.workload_spec.specs.Valid.{is_export, is_command}
-use Rattle.workload_spec.specs.Supported.{is_supported_command}
+use Rattle.workload_spec.specs.Valid.{is_export}
 use Rattle.workload_spec.specs.declared.command.Command.{Command}
 use Rattle.workload_spec.specs.declared.command.Command.TheVariants as command
+use Rattle.workload_spec.specs.declared.reply.ReplyLine.{ReplyLine}
+use Rattle.workload_spec.specs.declared.reply.Who.{Who}
+use Rattle.workload_spec.specs.declared.reply.Who.TheVariants.{Session}
 use Rattle.workload_spec.specs.declared.reply.Said.{Said}
 use Rattle.workload_spec.specs.declared.reply.Said.TheVariants as said
 use Rattle.workload_spec.specs.declared.script.Line.{Line}
@@ -29,79 +36,115 @@ use Rattle.workload_spec.specs.declared.script.Script.{Script}
 use Rattle.workload_spec.specs.Grammar.{refused_text}
 use Rattle.script_text.specs.declared.fault.ScriptFault.{ScriptFault}
 use Rattle.script_text.specs.declared.fault.ScriptFault.TheVariants as script_fault
+use Rattle.mainline.specs.declared.export.Sent.{Sent}
 use Rattle.mainline.specs.declared.fault.RunFault.{RunFault}
 use Rattle.mainline.specs.declared.fault.RunFault.TheVariants as fault
 use Rattle.mainline.specs.declared.status.Status.{Status}
 use Rattle.mainline.specs.declared.status.Status.TheVariants as status
 
--- the rows in groups, none of them empty or of more rows than a block has slots
-pub record IsGrouped (slots : ℕ) (rows : List (List Cell)) (groups : List (List (List Cell))) : Type 0 where
-  pub whole : all_rows groups ≡ rows
-  pub filled : All (λ (group : List (List Cell)). 0 < length group) groups
-  pub within : All (λ (group : List (List Cell)). length group ≤ slots) groups
+-- ---- what an export sends
 
--- The bytes are the canonical stream of the rows, in order, in so many batches: none is empty, as many blocks have room
--- for the rows, and there are no more of them than the table has.
-pub record SendsRows (columns : List Column) (slots blocks : ℕ) (rows : List (List Cell)) (before now : Option (List ℕ)) (batches : ℕ) : Type 0 where
-  pub groups : List (List (List Cell))
-  pub sent : Appends before now (stream_of columns groups)
-  pub grouped : IsGrouped slots rows groups
-  pub count : length groups ≡ batches
-  pub rows_bound : batches ≤ length rows
-  pub room : length rows ≤ batches * slots
-  pub blocks_bound : batches ≤ blocks
+-- the blocks that have a row
+abbrev pub filled : List (List (List Cell)) → List (List (List Cell))
+filled [] = []
+filled ([] ∷ blocks) = filled blocks
+filled ((row ∷ rows) ∷ blocks) = (row ∷ rows) ∷ filled blocks
 
--- The bytes are a front of a canonical stream of the rows in groups.
-pub record SendsFront (columns : List Column) (slots : ℕ) (rows : List (List Cell)) (before now : Option (List ℕ)) : Type 0 where
-  pub groups : List (List (List Cell))
+-- the message of a block's rows; none where it has none
+abbrev pub block_message : List Column → List (List Cell) → List ℕ
+block_message columns [] = []
+block_message columns (row ∷ rows) = batch_message columns (row ∷ rows)
+
+-- the rows of the first blocks of a table in the store, block by block
+abbrev pub blocks_in : Store → ℕ → ℕ → List (List (List Cell))
+blocks_in store table count = map (rows_in_block store table) (range_with_len 0 count)
+
+-- each block of a table in the store has at most so many rows, and they fit the columns
+pub record HasBlocksOf (columns : List Column) (slots : ℕ) (store : Store) (table : ℕ) : Type 0 where
+  pub few : (block : ℕ) → length (rows_in_block store table block) ≤ slots
+  pub fitting : (block : ℕ) → All (λ row. Fits columns row) (rows_in_block store table block)
+
+-- The bytes are the canonical stream of the blocks that have a row, so many rows in so many batches.
+pub record SendsBlocks (columns : List Column) (blocks : List (List (List Cell))) (before now : Option (List ℕ)) (sent : Sent) : Type 0 where
+  pub bytes : Appends before now (stream_of columns (filled blocks))
+  pub rows : sent.rows ≡ length (all_rows blocks)
+  pub batches : sent.batches ≡ length (filled blocks)
+
+-- The bytes are a front of that stream.
+pub record SendsFront (columns : List Column) (blocks : List (List (List Cell))) (before now : Option (List ℕ)) : Type 0 where
   pub front : List ℕ
   pub rest : List ℕ
   pub sent : Appends before now front
-  pub whole : front ++ rest ≡ stream_of columns groups
-  pub grouped : IsGrouped slots rows groups
+  pub whole : front ++ rest ≡ stream_of columns (filled blocks)
 
 -- Why only a front of the stream was sent: a call of the outlet failed, or memory was refused.
-abbrev pub FailsToSend : List Column → ℕ → List (List Cell) → Option (List ℕ) → Option (List ℕ) → ℕ → ℕ → PieceFault → Type 0
-FailsToSend columns slots rows before now faults_before faults_now (Sink fault) = Rose faults_before faults_now × SendsFront columns slots rows before now
-FailsToSend columns slots rows before now faults_before faults_now (Memory refused) = (faults_now ≡ faults_before) × SendsFront columns slots rows before now
+abbrev pub FailsToSend : List Column → List (List (List Cell)) → Option (List ℕ) → Option (List ℕ) → ℕ → ℕ → PieceFault → Type 0
+FailsToSend columns blocks before now faults_before faults_now (Sink fault) = Rose faults_before faults_now × SendsFront columns blocks before now
+FailsToSend columns blocks before now faults_before faults_now (Memory refused) = (faults_now ≡ faults_before) × SendsFront columns blocks before now
 
--- What the reply to an export says of the bytes that it sent, where these are the columns of the table and its contents
--- after all commits: the stream, or nothing, or with refused memory a front of the stream.
-abbrev pub SendsNow : List Column → ℕ → List (List Cell) → Said → List ℕ → Type 0
-SendsNow columns slots contents (said.Exported number rows batches frozen) bytes = IsStreamOf columns slots contents rows batches bytes
-SendsNow columns slots contents said.Memory bytes = IsFrontOf columns slots contents bytes
-SendsNow columns slots contents _ bytes = bytes ≡ []
+-- What the reply to an export in this transaction says of the bytes that it sent: the stream of the table at its snapshot,
+-- or with refused memory a front of one, or nothing.
+abbrev pub SendsWithin : List TableDecl → IsolationMachine → Transaction → ℕ → Said → List ℕ → Type 0
+SendsWithin tables machine t table (said.Exported number rows batches frozen) bytes =
+    (number ≡ t.snapshot) × IsStreamOf (columns_at tables table) (slots_at tables table) (contents_of table (state_at machine.history t.snapshot)) rows batches bytes
+SendsWithin tables machine t table said.Memory bytes =
+    IsFrontOf (columns_at tables table) (slots_at tables table) (contents_of table (state_at machine.history t.snapshot)) bytes
+SendsWithin tables machine t table _ bytes = bytes ≡ []
 
--- the same of a command: none but an export says anything
-abbrev pub SendsAt : List TableDecl → Alone → Command → Said → List ℕ → Type 0
-SendsAt tables alone (command.Export table) told bytes =
-    SendsNow (columns_at tables table) (slots_at tables table) (contents_of table (committed_state alone)) told bytes
-SendsAt tables alone _ told bytes = Unit {0}
+-- without a transaction nothing is sent
+abbrev pub SendsBy : List TableDecl → IsolationMachine → Option Transaction → ℕ → Said → List ℕ → Type 0
+SendsBy tables machine None table told bytes = (told ≡ said.NoTransaction) × (bytes ≡ [])
+SendsBy tables machine (Some t) table told bytes = SendsWithin tables machine t table told bytes
 
--- each of the replies says what was sent
-abbrev pub SendsAll : List TableDecl → Alone → List Command → List Said → List ℕ → Type 0
-SendsAll tables alone [] saids bytes = Unit {0}
-SendsAll tables alone (asked ∷ commands) [] bytes = Unit {0}
-SendsAll tables alone (asked ∷ commands) (told ∷ saids) bytes =
-    SendsAt tables alone asked told bytes × SendsAll tables (after_answer alone asked told) commands saids bytes
+-- the same of a command at a machine: none but an export says anything
+abbrev pub SendsAt : List TableDecl → IsolationMachine → Who → Command → Said → List ℕ → Type 0
+SendsAt tables machine who (command.Export table) told bytes = SendsBy tables machine (open_of who machine) table told bytes
+SendsAt tables machine who _ told bytes = Unit {0}
 
--- The store answers a command as a session alone may be told, and what was sent is as the answer says; none but an
+-- each of the replies, which came about in this order, says what was sent
+abbrev pub SendsAll : (tables : List TableDecl) (front : List Entry) (machine : IsolationMachine) (entries : List Entry) → Runs tables front machine entries → List ℕ → Type 0
+SendsAll tables front machine [] runs bytes = Unit {0}
+SendsAll tables front machine (entry ∷ entries) runs bytes =
+    SendsAt tables machine entry.reply.who entry.command entry.reply.said bytes × SendsAll tables (front ++ entry ∷ []) runs.0 entries runs.3 bytes
+
+-- The store answers a command of session 1 as the machine does, and what was sent is as the answer says; none but an
 -- export sends anything.
-pub record ServesCommand (tables : List TableDecl) (alone : Alone) (asked : Command) (told : Said) (store : Store) (before now : Option (List ℕ)) : Type 0 where
-  pub answers : Answers tables alone asked told store
+pub record Serves (tables : List TableDecl) (front : List Entry) (machine : IsolationMachine) (asked : Command) (told : Said) (store : Store) (before now : Option (List ℕ)) : Type 0 where
+  pub answers : Answers tables front machine asked told store
   pub bytes : List ℕ
   pub sent : Appends before now bytes
-  pub says : SendsAt tables alone asked told bytes
+  pub says : SendsAt tables machine (Session 1) asked told bytes
   pub quiet : is_export asked ≡ false → bytes ≡ []
 
--- A round of commands is answered in this text, and its export, if there is one, sends what its answer says.
+-- The store holds what its session sees of some machine.
+abbrev pub IsHeld : List TableDecl → Store → Type 0
+IsHeld tables store = (front : List Entry) × (machine : IsolationMachine) × Holds tables store front machine
+
+-- ---- a round
+
+-- what is due to the one session of the one round
+abbrev pub dues_of_one : List Command → List Due
+dues_of_one commands = dues_to 1 (Session 1) commands
+
+-- the printed replies to its commands
+abbrev pub replies_to : List TableDecl → List Command → List Said → List Entry
+replies_to tables commands saids = printed_from tables [] (dues_of_one commands) (map Some saids)
+
+-- the session's reply of this index
+abbrev pub reply_of : ℕ → Said → ReplyLine
+reply_of index told = record { round = 1; who = Session 1; index = index; said = told }
+
+-- A round of commands came about as it is answered in this text, and what was sent is as the answers say.
 pub record RunsRound (tables : List TableDecl) (commands : List Command) (text : List ℕ) (before now : Option (List ℕ)) : Type 0 where
   pub saids : List Said
-  pub served : Served tables opening commands saids
-  pub printed : text ≡ replies_text tables (replies_from 1 saids)
+  pub stand : AllMayStand (dues_of_one commands) (map Some saids)
+  pub replies : List Entry
+  pub replies_are : replies ≡ replies_to tables commands saids
+  pub runs : Runs tables [] opening replies
+  pub printed : text ≡ replies_text tables (map (λ entry. entry.reply) replies)
   pub bytes : List ℕ
   pub sent : Appends before now bytes
-  pub says : SendsAll tables opening commands saids bytes
+  pub says : SendsAll tables [] opening replies runs bytes
   pub quiet : list_any is_export commands ≡ false → bytes ≡ []
 
 -- These first lines of a round were run, and what was sent is as their answers say.
@@ -151,15 +194,3 @@ RefusalEnds told status.Refused before now = TellsFault Appends told before now
 RefusalEnds told status.OutFault before now = TellsFault AppendsFront told before now
 RefusalEnds told status.Memory before now = now ≡ before
 RefusalEnds told _ before now = ⊥
-
--- a table's limits: 1 to 32,768 rows a block, at most 1,024 blocks, and the key is the one column
-pub record IsTable (table : TableDecl) : Type 0 where
-  pub has_slots : 0 < table.slots
-  pub slots_bound : table.slots ≤ 2 ^ 15
-  pub blocks_bound : table.blocks ≤ 1024
-  pub one_column : (length table.schema == 1) ≡ true
-  pub key_first : begins_with_key table.schema ≡ true
-
--- the command is one of these tables, and runs today
-abbrev pub runs_today : List TableDecl → Command → Bool
-runs_today tables asked = is_command tables asked && is_supported_command asked

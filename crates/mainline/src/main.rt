@@ -3,11 +3,11 @@
 #![tactic(auto)]
 
 mod export;
+mod extent;
 mod fault;
 mod perform;
 mod round;
 mod status;
-mod store;
 #[cfg(test)]
 mod tests;
 mod words;

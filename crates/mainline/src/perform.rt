@@ -3,14 +3,15 @@ ghost use Rattle.std.specs.Prelude.{◌≡◌, ◌≢◌, ℕ, List, Option, map
 ghost use Rattle.std.specs.List.{list_any};
 ghost use Rattle.byte_ports.specs.Calls.{Rose};
 ghost use Rattle.workload_spec.specs.Valid.{is_valid, is_export};
-ghost use Rattle.workload_spec.specs.Extents.{today};
+ghost use Rattle.workload_spec.specs.Extents.{RunsWithin};
 ghost use Rattle.workload_spec.specs.Grammar.{read_with};
-ghost use Rattle.workload_spec.specs.Supported.{is_supported};
 ghost use Rattle.script_text.specs.Answers.{LineGives};
 ghost use Rattle.mainline.specs.Outcome.{Ends, RunEnds, ScriptEnds, UsageEnds, TellsFaults, has_export, outside, started_by};
 ghost use Rattle.mainline.specs.Sent.{RefusalEnds, PlayEnds};
+ghost use Rattle.mainline.specs.Today.{today};
 ghost use Rattle.mainline.specs.Words.{asked_by};
 
+use crate::extent::today;
 use crate::fault::RunFault;
 use crate::round::run_round;
 use crate::status::Status;
@@ -23,7 +24,7 @@ use script_text::{ScriptFault, parse};
 use std::alloc::{AllocError, Global};
 use std::sync::Wait;
 use std::thread::Threads;
-use workload_spec::{Command, Extent, Round, Script};
+use workload_spec::{Command, Round, Script};
 
 /// As many bytes of input, or more, are too long.
 const MOST_BYTES: usize = 1 << 32;
@@ -109,9 +110,9 @@ fn run<R: Wait + Threads + Sync, S: Source, O: Sink, X: Outlet, G: Gate>(
 fn parse_today(alloc: Global, bytes: &[u8]) -> Result<Script, ScriptFault>
     ensures read { LineGives (λ script. script) result (read_with today bytes.now) }
     ensures valid { IfOk result (λ script. is_valid script ≡ true) }
-    ensures supported { IfOk result (λ script. is_supported script ≡ true) }
+    ensures within { IfOk result (λ script. RunsWithin today script) }
 {
-    parse(alloc, &Extent::today(), bytes)
+    parse(alloc, &today(), bytes)
 }
 
 /// Prints at which line and for which cause the input is refused.
@@ -144,7 +145,7 @@ fn run_script<R: Wait + Threads + Sync, O: Sink, X: Outlet, G: Gate>(
     gate: &G,
 ) -> Status
     requires valid { is_valid script ≡ true }
-    requires supported { is_supported script ≡ true }
+    requires within { RunsWithin today script }
     ensures ends { (left_old left_new : Option (List ℕ)) → ScriptEnds (option_map (λ p. p.now) path.entry) script result
         (outside left_old (O.written out.old) (X.written export.old) (X.started export.old))
         (outside left_new (O.written out.new) (X.written export.new) (X.started export.new)) }
@@ -170,7 +171,7 @@ fn play<R: Wait + Threads + Sync, O: Sink, X: Outlet, G: Gate>(
     gate: &G,
 ) -> Status
     requires valid { is_valid script ≡ true }
-    requires supported { is_supported script ≡ true }
+    requires within { RunsWithin today script }
     ensures ends { PlayEnds script result (O.written out.old) (O.written out.new) (X.written export.old) (X.written export.new) }
     ensures started { X.started export.new ≡ X.started export.old }
     ensures out_faults { TellsFaults Status.OutFault result (O.faults out.old) (O.faults out.new) }

@@ -1,19 +1,20 @@
 //! A round of one session: its commands in order, and the text of the replies.
-ghost use Rattle.std.specs.Prelude.{◌≡◌, ◌≤◌, ◌∷◌, [], true, map, count_by, length, ◌++◌, IfOk, IfErr, OnOk, OnErr};
+ghost use Rattle.std.specs.Prelude.{◌≡◌, ◌≤◌, true, map, count_by, ◌++◌, IfOk, IfErr, List, OnOk, OnErr};
 ghost use Rattle.workload_spec.specs.ReplyText.{reply_text};
-ghost use Rattle.outcome_laws.specs.Alone.{Alone, reply_of};
 ghost use Rattle.std.specs.List.{list_all};
 ghost use Rattle.byte_ports.specs.Calls.{Rose};
-ghost use Rattle.cell_model.specs.declared.table.TableDecl.{TableDecl as Table};
-ghost use Rattle.workload_spec.specs.Valid.{is_export};
-ghost use Rattle.mainline.specs.Sent.{IsTable, RunsRound, ServesCommand, StopsRound, runs_today, CountsFault};
-ghost use Rattle.mainline.specs.Stands.{IsStore, Stands};
+ghost use Rattle.isolation_spec.specs.Machine.{IsolationMachine};
+ghost use Rattle.list_store.specs.Holds.{Holds};
+ghost use Rattle.outcome_spec.specs.Entries.{Entry};
+ghost use Rattle.workload_spec.specs.Valid.{is_export, is_table};
+ghost use Rattle.mainline.specs.Sent.{CountsFault, IsHeld, RunsRound, Serves, StopsRound, reply_of};
+ghost use Rattle.mainline.specs.Today.{runs_today};
 
 use crate::export::export_table;
 use crate::fault::RunFault;
-use crate::store::Store;
 use byte_ports::{Failed, Gate, Outlet};
 use cell_model::TableDecl;
+use list_store::Store;
 use reply_text::put_line;
 use std::alloc::{AllocError, Global};
 use std::sync::Wait;
@@ -34,7 +35,7 @@ pub fn run_round<R: Wait + Threads + Sync, X: Outlet, G: Gate>(
     export: &mut X,
     gate: &G,
 ) -> Result<Vec<u8>, RunFault>
-    requires table { (table : Table) × (tables.now ≡ table ∷ []) × IsTable table }
+    requires tables { list_all is_table tables.now ≡ true }
     requires lines { list_all (λ line. runs_today tables.now line.command) round ≡ true }
     requires once { count_by (λ line. is_export line.command) round ≤ 1 }
     ensures ok { IfOk result (λ text. RunsRound tables.now (map (λ line. line.command) round) text.items
@@ -43,8 +44,9 @@ pub fn run_round<R: Wait + Threads + Sync, X: Outlet, G: Gate>(
     ensures faults { CountsFault (X.faults export.old) (X.faults export.new) result }
     ensures started { X.started export.new ≡ X.started export.old }
 {
-    let table = &tables[0];
-    let mut store = Store::new(alloc, table.blocks as usize * table.slots as usize);
+    let Ok(mut store) = Store::new(alloc, tables) else {
+        return Err(RunFault::Memory);
+    };
     let lines = round.into_vec();
     let Ok(mut text) = Vec::with_capacity(alloc, lines.len().saturating_mul(LINE_BYTES)) else {
         return Err(RunFault::Memory);
@@ -53,7 +55,7 @@ pub fn run_round<R: Wait + Threads + Sync, X: Outlet, G: Gate>(
     for line in lines {
         index += 1;
         gate.pass(rt, 1, u32::try_from(index).unwrap_or(u32::MAX));
-        let Ok(said) = answer(alloc, &mut store, table, line.command, export) else {
+        let Ok(said) = answer(alloc, &mut store, tables, line.command, export) else {
             return Err(RunFault::Export);
         };
         if let Err(fault) = put_reply(&mut text, tables, index, said) {
@@ -69,25 +71,29 @@ pub fn run_round<R: Wait + Threads + Sync, X: Outlet, G: Gate>(
 fn answer<X: Outlet>(
     alloc: Global,
     store: &mut Store,
-    table: &TableDecl,
+    tables: &[TableDecl],
     command: Command,
     outlet: &mut X,
 ) -> Result<Said, Failed>
-    requires table { IsTable table.now }
-    requires store { IsStore (table.now ∷ []) store.old }
-    requires command { runs_today (table.now ∷ []) command ≡ true }
-    ensures ok { IfOk result (λ told. (alone : Alone) → Stands (table.now ∷ []) store.old alone
-        → ServesCommand (table.now ∷ []) alone command told store.new (X.written outlet.old) (X.written outlet.new)) }
-    ensures front { OnErr result ((alone : Alone) → Stands (table.now ∷ []) store.old alone
-        → ServesCommand (table.now ∷ []) alone command Said.Memory store.new (X.written outlet.old) (X.written outlet.new)) }
+    requires tables { list_all is_table tables.now ≡ true }
+    requires store { IsHeld tables.now store.old }
+    requires command { runs_today tables.now command ≡ true }
+    ensures ok { IfOk result (λ told. (front : List Entry) (machine : IsolationMachine) → Holds tables.now store.old front machine
+        → Serves tables.now front machine command told store.new (X.written outlet.old) (X.written outlet.new)) }
+    ensures front { OnErr result ((front : List Entry) (machine : IsolationMachine) → Holds tables.now store.old front machine
+        → Serves tables.now front machine command Said.Memory store.new (X.written outlet.old) (X.written outlet.new)) }
     ensures err { OnErr result (Rose (X.faults outlet.old) (X.faults outlet.new)) }
     ensures kept { OnOk result (X.faults outlet.new ≡ X.faults outlet.old) }
     ensures asked { OnErr result (is_export command ≡ true) }
     ensures started { X.started outlet.new ≡ X.started outlet.old }
 {
     match command {
-        Command::Export { table: _ } => export_table(alloc, store, table, outlet),
-        command => Ok(store.answer(command)),
+        Command::Begin => Ok(store.begin()),
+        Command::Get { table, key } => Ok(store.get(table, key)),
+        Command::Insert { table, row } => Ok(store.insert(table, row)),
+        Command::Commit => Ok(store.commit(alloc)),
+        Command::Export { table } => export_table(alloc, store, tables, table, outlet),
+        _ => unreachable!(),
     }
 }
 

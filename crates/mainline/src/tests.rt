@@ -80,16 +80,16 @@ const REFUSALS: [(&str, &str); 15] = [
     ("store 9\n", "refused 1 version\n"),
     ("store 1\nsessions 1\n", "refused 2 table\n"),
     (
-        "store 1\ntable b key:i64 n:u8 slots 8 blocks 1\n",
-        "refused 2 columns\n",
+        "store 1\ntable b key:i64 n:u9 slots 8 blocks 1\n",
+        "refused 2 kind\n",
     ),
     (
         "store 1\ntable b key:i64 slots 9 blocks 1\n",
         "refused 2 slots\n",
     ),
     (
-        "store 1\ntable b key:i64 slots 8 blocks 1\ntable c key:i64 slots 8 blocks 1\n",
-        "refused 3 table\n",
+        "store 1\ntable b key:i64 slots 8 blocks 1\ntable b key:i64 slots 8 blocks 1\n",
+        "refused 3 twice\n",
     ),
     (
         "store 1\ntable b key:i64 slots 8 blocks 1\nsessions 2\n",
@@ -432,6 +432,143 @@ fn commands_that_do_not_run_yet_are_refused(rt: HostRuntime) -> Result<(), Fail>
             b"refused 7 command\n".as_slice(),
             "{command}"
         );
+    }
+    Ok(())
+}
+
+// A workload over several tables or kinds, and what it prints.
+const WORKLOADS: [(&str, &str); 2] = [
+    (
+        "store 1\ntable b key:i64 slots 8 blocks 1\ntable c key:i64 n:u16? t:utf8 slots 8 blocks 2\nsessions 1\n\
+            workers 0 0\ngo\n1 begin\n1 insert c 1 65535 \"a b\"\n1 insert b 1\n1 insert c 1 null \"\"\n1 get b 2\n1 commit\n\
+            1 begin\n1 insert b 2\n1 get c 1\n1 export c\n",
+        "1 1 1 at 0\n1 1 2 ok\n1 1 3 ok\n1 1 4 exists\n1 1 5 none\n1 1 6 committed 1\n1 1 7 at 1\n1 1 8 ok\n\
+            1 1 9 row 1 65535 \"a b\"\n1 1 10 export 1 rows 1 batches 1 frozen 0\n",
+    ),
+    (
+        "store 1\ntable b key:i64 slots 8 blocks 1\ntable c key:i64 slots 8 blocks 1\nsessions 1\nworkers 0 0\ngo\n\
+            1 begin\n1 insert c 3\n1 insert c 2\n1 export c\n1 insert b 1\n1 commit\n",
+        "1 1 1 at 0\n1 1 2 ok\n1 1 3 ok\n1 1 4 dirty 2\n1 1 5 ok\n1 1 6 committed 1\n",
+    ),
+];
+
+#[test]
+fn tables_are_told_apart(rt: HostRuntime) -> Result<(), Fail> {
+    for (input, printed) in &WORKLOADS {
+        let ended = run(&rt, rt.alloc(), &RUN, input, NOTHING_FAILS)?;
+        assert_eq!(rt; ended.status, Status::Done, "{input}");
+        assert_eq!(rt; ended.out.written(), printed.as_bytes(), "{input}");
+    }
+    Ok(())
+}
+
+// The body of the batch of the rows `1 -3 true x00ff` and `2 null null null`: the keys from place 0, of `p` the validity
+// from 16 and the numbers from 24, of `q` the validity from 32 and the bits from 40, of `r` the validity from 48, the
+// offsets from 56 and the bytes from 72.
+const MIXED_BODY: &[u8; 80] = b"\x01\x00\x00\x00\x00\x00\x00\x00\
+    \x02\x00\x00\x00\x00\x00\x00\x00\
+    \x01\x00\x00\x00\x00\x00\x00\x00\
+    \xfd\x00\x00\x00\x00\x00\x00\x00\
+    \x01\x00\x00\x00\x00\x00\x00\x00\
+    \x01\x00\x00\x00\x00\x00\x00\x00\
+    \x01\x00\x00\x00\x00\x00\x00\x00\
+    \x00\x00\x00\x00\x02\x00\x00\x00\
+    \x02\x00\x00\x00\x00\x00\x00\x00\
+    \x00\xff\x00\x00\x00\x00\x00\x00";
+
+// Where its buffers lie and how long they are, in the order of the columns.
+const MIXED_BUFFERS: [(u64, u64); 9] = [
+    (0, 0),
+    (0, 16),
+    (16, 1),
+    (24, 2),
+    (32, 1),
+    (40, 1),
+    (48, 1),
+    (56, 12),
+    (72, 2),
+];
+
+fn contains(whole: &[u8], part: &[u8]) -> bool {
+    let mut rest = whole;
+    while rest.len() > part.len() {
+        if rest.starts_with(part) {
+            return true;
+        }
+        rest = rest.get(1..).unwrap_or(&[]);
+    }
+    rest == part
+}
+
+#[test]
+fn kinds_are_mixed_in_a_batch(rt: HostRuntime) -> Result<(), Fail> {
+    let input =
+        "store 1\ntable c key:i64 p:i8? q:bool? r:binary? slots 8 blocks 1\nsessions 1\nworkers 0 0\ngo\n\
+        1 begin\n1 insert c 1 -3 true x00ff\n1 insert c 2 null null null\n1 commit\n1 begin\n1 get c 2\n1 export c\n";
+    let ended = run(&rt, rt.alloc(), &RUN, input, NOTHING_FAILS)?;
+    assert_eq!(rt; ended.status, Status::Done);
+    assert!(rt;
+        ended.out.written().ends_with(
+            b"1 1 6 row 2 null null null\n1 1 7 export 1 rows 2 batches 1 frozen 0\n"
+        )
+    );
+    // Behind the schema: 8 bytes, 304 of metadata, 80 of the body, and 8 of the end word.
+    let sent = ended.outlet.written();
+    let batch = sent.len().saturating_sub(8 + 304 + 80 + 8);
+    assert_eq!(rt;
+        sent.get(batch..batch + 8),
+        Some(b"\xff\xff\xff\xff\x30\x01\x00\x00".as_slice())
+    );
+    assert_eq!(rt;
+        sent.get(batch + 312..batch + 392),
+        Some(MIXED_BODY.as_slice())
+    );
+    let mut buffers = Vec::new(rt.alloc());
+    for (place, length) in &MIXED_BUFFERS {
+        buffers.extend_from_slice(&place.to_le_bytes())?;
+        buffers.extend_from_slice(&length.to_le_bytes())?;
+    }
+    assert!(rt; contains(sent.get(batch..batch + 312).unwrap_or(&[]), &buffers));
+    Ok(())
+}
+
+// A workload of one table of the key and so many texts, with so many slots.
+fn wide(alloc: Global, texts: u32, slots: u32) -> Result<String, AllocError> {
+    let mut text = String::from_str(alloc, "store 1\ntable b key:i64")?;
+    for column in 0..texts {
+        let column = format!(in alloc; " c{column}:utf8")?;
+        text.push_str(&column)?;
+    }
+    let end = format!(in alloc; " slots {slots} blocks 1\nsessions 1\nworkers 0 0\ngo\n")?;
+    text.push_str(&end)?;
+    Ok(text)
+}
+
+// A workload of so many tables.
+fn many(alloc: Global, tables: u32) -> Result<String, AllocError> {
+    let mut text = String::from_str(alloc, "store 1\n")?;
+    for table in 0..tables {
+        let table = format!(in alloc; "table t{table} key:i64 slots 8 blocks 1\n")?;
+        text.push_str(&table)?;
+    }
+    text.push_str("sessions 1\nworkers 0 0\ngo\n")?;
+    Ok(text)
+}
+
+#[test]
+fn tables_and_columns_are_bounded(rt: HostRuntime) -> Result<(), Fail> {
+    let alloc = rt.alloc();
+    let inputs = [
+        (wide(alloc, 31, 2056)?, Status::Done, ""),
+        (wide(alloc, 31, 2064)?, Status::Refused, "refused 2 slots\n"),
+        (wide(alloc, 32, 8)?, Status::Refused, "refused 2 columns\n"),
+        (many(alloc, 16)?, Status::Done, ""),
+        (many(alloc, 17)?, Status::Refused, "refused 18 table\n"),
+    ];
+    for (input, status, printed) in &inputs {
+        let ended = run(&rt, alloc, &RUN, input.as_str(), NOTHING_FAILS)?;
+        assert_eq!(rt; ended.status, *status, "{input}");
+        assert_eq!(rt; ended.out.written(), printed.as_bytes(), "{input}");
     }
     Ok(())
 }

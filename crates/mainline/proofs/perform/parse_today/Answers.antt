@@ -1,4 +1,4 @@
-use Rattle.mainline.proofs.Scripts.{valid_read, supported_read}
+use Rattle.mainline.proofs.Scripts.{valid_read, within_read}
 use Rattle.mainline.proofs.perform.parse_today.Goals as goal
 
 pub returns-clause-read : goal.returns-clause-read
@@ -7,5 +7,5 @@ returns-clause-read c = rw c.today.ensures at c.parse.ensures
 pub returns-clause-valid : goal.returns-clause-valid
 returns-clause-valid c = valid_read c.args.bytes.now c.parse.result (rw c.today.ensures at c.parse.ensures)
 
-pub returns-clause-supported : goal.returns-clause-supported
-returns-clause-supported c = supported_read c.args.bytes.now c.parse.result (rw c.today.ensures at c.parse.ensures)
+pub returns-clause-within : goal.returns-clause-within
+returns-clause-within c = within_read c.args.bytes.now c.parse.result (rw c.today.ensures at c.parse.ensures)

@@ -1,40 +1,32 @@
-use Rattle.std.proofs.Common.{[], ◌∷◌, refl, sym, subst, IfOk, OnErr}
-use Rattle.outcome_laws.specs.Alone.{Alone}
-use Rattle.workload_spec.specs.Supported.{is_supported_command}
-use Rattle.workload_spec.specs.Valid.{is_command}
-use Rattle.workload_spec.specs.declared.command.Command.{Command}
-use Rattle.workload_spec.specs.declared.reply.Said.TheVariants as said
+use Rattle.std.proofs.Common.{◌≡◌, ◌∙◌, ℤ, refl, ap, sym, subst, rules, FitsSigned}
+use Rattle.std.specs.Int.{w64}
 use Rattle.std.proofs.lemmas.Bool.{and_parts}
-use Rattle.mainline.specs.Sent.{ServesCommand}
-use Rattle.mainline.specs.Stands.{Stands}
-use Rattle.mainline.proofs.Placed.{placed_export}
-use Rattle.mainline.proofs.Running.{no_export, serves_quietly}
+use Rattle.std.proofs.lemmas.Int.{to_z-of_z}
+use Rattle.workload_spec.specs.Extents.{is_taken}
+use Rattle.workload_spec.specs.Valid.{is_command}
+use Rattle.workload_spec.specs.declared.command.Command.TheVariants as command
+use Rattle.list_store.specs.Holds.{Answers}
+use Rattle.mainline.specs.Today.{today}
+use Rattle.mainline.proofs.Asked.{insert_fits}
+use Rattle.mainline.proofs.Running.{serves_quietly}
 use Rattle.mainline.proofs.round.answer.Goals as goal
 
-pub returns-in-Export-clause-ok : goal.returns-in-Export-clause-ok
-returns-in-Export-clause-ok g c =
-    let valid = (and_parts (is_command (c.args.table.now ∷ []) c.args.command) (is_supported_command c.args.command) c.requires.command).0 in
-    subst (λ (asked : Command). IfOk c.export_table.result (λ told. (alone : Alone) → Stands (c.args.table.now ∷ []) c.args.store.now alone
-    → ServesCommand (c.args.table.now ∷ []) alone asked told c.args.store.now (g.X.Sink.written c.args.outlet.now) (g.X.Sink.written c.export_table.new.outlet)))
-    (sym (placed_export c.args.table.now c.args.command c.in-Export.table c.in-Export.is valid)) c.export_table.ensures.ok
+pub returns-in-Begin-clause-ok : goal.returns-in-Begin-clause-ok
+returns-in-Begin-clause-ok g c = λ front machine holds.
+    serves_quietly c.args.tables.now front machine c.args.command command.Begin c.begin.result c.begin.new.self _ c.in-Begin.is refl
+    (c.begin.ensures c.args.tables.now front machine holds)
 
-pub returns-in-Export-clause-front : goal.returns-in-Export-clause-front
-returns-in-Export-clause-front g c =
-    let valid = (and_parts (is_command (c.args.table.now ∷ []) c.args.command) (is_supported_command c.args.command) c.requires.command).0 in
-    subst (λ (asked : Command). OnErr c.export_table.result ((alone : Alone) → Stands (c.args.table.now ∷ []) c.args.store.now alone
-    → ServesCommand (c.args.table.now ∷ []) alone asked said.Memory c.args.store.now (g.X.Sink.written c.args.outlet.now) (g.X.Sink.written c.export_table.new.outlet)))
-    (sym (placed_export c.args.table.now c.args.command c.in-Export.table c.in-Export.is valid)) c.export_table.ensures.front
+pub returns-in-Get-clause-ok : goal.returns-in-Get-clause-ok
+returns-in-Get-clause-ok g c = λ front machine holds.
+    let small : FitsSigned w64 c.in-Get.key = search rules in
+    serves_quietly c.args.tables.now front machine c.args.command (command.Get c.in-Get.table c.in-Get.key) c.get.result c.args.store.now _ c.in-Get.is refl
+    (subst (λ (key : ℤ). Answers c.args.tables.now front machine (command.Get c.in-Get.table key) c.get.result c.args.store.now) (to_z-of_z w64 c.in-Get.key small)
+    (c.get.ensures c.args.tables.now front machine holds))
 
-pub returns-in_default : goal.returns-in_default
-returns-in_default g c =
-    let valid = (and_parts (is_command (c.args.table.now ∷ []) c.args.command) (is_supported_command c.args.command) c.requires.command).0 in
-    record {
-      ok = λ alone stands. serves_quietly (c.args.table.now ∷ []) alone c.args.command c.answer.result c.answer.new.self (g.X.Sink.written c.args.outlet.now)
-          (c.answer.ensures c.args.table.now alone stands valid)
-          (no_export c.args.command c.in_default.not-Export);
-      front = tt;
-      err = tt;
-      kept = refl;
-      asked = tt;
-      started = refl;
-    }
+pub returns-in-Insert-clause-ok : goal.returns-in-Insert-clause-ok
+returns-in-Insert-clause-ok g c = λ front machine holds.
+    let asked = (and_parts (is_command c.args.tables.now c.args.command) (is_taken today.commands c.args.command) c.requires.command).0 in
+    let fitting = insert_fits c.args.tables.now c.in-Insert.table c.in-Insert.row c.requires.tables
+    (ap (is_command c.args.tables.now) (sym c.in-Insert.is) ∙ asked) in
+    serves_quietly c.args.tables.now front machine c.args.command (command.Insert c.in-Insert.table c.in-Insert.row) c.insert.result c.insert.new.self _ c.in-Insert.is refl
+    (c.insert.ensures c.args.tables.now front machine holds fitting.0 fitting.1)

@@ -12,4 +12,4 @@ pub returns : goal.returns
 returns c = λ tables front machine holds.
     committed_some tables c.args.self.now (record c.args.self.now { written = c.new.result; commits = c.min-self.result; is_open = false }) front machine holds c.if-not-self.false
     (λ none. let is : c.is_empty.result ≡ true = c.is_empty.ensures.1 none in absurd cc) refl c.new.ensures.empty refl refl
-    (λ room. omega (arith, room, c.min-self.ensures, c.saturating_add.ensures, c.len.ensures.len, c.len.ensures.small))
+    (λ room. omega (arith, room, c.min-self.ensures, c.saturating_add.ensures, c.len.ensures.len, c.len.ensures.small)) (omega arith)
