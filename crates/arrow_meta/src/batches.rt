@@ -1,5 +1,5 @@
 // A record batch as its metadata has it (Message.fbs, "RecordBatch", "FieldNode", "Buffer").
-ghost use Rattle.std.specs.Prelude.{◌≡◌, ◌+◌, ◌*◌, ◌≤◌, IfOk, IsErrOf, Ok, Err, length, map};
+ghost use Rattle.std.specs.Prelude.{◌≡◌, ◌+◌, ◌*◌, ◌<◌, ◌≤◌, ◌^◌, IfOk, IsErrOf, Ok, Err, length, map};
 ghost use Rattle.stream_spec.specs.Metadata.{batch_at, buffer_at, node_at, places_of, signed_from};
 ghost use Rattle.stream_spec.specs.declared.fault.MetaFault.{MetaFault as MetaFaultValue};
 
@@ -55,6 +55,7 @@ impl BatchMeta {
 pub fn read_batch(alloc: Global, bytes: &[u8], table: u64) -> Result<BatchMeta, NotRead>
     ensures ok { IfOk result (λ batch. batch_at bytes.now table ≡ Ok batch) }
     ensures fault { (fault : MetaFaultValue) → IsErrOf result (NotRead.Fault fault) → batch_at bytes.now table ≡ Err fault }
+    ensures short { IfOk result (λ batch. batch.rows < 2 ^ 63) }
 {
     let rows = scalar(bytes, table, 0, 8)?;
     let nodes = elements(bytes, table, 1, 16)?;

@@ -1,2 +1,6 @@
+pub mod Batches
 pub mod Faults
 pub mod Frames
+pub mod Next
+pub mod Offsets
+pub mod Views

@@ -1,6 +1,6 @@
 // Messages as they are framed (Arrow columnar format, "Encapsulated message format").
-ghost use Rattle.std.specs.Prelude.{◌≡◌, ◌<◌, ◌≤◌, ◌^◌, IfOk, MatchResult, Ok, Err, length};
-ghost use Rattle.ipc_read.specs.Frames.{frame_value, metadata_of};
+ghost use Rattle.std.specs.Prelude.{◌≡◌, ◌+◌, ◌<◌, ◌≤◌, ◌^◌, IfOk, MatchResult, Ok, Err, length};
+ghost use Rattle.ipc_read.specs.Frames.{Fills, frame_value, metadata_of};
 ghost use Rattle.stream_spec.specs.Streams.{due_head, frame_of, is_of_kind, sized};
 
 use crate::faults::cause_of;
@@ -18,6 +18,7 @@ pub enum Frame<'a> {
 // What stands behind a message's first eight bytes, whose size word this is.
 fn sized_frame(first: bool, size: u32, rest: &[u8]) -> Result<Frame<'_>, Cause>
     ensures short { IfOk result (λ f. length (metadata_of f) < 2 ^ 31) }
+    ensures whole { IfOk result (Fills (8 + length rest.now)) }
     ensures frame { MatchResult result (λ f. sized first size rest.now ≡ Ok (frame_value f)) (λ c. sized first size rest.now ≡ Err c) }
 {
     if size == 0 {
@@ -43,6 +44,7 @@ fn sized_frame(first: bool, size: u32, rest: &[u8]) -> Result<Frame<'_>, Cause>
 // The next message. The stream ends with the input or with a size of 0, but not before its first message.
 pub fn next_frame(first: bool, bytes: &[u8]) -> Result<Frame<'_>, Cause>
     ensures short { IfOk result (λ f. length (metadata_of f) < 2 ^ 31) }
+    ensures whole { IfOk result (Fills (length bytes.now)) }
     ensures frame { MatchResult result (λ f. frame_of first bytes.now ≡ Ok (frame_value f)) (λ c. frame_of first bytes.now ≡ Err c) }
 {
     if bytes.is_empty() {

@@ -1,5 +1,5 @@
 //! The schema message with which a stream begins.
-ghost use Rattle.std.specs.Prelude.{◌≡◌, IfOk, IsErrOf, Ok, Err};
+ghost use Rattle.std.specs.Prelude.{◌≡◌, ◌≤◌, IfOk, IsErrOf, Ok, Err, length};
 ghost use Rattle.stream_spec.specs.Streams.{first_schema};
 ghost use Rattle.stream_spec.specs.declared.fault.Cause.{Cause as CauseValue};
 
@@ -53,6 +53,7 @@ impl SchemaMessage {
 /// The schema with which the bytes begin, or the cause that they are no stream.
 pub fn first_schema(alloc: Global, bytes: &[u8]) -> Result<SchemaMessage, NotRead>
     ensures ok { IfOk result (λ schema. first_schema bytes.now ≡ Ok schema) }
+    ensures inside { IfOk result (λ schema. schema.size ≤ length bytes.now) }
     ensures fault { (cause : CauseValue) → IsErrOf result (NotRead.Fault cause) → first_schema bytes.now ≡ Err cause }
 {
     let Frame::Framed { metadata, rest } = next_frame(true, bytes)? else {

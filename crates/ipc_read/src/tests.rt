@@ -1,9 +1,9 @@
-// The schema of a worked stream, and of streams that were changed by a byte or cut.
-use crate::{NotRead, first_schema};
-use cell_model::{Column, Kind};
+// A worked stream, and streams that were changed by a byte or cut.
+use crate::{Next, first_schema, next_batch, read};
+use cell_model::{Cell, Column, Kind, Row};
 use std::process::Abort;
 use std::test::Fail;
-use stream_spec::Cause;
+use stream_spec::{Cause, StreamFault};
 
 // The keys 1, 2 and 3 of a table of that one column.
 const THREE_KEYS: &[u8; 344] = b"\xff\xff\xff\xff\x98\x00\x00\x00\
@@ -50,30 +50,41 @@ const THREE_KEYS: &[u8; 344] = b"\xff\xff\xff\xff\x98\x00\x00\x00\
     \x03\x00\x00\x00\x00\x00\x00\x00\
     \xff\xff\xff\xff\x00\x00\x00\x00";
 
-// How many of the bytes there are, which of them is another, and the size of the schema's message or the fault.
+// How many of the bytes there are, which of them is another, whether the columns are read, how many batches are, and
+// the fault.
 #[derive(Drop)]
 struct Case {
     kept: usize,
     place: usize,
     byte: u8,
-    answer: Result<u64, Cause>,
+    columns: bool,
+    batches: usize,
+    fault: Option<StreamFault>,
 }
 
-const fn cut(kept: usize, answer: Result<u64, Cause>) -> Case {
+const fn cut(kept: usize, columns: bool, batches: usize, fault: Option<StreamFault>) -> Case {
     Case {
         kept,
         place: 0,
         byte: 0xff,
-        answer,
+        columns,
+        batches,
+        fault,
     }
 }
 
-const fn changed(place: usize, byte: u8, cause: Cause) -> Case {
+const fn at(place: u64, cause: Cause) -> Option<StreamFault> {
+    Some(StreamFault { place, cause })
+}
+
+const fn changed(place: usize, byte: u8, in_place: u64, cause: Cause) -> Case {
     Case {
         kept: 344,
         place,
         byte,
-        answer: Err(cause),
+        columns: in_place > 0,
+        batches: 0,
+        fault: at(in_place, cause),
     }
 }
 
@@ -88,26 +99,32 @@ fn is_the_key(columns: &[Column]) -> bool {
     }
 }
 
+fn is_key(row: &Row, key: i128) -> bool {
+    match row.as_slice() {
+        [Cell::Num(number)] => *number == key,
+        _ => false,
+    }
+}
+
 #[test]
-fn schemas_are_read_or_their_first_fault_is_named(rt: HostRuntime) -> Result<(), Fail> {
+fn a_stream_is_read_up_to_its_end_or_its_first_fault(rt: HostRuntime) -> Result<(), Fail> {
     let cases = [
-        cut(344, Ok(160)),
-        cut(160, Ok(160)),
-        cut(159, Err(Cause::Short)),
-        cut(8, Err(Cause::Short)),
-        cut(7, Err(Cause::Short)),
-        cut(3, Err(Cause::Short)),
-        cut(0, Err(Cause::Short)),
-        changed(0, 0x00, Cause::Marker),
-        changed(7, 0x80, Cause::Flat),
-        changed(8, 0xff, Cause::Flat),
-        changed(48, 0x02, Cause::Version),
-        changed(50, 0x02, Cause::Dictionary),
-        changed(50, 0x03, Cause::Shape),
-        changed(50, 0x04, Cause::Kind),
-        changed(72, 0x01, Cause::Endian),
-        changed(121, 0x03, Cause::Kind),
-        changed(128, 0xff, Cause::Utf8),
+        cut(344, true, 1, None),
+        cut(343, true, 1, at(336, Cause::Short)),
+        cut(336, true, 1, None),
+        cut(335, true, 0, at(160, Cause::Short)),
+        cut(160, true, 0, None),
+        cut(159, false, 0, at(0, Cause::Short)),
+        cut(0, false, 0, at(0, Cause::Short)),
+        changed(7, 0x80, 0, Cause::Flat),
+        changed(50, 0x03, 0, Cause::Shape),
+        changed(72, 0x01, 0, Cause::Endian),
+        changed(160, 0x00, 160, Cause::Marker),
+        changed(210, 0x01, 160, Cause::Shape),
+        changed(240, 0x02, 160, Cause::Shape),
+        changed(256, 0x02, 160, Cause::Shape),
+        changed(264, 0x02, 160, Cause::NullCount),
+        changed(304, 0x10, 160, Cause::Buffer),
     ];
     for case in &cases {
         let mut bytes = THREE_KEYS.to_vec(rt.alloc())?;
@@ -115,15 +132,33 @@ fn schemas_are_read_or_their_first_fault_is_named(rt: HostRuntime) -> Result<(),
             bytes[case.place] = case.byte;
         }
         bytes.truncate(case.kept);
-        match (first_schema(rt.alloc(), bytes.as_slice()), case.answer) {
-            (Ok(schema), Ok(size)) => {
-                assert_eq!(rt; schema.size(), size);
-                assert!(rt; is_the_key(schema.columns()));
-                assert!(rt; is_the_key(schema.into_columns().as_slice()));
-            }
-            (Err(NotRead::Fault(cause)), Err(due)) => assert_eq!(rt; cause, due),
-            _ => return Err(Fail::from("another answer")),
-        }
+        let reading = read(rt.alloc(), bytes.as_slice())?;
+        assert_eq!(rt; reading.columns().is_some(), case.columns);
+        assert_eq!(rt; reading.batches().len(), case.batches);
+        assert_eq!(rt; reading.fault(), case.fault);
     }
+    Ok(())
+}
+
+#[test]
+fn three_keys_are_read_message_by_message(rt: HostRuntime) -> Result<(), Fail> {
+    let bytes = THREE_KEYS.as_slice();
+    assert_eq!(rt; bytes.len(), 344);
+    let Ok(schema) = first_schema(rt.alloc(), bytes) else {
+        return Err(Fail::from("no schema"));
+    };
+    assert_eq!(rt; schema.size(), 160);
+    assert!(rt; is_the_key(schema.columns()));
+    let Next::Batch(batch) = next_batch(rt.alloc(), schema.columns(), &bytes[160..])? else {
+        return Err(Fail::from("no batch"));
+    };
+    assert_eq!(rt; batch.size(), 176);
+    assert!(rt; !batch.is_empty());
+    assert_eq!(rt; batch.len(), 3);
+    assert!(rt; is_key(&batch.row(rt.alloc(), 2)?, 3));
+    assert_eq!(rt; batch.rows(rt.alloc())?.len(), 3);
+    let last = next_batch(rt.alloc(), schema.columns(), &bytes[336..])?;
+    assert!(rt; matches!(last, Next::End));
+    assert!(rt; is_the_key(schema.into_columns().as_slice()));
     Ok(())
 }

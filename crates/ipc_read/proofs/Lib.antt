@@ -1,0 +1,5 @@
+mod BatchLemmas
+mod OffsetLemmas
+mod RangeLemmas
+pub mod ReadingLemmas
+mod ViewLemmas

@@ -1,0 +1,35 @@
+use Rattle.std.proofs.Common.{◌≡◌, ◌+◌, ◌∷◌, [], List, map, drop, sym, ap, ◌∙◌}
+use Rattle.std.specs.Prelude.{pos, Result}
+use Rattle.std.proofs.lemmas.List.{map-append}
+use Rattle.cell_model.specs.Kinds.{values_of}
+use Rattle.cell_model.specs.declared.cell.Cell.{Cell}
+use Rattle.stream_spec.specs.Columns.{columns_of, data_count}
+use Rattle.stream_spec.specs.declared.fault.Cause.{Cause}
+use Rattle.ipc_read.specs.Views.{cells_in, has_room}
+use Rattle.ipc_read.specs.Batches.{have_room}
+use Rattle.ipc_read.proofs.BatchLemmas.{all_more, behind, behind_more, column_due, count_left}
+use Rattle.ipc_read.proofs.batch.views_of.Goals as goal
+
+pub loop-i-preserved : goal.loop-i-preserved
+loop-i-preserved c =
+    let body = c.args.body.now in
+    let rows = c.args.rows in
+    let columns = c.args.columns.now in
+    let nodes = c.args.nodes.now in
+    let i = c.loop-i.i in
+    let declared = c.index-columns-i.result in
+    let views = c.loop-i.views.items in
+    let front = map (cells_in rows) views in
+    let mid : 1 + c.data_count.result ≡ 1 + data_count (values_of declared.kind) = ap (λ n. 1 + n) c.data_count.ensures in
+    let rest : Result (List (List Cell)) Cause = columns_of body rows (drop (i + 1) columns) (drop (i + 1) nodes) c.split_at.result.1.now in
+    record {
+      count = count_left columns c.loop-i.left.now i (1 + c.data_count.result) _ declared c.loop-i-test.true c.index-columns-i.is c.loop-i.invariant.count mid c.split_at.ensures.back_len;
+      room = ap (have_room rows) c.in_ok-push-in-Ok.ensures.items ∙ all_more (has_room rows) views c.in-Ok.view c.loop-i.invariant.room c.in-Ok.ensures.room;
+      so_far =
+          c.loop-i.invariant.so_far
+          ∙ (ap (behind front) (column_due body rows columns nodes c.loop-i.left.now c.split_at.result.0.now c.split_at.result.1.now i (1 + c.data_count.result) declared
+          (record { length = pos 0; null_count = pos 0 }) (record { offset = pos 0; length = pos 0 })
+          c.loop-i-test.true c.index-columns-i.is c.requires.a_node_each c.loop-i.invariant.count mid c.split_at.ensures.front c.split_at.ensures.back)
+          ∙ (behind_more front (cells_in rows c.in-Ok.view) _ rest c.in-Ok.ensures.column
+          ∙ ap (λ cells. behind cells rest) (sym (ap (map (cells_in rows)) c.in_ok-push-in-Ok.ensures.items ∙ map-append (cells_in rows) views (c.in-Ok.view ∷ [])))));
+    }

@@ -1,0 +1,52 @@
+-- A column of a batch as the reader has it: its buffers, lent from the body.
+use Rattle.std.specs.Prelude.{◌≡◌, ℕ, Bool, true, ◌&&◌, ◌||◌, map, ◌==◌, nat_le, List, [], ◌∷◌, length, take, slice_index, unsigned_abs}
+use Rattle.cell_model.specs.Kinds.{values_of}
+use Rattle.cell_model.specs.declared.cell.Cell.{Cell}
+use Rattle.cell_model.specs.declared.kind.Kind.{Kind}
+use Rattle.stream_spec.specs.declared.message.BufferPlace.{BufferPlace}
+use Rattle.stream_spec.specs.Columns.{are_buffers, bytes_of, cell_at, cells_of, data_count, data_needs, is_buffer, is_validity, lies_in}
+use Rattle.ipc_read.specs.declared.views.View.{View}
+
+-- The buffer lies in the body, and these are its bytes.
+pub record Lies (body : List ℕ) (buffer : BufferPlace) (bytes : List ℕ) : Type 0 where
+  pub inside : lies_in body buffer ≡ true
+  pub bytes_are : bytes ≡ bytes_of body buffer
+  pub length_is : length bytes ≡ unsigned_abs buffer.length
+
+-- how many bytes the first buffer behind the validity needs
+abbrev pub need_of : Kind → ℕ → ℕ
+need_of kind rows = slice_index (data_needs (values_of kind) rows) 0
+
+-- The first buffer behind the validity lies in the body and is long enough, and these are its bytes.
+pub record IsData (body : List ℕ) (kind : Kind) (rows : ℕ) (buffer : BufferPlace) (bytes : List ℕ) : Type 0 where
+  pub inside : is_buffer body rows (need_of kind rows) buffer ≡ true
+  pub bytes_are : bytes ≡ bytes_of body buffer
+  pub room : (rows == 0 || nat_le (need_of kind rows) (length bytes)) ≡ true
+
+-- the buffers behind the validity
+abbrev pub data_of : View → List (List ℕ)
+data_of view = take (data_count (values_of view.kind)) (view.data.now ∷ view.values.now ∷ [])
+
+-- the cell in a slot
+abbrev pub cell_in : View → ℕ → Cell
+cell_in view i = cell_at (values_of view.kind) view.validity.now (data_of view) i
+
+-- the cells of so many rows
+abbrev pub cells_in : ℕ → View → List Cell
+cells_in rows view = cells_of (values_of view.kind) view.validity.now (data_of view) rows
+
+-- the data are long enough for so many rows
+abbrev pub has_room : ℕ → View → Bool
+has_room rows view = rows == 0 || nat_le (need_of view.kind rows) (length view.data.now)
+
+-- the buffers lie in the body and are long enough
+abbrev pub have_buffers : List ℕ → ℕ → Kind → BufferPlace → List BufferPlace → Bool
+have_buffers body rows kind validity buffers = is_validity body rows validity && are_buffers body rows (data_needs (values_of kind) rows) buffers
+
+-- The view is that of a column's buffers, which lie in the body and are long enough.
+pub record IsView (body : List ℕ) (rows : ℕ) (kind : Kind) (validity : BufferPlace) (buffers : List BufferPlace) (view : View) : Type 0 where
+  pub inside : have_buffers body rows kind validity buffers ≡ true
+  pub of_kind : view.kind ≡ kind
+  pub of_validity : view.validity.now ≡ bytes_of body validity
+  pub of_data : data_of view ≡ map (bytes_of body) buffers
+  pub room : has_room rows view ≡ true

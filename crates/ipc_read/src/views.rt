@@ -1,0 +1,227 @@
+// A column of a batch, lent from the body (Arrow columnar format, "Buffer Listing for Each Layout").
+ghost use Rattle.std.specs.Prelude.{◌≡◌, ◌+◌, ◌^◌, ◌≤◌, ◌<◌, false, true, nat_le, IfOk, IsTrue, MatchOption, MatchResult, None, Some, Ok, Err, length, pos};
+ghost use Rattle.std.specs.List.{list_all};
+ghost use Rattle.std.specs.Ordering.{int_eq};
+ghost use Rattle.std.specs.Str.{is_utf8};
+ghost use Rattle.ipc_read.specs.Views.{IsData, IsView, Lies, cell_in, cells_in, data_of, has_room, have_buffers, need_of};
+ghost use Rattle.stream_spec.specs.Columns.{bytes_of, column_of, data_count, has_offsets, is_buffer, is_text, is_validity, lies_in, null_count_of, value_at};
+ghost use Rattle.cell_model.specs.Kinds.{values_of};
+
+use crate::bits::{bit, is_valid, null_count};
+use crate::offsets::{are_offsets, value};
+use byteorder::{ByteOrder, LittleEndian};
+use cell_model::{Bytes, Cell, Kind};
+use std::alloc::{AllocError, Global};
+use stream_spec::{BufferPlace, Cause, FieldNode};
+
+// A column's buffers. Values of any length have their offsets as `data`; others have no `values`.
+#[derive(Clone, Copy)]
+pub struct View<'a> {
+    pub kind: Kind,
+    pub validity: &'a [u8],
+    pub data: &'a [u8],
+    pub values: &'a [u8],
+}
+
+// The bytes of a buffer, where it lies in the body.
+fn piece<'a>(body: &'a [u8], buffer: &BufferPlace) -> Option<&'a [u8]>
+    ensures { MatchOption result (lies_in body.now buffer.now ≡ false) (λ p. Lies body.now buffer.now p.now) }
+{
+    if buffer.offset < 0 || buffer.length < 0 {
+        return None;
+    }
+    let (start, length) = (buffer.offset as usize, buffer.length as usize);
+    if start > body.len() || length > body.len() - start {
+        return None;
+    }
+    Some(&body[start..start + length])
+}
+
+// A validity, where it lies in the body and is long enough or empty.
+fn validity_piece<'a>(body: &'a [u8], rows: usize, buffer: &BufferPlace) -> Option<&'a [u8]>
+    requires { rows < 2 ^ 63 }
+    ensures { MatchOption result (is_validity body.now rows buffer.now ≡ false) (λ p. (is_validity body.now rows buffer.now ≡ true) × (p.now ≡ bytes_of body.now buffer.now)) }
+{
+    let piece = piece(body, buffer)?;
+    if rows > 0 && !piece.is_empty() && piece.len() < rows.div_ceil(8) {
+        return None;
+    }
+    Some(piece)
+}
+
+// Whether so many bytes are enough for the data of so many rows.
+fn is_enough(kind: Kind, rows: usize, length: usize) -> bool
+    requires { rows < 2 ^ 63 }
+    ensures { result ≡ nat_le (need_of kind rows) length }
+{
+    match kind {
+        Kind::I8 | Kind::U8 => rows <= length,
+        Kind::I16 | Kind::U16 => rows <= length / 2,
+        Kind::I32 | Kind::U32 => rows <= length / 4,
+        Kind::I64 | Kind::U64 => rows <= length / 8,
+        Kind::Bool => rows.div_ceil(8) <= length,
+        Kind::Utf8 | Kind::Binary => rows < length / 4,
+    }
+}
+
+// The first buffer behind the validity, where it lies in the body and is long enough.
+fn data_piece<'a>(body: &'a [u8], kind: Kind, rows: usize, buffer: &BufferPlace) -> Option<&'a [u8]>
+    requires { rows < 2 ^ 63 }
+    ensures { MatchOption result (is_buffer body.now rows (need_of kind rows) buffer.now ≡ false) (λ p. IsData body.now kind rows buffer.now p.now) }
+{
+    let piece = piece(body, buffer)?;
+    if rows > 0 && !is_enough(kind, rows, piece.len()) {
+        return None;
+    }
+    Some(piece)
+}
+
+// A column's buffers, where they lie in the body and are long enough for so many rows.
+fn lend<'a>(
+    body: &'a [u8],
+    kind: Kind,
+    rows: usize,
+    validity: &BufferPlace,
+    buffers: &[BufferPlace],
+) -> Option<View<'a>>
+    requires fits { rows < 2 ^ 63 }
+    requires count { length buffers.now ≡ data_count (values_of kind) }
+    ensures { MatchOption result (have_buffers body.now rows kind validity.now buffers.now ≡ false) (λ v. IsView body.now rows kind validity.now buffers.now v) }
+{
+    let validity = validity_piece(body, rows, validity)?;
+    let data = data_piece(body, kind, rows, &buffers[0])?;
+    let values = match buffers.get(1) {
+        Some(place) => piece(body, place)?,
+        None => &[],
+    };
+    Some(View {
+        kind,
+        validity,
+        data,
+        values,
+    })
+}
+
+// How many buffers stand behind the validity.
+pub fn data_count(kind: Kind) -> usize
+    ensures { result ≡ data_count (values_of kind) }
+{
+    match kind {
+        Kind::Utf8 | Kind::Binary => 2,
+        _ => 1,
+    }
+}
+
+// The value in a slot.
+fn value_at(alloc: Global, view: &View<'_>, i: usize) -> Result<Cell, AllocError>
+    requires { need_of view.now.kind (i + 1) ≤ length view.now.data.now }
+    ensures { IfOk result (λ cell. cell ≡ value_at (values_of view.now.kind) (data_of view.now) i) }
+{
+    let View { data, values, .. } = *view;
+    match view.kind {
+        Kind::I8 => Ok(Cell::Num(i128::from(data[i].cast_signed()))),
+        Kind::I16 => Ok(Cell::Num(i128::from(LittleEndian::read_i16(&data[i * 2..])))),
+        Kind::I32 => Ok(Cell::Num(i128::from(LittleEndian::read_i32(&data[i * 4..])))),
+        Kind::I64 => Ok(Cell::Num(i128::from(LittleEndian::read_i64(&data[i * 8..])))),
+        Kind::U8 => Ok(Cell::Num(i128::from(data[i]))),
+        Kind::U16 => Ok(Cell::Num(i128::from(LittleEndian::read_u16(&data[i * 2..])))),
+        Kind::U32 => Ok(Cell::Num(i128::from(LittleEndian::read_u32(&data[i * 4..])))),
+        Kind::U64 => Ok(Cell::Num(i128::from(LittleEndian::read_u64(&data[i * 8..])))),
+        Kind::Bool => Ok(Cell::Truth(bit(data, i))),
+        Kind::Utf8 => Ok(Cell::Text(Bytes::from_slice(alloc, value(data, values, i))?)),
+        Kind::Binary => Ok(Cell::Blob(Bytes::from_slice(alloc, value(data, values, i))?)),
+    }
+}
+
+// The cell in a slot.
+pub fn cell_at(alloc: Global, view: &View<'_>, i: usize) -> Result<Cell, AllocError>
+    requires { need_of view.now.kind (i + 1) ≤ length view.now.data.now }
+    ensures { IfOk result (λ cell. cell ≡ cell_in view.now i) }
+{
+    if is_valid(view.validity, i) {
+        value_at(alloc, view, i)
+    } else {
+        Ok(Cell::Null)
+    }
+}
+
+// Whether the slot's value is a text where it has to be one.
+fn is_text_at(view: &View<'_>, i: usize) -> bool
+    requires { need_of view.now.kind (i + 1) ≤ length view.now.data.now }
+    ensures { result ≡ is_text (cell_in view.now i) }
+{
+    match view.kind {
+        Kind::Utf8 => !is_valid(view.validity, i) || is_utf8(value(view.data, view.values, i)),
+        _ => true,
+    }
+}
+
+// Whether each value is a text where it has to be one.
+fn are_texts(view: &View<'_>, rows: usize) -> bool
+    requires { IsTrue (has_room rows view.now) }
+    ensures { result ≡ list_all is_text (cells_in rows view.now) }
+{
+    for i in 0..rows {
+        if !is_text_at(view, i) {
+            return false;
+        }
+    }
+    true
+}
+
+// Whether the offsets are lawful, where the values have any length.
+fn has_offsets(view: &View<'_>, rows: usize) -> bool
+    requires { IsTrue (has_room rows view.now) }
+    ensures { result ≡ has_offsets (values_of view.now.kind) (data_of view.now) rows }
+{
+    match view.kind {
+        Kind::Utf8 | Kind::Binary => are_offsets(view.data, view.values, rows),
+        _ => true,
+    }
+}
+
+// Whether the node counts the slots without a value.
+fn counts_nulls(node: &FieldNode, validity: &[u8], rows: usize) -> bool
+    ensures { result ≡ int_eq node.now.null_count (pos (null_count_of validity.now rows)) }
+{
+    i128::from(node.null_count) == null_count(validity, rows) as i128
+}
+
+// The column of so many rows with this node and these buffers, lent from the body; or the first fault of the column: a
+// buffer that is not inside the body or too short, a false null count, an unlawful offset, a text that is none.
+pub fn column<'a>(
+    body: &'a [u8],
+    kind: Kind,
+    rows: usize,
+    node: &FieldNode,
+    validity: &BufferPlace,
+    buffers: &[BufferPlace],
+) -> Result<View<'a>, Cause>
+    requires fits { rows < 2 ^ 63 }
+    requires count { length buffers.now ≡ data_count (values_of kind) }
+    ensures column { MatchResult result (λ v. column_of body.now rows (values_of kind) node.now.null_count validity.now buffers.now ≡ Ok (cells_in rows v)) (λ cause. column_of body.now rows (values_of kind) node.now.null_count validity.now buffers.now ≡ Err cause) }
+    ensures room { IfOk result (λ v. IsTrue (has_room rows v)) }
+{
+    let Some(view) = lend(body, kind, rows, validity, buffers) else {
+        return Err(Cause::Buffer);
+    };
+    if !counts_nulls(node, view.validity, rows) {
+        return Err(Cause::NullCount);
+    }
+    if !has_offsets(&view, rows) {
+        return Err(Cause::Offsets);
+    }
+    if !are_texts(&view, rows) {
+        return Err(Cause::Utf8);
+    }
+    Ok(view)
+}
+
+fn is_utf8(bytes: &[u8]) -> bool
+    ensures { result ≡ is_utf8 bytes.now }
+{
+    match str::from_utf8(bytes) {
+        Ok(_) => true,
+        Err(_) => false,
+    }
+}
