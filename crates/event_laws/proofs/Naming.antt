@@ -15,7 +15,7 @@ use Rattle.event_spec.specs.Sound.{IsOfKind, Sound}
 use Rattle.key_index.specs.Candidates.{Places}
 use Rattle.txn_desk.specs.Desk.{DeskState}
 
-named_member : (ns : List Name) (s : Parts) (w : Name) (piece : CorePart) → part_named ns s w ≡ Some piece → Among w ns
+pub named_member : (ns : List Name) (s : Parts) (w : Name) (piece : CorePart) → part_named ns s w ≡ Some piece → Among w ns
 named_member [] s w piece is = cc
 named_member (n ∷ ns) [] w piece is = cc
 named_member (n ∷ ns) (p ∷ s) w piece is = go (same_name n w) refl is (named_member ns s w piece)

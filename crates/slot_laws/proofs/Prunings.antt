@@ -16,11 +16,11 @@ use Rattle.slot_laws.proofs.Kept.{numbers_step}
 abbrev pub rest : ℕ → List (Undo Before) → List (Undo Before)
 rest o es = filter (λ undo. not (is_stamped_by undo o)) es
 
-rest_step : (o : ℕ) (e : Undo Before) (es : List (Undo Before)) (b : Bool) → is_stamped_by e o ≡ b → rest o (e ∷ es) ≡ cond b (rest o es) (e ∷ rest o es)
+pub rest_step : (o : ℕ) (e : Undo Before) (es : List (Undo Before)) (b : Bool) → is_stamped_by e o ≡ b → rest o (e ∷ es) ≡ cond b (rest o es) (e ∷ rest o es)
 rest_step o e es true is = ap (λ b. cond (not b) (e ∷ rest o es) (rest o es)) is
 rest_step o e es false is = ap (λ b. cond (not b) (e ∷ rest o es) (rest o es)) is
 
-rest_none : (o : ℕ) (es : List (Undo Before)) → All (λ undo. is_stamped_by undo o ≡ true) es → rest o es ≡ []
+pub rest_none : (o : ℕ) (es : List (Undo Before)) → All (λ undo. is_stamped_by undo o ≡ true) es → rest o es ≡ []
 rest_none o [] all = refl
 rest_none o (e ∷ es) all =
     rest_step o e es true (All-head (λ undo. is_stamped_by undo o ≡ true) e es all) ∙ rest_none o es (All-tail (λ undo. is_stamped_by undo o ≡ true) e es all)

@@ -1,0 +1,108 @@
+-- Bodies that are empty, quiet or dense, and what a change of their slots does to that.
+use Rattle.std.proofs.Common.{◌≡◌, ◌⊎◌, ℕ, zero, suc, ◌<◌, Bool, true, false, cond, ◌&&◌, ◌||◌, List, [], ◌∷◌, map, Option, None, Some, is_none, is_some, length, get_or, refl, sym, ap, ◌∙◌, get_or-set_same}
+use mathlib.Core.Logic.{inl, inr}
+use Rattle.std.specs.List.{list_all, list_any}
+use Rattle.block_spec.specs.Bodies.{Body, slot_in, has_row, is_dense, is_empty, is_front, is_quiet, with_slot}
+use Rattle.block_spec.specs.declared.change.Before.{Before}
+use Rattle.block_spec.specs.Slots.{Row, Slot, bare, has_none, is_bare, writer_of}
+use Rattle.event_laws.proofs.Heads.{all_bare}
+use Rattle.slot_laws.proofs.Kept.{bool_cases}
+use Rattle.undo_chain.specs.declared.undo.Undo.{Undo}
+
+pub true_false : true ≡ false → ⊥
+true_false e = cc
+
+pub and_parts : (a b : Bool) → (a && b) ≡ true → (a ≡ true) × (b ≡ true)
+and_parts true b e = (refl, e)
+and_parts false b e = cc
+
+-- a body with a slot that is not bare is not empty
+pub not_empty : (body : Body) (j : ℕ) → is_bare (slot_in body j) ≡ false → is_empty body ≡ false
+not_empty body j filled = go (bool_cases (is_empty body))
+  where
+    go : (is_empty body ≡ true) ⊎ (is_empty body ≡ false) → is_empty body ≡ false
+    go (inl e) = absurd (true_false (sym (all_bare body.slots j e) ∙ filled))
+    go (inr e) = e
+
+-- nor is one with a row
+bare_row : (x : Slot) → is_bare x ≡ true → is_some x.row ≡ true → ⊥
+bare_row x e r = go x.row e r
+  where
+    go : (row : Option Row) → (is_none row && has_none x.entries) ≡ true → is_some row ≡ true → ⊥
+    go None e r = cc
+    go (Some row) e r = cc
+
+row_not_bare : (slots : List Slot) → list_all is_bare slots ≡ true → list_any (λ slot. is_some slot.row) slots ≡ true → ⊥
+row_not_bare [] e r = cc
+row_not_bare (x ∷ slots) e r = go (is_some x.row) refl r (row_not_bare slots (and_parts (is_bare x) (list_all is_bare slots) e).1)
+  where
+    go : (b : Bool) → is_some x.row ≡ b → (is_some x.row || list_any (λ slot. is_some slot.row) slots) ≡ true → (list_any (λ slot. is_some slot.row) slots ≡ true → ⊥) → ⊥
+    go true is r rest = bare_row x (and_parts (is_bare x) (list_all is_bare slots) e).0 is
+    go false is r rest = rest (sym (ap (λ b. b || list_any (λ slot. is_some slot.row) slots) is) ∙ r)
+
+pub row_fills : (body : Body) → has_row body ≡ true → is_empty body ≡ false
+row_fills body some = go (bool_cases (is_empty body))
+  where
+    go : (is_empty body ≡ true) ⊎ (is_empty body ≡ false) → is_empty body ≡ false
+    go (inl e) = absurd (row_not_bare body.slots e some)
+    go (inr e) = e
+
+pub dense_fills : (body : Body) → is_dense body ≡ true → is_empty body ≡ false
+dense_fills body dense = row_fills body (and_parts (has_row body) (is_front body.slots) dense).0
+
+-- a quiet body has no entry in any slot
+pub quiet_none : (slots : List Slot) (j : ℕ) → list_all (λ slot. has_none slot.entries) slots ≡ true → has_none (get_or slots j bare).entries ≡ true
+quiet_none [] j q = refl
+quiet_none (x ∷ slots) zero q = (and_parts (has_none x.entries) (list_all (λ slot. has_none slot.entries) slots) q).0
+quiet_none (x ∷ slots) (suc j) q = quiet_none slots j (and_parts (has_none x.entries) (list_all (λ slot. has_none slot.entries) slots) q).1
+
+pub writer_not_quiet : (body : Body) (j q : ℕ) → writer_of (slot_in body j).entries ≡ Some q → is_quiet body ≡ false
+writer_not_quiet body j q w = go (bool_cases (is_quiet body))
+  where
+    none_writes : (es : List (Undo Before)) → has_none es ≡ true → writer_of es ≡ Some q → ⊥
+    none_writes [] n w = cc
+    none_writes (e ∷ es) n w = cc
+
+    go : (is_quiet body ≡ true) ⊎ (is_quiet body ≡ false) → is_quiet body ≡ false
+    go (inl e) = absurd (none_writes (slot_in body j).entries (quiet_none body.slots j e) w)
+    go (inr e) = e
+
+-- ---- a change of each slot
+
+module _ (f : Slot → Slot) where
+  pub map_empty : ((x : Slot) → is_bare (f x) ≡ is_bare x) → (slots : List Slot) → list_all is_bare (map f slots) ≡ list_all is_bare slots
+  map_empty same [] = refl
+  map_empty same (x ∷ slots) = ap (λ b. b && list_all is_bare (map f slots)) (same x) ∙ ap (λ b. is_bare x && b) (map_empty same slots)
+
+  pub map_row : ((x : Slot) → (f x).row ≡ x.row) → (slots : List Slot) → list_any (λ slot. is_some slot.row) (map f slots) ≡ list_any (λ slot. is_some slot.row) slots
+  map_row same [] = refl
+  map_row same (x ∷ slots) =
+      ap (λ o. is_some o || list_any (λ slot. is_some slot.row) (map f slots)) (same x) ∙ ap (λ b. is_some x.row || b) (map_row same slots)
+
+  map_none : ((x : Slot) → (f x).row ≡ x.row) → (slots : List Slot) → list_all (λ slot. is_none slot.row) (map f slots) ≡ list_all (λ slot. is_none slot.row) slots
+  map_none same [] = refl
+  map_none same (x ∷ slots) =
+      ap (λ o. is_none o && list_all (λ slot. is_none slot.row) (map f slots)) (same x) ∙ ap (λ b. is_none x.row && b) (map_none same slots)
+
+  map_front : ((x : Slot) → (f x).row ≡ x.row) → (slots : List Slot) → is_front (map f slots) ≡ is_front slots
+  map_front same [] = refl
+  map_front same (x ∷ slots) =
+      ap (λ o. cond (is_some o) (is_front (map f slots)) (list_all (λ slot. is_none slot.row) (map f slots))) (same x)
+      ∙ ap (λ b. cond (is_some x.row) b (list_all (λ slot. is_none slot.row) (map f slots))) (map_front same slots)
+      ∙ ap (cond (is_some x.row) (is_front slots)) (map_none same slots)
+
+  pub map_dense : ((x : Slot) → (f x).row ≡ x.row) → (body : Body) → is_dense (record body { slots = map f body.slots }) ≡ is_dense body
+  map_dense same body = ap (λ b. b && is_front (map f body.slots)) (map_row same body.slots) ∙ ap (λ b. has_row body && b) (map_front same body.slots)
+
+  pub map_quiet : ((x : Slot) → has_none x.entries ≡ true → has_none (f x).entries ≡ true) → (slots : List Slot) → list_all (λ slot. has_none slot.entries) slots ≡ true
+      → list_all (λ slot. has_none slot.entries) (map f slots) ≡ true
+  map_quiet stays [] q = refl
+  map_quiet stays (x ∷ slots) q =
+      let both = and_parts (has_none x.entries) (list_all (λ slot. has_none slot.entries) slots) q in
+      ap (λ b. b && list_all (λ slot. has_none slot.entries) (map f slots)) (stays x both.0) ∙ map_quiet stays slots both.1
+
+-- ---- a change of one slot
+
+pub slot_filled : (j : ℕ) (g : Slot → Slot) (body : Body) → j < length body.slots → is_bare (g (slot_in body j)) ≡ false → is_empty (with_slot j g body) ≡ false
+slot_filled j g body inside filled =
+    not_empty (with_slot j g body) j (ap is_bare (get_or-set_same body.slots j (g (slot_in body j)) bare inside) ∙ filled)

@@ -1,0 +1,11 @@
+pub mod Bodies
+pub mod Fits
+pub mod Held
+pub mod Kept
+pub mod Calm
+pub mod Fewer
+pub mod Written
+pub mod Inserts
+pub mod Keeps
+pub mod Moves
+pub mod Invariant
