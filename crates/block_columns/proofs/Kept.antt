@@ -1,14 +1,15 @@
 -- What a column keeps is given back as the cells that it keeps.
 use Rattle.std.proofs.Common.{◌≡◌, ℕ, zero, suc, ◌<◌, ◌≤◌, get_or, Bool, true, false, cond, List, [], ◌∷◌, ◌++◌, length, replicate, map, refl, sym, ap, ◌∙◌, subst, arith, ℤ, pos}
-use Rattle.std.specs.Prelude.{slice_set, All, IsTrue, ◌&&◌, Option, Some, None, IfSome, IfNone}
+use Rattle.std.specs.Prelude.{slice_set, All, IsTrue, nat_le, ◌&&◌, ◌||◌, Option, Some, None, IfSome, IfNone}
 use Rattle.std.proofs.lemmas.List.{map-set, map-append}
 use Rattle.std.proofs.Math.ListN.{get_or-map}
 use Rattle.std.proofs.lemmas.List.Elements.{All-head, All-tail, All-set, All-append, All-replicate}
+use Rattle.std.proofs.lemmas.Bool.Decides.{nat_tests}
 use Rattle.cell_model.specs.declared.cell.Cell.{Cell}
 use Rattle.cell_model.specs.declared.cell.Cell.TheVariants.{Null, Num, Truth, Text, Blob}
 use Rattle.cell_model.specs.declared.kind.Kind.{Kind}
 use Rattle.cell_model.specs.Kinds.{Values, signed, unsigned, truths, texts, blobs, values_of, are_truths, are_texts, are_blobs}
-use Rattle.cell_model.specs.Values.{is_integer_in}
+use Rattle.cell_model.specs.Values.{byte_length, is_integer_in, is_null, is_value_of, most_bytes}
 use Rattle.arrow_spec.specs.Arrays.{number_of, truth_of, value_of}
 use Rattle.block_columns.specs.declared.store.Store.{Store}
 use Rattle.block_columns.specs.declared.store.Store.TheVariants as store
@@ -203,3 +204,18 @@ keeps-moved kind valid kept cells at (Some bytes) cell spare k is long short som
     ∙ keeps-long kind valid kept cells at k (subst (λ (b : List ℕ). 12 < length b) is long)
 keeps-moved kind valid kept cells at None cell spare k is long short some none copied =
     none ∙ copied (subst (λ (b : List ℕ). length b ≤ 12) (keeps-bytes kind valid kept cells at k) short)
+
+-- a cell that may stand in a slot is not too long
+slot_short : (c : Cell) (value : Bool) → (is_null c || (value && nat_le (byte_length c) most_bytes)) ≡ true → length (value_of c) ≤ 65535
+slot_short Null value slot = omega arith
+slot_short (Num n) value slot = omega arith
+slot_short (Truth b) value slot = omega arith
+slot_short (Text t) true slot = grind (arith, nat_tests)
+slot_short (Text t) false slot = cc
+slot_short (Blob t) true slot = grind (arith, nat_tests)
+slot_short (Blob t) false slot = cc
+
+pub keeps-short : (kind : Kind) (valid : List Bool) (kept : Store) (cells : List Cell) (at : ℕ) → Keeps kind valid kept cells → length (bytes_at kept at) ≤ 65535
+keeps-short kind valid kept cells at k =
+    subst (λ (bytes : List ℕ). length bytes ≤ 65535) (sym (keeps-bytes kind valid kept cells at k))
+    (slot_short (get_or cells at Null) (is_value_of kind (get_or cells at Null)) (slot_at kind cells at k.each))

@@ -6,3 +6,4 @@ pub mod Fitted
 pub mod Undoing
 pub mod Rowed
 pub mod Lent
+pub mod Whole

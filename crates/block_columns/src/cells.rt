@@ -196,7 +196,8 @@ impl ColumnCells {
     /// The bytes of a cell, lent; none of a null, a number or a truth value.
     pub fn bytes(&self, at: usize) -> &[u8]
         requires { at < length self.now.cells }
-        ensures { result.now ≡ value_of (slice_index_or self.now.cells at cell.Null) }
+        ensures value { result.now ≡ value_of (slice_index_or self.now.cells at cell.Null) }
+        ensures short { length result.now ≤ 65535 }
     {
         self.store.bytes(at)
     }

@@ -86,10 +86,11 @@ impl Columns {
         self.slots
     }
 
-    /// How many of the first slots have memory.
+    /// How many of the first slots have memory, as each slot with a row has.
     pub fn room(&self) -> usize
         ensures room { result ≡ self.now.room }
         ensures within { result ≤ length self.now.rows }
+        ensures held { (slot : ℕ) → IsSome (slice_index_or self.now.rows slot None) → slot < result }
     {
         self.taken.len()
     }

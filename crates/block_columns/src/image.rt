@@ -1,5 +1,5 @@
 //! The columns of a frozen block with their Arrow buffers.
-ghost use Rattle.std.specs.Prelude.{◌≡◌, ◌<◌, ◌≤◌, length, map, option_copied, slice_get, take};
+ghost use Rattle.std.specs.Prelude.{◌≡◌, ◌<◌, ◌≤◌, ◌^◌, length, map, option_copied, slice_get, take};
 ghost use Rattle.arrow_spec.specs.Arrays.{null_count};
 ghost use Rattle.block_columns.specs.Columns.{cell_of};
 
@@ -28,7 +28,7 @@ impl Model for Image {
       buffers = i.buffers.items;
     } };
 
-    ghost invariant = { λ i. i.rows ≤ i.columns.room };
+    ghost invariant = { λ i. (i.rows ≤ i.columns.room) × (length i.buffers.items ≡ length i.columns.columns) };
 }
 
 impl Image {
@@ -68,7 +68,8 @@ impl Image {
     /// How many of the rows that the buffers are of have a null in a column.
     pub fn nulls(&self, column: usize) -> usize
         requires { column < length self.now.columns }
-        ensures { result ≡ null_count (map (cell_of column) (take self.now.rows self.now.slots)) }
+        ensures count { result ≡ null_count (map (cell_of column) (take self.now.rows self.now.slots)) }
+        ensures few { result < 2 ^ 32 }
     {
         // The slots with memory are some of all slots.
         let _room = self.columns.room();
@@ -77,7 +78,8 @@ impl Image {
 
     /// The buffers of a column, lent.
     pub fn buffers(&self, column: usize) -> Option<&Buffers>
-        ensures { option_copied result ≡ slice_get self.now.buffers column }
+        ensures value { option_copied result ≡ slice_get self.now.buffers column }
+        ensures each { length self.now.buffers ≡ length self.now.columns }
     {
         self.buffers.get(column)
     }

@@ -1,0 +1,130 @@
+//! All columns of a block.
+ghost use Rattle.std.specs.Prelude.{◌≡◌, ℕ, ◌<◌, ◌≤◌, ◌^◌, Ok, IfOk, IsSome, None, length, map, slice_index_or, take};
+ghost use Rattle.block_columns.specs.Images.{IsWhole};
+ghost use Rattle.gather_core.specs.Gathered.{buffers_from};
+
+use crate::column::gather_column;
+use block_columns::{Columns, Image};
+use cell_model::Buffers;
+use std::alloc::{AllocError, Global};
+use std::thread;
+use std::thread::Threads;
+
+// How many bytes of a column make a thread of its own pay.
+const LARGE: usize = 100_000;
+
+/// An image of the columns with the Arrow buffers of the first `rows` slots, each of which has a
+/// row: those of the batch of these rows. Only want of memory is refused.
+///
+/// Where a column is large, the columns are made side by side, else in turn.
+pub fn gather<R: Threads + Sync>(
+    rt: &R,
+    alloc: Global,
+    columns: &Columns,
+    rows: u32,
+) -> Result<Image, AllocError>
+    requires held { (slot : ℕ) → slot < rows → IsSome (slice_index_or columns.now.rows slot None) }
+    requires few { rows ≤ 2 ^ 15 }
+    ensures columns { IfOk result (λ image. image.columns ≡ columns.now.columns) }
+    ensures slots { IfOk result (λ image. image.slots ≡ columns.now.rows) }
+    ensures rows { IfOk result (λ image. image.rows ≡ rows) }
+    ensures whole { IfOk result IsWhole }
+{
+    // Each slot with a row has memory.
+    let _room = columns.room();
+    let buffers = gather_columns(rt, alloc, columns, rows as usize)?;
+    Ok(Image::of(columns.copy()?, rows, buffers))
+}
+
+// The buffers of each column.
+fn gather_columns<R: Threads + Sync>(
+    rt: &R,
+    alloc: Global,
+    columns: &Columns,
+    n: usize,
+) -> Result<Vec<Buffers>, AllocError>
+    requires room { n ≤ columns.now.room }
+    requires few { n ≤ 2 ^ 15 }
+    ensures { IfOk result (λ buffers. buffers.items ≡
+        buffers_from 0 columns.now.columns (take n columns.now.rows)) }
+{
+    if has_large(columns, n) {
+        side_by_side(rt, alloc, columns, n)
+    } else {
+        in_turn(alloc, columns, n)
+    }
+}
+
+// Whether the values of so many slots are large in a column.
+fn has_large(columns: &Columns, n: usize) -> bool
+    requires { n ≤ 2 ^ 15 }
+{
+    for at in 0..columns.width() {
+        if n * columns.column(at).kind().bits() as usize / 8 > LARGE {
+            return true;
+        }
+    }
+    false
+}
+
+// The buffers of each column, one column after another.
+fn in_turn(alloc: Global, columns: &Columns, n: usize) -> Result<Vec<Buffers>, AllocError>
+    requires room { n ≤ columns.now.room }
+    requires few { n ≤ 2 ^ 15 }
+    ensures { IfOk result (λ buffers. buffers.items ≡
+        buffers_from 0 columns.now.columns (take n columns.now.rows)) }
+{
+    let mut buffers = Vec::with_capacity(alloc, columns.width())?;
+    for at in 0..columns.width() {
+        buffers.push(buffers_at(alloc, columns, at, n)?)?;
+    }
+    Ok(buffers)
+}
+
+// The buffers of each column, each made by a thread of its own.
+fn side_by_side<R: Threads + Sync>(
+    rt: &R,
+    alloc: Global,
+    columns: &Columns,
+    n: usize,
+) -> Result<Vec<Buffers>, AllocError>
+    requires room { n ≤ columns.now.room }
+    requires few { n ≤ 2 ^ 15 }
+    ensures { IfOk result (λ buffers. buffers.items ≡
+        buffers_from 0 columns.now.columns (take n columns.now.rows)) }
+{
+    let made = thread::map_indices(
+        rt,
+        alloc,
+        columns.width(),
+        &|at| { buffers_at(alloc, columns, at, n) },
+    )?;
+    all_made(alloc, made)
+}
+
+// What was made, where none of it wanted memory.
+fn all_made(
+    alloc: Global,
+    made: Vec<Result<Buffers, AllocError>>,
+) -> Result<Vec<Buffers>, AllocError>
+    ensures { IfOk result (λ buffers. made.items ≡ map (λ column. Ok column) buffers.items) }
+{
+    let mut buffers = Vec::with_capacity(alloc, made.len())?;
+    for column in made {
+        buffers.push(column?)?;
+    }
+    Ok(buffers)
+}
+
+// The buffers of one column.
+fn buffers_at(alloc: Global, columns: &Columns, at: usize, n: usize) -> Result<Buffers, AllocError>
+    requires at { at < length columns.now.columns }
+    requires room { n ≤ columns.now.room }
+    requires few { n ≤ 2 ^ 15 }
+    ensures { IfOk result (λ buffers. buffers ≡
+        slice_index_or (buffers_from 0 columns.now.columns (take n columns.now.rows)) at buffers) }
+{
+    // The slots with memory are some of all slots.
+    let _room = columns.room();
+    gather_column(alloc, columns.column(at), n)
+}

@@ -1,0 +1,11 @@
+//! Gathers the columns of a block to the Arrow buffers of its first rows.
+#![tactic(auto)]
+
+mod block;
+mod column;
+mod values;
+
+pub use block::gather;
+
+#[cfg(test)]
+mod tests;

@@ -1,0 +1,47 @@
+//! The values of any length of a column, and where each ends (Arrow columnar format,
+//! "Variable-size Binary Layout").
+ghost use Rattle.std.specs.Prelude.{◌≡◌, ◌≤◌, ◌^◌, ◌++◌, IfOk, OnOk, flat_map, length, take};
+ghost use Rattle.std.specs.Int.{w32, to_le_bytes};
+ghost use Rattle.arrow_spec.specs.Arrays.{offsets, value_of};
+
+use block_columns::ColumnCells;
+use byteorder::{ByteOrder, LittleEndian};
+use std::alloc::{AllocError, Global};
+
+// The offsets of the first cells, one more than there are.
+pub fn offsets(alloc: Global, column: &ColumnCells, n: usize) -> Result<Vec<u8>, AllocError>
+    requires room { n ≤ length column.now.cells }
+    requires few { n ≤ 2 ^ 15 }
+    ensures { IfOk result (λ bytes. bytes.items ≡
+        flat_map (to_le_bytes w32) (offsets 0 (take n column.now.cells))) }
+{
+    let mut bytes = Vec::with_capacity(alloc, 4 * (n + 1))?;
+    let mut end = 0u32;
+    for at in 0..n {
+        add_u32(&mut bytes, end)?;
+        end += column.bytes(at).len() as u32;
+    }
+    add_u32(&mut bytes, end)?;
+    Ok(bytes)
+}
+
+// The bytes of the first cells, one after another.
+pub fn values(alloc: Global, column: &ColumnCells, n: usize) -> Result<Vec<u8>, AllocError>
+    requires { n ≤ length column.now.cells }
+    ensures { IfOk result (λ bytes. bytes.items ≡ flat_map value_of (take n column.now.cells)) }
+{
+    let mut bytes = Vec::new(alloc);
+    for at in 0..n {
+        bytes.extend_from_slice(column.bytes(at))?;
+    }
+    Ok(bytes)
+}
+
+// Adds a number of four bytes, the lowest first.
+fn add_u32(bytes: &mut Vec<u8>, number: u32) -> Result<(), AllocError>
+    ensures { OnOk result (bytes.new.items ≡ bytes.old.items ++ to_le_bytes w32 number) }
+{
+    let mut buffer = [0; 4];
+    LittleEndian::write_u32(&mut buffer, number);
+    bytes.extend_from_slice(&buffer)
+}
