@@ -104,6 +104,7 @@ fn a_session_is_answered_over_two_tables(rt: HostRuntime) -> Result<(), Fail> {
         told(&answer(alloc, &mut store, Asked::Insert(2, 10))?),
         "full"
     );
+    assert_eq!(rt; store.snapshot(), Some(1));
     assert_eq!(rt; store.own_least_key(0), Some(3));
     assert_eq!(rt; store.own_least_key(1), None);
     assert_eq!(rt; store.block_rows(alloc, 0, 0)?.len(), 8);
