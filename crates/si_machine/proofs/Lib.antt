@@ -1,0 +1,9 @@
+pub mod Rising
+pub mod Latest
+pub mod Parts
+pub mod Transactions
+pub mod Scanned
+pub mod Steps
+pub mod Marks
+pub mod Conflicts
+pub mod Ranges

@@ -1,0 +1,11 @@
+//! The snapshot-isolation machine as a program, over ordered maps: what each command of each
+//! session is answered.
+#![tactic(auto)]
+
+mod ledger;
+mod machine;
+#[cfg(test)]
+mod tests;
+mod writers;
+
+pub use machine::Machine;
