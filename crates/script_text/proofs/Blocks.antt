@@ -5,7 +5,7 @@ use Rattle.std.proofs.lemmas.Bool.{ltb-false, le-ltb}
 use Rattle.workload_spec.specs.declared.command.Command.{Command}
 use Rattle.workload_spec.specs.declared.script.Cause.TheVariants as cause
 use Rattle.workload_spec.specs.Grammar.{◌>>=◌, or_cause, rule}
-use Rattle.script_text.specs.Numbers.{is_small, small_natural}
+use Rattle.word_read.specs.Numbers.{is_small, small_natural}
 
 large_by : (n : ℕ) (small : Bool) → is_small n ≡ small → small_natural (Some n) ≡ None → 2 ^ 64 ≤ n
 large_by n true e none = absurd (let f = rw e at none in cc)

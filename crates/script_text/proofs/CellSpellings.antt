@@ -12,9 +12,10 @@ use Rattle.cell_model.specs.declared.kind.Kind.TheVariants as kind
 use Rattle.cell_model.specs.Values.{is_integer_of}
 use Rattle.workload_spec.specs.Words.{cell_text, quoted}
 use Rattle.workload_spec.specs.Reading.{spelled, integer_in, integer_of, text_in, blob_in, value_in, cell_of}
-use Rattle.script_text.specs.Numbers.{is_small, small_integer, magnitude}
-use Rattle.script_text.specs.Spellings.{truth_of, text_of, value_spelled, standing}
-use Rattle.script_text.proofs.TextSpellings.{text_spelled, blob_spelled, marked}
+use Rattle.word_read.specs.Numbers.{is_small, small_integer, magnitude}
+use Rattle.word_read.specs.Spellings.{truth_of, text_of}
+use Rattle.script_text.specs.Spellings.{value_spelled, standing}
+use Rattle.word_read.proofs.TextSpellings.{text_spelled, blob_spelled, marked}
 
 -- a value spelled as another
 mapped : {X : Type 0} (make : X → Cell) (text_of : X → List ℕ) (word : List ℕ) (value : X) → ((x : X) → cell_text (make x) ≡ text_of x) → spelled cell_text word (make value) ≡ option_map make (spelled text_of word value)

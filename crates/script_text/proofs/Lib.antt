@@ -1,14 +1,11 @@
 pub mod WordEnds
-pub mod Decimals
+pub mod Keys
 pub mod NameLemmas
 pub mod Taken
 pub mod Spaces
-pub mod LineEnds
 pub mod NextLines
-pub mod TextSpellings
 pub mod VerbForms
 pub mod Blocks
-pub mod TextPieces
 pub mod Schemas
 pub mod TableLines
 pub mod RoundLines

@@ -8,7 +8,7 @@ use Rattle.workload_spec.specs.declared.script.Line.{Line}
 use Rattle.workload_spec.specs.declared.script.Script.{Script}
 use Rattle.workload_spec.specs.Words.{spaced, line_feed, lines_text}
 use Rattle.workload_spec.specs.ScriptText.{column_text, table_text, line_text, round_lines, script_text}
-use Rattle.script_text.specs.Cursor.{rounds_behind}
+use Rattle.script_text.specs.Rounds.{rounds_behind}
 use Rattle.word_text.specs.Words.{behind_spaces}
 use Rattle.word_text.proofs.Spaces.{spaced_first, behind_spaces-append}
 

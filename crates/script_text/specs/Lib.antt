@@ -1,6 +1,5 @@
-pub mod Cursor
+pub mod Rounds
 pub mod Answers
-pub mod Numbers
 pub mod Spellings
 pub mod Tables
 pub mod Heads

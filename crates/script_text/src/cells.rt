@@ -3,17 +3,16 @@ ghost use Rattle.std.specs.Prelude.{◌≡◌, IfOk};
 ghost use Rattle.workload_spec.specs.declared.script.Cause.TheVariants as cause;
 ghost use Rattle.workload_spec.specs.Reading.{cell_of};
 ghost use Rattle.workload_spec.specs.Grammar.{or_cause};
-ghost use Rattle.script_text.specs.Cursor.{words_behind};
-ghost use Rattle.script_text.specs.Spellings.{truth_of, value_spelled, standing};
+ghost use Rattle.word_read.specs.Cursor.{words_behind};
+ghost use Rattle.word_read.specs.Spellings.{truth_of};
+ghost use Rattle.script_text.specs.Spellings.{value_spelled, standing};
 ghost use Rattle.script_text.specs.Commands.{row_read};
 ghost use Rattle.script_text.specs.Answers.{Gives};
 
 use crate::fault::WordFault;
-use crate::numbers::integer;
-use crate::texts::{blob_of, text_of};
-use crate::words::word_behind;
 use cell_model::{Bytes, Cell, Column, Kind, Row};
 use std::alloc::{AllocError, Global};
+use word_read::{blob_of, integer, text_of, truth_of, word_behind};
 use workload_spec::Cause;
 
 /// The row of a key's cell and the words of the further columns.
@@ -73,18 +72,5 @@ fn value_of(alloc: Global, kind: Kind, word: &[u8]) -> Result<Option<Cell>, Allo
         | Kind::U16
         | Kind::U32
         | Kind::U64 => Ok(integer(word).map(Cell::Num)),
-    }
-}
-
-/// The truth value that the word spells.
-fn truth_of(word: &[u8]) -> Option<bool>
-    ensures { result ≡ truth_of word.now }
-{
-    if word == b"true".as_slice() {
-        Some(true)
-    } else if word == b"false".as_slice() {
-        Some(false)
-    } else {
-        None
     }
 }

@@ -8,9 +8,9 @@ ghost use Rattle.script_text.specs.Partings.{IsParted};
 ghost use Rattle.script_text.specs.Answers.{LineGives};
 
 use crate::fault::ScriptFault;
-use crate::lines::{part_count, split_line};
 use crate::parsing::parse;
 use std::alloc::Global;
+use word_read::{part_count, split_line};
 use workload_spec::{Cause, Extent, Script};
 
 /// The workload within the extent before the first line `====`, and the bytes behind that line; else the first line

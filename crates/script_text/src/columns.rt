@@ -4,15 +4,15 @@ ghost use Rattle.std.specs.List.{list_all, list_any};
 ghost use Rattle.workload_spec.specs.Valid.{is_name, is_name_byte, is_lower_case};
 ghost use Rattle.workload_spec.specs.Extents.{is_extent};
 ghost use Rattle.workload_spec.specs.Grammar.{has_colon, before_colon, after_colon, column_of, columns_from, key_column};
-ghost use Rattle.script_text.specs.Cursor.{words_behind};
+ghost use Rattle.word_read.specs.Cursor.{words_behind};
 ghost use Rattle.script_text.specs.Answers.{Gives};
 
 use crate::fault::WordFault;
 use crate::kinds::kind_of;
 use crate::names::Names;
-use crate::words::word_behind;
 use cell_model::{Bytes, Column, Kind, Schema};
 use std::alloc::{AllocError, Global};
+use word_read::word_behind;
 use workload_spec::{Cause, Extent};
 
 /// Whether the bytes are a name: a lower-case letter, and then at most 31 lower-case letters, digits and underscores.

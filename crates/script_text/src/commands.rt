@@ -5,7 +5,7 @@ ghost use Rattle.workload_spec.specs.declared.command.Command.{Command as Comman
 ghost use Rattle.workload_spec.specs.Reading.{words_of};
 ghost use Rattle.workload_spec.specs.Valid.{is_export, is_block_of};
 ghost use Rattle.workload_spec.specs.Grammar.{table_named, schema_at, formed, line_of, OfTable, OfKey, OfRow, OfBlock};
-ghost use Rattle.script_text.specs.Cursor.{words_behind};
+ghost use Rattle.word_read.specs.Cursor.{words_behind};
 ghost use Rattle.script_text.specs.Commands.{command_read, alone_read};
 ghost use Rattle.script_text.specs.Verbs.{verb_form};
 ghost use Rattle.script_text.specs.Answers.{Gives};
@@ -13,11 +13,12 @@ ghost use Rattle.script_text.specs.Answers.{Gives};
 use crate::cells::row_of;
 use crate::declared::Declared;
 use crate::fault::WordFault;
-use crate::numbers::{first_number, key, natural};
+use crate::numbers::{first_number, key};
 use crate::verbs::{Verb, takes, verb_of};
-use crate::words::{next_word, no_word, word_count};
+use crate::words::{next_word, no_word};
 use cell_model::{Cell, Column, Row};
 use std::alloc::Global;
+use word_read::{natural, word_count};
 use workload_spec::{Cause, Command, Extent, Line};
 
 /// The line of a round that the bytes are: one of so many sessions and a command; an export only where none was before.

@@ -17,7 +17,6 @@ mod parsing;
 mod printing;
 mod rounds;
 mod table;
-mod texts;
 mod verbs;
 mod words;
 

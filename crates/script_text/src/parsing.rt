@@ -10,10 +10,11 @@ ghost use Rattle.script_text.specs.Answers.{LineGives};
 use crate::declared::Declared;
 use crate::fault::ScriptFault;
 use crate::head::{sessions_of, workers_of};
-use crate::lines::{next_line, split_line};
+use crate::lines::next_line;
 use crate::rounds::rounds_of;
 use crate::table::{is_table_line, table_of};
 use std::alloc::Global;
+use word_read::split_line;
 use workload_spec::{Cause, Extent, Rounds, Script};
 
 /// The workload within the extent that the bytes are, or the first line that is none of one, counted from 1, with the

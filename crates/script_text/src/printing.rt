@@ -3,7 +3,7 @@ ghost use Rattle.std.specs.Prelude.{◌≡◌, ◌++◌, ◌∷◌, [], codes, d
 ghost use Rattle.std.specs.Fmt.{signed_decimal};
 ghost use Rattle.workload_spec.specs.Words.{cell_words, spaced, lines_text};
 ghost use Rattle.workload_spec.specs.ScriptText.{kind_text, column_text, table_text, name_of_table, command_words, line_text, round_lines, script_text};
-ghost use Rattle.script_text.specs.Cursor.{rounds_behind};
+ghost use Rattle.script_text.specs.Rounds.{rounds_behind};
 ghost use Rattle.word_text.specs.Words.{behind_spaces};
 
 use cell_model::{Bytes, Column, Kind, Row, TableDecl};

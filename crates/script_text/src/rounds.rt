@@ -8,8 +8,8 @@ ghost use Rattle.script_text.specs.Answers.{LineGives};
 use crate::commands::{is_export, line_of};
 use crate::declared::Declared;
 use crate::fault::ScriptFault;
-use crate::lines::split_line;
 use std::alloc::Global;
+use word_read::split_line;
 use workload_spec::{Cause, Extent, Line, Round};
 
 /// The rounds of the lines that are left, the first of which has this number.

@@ -6,7 +6,7 @@ ghost use Rattle.workload_spec.specs.Extents.{is_extent};
 ghost use Rattle.workload_spec.specs.Reading.{words_of};
 ghost use Rattle.workload_spec.specs.Valid.{is_declared};
 ghost use Rattle.workload_spec.specs.Grammar.{is_table_line, table_of};
-ghost use Rattle.script_text.specs.Cursor.{words_behind};
+ghost use Rattle.word_read.specs.Cursor.{words_behind};
 ghost use Rattle.script_text.specs.Tables.{limits_of};
 ghost use Rattle.script_text.specs.Answers.{Gives};
 
@@ -14,9 +14,10 @@ use crate::columns::{is_name, schema_of};
 use crate::declared::Declared;
 use crate::fault::WordFault;
 use crate::numbers::number;
-use crate::words::{first_keyword, keyword, next_word, no_word, split_word};
+use crate::words::{first_keyword, keyword, next_word, no_word};
 use cell_model::{Bytes, Schema, TableDecl, most_slots};
 use std::alloc::Global;
+use word_read::split_word;
 use workload_spec::{Cause, Extent};
 
 const MOST_BLOCKS: u32 = 1024;

@@ -2,35 +2,11 @@ ghost use Rattle.std.specs.Prelude.{◌≡◌, true};
 ghost use Rattle.workload_spec.specs.Extents.{is_extent};
 
 use crate::columns::schema_of;
-use crate::numbers::{integer, key, natural};
 use crate::*;
 use cell_model::{Bytes, Cell, Column, Kind, Row, Schema, TableDecl, are_named};
 use std::alloc::{AllocError, Global};
 use std::test::*;
 use workload_spec::{Cause, Command, Extent, Line, Round, Rounds, Script, Tables};
-
-#[test]
-fn decimal_digits_alone_are_numbers(rt: HostRuntime) {
-    let cases: [(&[u8], Option<i128>); 12] = [
-        (b"0", Some(0)),
-        (b"7", Some(7)),
-        (b"1024", Some(1024)),
-        (b"18446744073709551615", Some(18446744073709551615)),
-        (b"18446744073709551616", None),
-        (b"-9223372036854775808", Some(-9223372036854775808)),
-        (b"", None),
-        (b"-", None),
-        (b"-0", None),
-        (b"01", None),
-        (b"+1", None),
-        (b"1x", None),
-    ];
-    for (word, number) in cases {
-        assert_eq!(rt; integer(word), number);
-    }
-    assert_eq!(rt; natural(b"12"), Some(12));
-    assert!(rt; matches!(key(b"-5"), Ok(-5)));
-}
 
 #[test]
 fn words_with_a_colon_are_columns(rt: HostRuntime) -> Result<(), Fail> {

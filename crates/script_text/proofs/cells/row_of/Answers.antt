@@ -1,5 +1,5 @@
 use Rattle.std.proofs.Common.{rules, arith, ◌∙◌}
-use Rattle.script_text.specs.Cursor.{words_behind}
+use Rattle.word_read.specs.Cursor.{words_behind}
 use Rattle.script_text.proofs.RowCells.{columns_at, cell_read}
 use Rattle.script_text.proofs.cells.row_of.Goals as goal
 

@@ -2,7 +2,7 @@ use Rattle.std.proofs.Common.{◌≡◌, ◌++◌, drop}
 use Rattle.std.specs.Prelude.{Ok}
 use Rattle.workload_spec.specs.Grammar.{◌>>=◌, cells_of}
 use Rattle.script_text.specs.Commands.{row_read}
-use Rattle.script_text.specs.Cursor.{words_behind}
+use Rattle.word_read.specs.Cursor.{words_behind}
 use Rattle.script_text.proofs.cells.row_of.Given as goal
 
 abbrev pub invariant-loop-column : goal.invariant-loop-column

@@ -1,7 +1,7 @@
 use Rattle.std.proofs.Common.{◌≡◌, ◌∷◌, ◌++◌, [], Ok, true, map, sym, ◌∙◌, ap}
 use Rattle.std.proofs.lemmas.List.{map_push}
 use Rattle.workload_spec.specs.Grammar.{has_colon, column_of}
-use Rattle.script_text.specs.Cursor.{words_behind}
+use Rattle.word_read.specs.Cursor.{words_behind}
 use Rattle.script_text.proofs.Taken.{columns_step}
 use Rattle.script_text.proofs.columns.columns_of.Goals as goal
 

@@ -1,6 +1,6 @@
 use Rattle.std.proofs.Common.{◌≡◌, ◌∷◌, [], length, map}
 use Rattle.workload_spec.specs.Grammar.{columns_from, key_column}
-use Rattle.script_text.specs.Cursor.{words_behind}
+use Rattle.word_read.specs.Cursor.{words_behind}
 use Rattle.script_text.proofs.columns.columns_of.Given as goal
 
 abbrev pub decreases-loop-word : goal.decreases-loop-word

@@ -1,4 +1,4 @@
-use Rattle.script_text.specs.Cursor.{words_behind}
+use Rattle.word_read.specs.Cursor.{words_behind}
 use Rattle.script_text.proofs.Schemas.{columns_make}
 use Rattle.script_text.proofs.columns.schema_of.Goals as goal
 

@@ -1,5 +1,5 @@
 use Rattle.std.proofs.Common.{◌≡◌, ◌++◌, drop}
-use Rattle.script_text.specs.Cursor.{rounds_behind}
+use Rattle.script_text.specs.Rounds.{rounds_behind}
 use Rattle.script_text.proofs.printing.put_further_rounds.Given as goal
 
 abbrev pub invariant-loop-round : goal.invariant-loop-round

@@ -3,7 +3,7 @@ use Rattle.std.proofs.lemmas.List.{take_all, length-drop}
 use Rattle.std.proofs.lemmas.Result.{IfOk-equal}
 use Rattle.workload_spec.specs.Words.{lines_text}
 use Rattle.workload_spec.specs.ScriptText.{line_text}
-use Rattle.script_text.specs.Cursor.{rounds_behind}
+use Rattle.script_text.specs.Rounds.{rounds_behind}
 use Rattle.script_text.proofs.Spaces.{rounds_split}
 use Rattle.script_text.proofs.printing.put_rounds.Goals as goal
 

@@ -1,0 +1,25 @@
+-- Keys among the integers that words spell.
+use Rattle.std.proofs.Common.{◌≡◌, ℕ, ◌+◌, ◌-◌, ◌^◌, ◌≤◌, Bool, true, false, List, refl, arith, Option}
+use Rattle.std.specs.Prelude.{int_le, Some, None, ℤ, pos, negsuc, Ok}
+use Rattle.std.proofs.lemmas.Bool.{ltb-false, lt-leb}
+use Rattle.workload_spec.specs.Valid.{is_key_number}
+use Rattle.workload_spec.specs.declared.script.Cause.TheVariants as cause
+use Rattle.workload_spec.specs.Grammar.{◌>>=◌, or_cause, rule, key_in}
+use Rattle.workload_spec.specs.Reading.{integer_of}
+use Rattle.word_read.specs.Numbers.{is_small, small_integer, magnitude}
+
+large_key : (number : ℤ) → is_small (magnitude number) ≡ false → is_key_number number ≡ false
+large_key (pos number) large = let past : 2 ^ 64 ≤ number = ltb-false number (2 ^ 64) large in lt-leb number (2 ^ 63 - 1) (omega arith)
+large_key (negsuc number) large = let past : 2 ^ 64 ≤ number + 1 = ltb-false (number + 1) (2 ^ 64) large in let f : int_le (negsuc (2 ^ 63 - 1)) (negsuc number) ≡ false = lt-leb number (2 ^ 63 - 1) (omega arith) in rw f refl
+
+key_by : (number : ℤ) (small : Bool) → is_small (magnitude number) ≡ small → (rule cause.Number (is_key_number number) >>= λ fits. Ok number) ≡ (or_cause cause.Number (small_integer (Some number)) >>= λ key. rule cause.Number (is_key_number key) >>= λ fits. Ok key)
+key_by number true e = rw e refl
+key_by number false e = rw (e, large_key number e) refl
+
+key_of : (o : Option ℤ) → (or_cause cause.Number o >>= λ key. rule cause.Number (is_key_number key) >>= λ fits. Ok key) ≡ (or_cause cause.Number (small_integer o) >>= λ key. rule cause.Number (is_key_number key) >>= λ fits. Ok key)
+key_of None = refl
+key_of (Some number) = key_by number (is_small (magnitude number)) refl
+
+-- a key's magnitude is below 2^64
+pub key_small : (word : List ℕ) → key_in word ≡ (or_cause cause.Number (small_integer (integer_of word)) >>= λ key. rule cause.Number (is_key_number key) >>= λ fits. Ok key)
+key_small word = key_of (integer_of word)

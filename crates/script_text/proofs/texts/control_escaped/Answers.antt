@@ -1,6 +1,0 @@
-use Rattle.std.proofs.Common.{arith}
-use Rattle.script_text.proofs.TextPieces.{few_digits}
-use Rattle.script_text.proofs.texts.control_escaped.Goals as goal
-
-pub returns-in_default-clause-read : goal.returns-in_default-clause-read
-returns-in_default-clause-read c = few_digits c.args.digits.now (omega arith)

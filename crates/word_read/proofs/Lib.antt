@@ -1,0 +1,5 @@
+pub mod WordEnds
+pub mod Decimals
+pub mod LineEnds
+pub mod TextSpellings
+pub mod TextPieces
