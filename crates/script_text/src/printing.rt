@@ -2,13 +2,13 @@
 ghost use Rattle.std.specs.Prelude.{◌≡◌, ◌++◌, ◌∷◌, [], codes, decimal, map, OnOk, IfOk};
 ghost use Rattle.std.specs.Fmt.{signed_decimal};
 ghost use Rattle.workload_spec.specs.Words.{cell_words, spaced, lines_text};
-ghost use Rattle.workload_spec.specs.ScriptText.{kind_text, column_text, table_text, name_of_table, command_words, line_text, round_lines, script_text};
+ghost use Rattle.workload_spec.specs.ScriptText.{column_text, table_text, name_of_table, command_words, line_text, round_lines, script_text};
 ghost use Rattle.script_text.specs.Rounds.{rounds_behind};
 ghost use Rattle.word_text.specs.Words.{behind_spaces};
 
-use cell_model::{Bytes, Column, Kind, Row, TableDecl};
+use cell_model::{Bytes, Column, Row, TableDecl};
 use std::alloc::{AllocError, Global};
-use word_text::{put_cells, put_key, put_natural, put_number, put_table_name, put_word};
+use word_text::{kind_text, put_cells, put_key, put_natural, put_number, put_table_name, put_word};
 use workload_spec::{Command, Line, Round, Script};
 
 fn put_of_table(
@@ -131,24 +131,6 @@ fn put_further_rounds(
         put_lines(out, tables, round.as_slice())?;
     }
     Ok(())
-}
-
-fn kind_text(kind: Kind) -> &'static [u8]
-    ensures { result.now ≡ kind_text kind }
-{
-    match kind {
-        Kind::I8 => b"i8",
-        Kind::I16 => b"i16",
-        Kind::I32 => b"i32",
-        Kind::I64 => b"i64",
-        Kind::U8 => b"u8",
-        Kind::U16 => b"u16",
-        Kind::U32 => b"u32",
-        Kind::U64 => b"u64",
-        Kind::Bool => b"bool",
-        Kind::Utf8 => b"utf8",
-        Kind::Binary => b"binary",
-    }
 }
 
 fn put_column(out: &mut Vec<u8>, column: &Column) -> Result<(), AllocError>

@@ -3,7 +3,9 @@
 
 mod words;
 
-pub use words::{put_cells, put_key, put_natural, put_number, put_table_name, put_word};
+pub use words::{
+    kind_text, put_cells, put_key, put_natural, put_number, put_quoted, put_table_name, put_word,
+};
 
 #[cfg(test)]
 mod tests;

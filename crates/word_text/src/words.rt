@@ -3,10 +3,10 @@ ghost use Rattle.std.specs.Prelude.{◌≡◌, ◌++◌, ◌∷◌, decimal, fla
 ghost use Rattle.std.specs.Fmt.{signed_decimal};
 ghost use Rattle.std.specs.Char.{digit_char};
 ghost use Rattle.workload_spec.specs.Words.{escaped, quoted, hex_digits, cell_text, cell_words};
-ghost use Rattle.workload_spec.specs.ScriptText.{name_of_table};
+ghost use Rattle.workload_spec.specs.ScriptText.{kind_text, name_of_table};
 ghost use Rattle.word_text.specs.Words.{behind_spaces};
 
-use cell_model::{Cell, TableDecl};
+use cell_model::{Cell, Kind, TableDecl};
 use itoa::Buffer;
 use std::alloc::AllocError;
 
@@ -61,7 +61,7 @@ fn put_escaped(out: &mut Vec<u8>, byte: u8) -> Result<(), AllocError>
 }
 
 /// A text between quotes.
-fn put_quoted(out: &mut Vec<u8>, text: &[u8]) -> Result<(), AllocError>
+pub fn put_quoted(out: &mut Vec<u8>, text: &[u8]) -> Result<(), AllocError>
     ensures { OnOk result (out.new.items ≡ out.old.items ++ quoted text.now) }
 {
     out.push(b'"')?;
@@ -138,5 +138,24 @@ pub fn put_table_name(out: &mut Vec<u8>, tables: &[TableDecl], place: u32) -> Re
     match tables.get(place as usize) {
         Some(table) => out.extend_from_slice(table.name.as_slice()),
         None => Ok(()),
+    }
+}
+
+/// The word of a kind.
+pub fn kind_text(kind: Kind) -> &'static [u8]
+    ensures { result.now ≡ kind_text kind }
+{
+    match kind {
+        Kind::I8 => b"i8",
+        Kind::I16 => b"i16",
+        Kind::I32 => b"i32",
+        Kind::I64 => b"i64",
+        Kind::U8 => b"u8",
+        Kind::U16 => b"u16",
+        Kind::U32 => b"u32",
+        Kind::U64 => b"u64",
+        Kind::Bool => b"bool",
+        Kind::Utf8 => b"utf8",
+        Kind::Binary => b"binary",
     }
 }

@@ -1,0 +1,11 @@
+//! The text of a stream, as it is shown: its schema and its rows, or where it is none.
+#![tactic(auto)]
+
+pub mod examples;
+mod lines;
+mod shown;
+
+pub use shown::{Shown, show};
+
+#[cfg(test)]
+mod tests;

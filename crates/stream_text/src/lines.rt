@@ -1,0 +1,95 @@
+// The lines of a stream's text.
+ghost use Rattle.std.specs.Prelude.{◌≡◌, ◌++◌, ◌∷◌, [], None, Some, OnOk, map};
+ghost use Rattle.stream_text.specs.Shown.{cause_text, column_text, last_line, schema_line};
+ghost use Rattle.word_text.specs.Words.{behind_spaces};
+ghost use Rattle.workload_spec.specs.ReplyText.{row_line};
+
+use cell_model::{Column, Row};
+use std::alloc::AllocError;
+use stream_spec::{Cause, StreamFault};
+use word_text::{kind_text, put_cells, put_number, put_quoted, put_word};
+
+// The word of a cause.
+fn cause_text(cause: Cause) -> &'static [u8]
+    ensures { result.now ≡ cause_text cause }
+{
+    match cause {
+        Cause::Short => b"Short",
+        Cause::Marker => b"Marker",
+        Cause::Flat => b"Flat",
+        Cause::Version => b"Version",
+        Cause::Dictionary => b"Dictionary",
+        Cause::Kind => b"Kind",
+        Cause::Shape => b"Shape",
+        Cause::Endian => b"Endian",
+        Cause::Utf8 => b"Utf8",
+        Cause::Compressed => b"Compressed",
+        Cause::Buffer => b"Buffer",
+        Cause::NullCount => b"NullCount",
+        Cause::Offsets => b"Offsets",
+    }
+}
+
+fn put_column(out: &mut Vec<u8>, column: &Column) -> Result<(), AllocError>
+    ensures { OnOk result (out.new.items ≡ out.old.items ++ column_text column.now) }
+{
+    put_quoted(out, column.name.as_slice())?;
+    out.push(b':')?;
+    out.extend_from_slice(kind_text(column.kind))?;
+    if column.nullable {
+        out.push(b'?')?;
+    }
+    Ok(())
+}
+
+// The columns, each behind a space.
+fn put_columns(out: &mut Vec<u8>, columns: &[Column]) -> Result<(), AllocError>
+    ensures { OnOk result (out.new.items ≡ out.old.items ++ behind_spaces (map column_text columns.now)) }
+{
+    for column in columns {
+        out.push(b' ')?;
+        put_column(out, column)?;
+    }
+    Ok(())
+}
+
+// The line of the columns.
+pub fn put_schema(out: &mut Vec<u8>, columns: &[Column]) -> Result<(), AllocError>
+    ensures { OnOk result (out.new.items ≡ out.old.items ++ (schema_line columns.now ++ 10 ∷ [])) }
+{
+    out.extend_from_slice(b"schema")?;
+    put_columns(out, columns)?;
+    out.push(b'\n')?;
+    Ok(())
+}
+
+// The line of a row.
+pub fn put_row(out: &mut Vec<u8>, row: &Row) -> Result<(), AllocError>
+    ensures { OnOk result (out.new.items ≡ out.old.items ++ (row_line row.now ++ 10 ∷ [])) }
+{
+    out.push(b'|')?;
+    put_cells(out, row.as_slice())?;
+    out.push(b'\n')?;
+    Ok(())
+}
+
+// The last line: how many rows there are.
+pub fn put_count(out: &mut Vec<u8>, count: u64) -> Result<(), AllocError>
+    ensures { OnOk result (out.new.items ≡ out.old.items ++ (last_line count None ++ 10 ∷ [])) }
+{
+    out.extend_from_slice(b"rows")?;
+    put_number(out, count)?;
+    out.push(b'\n')?;
+    Ok(())
+}
+
+// The last line where the bytes are no stream: the first fault.
+pub fn put_fault(out: &mut Vec<u8>, fault: StreamFault) -> Result<(), AllocError>
+    ensures { OnOk result (out.new.items ≡ out.old.items ++ (last_line 0 (Some fault) ++ 10 ∷ [])) }
+{
+    out.extend_from_slice(b"not a stream at")?;
+    put_number(out, fault.place)?;
+    put_word(out, cause_text(fault.cause))?;
+    out.push(b'\n')?;
+    Ok(())
+}
