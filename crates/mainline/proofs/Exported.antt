@@ -1,5 +1,5 @@
 -- What a store sends at an export.
-use Rattle.std.proofs.Common.{◌≡◌, ℕ, ℤ, pos, negsuc, true, ◌&&◌, leb, ◌*◌, ◌+◌, ◌-◌, ◌^◌, ◌<◌, ◌≤◌, Option, None, Some, List, [], ◌∷◌, length, map, refl, ap, sym, ◌∙◌, subst, arith, option_map, slice_get, inl, inr, IsPermutation, FitsSigned}
+use Rattle.std.proofs.Common.{◌≡◌, ℕ, ℤ, pos, negsuc, true, ◌&&◌, ◌*◌, ◌-◌, ◌^◌, ◌<◌, ◌≤◌, Option, None, Some, List, [], ◌∷◌, length, refl, ap, sym, ◌∙◌, subst, arith, option_map, slice_get, inl, inr, IsPermutation, FitsSigned}
 use Rattle.std.specs.Prelude.{All, is_none}
 use Rattle.std.specs.Int.{w64}
 use Rattle.std.specs.List.{AllByRecursion as ByRecursion, list_all, range_with_len}

@@ -1,5 +1,5 @@
 -- A round on its way: what its first commands were answered.
-use Rattle.std.proofs.Common.{◌≡◌, ℕ, suc, Bool, true, false, ◌&&◌, ◌||◌, ◌==◌, ◌+◌, ◌≤◌, Option, None, Some, List, [], ◌∷◌, ◌++◌, map, length, count_by, sum_by, cond, refl, ap, sym, ◌∙◌, subst, arith, length-append, inl}
+use Rattle.std.proofs.Common.{◌≡◌, ℕ, Bool, true, false, ◌&&◌, ◌||◌, ◌==◌, ◌+◌, ◌≤◌, Option, None, Some, List, [], ◌∷◌, ◌++◌, map, length, count_by, sum_by, cond, refl, ap, sym, ◌∙◌, subst, arith, length-append}
 use Rattle.std.specs.List.{list_any, list_all}
 use Rattle.std.specs.Io.KnownBytes.{Appends}
 use Rattle.std.proofs.KnownBytes.{Appends-nil, Appends-trans}
@@ -16,11 +16,10 @@ use Rattle.workload_spec.specs.declared.script.Line.{Line}
 use Rattle.workload_spec.specs.declared.command.Command.{Command}
 use Rattle.workload_spec.specs.declared.command.Command.TheVariants as command
 use Rattle.workload_spec.specs.declared.reply.Said.{Said}
-use Rattle.workload_spec.specs.declared.reply.ReplyLine.{ReplyLine}
 use Rattle.workload_spec.specs.declared.reply.Who.{Who}
 use Rattle.workload_spec.specs.declared.reply.Who.TheVariants.{Session}
 use Rattle.outcome_spec.specs.Entries.{Entry, is_same}
-use Rattle.outcome_spec.specs.Forms.{Due, dues_to, entry_behind}
+use Rattle.outcome_spec.specs.Forms.{Due, entry_behind}
 use Rattle.timeline_spec.specs.Forms.{AllMayStand, MayAnswer, MayStand}
 use Rattle.timeline_spec.specs.Printed.{printed_from}
 use Rattle.timeline_spec.specs.Timeline.{Counts, Runs, Takes}

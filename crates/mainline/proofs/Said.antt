@@ -29,8 +29,7 @@ use Rattle.timeline_laws.proofs.Unique.{Only}
 use Rattle.timeline_laws.proofs.Views.{belongs, belongs-is, bound-is, state-is, within-open}
 use Rattle.timeline_laws.proofs.Walk.{Shown, shown-opening}
 use Rattle.mainline.specs.Outcome.{EachSays, IsFrontOf, IsStreamOf, SaysOfBytes, SaysOfExport, Sends}
-use Rattle.mainline.specs.Sent.{RunsRound, SendsAll, SendsAt, SendsBy, SendsWithin, dues_of_one, replies_to}
-use Rattle.mainline.specs.Today.{today}
+use Rattle.mainline.specs.Sent.{RunsRound, SendsAll, SendsAt, SendsBy, SendsWithin}
 use Rattle.mainline.proofs.Running.{any_command}
 use Rattle.mainline.proofs.Scripts.{Parts, dues_are}
 

@@ -16,8 +16,7 @@ use Rattle.workload_spec.specs.declared.reply.Said.TheVariants as said
 use Rattle.workload_spec.specs.declared.script.Line.{Line}
 use Rattle.workload_spec.specs.declared.script.Script.{Script}
 use Rattle.workload_spec.specs.Grammar.{Fault, read_with, refused_text}
-use Rattle.workload_spec.specs.ScriptText.{script_text}
-use Rattle.workload_spec.specs.Valid.{is_valid, is_export, all_lines}
+use Rattle.workload_spec.specs.Valid.{is_export, all_lines}
 use Rattle.outcome_spec.specs.Entries.{Entry}
 use Rattle.outcome_spec.specs.Explained.{Explained, run_in}
 use Rattle.outcome_spec.specs.Runs.{Run, Span, transaction_of}

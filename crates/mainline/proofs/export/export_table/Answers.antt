@@ -1,11 +1,11 @@
-use Rattle.std.proofs.Common.{◌≡◌, ◌∙◌, ◌<◌, ◌^◌, ℤ, Some, length, refl, sym, subst, arith, rules, slice_get, FitsSigned}
+use Rattle.std.proofs.Common.{◌<◌, ◌^◌, ℤ, length, refl, sym, subst, arith, rules, FitsSigned}
 use Rattle.std.specs.Int.{w64}
 use Rattle.std.proofs.lemmas.Int.{to_z-of_z}
 use Rattle.std.proofs.lemmas.Option.{slice_get_read}
 use Rattle.workload_spec.specs.declared.command.Command.TheVariants as command
 use Rattle.workload_spec.specs.declared.reply.Said.TheVariants as said
 use Rattle.mainline.specs.Sent.{Serves}
-use Rattle.mainline.proofs.Asked.{table_at, table_limits}
+use Rattle.mainline.proofs.Asked.{table_at}
 use Rattle.mainline.proofs.Exported.{dirty, exported, has_blocks, refused, unopened}
 use Rattle.mainline.proofs.export.export_table.Goals as goal
 

@@ -1,4 +1,4 @@
-use Rattle.std.proofs.Common.{◌≡◌, ◌∙◌, ◌≤◌, ℕ, ◌+◌, ◌^◌, List, ◌∷◌, ◌++◌, Bool, cond, nat_lt, ap, sym, subst, refl, arith, length}
+use Rattle.std.proofs.Common.{◌≡◌, ◌∙◌, ℕ, ◌+◌, List, cond, nat_lt, ap, sym, subst, refl, arith}
 use Rattle.std.specs.Io.KnownBytes.{Appends}
 use Rattle.cell_model.specs.declared.cell.Cell.{Cell}
 use Rattle.list_store.specs.Holds.{rows_in_block}

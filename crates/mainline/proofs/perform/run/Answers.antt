@@ -1,9 +1,4 @@
 use Rattle.std.proofs.Common.{ℕ, List, option_map, subst, arith}
-use Rattle.workload_spec.specs.declared.script.Script.{Script}
-use Rattle.std.specs.Prelude.{Ok}
-use Rattle.workload_spec.specs.Extents.{today}
-use Rattle.workload_spec.specs.Grammar.{read_with}
-use Rattle.script_text.specs.Answers.{LineFails}
 use Rattle.mainline.specs.Outcome.{IsWorkload, Outside, ScriptEnds, outside}
 use Rattle.mainline.specs.declared.status.Status.{Status}
 use Rattle.mainline.proofs.Scripts.{refusal_ends, run_ends}
