@@ -249,7 +249,7 @@ cond_same : {X : Type 0} (b : Bool) (x : X) → cond b x x ≡ x
 cond_same true x = refl
 cond_same false x = refl
 
-moving_none : (sh : Shape) (s : Parts) (t stamp : ℕ) (row : MovePair → Row) → each_changed (moving t stamp row (λ desk. desk) []) (names sh) s ≡ each_changed nothing (names sh) s
+pub moving_none : (sh : Shape) (s : Parts) (t stamp : ℕ) (row : MovePair → Row) → each_changed (moving t stamp row (λ desk. desk) []) (names sh) s ≡ each_changed nothing (names sh) s
 moving_none sh s t stamp row = ap (λ (c : Changes). each_changed c (names sh) s) (λ i. record {
   head = λ u x. x;
   shard = λ u j x. cond_same (u == t) x i;
