@@ -28,8 +28,8 @@ use Rattle.mainline.specs.declared.status.Status.TheVariants as status
 
 -- ---- what an export sends
 
--- Rows in groups: none is empty, none has more rows than a block has slots, and put together they are these contents,
--- each row once.
+-- Rows in groups: none is empty, none has more rows than a block has slots, and put together they
+-- are these contents, each row once.
 pub record AreBatchesOf (slots : ℕ) (contents : List (List Cell)) (groups : List (List (List Cell))) : Type 0 where
   pub filled : All (λ (group : List (List Cell)). 0 < length group) groups
   pub within : All (λ (group : List (List Cell)). length group ≤ slots) groups
@@ -50,15 +50,16 @@ pub record IsFrontOf (columns : List Column) (slots : ℕ) (contents : List (Lis
   pub front : bytes ++ rest ≡ stream_of columns groups
   pub grouped : AreBatchesOf slots contents groups
 
--- The bytes are a front of a canonical stream of the table's rows at the snapshot of the reply's transaction.
+-- The bytes are a front of a canonical stream of the table's rows at the snapshot of the reply's
+-- transaction.
 pub record IsFrontAt (run : Run) (entry : Entry) (table : ℕ) (bytes : List ℕ) : Type 0 where
   pub transaction : Span
   pub within : transaction_of run entry ≡ Some transaction
   pub front : IsFrontOf (columns_at run.tables table) (slots_at run.tables table) (contents_of table (state_at run.history transaction.snapshot)) bytes
 
--- What the reply to an export says of the bytes that went out. `export n rows R batches B frozen F`: the canonical
--- stream of the rows of the table after n commits, each once, R in all, in B batches of which none is empty. With refused
--- memory a front of one. With any other reply nothing.
+-- What the reply to an export says of the bytes that went out. `export n rows R batches B frozen
+-- F`: the canonical stream of the rows of the table after n commits, each once, R in all, in B
+-- batches of which none is empty. With refused memory a front of one. With any other reply nothing.
 abbrev pub SaysOfExport : Run → Entry → ℕ → Said → List ℕ → Type 0
 SaysOfExport run entry table (said.Exported number rows batches frozen) bytes =
     IsStreamOf (columns_at run.tables table) (slots_at run.tables table) (contents_of table (state_at run.history number)) rows batches bytes
@@ -79,7 +80,8 @@ EachSays run bytes (entry ∷ entries) = SaysOfBytes run entry entry.command byt
 abbrev pub has_export : Script → Bool
 has_export script = list_any (λ line. is_export line.command) (all_lines script)
 
--- An outlet grew by what the replies of this output say; by nothing where the workload has no export.
+-- An outlet grew by what the replies of this output say; by nothing where the workload has no
+-- export.
 pub record Sends (script : Script) (output : List ℕ) (before now : Option (List ℕ)) : Type 0 where
   pub sent : List ℕ
   pub grown : Appends before now sent
@@ -88,8 +90,8 @@ pub record Sends (script : Script) (output : List ℕ) (before now : Option (Lis
 
 -- ---- the outside
 
--- What is told of the outside at one moment: the bytes left to read, those written to the output and to the outlet, and
--- the names that the outlet was started with.
+-- What is told of the outside at one moment: the bytes left to read, those written to the output
+-- and to the outlet, and the names that the outlet was started with.
 pub record Outside : Type 0 where
   pub left : Option (List ℕ)
   pub printed : Option (List ℕ)
@@ -109,13 +111,14 @@ pub record IsSilent (before now : Outside) : Type 0 where
   pub printed : now.printed ≡ before.printed
   pub outlet : LeavesOutlet before now
 
--- the names with which an outlet was started, after a run with this path: once, where the workload has an export
+-- the names with which an outlet was started, after a run with this path: once, where the workload
+-- has an export
 abbrev pub started_by : List ℕ → Script → Option (List (List ℕ)) → Option (List (List ℕ))
 started_by path script names =
     if has_export script then option_map (λ before. before ++ path ∷ []) names else names
 
--- The outlet after the workload `ran`, a front of the workload: started once, with the path, where the workload has an
--- export, and sent what the replies say. Without a path the export is dropped.
+-- The outlet after the workload `ran`, a front of the workload: started once, with the path, where
+-- the workload has an export, and sent what the replies say. Without a path the export is dropped.
 abbrev pub Delivers : Option (List ℕ) → Script → Script → List ℕ → Outside → Outside → Type 0
 Delivers None script ran output before now = LeavesOutlet before now
 Delivers (Some path) script ran output before now =
@@ -141,10 +144,11 @@ pub record Reads (script : Script) (before now : Outside) : Type 0 where
 
 -- ---- the ends
 
--- A text that was due is printed whole (`Appends`), or only a front of it where the output failed (`AppendsFront`).
+-- A text that was due is printed whole (`Appends`), or only a front of it where the output failed
+-- (`AppendsFront`).
 
--- The words ask for nothing that runs: nothing is read or sent, and the line that tells how the program is used is
--- printed.
+-- The words ask for nothing that runs: nothing is read or sent, and the line that tells how the
+-- program is used is printed.
 pub record IsUsage (Prints : Option (List ℕ) → Option (List ℕ) → List ℕ → Type 0) (before now : Outside) : Type 0 where
   pub left : now.left ≡ before.left
   pub printed : Prints before.printed now.printed usage_line
@@ -163,15 +167,16 @@ pub record IsRefused (Prints : Option (List ℕ) → Option (List ℕ) → List 
 abbrev pub with_rounds : List (List Line) → Script → Script
 with_rounds rounds script = record script { rounds = rounds }
 
--- The workload was run: its output is explained by snapshot isolation and was printed, and the outlet has what its
--- replies say.
+-- The workload was run: its output is explained by snapshot isolation and was printed, and the
+-- outlet has what its replies say.
 pub record IsRun (path : Option (List ℕ)) (script : Script) (before now : Outside) : Type 0 where
   pub output : List ℕ
   pub explained : Explained script output
   pub printed : Appends before.printed now.printed output
   pub outlet : Delivers path script script output before now
 
--- The output failed behind some first rounds of the workload: these were run, and only a front of their text was printed.
+-- The output failed behind some first rounds of the workload: these were run, and only a front of
+-- their text was printed.
 pub record IsCutOff (path : Option (List ℕ)) (script : Script) (before now : Outside) : Type 0 where
   pub whole : List (List Line)
   pub rest : List (List Line)
@@ -190,8 +195,8 @@ abbrev pub AreFirstLines : List Line → List Line → Type 0
 AreFirstLines lines round =
     (session : ℕ) → (rest : List Line) × (lines_of session round ≡ lines_of session lines ++ rest)
 
--- The run stopped within a round: the rounds before it were run and their text was printed, and of this round these first
--- lines of each session were run and their text was not printed.
+-- The run stopped within a round: the rounds before it were run and their text was printed, and of
+-- this round these first lines of each session were run and their text was not printed.
 pub record Stops (path : Option (List ℕ)) (script : Script) (lines : List Line) (before now : Outside) : Type 0 where
   pub whole : List (List Line)
   pub round : List Line
@@ -224,7 +229,8 @@ pub record StopsAtExport (path : Option (List ℕ)) (script : Script) (before no
   pub last : EndAtExport lines
   pub stop : Stops path script lines before now
 
--- The workload has an export and the outlet failed: at its start, and then nothing was run, or at the export.
+-- The workload has an export and the outlet failed: at its start, and then nothing was run, or at
+-- the export.
 pub record FailsExport (path : Option (List ℕ)) (script : Script) (before now : Outside) : Type 0 where
   pub named : IsSome path
   pub asked : has_export script ≡ true
@@ -259,7 +265,8 @@ RunEnds path status.Memory before now = IsSilent before now ⊎ IsRunOf path sta
 RunEnds path status.NotAStream before now = ⊥
 RunEnds path status.TooLong before now = ConsumesAtLeast before.left now.left (2 ^ 32) × IsSilent before now
 
--- How the program ends where the words ask for nothing that runs. Before they are judged there may be no memory.
+-- How the program ends where the words ask for nothing that runs. Before they are judged there may
+-- be no memory.
 abbrev pub UsageEnds : Status → Outside → Outside → Type 0
 UsageEnds status.Done before now = ⊥
 UsageEnds status.Usage before now = IsUsage Appends before now
@@ -271,7 +278,8 @@ UsageEnds status.Memory before now = now ≡ before
 UsageEnds status.NotAStream before now = ⊥
 UsageEnds status.TooLong before now = ⊥
 
--- How the program ends, by what the words ask for. No stream is shown yet, no output checked and no workload generated.
+-- How the program ends, by what the words ask for. No stream is shown yet, no output checked and no
+-- workload generated.
 abbrev pub Ends : Option Asked → Status → Outside → Outside → Type 0
 Ends None ended before now = UsageEnds ended before now
 Ends (Some (ToRun path)) ended before now = RunEnds path ended before now
@@ -279,7 +287,8 @@ Ends (Some ToShow) ended before now = UsageEnds ended before now
 Ends (Some ToCheck) ended before now = UsageEnds ended before now
 Ends (Some ToBench) ended before now = UsageEnds ended before now
 
--- A run ends with this status only where a count of faults rose, and with any other the count is as before.
+-- A run ends with this status only where a count of faults rose, and with any other the count is as
+-- before.
 pub record TellsFaults (of ended : Status) (before now : ℕ) : Type 0 where
   pub told : ended ≡ of → Rose before now
   pub kept : ended ≢ of → now ≡ before

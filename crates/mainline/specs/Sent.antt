@@ -64,7 +64,8 @@ pub record HasBlocksOf (columns : List Column) (slots : ℕ) (store : Store) (ta
   pub few : (block : ℕ) → length (rows_in_block store table block) ≤ slots
   pub fitting : (block : ℕ) → All (λ row. Fits columns row) (rows_in_block store table block)
 
--- The bytes are the canonical stream of the blocks that have a row, so many rows in so many batches.
+-- The bytes are the canonical stream of the blocks that have a row, so many rows in so many
+-- batches.
 pub record SendsBlocks (columns : List Column) (blocks : List (List (List Cell))) (before now : Option (List ℕ)) (sent : Sent) : Type 0 where
   pub bytes : Appends before now (stream_of columns (filled blocks))
   pub rows : sent.rows ≡ length (all_rows blocks)
@@ -82,8 +83,8 @@ abbrev pub FailsToSend : List Column → List (List (List Cell)) → Option (Lis
 FailsToSend columns blocks before now faults_before faults_now (Sink fault) = Rose faults_before faults_now × SendsFront columns blocks before now
 FailsToSend columns blocks before now faults_before faults_now (Memory refused) = (faults_now ≡ faults_before) × SendsFront columns blocks before now
 
--- What the reply to an export in this transaction says of the bytes that it sent: the stream of the table at its snapshot,
--- or with refused memory a front of one, or nothing.
+-- What the reply to an export in this transaction says of the bytes that it sent: the stream of the
+-- table at its snapshot, or with refused memory a front of one, or nothing.
 abbrev pub SendsWithin : List TableDecl → IsolationMachine → Transaction → ℕ → Said → List ℕ → Type 0
 SendsWithin tables machine t table (said.Exported number rows batches frozen) bytes =
     (number ≡ t.snapshot) × IsStreamOf (columns_at tables table) (slots_at tables table) (contents_of table (state_at machine.history t.snapshot)) rows batches bytes
@@ -107,8 +108,8 @@ SendsAll tables front machine [] runs bytes = Unit {0}
 SendsAll tables front machine (entry ∷ entries) runs bytes =
     SendsAt tables machine entry.reply.who entry.command entry.reply.said bytes × SendsAll tables (front ++ entry ∷ []) runs.0 entries runs.3 bytes
 
--- The store answers a command of session 1 as the machine does, and what was sent is as the answer says; none but an
--- export sends anything.
+-- The store answers a command of session 1 as the machine does, and what was sent is as the answer
+-- says; none but an export sends anything.
 pub record Serves (tables : List TableDecl) (front : List Entry) (machine : IsolationMachine) (asked : Command) (told : Said) (store : Store) (before now : Option (List ℕ)) : Type 0 where
   pub answers : Answers tables front machine asked told store
   pub bytes : List ℕ
@@ -134,7 +135,8 @@ replies_to tables commands saids = printed_from tables [] (dues_of_one commands)
 abbrev pub reply_of : ℕ → Said → ReplyLine
 reply_of index told = record { round = 1; who = Session 1; index = index; said = told }
 
--- A round of commands came about as it is answered in this text, and what was sent is as the answers say.
+-- A round of commands came about as it is answered in this text, and what was sent is as the
+-- answers say.
 pub record RunsRound (tables : List TableDecl) (commands : List Command) (text : List ℕ) (before now : Option (List ℕ)) : Type 0 where
   pub saids : List Said
   pub stand : AllMayStand (dues_of_one commands) (map Some saids)
@@ -158,7 +160,8 @@ pub record RanFirst (tables : List TableDecl) (round lines : List Line) (before 
 abbrev pub LastExports : List Line → Type 0
 LastExports lines = (front : List Line) × (last : Line) × (lines ≡ front ++ last ∷ []) × (is_export last.command ≡ true)
 
--- Why a round stopped, and what its first lines sent: the last of them is the export where it failed.
+-- Why a round stopped, and what its first lines sent: the last of them is the export where it
+-- failed.
 abbrev pub StopsRound : List TableDecl → List Line → RunFault → Option (List ℕ) → Option (List ℕ) → Type 0
 StopsRound tables round fault.Export before now = (lines : List Line) × RanFirst tables round lines before now × LastExports lines
 StopsRound tables round fault.Memory before now = (lines : List Line) × RanFirst tables round lines before now

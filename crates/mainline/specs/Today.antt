@@ -7,8 +7,8 @@ use Rattle.workload_spec.specs.Valid.{is_command}
 use Rattle.cell_model.specs.declared.table.TableDecl.{TableDecl}
 use Rattle.std.specs.Prelude.{List}
 
--- Workloads of up to 16 tables of up to 32 columns, of one session, no worker and one round run today, with the commands
--- begin, get, insert, commit and export.
+-- Workloads of up to 16 tables of up to 32 columns, of one session, no worker and one round run
+-- today, with the commands begin, get, insert, commit and export.
 abbrev pub today : Extent
 today = record {
   tables = 16;

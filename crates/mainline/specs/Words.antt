@@ -5,16 +5,16 @@ use Rattle.clap.specs.declared.builder.value_parser.ValueParser.TheVariants as p
 use Rattle.mainline.specs.declared.words.Work.{Work}
 use Rattle.mainline.specs.declared.words.Work.TheVariants as work
 
--- What the words ask for: to run a workload, and to export to a path if there is one; to show a stream; to check an
--- output; to run a generated workload.
+-- What the words ask for: to run a workload, and to export to a path if there is one; to show a
+-- stream; to check an output; to run a generated workload.
 pub data Asked : Type 0 where
   ToRun : Option Text → Asked
   ToShow : Asked
   ToCheck : Asked
   ToBench : Asked
 
--- The program's command: `run [--export PATH]`, `show`, `check`, and `bench SEED SIZE` with a seed of 64 bits and a
--- size of 1 to 4,096.
+-- The program's command: `run [--export PATH]`, `show`, `check`, and `bench SEED SIZE` with a seed
+-- of 64 bits and a size of 1 to 4,096.
 abbrev pub export_rule : Rule
 export_rule = record (new_rule (codes "export")) { long = Some (codes "export") }
 
@@ -51,8 +51,8 @@ abbrev pub unless_faulty : Kinds → Option Asked → Option Asked
 unless_faulty [] asked = asked
 unless_faulty (kind ∷ kinds) asked = None
 
--- What the words ask for, the first of which is the program's name: nothing where `clap` finds a fault in them for this
--- command, or where they name no subcommand.
+-- What the words ask for, the first of which is the program's name: nothing where `clap` finds a
+-- fault in them for this command, or where they name no subcommand.
 abbrev pub asked_by : List Text → Option Asked
 asked_by words = unless_faulty (fault_of mainline_app words) (asked_of (subcommand_of mainline_app words))
 

@@ -25,11 +25,11 @@ pub struct Sent {
     pub batches: u32,
 }
 
-/// Exports a table of a store, as its open transaction sees it, unless the transaction wrote it: a batch for each block
-/// that has a row.
+/// Exports a table of a store, as its open transaction sees it, unless the transaction wrote it: a
+/// batch for each block that has a row.
 ///
-/// Where a call of the outlet fails, what went out is what an export that is answered `memory` may send: a front of the
-/// stream.
+/// Where a call of the outlet fails, what went out is what an export that is answered `memory` may
+/// send: a front of the stream.
 pub fn export_table<X: Outlet>(
     alloc: Global,
     store: &Store,
@@ -40,11 +40,15 @@ pub fn export_table<X: Outlet>(
     requires table { table < length tables.now }
     requires tables { list_all is_table tables.now ≡ true }
     requires store { IsHeld tables.now store.now }
-    ensures ok { IfOk result (λ told. (front : List Entry) (machine : IsolationMachine) → Holds tables.now store.now front machine
-        → Serves tables.now front machine (command.Export table) told store.now (X.written outlet.old) (X.written outlet.new)) }
+    ensures ok { IfOk result (λ told. (front : List Entry) (machine : IsolationMachine)
+        → Holds tables.now store.now front machine
+        → Serves tables.now front machine (command.Export table) told store.now
+        (X.written outlet.old) (X.written outlet.new)) }
     ensures err { OnErr result (Rose (X.faults outlet.old) (X.faults outlet.new)) }
-    ensures front { OnErr result ((front : List Entry) (machine : IsolationMachine) → Holds tables.now store.now front machine
-        → Serves tables.now front machine (command.Export table) Said.Memory store.now (X.written outlet.old) (X.written outlet.new)) }
+    ensures front { OnErr result ((front : List Entry) (machine : IsolationMachine)
+        → Holds tables.now store.now front machine
+        → Serves tables.now front machine (command.Export table) Said.Memory store.now
+        (X.written outlet.old) (X.written outlet.new)) }
     ensures started { X.started outlet.new ≡ X.started outlet.old }
     ensures kept { OnOk result (X.faults outlet.new ≡ X.faults outlet.old) }
 {
@@ -76,10 +80,13 @@ fn send_table<X: Outlet>(
 ) -> Result<Sent, PieceFault>
     requires declared { is_table declared.now ≡ true }
     requires blocks { HasBlocksOf declared.now.schema declared.now.slots store.now table }
-    ensures ok { IfOk result (λ sent. SendsBlocks declared.now.schema (blocks_in store.now table declared.now.blocks)
+    ensures ok { IfOk result (λ sent. SendsBlocks declared.now.schema
+        (blocks_in store.now table declared.now.blocks)
         (X.written outlet.old) (X.written outlet.new) sent) }
-    ensures err { IfErr result (λ fault. FailsToSend declared.now.schema (blocks_in store.now table declared.now.blocks)
-        (X.written outlet.old) (X.written outlet.new) (X.faults outlet.old) (X.faults outlet.new) fault) }
+    ensures err { IfErr result (λ fault. FailsToSend declared.now.schema
+        (blocks_in store.now table declared.now.blocks)
+        (X.written outlet.old) (X.written outlet.new)
+        (X.faults outlet.old) (X.faults outlet.new) fault) }
     ensures started { X.started outlet.new ≡ X.started outlet.old }
     ensures kept { OnOk result (X.faults outlet.new ≡ X.faults outlet.old) }
 {
@@ -102,10 +109,13 @@ pub fn write_table<W: Sink>(
     requires few { declared.now.slots ≤ 2 ^ 15 }
     requires limit { declared.now.blocks ≤ 1024 }
     requires blocks { HasBlocksOf declared.now.schema declared.now.slots store.now table }
-    ensures ok { IfOk result (λ sent. SendsBlocks declared.now.schema (blocks_in store.now table declared.now.blocks)
+    ensures ok { IfOk result (λ sent. SendsBlocks declared.now.schema
+        (blocks_in store.now table declared.now.blocks)
         (W.written writer.old.0) (W.written writer.new.0) sent) }
-    ensures err { IfErr result (λ fault. FailsToSend declared.now.schema (blocks_in store.now table declared.now.blocks)
-        (W.written writer.old.0) (W.written writer.new.0) (W.faults writer.old.0) (W.faults writer.new.0) fault) }
+    ensures err { IfErr result (λ fault. FailsToSend declared.now.schema
+        (blocks_in store.now table declared.now.blocks)
+        (W.written writer.old.0) (W.written writer.new.0)
+        (W.faults writer.old.0) (W.faults writer.new.0) fault) }
     ensures started { W.started writer.new.0 ≡ W.started writer.old.0 }
     ensures loan { W.loan writer.new.0 ≡ W.loan writer.old.0 }
     ensures kept { OnOk result (W.faults writer.new.0 ≡ W.faults writer.old.0) }

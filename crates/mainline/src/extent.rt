@@ -4,8 +4,8 @@ ghost use Rattle.mainline.specs.Today.{today};
 
 use workload_spec::{Commands, Extent};
 
-/// What runs today: up to 16 tables of up to 32 columns, one session, no worker and one round, with the commands begin,
-/// get, insert, commit and export.
+/// What runs today: up to 16 tables of up to 32 columns, one session, no worker and one round, with
+/// the commands begin, get, insert, commit and export.
 pub const fn today() -> Extent
     ensures { result ≡ today }
 {

@@ -1,5 +1,5 @@
-//! Runs workloads over the store: `mainline run [--export PATH]` reads one from standard input, prints the replies, and
-//! writes the export as an Arrow stream to the path.
+//! Runs workloads over the store: `mainline run [--export PATH]` reads one from standard input,
+//! prints the replies, and writes the export as an Arrow stream to the path.
 #![tactic(auto)]
 
 mod export;
@@ -40,7 +40,8 @@ fn main(rt: HostRuntime) -> ExitCode {
     ExitCode::from(status)
 }
 
-/// The program's name and words; none where one is not UTF-8, since such words ask for nothing that the program does.
+/// The program's name and words; none where one is not UTF-8, since such words ask for nothing that
+/// the program does.
 fn told_words(rt: &HostRuntime) -> Result<Vec<String>, AllocError> {
     match env::args(rt) {
         Ok(words) => words.collect(rt.alloc()),

@@ -31,11 +31,12 @@ const MOST_BYTES: usize = 1 << 32;
 
 const USAGE: &[u8] = b"usage: mainline run [--export PATH] | show | check | bench SEED SIZE\n";
 
-/// Runs the program: the words ask for the run of a workload, which is read from the source to its end; the replies go
-/// to `out`, and the export to the outlet, which is started with the words' path. Without a path the export is dropped.
+/// Runs the program: the words ask for the run of a workload, which is read from the source to its
+/// end; the replies go to `out`, and the export to the outlet, which is started with the words'
+/// path. Without a path the export is dropped.
 ///
-/// The words are judged first, then the reading of the input, its grammar, the start of the outlet and the rounds.
-/// Where the line that tells of a fault can't be printed, the status is `OutFault`.
+/// The words are judged first, then the reading of the input, its grammar, the start of the outlet
+/// and the rounds. Where the line that tells of a fault can't be printed, the status is `OutFault`.
 pub fn perform<R: Wait + Threads + Sync, S: Source, O: Sink, X: Outlet + Send, G: Gate + Sync>(
     rt: &R,
     alloc: Global,
@@ -133,8 +134,9 @@ fn refuse<O: Sink>(alloc: Global, fault: ScriptFault, out: &mut O) -> Status
     }
 }
 
-/// Runs a workload of those that run today: its replies go to `out`, its export to the outlet, which is started with
-/// the path where the workload has an export. Without a path the export is dropped, and the outlet left alone.
+/// Runs a workload of those that run today: its replies go to `out`, its export to the outlet,
+/// which is started with the path where the workload has an export. Without a path the export is
+/// dropped, and the outlet left alone.
 fn run_script<R: Wait + Threads + Sync, O: Sink, X: Outlet, G: Gate>(
     rt: &R,
     alloc: Global,
@@ -161,7 +163,8 @@ fn run_script<R: Wait + Threads + Sync, O: Sink, X: Outlet, G: Gate>(
     play(rt, alloc, script, out, export, gate)
 }
 
-/// Runs the rounds of a workload of those that run today, and prints their text. The export goes to the sink.
+/// Runs the rounds of a workload of those that run today, and prints their text. The export goes to
+/// the sink.
 fn play<R: Wait + Threads + Sync, O: Sink, X: Outlet, G: Gate>(
     rt: &R,
     alloc: Global,

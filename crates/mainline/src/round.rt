@@ -24,7 +24,8 @@ use workload_spec::{Command, ReplyLine, Round, Said, Who};
 // Room for the line of a reply. Most lines are shorter, so the text of a round hardly ever grows.
 const LINE_BYTES: usize = 32;
 
-/// Runs the commands of a round one after another over an empty store, and gives the text of their replies.
+/// Runs the commands of a round one after another over an empty store, and gives the text of their
+/// replies.
 ///
 /// The gate is passed before each command. An export goes to the outlet.
 pub fn run_round<R: Wait + Threads + Sync, X: Outlet, G: Gate>(
@@ -38,9 +39,10 @@ pub fn run_round<R: Wait + Threads + Sync, X: Outlet, G: Gate>(
     requires tables { list_all is_table tables.now ≡ true }
     requires lines { list_all (λ line. runs_today tables.now line.command) round ≡ true }
     requires once { count_by (λ line. is_export line.command) round ≤ 1 }
-    ensures ok { IfOk result (λ text. RunsRound tables.now (map (λ line. line.command) round) text.items
+    ensures ok { IfOk result (λ text. RunsRound tables.now (map (λ line. line.command) round)
+        text.items (X.written export.old) (X.written export.new)) }
+    ensures stopped { IfErr result (λ fault. StopsRound tables.now round fault
         (X.written export.old) (X.written export.new)) }
-    ensures stopped { IfErr result (λ fault. StopsRound tables.now round fault (X.written export.old) (X.written export.new)) }
     ensures faults { CountsFault (X.faults export.old) (X.faults export.new) result }
     ensures started { X.started export.new ≡ X.started export.old }
 {
@@ -67,7 +69,8 @@ pub fn run_round<R: Wait + Threads + Sync, X: Outlet, G: Gate>(
 
 /// Answers a command. An export goes to the outlet.
 ///
-/// Where a call of the outlet fails, what went out is what an export that is answered `memory` may send.
+/// Where a call of the outlet fails, what went out is what an export that is answered `memory` may
+/// send.
 fn answer<X: Outlet>(
     alloc: Global,
     store: &mut Store,
@@ -78,10 +81,14 @@ fn answer<X: Outlet>(
     requires tables { list_all is_table tables.now ≡ true }
     requires store { IsHeld tables.now store.old }
     requires command { runs_today tables.now command ≡ true }
-    ensures ok { IfOk result (λ told. (front : List Entry) (machine : IsolationMachine) → Holds tables.now store.old front machine
-        → Serves tables.now front machine command told store.new (X.written outlet.old) (X.written outlet.new)) }
-    ensures front { OnErr result ((front : List Entry) (machine : IsolationMachine) → Holds tables.now store.old front machine
-        → Serves tables.now front machine command Said.Memory store.new (X.written outlet.old) (X.written outlet.new)) }
+    ensures ok { IfOk result (λ told. (front : List Entry) (machine : IsolationMachine)
+        → Holds tables.now store.old front machine
+        → Serves tables.now front machine command told store.new
+        (X.written outlet.old) (X.written outlet.new)) }
+    ensures front { OnErr result ((front : List Entry) (machine : IsolationMachine)
+        → Holds tables.now store.old front machine
+        → Serves tables.now front machine command Said.Memory store.new
+        (X.written outlet.old) (X.written outlet.new)) }
     ensures err { OnErr result (Rose (X.faults outlet.old) (X.faults outlet.new)) }
     ensures kept { OnOk result (X.faults outlet.new ≡ X.faults outlet.old) }
     ensures asked { OnErr result (is_export command ≡ true) }
@@ -104,7 +111,8 @@ fn put_reply(
     index: u64,
     said: Said,
 ) -> Result<(), RunFault>
-    ensures ok { OnOk result (text.new.items ≡ text.old.items ++ reply_text tables.now (reply_of index said)) }
+    ensures ok { OnOk result (text.new.items
+        ≡ text.old.items ++ reply_text tables.now (reply_of index said)) }
     ensures err { IfErr result (λ fault. fault ≡ RunFault.Memory) }
 {
     let reply = ReplyLine {

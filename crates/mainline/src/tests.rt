@@ -160,8 +160,8 @@ const NOTHING_FAILS: Failing = Failing {
     outlet: &[],
 };
 
-// Words, commands, and what fails; the status, what was printed, how many names the outlet was started with, and how
-// many bytes it was sent.
+// Words, commands, and what fails; the status, what was printed, how many names the outlet was
+// started with, and how many bytes it was sent.
 struct Fault {
     words: &'static [&'static str],
     commands: &'static str,
@@ -462,9 +462,9 @@ fn tables_are_told_apart(rt: HostRuntime) -> Result<(), Fail> {
     Ok(())
 }
 
-// The body of the batch of the rows `1 -3 true x00ff` and `2 null null null`: the keys from place 0, of `p` the validity
-// from 16 and the numbers from 24, of `q` the validity from 32 and the bits from 40, of `r` the validity from 48, the
-// offsets from 56 and the bytes from 72.
+// The body of the batch of the rows `1 -3 true x00ff` and `2 null null null`: the keys from place
+// 0, of `p` the validity from 16 and the numbers from 24, of `q` the validity from 32 and the bits
+// from 40, of `r` the validity from 48, the offsets from 56 and the bytes from 72.
 const MIXED_BODY: &[u8; 80] = b"\x01\x00\x00\x00\x00\x00\x00\x00\
     \x02\x00\x00\x00\x00\x00\x00\x00\
     \x01\x00\x00\x00\x00\x00\x00\x00\
@@ -592,7 +592,8 @@ fn blocks_are_batches(rt: HostRuntime) -> Result<(), Fail> {
     assert_eq!(rt; ended.status, Status::Done);
     let printed = ended.out.written();
     assert!(rt; printed.ends_with(b"1 1 13 export 1 rows 9 batches 2 frozen 0\n"));
-    // 160 of the schema, 152 and 8 rows, 152 and 1 row, 8 of the end word; the keys in the order of their inserts.
+    // 160 of the schema, 152 and 8 rows, 152 and 1 row, 8 of the end word; the keys in the order of
+    // their inserts.
     let sent = ended.outlet.written();
     assert_eq!(rt; sent.len(), 160 + (152 + 64) + (152 + 8) + 8);
     for (key, place) in [
@@ -628,7 +629,8 @@ impl<'a> Gate for CountingGate<'a> {
     }
 }
 
-// An outlet that notes how often the gate was passed when it is started, and when it is first written to.
+// An outlet that notes how often the gate was passed when it is started, and when it is first
+// written to.
 #[derive(Drop)]
 struct WatchingOutlet<'a> {
     passed: &'a AtomicU32,
