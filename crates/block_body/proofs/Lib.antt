@@ -1,0 +1,13 @@
+pub mod After
+pub mod Bodies
+pub mod Counts
+pub mod Installed
+pub mod Listed
+pub mod Lookups
+pub mod Popped
+pub mod Pruned
+pub mod RolledBack
+pub mod Slots
+pub mod Stamps
+pub mod Whole
+pub mod Written

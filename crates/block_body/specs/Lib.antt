@@ -1,0 +1,5 @@
+pub mod Rows
+pub mod Chains
+pub mod Slots
+pub mod Frozen
+pub mod Bodies

@@ -1,0 +1,16 @@
+//! The body of a block: the columns of its slots, the version chains of those that were changed, its
+//! phase, and what the observe rounds know of it. Contracts see the record of `block_spec`.
+#![tactic(auto)]
+
+mod body;
+mod chains;
+mod lists;
+mod rows;
+mod shared;
+mod view;
+
+pub use body::Body;
+pub use shared::Shared;
+
+#[cfg(test)]
+mod tests;
