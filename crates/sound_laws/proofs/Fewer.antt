@@ -85,7 +85,7 @@ rolled_bare q body j is =
     let none : slot_in body j ≡ bare = bare_is (slot_in body j) is in
     ap is_bare (rolled_slot q 0 0 body j (subst (IsSoundSlot 0 0) (sym none) (sound_bare 0 0))) ∙ ap (λ x. is_bare (rolled_back q x)) none
 
-unwritten : (q : ℕ) (slots : List Slot) → list_all (λ slot. has_none slot.entries) slots ≡ true → list_any (λ slot. is_writer q (writer_of slot.entries)) slots ≡ false
+pub unwritten : (q : ℕ) (slots : List Slot) → list_all (λ slot. has_none slot.entries) slots ≡ true → list_any (λ slot. is_writer q (writer_of slot.entries)) slots ≡ false
 unwritten q [] is = refl
 unwritten q (x ∷ slots) is = go x.entries refl is (unwritten q slots)
   where

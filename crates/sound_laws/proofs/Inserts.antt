@@ -166,7 +166,7 @@ module _ (sh : Shape) (s : Parts) (ok : Shaped sh s) (shape : IsShape sh) (t : â
   some_slot : 0 < S
   some_slot = let one = (shape.slots t has).0 in omega (arith, one)
 
-  spot : Spot
+  pub spot : Spot
   spot = go way
     where
       go : Way â†’ Spot

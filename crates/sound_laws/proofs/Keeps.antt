@@ -87,7 +87,7 @@ module _ (sh : Shape) (s : Parts) (shape : IsShape sh) (ok : Sound sh s) where
       (change_calm sh s k c t (block_of p) spot.has (slot_of p) (written q new) spot.inside spot.loose filled (written_filled q new (slot_at sh s t p)) fit)
 
   -- where the session's entries stand there is a spot
-  own_spot : (t p q : ℕ) → writer_of (slot_at sh s t p).entries ≡ Some q → IsSpot sh s t p
+  pub own_spot : (t p q : ℕ) → writer_of (slot_at sh s t p).entries ≡ Some q → IsSpot sh s t p
   own_spot t p q w =
       let filled = writer_filled (slot_at sh s t p) q w in
       let there = filled_there sh s ok t p filled in

@@ -1,0 +1,3 @@
+pub mod BlockReads
+pub mod MoveSights
+pub mod Sights
