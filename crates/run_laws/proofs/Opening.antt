@@ -125,13 +125,13 @@ module _ (sh : Shape) (shape : IsShape sh) where
       go (inl is) = ap (λ o. candidates_of (shard_from o) key) is ∙ none
       go (inr is) = ap (λ o. candidates_of (shard_from o) key) is ∙ none
 
-  abbrev new_desk : DeskState
+  abbrev pub new_desk : DeskState
   new_desk = record { newest = 0; commits = 0; open_snapshots = replicate sh.passes None }
 
-  desk : desk_at sh s ≡ new_desk
+  pub desk : desk_at sh s ≡ new_desk
   desk = ap desk_from (part_there (opening_part sh) (names sh) TheDesk (desk_named sh))
 
-  idle : (q : ℕ) → snapshot_of new_desk q ≡ None
+  pub idle : (q : ℕ) → snapshot_of new_desk q ≡ None
   idle q = replicated sh.passes None (q - 1)
 
   not_open : (q : ℕ) (snapshot : Snapshot) → snapshot_of new_desk q ≡ Some snapshot → ⊥
