@@ -1,0 +1,12 @@
+//! Laws of the order in which replies are printed.
+ghost use Rattle.outcome_check.specs.Sides.{SidesAddUp, SidesAreBeforeAndAfter};
+
+/// What is before a reply, not after it and after it, by where the replies stand about it.
+pub fn replies_stand_before_and_after()
+    ensures { SidesAreBeforeAndAfter }
+{}
+
+/// Sums over the replies before one and over those not after it, by sums over rounds.
+pub fn sums_before_and_not_after()
+    ensures { SidesAddUp }
+{}
