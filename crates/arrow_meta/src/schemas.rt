@@ -5,7 +5,7 @@ ghost use Rattle.arrow_meta.specs.Fields.{field_of};
 ghost use Rattle.stream_spec.specs.Metadata.{column_at, columns_at, field_table_at, int_of_type, kind_of_field, kind_of_type, schema_table_at};
 ghost use Rattle.stream_spec.specs.declared.fault.MetaFault.{MetaFault as MetaFaultValue};
 
-use crate::fields::{NotRead, elements, int_table, reference, scalar, text};
+use crate::fields::{NotRead, elements, int_table, scalar, text};
 use cell_model::{Bytes, Column, Kind};
 use flat_read::{FlatFault, field, follow};
 use std::alloc::Global;
@@ -49,7 +49,7 @@ struct FieldTable<'a> {
     name: &'a [u8],
     nullable: bool,
     type_type: u64,
-    type_table: Option<u64>,
+    type_place: Option<u64>,
     dictionary: bool,
     children: u64,
     int: IntTable,
@@ -76,29 +76,28 @@ fn field_table(bytes: &[u8], table: u64) -> Result<FieldTable<'_>, FlatFault>
     let name = text(bytes, table, 0)?;
     let nullable = scalar(bytes, table, 1, 1)?;
     let type_type = scalar(bytes, table, 2, 1)?;
-    let type_table = reference(bytes, table, 3)?;
+    let type_place = field(bytes, table, 3)?;
     let dictionary = field(bytes, table, 4)?;
     let children = elements(bytes, table, 5, 4)?;
-    let int = int_of_type(bytes, type_type, type_table)?;
+    let int = int_of_type(bytes, type_type, type_place)?;
     Ok(FieldTable {
         name,
         nullable: nullable != 0,
         type_type,
-        type_table,
+        type_place,
         dictionary: dictionary.is_some(),
         children: children.count,
         int,
     })
 }
 
-// The Int table of a field's type; those of other types are not looked at.
-fn int_of_type(bytes: &[u8], type_type: u64, table: Option<u64>) -> Result<IntTable, FlatFault>
-    ensures { result ≡ int_of_type bytes.now type_type table }
+// The Int table of a field's type; the references of other types are not followed.
+fn int_of_type(bytes: &[u8], type_type: u64, place: Option<u64>) -> Result<IntTable, FlatFault>
+    ensures { result ≡ int_of_type bytes.now type_type place }
 {
-    if type_type == 2 {
-        int_table(bytes, table)
-    } else {
-        int_table(bytes, None)
+    match place {
+        Some(place) if type_type == 2 => int_table(bytes, Some(follow(bytes, place)?)),
+        _ => int_table(bytes, None),
     }
 }
 
@@ -115,7 +114,7 @@ fn kind_of_field(field: &FieldTable<'_>) -> Result<Kind, MetaFault>
     let Some(kind) = kind_of_type(field.type_type, field.int) else {
         return Err(MetaFault::Kind);
     };
-    if field.type_table.is_none() {
+    if field.type_place.is_none() {
         return Err(MetaFault::Shape);
     }
     if field.children != 0 {

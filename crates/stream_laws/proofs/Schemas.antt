@@ -1,5 +1,5 @@
 -- A schema's table reads as the columns that it was laid for.
-use Rattle.std.proofs.Common.{◌≡◌, ℕ, ◌+◌, ◌-◌, ◌*◌, ◌^◌, ◌<◌, ◌≤◌, Bool, true, false, List, [], ◌∷◌, length, map, refl, sym, ap, ◌∙◌, subst, arith, lit<, Some, Ok}
+use Rattle.std.proofs.Common.{◌≡◌, ℕ, ◌+◌, ◌-◌, ◌*◌, ◌^◌, ◌<◌, ◌≤◌, Bool, true, false, List, [], ◌∷◌, length, map, refl, sym, ap, ◌∙◌, subst, arith, lit<, Some, Ok, Option, Result}
 use Rattle.std.specs.Prelude.{not, ◌==◌}
 use Rattle.std.specs.Str.{is_utf8}
 use Rattle.std.proofs.lemmas.Str.{is_utf8-from_IsUtf8}
@@ -16,14 +16,15 @@ use Rattle.cell_model.specs.declared.kind.Kind.{Kind}
 use Rattle.cell_model.specs.declared.kind.Kind.TheVariants as kinds
 use Rattle.arrow_spec.specs.Flatbuffers.{Object, Field, number, reference, absent, length_place, string, references, vector_of_tables}
 use Rattle.arrow_spec.specs.Metadata.{int_table, empty_table, type_table, type_table_in, type_number, type_number_in, field_table, schema_table}
-use Rattle.flat_read.specs.Reading.{target_at}
-use Rattle.stream_spec.specs.Checks.{each_of}
+use Rattle.flat_read.specs.declared.FlatFault.{FlatFault}
+use Rattle.flat_read.specs.Reading.{field_at, target_at}
+use Rattle.stream_spec.specs.Checks.{◌>>=◌, each_of}
 use Rattle.stream_spec.specs.declared.message.IntTable.{IntTable}
-use Rattle.stream_spec.specs.Metadata.{FieldTable, scalar, reference as reference_at, elements, text, int_table_of, int_of_type, field_table_at, kind_of_type, column_at, columns_at}
+use Rattle.stream_spec.specs.Metadata.{FieldTable, scalar, target_of, elements, text, int_table_of, int_of_type, field_table_at, kind_of_type, column_at, columns_at}
 use Rattle.stream_laws.proofs.Pieces.{Has}
 use Rattle.stream_laws.proofs.Fields.{FieldsAt}
 use Rattle.stream_laws.proofs.Tables.{IsTableAt, target-read, table-there, tables-there, vector-read, string-read}
-use Rattle.stream_laws.proofs.Messages.{table-behind, scalar-found, reference-found, absent-found, elements-found, text-found}
+use Rattle.stream_laws.proofs.Messages.{table-behind, field-found, scalar-found, reference-found, absent-found, elements-found, text-found}
 
 -- ---- types
 
@@ -73,16 +74,22 @@ int-read bytes end width false has =
     let sign = scalar-found bytes end 9 fields there 1 8 w8 0 refl (lit< tt) there.laid.1.0 in
     rw (bits, sign) refl
 
--- the table of a type says what its values are
-type-read : (bytes : List ℕ) (end : ℕ) (values : Values)
+-- the table of a type, to which the reference at a place leads, says what its values are
+type-read : (bytes : List ℕ) (end at : ℕ) (values : Values)
     → Has bytes end (type_table_in values end).bytes
-    → int_of_type bytes (type_number_in values) (Some (type_table_in values end).place)
-    ≡ Ok (int_of values)
-type-read bytes end (signed width) has = int-read bytes end width true has
-type-read bytes end (unsigned width) has = int-read bytes end width false has
-type-read bytes end truths has = refl
-type-read bytes end texts has = refl
-type-read bytes end blobs has = refl
+    → target_of bytes (Some at) ≡ Ok (Some (type_table_in values end).place)
+    → int_of_type bytes (type_number_in values) (Some at) ≡ Ok (int_of values)
+type-read bytes end at (signed width) has leads =
+    let reads : Result (Option ℕ) FlatFault → Result IntTable FlatFault =
+    λ found. found >>= λ table. int_table_of bytes table in
+    ap reads leads ∙ int-read bytes end width true has
+type-read bytes end at (unsigned width) has leads =
+    let reads : Result (Option ℕ) FlatFault → Result IntTable FlatFault =
+    λ found. found >>= λ table. int_table_of bytes table in
+    ap reads leads ∙ int-read bytes end width false has
+type-read bytes end at truths has leads = refl
+type-read bytes end at texts has leads = refl
+type-read bytes end at blobs has leads = refl
 
 -- where it stands
 record Stands (bytes : List ℕ) (end place : ℕ) : Type 0 where
@@ -156,11 +163,11 @@ bool_back false = refl
 
 -- a column's field, as it is read
 abbrev field_of : Column → ℕ → FieldTable
-field_of column type_place = record {
+field_of column type_at = record {
   name = column.name;
   nullable = column.nullable;
   type_type = type_number column.kind;
-  type' = Some type_place;
+  type' = Some type_at;
   dictionary = false;
   children = 0;
   int = int_of (values_of column.kind);
@@ -212,10 +219,15 @@ module _ (bytes : List ℕ) (end : ℕ) (column : Column) (small : length bytes 
     stands : Stands bytes (type_end column end) type_place
     stands = type-stands bytes (type_end column end) (values_of column.kind) there.laid.2.1.1.1
 
-    type-place-read : reference_at bytes place 3 ≡ Ok (Some type_place)
-    type-place-read =
-        reference-found bytes end 18 fields there 3 8 type_place refl (omega (arith, stands.behind))
-        (omega (arith, stands.inside)) there.laid.2.1.1.0
+    type-place-read : field_at bytes place 3 ≡ Ok (Some (place + 8))
+    type-place-read = field-found bytes end 18 fields there 3
+
+    type-leads : target_of bytes (Some (place + 8)) ≡ Ok (Some type_place)
+    type-leads =
+        let wraps : Result ℕ FlatFault → Result (Option ℕ) FlatFault =
+        λ found. found >>= λ leads. Ok (Some leads) in
+        ap wraps (target-read bytes (place + 8) type_place (omega (arith, stands.behind))
+        (omega (arith, stands.inside)) there.laid.2.1.1.0)
 
     -- the vector of no children
     children-read : elements bytes place 5 4 ≡ Ok
@@ -234,11 +246,12 @@ module _ (bytes : List ℕ) (end : ℕ) (column : Column) (small : length bytes 
         (vector-read bytes (length_place before) 0 4 (lit< tt) (omega (arith, vector.inside))
         vector.word)
 
-    pub field-table-read : field_table_at bytes place ≡ Ok (field_of column type_place)
+    pub field-table-read : field_table_at bytes place ≡ Ok (field_of column (place + 8))
     field-table-read =
         let dictionary = absent-found bytes end 18 fields there 4 refl in
         let int =
-        type-read bytes (type_end column end) (values_of column.kind) there.laid.2.1.1.1 in
+        type-read bytes (type_end column end) (place + 8) (values_of column.kind)
+        there.laid.2.1.1.1 type-leads in
         rw (
           name-read,
           nullable-read,

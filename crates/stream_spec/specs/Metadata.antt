@@ -132,10 +132,16 @@ int_table_of bytes (Some table) = do
   is_signed ← scalar bytes table 1 1
   Ok (record { bits = bits; is_signed = not (is_signed == 0) })
 
--- the Int table of a field's type; other types have no fields, and their tables are not looked at
+-- the Int table to which the reference at a place leads
+abbrev pub int_table_by : List ℕ → Option ℕ → Result IntTable FlatFault
+int_table_by bytes place = do
+  table ← target_of bytes place
+  int_table_of bytes table
+
+-- the Int table of a field's type; other types have no fields, and their references are not followed
 abbrev pub int_of_type : List ℕ → ℕ → Option ℕ → Result IntTable FlatFault
-int_of_type bytes type_type table = elim (type_type == 2) [
-  | true ↦ int_table_of bytes table
+int_of_type bytes type_type place = elim (type_type == 2) [
+  | true ↦ int_table_by bytes place
   | false ↦ int_table_of bytes None
 ]
 
@@ -144,7 +150,7 @@ field_table_at bytes table = do
   name ← text bytes table 0
   nullable ← scalar bytes table 1 1
   type_type ← scalar bytes table 2 1
-  type' ← reference bytes table 3
+  type' ← field_at bytes table 3
   dictionary ← field_at bytes table 4
   children ← elements bytes table 5 4
   int ← int_of_type bytes type_type type'
