@@ -14,6 +14,8 @@ use Rattle.cell_model.specs.Schemas.{begins_with_key, first_twins, most_columns,
 use Rattle.cell_model.specs.Values.{is_integer_of}
 use Rattle.isolation_spec.specs.Contents.{key_of}
 use Rattle.outcome_spec.specs.Tables.{columns_at}
+use Rattle.script_text.proofs.Schemas.{all_named}
+use Rattle.stream_laws.specs.Laws.{AreTold}
 use Rattle.workload_spec.specs.Valid.{is_table, is_name, is_within, are_blocks, are_columns, are_slots, fits_table, least_slots, most_blocks}
 use Rattle.workload_laws.proofs.CommandsBack.{key_cell}
 
@@ -55,6 +57,19 @@ begins_so : (table : TableDecl) → is_table table ≡ true → begins_with_key 
 begins_so table valid =
     let parts = parts_of_four (is_name table.name) (are_columns table.schema) (are_slots table.schema table.slots) (are_blocks table.blocks) valid in
     (parts_of_four (begins_with_key table.schema) (nat_le (length table.schema) most_columns) (is_none (first_twins 0 table.schema)) (list_all (λ (column : Column). is_name column.name) table.schema) parts.1).0
+
+-- there is a column where the key stands first
+some-columns : (columns : List Column) → begins_with_key columns ≡ true → 0 < length columns
+some-columns [] key = absurd cc
+some-columns (column ∷ columns) key = omega arith
+
+-- a stream can tell the columns of a table
+pub table_told : (table : TableDecl) → is_table table ≡ true → AreTold table.schema
+table_told table valid =
+    let parts = parts_of_four (is_name table.name) (are_columns table.schema) (are_slots table.schema table.slots) (are_blocks table.blocks) valid in
+    let columns = parts_of_four (begins_with_key table.schema) (nat_le (length table.schema) most_columns) (is_none (first_twins 0 table.schema)) (list_all (λ (column : Column). is_name column.name) table.schema) parts.1 in
+    let few : length table.schema ≤ most_columns = leb-true (length table.schema) most_columns columns.1 in
+    record { some = some-columns table.schema columns.0; few = omega (arith, few); named = record { each = all_named table.schema columns.3 } }
 
 -- a declared table is one
 pub table_at : (tables : List TableDecl) (place : ℕ) (declared : TableDecl) → list_all is_table tables ≡ true → slice_get tables place ≡ Some declared → is_table declared ≡ true

@@ -23,11 +23,13 @@ use Rattle.isolation_spec.specs.Machine.{IsolationMachine, Transaction, seen_row
 use Rattle.outcome_spec.specs.Entries.{Entry}
 use Rattle.outcome_spec.specs.Tables.{blocks_at, columns_at, slots_at}
 use Rattle.outcome_spec.specs.Upkeep.{least_key}
+use Rattle.stream_laws.proofs.Streams.{stream_is_read}
 use Rattle.timeline_spec.specs.Forms.{MayStand}
 use Rattle.timeline_spec.specs.Timeline.{Counts, Exports, ExportsBy}
 use Rattle.workload_spec.specs.declared.command.Command.TheVariants as command
 use Rattle.workload_spec.specs.declared.reply.Said.{Said}
 use Rattle.workload_spec.specs.declared.reply.Said.TheVariants as said
+use Rattle.workload_spec.specs.Valid.{is_table}
 use Rattle.list_store.specs.Holds.{Answers, Holds, reply, rows_in_block}
 use Rattle.list_store.specs.declared.store.Store.{Store}
 use Rattle.list_store.proofs.Blocks.{blocks_have_the_contents}
@@ -37,7 +39,8 @@ use Rattle.list_store.proofs.Standing.{quiet}
 use Rattle.mainline.specs.Outcome.{AreBatchesOf, IsFrontOf, IsStreamOf}
 use Rattle.mainline.specs.Sent.{HasBlocksOf, IsHeld, SendsBlocks, SendsBy, SendsFront, Serves, blocks_in, filled}
 use Rattle.mainline.specs.declared.export.Sent.{Sent}
-use Rattle.mainline.proofs.Sending.{AreShort, blocks-short, filled-few, filled-least, filled-most, filled-rows, filled-some, filled-within}
+use Rattle.mainline.proofs.Asked.{table_limits, table_told}
+use Rattle.mainline.proofs.Sending.{AreShort, blocks-short, filled-batches, filled-few, filled-least, filled-most, filled-rows, filled-some, filled-within}
 
 -- an integer of 64 bits is one of its kind
 pub key_ranged : (key : ℤ) → FitsSigned w64 key → is_integer_of kind.I64 key ≡ true
@@ -145,18 +148,19 @@ batches_are tables store front machine table declared t holds found clean place 
 
 -- an export of the table at the snapshot
 pub exported : (tables : List TableDecl) (store : Store) (front : List Entry) (machine : IsolationMachine) (table : ℕ) (declared : TableDecl) (number : ℕ) (sent : Sent) (before now : Option (List ℕ))
-    → Holds tables store front machine → slice_get tables table ≡ Some declared
+    → Holds tables store front machine → slice_get tables table ≡ Some declared → is_table declared ≡ true
     → Some number ≡ option_map (λ t. t.snapshot) (transaction_of 1 machine)
     → ((t : Transaction) → transaction_of 1 machine ≡ Some t → None ≡ least_key table t.own)
     → SendsBlocks declared.schema (blocks_in store table declared.blocks) before now sent
     → number < 2 ^ 64 → sent.rows < 2 ^ 64 → sent.batches < 2 ^ 32
     → Serves tables front machine (command.Export table) (said.Exported number sent.rows sent.batches 0) store before now
-exported tables store front machine table declared number sent before now holds place told clean sends number_small rows_small batches_small =
+exported tables store front machine table declared number sent before now holds place valid told clean sends number_small rows_small batches_small =
     let open_one = opened_at (transaction_of 1 machine) number told in
     let t : Transaction = open_one.0 in
     let none : least_key table t.own ≡ None = sym (clean t open_one.1) in
     let blocks : List (List (List Cell)) = blocks_in store table declared.blocks in
     let has = has_blocks tables store table declared (front, machine, holds) place in
+    let slots_few : declared.slots ≤ 2 ^ 15 = (table_limits declared valid).slots_bound in
     let short : AreShort declared.slots blocks = blocks-short declared.slots (rows_in_block store table) (range_with_len 0 declared.blocks) has.few in
     let least = filled-least blocks in
     let most = filled-most declared.slots blocks short in
@@ -190,6 +194,8 @@ exported tables store front machine table declared number sent before now holds 
             (record {
               groups = filled blocks;
               stream = refl;
+              read_back = stream_is_read declared.schema (filled blocks) (table_told declared valid)
+                  (filled-batches declared.schema (rows_in_block store table) (range_with_len 0 declared.blocks) (λ block. let few = has.few block in omega (arith, few, slots_few)) has.fitting);
               grouped = batches_are tables store front machine table declared t holds open_one.1 none place;
               count = sym sends.batches;
               total = ap length (filled-rows blocks) ∙ sym sends.rows;

@@ -11,6 +11,8 @@ use Rattle.std.proofs.lemmas.List.{append-nil, map-append}
 use Rattle.std.proofs.lemmas.List.Elements.{All-cons, All-nil}
 use Rattle.cell_model.specs.declared.cell.Cell.{Cell}
 use Rattle.cell_model.specs.declared.column.Column.{Column}
+use Rattle.cell_model.specs.Rows.{Fits}
+use Rattle.stream_laws.specs.Laws.{IsBatch}
 use Rattle.arrow_spec.specs.Streams.{schema_message, batch_message, end_word, stream_of}
 use Rattle.byte_ports.specs.Calls.{AppendsFront, Rose}
 use Rattle.ipc_write.specs.Calls.{MakesPiece, WritesPiece, SinkFailed, WroteAll}
@@ -76,6 +78,18 @@ filled-within slots [] short = All-nil (λ (group : List (List Cell)). length gr
 filled-within slots ([] ∷ blocks) short = filled-within slots blocks short.1
 filled-within slots ((row ∷ rows) ∷ blocks) short =
     All-cons (λ (group : List (List Cell)). length group ≤ slots) (row ∷ rows) (filled blocks) short.0 (filled-within slots blocks short.1)
+
+-- batches are of rows that fit and are few enough for one
+batch-filled : (columns : List Column) (block : List (List Cell)) (blocks : List (List (List Cell))) → length block ≤ 2 ^ 15 → All (Fits columns) block
+    → All (IsBatch columns) (filled blocks) → All (IsBatch columns) (filled (block ∷ blocks))
+batch-filled columns [] blocks few fit rest = rest
+batch-filled columns (row ∷ rows) blocks few fit rest = All-cons (IsBatch columns) (row ∷ rows) (filled blocks) (record { fit = fit; few = few }) rest
+
+pub filled-batches : (columns : List Column) (rows_of : ℕ → List (List Cell)) (places : List ℕ) → ((block : ℕ) → length (rows_of block) ≤ 2 ^ 15)
+    → ((block : ℕ) → All (Fits columns) (rows_of block)) → All (IsBatch columns) (filled (map rows_of places))
+filled-batches columns rows_of [] few fit = All-nil (IsBatch columns)
+filled-batches columns rows_of (place ∷ places) few fit =
+    batch-filled columns (rows_of place) (map rows_of places) (few place) (fit place) (filled-batches columns rows_of places few fit)
 
 pub filled-few : (blocks : List (List (List Cell))) → length (filled blocks) ≤ length blocks
 filled-few [] = omega arith

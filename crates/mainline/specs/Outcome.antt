@@ -7,6 +7,10 @@ use Rattle.byte_ports.specs.Calls.{AppendsFront, ConsumesAtLeast, Rose}
 use Rattle.cell_model.specs.declared.cell.Cell.{Cell}
 use Rattle.cell_model.specs.declared.column.Column.{Column}
 use Rattle.arrow_spec.specs.Streams.{stream_of}
+use Rattle.stream_spec.specs.Streams.{reading_of}
+use Rattle.stream_spec.specs.Streams.{Reads as ReadsAs}
+use Rattle.stream_spec.specs.declared.fault.StreamFault.{StreamFault}
+use Rattle.stream_text.specs.Shown.{shown_text}
 use Rattle.isolation_laws.specs.Inserts.{all_rows}
 use Rattle.isolation_spec.specs.Contents.{contents_of, state_at}
 use Rattle.workload_spec.specs.declared.command.Command.{Command}
@@ -35,10 +39,11 @@ pub record AreBatchesOf (slots : ℕ) (contents : List (List Cell)) (groups : Li
   pub within : All (λ (group : List (List Cell)). length group ≤ slots) groups
   pub each_once : IsPermutation (all_rows groups) contents
 
--- The bytes are the canonical stream of these rows of a table, so many rows in so many batches.
+-- The bytes are the canonical stream of these rows of a table, so many rows in so many batches, and read as just these.
 pub record IsStreamOf (columns : List Column) (slots : ℕ) (contents : List (List Cell)) (rows batches : ℕ) (bytes : List ℕ) : Type 0 where
   pub groups : List (List (List Cell))
   pub stream : bytes ≡ stream_of columns groups
+  pub read_back : ReadsAs bytes columns groups
   pub grouped : AreBatchesOf slots contents groups
   pub count : length groups ≡ batches
   pub total : length (all_rows groups) ≡ rows
@@ -265,6 +270,41 @@ RunEnds path status.Memory before now = IsSilent before now ⊎ IsRunOf path sta
 RunEnds path status.NotAStream before now = ⊥
 RunEnds path status.TooLong before now = ConsumesAtLeast before.left now.left (2 ^ 32) × IsSilent before now
 
+-- The input was read to its end, and the text of what it reads as is printed: the columns, the rows
+-- and their count, or what stands in front of the first fault, and that fault.
+pub record IsShown
+    (Prints : Option (List ℕ) → Option (List ℕ) → List ℕ → Type 0)
+    (Faults : Option StreamFault → Type 0)
+    (before now : Outside) : Type 0 where
+  pub bytes : List ℕ
+  pub input : IsRead bytes before now
+  pub judged : Faults (reading_of bytes).fault
+  pub printed : Prints before.printed now.printed (shown_text (reading_of bytes))
+  pub outlet : LeavesOutlet before now
+
+-- the bytes are a stream, or are none, or may be either
+abbrev pub IsStream : Option StreamFault → Type 0
+IsStream fault = fault ≡ None
+
+abbrev pub IsNoStream : Option StreamFault → Type 0
+IsNoStream fault = IsSome fault
+
+abbrev pub IsEither : Option StreamFault → Type 0
+IsEither fault = Unit {0}
+
+-- How the program ends where the words ask for a stream to be shown.
+abbrev pub ShowEnds : Status → Outside → Outside → Type 0
+ShowEnds status.Done before now = IsShown Appends IsStream before now
+ShowEnds status.Usage before now = ⊥
+ShowEnds status.Refused before now = ⊥
+ShowEnds status.ReadFault before now = IsSilent before now
+ShowEnds status.OutFault before now = IsShown AppendsFront IsEither before now
+ShowEnds status.ExportFault before now = ⊥
+ShowEnds status.Memory before now = IsSilent before now
+ShowEnds status.NotAStream before now = IsShown Appends IsNoStream before now
+ShowEnds status.TooLong before now =
+    ConsumesAtLeast before.left now.left (2 ^ 32) × IsSilent before now
+
 -- How the program ends where the words ask for nothing that runs. Before they are judged there may
 -- be no memory.
 abbrev pub UsageEnds : Status → Outside → Outside → Type 0
@@ -278,12 +318,12 @@ UsageEnds status.Memory before now = now ≡ before
 UsageEnds status.NotAStream before now = ⊥
 UsageEnds status.TooLong before now = ⊥
 
--- How the program ends, by what the words ask for. No stream is shown yet, no output checked and no
--- workload generated.
+-- How the program ends, by what the words ask for. No output is checked yet, and no workload
+-- generated.
 abbrev pub Ends : Option Asked → Status → Outside → Outside → Type 0
 Ends None ended before now = UsageEnds ended before now
 Ends (Some (ToRun path)) ended before now = RunEnds path ended before now
-Ends (Some ToShow) ended before now = UsageEnds ended before now
+Ends (Some ToShow) ended before now = ShowEnds ended before now
 Ends (Some ToCheck) ended before now = UsageEnds ended before now
 Ends (Some ToBench) ended before now = UsageEnds ended before now
 

@@ -1,12 +1,12 @@
 //! What the program does with its words, its input, its output and its outlet.
-ghost use Rattle.std.specs.Prelude.{◌≡◌, ◌≢◌, ℕ, List, Option, map, true, string_bytes, option_map, IfOk, OnOk, OnErr, if◌then◌else◌, ◌++◌, ◌∷◌, []};
+ghost use Rattle.std.specs.Prelude.{◌≡◌, ◌≢◌, ℕ, List, Option, None, IsSome, map, true, string_bytes, option_map, IfOk, OnOk, OnErr, if◌then◌else◌, ◌++◌, ◌∷◌, []};
 ghost use Rattle.std.specs.List.{list_any};
 ghost use Rattle.byte_ports.specs.Calls.{Rose};
 ghost use Rattle.workload_spec.specs.Valid.{is_valid, is_export};
 ghost use Rattle.workload_spec.specs.Extents.{RunsWithin};
 ghost use Rattle.workload_spec.specs.Grammar.{read_with};
 ghost use Rattle.script_text.specs.Answers.{LineGives};
-ghost use Rattle.mainline.specs.Outcome.{Ends, RunEnds, ScriptEnds, UsageEnds, TellsFaults, has_export, outside, started_by};
+ghost use Rattle.mainline.specs.Outcome.{Ends, RunEnds, ScriptEnds, ShowEnds, UsageEnds, TellsFaults, has_export, outside, started_by};
 ghost use Rattle.mainline.specs.Sent.{RefusalEnds, PlayEnds};
 ghost use Rattle.mainline.specs.Today.{today};
 ghost use Rattle.mainline.specs.Words.{asked_by};
@@ -24,6 +24,7 @@ use script_text::{ScriptFault, parse};
 use std::alloc::{AllocError, Global};
 use std::sync::Wait;
 use std::thread::Threads;
+use stream_spec::StreamFault;
 use workload_spec::{Command, Round, Script};
 
 /// As many bytes of input, or more, are too long.
@@ -33,7 +34,8 @@ const USAGE: &[u8] = b"usage: mainline run [--export PATH] | show | check | benc
 
 /// Runs the program: the words ask for the run of a workload, which is read from the source to its
 /// end; the replies go to `out`, and the export to the outlet, which is started with the words'
-/// path. Without a path the export is dropped.
+/// path. Without a path the export is dropped. Or they ask for a stream to be shown, which is read
+/// from the source to its end; its rows go to `out`.
 ///
 /// The words are judged first, then the reading of the input, its grammar, the start of the outlet
 /// and the rounds. Where the line that tells of a fault can't be printed, the status is `OutFault`.
@@ -55,7 +57,8 @@ pub fn perform<R: Wait + Threads + Sync, S: Source, O: Sink, X: Outlet + Send, G
 {
     match work_of(alloc, &words) {
         Ok(Work::Run(path)) => run(rt, alloc, path, source, out, export, gate),
-        Ok(Work::Show | Work::Check | Work::Bench) | Err(WordsFault::Usage) => tell_usage(out),
+        Ok(Work::Show) => show(alloc, source, out),
+        Ok(Work::Check | Work::Bench) | Err(WordsFault::Usage) => tell_usage(out),
         Err(WordsFault::Memory) => Status::Memory,
     }
 }
@@ -72,6 +75,41 @@ fn tell_usage<O: Sink>(out: &mut O) -> Status
     match write_all(out, USAGE) {
         Ok(()) => Status::Usage,
         Err(Failed) => Status::OutFault,
+    }
+}
+
+/// Shows the stream that is read from the source to its end.
+fn show<S: Source, O: Sink>(alloc: Global, source: &mut S, out: &mut O) -> Status
+    ensures ends { (exported : Option (List ℕ)) (started : Option (List (List ℕ))) → ShowEnds result
+        (outside (S.left source.old) (O.written out.old) exported started)
+        (outside (S.left source.new) (O.written out.new) exported started) }
+    ensures read_faults { TellsFaults Status.ReadFault result (S.faults source.old) (S.faults source.new) }
+    ensures out_faults { TellsFaults Status.OutFault result (O.faults out.old) (O.faults out.new) }
+    ensures export_faults { result ≢ Status.ExportFault }
+{
+    let bytes = match read_to_end(alloc, source, MOST_BYTES) {
+        Ok(bytes) => bytes,
+        Err(InputFault::Failed) => return Status::ReadFault,
+        Err(InputFault::TooLong) => return Status::TooLong,
+        Err(InputFault::Memory) => return Status::Memory,
+    };
+    let Ok(shown) = stream_text::show(alloc, &bytes) else {
+        return Status::Memory;
+    };
+    match write_all(out, shown.text.as_slice()) {
+        Ok(()) => shown_status(&shown.fault),
+        Err(Failed) => Status::OutFault,
+    }
+}
+
+/// The status of bytes that were shown, by their first fault.
+fn shown_status(fault: &Option<StreamFault>) -> Status
+    ensures stream { fault.now ≡ None → result ≡ Status.Done }
+    ensures fault { IsSome fault.now → result ≡ Status.NotAStream }
+{
+    match fault {
+        None => Status::Done,
+        Some(_) => Status::NotAStream,
     }
 }
 

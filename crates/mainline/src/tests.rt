@@ -1,4 +1,6 @@
 //! Whole runs: what the words and the input give.
+mod shown;
+
 ghost use Rattle.std.specs.Prelude.{None, refl};
 
 use crate::perform::perform;
@@ -216,8 +218,8 @@ const FAULTS: [Fault; 16] = [
         words: &["mainline", "show"],
         commands: EXPORT,
         failing: NOTHING_FAILS,
-        status: Status::Usage,
-        printed: USAGE,
+        status: Status::NotAStream,
+        printed: "not a stream at 0 Marker\n",
         started: 0,
         exported: 0,
     },
@@ -375,7 +377,17 @@ fn run<R: Wait + Threads + Sync>(
     input: &str,
     failing: Failing,
 ) -> Result<Ended, AllocError> {
-    let mut source = ListSource::new(alloc, input.as_bytes(), failing.source)?;
+    run_on(rt, alloc, words, input.as_bytes(), failing)
+}
+
+fn run_on<R: Wait + Threads + Sync>(
+    rt: &R,
+    alloc: Global,
+    words: &[&str],
+    input: &[u8],
+    failing: Failing,
+) -> Result<Ended, AllocError> {
+    let mut source = ListSource::new(alloc, input, failing.source)?;
     let mut out = ListSink::new(alloc, failing.out)?;
     let mut outlet = ListOutlet::new(alloc, failing.outlet)?;
     let words = owned(alloc, words)?;

@@ -49,7 +49,7 @@ name_is (first ∷ rest) is =
     let b = both (is_lower_case first) (list_all is_name_byte rest) a.0 in
     (rw (b.0) b.1, omega (arith, ltb-true (length rest) 32 a.1))
 
-all_named : (columns : List Column) → list_all (λ column. is_name column.name) columns ≡ true → All IsName columns
+pub all_named : (columns : List Column) → list_all (λ column. is_name column.name) columns ≡ true → All IsName columns
 all_named [] all = All-nil IsName
 all_named (column ∷ columns) all =
     let a = both (is_name column.name) (list_all (λ c. is_name c.name) columns) all in

@@ -37,6 +37,7 @@ returns-in-Ok-clause-ok g c = λ front machine holds.
     let batches_small : c.in-Ok.sent.batches < 2 ^ 32 = first_of (omega arith, search rules) in
     exported c.args.tables.now c.args.store.now front machine c.args.table c.index-tables-table.result c.in-Some.number c.in-Ok.sent _ _ holds
     (slice_get_read c.args.tables.now (length c.args.tables.now) c.args.table c.index-tables-table.result refl c.requires.table c.index-tables-table.is)
+    (table_at c.args.tables.now c.args.table c.index-tables-table.result c.requires.tables (slice_get_read c.args.tables.now (length c.args.tables.now) c.args.table c.index-tables-table.result refl c.requires.table c.index-tables-table.is))
     (c.in-Some.ensures c.args.tables.now front machine holds)
     (λ t found. c.in_default-own_least_key.ensures c.args.tables.now front machine t holds found)
     c.in-Ok.ensures.ok number_small rows_small batches_small
