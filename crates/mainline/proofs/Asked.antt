@@ -1,5 +1,5 @@
 -- The commands that run today, and the tables and rows that they name.
-use Rattle.std.proofs.Common.{◌≡◌, ℕ, zero, suc, Bool, true, false, ◌&&◌, ◌==◌, ◌*◌, ◌/◌, ◌%◌, ◌^◌, ◌≤◌, min, cond, nat_le, is_none, Option, None, Some, List, [], ◌∷◌, length, refl, ap, sym, ◌∙◌, arith, slice_get}
+use Rattle.std.proofs.Common.{◌≡◌, ℕ, zero, suc, Bool, true, false, ◌&&◌, ◌==◌, ◌*◌, ◌/◌, ◌%◌, ◌^◌, ◌<◌, ◌≤◌, min, cond, nat_le, is_none, Option, None, Some, List, [], ◌∷◌, length, refl, ap, sym, ◌∙◌, arith, slice_get}
 use Rattle.std.specs.List.{list_all}
 use Rattle.std.specs.Option.{option_map_or}
 use Rattle.std.proofs.lemmas.Bool.{and_parts, eqb-true, leb-true}
