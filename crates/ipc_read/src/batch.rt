@@ -1,4 +1,4 @@
-// A record batch, lent from its message's body (IPC format, "RecordBatch message").
+//! A record batch, lent from its message's body (IPC format, "RecordBatch message").
 ghost use Rattle.std.specs.Prelude.{◌≡◌, ◌+◌, ◌<◌, ◌≤◌, ◌^◌, ◌==◌, true, map, IfOk, IsErrOf, IsTrue, Ok, Err, Some, length, pos, slice_get};
 ghost use Rattle.std.specs.List.{list_all};
 ghost use Rattle.std.specs.Ordering.{int_eq};
@@ -150,8 +150,8 @@ fn views_of<'a>(
     Ok(views)
 }
 
-/// The batch of these columns whose metadata and body these are, in a message of so many bytes; or the first fault:
-/// counts and lengths that are not the schema's, and then column by column.
+/// The batch of these columns whose metadata and body these are, in a message of so many bytes; or
+/// the first fault: counts and lengths that are not the schema's, and then column by column.
 pub fn batch_of<'a>(
     alloc: Global,
     columns: &[Column],

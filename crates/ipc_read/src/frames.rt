@@ -8,7 +8,8 @@ use arrow_meta::read_head;
 use byteorder::{ByteOrder, LittleEndian};
 use stream_spec::{Cause, Head, HeadKind};
 
-// A message: its metadata, and the bytes behind that, with which its body begins; or none, at the end.
+// A message: its metadata, and the bytes behind that, with which its body begins; or none, at the
+// end.
 #[derive(Clone, Copy)]
 pub enum Frame<'a> {
     Ended,
@@ -41,7 +42,8 @@ fn sized_frame(first: bool, size: u32, rest: &[u8]) -> Result<Frame<'_>, Cause>
     })
 }
 
-// The next message. The stream ends with the input or with a size of 0, but not before its first message.
+// The next message. The stream ends with the input or with a size of 0, but not before its first
+// message.
 pub fn next_frame(first: bool, bytes: &[u8]) -> Result<Frame<'_>, Cause>
     ensures short { IfOk result (λ f. length (metadata_of f) < 2 ^ 31) }
     ensures whole { IfOk result (Fills (length bytes.now)) }

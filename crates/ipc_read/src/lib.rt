@@ -1,4 +1,5 @@
-//! Reads an Arrow stream from bytes that nobody vouches for (Arrow columnar format, "IPC Streaming Format").
+//! Reads an Arrow stream from bytes that nobody vouches for (Arrow columnar format, "IPC Streaming
+//! Format").
 #![tactic(auto)]
 
 mod batch;

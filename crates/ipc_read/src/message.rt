@@ -43,8 +43,9 @@ fn batch_message<'a>(
     Ok(Some(batch_of(alloc, columns, &meta, body, size)?))
 }
 
-/// What stands next in a stream of these columns, whose bytes these are behind the message before. No byte behind the
-/// message is looked at, and a header takes no memory beyond what its own bytes list.
+/// What stands next in a stream of these columns, whose bytes these are behind the message before.
+/// No byte behind the message is looked at, and a header takes no memory beyond what its own bytes
+/// list.
 pub fn next_batch<'a>(
     alloc: Global,
     columns: &[Column],

@@ -11,8 +11,8 @@ use std::alloc::{AllocError, Global};
 use std::marker::Model;
 use stream_spec::{Cause, StreamFault};
 
-/// What is read of a stream: the columns, where its first message is a schema; the rows of each batch in front of the
-/// first fault; and that fault, if there is one.
+/// What is read of a stream: the columns, where its first message is a schema; the rows of each
+/// batch in front of the first fault; and that fault, if there is one.
 #[derive(Debug, Drop)]
 pub struct Reading {
     columns: Option<Vec<Column>>,
@@ -55,8 +55,8 @@ impl Reading {
     }
 }
 
-/// What the bytes read as, message by message from the first, up to the end word, the end of the bytes or the first
-/// fault.
+/// What the bytes read as, message by message from the first, up to the end word, the end of the
+/// bytes or the first fault.
 pub fn read(alloc: Global, bytes: &[u8]) -> Result<Reading, AllocError>
     ensures { IfOk result (λ reading. reading ≡ reading_of bytes.now) }
 {

@@ -50,8 +50,8 @@ const THREE_KEYS: &[u8; 344] = b"\xff\xff\xff\xff\x98\x00\x00\x00\
     \x03\x00\x00\x00\x00\x00\x00\x00\
     \xff\xff\xff\xff\x00\x00\x00\x00";
 
-// How many of the bytes there are, which of them is another, whether the columns are read, how many batches are, and
-// the fault.
+// How many of the bytes there are, which of them is another, whether the columns are read, how many
+// batches are, and the fault.
 #[derive(Drop)]
 struct Case {
     kept: usize,

@@ -18,8 +18,9 @@ pub struct Shown {
     pub fault: Option<StreamFault>,
 }
 
-/// What the bytes show: the columns, each row and how many there are, where they are a stream; else the columns and the
-/// rows in front of the first fault, and that fault, which stands alone where no schema begins the bytes.
+/// What the bytes show: the columns, each row and how many there are, where they are a stream; else
+/// the columns and the rows in front of the first fault, and that fault, which stands alone where
+/// no schema begins the bytes.
 pub fn show(alloc: Global, bytes: &[u8]) -> Result<Shown, AllocError>
     ensures text { IfOk result (λ shown. shown.text ≡ shown_text (reading_of bytes.now)) }
     ensures fault { IfOk result (λ shown. shown.fault ≡ (reading_of bytes.now).fault) }
