@@ -1,4 +1,5 @@
-// A column of a batch, lent from the body (Arrow columnar format, "Buffer Listing for Each Layout").
+// A column of a batch, lent from the body (Arrow columnar format, "Buffer Listing for Each
+// Layout").
 ghost use Rattle.std.specs.Prelude.{◌≡◌, ◌+◌, ◌^◌, ◌≤◌, ◌<◌, false, true, nat_le, IfOk, IsTrue, MatchOption, MatchResult, None, Some, Ok, Err, length, pos};
 ghost use Rattle.std.specs.List.{list_all};
 ghost use Rattle.std.specs.Ordering.{int_eq};
@@ -187,8 +188,9 @@ fn counts_nulls(node: &FieldNode, validity: &[u8], rows: usize) -> bool
     i128::from(node.null_count) == null_count(validity, rows) as i128
 }
 
-// The column of so many rows with this node and these buffers, lent from the body; or the first fault of the column: a
-// buffer that is not inside the body or too short, a false null count, an unlawful offset, a text that is none.
+// The column of so many rows with this node and these buffers, lent from the body; or the first
+// fault of the column: a buffer that is not inside the body or too short, a false null count, an
+// unlawful offset, a text that is none.
 pub fn column<'a>(
     body: &'a [u8],
     kind: Kind,
