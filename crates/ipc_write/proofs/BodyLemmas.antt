@@ -42,13 +42,6 @@ size-added size grown first rest added =
     ap length (flat_map-append padded first rest) ∙ length-append (flat_map padded first) (flat_map padded rest) in
     omega arith
 
--- a list from an index on begins with the element there
-pub split-at : {X : Type 0} (xs : List X) (item : X) (i : ℕ) → i < length xs → item ≡ get_or xs i item → drop i xs ≡ item ∷ drop (i + 1) xs
-split-at {X = X} xs item i inside is =
-    drop-cons xs i item inside
-    ∙ ap (λ (n : ℕ). get_or xs i item ∷ drop n xs) (sym (add-one i))
-    ∙ ap (λ (x : X). x ∷ drop (i + 1) xs) (sym is)
-
 -- each buffer has a place
 pub length-places : (from : ℕ) (buffers : List (List ℕ)) → length (buffer_places from buffers) ≡ length buffers
 length-places from [] = refl

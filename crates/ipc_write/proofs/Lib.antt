@@ -1,6 +1,3 @@
-mod ArrayLemmas
-mod BitmapLemmas
 mod BodyLemmas
-mod CellLemmas
+mod ImageLemmas
 mod PieceLemmas
-mod ValueLemmas

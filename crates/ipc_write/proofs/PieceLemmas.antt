@@ -11,7 +11,7 @@ use Rattle.arrow_spec.specs.Batches.{Array}
 use Rattle.arrow_spec.specs.Bytes.{padded}
 use Rattle.ipc_write.specs.Calls.{WroteAll, SinkFailed, WritesPiece}
 use Rattle.ipc_write.specs.declared.faults.SinkFault.{SinkFault}
-use Rattle.ipc_write.proofs.BodyLemmas.{split-at}
+use Rattle.arrow_array.proofs.Splits.{split-at}
 
 -- a front of a piece is one of a longer piece
 front-of-longer : (before now : Option (List ℕ)) (piece more : List ℕ) → AppendsFront before now piece → AppendsFront before now (piece ++ more)

@@ -3,7 +3,7 @@ ghost use Rattle.std.specs.Prelude.{◌≡◌, ◌<◌, ◌^◌, ◌+◌, ◌++�
 ghost use Rattle.arrow_spec.specs.Batches.{buffer_places};
 ghost use Rattle.arrow_spec.specs.Bytes.{padded};
 
-use crate::batch::Array;
+use crate::lent::LentArray;
 use cell_model::Bytes;
 use std::alloc::{AllocError, Global};
 
@@ -17,7 +17,7 @@ pub struct Body {
 
 impl Body {
     // The body of these columns. There is no memory for one of 2^63 bytes or more.
-    pub fn of_arrays(alloc: Global, arrays: &[Array]) -> Result<Body, AllocError>
+    pub fn of_arrays(alloc: Global, arrays: &[LentArray<'_>]) -> Result<Body, AllocError>
         ensures places { IfOk result (λ body. body.places.items
             ≡ buffer_places 0 (flat_map (λ array. array.buffers) arrays.now)) }
         ensures size { IfOk result (λ body. body.size
@@ -29,7 +29,7 @@ impl Body {
             size: 0,
         };
         for array in arrays {
-            body.add_buffers(array.buffers().as_slice())?;
+            body.add_buffers(array.buffers())?;
         }
         Ok(body)
     }

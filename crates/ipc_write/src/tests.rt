@@ -1,5 +1,9 @@
 // Whole streams, byte by byte, and faults in turn.
-use crate::{PieceFault, SinkFault, Writer, all_fit, build};
+mod images;
+
+use crate::tests::images::image_of;
+use crate::{PieceFault, SinkFault, Writer};
+use arrow_array::{all_fit, build};
 use byte_ports::ListSink;
 use cell_model::{Bytes, Cell, Column, Kind, Row, Schema, are_named};
 use std::alloc::Global;
@@ -171,40 +175,31 @@ fn a_stream_of_three_keys_is_written(rt: HostRuntime) -> Result<(), Fail> {
 #[test]
 fn a_batch_of_mixed_columns_is_written(rt: HostRuntime) -> Result<(), Fail> {
     let alloc = rt.alloc();
-    let columns = [
-        ("key", Kind::I64, false),
-        ("p", Kind::I8, true),
-        ("q", Kind::Bool, true),
-        ("r", Kind::Binary, true),
-    ];
-    let schema = schema(alloc, columns.as_slice())?;
-    let blob = Cell::Blob(Bytes::from_slice(alloc, [0x00, 0xff].as_slice())?);
-    let first = vec![in alloc; Cell::Num(1), Cell::Num(-3), Cell::Truth(true), blob]?;
-    let second = vec![in alloc; Cell::Num(2), Cell::Null, Cell::Null, Cell::Null]?;
-    let rows = vec![in alloc; Row::from(first), Row::from(second)]?;
+    let schema = mixed_schema(alloc)?;
+    let rows = mixed_rows(alloc)?;
     let small = rows.len() <= 32_768;
     if !small || !all_fit(&schema, rows.as_slice()) {
         return Err(Fail::from("the rows do not fit"));
     }
-
     let batch = build(alloc, &schema, rows.as_slice())?;
-    assert_eq!(rt; batch.rows(), 2);
-    let mut nulls = Vec::new(alloc);
-    let mut lengths = Vec::new(alloc);
-    for array in batch.arrays() {
-        nulls.push(array.nulls())?;
-        for buffer in array.buffers().as_slice() {
-            lengths.push(buffer.len())?;
-        }
-    }
-    assert_eq!(rt; nulls.as_slice(), [0, 1, 1, 1].as_slice());
-    assert_eq!(rt;
-        lengths.as_slice(),
-        [0, 16, 1, 2, 1, 1, 1, 12, 2].as_slice()
-    );
-
     let mut writer = Writer::new(ListSink::new(alloc, &[])?);
     writer.batch(alloc, &batch)?;
+    let sink = writer.into_inner();
+    assert_eq!(rt; sink.written().len(), 8 + 304 + 80);
+    let (_, body) = sink.written().split_at(8 + 304);
+    assert_eq!(rt; body, MIXED_BODY.as_slice());
+    Ok(())
+}
+
+#[test]
+fn an_image_is_written_as_its_rows(rt: HostRuntime) -> Result<(), Fail> {
+    let alloc = rt.alloc();
+    let image = image_of(&rt, alloc, &mixed_schema(alloc)?, &mixed_rows(alloc)?)?;
+    if image.columns().width() > 32 {
+        return Err(Fail::from("there are too many columns"));
+    }
+    let mut writer = Writer::new(ListSink::new(alloc, &[])?);
+    writer.image(alloc, &image)?;
     let sink = writer.into_inner();
     assert_eq!(rt; sink.written().len(), 8 + 304 + 80);
     let (_, body) = sink.written().split_at(8 + 304);
@@ -260,6 +255,25 @@ fn schema(alloc: Global, columns: &[(&'static str, Kind, bool)]) -> Result<Schem
     } else {
         Err(Fail::from("a name is no text"))
     }
+}
+
+// The columns `key:i64 p:i8? q:bool? r:binary?`.
+fn mixed_schema(alloc: Global) -> Result<Schema, Fail> {
+    let columns = [
+        ("key", Kind::I64, false),
+        ("p", Kind::I8, true),
+        ("q", Kind::Bool, true),
+        ("r", Kind::Binary, true),
+    ];
+    schema(alloc, columns.as_slice())
+}
+
+// The rows `1 -3 true x00ff` and `2 null null null`.
+fn mixed_rows(alloc: Global) -> Result<Vec<Row>, Fail> {
+    let blob = Cell::Blob(Bytes::from_slice(alloc, [0x00, 0xff].as_slice())?);
+    let first = vec![in alloc; Cell::Num(1), Cell::Num(-3), Cell::Truth(true), blob]?;
+    let second = vec![in alloc; Cell::Num(2), Cell::Null, Cell::Null, Cell::Null]?;
+    Ok(vec![in alloc; Row::from(first), Row::from(second)]?)
 }
 
 fn key_rows(alloc: Global, keys: &[i64]) -> Result<Vec<Row>, Fail> {

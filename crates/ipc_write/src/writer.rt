@@ -5,13 +5,17 @@ ghost use Rattle.arrow_spec.specs.Bytes.{padded};
 ghost use Rattle.arrow_spec.specs.Streams.{schema_message, message_of_batch, batch_message, end_word};
 ghost use Rattle.byte_ports.specs.Calls.{TellsAlike};
 ghost use Rattle.cell_model.specs.Rows.{Fits};
+ghost use Rattle.arrow_array.specs.Batches.{AreFew};
+ghost use Rattle.block_columns.specs.Images.{IsWhole, rows_of};
 ghost use Rattle.ipc_write.specs.Calls.{WritesPiece, MakesPiece};
 
-use crate::arrays::build;
-use crate::batch::{Array, Batch};
 use crate::body::Body;
 use crate::faults::{PieceFault, SinkFault};
 use crate::framed::framed;
+use crate::lent;
+use crate::lent::LentArray;
+use arrow_array::{Batch, build};
+use block_columns::Image;
 use byte_ports::{Failed, Sink, write_all};
 use cell_model::{Bytes, Row, Schema};
 use std::alloc::{AllocError, Global};
@@ -115,11 +119,33 @@ impl<W: Sink> Writer<W> {
         if self.failed {
             return Err(PieceFault::Sink(SinkFault { earlier: true }));
         }
-        let head = batch_head(alloc, batch)?;
-        match self.message(head.as_slice(), batch.arrays()) {
-            Ok(()) => Ok(()),
-            Err(fault) => Err(PieceFault::Sink(fault)),
+        let arrays = lent::of_batch(alloc, batch.arrays())?;
+        self.arrays(alloc, batch.rows(), arrays.as_slice())
+    }
+
+    /// Writes the message of the record batch of an image's rows.
+    ///
+    /// Its buffers go to the sink from where they lie, each in calls of its own.
+    pub fn image(&mut self, alloc: Global, image: &Image) -> Result<(), PieceFault>
+        requires whole { IsWhole image.now }
+        requires few { length image.now.columns ≤ 32 }
+        ensures answer { MakesPiece
+            W.written
+            W.faults
+            self.old
+            self.new
+            (batch_message image.now.columns (rows_of image.now))
+            result }
+        ensures told { TellsAlike (W.written self.old.0) (W.written self.new.0) }
+        ensures started { W.started self.new.0 ≡ W.started self.old.0 }
+        ensures loan { W.loan self.new.0 ≡ W.loan self.old.0 }
+        ensures counted { W.faults self.old.0 ≤ W.faults self.new.0 }
+    {
+        if self.failed {
+            return Err(PieceFault::Sink(SinkFault { earlier: true }));
         }
+        let arrays = lent::of_image(alloc, image)?;
+        self.arrays(alloc, image.rows(), arrays.as_slice())
     }
 
     /// Writes the word that ends a stream.
@@ -133,8 +159,36 @@ impl<W: Sink> Writer<W> {
         self.write(&[0xff, 0xff, 0xff, 0xff, 0, 0, 0, 0])
     }
 
+    // Writes the message of a record batch of so many rows with these columns.
+    fn arrays(
+        &mut self,
+        alloc: Global,
+        rows: u32,
+        arrays: &[LentArray<'_>],
+    ) -> Result<(), PieceFault>
+        requires open { self.old.1 ≡ false }
+        requires few { AreFew arrays.now }
+        ensures answer { MakesPiece
+            W.written
+            W.faults
+            self.old
+            self.new
+            (message_of_batch (batch_of_arrays rows arrays.now))
+            result }
+        ensures told { TellsAlike (W.written self.old.0) (W.written self.new.0) }
+        ensures started { W.started self.new.0 ≡ W.started self.old.0 }
+        ensures loan { W.loan self.new.0 ≡ W.loan self.old.0 }
+        ensures counted { W.faults self.old.0 ≤ W.faults self.new.0 }
+    {
+        let head = batch_head(alloc, rows, arrays)?;
+        match self.message(head.as_slice(), arrays) {
+            Ok(()) => Ok(()),
+            Err(fault) => Err(PieceFault::Sink(fault)),
+        }
+    }
+
     // Writes what stands before a body, and then the body of these columns.
-    fn message(&mut self, head: &[u8], arrays: &[Array]) -> Result<(), SinkFault>
+    fn message(&mut self, head: &[u8], arrays: &[LentArray<'_>]) -> Result<(), SinkFault>
         requires { self.old.1 ≡ false }
         ensures answer { WritesPiece
             W.written
@@ -155,7 +209,7 @@ impl<W: Sink> Writer<W> {
     }
 
     // Writes the body of these columns.
-    fn body(&mut self, arrays: &[Array]) -> Result<(), SinkFault>
+    fn body(&mut self, arrays: &[LentArray<'_>]) -> Result<(), SinkFault>
         requires { self.old.1 ≡ false }
         ensures answer { WritesPiece
             W.written
@@ -170,7 +224,7 @@ impl<W: Sink> Writer<W> {
         ensures counted { W.faults self.old.0 ≤ W.faults self.new.0 }
     {
         for array in arrays {
-            match self.buffers(array.buffers().as_slice()) {
+            match self.buffers(array.buffers()) {
                 Ok(()) => {}
                 Err(fault) => return Err(fault),
             }
@@ -242,16 +296,17 @@ fn schema_piece(alloc: Global, schema: &Schema) -> Result<Vec<u8>, AllocError>
 }
 
 // What stands before the body in the message of a record batch.
-fn batch_head(alloc: Global, batch: &Batch) -> Result<Vec<u8>, AllocError>
+fn batch_head(alloc: Global, rows: u32, arrays: &[LentArray<'_>]) -> Result<Vec<u8>, AllocError>
+    requires { AreFew arrays.now }
     ensures { IfOk result (λ head.
-        head.items ++ flat_map padded (flat_map (λ array. array.buffers) batch.now.1)
-        ≡ message_of_batch (batch_of_arrays batch.now.0 batch.now.1)) }
+        head.items ++ flat_map padded (flat_map (λ array. array.buffers) arrays.now)
+        ≡ message_of_batch (batch_of_arrays rows arrays.now)) }
 {
-    let nodes = nodes(alloc, batch.rows(), batch.arrays())?;
-    let body = Body::of_arrays(alloc, batch.arrays())?;
+    let nodes = nodes(alloc, rows, arrays)?;
+    let body = Body::of_arrays(alloc, arrays)?;
     let metadata = arrow_meta::batch_message(
         alloc,
-        u64::from(batch.rows()),
+        u64::from(rows),
         nodes.as_slice(),
         body.places.as_slice(),
         body.size,
@@ -260,7 +315,7 @@ fn batch_head(alloc: Global, batch: &Batch) -> Result<Vec<u8>, AllocError>
 }
 
 // A node for each column: the rows and the nulls.
-fn nodes(alloc: Global, rows: u32, arrays: &[Array]) -> Result<Vec<(i64, i64)>, AllocError>
+fn nodes(alloc: Global, rows: u32, arrays: &[LentArray<'_>]) -> Result<Vec<(i64, i64)>, AllocError>
     ensures { IfOk result (λ nodes. nodes.items ≡ map (λ array. (pos rows, pos array.nulls)) arrays.now) }
 {
     arrays

@@ -11,39 +11,24 @@ use Rattle.ipc_write.proofs.writer.batch_head.Goals as goal
 
 pub batch_message-requires-clause-few : goal.batch_message-requires-clause-few
 batch_message-requires-clause-few c =
-    let arrays : List Array = c.args.batch.now.1 in
+    let arrays : List Array = c.args.arrays.now in
     let nodes : length c.as_slice.result.now ≡ length arrays =
-    ap length (c.as_slice.ensures.value ∙ c.in_ok-nodes.ensures)
-    ∙ length-map c.arrays.result.now (λ (array : Array). (pos c.rows.result, pos array.nulls))
-    ∙ ap length c.arrays.ensures.arrays in
+    ap length (c.as_slice.ensures.value ∙ c.in_ok-nodes.ensures) ∙ length-map arrays (λ (array : Array). (pos c.args.rows, pos array.nulls)) in
     let places : length c.as_slice-2.result.now ≡ length (flat_map (λ array. array.buffers) arrays) =
-    ap length (c.as_slice-2.ensures.value ∙ c.in_ok-body.ensures.places)
-    ∙ length-places 0 (flat_map (λ array. array.buffers) c.arrays-2.result.now)
-    ∙ ap (λ (all : List Array). length (flat_map (λ array. array.buffers) all)) c.arrays-2.ensures.arrays in
-    omega (arith, nodes, places, c.arrays.ensures.few)
+    ap length (c.as_slice-2.ensures.value ∙ c.in_ok-body.ensures.places) ∙ length-places 0 (flat_map (λ array. array.buffers) arrays) in
+    omega (arith, nodes, places, c.requires)
 
 pub returns : goal.returns
 returns c =
-    let rows : ℕ = c.args.batch.now.0 in
-    let arrays : List Array = c.args.batch.now.1 in
+    let arrays : List Array = c.args.arrays.now in
     let buffers : List (List ℕ) = flat_map (λ array. array.buffers) arrays in
-    let nodes : List (ℤ × ℤ) = map (λ (array : Array). (pos rows, pos array.nulls)) arrays in
-    let nodes_are : c.as_slice.result.now ≡ nodes =
-    c.as_slice.ensures.value ∙ c.in_ok-nodes.ensures
-    ∙ ap (λ (n : ℕ). map (λ (array : Array). (pos n, pos array.nulls)) c.arrays.result.now) c.rows.ensures
-    ∙ ap (λ (all : List Array). map (λ (array : Array). (pos rows, pos array.nulls)) all) c.arrays.ensures.arrays in
-    let places_are : c.as_slice-2.result.now ≡ buffer_places 0 buffers =
-    c.as_slice-2.ensures.value ∙ c.in_ok-body.ensures.places
-    ∙ ap (λ (all : List Array). buffer_places 0 (flat_map (λ array. array.buffers) all)) c.arrays-2.ensures.arrays in
-    let size_is : c.in_ok-body.body.size ≡ length (flat_map padded buffers) =
-    c.in_ok-body.ensures.size
-    ∙ ap (λ (all : List Array). length (flat_map padded (flat_map (λ array. array.buffers) all))) c.arrays-2.ensures.arrays in
+    let nodes : List (ℤ × ℤ) = map (λ (array : Array). (pos c.args.rows, pos array.nulls)) arrays in
     IfOk-weaker c.framed.result
     (λ (head : Vec ℕ Global). head.items ≡ continuation ++ to_le_bytes w32 (length (padded c.as_slice-3.result.now)) ++ padded c.as_slice-3.result.now)
-    (λ (head : Vec ℕ Global). head.items ++ flat_map padded buffers ≡ message_of_batch (batch_of_arrays rows arrays))
+    (λ (head : Vec ℕ Global). head.items ++ flat_map padded buffers ≡ message_of_batch (batch_of_arrays c.args.rows arrays))
     (λ head is.
-    message-is rows c.from.result c.in_ok-body.body.size nodes c.as_slice.result.now (buffer_places 0 buffers) c.as_slice-2.result.now
+    message-is c.args.rows c.from.result c.in_ok-body.body.size nodes c.as_slice.result.now (buffer_places 0 buffers) c.as_slice-2.result.now
     (flat_map padded buffers) c.in_ok-metadata.metadata c.as_slice-3.result.now head.items
-    (c.from.ensures ∙ c.rows-2.ensures) nodes_are places_are size_is
+    c.from.ensures (c.as_slice.ensures.value ∙ c.in_ok-nodes.ensures) (c.as_slice-2.ensures.value ∙ c.in_ok-body.ensures.places) c.in_ok-body.ensures.size
     c.in_ok-metadata.ensures.bytes c.as_slice-3.ensures is)
     c.framed.ensures

@@ -2,7 +2,8 @@ use Rattle.std.proofs.Common.{◌≡◌, ◌++◌, ◌∷◌, [], ◌∙◌, ◌
 use Rattle.std.specs.Prelude.{flat_map}
 use Rattle.arrow_spec.specs.Batches.{buffer_places}
 use Rattle.arrow_spec.specs.Bytes.{padded}
-use Rattle.ipc_write.proofs.BodyLemmas.{places-added, size-added, split-at}
+use Rattle.arrow_array.proofs.Splits.{split-at}
+use Rattle.ipc_write.proofs.BodyLemmas.{places-added, size-added}
 use Rattle.ipc_write.proofs.body.Body.add_buffers.Goals as goal
 
 pub loop-buffer-preserved : goal.loop-buffer-preserved

@@ -2,7 +2,8 @@ use Rattle.std.proofs.Common.{◌≡◌, ◌++◌, ◌∙◌, ◌+◌, ℕ, List
 use Rattle.std.specs.Prelude.{flat_map}
 use Rattle.arrow_spec.specs.Batches.{Array, buffer_places}
 use Rattle.arrow_spec.specs.Bytes.{padded}
-use Rattle.ipc_write.proofs.BodyLemmas.{places-added, size-added, split-at}
+use Rattle.arrow_array.proofs.Splits.{split-at}
+use Rattle.ipc_write.proofs.BodyLemmas.{places-added, size-added}
 use Rattle.ipc_write.proofs.body.Body.of_arrays.Goals as goal
 
 pub loop-array-preserved : goal.loop-array-preserved
@@ -13,7 +14,7 @@ loop-array-preserved c =
     let split = split-at arrays item c.loop-array.array-index c.loop-array-test.true c.array-item.is in
     let old = c.loop-array.body in
     let new = c.add_buffers.new.self in
-    let lent = c.as_slice.ensures ∙ c.buffers.ensures in
+    let lent = c.buffers.ensures in
     let placed : new.places.items ≡ old.places.items ++ buffer_places old.size item.buffers =
     c.in_ok-add_buffers.ensures.places
     ∙ ap (λ (buffers : List (List ℕ)). old.places.items ++ buffer_places old.size buffers) lent in

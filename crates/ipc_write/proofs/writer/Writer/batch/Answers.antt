@@ -1,19 +1,13 @@
-use Rattle.std.proofs.Common.{◌≡◌, ◌++◌, ◌∙◌, List, ℕ, ap, subst}
-use Rattle.std.specs.Prelude.{flat_map}
+use Rattle.std.proofs.Common.{◌≡◌, ◌∙◌, ℕ, List, subst}
 use Rattle.arrow_spec.specs.Batches.{Array, batch_of_arrays}
-use Rattle.arrow_spec.specs.Bytes.{padded}
 use Rattle.arrow_spec.specs.Streams.{message_of_batch}
-use Rattle.ipc_write.specs.Calls.{SinkFailed}
+use Rattle.ipc_write.specs.Calls.{MakesPiece}
 use Rattle.ipc_write.proofs.writer.Writer.batch.Goals as goal
 
 pub returns-clause-answer : goal.returns-clause-answer
 returns-clause-answer g c =
-    let body : List Array → List ℕ = λ arrays. flat_map padded (flat_map (λ array. array.buffers) arrays) in
-    let whole : c.as_slice.result.now ++ body c.arrays.result.now ≡ message_of_batch (batch_of_arrays c.args.batch.now.0 c.args.batch.now.1) =
-    ap (λ (arrays : List Array). c.as_slice.result.now ++ body arrays) c.arrays.ensures.arrays
-    ∙ ap (λ (head : List ℕ). head ++ body c.args.batch.now.1) c.as_slice.ensures.value
-    ∙ c.in_ok-head.ensures in
-    subst
-    (λ (piece : List ℕ). SinkFailed g.W.Sink.written g.W.Sink.faults c.args.self.now c.message.new.self piece c.in-Err.fault.earlier)
-    whole
-    c.in-Err.ensures.answer
+    let makes : ℕ → List Array → Type 0 = λ rows arrays.
+    MakesPiece g.W.Sink.written g.W.Sink.faults c.args.self.now c.arrays-2.new.self (message_of_batch (batch_of_arrays rows arrays)) c.arrays-2.result in
+    let lent : c.as_slice.result.now ≡ c.args.batch.now.1 = c.as_slice.ensures.value ∙ c.in_ok-arrays.ensures ∙ c.arrays.ensures.arrays in
+    subst (λ (arrays : List Array). makes c.args.batch.now.0 arrays) lent
+    (subst (λ (rows : ℕ). makes rows c.as_slice.result.now) c.rows.ensures c.arrays-2.ensures.answer)

@@ -17,7 +17,7 @@ returns-in-Err-clause-answer g c =
     let failed : SinkFailed g.W.Sink.written g.W.Sink.faults c.loop-array.self new (flat_map padded item.buffers) c.in-Err.fault.earlier =
     subst
     (λ (buffers : List (List ℕ)). SinkFailed g.W.Sink.written g.W.Sink.faults c.loop-array.self new (flat_map padded buffers) c.in-Err.fault.earlier)
-    (c.as_slice.ensures ∙ c.buffers.ensures)
+    c.buffers.ensures
     c.in-Err.ensures.answer in
     failed-within g.W.Sink.written g.W.Sink.faults c.args.self.now c.loop-array.self new front (flat_map padded item.buffers) rest
     (flat_map padded (flat_map (λ array. array.buffers) arrays)) c.in-Err.fault.earlier c.loop-array.invariant.wrote c.loop-array.invariant.counted failed

@@ -1,0 +1,5 @@
+pub mod ArrayLemmas
+mod BitmapLemmas
+mod CellLemmas
+pub mod Splits
+mod ValueLemmas

@@ -1,0 +1,87 @@
+ghost use Rattle.std.specs.Prelude.{◌≡◌};
+ghost use Rattle.arrow_array.specs.Batches.{AreFew};
+
+use cell_model::Buffers;
+use std::marker::Model;
+
+/// A column of a batch: how many of its slots are null, and its buffers.
+#[derive(Debug, Drop)]
+pub struct Array {
+    nulls: u32,
+    buffers: Buffers,
+}
+
+impl Model for Array {
+    ghost use Rattle.arrow_spec.specs.Batches.{Array as ArrayValue};
+
+    ghost Value = { ArrayValue };
+
+    ghost view = { λ a. record { nulls = a.nulls; buffers = a.buffers } };
+}
+
+impl Array {
+    /// The column with so many nulls and these buffers.
+    pub fn new(nulls: u32, buffers: Buffers) -> Array
+        ensures { result ≡ record { nulls = nulls; buffers = buffers } }
+    {
+        Array { nulls, buffers }
+    }
+
+    /// How many slots are null.
+    pub fn nulls(&self) -> u32
+        ensures { result ≡ self.now.nulls }
+    {
+        self.nulls
+    }
+
+    /// The validity, then the data.
+    pub fn buffers(&self) -> &Buffers
+        ensures { result.now ≡ self.now.buffers }
+    {
+        &self.buffers
+    }
+}
+
+/// A record batch: how many rows it has, and a column for each of the schema's.
+#[derive(Debug, Drop)]
+pub struct Batch {
+    rows: u32,
+    arrays: Vec<Array>,
+}
+
+impl Model for Batch {
+    ghost use Rattle.std.specs.Prelude.{ℕ, List};
+    ghost use Rattle.arrow_spec.specs.Batches.{Array as ArrayValue};
+    ghost use Rattle.arrow_array.specs.Batches.{AreFew};
+
+    ghost Value = { ℕ × List ArrayValue };
+
+    ghost view = { λ b. (b.rows, b.arrays.items) };
+
+    ghost invariant = { λ b. AreFew b.arrays.items };
+}
+
+impl Batch {
+    /// The batch of so many rows with these columns.
+    pub fn new(rows: u32, arrays: Vec<Array>) -> Batch
+        requires { AreFew arrays.items }
+        ensures { result ≡ (rows, arrays.items) }
+    {
+        Batch { rows, arrays }
+    }
+
+    /// How many rows there are.
+    pub fn rows(&self) -> u32
+        ensures { result ≡ self.now.0 }
+    {
+        self.rows
+    }
+
+    /// The columns, in the order of the schema's.
+    pub fn arrays(&self) -> &[Array]
+        ensures arrays { result.now ≡ self.now.1 }
+        ensures few { AreFew self.now.1 }
+    {
+        self.arrays.as_slice()
+    }
+}
