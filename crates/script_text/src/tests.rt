@@ -6,7 +6,7 @@ use crate::*;
 use cell_model::{Bytes, Cell, Column, Kind, Row, Schema, TableDecl, are_named};
 use std::alloc::{AllocError, Global};
 use std::test::*;
-use workload_spec::{Cause, Command, Extent, Line, Round, Rounds, Script, Tables};
+use workload_spec::{Cause, Command, Commands, Extent, Line, Round, Rounds, Script, Tables};
 
 #[test]
 fn words_with_a_colon_are_columns(rt: HostRuntime) -> Result<(), Fail> {
@@ -300,7 +300,10 @@ fn what_passes_an_extent_is_refused(rt: HostRuntime) -> Result<(), Fail> {
         workers: 0,
         turns: 0,
         parts_rounds: false,
-        commands: Extent::today().commands,
+        commands: Commands {
+            scan: false,
+            ..Extent::whole().commands
+        },
     };
     let cases: [(&[u8], &[u8], u64, Cause); 6] = [
         (

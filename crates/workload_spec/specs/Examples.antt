@@ -22,7 +22,7 @@ use Rattle.workload_spec.specs.Reading.{cell_of, integer_of, words_of}
 use Rattle.workload_spec.specs.ReplyText.{said_words, replies_text}
 use Rattle.workload_spec.specs.ScriptText.{line_text, script_text}
 use Rattle.workload_spec.specs.Valid.{is_valid}
-use Rattle.workload_spec.specs.Extents.{whole, today, runs_within, is_extent}
+use Rattle.workload_spec.specs.Extents.{whole, runs_within, is_extent}
 use Rattle.workload_spec.specs.Words.{cell_text, spaced, lines_text}
 
 -- `v:utf8?`
@@ -108,18 +108,6 @@ example_text = lines_text (head ++ codes "1 begin" ∷ codes "1 insert a 1 \"x y
 abbrev pub exporting : Line
 exporting = record { session = 1; command = command.Export 0 }
 
--- a workload of the key alone
-abbrev pub key_script : Script
-key_script = record {
-  version = 1;
-  tables = record { name = codes "b"; schema = key_column ∷ []; slots = 8; blocks = 1 } ∷ [];
-  sessions = 1;
-  workers = 0;
-  turns = 0;
-  rounds =
-      (record { session = 1; command = command.Begin } ∷ record { session = 1; command = command.Insert 0 (Num (pos 1) ∷ []) } ∷ record { session = 1; command = command.Commit } ∷ exporting ∷ []) ∷ [];
-}
-
 abbrev pub ScriptIsPrinted : Type 0
 ScriptIsPrinted = script_text example_script ≡ example_text
 
@@ -164,13 +152,9 @@ abbrev pub FirstFaultStands : Type 0
 FirstFaultStands = map (λ extent. read_with extent two_faults) (whole ∷ record whole { commands = record whole.commands { scan = false } } ∷ [])
     ≡ map (λ (told : ℕ × Cause). Err (record { line = told.0; cause = told.1 })) ((7, cause.Session) ∷ (6, cause.Command) ∷ [])
 
--- a workload of keys alone runs today, and one of two sessions, two rounds and a seal does not
-abbrev pub TodayIsJudged : Type 0
-TodayIsJudged = map (runs_within today) (key_script ∷ example_script ∷ []) ≡ true ∷ false ∷ []
-
--- what runs today and the whole format are extents of it, and one without a column or with a bound past the whole's is none
+-- the whole format and one of a column are extents of it, and one without a column or with a bound past the whole's is none
 abbrev pub BoundsAreJudged : Type 0
-BoundsAreJudged = map is_extent (today ∷ whole ∷ record whole { columns = 0 } ∷ record whole { tables = 17 } ∷ record whole { columns = 33 } ∷ record whole { sessions = 65 }
+BoundsAreJudged = map is_extent (record whole { columns = 1 } ∷ whole ∷ record whole { columns = 0 } ∷ record whole { tables = 17 } ∷ record whole { columns = 33 } ∷ record whole { sessions = 65 }
     ∷ record whole { workers = 17 } ∷ record whole { turns = 101 } ∷ []) ≡ true ∷ true ∷ replicate 6 false
 
 -- lines, and the fault of the workload that they are

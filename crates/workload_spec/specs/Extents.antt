@@ -1,5 +1,5 @@
--- How much of the workload format is taken: all of it, what runs today, and which workloads run within an extent.
-use Rattle.std.specs.Prelude.{◌≡◌, Bool, true, false, ◌&&◌, ◌||◌, nat_le, length}
+-- How much of the workload format is taken: all of it, and which workloads run within an extent.
+use Rattle.std.specs.Prelude.{◌≡◌, Bool, true, ◌&&◌, ◌||◌, nat_le, length}
 use Rattle.std.specs.List.{list_all}
 use Rattle.cell_model.specs.Schemas.{most_columns}
 use Rattle.workload_spec.specs.declared.command.Command.{Command}
@@ -32,33 +32,6 @@ whole = record {
     compact = true;
     seal = true;
     gather = true;
-    export = true;
-  };
-}
-
--- what runs today
-abbrev pub today : Extent
-today = record {
-  tables = 1;
-  columns = 1;
-  sessions = 1;
-  workers = 0;
-  turns = 0;
-  parts_rounds = false;
-  commands = record {
-    begin = true;
-    get = true;
-    scan = false;
-    insert = true;
-    update = false;
-    delete = false;
-    commit = true;
-    abort = false;
-    observe = false;
-    prune = false;
-    compact = false;
-    seal = false;
-    gather = false;
     export = true;
   };
 }

@@ -5,5 +5,4 @@ pub mod Valid
 pub mod Extents
 pub mod Reading
 pub mod Grammar
-pub mod Supported
 pub mod Examples

@@ -1,5 +1,5 @@
 //! Worked examples of texts and faults: each is a fact that the definitions compute.
-ghost use Rattle.workload_spec.specs.Examples.{HardTextIsSpelled, HardSpellingIsRead, NumbersAreRead, LeastKeyIsSpelled, NoNumbers, NoTexts, NoNull, BlobsAreRead, TruthsAreRead, WordsAreParted, ScriptIsPrinted, ScriptIsRead, CommandsAreRead, CommandsArePrinted, ScriptsAreJudged, ExtentsAreJudged, ExtentsAreRead, FirstFaultStands, TodayIsJudged, BoundsAreJudged, HeadsAreRefused, TablesAreRefused, LinesAreRefused, LastLineIsOpen, PartingIsFound, RefusalIsPrinted, RepliesArePrinted, LinesArePrinted};
+ghost use Rattle.workload_spec.specs.Examples.{HardTextIsSpelled, HardSpellingIsRead, NumbersAreRead, LeastKeyIsSpelled, NoNumbers, NoTexts, NoNull, BlobsAreRead, TruthsAreRead, WordsAreParted, ScriptIsPrinted, ScriptIsRead, CommandsAreRead, CommandsArePrinted, ScriptsAreJudged, ExtentsAreJudged, ExtentsAreRead, FirstFaultStands, BoundsAreJudged, HeadsAreRefused, TablesAreRefused, LinesAreRefused, LastLineIsOpen, PartingIsFound, RefusalIsPrinted, RepliesArePrinted, LinesArePrinted};
 
 /// A text with a quote, a backslash, control bytes and a longer character is escaped.
 pub fn a_text_is_escaped()
@@ -91,12 +91,7 @@ pub fn the_first_fault_stands_within_an_extent()
     ensures { FirstFaultStands }
 {}
 
-/// A workload of keys alone runs today, and one with more is told apart.
-pub fn workloads_of_keys_run_today()
-    ensures { TodayIsJudged }
-{}
-
-/// What runs today and the whole format are extents; one without a column, or with more than the whole, is none.
+/// The whole format and one of a column are extents; one without a column, or with more than the whole, is none.
 pub fn bounds_of_an_extent_are_judged()
     ensures { BoundsAreJudged }
 {}

@@ -1,6 +1,6 @@
 //! How much of the workload format is taken.
 ghost use Rattle.std.specs.Prelude.{◌≡◌};
-ghost use Rattle.workload_spec.specs.Extents.{whole, today};
+ghost use Rattle.workload_spec.specs.Extents.{whole};
 
 /// How much of the workload format is taken: what passes it is refused where it stands.
 #[derive(Clone, Copy, Debug)]
@@ -65,36 +65,6 @@ impl Extent {
                 compact: true,
                 seal: true,
                 gather: true,
-                export: true,
-            },
-        }
-    }
-
-    /// What runs today.
-    pub const fn today() -> Extent
-        ensures { result ≡ today }
-    {
-        Extent {
-            tables: 1,
-            columns: 1,
-            sessions: 1,
-            workers: 0,
-            turns: 0,
-            parts_rounds: false,
-            commands: Commands {
-                begin: true,
-                get: true,
-                scan: false,
-                insert: true,
-                update: false,
-                delete: false,
-                commit: true,
-                abort: false,
-                observe: false,
-                prune: false,
-                compact: false,
-                seal: false,
-                gather: false,
                 export: true,
             },
         }
