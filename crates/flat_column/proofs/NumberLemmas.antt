@@ -2,7 +2,7 @@
 use Rattle.std.proofs.Common.{◌≡◌, ℕ, zero, suc, ◌+◌, ◌-◌, ◌*◌, ◌/◌, ◌%◌, ◌^◌, ◌<◌, ◌≤◌, Bool, true, false, List, [], ◌∷◌, ◌++◌, length, take, drop, set, get_or, replicate, refl, sym, ap, ◌∙◌, subst, arith, inl, inr, Some, slice_get}
 use Rattle.std.specs.Prelude.{ℤ, pos, negsuc}
 use Rattle.std.proofs.lemmas.Int.{ints}
-use Rattle.std.proofs.lemmas.List.{replicate-append-replicate, get_or-replicate, drop_more, drop-drop, length-append, length-replicate, take_all, set_split, drop_all}
+use Rattle.std.proofs.lemmas.List.{append-nil, length-drop, replicate-append-replicate, get_or-replicate, drop_more, drop-drop, length-append, length-replicate, take_all, set_split, drop_all}
 use Rattle.std.proofs.lemmas.List.Elements.{All-set, All-append}
 use Rattle.std.proofs.lemmas.Nat.{pow_pos}
 use Rattle.std.proofs.lemmas.List.Concat.{flat_map-append}
@@ -12,9 +12,16 @@ use Rattle.std.proofs.lemmas.Bool.{lt-ltb, le-ltb}
 use Rattle.std.proofs.Math.Nat.{mul-div_right, zero-div, mul-le-mul_left}
 use Rattle.std.proofs.Math.Seq.{take-append-add, drop-append-add}
 use Rattle.std.specs.Int.{bytes_low_first}
+use borrow.Rule.Slice.PartMut.{mid_of, post_of, put_mid}
 use Rattle.std.specs.List.{All, flat_map}
 use Rattle.byteorder.specs.Numbers.{length-bytes_low_first, little_number-reads_back}
-use Rattle.flat_column.specs.Numbers.{Numbers, IsWidth, IsInRange, IsStored, twos_complement, number_bytes, numbers_bytes, value_of, first_value, values_in}
+use Rattle.arrow_spec.specs.Bytes.{number_bytes}
+use Rattle.flat_column.specs.Numbers.{Numbers, IsWidth, IsInRange, IsStored, value_of, first_value, values_in, width_of}
+use Rattle.flat_column.proofs.ArrowLemmas.{arrow_bytes, arrow_numbers, bytes_of, twos_complement}
+
+-- the bytes of numbers, one after another
+abbrev pub all_bytes : ℕ → List ℤ → List ℕ
+all_bytes width values = flat_map (bytes_of width) values
 
 -- ---- one number
 
@@ -50,13 +57,13 @@ twos_complement-lt width true (negsuc n) halves h =
 twos_complement-lt width false (pos n) halves h = omega (arith, ints)
 twos_complement-lt width false (negsuc n) halves h = absurd (omega (arith, ints))
 
-pub length-number_bytes : (width : ℕ) (value : ℤ) → length (number_bytes width value) ≡ width / 8
-length-number_bytes width value = length-bytes_low_first 0 (width / 8) (twos_complement width value)
+pub length-bytes_of : (width : ℕ) (value : ℤ) → length (bytes_of width value) ≡ width / 8
+length-bytes_of width value = length-bytes_low_first 0 (width / 8) (twos_complement width value)
 
 -- the bytes of a number are read back as the number
-pub first_value-number_bytes : (width : ℕ) (signed : Bool) (value : ℤ) (rest : List ℕ) → IsWidth width
-    → IsInRange width signed value → first_value width signed (number_bytes width value ++ rest) ≡ value
-first_value-number_bytes width signed value rest known ranged =
+pub first_value-bytes_of : (width : ℕ) (signed : Bool) (value : ℤ) (rest : List ℕ) → IsWidth width
+    → IsInRange width signed value → first_value width signed (bytes_of width value ++ rest) ≡ value
+first_value-bytes_of width signed value rest known ranged =
     let s = sized width known in
     let small : twos_complement width value < 256 ^ (width / 8) = rw s.whole (twos_complement-lt width signed value s.halves ranged) in
     ap (value_of width signed) (little_number-reads_back (width / 8) (twos_complement width value) rest small)
@@ -95,31 +102,31 @@ take-pieces f size (x ∷ xs) (suc i) each =
 pub record Holds (width : ℕ) (signed : Bool) (bytes : List ℕ) (values : List ℤ) : Type 0 where
   pub known : IsWidth width
   pub ranged : All (IsInRange width signed) values
-  pub stored : bytes ≡ numbers_bytes width values
+  pub stored : bytes ≡ all_bytes width values
 
-pub length-numbers_bytes : (width : ℕ) (values : List ℤ) → length (numbers_bytes width values) ≡ width / 8 * length values
-length-numbers_bytes width values = length-pieces (number_bytes width) (width / 8) values (length-number_bytes width)
+pub length-all_bytes : (width : ℕ) (values : List ℤ) → length (all_bytes width values) ≡ width / 8 * length values
+length-all_bytes width values = length-pieces (bytes_of width) (width / 8) values (length-bytes_of width)
 
-count_of-bytes : (width : ℕ) (values : List ℤ) → IsWidth width → length (numbers_bytes width values) / (width / 8) ≡ length values
+count_of-bytes : (width : ℕ) (values : List ℤ) → IsWidth width → length (all_bytes width values) / (width / 8) ≡ length values
 count_of-bytes width values known =
     let s = sized width known in
-    ap (λ (n : ℕ). n / (width / 8)) (length-numbers_bytes width values) ∙ mul-div_right (length values) s.bytes
+    ap (λ (n : ℕ). n / (width / 8)) (length-all_bytes width values) ∙ mul-div_right (length values) s.bytes
 
 -- the number at a place of the bytes is the one at that place of the list
 first_value-at : (width : ℕ) (signed : Bool) (values : List ℤ) (i : ℕ) (d : ℤ) → IsWidth width → All (IsInRange width signed) values
-    → i < length values → first_value width signed (drop (width / 8 * i) (numbers_bytes width values)) ≡ get_or values i d
+    → i < length values → first_value width signed (drop (width / 8 * i) (all_bytes width values)) ≡ get_or values i d
 first_value-at width signed values i d known ranged within =
     ap (first_value width signed)
-    (drop-pieces (number_bytes width) (width / 8) values i (length-number_bytes width)
-    ∙ ap (numbers_bytes width) (drop_more values i d within))
-    ∙ first_value-number_bytes width signed (get_or values i d) (numbers_bytes width (drop (i + 1) values)) known (ranged i d within)
+    (drop-pieces (bytes_of width) (width / 8) values i (length-bytes_of width)
+    ∙ ap (all_bytes width) (drop_more values i d within))
+    ∙ first_value-bytes_of width signed (get_or values i d) (all_bytes width (drop (i + 1) values)) known (ranged i d within)
 
 -- the numbers that the bytes of a list hold are the list
-pub values_in-numbers_bytes : (width : ℕ) (signed : Bool) (values : List ℤ) → IsWidth width → All (IsInRange width signed) values
-    → values_in width signed (numbers_bytes width values) ≡ values
-values_in-numbers_bytes width signed values known ranged =
-    sym (fill_by_all (λ i. first_value width signed (drop (width / 8 * i) (numbers_bytes width values))) values
-    (length (numbers_bytes width values) / (width / 8)) (pos 0) (sym (count_of-bytes width values known))
+pub values_in-all_bytes : (width : ℕ) (signed : Bool) (values : List ℤ) → IsWidth width → All (IsInRange width signed) values
+    → values_in width signed (all_bytes width values) ≡ values
+values_in-all_bytes width signed values known ranged =
+    sym (fill_by_all (λ i. first_value width signed (drop (width / 8 * i) (all_bytes width values))) values
+    (length (all_bytes width values) / (width / 8)) (pos 0) (sym (count_of-bytes width values known))
     (λ k h. sym (first_value-at width signed values k (pos 0) known ranged (let same = count_of-bytes width values known in omega arith))))
 
 -- what the fields hold is the value that they show
@@ -138,13 +145,17 @@ opened width signed bytes now view invariant =
     subst P view (record {
       width_is = refl;
       signed_is = refl;
-      holds = record { known = invariant.known; ranged = invariant.ranged; stored = invariant.stored };
+      holds = record {
+        known = invariant.known;
+        ranged = invariant.ranged;
+        stored = invariant.stored ∙ sym (arrow_numbers width (values_in width signed bytes) invariant.known);
+      };
     })
 
 pub Holds-view : (width : ℕ) (signed : Bool) (bytes : List ℕ) (values : List ℤ) → Holds width signed bytes values
     → values_in width signed bytes ≡ values
 Holds-view width signed bytes values h =
-    ap (values_in width signed) h.stored ∙ values_in-numbers_bytes width signed values h.known h.ranged
+    ap (values_in width signed) h.stored ∙ values_in-all_bytes width signed values h.known h.ranged
 
 Holds-invariant : (width : ℕ) (signed : Bool) (bytes : List ℕ) (values : List ℤ) → Holds width signed bytes values
     → IsStored width signed bytes
@@ -154,7 +165,7 @@ Holds-invariant width signed bytes values h =
     record {
       known = h.known;
       ranged = subst P (sym view) h.ranged;
-      stored = h.stored ∙ ap (numbers_bytes width) (sym view);
+      stored = h.stored ∙ ap (all_bytes width) (sym view) ∙ arrow_numbers width (values_in width signed bytes) h.known;
     }
 
 -- fields that hold a list show it, and keep the invariant
@@ -169,7 +180,7 @@ closed width signed bytes now values same_width same_signed h =
 
 pub Holds-length : (width : ℕ) (signed : Bool) (bytes : List ℕ) (values : List ℤ) → Holds width signed bytes values
     → length bytes ≡ width / 8 * length values
-Holds-length width signed bytes values h = ap length h.stored ∙ length-numbers_bytes width values
+Holds-length width signed bytes values h = ap length h.stored ∙ length-all_bytes width values
 
 -- ---- what the code does with the bytes
 
@@ -196,27 +207,27 @@ Holds-get width signed bytes values i value h within read =
     (slice_get-get_or values i (pos 0) within ∙ ap (λ (v : ℤ). Some v) (sym same), subst P (sym same) (h.ranged i (pos 0) within))
 
 pub Holds-take : (width : ℕ) (signed : Bool) (bytes : List ℕ) (values : List ℤ) (n : ℕ) → Holds width signed bytes values
-    → take (width / 8 * n) bytes ≡ numbers_bytes width (take n values)
+    → take (width / 8 * n) bytes ≡ all_bytes width (take n values)
 Holds-take width signed bytes values n h =
-    ap (take (width / 8 * n)) h.stored ∙ take-pieces (number_bytes width) (width / 8) values n (length-number_bytes width)
+    ap (take (width / 8 * n)) h.stored ∙ take-pieces (bytes_of width) (width / 8) values n (length-bytes_of width)
 
 pub Holds-set : (width : ℕ) (signed : Bool) (bytes new : List ℕ) (values : List ℤ) (i : ℕ) (value : ℤ) → Holds width signed bytes values
     → i < length values → IsInRange width signed value
-    → new ≡ take (width / 8 * i) bytes ++ (number_bytes width value ++ drop (width / 8) (drop (width / 8 * i) bytes))
+    → new ≡ take (width / 8 * i) bytes ++ (bytes_of width value ++ drop (width / 8) (drop (width / 8 * i) bytes))
     → Holds width signed new (set values i value)
 Holds-set width signed bytes new values i value h within ranged is =
-    let after : drop (width / 8) (drop (width / 8 * i) bytes) ≡ numbers_bytes width (drop (suc i) values) =
+    let after : drop (width / 8) (drop (width / 8 * i) bytes) ≡ all_bytes width (drop (suc i) values) =
     let e : width / 8 * i + width / 8 ≡ width / 8 * suc i = grind arith in
     drop-drop (width / 8) (width / 8 * i) bytes ∙ ap (λ (n : ℕ). drop n bytes) e ∙ ap (drop (width / 8 * suc i)) h.stored
-    ∙ drop-pieces (number_bytes width) (width / 8) values (suc i) (length-number_bytes width) in
+    ∙ drop-pieces (bytes_of width) (width / 8) values (suc i) (length-bytes_of width) in
     record {
       known = h.known;
       ranged = All-set (IsInRange width signed) values i value ranged h.ranged;
       stored =
-          is ∙ ap (λ (rest : List ℕ). take (width / 8 * i) bytes ++ (number_bytes width value ++ rest)) after
-          ∙ ap (λ (front : List ℕ). front ++ (number_bytes width value ++ numbers_bytes width (drop (suc i) values))) (Holds-take width signed bytes values i h)
-          ∙ sym (ap (numbers_bytes width) (set_split values i value within)
-          ∙ flat_map-append (number_bytes width) (take i values) (value ∷ drop (suc i) values));
+          is ∙ ap (λ (rest : List ℕ). take (width / 8 * i) bytes ++ (bytes_of width value ++ rest)) after
+          ∙ ap (λ (front : List ℕ). front ++ (bytes_of width value ++ all_bytes width (drop (suc i) values))) (Holds-take width signed bytes values i h)
+          ∙ sym (ap (all_bytes width) (set_split values i value within)
+          ∙ flat_map-append (bytes_of width) (take i values) (value ∷ drop (suc i) values));
     }
 
 bytes_of_zero : (i k : ℕ) → bytes_low_first i k 0 ≡ replicate k 0
@@ -226,12 +237,12 @@ bytes_of_zero (suc i) (suc k) =
     ap (λ (n : ℕ). n % 256 ∷ bytes_low_first (suc (suc i)) k 0) (zero-div (256 ^ suc i))
     ∙ ap (λ (rest : List ℕ). 0 ∷ rest) (bytes_of_zero (suc (suc i)) k)
 
-numbers_bytes-zeros : (width n : ℕ) → numbers_bytes width (replicate n (pos 0)) ≡ replicate (width / 8 * n) 0
-numbers_bytes-zeros width zero = let e : width / 8 * zero ≡ 0 = omega arith in rw e refl
-numbers_bytes-zeros width (suc n) =
+all_bytes-zeros : (width n : ℕ) → all_bytes width (replicate n (pos 0)) ≡ replicate (width / 8 * n) 0
+all_bytes-zeros width zero = let e : width / 8 * zero ≡ 0 = omega arith in rw e refl
+all_bytes-zeros width (suc n) =
     let e : width / 8 + width / 8 * n ≡ width / 8 * suc n = grind arith in
-    ap (λ (first : List ℕ). first ++ numbers_bytes width (replicate n (pos 0))) (bytes_of_zero 0 (width / 8))
-    ∙ ap (λ (rest : List ℕ). replicate (width / 8) 0 ++ rest) (numbers_bytes-zeros width n)
+    ap (λ (first : List ℕ). first ++ all_bytes width (replicate n (pos 0))) (bytes_of_zero 0 (width / 8))
+    ∙ ap (λ (rest : List ℕ). replicate (width / 8) 0 ++ rest) (all_bytes-zeros width n)
     ∙ replicate-append-replicate (width / 8) (width / 8 * n) 0 ∙ ap (λ (k : ℕ). replicate {A = ℕ} k 0) e
 
 IsInRange-zero : (width : ℕ) (signed : Bool) → IsInRange width signed (pos 0)
@@ -256,14 +267,24 @@ Holds-extended width signed bytes new values n size len h at long grown =
       ranged = All-append (IsInRange width signed) values (replicate n (pos 0)) h.ranged (All-zeros width signed n);
       stored =
           grown ∙ ap (λ (front : List ℕ). front ++ replicate (size - len) 0) (take_all size bytes (omega arith) ∙ h.stored)
-          ∙ ap (λ (k : ℕ). numbers_bytes width values ++ replicate k 0) more
-          ∙ ap (λ (rest : List ℕ). numbers_bytes width values ++ rest) (sym (numbers_bytes-zeros width n))
-          ∙ sym (flat_map-append (number_bytes width) values (replicate n (pos 0)));
+          ∙ ap (λ (k : ℕ). all_bytes width values ++ replicate k 0) more
+          ∙ ap (λ (rest : List ℕ). all_bytes width values ++ rest) (sym (all_bytes-zeros width n))
+          ∙ sym (flat_map-append (bytes_of width) values (replicate n (pos 0)));
     }
 
 -- what the code wrote, at the width and with the number that the list shows
-pub written : (new slice bytes : List ℕ) (at place width known : ℕ) (passed value : ℤ)
-    → new ≡ take at slice ++ (number_bytes width passed ++ drop (width / 8) (drop at slice))
+pub written : (new slice bytes : List ℕ) (at place width known : ℕ) (passed value : ℤ) → IsWidth known
+    → new ≡ take at slice ++ (number_bytes (width_of width) passed ++ drop (width / 8) (drop at slice))
     → slice ≡ bytes → at ≡ place → width ≡ known → passed ≡ value
-    → new ≡ take place bytes ++ (number_bytes known value ++ drop (known / 8) (drop place bytes))
-written new slice bytes at place width known passed value is same there wide given = rw (is, same, there, wide, given) refl
+    → new ≡ take place bytes ++ (bytes_of known value ++ drop (known / 8) (drop place bytes))
+written new slice bytes at place width known passed value is_width is same there wide given =
+    rw (is, same, there, wide, given, arrow_bytes known value is_width) refl
+
+-- what was written to a slice from a place on
+pub put_at : (bytes new number : List ℕ) (at k size : ℕ) → at ≤ length bytes → at + k ≡ length bytes → new ≡ number ++ drop size (mid_of at k bytes)
+    → put_mid at k bytes new ≡ take at bytes ++ (number ++ drop size (drop at bytes))
+put_at bytes new number at k size within all is =
+    let middle : mid_of at k bytes ≡ drop at bytes = take_all k (drop at bytes) (omega (arith, length-drop at bytes)) in
+    let behind : post_of at k bytes ≡ [] = drop_all k (drop at bytes) (omega (arith, length-drop at bytes)) in
+    ap (λ (rest : List ℕ). take at bytes ++ (new ++ rest)) behind ∙ ap (λ (l : List ℕ). take at bytes ++ l) (append-nil new)
+    ∙ ap (λ (l : List ℕ). take at bytes ++ l) (is ∙ ap (λ (l : List ℕ). number ++ drop size l) middle)

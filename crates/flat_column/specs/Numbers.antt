@@ -1,7 +1,8 @@
-use Rattle.std.specs.Prelude.{◌≡◌, ℕ, ◌-◌, ◌*◌, ◌/◌, ◌^◌, ◌≤ℤ◌, ◌<ℤ◌, ◌⊎◌, Bool, true, false, nat_lt, if◌then◌else◌, ℤ, pos, negsuc, neg_ℤ, suc, List, length, map, drop}
-use Rattle.std.specs.Int.{bytes_low_first}
+use Rattle.std.specs.Prelude.{◌≡◌, ℕ, ◌==◌, ◌-◌, ◌*◌, ◌/◌, ◌^◌, ◌≤ℤ◌, ◌<ℤ◌, ◌⊎◌, Bool, true, false, nat_lt, if◌then◌else◌, ℤ, pos, negsuc, neg_ℤ, suc, List, length, map, drop}
+use Rattle.std.specs.Int.{Width, w8, w16, w32, w64}
 use Rattle.std.specs.List.{All, flat_map, range_with_len}
 use Rattle.byteorder.specs.Endian.{little_number}
+use Rattle.arrow_spec.specs.Bytes.{number_bytes}
 
 -- a list of numbers of one width in bits, signed or not
 pub record Numbers : Type 0 where
@@ -18,18 +19,13 @@ abbrev pub IsInRange : ℕ → Bool → ℤ → Type 0
 IsInRange width true value = (neg_ℤ (pos (2 ^ (width - 1))) ≤ℤ value) × (value <ℤ pos (2 ^ (width - 1)))
 IsInRange width false value = (pos 0 ≤ℤ value) × (value <ℤ pos (2 ^ width))
 
--- a number's two's complement at a width
-abbrev pub twos_complement : ℕ → ℤ → ℕ
-twos_complement width (pos n) = n
-twos_complement width (negsuc n) = 2 ^ width - suc n
-
--- a number's bytes at a width: those of its two's complement, the lowest first
-abbrev pub number_bytes : ℕ → ℤ → List ℕ
-number_bytes width value = bytes_low_first 0 (width / 8) (twos_complement width value)
+-- the width of so many bits
+abbrev pub width_of : ℕ → Width
+width_of width = if width == 8 then w8 else if width == 16 then w16 else if width == 32 then w32 else w64
 
 -- the bytes of a list of numbers, one after the other
 abbrev pub numbers_bytes : ℕ → List ℤ → List ℕ
-numbers_bytes width values = flat_map (number_bytes width) values
+numbers_bytes width values = flat_map (number_bytes (width_of width)) values
 
 -- the number whose two's complement at a width is n, signed or not
 abbrev pub value_of : ℕ → Bool → ℕ → ℤ

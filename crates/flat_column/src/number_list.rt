@@ -3,8 +3,8 @@
 ghost use Rattle.std.specs.Prelude.{◌≡◌, ◌+◌, ◌*◌, ◌<◌, ◌≤◌, ◌/◌, ◌++◌, ◌↔◌, pos, IfOk, IsTrue, OnErr, OnOk, Some, drop, length, replicate, slice_get, slice_set, take};
 ghost use Rattle.std.specs.Int.{Width, byte_len};
 ghost use Rattle.std.specs.List.{flat_map};
-ghost use Rattle.arrow_spec.specs.Bytes.{number_bytes as arrow_bytes};
-ghost use Rattle.flat_column.specs.Numbers.{IsInRange, IsWidth, first_value, number_bytes, numbers_bytes};
+ghost use Rattle.arrow_spec.specs.Bytes.{number_bytes};
+ghost use Rattle.flat_column.specs.Numbers.{IsInRange, IsWidth, first_value, numbers_bytes, width_of};
 
 use byteorder::{ByteOrder, LittleEndian};
 use std::alloc::{AllocError, Global};
@@ -147,7 +147,7 @@ impl Fixed {
         requires { n ≤ length self.now.values }
         ensures bytes { result.now ≡ numbers_bytes self.now.width (take n self.now.values) }
         ensures arrow { (width : Width) → self.now.width ≡ 8 * byte_len width →
-            result.now ≡ flat_map (arrow_bytes width) (take n self.now.values) }
+            result.now ≡ flat_map (number_bytes width) (take n self.now.values) }
     {
         let (bytes, _) = self.bytes.as_slice().split_at(self.size() * n);
         bytes
@@ -195,7 +195,7 @@ fn put_number_at(bytes: &mut [u8], at: usize, width: u32, signed: bool, value: i
     requires room { at + width / 8 ≤ length bytes.old }
     requires in_range { IsInRange width signed value }
     ensures { bytes.new ≡
-        take at bytes.old ++ (number_bytes width value ++ drop (width / 8) (drop at bytes.old)) }
+        take at bytes.old ++ (number_bytes (width_of width) value ++ drop (width / 8) (drop at bytes.old)) }
 {
     put_number(&mut bytes[at..], width, signed, value);
 }
@@ -204,7 +204,7 @@ fn put_number(bytes: &mut [u8], width: u32, signed: bool, value: i128)
     requires known { IsWidth width }
     requires room { width / 8 ≤ length bytes.old }
     requires in_range { IsInRange width signed value }
-    ensures { bytes.new ≡ number_bytes width value ++ drop (width / 8) bytes.old }
+    ensures { bytes.new ≡ number_bytes (width_of width) value ++ drop (width / 8) bytes.old }
 {
     match (width, signed) {
         (8, false) => bytes[0] = value as u8,

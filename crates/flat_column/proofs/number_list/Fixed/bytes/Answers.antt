@@ -1,9 +1,8 @@
 use Rattle.std.proofs.Common.{◌≡◌, ℕ, ◌*◌, ◌/◌, length, take, ap, ◌∙◌, arith}
 use Rattle.std.specs.Int.{byte_len}
 use Rattle.std.specs.List.{flat_map}
-use Rattle.arrow_spec.specs.Bytes.{number_bytes as arrow_bytes}
-use Rattle.flat_column.specs.Numbers.{number_bytes}
-use Rattle.flat_column.proofs.ArrowLemmas.{arrow_number, flat_map-same}
+use Rattle.arrow_spec.specs.Bytes.{number_bytes}
+use Rattle.flat_column.proofs.ArrowLemmas.{arrow_number, arrow_numbers, bytes_of, flat_map-same}
 use Rattle.flat_column.proofs.NumberLemmas.{opened, Holds-front, Holds-take}
 use Rattle.flat_column.proofs.number_list.Fixed.bytes.Goals as goal
 
@@ -24,16 +23,21 @@ split_at-requires c =
     let same = ap length c.as_slice.ensures.value in
     omega arith
 
-pub returns-clause-bytes : goal.returns-clause-bytes
-returns-clause-bytes c =
+front : (c : goal.After-bytes-1) → c.split_at.result.0.now ≡ flat_map (bytes_of c.args.self.now.width) (take c.args.n c.args.self.now.values)
+front c =
     let o = opened c.self.inside.width c.self.inside.signed c.self.inside.bytes.items c.args.self.now c.self.view_is c.self.invariant in
     let at : c.size.result * c.args.n ≡ c.args.self.now.width / 8 * c.args.n = ap (λ (n : ℕ). n * c.args.n) c.size.ensures in
     c.split_at.ensures.front ∙ ap (take (c.size.result * c.args.n)) c.as_slice.ensures.value
     ∙ ap (λ (n : ℕ). take n c.self.inside.bytes.items) at
     ∙ Holds-take c.args.self.now.width c.args.self.now.signed c.self.inside.bytes.items c.args.self.now.values c.args.n o.holds
 
+pub returns-clause-bytes : goal.returns-clause-bytes
+returns-clause-bytes c =
+    let o = opened c.self.inside.width c.self.inside.signed c.self.inside.bytes.items c.args.self.now c.self.view_is c.self.invariant in
+    front c ∙ arrow_numbers c.args.self.now.width (take c.args.n c.args.self.now.values) o.holds.known
+
 pub returns-clause-arrow : goal.returns-clause-arrow
 returns-clause-arrow c = λ width same.
-    returns-clause-bytes c
-    ∙ ap (λ (w : ℕ). flat_map (number_bytes w) (take c.args.n c.args.self.now.values)) same
-    ∙ flat_map-same (number_bytes (8 * byte_len width)) (arrow_bytes width) (arrow_number width) (take c.args.n c.args.self.now.values)
+    front c
+    ∙ ap (λ (w : ℕ). flat_map (bytes_of w) (take c.args.n c.args.self.now.values)) same
+    ∙ flat_map-same (bytes_of (8 * byte_len width)) (number_bytes width) (arrow_number width) (take c.args.n c.args.self.now.values)

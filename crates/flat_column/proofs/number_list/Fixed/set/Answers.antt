@@ -32,7 +32,7 @@ put c =
     c.args.self.now.values c.args.index c.args.value o.holds c.requires.at c.requires.in_range
     (with_items_is c.self.inside.bytes c.put_number_at.new.bytes kept
     ∙ written c.put_number_at.new.bytes c.as_mut_slice.result.now c.self.inside.bytes.items (c.size.result * c.args.index)
-    (c.args.self.now.width / 8 * c.args.index) c.self.inside.width c.args.self.now.width _ c.args.value
+    (c.args.self.now.width / 8 * c.args.index) c.self.inside.width c.args.self.now.width _ c.args.value o.holds.known
     c.put_number_at.ensures c.as_mut_slice.ensures.value at o.width_is (to_z-of_z _ c.args.value c.ranges.value))
 
 pub invariant_of-self : goal.invariant_of-self
