@@ -22,5 +22,5 @@ pub mod Narrows
 pub mod NarrowTables
 pub mod NarrowRounds
 pub mod NarrowScripts
-pub mod SupportedBytes
+pub mod ValidBytes
 pub mod OneGrammar

@@ -7,7 +7,6 @@ use Rattle.workload_spec.specs.Extents.{RunsWithin, is_extent}
 use Rattle.workload_spec.specs.Grammar.{read_with, script_of}
 use Rattle.workload_spec.specs.ScriptText.{script_text}
 use Rattle.workload_spec.specs.Valid.{is_valid}
-use Rattle.workload_laws.specs.Bytes.{writes_only_bytes}
 
 -- Bytes are read within an extent as a script exactly where the whole format reads them as it and it runs within
 -- the extent.
@@ -15,11 +14,10 @@ abbrev pub ReadWithinIsRead : Type 0
 ReadWithinIsRead = (extent : Extent) (bytes : List ℕ) (script : Script) → is_extent extent ≡ true
     → (read_with extent bytes ≡ Ok script) ↔ ((script_of bytes ≡ Ok script) × RunsWithin extent script)
 
--- What stands in a workload's text: it is a workload within the extent, whose cells of bytes have bytes.
+-- What stands in a workload's text: it is a workload within the extent.
 pub record IsWorkloadWithin (extent : Extent) (script : Script) : Type 0 where
   pub valid : is_valid script ≡ true
   pub within : RunsWithin extent script
-  pub bytes : writes_only_bytes script ≡ true
 
 -- Bytes that are read within an extent as a script are its text, and the script is a workload within the extent.
 abbrev pub ReadIsText : Type 0
