@@ -2,7 +2,7 @@
 use Rattle.std.proofs.Common.{◌≡◌, ◌≢◌, ℕ, zero, suc, ◌+◌, ◌-◌, ◌*◌, ◌/◌, ◌%◌, ◌^◌, ◌<◌, ◌≤◌, Bool, true, false, cond, eqb, List, [], ◌∷◌, ◌++◌, length, map, take, drop, set, get_or, replicate, refl, sym, ap, ◌∙◌, arith, bit_and, bit_or, w8, subst, inl, inr, min, add_comm}
 use Rattle.std.proofs.lemmas.Grind.{common_steps}
 use Rattle.std.proofs.lemmas.List.{set_past, take_all, length-take-le, length_push, get_or_push, length-map, drop-drop, ext_get_or, get_or_past, get_or-take, get_or-drop, length-take, get_or-set_same, get_or-set_other, length-set, length-append, length-replicate, get_or-replicate, get_or_append_left, get_or-append_right}
-use Rattle.std.proofs.lemmas.List.FromFn.{length-map-range_with_len, fill_by_all}
+use Rattle.std.proofs.lemmas.List.FromFn.{fill_by_all, get_or-map-range_with_len, length-map-range_with_len, take-map-range_with_len}
 use Rattle.std.proofs.lemmas.Nat.Bits.{shr_and_one, bit_at-lt, bit_at_lowest, bit_at-suc, bit_at-zero, bit_at_set_same, bit_at_set_other, bit_at_clear_same, bit_at_clear_other, bit_at_and, bit_at_ones, bit_at_ones_above, same_from_bits_below}
 use Rattle.std.proofs.lemmas.Option.{slice_get-get_or}
 use Rattle.std.proofs.lemmas.Bool.{cases_lt, cases_eq}
@@ -424,6 +424,21 @@ count-from_All (true ∷ bits) all =
 count-from_All (false ∷ bits) all =
     let first : false ≡ true = all 0 true (omega arith) in
     absurd (cc)
+
+-- ---- lent bytes
+
+-- bytes are the bitmap of all their bits
+pub whole_bits : (bytes : List ℕ) → AreBytes bytes → bytes ≡ bitmap (bitmap_bits bytes (8 * length bytes))
+whole_bits bytes are =
+    let bits = bitmap_bits bytes (8 * length bytes) in
+    let many : length bits ≡ 8 * length bytes = length-map-range_with_len (bitmap_bit bytes) 0 (8 * length bytes) in
+    let long : length (bitmap bits) ≡ length bytes = length-bitmap bits ∙ omega (arith, many) in
+    same_bitmaps bytes (bitmap bits) (sym long) are (AreBytes-bitmap bits)
+    (λ i below. sym (bitmap_bit-bitmap bits i ∙ get_or-map-range_with_len (bitmap_bit bytes) 0 (8 * length bytes) i i false below (omega arith)))
+
+-- the first of all bits are the first bits
+pub take_bits : (bytes : List ℕ) (n m : ℕ) → n ≤ m → take n (bitmap_bits bytes m) ≡ bitmap_bits bytes n
+take_bits bytes n m within = take-map-range_with_len (bitmap_bit bytes) 0 m n within
 
 -- ---- the fields of `Bits`
 

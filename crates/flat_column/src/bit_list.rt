@@ -1,8 +1,8 @@
 //! A list of bits as an Arrow bitmap.
 
-ghost use Rattle.std.specs.Prelude.{◌≡◌, ℕ, [], slice_index_or, ◌<◌, ◌≤◌, ◌^◌, ◌++◌, ◌↔◌, false, IfOk, IsTrue, OnErr, OnOk, Some, count_ones, length, replicate, slice_get, slice_set, take};
+ghost use Rattle.std.specs.Prelude.{◌≡◌, ◌*◌, ℕ, [], slice_index_or, ◌<◌, ◌≤◌, ◌^◌, ◌++◌, ◌↔◌, false, IfOk, IsTrue, OnErr, OnOk, Some, count_ones, length, replicate, slice_get, slice_set, take};
 ghost use Rattle.std.specs.List.{All, count_by, sum_by};
-ghost use Rattle.flat_column.specs.Bitmap.{AreBytes, PutsBit};
+ghost use Rattle.flat_column.specs.Bitmap.{AreBytes, PutsBit, bitmap_bits};
 ghost use Rattle.arrow_spec.specs.Bytes.{bitmap};
 
 use std::alloc::{AllocError, Global};
@@ -96,13 +96,7 @@ impl Bits {
         requires { n ≤ length self.now }
         ensures { result ≡ count_by (λ bit. bit) (take n self.now) }
     {
-        let (whole, _) = self.bytes.as_slice().split_at(n / 8);
-        let front = ones(whole);
-        if n % 8 == 0 {
-            return front;
-        }
-        let last = self.bytes[n / 8] & ((1 << (n % 8)) - 1);
-        front + last.count_ones() as usize
+        ones_among(self.bytes.as_slice(), n)
     }
 
     /// Whether every bit is a one.
@@ -146,6 +140,20 @@ fn with_bit(byte: u8, place: usize, bit: bool) -> u8
 {
     let mask = 1 << place;
     if bit { byte | mask } else { byte & !mask }
+}
+
+/// How many of the first `n` bits of a lent bitmap are ones.
+pub fn ones_among(bitmap: &[u8], n: usize) -> usize
+    requires { n ≤ 8 * length bitmap.now }
+    ensures { result ≡ count_by (λ bit. bit) (bitmap_bits bitmap.now n) }
+{
+    let (whole, _) = bitmap.split_at(n / 8);
+    let front = ones(whole);
+    if n % 8 == 0 {
+        return front;
+    }
+    let last = bitmap[n / 8] & ((1 << (n % 8)) - 1);
+    front + last.count_ones() as usize
 }
 
 // How many bits of all bytes are ones.

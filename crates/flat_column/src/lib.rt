@@ -4,7 +4,7 @@
 mod bit_list;
 mod number_list;
 
-pub use bit_list::Bits;
+pub use bit_list::{Bits, ones_among};
 pub use number_list::Fixed;
 
 #[cfg(test)]
