@@ -1,1 +1,5 @@
 pub mod Upkeep
+pub mod Shown
+pub mod Readers
+pub mod Replies
+pub mod Examples

@@ -1,11 +1,17 @@
 //! The lines that answer a workload, as text: replies, and the refusal of what is no workload.
 #![tactic(auto)]
 
+pub mod examples;
 pub mod lines;
+mod pieces;
+mod reading;
 pub mod refusal;
+mod rows;
 mod said;
+mod shapes;
 
 pub use lines::{print_line, put_line};
+pub use reading::read_line;
 pub use refusal::put_refusal;
 
 #[cfg(test)]

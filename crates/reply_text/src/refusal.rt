@@ -6,8 +6,8 @@ use std::alloc::AllocError;
 use word_text::put_number;
 use workload_spec::Cause;
 
-/// Puts the line of a refusal behind `out`: `refused`, the first line that is none of a workload, counted from 1,
-/// and why.
+/// Puts the line of a refusal behind `out`: `refused`, the first line that is none of a workload,
+/// counted from 1, and why.
 pub fn put_refusal(out: &mut Vec<u8>, line: u64, cause: Cause) -> Result<(), AllocError>
     ensures { OnOk result (out.new.items ≡ out.old.items ++ refused_text (record { line = line; cause = cause })) }
 {

@@ -98,7 +98,8 @@ fn put_dirty(out: &mut Vec<u8>, key: i64) -> Result<(), AllocError>
     put_key(out, key)
 }
 
-/// Words, which begin with their space, and behind them a table's name, a block, and the block's stamp or rows.
+/// Words, which begin with their space, and behind them a table's name, a block, and the block's
+/// stamp or rows.
 fn put_block(
     out: &mut Vec<u8>,
     words: &[u8],

@@ -1,0 +1,279 @@
+-- What a reply over tables says is read back from its words.
+use Rattle.std.proofs.Common.{◌≡◌, ℕ, ◌^◌, ◌<◌, Bool, true, false, List, [], ◌∷◌, ◌++◌, length, map, refl, ap, ◌∙◌, arith}
+use Rattle.std.specs.Prelude.{◌&&◌, ◌==◌, Option, Some, None, option_map, codes, decimal, ℤ}
+use Rattle.std.specs.Fmt.{signed_decimal}
+use Rattle.std.specs.Option.{option_map_or}
+use Rattle.std.specs.List.{list_all}
+use Rattle.std.proofs.lemmas.Bool.{ltb-true, ne_eqb, eq-eqb}
+use Rattle.cell_model.specs.declared.cell.Cell.{Cell}
+use Rattle.cell_model.specs.declared.table.TableDecl.{TableDecl}
+use Rattle.workload_spec.specs.declared.reply.Said.{Said}
+use Rattle.workload_spec.specs.declared.reply.Said.TheVariants as said
+use Rattle.workload_spec.specs.declared.reply.SealCause.TheVariants.{Phase, Head, Empty, Gaps, Versions, Hot, Last}
+use Rattle.workload_spec.specs.declared.script.Cause.TheVariants as cause
+use Rattle.workload_spec.specs.Words.{spaced, line_feed, lines_text, cell_words}
+use Rattle.workload_spec.specs.Reading.{parts}
+use Rattle.workload_spec.specs.ScriptText.{name_of_table}
+use Rattle.workload_spec.specs.ReplyText.{said_words, lines_behind, row_line}
+use Rattle.workload_spec.specs.Valid.{is_table, have_own_names, is_table_place, is_key_number}
+use Rattle.workload_laws.proofs.Lists.{both}
+use Rattle.workload_laws.proofs.Results.{some_of}
+use Rattle.workload_laws.proofs.Apart.{is_plain, is_whole, plain_word, whole_append}
+use Rattle.workload_laws.proofs.Numbers.{Begins, decimal_begins, decimal_plain, signed_plain, key_small}
+use Rattle.workload_laws.proofs.ColumnsBack.{name_bytes}
+use Rattle.workload_laws.proofs.TablesBack.{table_parts}
+use Rattle.workload_laws.proofs.CommandsBack.{place_stands}
+use Rattle.reply_text.specs.Shown.{is_u32, is_u64, is_row, is_said, are_tables}
+use Rattle.reply_text.specs.Readers.{◌>>=◌, where_true, behind, cut, u64_in, u32_in, key_in, table_in, row_in, rows_in, answer_in, refusal_in, block_in, exported_in, counts, places, opened_in, found_in, first_of, said_in, scanned_in, told_in}
+use Rattle.reply_text.proofs.PieceLemmas.{gives, cut_back, plain_apart}
+use Rattle.reply_text.proofs.Spelled.{u64_back, u32_back, key_back}
+use Rattle.reply_text.proofs.RowsBack.{row_back, row_whole, lines_back}
+
+pub u32_small : (n : ℕ) → is_u32 n ≡ true → n < 2 ^ 64
+u32_small n fits = let below : n < 2 ^ 32 = ltb-true n (2 ^ 32) fits in omega (arith, below)
+
+pub u64_plain : (n : ℕ) → is_u64 n ≡ true → list_all is_plain (decimal n) ≡ true
+u64_plain n fits = decimal_plain n (ltb-true n (2 ^ 64) fits)
+
+pub u32_plain : (n : ℕ) → is_u32 n ≡ true → list_all is_plain (decimal n) ≡ true
+u32_plain n fits = decimal_plain n (u32_small n fits)
+
+-- a plain word ends at the space behind it
+pub word_cut : (word rest : List ℕ) → list_all is_plain word ≡ true → cut 32 (word ++ 32 ∷ rest) ≡ Some (word, rest)
+word_cut word rest plain = cut_back 32 word rest (plain_apart word plain)
+
+-- Which of the readers a reply's bytes come to.
+
+passed_by : (one other : Option Said) → one ≡ None → first_of one other ≡ other
+passed_by one other none = ap (λ (o : Option Said). first_of o other) none
+
+-- the bytes are no scan's first line and no reply of words alone
+abbrev IsOther : List ℕ → Type 0
+IsOther bytes = (behind (codes "rows ") bytes ≡ None) × (answer_in bytes ≡ None) × (refusal_in bytes ≡ None)
+
+said_of : (tables : List TableDecl) (bytes : List ℕ) → IsOther bytes → told_in tables bytes [] ≡ first_of (opened_in counts bytes) (first_of (opened_in (places tables) bytes) (found_in bytes))
+said_of tables bytes other =
+    ap (λ (o : Option (List ℕ)). elim o as (λ x. Option Said) [ Some word ↦ scanned_in word [] | None ↦ said_in tables bytes ]) other.0
+    ∙ passed_by (answer_in bytes) _ other.1 ∙ passed_by (refusal_in bytes) _ other.2
+
+counted : (tables : List TableDecl) (bytes : List ℕ) (told : Said) → IsOther bytes → opened_in counts bytes ≡ Some told → told_in tables bytes [] ≡ Some told
+counted tables bytes told other is = said_of tables bytes other ∙ ap (λ (o : Option Said). first_of o (first_of (opened_in (places tables) bytes) (found_in bytes))) is
+
+placed : (tables : List TableDecl) (bytes : List ℕ) (told : Said) → IsOther bytes → opened_in counts bytes ≡ None → opened_in (places tables) bytes ≡ Some told → told_in tables bytes [] ≡ Some told
+placed tables bytes told other none is =
+    said_of tables bytes other ∙ passed_by (opened_in counts bytes) _ none ∙ ap (λ (o : Option Said). first_of o (found_in bytes)) is
+
+-- Replies of one number.
+
+number_back : (tables : List TableDecl) (front : List ℕ) (make : ℕ → Said) (n : ℕ) → is_u64 n ≡ true → IsOther (front ++ decimal n) → opened_in counts (front ++ decimal n) ≡ option_map make (u64_in (decimal n))
+    → told_in tables (front ++ decimal n) [] ≡ Some (make n)
+number_back tables front make n fits other opens = counted tables (front ++ decimal n) (make n) other (opens ∙ ap (option_map make) (u64_back n fits))
+
+session_back : (tables : List TableDecl) (n : ℕ) → is_u32 n ≡ true → told_in tables (codes "conflict session " ++ decimal n) [] ≡ Some (said.ConflictSession n)
+session_back tables n fits =
+    counted tables (codes "conflict session " ++ decimal n) (said.ConflictSession n) (refl, refl, refl)
+    (let opens : opened_in counts (codes "conflict session " ++ decimal n) ≡ option_map said.ConflictSession (u32_in (decimal n)) = refl in opens ∙ ap (option_map said.ConflictSession) (u32_back n fits))
+
+dirty_back : (tables : List TableDecl) (key : ℤ) → is_key_number key ≡ true → told_in tables (codes "dirty " ++ signed_decimal key) [] ≡ Some (said.Dirty key)
+dirty_back tables key fits =
+    counted tables (codes "dirty " ++ signed_decimal key) (said.Dirty key) (refl, refl, refl)
+    (let opens : opened_in counts (codes "dirty " ++ signed_decimal key) ≡ option_map said.Dirty (key_in (signed_decimal key)) = refl in opens ∙ ap (option_map said.Dirty) (key_back key fits))
+
+-- a number is no dash
+no_dash : (word : List ℕ) → Begins word → answer_in (codes "committed " ++ word) ≡ None
+no_dash [] begins = absurd (let e = begins.is in cc)
+no_dash (first ∷ rest) begins =
+    let same : first ≡ begins.first = (let e = begins.is in cc) in
+    let other : 45 == first ≡ false = ne_eqb 45 first (λ e. omega (arith, e, same, begins.least)) in
+    rw other refl
+
+committed_back : (tables : List TableDecl) (n : ℕ) → is_u64 n ≡ true → told_in tables (codes "committed " ++ decimal n) [] ≡ Some (said.Committed (Some n))
+committed_back tables n fits =
+    number_back tables (codes "committed ") (λ k. said.Committed (Some k)) n fits (refl, no_dash (decimal n) (decimal_begins n (ltb-true n (2 ^ 64) fits)), refl) refl
+
+-- Replies on blocks and exports.
+
+-- a table's name, which is found at its place
+record IsNamed (tables : List TableDecl) (place : ℕ) : Type 0 where
+  plain : list_all is_plain (name_of_table tables place) ≡ true
+  found : table_in tables (name_of_table tables place) ≡ Some place
+
+name_back : (tables : List TableDecl) (place : ℕ) → are_tables tables ≡ true → is_table_place tables place ≡ true → IsNamed tables place
+name_back tables place are is =
+    let b = both (list_all is_table tables) (have_own_names tables) are in
+    let s = place_stands tables place b.0 b.1 is in
+    let name : name_of_table tables place ≡ s.table.name = ap (λ (o : Option TableDecl). option_map_or (λ (t : TableDecl). t.name) o []) s.at in
+    record {
+      plain = ap (list_all is_plain) name ∙ (name_bytes s.table.name (table_parts s.table s.is).named).plain;
+      found = some_of cause.Unknown (table_in tables (name_of_table tables place)) place s.named;
+    }
+
+record AreBlock (tables : List TableDecl) (table block number : ℕ) : Type 0 where
+  table_fits : is_table_place tables table ≡ true
+  block_fits : is_u32 block ≡ true
+  number_fits : is_u32 number ≡ true
+
+block_parts : (tables : List TableDecl) (table block number : ℕ) → (is_table_place tables table && is_u32 block && is_u32 number) ≡ true → AreBlock tables table block number
+block_parts tables table block number fits =
+    let b = both (is_table_place tables table && is_u32 block) (is_u32 number) fits in
+    let t = both (is_table_place tables table) (is_u32 block) b.0 in
+    record { table_fits = t.0; block_fits = t.1; number_fits = b.1 }
+
+-- the words of a block
+abbrev block_text : List TableDecl → ℕ → ℕ → ℕ → List ℕ
+block_text tables table block number = name_of_table tables table ++ 32 ∷ (decimal block ++ 32 ∷ decimal number)
+
+block_back : (tables : List TableDecl) (make : ℕ → ℕ → ℕ → Said) (table block number : ℕ) → are_tables tables ≡ true → AreBlock tables table block number
+    → block_in tables make (block_text tables table block number) ≡ Some (make table block number)
+block_back tables make table block number are parts =
+    let n = name_back tables table are parts.table_fits in
+    gives (cut 32 (block_text tables table block number)) _ (Some (make table block number)) (name_of_table tables table, decimal block ++ 32 ∷ decimal number) (word_cut (name_of_table tables table) (decimal block ++ 32 ∷ decimal number) n.plain)
+    (gives (table_in tables (name_of_table tables table)) _ (Some (make table block number)) table n.found
+    (gives (cut 32 (decimal block ++ 32 ∷ decimal number)) _ (Some (make table block number)) (decimal block, decimal number) (word_cut (decimal block) (decimal number) (u32_plain block parts.block_fits))
+    (gives (u32_in (decimal block)) _ (Some (make table block number)) block (u32_back block parts.block_fits)
+    (gives (u32_in (decimal number)) _ (Some (make table block number)) number (u32_back number parts.number_fits) refl))))
+
+record AreExport (number rows batches frozen : ℕ) : Type 0 where
+  number_fits : is_u64 number ≡ true
+  rows_fit : is_u64 rows ≡ true
+  batches_fit : is_u32 batches ≡ true
+  frozen_fit : is_u32 frozen ≡ true
+
+export_parts : (number rows batches frozen : ℕ) → (is_u64 number && is_u64 rows && is_u32 batches && is_u32 frozen) ≡ true → AreExport number rows batches frozen
+export_parts number rows batches frozen fits =
+    let b = both (is_u64 number && is_u64 rows && is_u32 batches) (is_u32 frozen) fits in
+    let c = both (is_u64 number && is_u64 rows) (is_u32 batches) b.0 in
+    let d = both (is_u64 number) (is_u64 rows) c.0 in
+    record { number_fits = d.0; rows_fit = d.1; batches_fit = c.1; frozen_fit = b.1 }
+
+-- the words of an export behind its first number, its rows and its batches
+abbrev frozen_text : ℕ → List ℕ
+frozen_text frozen = codes "frozen " ++ decimal frozen
+
+abbrev batches_text : ℕ → ℕ → List ℕ
+batches_text batches frozen = codes "batches " ++ (decimal batches ++ 32 ∷ frozen_text frozen)
+
+abbrev rows_text : ℕ → ℕ → ℕ → List ℕ
+rows_text rows batches frozen = codes "rows " ++ (decimal rows ++ 32 ∷ batches_text batches frozen)
+
+export_back : (number rows batches frozen : ℕ) → AreExport number rows batches frozen → exported_in (decimal number ++ 32 ∷ rows_text rows batches frozen) ≡ Some (said.Exported number rows batches frozen)
+export_back number rows batches frozen fits =
+    let told : Option Said = Some (said.Exported number rows batches frozen) in
+    gives (cut 32 (decimal number ++ 32 ∷ rows_text rows batches frozen)) _ told (decimal number, rows_text rows batches frozen) (word_cut (decimal number) (rows_text rows batches frozen) (u64_plain number fits.number_fits))
+    (gives (u64_in (decimal number)) _ told number (u64_back number fits.number_fits)
+    (gives (cut 32 (decimal rows ++ 32 ∷ batches_text batches frozen)) _ told (decimal rows, batches_text batches frozen) (word_cut (decimal rows) (batches_text batches frozen) (u64_plain rows fits.rows_fit))
+    (gives (u64_in (decimal rows)) _ told rows (u64_back rows fits.rows_fit)
+    (gives (cut 32 (decimal batches ++ 32 ∷ frozen_text frozen)) _ told (decimal batches, frozen_text frozen) (word_cut (decimal batches) (frozen_text frozen) (u32_plain batches fits.batches_fit))
+    (gives (u32_in (decimal batches)) _ told batches (u32_back batches fits.batches_fit)
+    (gives (u32_in (decimal frozen)) _ told frozen (u32_back frozen fits.frozen_fit) refl))))))
+
+-- Replies with rows.
+
+row_said : (tables : List TableDecl) (row : List Cell) → is_row row ≡ true → told_in tables (spaced (codes "row" ∷ cell_words row)) [] ≡ Some (said.Found row)
+row_said tables [] fits = absurd cc
+row_said tables (key ∷ cells) fits =
+    let bytes : List ℕ = spaced (codes "row" ∷ cell_words (key ∷ cells)) in
+    let opens : found_in bytes ≡ option_map said.Found (row_in (spaced (cell_words (key ∷ cells)))) = refl in
+    said_of tables bytes (refl, refl, refl) ∙ passed_by (opened_in counts bytes) _ refl ∙ passed_by (opened_in (places tables) bytes) _ refl ∙ opens ∙ ap (option_map said.Found) (row_back (key ∷ cells) fits)
+
+scan_said : (tables : List TableDecl) (rows : List (List Cell)) → (is_u64 (length rows) && list_all is_row rows) ≡ true
+    → told_in tables (codes "rows " ++ decimal (length rows)) (lines_text (map row_line rows)) ≡ Some (said.Scanned rows)
+scan_said tables rows fits =
+    let b = both (is_u64 (length rows)) (list_all is_row rows) fits in
+    let told : Option Said = Some (said.Scanned rows) in
+    let many : where_true (length rows == length rows) (said.Scanned rows) ≡ told = ap (λ (e : Bool). where_true e (said.Scanned rows)) (eq-eqb (length rows) (length rows) refl) in
+    gives (u64_in (decimal (length rows))) (λ count. rows_in (parts line_feed (lines_text (map row_line rows))) >>= λ read. where_true (length read == count) (said.Scanned read)) told (length rows) (u64_back (length rows) b.0)
+    (gives (rows_in (parts line_feed (lines_text (map row_line rows)))) (λ read. where_true (length read == length rows) (said.Scanned read)) told rows (lines_back rows b.1) many)
+
+-- what a reply over the tables says is read from its words and lines
+pub said_back : (tables : List TableDecl) (told : Said) → are_tables tables ≡ true → is_said tables told ≡ true → told_in tables (spaced (said_words tables told)) (lines_text (lines_behind told)) ≡ Some told
+said_back tables (said.At number) are fits = number_back tables (codes "at ") said.At number fits (refl, refl, refl) refl
+said_back tables said.InTransaction are fits = refl
+said_back tables said.NoTransaction are fits = refl
+said_back tables (said.Found row) are fits = row_said tables row fits
+said_back tables said.Absent are fits = refl
+said_back tables (said.Scanned rows) are fits = scan_said tables rows fits
+said_back tables said.Accepted are fits = refl
+said_back tables (said.ConflictSession session) are fits = session_back tables session fits
+said_back tables (said.ConflictCommit number) are fits = number_back tables (codes "conflict #") said.ConflictCommit number fits (refl, refl, refl) refl
+said_back tables said.Exists are fits = refl
+said_back tables said.Missing are fits = refl
+said_back tables said.Full are fits = refl
+said_back tables (said.Freezing table block stamp) are fits =
+    placed tables (codes "freezing " ++ block_text tables table block stamp) (said.Freezing table block stamp) (refl, refl, refl) refl (block_back tables said.Freezing table block stamp are (block_parts tables table block stamp fits))
+said_back tables (said.Committed None) are fits = refl
+said_back tables (said.Committed (Some number)) are fits = committed_back tables number fits
+said_back tables said.Aborted are fits = refl
+said_back tables (said.Cooling count) are fits = number_back tables (codes "cooling ") said.Cooling count fits (refl, refl, refl) refl
+said_back tables (said.Pruned count) are fits = number_back tables (codes "pruned ") said.Pruned count fits (refl, refl, refl) refl
+said_back tables (said.Moved count) are fits = number_back tables (codes "moved ") said.Moved count fits (refl, refl, refl) refl
+said_back tables (said.Sealed table block stamp) are fits =
+    placed tables (codes "sealed " ++ block_text tables table block stamp) (said.Sealed table block stamp) (refl, refl, refl) refl (block_back tables said.Sealed table block stamp are (block_parts tables table block stamp fits))
+said_back tables (said.NotSealed Phase) are fits = refl
+said_back tables (said.NotSealed Head) are fits = refl
+said_back tables (said.NotSealed Empty) are fits = refl
+said_back tables (said.NotSealed Gaps) are fits = refl
+said_back tables (said.NotSealed Versions) are fits = refl
+said_back tables (said.NotSealed Hot) are fits = refl
+said_back tables (said.NotSealed Last) are fits = refl
+said_back tables (said.Frozen table block rows) are fits =
+    placed tables (codes "frozen " ++ block_text tables table block rows) (said.Frozen table block rows) (refl, refl, refl) refl (block_back tables said.Frozen table block rows are (block_parts tables table block rows fits))
+said_back tables said.NotFrozen are fits = refl
+said_back tables (said.Exported number rows batches frozen) are fits =
+    placed tables (codes "export " ++ (decimal number ++ 32 ∷ rows_text rows batches frozen)) (said.Exported number rows batches frozen) (refl, refl, refl) refl (export_back number rows batches frozen (export_parts number rows batches frozen fits))
+said_back tables (said.Dirty key) are fits = dirty_back tables key fits
+said_back tables said.Memory are fits = refl
+
+-- A reply's words stand on one line.
+
+pub plain_whole : (word : List ℕ) → list_all is_plain word ≡ true → is_whole word ≡ true
+plain_whole word plain = let w = plain_word word plain in w.whole
+
+block_whole : (tables : List TableDecl) (table block number : ℕ) → are_tables tables ≡ true → AreBlock tables table block number → is_whole (block_text tables table block number) ≡ true
+block_whole tables table block number are parts =
+    let n = name_back tables table are parts.table_fits in
+    whole_append (name_of_table tables table) (32 ∷ (decimal block ++ 32 ∷ decimal number)) (plain_whole (name_of_table tables table) n.plain)
+    (whole_append (decimal block) (32 ∷ decimal number) (plain_whole (decimal block) (u32_plain block parts.block_fits)) (plain_whole (decimal number) (u32_plain number parts.number_fits)))
+
+export_whole : (number rows batches frozen : ℕ) → AreExport number rows batches frozen → is_whole (decimal number ++ 32 ∷ rows_text rows batches frozen) ≡ true
+export_whole number rows batches frozen fits =
+    whole_append (decimal number) (32 ∷ rows_text rows batches frozen) (plain_whole (decimal number) (u64_plain number fits.number_fits))
+    (whole_append (decimal rows) (32 ∷ batches_text batches frozen) (plain_whole (decimal rows) (u64_plain rows fits.rows_fit))
+    (whole_append (decimal batches) (32 ∷ frozen_text frozen) (plain_whole (decimal batches) (u32_plain batches fits.batches_fit)) (plain_whole (decimal frozen) (u32_plain frozen fits.frozen_fit))))
+
+u64_whole : (n : ℕ) → is_u64 n ≡ true → is_whole (decimal n) ≡ true
+u64_whole n fits = plain_whole (decimal n) (u64_plain n fits)
+
+pub said_whole : (tables : List TableDecl) (told : Said) → are_tables tables ≡ true → is_said tables told ≡ true → is_whole (spaced (said_words tables told)) ≡ true
+said_whole tables (said.At number) are fits = u64_whole number fits
+said_whole tables said.InTransaction are fits = refl
+said_whole tables said.NoTransaction are fits = refl
+said_whole tables (said.Found row) are fits = row_whole (codes "row") row (plain_word (codes "row") refl) fits
+said_whole tables said.Absent are fits = refl
+said_whole tables (said.Scanned rows) are fits = u64_whole (length rows) (both (is_u64 (length rows)) (list_all is_row rows) fits).0
+said_whole tables said.Accepted are fits = refl
+said_whole tables (said.ConflictSession session) are fits = plain_whole (decimal session) (u32_plain session fits)
+said_whole tables (said.ConflictCommit number) are fits = u64_whole number fits
+said_whole tables said.Exists are fits = refl
+said_whole tables said.Missing are fits = refl
+said_whole tables said.Full are fits = refl
+said_whole tables (said.Freezing table block stamp) are fits = block_whole tables table block stamp are (block_parts tables table block stamp fits)
+said_whole tables (said.Committed None) are fits = refl
+said_whole tables (said.Committed (Some number)) are fits = u64_whole number fits
+said_whole tables said.Aborted are fits = refl
+said_whole tables (said.Cooling count) are fits = u64_whole count fits
+said_whole tables (said.Pruned count) are fits = u64_whole count fits
+said_whole tables (said.Moved count) are fits = u64_whole count fits
+said_whole tables (said.Sealed table block stamp) are fits = block_whole tables table block stamp are (block_parts tables table block stamp fits)
+said_whole tables (said.NotSealed Phase) are fits = refl
+said_whole tables (said.NotSealed Head) are fits = refl
+said_whole tables (said.NotSealed Empty) are fits = refl
+said_whole tables (said.NotSealed Gaps) are fits = refl
+said_whole tables (said.NotSealed Versions) are fits = refl
+said_whole tables (said.NotSealed Hot) are fits = refl
+said_whole tables (said.NotSealed Last) are fits = refl
+said_whole tables (said.Frozen table block rows) are fits = block_whole tables table block rows are (block_parts tables table block rows fits)
+said_whole tables said.NotFrozen are fits = refl
+said_whole tables (said.Exported number rows batches frozen) are fits = export_whole number rows batches frozen (export_parts number rows batches frozen fits)
+said_whole tables (said.Dirty key) are fits = plain_whole (signed_decimal key) (signed_plain key (key_small key fits))
+said_whole tables said.Memory are fits = refl
