@@ -197,7 +197,7 @@ fits_filtered columns p (e ∷ es) all = go (p e) (fits_filtered columns p es (A
     go true rest = All-cons (λ (undo : Undo Before). BeforeFits columns undo.before) e (filter p es) (All-head (λ (undo : Undo Before). BeforeFits columns undo.before) e es all) rest
     go false rest = rest
 
-all_dropped : (oldest : ℕ) (es : List (Undo Before)) → All (λ undo. is_stamped_by undo oldest ≡ true) es → filter (λ undo. not (is_stamped_by undo oldest)) es ≡ []
+pub all_dropped : (oldest : ℕ) (es : List (Undo Before)) → All (λ undo. is_stamped_by undo oldest ≡ true) es → filter (λ undo. not (is_stamped_by undo oldest)) es ≡ []
 all_dropped oldest [] all = refl
 all_dropped oldest (e ∷ es) all =
     ap (λ b. cond (not b) (e ∷ filter (λ undo. not (is_stamped_by undo oldest)) es) (filter (λ undo. not (is_stamped_by undo oldest)) es)) (All-head (λ undo. is_stamped_by undo oldest ≡ true) e es all)

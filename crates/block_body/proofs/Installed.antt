@@ -1,4 +1,4 @@
--- A session's write in a slot.
+-- A change of a slot, be it a session's write or one half of a move.
 use Rattle.std.proofs.Common.{◌≡◌, ◌≢◌, ◌∙◌, ℕ, ◌<◌, ◌≤◌, eqb, Bool, true, false, not, ◌&&◌, ◌||◌, cond, List, [], ◌∷◌, Option, None, Some, option_map, length, get_or, refl, sym, ap, subst, arith, ⊎_elim}
 use Rattle.std.specs.Prelude.{slice_set, is_none, is_some, IfNone, All, find}
 use Rattle.std.specs.List.{list_any}
@@ -10,7 +10,7 @@ use Rattle.block_spec.specs.declared.change.Before.{Before}
 use Rattle.block_spec.specs.declared.change.Change.{Change}
 use Rattle.block_spec.specs.declared.change.Change.TheVariants as change
 use Rattle.block_spec.specs.Fitting.{BeforeFits, ChangeFits}
-use Rattle.block_spec.specs.Slots.{Row, laid_back, row_after, image_before, kind_of, written}
+use Rattle.block_spec.specs.Slots.{Row, has_none, laid_back, row_after, image_before, kind_of}
 use Rattle.block_columns.specs.Columns.{WantsRow}
 use Rattle.block_columns.proofs.Fitted.{patched_back}
 use Rattle.cell_model.specs.declared.column.Column.{Column}
@@ -24,6 +24,8 @@ use Rattle.block_body.specs.Rows.{RowsValue}
 use Rattle.block_body.specs.Slots.{slot_of, slots_from}
 use Rattle.block_body.specs.Chains.{Chains, IsKept, LaysBack, slot_at, entries_at, is_listed}
 use Rattle.block_body.specs.Bodies.{SlotLists, slots_of, wants_row}
+use Rattle.block_body.specs.Changes.{changed}
+use Rattle.block_body.specs.declared.origin.Origin.{Origin}
 use Rattle.block_body.proofs.Slots.{slots-set}
 
 pub wants_after : (row : Option Row) (new : Change) → is_some row ≡ wants_row new → WantsRow (image_before row new) (row_after row new)
@@ -44,8 +46,8 @@ undone columns (Some cells) (change.Put r) is fits = cc
 undone columns (Some cells) (change.Patch p) is fits = ap (λ (r : Row). Some r) (patched_back cells p fits.distinct)
 undone columns (Some cells) change.Gone is fits = refl
 
-abbrev pub undo_of : ℕ → UndoKind → Before → Undo Before
-undo_of session kind before = record { session = session; stamp = None; number = 0; kind = kind; before = before }
+abbrev pub undo_of : Origin → Before → Undo Before
+undo_of by before = record { session = by.session; stamp = by.stamp; number = 0; kind = by.kind; before = before }
 
 no_move : (new : Change) → is_move (kind_of new) ≡ false
 no_move (change.Put r) = refl
@@ -60,20 +62,31 @@ own_below session e rest None false true is write none = sym (eqb-true e.session
 own_below session e rest None false false is write none = cc
 own_below session e rest (Some s) moves same is write none = tt
 
+abbrev pub writer : ℕ → UndoKind → Origin
+writer session kind = record { session = session; stamp = None; kind = kind }
+
+abbrev pub mover : ℕ → UndoKind → Origin
+mover stamp kind = record { session = 0; stamp = Some stamp; kind = kind }
+
 -- an uncommitted write may stand on a chain without another session's
 pub free_lawful : (session : ℕ) (new : Change) (kind : UndoKind) (before : Before) (es : List (Undo Before)) → kind ≡ kind_of new → IsLawful es →
-    other_writer es session ≡ None → IsLawful (undo_of session kind before ∷ es)
+    other_writer es session ≡ None → IsLawful (undo_of (writer session kind) before ∷ es)
 free_lawful session new kind before [] is lawful free =
-    IsLawful-cons (undo_of session kind before) [] (ap is_move is ∙ no_move new) (All-nil (MayStandAbove (undo_of session kind before))) IsLawful-nil
+    IsLawful-cons (undo_of (writer session kind) before) [] (ap is_move is ∙ no_move new) (All-nil (MayStandAbove (undo_of (writer session kind) before))) IsLawful-nil
 free_lawful session new kind before (e ∷ es) is lawful free =
-    IsLawful-next (undo_of session kind before) e es (ap is_move is ∙ no_move new)
+    IsLawful-next (undo_of (writer session kind) before) e es (ap is_move is ∙ no_move new)
     (own_below session e (find (λ undo. is_open_write_of_another undo session) es) e.stamp (is_move e.kind) (eqb e.session session) refl (IsLawful-head e es lawful) free)
     lawful
 
-module _ (rows new_rows : RowsValue) (chains new : Chains) (slot session : ℕ) (put : Change) (kind : UndoKind) (before : Before)
+-- a stamped entry may stand on a slot without one
+pub first_lawful : (u : Undo Before) (stamp : ℕ) → u.stamp ≡ Some stamp → (es : List (Undo Before)) → has_none es ≡ true → IsLawful (u ∷ es)
+first_lawful u stamp is [] none =
+    IsLawful-cons u [] (subst (λ (s : Option ℕ). IfNone s (is_move u.kind ≡ false)) (sym is) tt) (All-nil (MayStandAbove u)) IsLawful-nil
+first_lawful u stamp is (e ∷ es) none = cc
+
+module _ (rows new_rows : RowsValue) (chains new : Chains) (slot : ℕ) (by : Origin) (put : Change) (before : Before)
     (within : slot < length rows.rows)
     (has : is_some (get_or rows.rows slot None) ≡ wants_row put)
-    (kind_is : kind ≡ kind_of put)
     (before_is : before ≡ image_before (get_or rows.rows slot None) put)
     (rows_are : new_rows.rows ≡ slice_set rows.rows slot (row_after (get_or rows.rows slot None) put))
     (columns : new_rows.columns ≡ rows.columns)
@@ -112,7 +125,7 @@ module _ (rows new_rows : RowsValue) (chains new : Chains) (slot session : ℕ) 
       ∙ set-get_or rows.rows slot None
 
   module _ (kept : (k : ℕ) → IsKept rows k (get_or rows.rows k None) (entries_at chains k))
-      (here : entries_at new slot ≡ undo_of session kind before ∷ entries_at chains slot)
+      (here : entries_at new slot ≡ undo_of by before ∷ entries_at chains slot)
       (others : (k : ℕ) → k ≢ slot → entries_at new k ≡ entries_at chains k)
       (room : rows.room ≤ new_rows.room)
       (in_room : slot < new_rows.room)
@@ -122,8 +135,8 @@ module _ (rows new_rows : RowsValue) (chains new : Chains) (slot session : ℕ) 
         subst (λ (l : List (Undo Before)). IsKept new_rows slot (get_or new_rows.rows slot None) l) (sym here) (record {
           room = λ some. in_room;
           within = λ some. subst (λ n. slot < n) (sym rows_long) within;
-          fits = subst (λ cs. All (λ undo. BeforeFits cs undo.before) (undo_of session kind before ∷ entries_at chains slot)) (sym columns)
-              (All-cons (λ (undo : Undo Before). BeforeFits rows.columns undo.before) (undo_of session kind before) (entries_at chains slot) laid_fits (kept slot).fits);
+          fits = subst (λ cs. All (λ undo. BeforeFits cs undo.before) (undo_of by before ∷ entries_at chains slot)) (sym columns)
+              (All-cons (λ (undo : Undo Before). BeforeFits rows.columns undo.before) (undo_of by before) (entries_at chains slot) laid_fits (kept slot).fits);
           lays = (may_undo, subst (λ (r : Option Row). LaysBack r (entries_at chains slot)) (sym back) (kept slot).lays);
         })
 
@@ -145,28 +158,28 @@ module _ (rows new_rows : RowsValue) (chains new : Chains) (slot session : ℕ) 
         (cases_eq k slot)
 
     pub installed_slots : slots_from (entries_at new) 0 new_rows.rows
-        ≡ slice_set (slots_from (entries_at chains) 0 rows.rows) slot (written session put (slot_at rows.rows chains slot))
+        ≡ slice_set (slots_from (entries_at chains) 0 rows.rows) slot (changed by put (slot_at rows.rows chains slot))
     installed_slots =
         ap (slots_from (entries_at new) 0) rows_are
-        ∙ slots-set (entries_at chains) (entries_at new) rows.rows slot (row_after (get_or rows.rows slot None) put) (undo_of session kind before ∷ entries_at chains slot) here others
-        ∙ ap (λ (u : Undo Before). slice_set (slots_from (entries_at chains) 0 rows.rows) slot (slot_of (row_after (get_or rows.rows slot None) put) (u ∷ entries_at chains slot)))
-        (ap (λ (k : UndoKind). undo_of session k before) kind_is ∙ ap (λ (b : Before). undo_of session (kind_of put) b) before_is)
+        ∙ slots-set (entries_at chains) (entries_at new) rows.rows slot (row_after (get_or rows.rows slot None) put) (undo_of by before ∷ entries_at chains slot) here others
+        ∙ ap (λ (b : Before). slice_set (slots_from (entries_at chains) 0 rows.rows) slot (slot_of (row_after (get_or rows.rows slot None) put) (undo_of by b ∷ entries_at chains slot))) before_is
 
     pub installed_listed : (lists left : SlotLists) →
         ((q k : ℕ) → list_any (λ undo. is_own undo q) (entries_at chains k) ≡ true → is_listed (slots_of lists q) k ≡ true) →
-        is_listed (slots_of left session) slot ≡ true →
+        (by.stamp ≡ None → is_listed (slots_of left by.session) slot ≡ true) →
         ((q k : ℕ) → is_listed (slots_of lists q) k ≡ true → is_listed (slots_of left q) k ≡ true) →
         (q k : ℕ) → list_any (λ undo. is_own undo q) (entries_at new k) ≡ true → is_listed (slots_of left q) k ≡ true
     installed_listed lists left was added more q k own = ⊎_elim same (λ apart. more q k (was q k (sym (ap (list_any (λ (undo : Undo Before). is_own undo q)) (others k apart)) ∙ own))) (cases_eq k slot)
       where
-        either : (moves mine : Bool) → eqb session q ≡ mine → moves ≡ false →
-            ((not moves && mine) || list_any (λ undo. is_own undo q) (entries_at chains slot)) ≡ true → is_listed (slots_of left q) slot ≡ true
-        either true mine is moved own = cc
-        either false true is moved own = ap (λ n. is_listed (slots_of left n) slot) (sym (eqb-true session q is)) ∙ added
-        either false false is moved own = more q slot (was q slot own)
+        either : (stamp : Option ℕ) (moves mine : Bool) → (stamp ≡ None → is_listed (slots_of left by.session) slot ≡ true) → eqb by.session q ≡ mine →
+            ((is_none stamp && not moves && mine) || list_any (λ undo. is_own undo q) (entries_at chains slot)) ≡ true → is_listed (slots_of left q) slot ≡ true
+        either None false true listed is own = ap (λ n. is_listed (slots_of left n) slot) (sym (eqb-true by.session q is)) ∙ listed refl
+        either None false false listed is own = more q slot (was q slot own)
+        either None true mine listed is own = more q slot (was q slot own)
+        either (Some s) moves mine listed is own = more q slot (was q slot own)
 
         same : k ≡ slot → is_listed (slots_of left q) k ≡ true
         same is =
             ap (is_listed (slots_of left q)) is
-            ∙ either (is_move kind) (eqb session q) refl (ap is_move kind_is ∙ no_move put)
+            ∙ either by.stamp (is_move by.kind) (eqb by.session q) added refl
             (sym (ap (list_any (λ (undo : Undo Before). is_own undo q)) (ap (entries_at new) is ∙ here)) ∙ own)

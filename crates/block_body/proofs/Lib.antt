@@ -2,12 +2,16 @@ pub mod After
 pub mod Bodies
 pub mod Counts
 pub mod Installed
+pub mod Keyed
 pub mod Listed
+pub mod Looks
 pub mod Lookups
+pub mod Moved
 pub mod Popped
 pub mod Pruned
 pub mod RolledBack
 pub mod Slots
 pub mod Stamps
+pub mod Taken
 pub mod Whole
 pub mod Written

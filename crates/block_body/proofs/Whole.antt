@@ -82,7 +82,7 @@ all_bare f at [] none = refl
 all_bare f at (None ∷ rows) none = ap (λ l. has_none l && list_all is_bare (slots_from f (at + 1) rows)) (none at) ∙ all_bare f (at + 1) rows none
 all_bare f at (Some row ∷ rows) none = sym (ne_eqb (1 + taken rows) 0 (λ is. absurd (omega arith)))
 
-has_none-some : (es : List (Undo Before)) → 0 < length es → has_none es ≡ false
+pub has_none-some : (es : List (Undo Before)) → 0 < length es → has_none es ≡ false
 has_none-some [] some = absurd (omega arith)
 has_none-some (e ∷ es) some = refl
 

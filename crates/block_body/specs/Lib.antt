@@ -3,3 +3,5 @@ pub mod Chains
 pub mod Slots
 pub mod Frozen
 pub mod Bodies
+pub mod Changes
+pub mod Keys

@@ -1,21 +1,27 @@
 //! The body of a block.
-ghost use Rattle.std.specs.Prelude.{true, ◌≡◌, ◌≢◌, ◌+◌, ◌<◌, ◌≤◌, ◌^◌, ◌↔◌, ℕ, None, Some, IfOk, IfSome, IfErr, OnOk, OnErr, IsTrue, is_some, is_none, not, map, length, slice_index_or, if◌then◌else◌};
+ghost use Rattle.std.specs.Prelude.{true, false, ◌≡◌, ◌≢◌, ◌+◌, ◌<◌, ◌≤◌, ◌^◌, ◌↔◌, ℕ, None, Some, IfOk, IfSome, IfErr, OnOk, OnErr, IsTrue, is_some, is_none, option_copied, not, map, count_by, length, slice_index_or, if◌then◌else◌};
 ghost use Rattle.undo_chain.specs.Conflict.{conflict_of, other_writer};
-ghost use Rattle.undo_chain.specs.Lawful.{NoneStampedAbove};
+ghost use Rattle.undo_chain.specs.Lawful.{IsLawful, NoneStampedAbove};
+ghost use Rattle.cell_model.specs.Rows.{Fits};
 ghost use Rattle.block_spec.specs.Fitting.{ChangeFits};
-ghost use Rattle.block_spec.specs.Slots.{is_bare, kind_of, seen, written};
-ghost use Rattle.block_spec.specs.Bodies.{untouched, slot_in, is_loose, is_sealed, is_imaged, is_empty, is_quiet, is_front, has_row, with_slot, committed_in, rolled_back_in, pruned_in, dropped_from, observed, turns, seal_fault, sealed, imaged, thawed};
+ghost use Rattle.block_spec.specs.Slots.{has_none, is_bare, kind_of, moved_in, moved_out, seen, taken_back, written};
+ghost use Rattle.block_spec.specs.Looks.{looked, movable};
+ghost use Rattle.block_spec.specs.Bodies.{untouched, slot_in, is_loose, is_sealed, is_imaged, is_empty, is_quiet, is_front, has_row, with_slot, committed_in, rolled_back_in, pruned_in, dropped_from, observed, turns, seal_fault, sealed, imaged, thawed, taken_back_in};
 ghost use Rattle.block_body.specs.Bodies.{wants_row};
+ghost use Rattle.block_body.specs.Changes.{changed, key_left};
 ghost use Rattle.block_body.specs.Frozen.{IsImageOf};
+ghost use Rattle.block_body.specs.Keys.{HasKey, HasKeys};
 
 use crate::chains::Chains;
 use crate::lists::SlotList;
+use crate::look::{Look, first_cell, key_in, key_of};
+use crate::origin::Origin;
 use crate::rows::Rows;
 use crate::shared::Shared;
 use crate::view::visible_row;
 use crate::{chains, lists};
 use block_columns::{Before, Columns, Image};
-use block_spec::{Change, Phase, SealFault};
+use block_spec::{Change, MovableRow, Phase, SealFault};
 use cell_model::{Row, Schema};
 use std::alloc::{AllocError, AllocFailed, Global};
 use std::collections::BTreeMap;
@@ -36,7 +42,7 @@ pub struct Body {
     phase: Phase,
     cooling: bool,
     rounds: u32,
-    last: u32,
+    pub(crate) last: u32,
 }
 
 impl Model for Body {
@@ -51,7 +57,7 @@ impl Model for Body {
 }
 
 /// The last stamp of a block.
-const LAST_STAMP: u32 = (1 << 30) - 1;
+pub(crate) const LAST_STAMP: u32 = (1 << 30) - 1;
 
 impl Body {
     /// A body with so many slots, all bare. It takes no memory for them yet.
@@ -135,6 +141,20 @@ impl Body {
         }
     }
 
+    /// The rows that may move, with their keys, and the bare slots, both in slot order, and the
+    /// body's state.
+    pub fn look(&self) -> Result<Look, AllocError>
+        requires { HasKeys self.now }
+        ensures { IfOk result (λ look. look ≡ looked self.now) }
+    {
+        Ok(Look {
+            rows: self.movable_rows()?,
+            gaps: self.gaps()?,
+            phase: self.phase,
+            cooling: self.cooling,
+        })
+    }
+
     /// Makes a session's write in a slot. The block is modified by it, but for want of memory, which
     /// leaves the body as it is.
     pub fn install(&mut self, slot: u32, session: u32, change: Change) -> Result<(), AllocError>
@@ -146,27 +166,89 @@ impl Body {
         ensures ok { OnOk result (self.new ≡ with_slot slot (written session change) self.old) }
         ensures err { OnErr result (self.new ≡ self.old) }
     {
-        lists::add(self.alloc, &mut self.written, session, slot)?;
-        let kind = kind_of(&change);
-        let before = self.rows.write(slot, &change)?;
-        let undo = Undo {
+        let by = Origin {
             session,
             stamp: None,
-            number: 0,
-            kind,
-            before,
+            kind: kind_of(&change),
         };
-        match chains::push(self.alloc, &mut self.chains, slot, undo) {
-            Ok(()) => {
-                self.cooling = false;
-                self.rounds = 0;
-                Ok(())
-            }
-            Err(AllocFailed { value }) => {
-                self.rows.restore(slot, value.before);
-                Err(AllocError)
+        self.change(slot, by, &change)
+    }
+
+    /// Takes the row of a slot without an entry away, with a move's stamp, and hands out a copy.
+    /// The block is modified by it, but for want of memory, which leaves the body as it is.
+    pub fn move_out(&mut self, slot: u32, stamp: u64) -> Result<Row, AllocError>
+        requires loose { is_loose self.old.phase ≡ true }
+        requires row { is_some (slot_in self.old slot).row ≡ true }
+        requires quiet { has_none (slot_in self.old slot).entries ≡ true }
+        ensures row { IfOk result (λ row. (slot_in self.old slot).row ≡ Some row) }
+        ensures moved { IfOk result (λ row. self.new ≡ with_slot slot (moved_out stamp row) self.old) }
+        ensures err { OnErr result (self.new ≡ self.old) }
+    {
+        let cooling = self.cooling;
+        let rounds = self.rounds;
+        let by = Origin {
+            session: 0,
+            stamp: Some(stamp),
+            kind: UndoKind::MoveOut,
+        };
+        self.change(slot, by, &Change::Gone)?;
+        let Some(row) = self.taken_away(slot) else {
+            unreachable!()
+        };
+        match row.clone() {
+            Ok(row) => Ok(row),
+            Err(error) => {
+                self.take_off(slot);
+                self.cooling = cooling;
+                self.rounds = rounds;
+                Err(error)
             }
         }
+    }
+
+    /// Puts a copy of a row in a bare slot, with a move's stamp. The block is modified by it, but
+    /// for want of memory, which leaves the body as it is.
+    pub fn move_in(&mut self, slot: u32, row: Row, stamp: u64) -> Result<(), AllocError>
+        requires loose { is_loose self.old.phase ≡ true }
+        requires slot { slot < length self.old.slots }
+        requires bare { is_bare (slot_in self.old slot) ≡ true }
+        requires fits { Fits self.old.columns row }
+        ensures ok { OnOk result (self.new ≡ with_slot slot (moved_in stamp row) self.old) }
+        ensures err { OnErr result (self.new ≡ self.old) }
+    {
+        let by = Origin {
+            session: 0,
+            stamp: Some(stamp),
+            kind: UndoKind::MoveIn,
+        };
+        self.change(slot, by, &Change::Put(row))
+    }
+
+    /// Takes one half of a move back: the newest entry of a slot is laid back and dropped. The block
+    /// is cooling then, as it was before the move.
+    pub fn take_back(&mut self, slot: u32)
+        requires { has_none (slot_in self.old slot).entries ≡ false }
+        ensures { self.new ≡ taken_back_in slot self.old }
+    {
+        self.take_off(slot);
+        self.cooling = true;
+        self.rounds = 2;
+    }
+
+    /// The key of a slot that has an entry and that a pruning of the entries with a stamp at most
+    /// `oldest` leaves bare; none of another slot.
+    pub fn key_left(&self, slot: u32, oldest: u64) -> Option<i64>
+        requires { IfSome (taken_back (slot_in self.now slot)).row HasKey }
+        ensures { result ≡ key_left oldest (slot_in self.now slot) }
+    {
+        if self.rows.columns().has_row(slot) {
+            return None;
+        }
+        let chain = chains::chain_of(&self.chains, slot)?;
+        if !chain.entries().last()?.is_stamped_by(oldest) {
+            return None;
+        }
+        Some(key_of(self.taken_away(slot)?))
     }
 
     /// Commits the session's entries with this stamp and number, which is no modification.
@@ -246,6 +328,13 @@ impl Body {
         Ok(self.last)
     }
 
+    /// How many slots have a row.
+    pub fn rows(&self) -> u32
+        ensures { result ≡ count_by is_some (map (λ slot. slot.row) self.now.slots) }
+    {
+        self.rows.count()
+    }
+
     /// The columns of its slots, lent.
     pub fn columns(&self) -> &Columns
         ensures columns { result.now.columns ≡ self.now.columns }
@@ -291,6 +380,108 @@ impl Body {
         self.cooling = false;
         self.phase = Phase::Loose;
         Ok(())
+    }
+
+    // Changes a slot's row and lays the entry on top that undoes it. The block is modified by it,
+    // but for want of memory, which leaves the body as it is.
+    fn change(&mut self, slot: u32, by: Origin, change: &Change) -> Result<(), AllocError>
+        requires loose { is_loose self.old.phase ≡ true }
+        requires slot { slot < length self.old.slots }
+        requires row { is_some (slot_in self.old slot).row ≡ wants_row change.now }
+        requires fits { ChangeFits self.old.columns change.now }
+        requires lawful { IsLawful (slot_in self.old slot).entries →
+            IsLawful (changed by change.now (slot_in self.old slot)).entries }
+        ensures ok { OnOk result (self.new ≡ with_slot slot (changed by change.now) self.old) }
+        ensures err { OnErr result (self.new ≡ self.old) }
+    {
+        lists::add(self.alloc, &mut self.written, &by, slot)?;
+        let before = self.rows.write(slot, change)?;
+        let undo = Undo {
+            session: by.session,
+            stamp: by.stamp,
+            number: 0,
+            kind: by.kind,
+            before,
+        };
+        match chains::push(self.alloc, &mut self.chains, slot, undo) {
+            Ok(()) => {
+                self.cooling = false;
+                self.rounds = 0;
+                Ok(())
+            }
+            Err(AllocFailed { value }) => {
+                self.rows.restore(slot, value.before);
+                Err(AllocError)
+            }
+        }
+    }
+
+    // Takes a slot's newest entry off and lays its before-image back, which modifies the block.
+    fn take_off(&mut self, slot: u32)
+        requires { has_none (slot_in self.old slot).entries ≡ false }
+        ensures { self.new ≡ with_slot slot taken_back self.old }
+    {
+        let Some(undo) = chains::pop(&mut self.chains, slot) else {
+            unreachable!()
+        };
+        self.rows.restore(slot, undo.before);
+        self.cooling = false;
+        self.rounds = 0;
+    }
+
+    // The row that the newest change of a slot without a row took away, lent.
+    fn taken_away(&self, slot: u32) -> Option<&Row>
+        requires { (slot_in self.now slot).row ≡ None }
+        ensures { option_copied result ≡ (taken_back (slot_in self.now slot)).row }
+    {
+        let chain = chains::chain_of(&self.chains, slot)?;
+        match &chain.entries().last()?.before {
+            Before::Whole(row) => Some(row),
+            Before::Empty | Before::Part(_) => None,
+        }
+    }
+
+    // The rows that may move, in slot order.
+    fn movable_rows(&self) -> Result<Vec<MovableRow>, AllocError>
+        requires { HasKeys self.now }
+        ensures { IfOk result (λ rows. rows.items ≡ (looked self.now).rows) }
+    {
+        let mut rows = Vec::new(self.alloc);
+        for slot in 0..self.rows.columns().slots() {
+            if let Some(row) = self.movable(slot)? {
+                rows.push(row)?;
+            }
+        }
+        Ok(rows)
+    }
+
+    // The row of a slot, if it may move.
+    fn movable(&self, slot: u32) -> Result<Option<MovableRow>, AllocError>
+        requires { HasKeys self.now }
+        ensures { IfOk result (λ row. row ≡ movable self.now slot) }
+    {
+        let columns = self.rows.columns();
+        if !columns.has_row(slot) || self.chains.contains_key(&slot) {
+            return Ok(None);
+        }
+        let cell = first_cell(self.alloc, columns, slot)?;
+        Ok(Some(MovableRow {
+            slot,
+            key: key_in(&cell),
+        }))
+    }
+
+    // The bare slots, in order.
+    fn gaps(&self) -> Result<Vec<u32>, AllocError>
+        ensures { IfOk result (λ gaps. gaps.items ≡ (looked self.now).gaps) }
+    {
+        let mut gaps = Vec::new(self.alloc);
+        for slot in 0..self.rows.columns().slots() {
+            if self.bare(slot) {
+                gaps.push(slot)?;
+            }
+        }
+        Ok(gaps)
     }
 
     // Whether a slot has a row.

@@ -4,12 +4,16 @@
 
 mod body;
 mod chains;
+pub mod laws;
 mod lists;
+mod look;
+mod origin;
 mod rows;
 mod shared;
 mod view;
 
 pub use body::Body;
+pub use look::Look;
 pub use shared::Shared;
 
 #[cfg(test)]

@@ -1,8 +1,9 @@
 //! The slots in which each session has uncommitted entries.
-ghost use Rattle.std.specs.Prelude.{◌≡◌, ℕ, OnOk, true};
+ghost use Rattle.std.specs.Prelude.{◌≡◌, ℕ, None, OnOk, true};
 ghost use Rattle.block_body.specs.Bodies.{slots_of};
 ghost use Rattle.block_body.specs.Chains.{is_listed};
 
+use crate::origin::Origin;
 use std::alloc::{AllocError, Global};
 use std::collections::BTreeMap;
 use std::collections::btree_map::Entry;
@@ -22,8 +23,25 @@ impl Model for SlotList {
     ghost view = { λ list. list.slots.items };
 }
 
-/// Lists a slot for a session once more. No slot leaves a list.
+/// Lists a slot for the session of a change, if it is a session's. No slot leaves a list.
 pub(crate) fn add(
+    alloc: Global,
+    lists: &mut BTreeMap<u32, SlotList>,
+    by: &Origin,
+    slot: u32,
+) -> Result<(), AllocError>
+    ensures added { OnOk result (by.now.stamp ≡ None → is_listed (slots_of lists.new.entries by.now.session) slot ≡ true) }
+    ensures more { (other number : ℕ) → is_listed (slots_of lists.old.entries other) number ≡ true →
+        is_listed (slots_of lists.new.entries other) number ≡ true }
+{
+    match by.stamp {
+        Some(_) => Ok(()),
+        None => add_for(alloc, lists, by.session, slot),
+    }
+}
+
+// Lists a slot for a session once more.
+fn add_for(
     alloc: Global,
     lists: &mut BTreeMap<u32, SlotList>,
     session: u32,

@@ -1,11 +1,16 @@
-ghost use Rattle.std.specs.Prelude.{◌≡◌, ◌<◌};
+ghost use Rattle.std.specs.Prelude.{◌≡◌, ◌<◌, IfOk, length};
 ghost use Rattle.cell_model.specs.Rows.{Fits};
+ghost use Rattle.block_spec.specs.declared.change.Change.TheVariants as change;
 ghost use Rattle.block_spec.specs.Fitting.{columns_of};
+ghost use Rattle.block_spec.specs.Slots.{written};
+ghost use Rattle.block_spec.specs.Bodies.{untouched, with_slot, committed_in, pruned_in};
+ghost use Rattle.block_body.specs.Keys.{HasKey};
 
-use crate::Body;
+use crate::body::LAST_STAMP;
 use crate::rows::Rows;
+use crate::{Body, Look};
 use block_columns::Image;
-use block_spec::{Change, Phase, SealFault};
+use block_spec::{Change, MovableRow, Phase, SealFault};
 use cell_model::{Buffers, Bytes, Cell, Column, Kind, Row, Schema, are_named};
 use std::alloc::Global;
 use std::marker::Brand;
@@ -105,6 +110,117 @@ fn a_body_from_its_first_row_to_its_seal(rt: HostRuntime) -> Result<(), Fail> {
     assert_eq!(rt; body.last(), 0);
     assert!(rt; body.shared()?.is_none());
     assert_eq!(rt; body.columns().width(), 2);
+    Ok(())
+}
+
+// A body of four slots whose first has a row that its session committed, without an entry.
+fn settled(alloc: Global, schema: &Schema, row: Row) -> Result<Body, Fail>
+    requires { Fits (columns_of schema.now) row }
+    ensures { IfOk result (λ body. body ≡
+        pruned_in 1 (committed_in 1 1 1 (with_slot 0 (written 1 (change.Put row)) (untouched schema.now 4)))) }
+{
+    let mut body = Body::new(alloc, schema, 4)?;
+    body.install(0, 1, Change::Put(row))?;
+    body.stamp(1, 1, 1);
+    let _dropped = body.prune(1);
+    Ok(body)
+}
+
+// The same, of a row.
+fn with_settled_row(alloc: Global) -> Result<Body, Fail> {
+    let schema = schema(alloc)?;
+    let row = Row::from(vec![in alloc; Cell::Num(5), Cell::Null]?);
+    match schema.fits(&row) {
+        Ok(()) => settled(alloc, &schema, row),
+        Err(_) => Err(Fail::from("the row does not fit")),
+    }
+}
+
+#[test]
+fn a_settled_body_is_sealed(rt: HostRuntime) -> Result<(), Fail> {
+    let mut body = with_settled_row(rt.alloc())?;
+    assert_eq!(rt; body.rows(), 1);
+    assert_eq!(rt; body.seal(false), Err(SealFault::Hot));
+    assert!(rt; !body.observe(false));
+    assert!(rt; body.observe(false));
+    assert_eq!(rt; body.seal(false), Ok(1));
+    assert_eq!(rt; body.phase(), Phase::Sealed(1));
+    assert_eq!(rt; body.last(), 1);
+    assert_eq!(rt; body.seal(false), Err(SealFault::Phase));
+    Ok(())
+}
+
+#[test]
+fn the_last_stamp_is_not_passed(rt: HostRuntime) -> Result<(), Fail> {
+    let mut body = with_settled_row(rt.alloc())?;
+    let _hot = body.observe(false);
+    assert!(rt; body.observe(false));
+    body.last = LAST_STAMP;
+    assert_eq!(rt; body.seal(false), Err(SealFault::Last));
+    assert_eq!(rt; body.last(), LAST_STAMP);
+    assert_eq!(rt; body.phase(), Phase::Loose);
+    assert!(rt; body.cooling());
+    Ok(())
+}
+
+// What a look at a body with one settled row finds, before and after the row moved from the first
+// slot to the second, the key that a pruning leaves then, and the body with the second half taken
+// back.
+#[derive(Drop)]
+struct Moved {
+    before: Look,
+    after: Look,
+    key: Option<i64>,
+    body: Body,
+}
+
+fn move_over(alloc: Global, schema: &Schema, row: Row) -> Result<Moved, Fail>
+    requires fits { Fits (columns_of schema.now) row }
+    requires key { HasKey row }
+    requires columns { 0 < length schema.now }
+{
+    let mut body = settled(alloc, schema, row)?;
+    let before = body.look()?;
+    let row = body.move_out(0, 2)?;
+    body.move_in(1, row, 2)?;
+    let after = body.look()?;
+    let key = body.key_left(0, 2);
+    body.take_back(1);
+    Ok(Moved {
+        before,
+        after,
+        key,
+        body,
+    })
+}
+
+fn with_moved_row(alloc: Global) -> Result<Moved, Fail> {
+    let schema = schema(alloc)?;
+    let row = Row::from(vec![in alloc; Cell::Num(5), Cell::Null]?);
+    match schema.fits(&row) {
+        Ok(()) => move_over(alloc, &schema, row),
+        Err(_) => Err(Fail::from("the row does not fit")),
+    }
+}
+
+#[test]
+fn a_moved_row_has_its_versions_in_both_slots(rt: HostRuntime) -> Result<(), Fail> {
+    let Moved {
+        before,
+        after,
+        key,
+        body,
+    } = with_moved_row(rt.alloc())?;
+    assert_eq!(rt; before.rows(), [MovableRow { slot: 0, key: 5 }].as_slice());
+    assert_eq!(rt; before.gaps(), [1, 2, 3].as_slice());
+    assert_eq!(rt; before.phase(), Phase::Loose);
+    assert!(rt; !before.cooling());
+    assert!(rt; after.rows().is_empty());
+    assert_eq!(rt; after.gaps(), [2, 3].as_slice());
+    assert_eq!(rt; key, Some(5));
+    assert!(rt; !body.bare(0));
+    assert!(rt; body.bare(1));
+    assert!(rt; body.cooling());
     Ok(())
 }
 

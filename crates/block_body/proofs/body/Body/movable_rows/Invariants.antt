@@ -1,0 +1,7 @@
+use Rattle.std.proofs.Common.{◌≡◌}
+use Rattle.std.specs.List.{filter_map, range_with_len}
+use Rattle.block_spec.specs.Looks.{movable}
+use Rattle.block_body.proofs.body.Body.movable_rows.Given as goal
+
+abbrev pub invariant-loop-slot : goal.invariant-loop-slot
+invariant-loop-slot l = l.rows.items ≡ filter_map (movable l.self) (range_with_len 0 l.slot)

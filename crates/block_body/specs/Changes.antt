@@ -1,0 +1,17 @@
+-- What a change makes of a slot, be it a session's write or one half of a move.
+use Rattle.std.specs.Prelude.{ℕ, ℤ, not, ◌&&◌, ◌∷◌, Option, None, option_map, if◌then◌else◌}
+use Rattle.isolation_spec.specs.Contents.{key_of}
+use Rattle.block_spec.specs.declared.change.Change.{Change}
+use Rattle.block_spec.specs.Slots.{Slot, is_bare, image_before, pruned, row_after, taken_back}
+use Rattle.block_body.specs.declared.origin.Origin.{Origin}
+
+-- the row after the change, and an entry on top that undoes it
+abbrev pub changed : Origin → Change → Slot → Slot
+changed by new slot = record {
+  row = row_after slot.row new;
+  entries = record { session = by.session; stamp = by.stamp; number = 0; kind = by.kind; before = image_before slot.row new } ∷ slot.entries;
+}
+
+-- The key of a slot that a pruning leaves bare, though it is not: that of the row which its newest change took away.
+abbrev pub key_left : ℕ → Slot → Option ℤ
+key_left oldest slot = if not (is_bare slot) && is_bare (pruned oldest slot) then option_map key_of (taken_back slot).row else None

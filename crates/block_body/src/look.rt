@@ -1,0 +1,95 @@
+//! What a compaction reads of a body.
+ghost use Rattle.std.specs.Prelude.{◌≡◌, ◌<◌, ℕ, [], ◌∷◌, None, IfOk, length, slice_index_or};
+ghost use Rattle.isolation_spec.specs.Contents.{key_of};
+ghost use Rattle.block_columns.specs.Columns.{cell_of};
+ghost use Rattle.block_body.specs.Keys.{HasKey};
+
+use block_columns::Columns;
+use block_spec::{MovableRow, Phase};
+use cell_model::{Cell, Row};
+use std::alloc::{AllocError, Global};
+use std::marker::Model;
+
+/// The rows of a body that may move and its bare slots, and the body's state. Contracts see the
+/// record of `block_spec`.
+#[derive(Drop)]
+pub struct Look {
+    pub(crate) rows: Vec<MovableRow>,
+    pub(crate) gaps: Vec<u32>,
+    pub(crate) phase: Phase,
+    pub(crate) cooling: bool,
+}
+
+impl Model for Look {
+    ghost use Rattle.block_spec.specs.Looks.{Look as LookValue};
+
+    ghost Value = { LookValue };
+
+    ghost view = { λ l. record { rows = l.rows.items; gaps = l.gaps.items; phase = l.phase; cooling = l.cooling } };
+}
+
+impl Look {
+    /// The rows without an entry, with their keys, in slot order.
+    pub fn rows(&self) -> &[MovableRow]
+        ensures { result.now ≡ self.now.rows }
+    {
+        self.rows.as_slice()
+    }
+
+    /// The slots with neither row nor entry, in order.
+    pub fn gaps(&self) -> &[u32]
+        ensures { result.now ≡ self.now.gaps }
+    {
+        self.gaps.as_slice()
+    }
+
+    /// The body's phase.
+    pub fn phase(&self) -> Phase
+        ensures { result ≡ self.now.phase }
+    {
+        self.phase
+    }
+
+    /// Whether the body is cooling.
+    pub fn cooling(&self) -> bool
+        ensures { result ≡ self.now.cooling }
+    {
+        self.cooling
+    }
+}
+
+/// The key of a row, a number of 64 bits.
+pub(crate) fn key_of(row: &Row) -> i64
+    requires { HasKey row.now }
+    ensures { result ≡ key_of row.now }
+{
+    match row.as_slice() {
+        [Cell::Num(key), ..] => i64::try_from(*key).unwrap_or(0),
+        _ => 0,
+    }
+}
+
+/// The number of a first cell, of 64 bits.
+pub(crate) fn key_in(cell: &Cell) -> i64
+    requires { HasKey (cell.now ∷ []) }
+    ensures { result ≡ key_of (cell.now ∷ []) }
+{
+    match cell {
+        Cell::Num(key) => i64::try_from(*key).unwrap_or(0),
+        _ => 0,
+    }
+}
+
+/// A copy of the first cell of a slot, which is null where the slot has no row.
+pub(crate) fn first_cell(alloc: Global, columns: &Columns, slot: u32) -> Result<Cell, AllocError>
+    requires { 0 < length columns.now.columns }
+    ensures { IfOk result (λ cell. cell ≡ cell_of 0 (slice_index_or columns.now.rows slot None)) }
+{
+    let cells = columns.column(0);
+    let at = slot as usize;
+    if at < cells.len() {
+        cells.get(alloc, at)
+    } else {
+        Ok(Cell::Null)
+    }
+}
