@@ -1,2 +1,4 @@
 pub mod Standing
 pub mod Lasting
+pub mod MoveLeaves
+pub mod Leaving

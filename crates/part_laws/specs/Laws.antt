@@ -1,5 +1,5 @@
 -- What an event asks besides its parts, and what lasts.
-use Rattle.std.specs.Prelude.{◌≡◌, ℕ, None, Some}
+use Rattle.std.specs.Prelude.{◌≡◌, ◌≢◌, ℕ, None, Some}
 use Rattle.event_spec.specs.Effects.{CoreEvent, effect}
 use Rattle.event_spec.specs.Lawful.{IsLawful, IsOldest, Stands, Teaches, session_of, transaction}
 use Rattle.event_spec.specs.Parts.{Parts, Shape}
@@ -27,3 +27,9 @@ Outlives = (shape : Shape) (event : CoreEvent) (oldest : ℕ) (parts : Parts) �
 abbrev pub Learns : Type 0
 Learns = (shape : Shape) (event : CoreEvent) (oldest : ℕ) (parts : Parts)
     → Teaches event (reply_to shape parts event) oldest → IsOldest shape oldest (effect shape parts event)
+
+-- A lawful event leaves the transaction of every session but its own.
+abbrev pub Leaves : Type 0
+Leaves = (shape : Shape) (event : CoreEvent) (parts : Parts) (session : ℕ) → IsShape shape → Sound shape parts
+    → IsLawful shape event parts → session_of event ≢ Some session
+    → transaction shape (effect shape parts event) session ≡ transaction shape parts session

@@ -1,0 +1,9 @@
+pub mod Looks
+pub mod Order
+pub mod Fitness
+pub mod Shards
+pub mod Distinct
+pub mod Frames
+pub mod Replies
+pub mod Makes
+pub mod Reached

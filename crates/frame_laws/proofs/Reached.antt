@@ -1,0 +1,15 @@
+-- What holds of every core that lawful events reach.
+use Rattle.frame_laws.proofs.Shards.{shards_kept, shards_open}
+use Rattle.frame_laws.specs.Laws.{CoreKept, CoreOpens}
+use Rattle.run_laws.proofs.Logs.{opens}
+use Rattle.sound_laws.proofs.Invariant.{keeps}
+
+pub core_opens : CoreOpens
+core_opens sh shape = record { measures = shape; sound = opens sh shape; shards = shards_open sh }
+
+pub core_kept : CoreKept
+core_kept sh e s holds lawful = record {
+  measures = holds.measures;
+  sound = keeps sh s e holds.measures holds.sound lawful;
+  shards = shards_kept sh e s holds.shards;
+}
