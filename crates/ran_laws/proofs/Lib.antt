@@ -1,0 +1,10 @@
+mod Dues
+mod Meeting
+mod Moments
+mod Open
+mod Lines
+mod Coming
+mod Asking
+mod Along
+mod Named
+mod Upkeep

@@ -1,0 +1,10 @@
+pub mod Dues
+pub mod Meeting
+pub mod Moments
+pub mod Open
+pub mod Lines
+pub mod Coming
+pub mod Asking
+pub mod Along
+pub mod Named
+pub mod Upkeep

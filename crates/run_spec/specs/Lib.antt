@@ -1,0 +1,9 @@
+pub mod Occurrences
+pub mod Opened
+pub mod Asked
+pub mod Told
+pub mod Calls
+pub mod Ran
+pub mod Handed
+pub mod Examples
+pub mod RunExamples

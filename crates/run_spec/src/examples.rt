@@ -1,0 +1,49 @@
+//! Worked examples of calls: each is a fact that the definitions compute.
+ghost use Rattle.run_spec.specs.RunExamples.{ExportsBesideAWorker};
+ghost use Rattle.run_spec.specs.Examples.{GetsTellTheRow, WritesAreTheTransactions, ChangesThawFirst, OthersDoNot, ScansReadEachBlock, ExportsCountImages, PrunesGoBlockByBlock, CompactionsMoveAllPairs, WorkersTakeTurns};
+
+/// A get is one event, and its line is the row or that there is none.
+pub fn gets_tell_the_row()
+    ensures { GetsTellTheRow }
+{}
+
+/// A transaction has what it wrote until it ends, and its events are handed that.
+pub fn writes_are_the_transactions()
+    ensures { WritesAreTheTransactions }
+{}
+
+/// A change thaws the imaged block in which the key's row lies, and no other block.
+pub fn changes_thaw_first()
+    ensures thaws { ChangesThawFirst }
+    ensures others { OthersDoNot }
+{}
+
+/// A scan reads each block, and its line has the rows by their keys.
+pub fn scans_read_each_block()
+    ensures { ScansReadEachBlock }
+{}
+
+/// An export counts rows, batches, and the blocks that were imaged at their read.
+pub fn exports_count_images()
+    ensures { ExportsCountImages }
+{}
+
+/// A pruning asks for the oldest snapshot once, and prunes each block by it.
+pub fn prunes_go_block_by_block()
+    ensures { PrunesGoBlockByBlock }
+{}
+
+/// A compaction moves all pairs that its looks give, in one event.
+pub fn compactions_move_all_pairs()
+    ensures { CompactionsMoveAllPairs }
+{}
+
+/// A worker's turn is a list of calls, of which those that do nothing have no line.
+pub fn workers_take_turns()
+    ensures { WorkersTakeTurns }
+{}
+
+/// A session exports an empty table beside a worker's turn: script, log and text belong together.
+pub fn a_session_exports_beside_a_worker()
+    ensures { ExportsBesideAWorker }
+{}

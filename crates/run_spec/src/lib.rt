@@ -1,0 +1,5 @@
+//! What a run of a script is: the events that its calls make in the one log, and the lines that are
+//! made of their replies.
+#![tactic(auto)]
+
+pub mod examples;
