@@ -1,5 +1,5 @@
 -- Marks: the part 0 is the session whose transaction is open, 0 where none is. Each other part is a number that only grows.
-use Rattle.std.specs.Prelude.{◌≡◌, ℕ, zero, suc, ◌+◌, ◌<◌, ◌≤◌, ◌^◌, ◌==◌, ◌++◌, Bool, true, cond, List, Option, None, Some, length, slice_index, slice_set}
+use Rattle.std.specs.Prelude.{◌≡◌, ℕ, zero, suc, ◌+◌, ◌<◌, ◌≤◌, ◌^◌, ◌==◌, ◌++◌, Bool, true, false, cond, List, Option, None, Some, length, slice_index, slice_set}
 use Rattle.hall_cells.specs.declared.deed.Deed.{Deed}
 use Rattle.hall_cells.specs.declared.deed.Deed.TheVariants.{Begin, End, Raise}
 use Rattle.hall_cells.specs.declared.deed.Least.{Least}
@@ -70,6 +70,7 @@ meaning_of parts start passes = record {
   stands = Stands parts;
   fits = Fits parts;
   effect = after_deed parts;
+  takes_memory = λ deed. false;
   transaction = open_of parts;
   fact = IsLeast parts;
   passes = passes;

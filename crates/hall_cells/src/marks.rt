@@ -69,6 +69,8 @@ impl Parts for Marks {
 
     ghost cost = { λ sh e s. 1 };
 
+    ghost takes_memory = { λ e. false };
+
     ghost refused = { λ reply. false };
 
     ghost transaction = { open_of };

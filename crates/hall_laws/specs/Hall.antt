@@ -1,7 +1,7 @@
 -- What the core's events mean to a hall.
 use Rattle.std.specs.Prelude.{◌≡◌, ℕ, None}
 use Rattle.event_spec.specs.Effects.{CoreEvent, effect}
-use Rattle.event_spec.specs.Lawful.{FitsIn, IsOldest, Opened, Stands, session_of, transaction}
+use Rattle.event_spec.specs.Lawful.{FitsIn, IsOldest, Opened, Stands, session_of, takes_memory, transaction}
 use Rattle.event_spec.specs.Parts.{CorePart, Parts, Shape}
 use Rattle.event_spec.specs.Replay.{opening}
 use Rattle.event_spec.specs.Sound.{IsShape}
@@ -20,6 +20,7 @@ core_meaning shape start passes blocks = record {
   stands = Stands shape;
   fits = FitsIn shape;
   effect = λ made parts. effect shape parts made;
+  takes_memory = takes_memory;
   transaction = transaction shape;
   fact = IsOldest shape;
   passes = passes;

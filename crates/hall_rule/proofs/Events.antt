@@ -46,7 +46,7 @@ module _ {P E T F : Type 0} (M : Meaning P E T F) (laws : Laws M) where
         laws.local event hand (replay M v.log) (replay M log) ok new.sound asks.covers asks.agrees agrees asks.stands asks.fits,
       )
 
-  module _ (slots id : ℕ) (v : View E) (live : v.spent ≡ false) (hand : List (Option P)) (e : Entry E) (pass : e.pass ≡ id) (under : has e.session v.sessions ≡ true) (asks : Asks hand v e.event)
+  module _ (slots id : ℕ) (v : View E) (live : v.spent ≡ false) (hand : List (Option P)) (e : Entry E) (pass : e.pass ≡ id) (under : has e.session v.sessions ≡ true) (asks : Asks hand v e.event) (may : e.refused ≡ true → M.takes_memory e.event ≡ true)
       (held : (k : ℕ) → Holds hand k → stage v k ≡ 2) (none_out : v.out ≡ 0) (few : length v.mine < 2 ^ 56 * hands_of v)
       (ok : M.sound (replay M v.log)) (room : length (replay M v.log) ≡ length M.start) where
     module _ (log : List (Entry E)) (o : Owners) (s : State (Option P) (View E)) (kept : HallInvariant M log o s) (at : get_elem? s.views id ≡ maybe.some v) where
@@ -66,7 +66,7 @@ module _ {P E T F : Type 0} (M : Meaning P E T F) (laws : Laws M) where
       ending ws counted wide word =
           let old = kept.at_home.each id v at live in
           let n : length (log ++ e ∷ []) ≡ length log + 1 = length-append log (e ∷ []) in
-          let both : LawfulFrom M M.start (log ++ e ∷ []) = lawful_append M M.start log (e ∷ []) kept.lawful.lawful (still.1, still.2, tt) in
+          let both : LawfulFrom M M.start (log ++ e ∷ []) = lawful_append M M.start log (e ∷ []) kept.lawful.lawful (still.1, still.2, may, tt) in
           record {
             joined = refl;
             sessions = refl;

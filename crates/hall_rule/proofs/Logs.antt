@@ -85,15 +85,15 @@ module _ {P E T F : Type 0} (M : Meaning P E T F) where
 
   pub lawful_append : (s : List P) (xs ys : List (Entry E)) → LawfulFrom M s xs → LawfulFrom M (replay_from M s xs) ys → LawfulFrom M s (xs ++ ys)
   lawful_append s [] ys a b = b
-  lawful_append s (x ∷ xs) ys a b = (a.0, a.1, lawful_append (after M x s) xs ys a.2 b)
+  lawful_append s (x ∷ xs) ys a b = (a.0, a.1, a.2, lawful_append (after M x s) xs ys a.3 b)
 
   pub lawful_front : (s : List P) (xs ys : List (Entry E)) → LawfulFrom M s (xs ++ ys) → LawfulFrom M s xs
   lawful_front s [] ys a = tt
-  lawful_front s (x ∷ xs) ys a = (a.0, a.1, lawful_front (after M x s) xs ys a.2)
+  lawful_front s (x ∷ xs) ys a = (a.0, a.1, a.2, lawful_front (after M x s) xs ys a.3)
 
   pub lawful_rest : (s : List P) (xs ys : List (Entry E)) → LawfulFrom M s (xs ++ ys) → LawfulFrom M (replay_from M s xs) ys
   lawful_rest s [] ys a = a
-  lawful_rest s (x ∷ xs) ys a = lawful_rest (after M x s) xs ys a.2
+  lawful_rest s (x ∷ xs) ys a = lawful_rest (after M x s) xs ys a.3
 
   pub spares_append : (q : ℕ) (xs ys : List (Entry E)) → Spares M q xs → Spares M q ys → Spares M q (xs ++ ys)
   spares_append q [] ys a b = b
@@ -117,20 +117,20 @@ module _ {P E T F : Type 0} (M : Meaning P E T F) where
 
     pub sound_after : (s : List P) (es : List (Entry E)) → M.sound s → LawfulFrom M s es → M.sound (replay_from M s es)
     sound_after s [] ok a = ok
-    sound_after s (e ∷ es) ok a = sound_after (after M e s) es (sound_next e s ok a.0 a.1) a.2
+    sound_after s (e ∷ es) ok a = sound_after (after M e s) es (sound_next e s ok a.0 a.1) a.3
 
     -- The transaction of a session is what it was, where no entry since is of that session.
     pub transaction_stands : (q : ℕ) (s : List P) (es : List (Entry E)) → M.sound s → LawfulFrom M s es → Spares M q es → M.transaction (replay_from M s es) q ≡ M.transaction s q
     transaction_stands q s [] ok a spared = refl
     transaction_stands q s (e ∷ es) ok a spared =
-        transaction_stands q (after M e s) es (sound_next e s ok a.0 a.1) a.2 spared.1
+        transaction_stands q (after M e s) es (sound_next e s ok a.0 a.1) a.3 spared.1
         ∙ after_is (λ t. M.transaction t q ≡ M.transaction s q) e s refl (laws.leaves e.event s q ok a.0 a.1 spared.0)
 
     -- A lasting fact still holds.
     pub fact_stands : (f : F) (s : List P) (es : List (Entry E)) → M.sound s → LawfulFrom M s es → M.fact f s → M.fact f (replay_from M s es)
     fact_stands f s [] ok a h = h
     fact_stands f s (e ∷ es) ok a h =
-        fact_stands f (after M e s) es (sound_next e s ok a.0 a.1) a.2 (after_is (M.fact f) e s h (laws.outlives e.event f s ok a.0 a.1 h))
+        fact_stands f (after M e s) es (sound_next e s ok a.0 a.1) a.3 (after_is (M.fact f) e s h (laws.outlives e.event f s ok a.0 a.1 h))
 
     -- What is spared since an earlier log stays as that log leaves it.
     pub stays : (sessions : List ℕ) (earlier later : List (Entry E)) → M.sound M.start → later ≡ earlier ++ drop (length earlier) later → LawfulFrom M M.start later → ((q : ℕ) → has q sessions ≡ true → Spares M q (drop (length earlier) later))
@@ -151,4 +151,4 @@ module _ {P E T F : Type 0} (M : Meaning P E T F) where
     pub room_stands : (s : List P) (es : List (Entry E)) → M.sound s → LawfulFrom M s es → length (replay_from M s es) ≡ length s
     room_stands s [] ok a = refl
     room_stands s (e ∷ es) ok a =
-        room_stands (after M e s) es (sound_next e s ok a.0 a.1) a.2 ∙ after_is (λ t. length t ≡ length s) e s refl (laws.room e.event s ok)
+        room_stands (after M e s) es (sound_next e s ok a.0 a.1) a.3 ∙ after_is (λ t. length t ≡ length s) e s refl (laws.room e.event s ok)

@@ -63,10 +63,11 @@ module _ {P E T F : Type 0} (M : Meaning P E T F) where
   abbrev pub replay : List (Entry E) → List P
   replay = replay_from M.start
 
-  -- Each event is lawful where it is made.
+  -- Each event is lawful where it is made, and one that takes no memory is not refused.
   abbrev pub LawfulFrom : List P → List (Entry E) → Type 0
   LawfulFrom s [] = Unit {0}
-  LawfulFrom s (e ∷ es) = M.stands e.event s × M.fits e.event s × LawfulFrom (after e s) es
+  LawfulFrom s (e ∷ es) =
+      M.stands e.event s × M.fits e.event s × (e.refused ≡ true → M.takes_memory e.event ≡ true) × LawfulFrom (after e s) es
 
   -- No entry changes the part k.
   abbrev pub Untouched : ℕ → List P → List (Entry E) → Type 0

@@ -13,6 +13,7 @@ pub record Meaning (P E T F : Type 0) : Type 1 where
   pub stands : E → List P → Type 0
   pub fits : E → List P → Type 0
   pub effect : E → List P → List P
+  pub takes_memory : E → Bool
   pub transaction : List P → ℕ → Option T
   pub fact : F → List P → Type 0
   -- for how many passes the hall was made
@@ -30,6 +31,7 @@ meaning core_type core passes = let shape = core_type.shape_of core in record {
   stands = core_type.stands shape;
   fits = core_type.fits shape;
   effect = core_type.effect shape;
+  takes_memory = core_type.takes_memory;
   transaction = core_type.transaction shape;
   fact = core_type.fact shape;
   passes = passes;

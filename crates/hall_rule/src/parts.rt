@@ -56,6 +56,9 @@ pub trait Parts: Sized {
     // The most steps that an event takes.
     ghost cost: { Self.Shape → Self.Event → List Self.Part → ℕ };
 
+    // Whether an event takes memory, for want of which alone it may be refused.
+    ghost takes_memory: { Self.Event → Bool };
+
     // Whether a reply says that memory was refused.
     ghost refused: { Self.Reply → Bool };
 
@@ -104,7 +107,7 @@ pub trait Parts: Sized {
 
     /// Runs an event on the parts in the hand, which has each part that it touches. What it makes of
     /// them and what it replies is the same for every sound state that has these parts. Where memory
-    /// is refused the hand stays as it was.
+    /// is refused the hand stays as it was, and only an event that takes memory is refused so.
     fn run<L: Ledger>(
         shape: &Self::Shape,
         event: Self::Event,
@@ -116,6 +119,7 @@ pub trait Parts: Sized {
         ensures room { SameRoom held.old held.new }
         ensures meets { (s : List Self.Part) → sound shape.now s → Agrees held.old s → stands shape.now event s → fits shape.now event s
             → MatchBool (refused result) (held.new ≡ held.old) (Agrees held.new (effect shape.now event s) × (result ≡ reply shape.now event s)) }
+        ensures refuses { refused result ≡ true → takes_memory event ≡ true }
         ensures steps { (s : List Self.Part) → sound shape.now s → Agrees held.old s → stands shape.now event s → fits shape.now event s → steps.new ≤ steps.old + cost shape.now event s };
 
     // An opening state is sound, and no session has a transaction in it.

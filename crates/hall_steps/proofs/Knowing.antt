@@ -174,11 +174,11 @@ module _ {P E T F : Type 0} (M : Meaning P E T F) where
       staged_below (x ∷ xs) (suc i) e = let h : i < length xs = staged_below xs i e in omega (arith, h)
 
   -- an event was made
-  pub made : (laws : Laws M) (id : ℕ) (v : View E) (hand hand' : List (Option P)) (e : Entry E) (before : List (Entry E)) → Knows M id (v, []) hand → Asks M laws hand v e.event → length v.mine < 2 ^ 56 * hands_of v → e.pass ≡ id → has e.session v.sessions ≡ true
+  pub made : (laws : Laws M) (id : ℕ) (v : View E) (hand hand' : List (Option P)) (e : Entry E) (before : List (Entry E)) → Knows M id (v, []) hand → Asks M laws hand v e.event → (e.refused ≡ true → M.takes_memory e.event ≡ true) → length v.mine < 2 ^ 56 * hands_of v → e.pass ≡ id → has e.session v.sessions ≡ true
       → SameRoom hand hand'
       → ((s : List P) → M.sound s → Agrees hand s → M.stands e.event s → M.fits e.event s → MatchBool e.refused (hand' ≡ hand) (Agrees hand' (M.effect e.event s)))
       → Learned M id v before → Knows M id (added v before e, []) hand' × EndsWith M id v before e (added v before e)
-  made laws id v hand hand' e before knows asks few pass under same meets new =
+  made laws id v hand hand' e before knows asks may few pass under same meets new =
       let still = stays_lawful M laws id hand v e.event before knows.sound knows.room asks knows.held new in
       let t : List P = replay M before in
       let m = meets t new.sound still.0 still.1 still.2 in
@@ -192,7 +192,7 @@ module _ {P E T F : Type 0} (M : Meaning P E T F) where
           begins = knows.begins;
           few_hands = knows.few_hands;
           sound = subst M.sound (sym after') (after_is M M.sound e t new.sound (laws.keeps e.event t new.sound still.1 still.2));
-          lawful = lawful_append M M.start before (e ∷ []) new.lawful (still.1, still.2, tt);
+          lawful = lawful_append M M.start before (e ∷ []) new.lawful (still.1, still.2, may, tt);
           mine = own_append (id ∷ v.joined) before (e ∷ []) ∙ (ap (λ (x : List (Entry E)). x ++ own (id ∷ v.joined) (e ∷ [])) new.mine ∙ ap (λ (x : List (Entry E)). v.mine ++ x) (own_all (id ∷ v.joined) id (e ∷ []) (has_head id v.joined) (pass, tt)));
           total = (let n : length (v.mine ++ e ∷ []) ≡ length v.mine + 1 = length-append v.mine (e ∷ []) in let t = knows.total in omega (arith, n, t));
           distinct = knows.distinct;
@@ -246,12 +246,12 @@ module _ {P E T F : Type 0} (M : Meaning P E T F) where
   gave_at z s t hand hand' k p pass there st after' hands =
       (st.0 ∙ pass.0, known_at s.id t.id (given s.me.0 k, []) t.me (set hand k None) hand' st.1 after' hands (gave s.id s.me.0 hand k p (at_rest s.id s.me hand pass.1) there))
 
-  pub made_at : (laws : Laws M) (z : TableId) (s t : Seat (Option P) (View E)) (hand hand' : List (Option P)) (e : Entry E) (before : List (Entry E)) → IsOf M z s hand → Asks M laws hand s.me.0 e.event → length s.me.0.mine < 2 ^ 56 * hands_of s.me.0 → e.pass ≡ s.id → has e.session s.me.0.sessions ≡ true
+  pub made_at : (laws : Laws M) (z : TableId) (s t : Seat (Option P) (View E)) (hand hand' : List (Option P)) (e : Entry E) (before : List (Entry E)) → IsOf M z s hand → Asks M laws hand s.me.0 e.event → (e.refused ≡ true → M.takes_memory e.event ≡ true) → length s.me.0.mine < 2 ^ 56 * hands_of s.me.0 → e.pass ≡ s.id → has e.session s.me.0.sessions ≡ true
       → SameRoom hand hand'
       → ((x : List P) → M.sound x → Agrees hand x → M.stands e.event x → M.fits e.event x → MatchBool e.refused (hand' ≡ hand) (Agrees hand' (M.effect e.event x)))
       → Learned M s.id s.me.0 before → IsSameSeat s t → t.me ≡ (added s.me.0 before e, []) → IsOf M z t hand' × Extends M s before e t
-  made_at laws z s t hand hand' e before pass asks few by under same meets new st after' =
-      let r = made laws s.id s.me.0 hand hand' e before (at_rest s.id s.me hand pass.1) asks few by under same meets new in (
+  made_at laws z s t hand hand' e before pass asks may few by under same meets new st after' =
+      let r = made laws s.id s.me.0 hand hand' e before (at_rest s.id s.me hand pass.1) asks may few by under same meets new in (
         (st.0 ∙ pass.0, known_at s.id t.id (added s.me.0 before e, []) t.me hand' hand' st.1 after' refl r.0),
         (st, subst (λ (x : View E). EndsWith M s.id s.me.0 before e x) (sym (ap (λ (m : Me (Option P) (View E)). m.0) after')) r.1),
       )
@@ -281,9 +281,9 @@ module _ {C P E R S T F : Type 0} (t : Ghosts C P E R S T F) (core : C) (passes 
   abbrev pub Done : S → Type 0
   Done sh = (before : List (Entry E)) × Extends M s before (entry_of s.id s.me.0 (t.refused reply) event) u × MatchBool (t.refused reply) (hand' ≡ hand) (reply ≡ t.reply sh event (replay M before)) × (new ≤ old + t.cost sh event (replay M before))
 
-  pub finish : (sh : S) → sh ≡ t.shape_of core → IsOf M z s hand → Asks M laws hand s.me.0 event → length s.me.0.mine < 2 ^ 56 * hands_of s.me.0 → SameRoom hand hand' → Meets sh → Costs sh → (n : ℕ) → Adds M s.id s.me.0 (entry_of s.id s.me.0 (t.refused reply) event) n u.me → IsSameSeat s u
+  pub finish : (sh : S) → sh ≡ t.shape_of core → IsOf M z s hand → Asks M laws hand s.me.0 event → (t.refused reply ≡ true → t.takes_memory event ≡ true) → length s.me.0.mine < 2 ^ 56 * hands_of s.me.0 → SameRoom hand hand' → Meets sh → Costs sh → (n : ℕ) → Adds M s.id s.me.0 (entry_of s.id s.me.0 (t.refused reply) event) n u.me → IsSameSeat s u
       → IsOf M z u hand' × Done sh
-  finish sh is pass asks few same meets costs n told st =
+  finish sh is pass asks may few same meets costs n told st =
       let before : List (Entry E) = told.0 in
       let still = stays_lawful M laws s.id hand s.me.0 event before pass.1.sound pass.1.room asks pass.1.held told.1 in
       let meets' : Meets (t.shape_of core) = subst Meets is meets in
@@ -292,7 +292,7 @@ module _ {C P E R S T F : Type 0} (t : Ghosts C P E R S T F) (core : C) (passes 
       let here = meets' x told.1.sound still.0 still.1 still.2 in
       let e : Entry E = entry_of s.id s.me.0 (t.refused reply) event in
       let end' : u.me ≡ (added s.me.0 before e, []) = λ i. (told.2 i, told.3 i) in
-      let r = made_at M laws z s u hand hand' e before pass asks few refl (least_there s.me.0.sessions (let f = few in omega (arith, f))) same
+      let r = made_at M laws z s u hand hand' e before pass asks may few refl (least_there s.me.0.sessions (let f = few in omega (arith, f))) same
       (λ y ok agrees stands fits. match_first (hand' ≡ hand) (Agrees hand' (t.effect (t.shape_of core) event y)) (reply ≡ t.reply (t.shape_of core) event y) (t.refused reply) (meets' y ok agrees stands fits)) told.1 st end' in (
         r.0,
         subst Done (sym is) (before, r.1, match_second (hand' ≡ hand) (Agrees hand' (t.effect (t.shape_of core) event x)) (reply ≡ t.reply (t.shape_of core) event x) (t.refused reply) here, costs' x told.1.sound still.0 still.1 still.2),

@@ -32,7 +32,7 @@ count_as-requires-clause-keeps g c κs within =
       names = r.named;
     } in
     let e = entry_of id v (t.refused c.run-reply.result) event in
-    rw (c.of-told.ensures, knows.none_out) (adds M laws c.args.board.now.table_id.slots id v knows.live hand e refl (least_there v.sessions (let f = r.few in omega (arith, f))) asks knows.held knows.home r.few knows.sound knows.room)
+    rw (c.of-told.ensures, knows.none_out) (adds M laws c.args.board.now.table_id.slots id v knows.live hand e refl (least_there v.sessions (let f = r.few in omega (arith, f))) asks c.run-reply.ensures.refuses knows.held knows.home r.few knows.sound knows.room)
 
 pub returns-clause-pass : goal.returns-clause-pass
 returns-clause-pass g c =
@@ -59,7 +59,7 @@ returns-clause-pass g c =
       names = r.named;
     } in
     let told = subst (λ (x : g.row.C-Event.Denot). Adds M id v (entry_of id v (t.refused reply) x) c.count_as.ensures.told.0 c.count_as.new.seat.me) c.of-told.ensures c.count_as.ensures.told.1 in
-    (finish t key.core.value key.passes laws c.args.board.now.table_id c.args.seat.now c.count_as.new.seat hand hand' event reply c.args.steps.now c.run-reply.new.steps c.args.shape.now r.shape r.pass asks r.few c.run-reply.ensures.room
+    (finish t key.core.value key.passes laws c.args.board.now.table_id c.args.seat.now c.count_as.new.seat hand hand' event reply c.args.steps.now c.run-reply.new.steps c.args.shape.now r.shape r.pass asks c.run-reply.ensures.refuses r.few c.run-reply.ensures.room
     c.run-reply.ensures.meets c.run-reply.ensures.steps c.count_as.ensures.told.0 told (c.count_as.ensures.table, c.count_as.ensures.id)).0
 
 pub returns-clause-log : goal.returns-clause-log
@@ -87,5 +87,5 @@ returns-clause-log g c =
       names = r.named;
     } in
     let told = subst (λ (x : g.row.C-Event.Denot). Adds M id v (entry_of id v (t.refused reply) x) c.count_as.ensures.told.0 c.count_as.new.seat.me) c.of-told.ensures c.count_as.ensures.told.1 in
-    (finish t key.core.value key.passes laws c.args.board.now.table_id c.args.seat.now c.count_as.new.seat hand hand' event reply c.args.steps.now c.run-reply.new.steps c.args.shape.now r.shape r.pass asks r.few c.run-reply.ensures.room
+    (finish t key.core.value key.passes laws c.args.board.now.table_id c.args.seat.now c.count_as.new.seat hand hand' event reply c.args.steps.now c.run-reply.new.steps c.args.shape.now r.shape r.pass asks c.run-reply.ensures.refuses r.few c.run-reply.ensures.room
     c.run-reply.ensures.meets c.run-reply.ensures.steps c.count_as.ensures.told.0 told (c.count_as.ensures.table, c.count_as.ensures.id)).1
