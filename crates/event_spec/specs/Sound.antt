@@ -36,13 +36,14 @@ pub record HeadHolds (shape : Shape) (parts : Parts) (table : ℕ) : Type 0 wher
       (below (blocks_of shape table))
 
 -- A body of a table: its columns are the table's, it has as many slots as the table has in a block, and each version of
--- a row fits. Cooling it has a row. Sealed or imaged it has no entry, its rows are a front of its slots, and its stamp
--- is the last.
+-- a row fits. Cooling it has a row, and two rounds without a modification. Sealed or imaged it has no entry, its rows are
+-- a front of its slots, and its stamp is the last.
 pub record BodyHolds (shape : Shape) (table : ℕ) (body : Body) : Type 0 where
   pub columns : body.columns ≡ columns_of (columns_in shape table)
   pub slots : length body.slots ≡ slots_of shape table
   pub versions : All (λ (slot : Slot). VersionsFit (columns_in shape table) slot.row slot.entries) body.slots
   pub cooling : body.cooling ≡ true → has_row body ≡ true
+  pub rested : body.cooling ≡ true → body.rounds ≡ 2
   pub quiet : is_loose body.phase ≡ false → is_quiet body ≡ true
   pub dense : is_loose body.phase ≡ false → is_dense body ≡ true
   pub sealed : (stamp : ℕ) → body.phase ≡ Sealed stamp → stamp ≡ body.last

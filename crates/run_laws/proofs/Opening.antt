@@ -200,6 +200,7 @@ module _ (sh : Shape) (shape : IsShape sh) where
     slots = size (slots_of sh t) bare;
     versions = all_replicated (λ (slot : Slot). VersionsFit (columns_in sh t) slot.row slot.entries) (slots_of sh t) bare tt;
     cooling = λ is. absurd (true_false (sym is));
+    rested = λ is. absurd (true_false (sym is));
     quiet = λ is. absurd (true_false is);
     dense = λ is. absurd (true_false is);
     sealed = λ stamp is. cc;

@@ -53,6 +53,7 @@ module _ (sh : Shape) (t : ℕ) (x : Body) (old : BodyHolds sh t x) where
     slots = length-set x.slots j (g (slot_in x j)) ∙ old.slots;
     versions = All-set (SlotFits sh t) x.slots j (g (slot_in x j)) fit old.versions;
     cooling = λ is. absurd (true_false (sym is));
+    rested = λ is. absurd (true_false (sym is));
     quiet = λ l. absurd (true_false (sym loose ∙ l));
     dense = λ l. absurd (true_false (sym loose ∙ l));
     sealed = old.sealed;
@@ -69,6 +70,7 @@ module _ (sh : Shape) (t : ℕ) (x : Body) (old : BodyHolds sh t x) where
     slots = length-map x.slots f ∙ old.slots;
     versions = fit;
     cooling = λ is. map_row f row x.slots ∙ old.cooling is;
+    rested = old.rested;
     quiet = λ l. map_quiet f none x.slots (old.quiet l);
     dense = λ l. map_dense f row x ∙ old.dense l;
     sealed = old.sealed;
@@ -84,6 +86,7 @@ module _ (sh : Shape) (t : ℕ) (x : Body) (old : BodyHolds sh t x) where
     slots = length-map x.slots f ∙ old.slots;
     versions = fit;
     cooling = λ is. absurd (true_false (sym is));
+    rested = λ is. absurd (true_false (sym is));
     quiet = λ l. absurd (true_false (sym loose ∙ l));
     dense = λ l. absurd (true_false (sym loose ∙ l));
     sealed = old.sealed;
@@ -98,6 +101,7 @@ module _ (sh : Shape) (t : ℕ) (x : Body) (old : BodyHolds sh t x) where
     slots = old.slots;
     versions = old.versions;
     cooling = λ is. go x.cooling refl is;
+    rested = λ is. rest x.cooling refl is;
     quiet = old.quiet;
     dense = old.dense;
     sealed = old.sealed;
@@ -113,12 +117,22 @@ module _ (sh : Shape) (t : ℕ) (x : Body) (old : BodyHolds sh t x) where
           (and_parts (is_loose x.phase && not x.cooling && not head) (has_row x)
           (and_parts (is_loose x.phase && not x.cooling && not head && has_row x) (min (x.rounds + 1) 2 == 2) turns').0).1
 
+      is_two : (n : ℕ) → (n == 2) ≡ true → n ≡ 2
+      is_two n e = grind (arith, nat_tests)
+
+      rest : (b : Bool) → x.cooling ≡ b → (x.cooling || turns head x) ≡ true → min (x.rounds + 1) 2 ≡ 2
+      rest true c is = let two = old.rested c in omega (arith, two)
+      rest false c is =
+          let turns' : turns head x ≡ true = sym (ap (λ b. b || turns head x) c) ∙ is in
+          is_two (min (x.rounds + 1) 2) (and_parts (is_loose x.phase && not x.cooling && not head && has_row x) (min (x.rounds + 1) 2 == 2) turns').1
+
   pub thawed_holds : BodyHolds sh t (thawed x)
   thawed_holds = record {
     columns = old.columns;
     slots = old.slots;
     versions = old.versions;
     cooling = λ is. absurd (true_false (sym is));
+    rested = λ is. absurd (true_false (sym is));
     quiet = λ l. absurd (true_false l);
     dense = λ l. absurd (true_false l);
     sealed = λ stamp is. cc;
@@ -133,6 +147,7 @@ module _ (sh : Shape) (t : ℕ) (x : Body) (old : BodyHolds sh t x) where
     slots = old.slots;
     versions = old.versions;
     cooling = old.cooling;
+    rested = old.rested;
     quiet = λ l. old.quiet (same x.phase refl l);
     dense = λ l. old.dense (same x.phase refl l);
     sealed = λ stamp is. sealed' x.phase refl stamp is;
@@ -168,6 +183,7 @@ module _ (sh : Shape) (t : ℕ) (x : Body) (old : BodyHolds sh t x) where
         slots = old.slots;
         versions = old.versions;
         cooling = old.cooling;
+        rested = old.rested;
         quiet = λ l. all.quiet;
         dense = λ l. ap (λ b. b && is_front x.slots) all.row ∙ all.front;
         sealed = λ stamp is. sym (same_stamp (x.last + 1) stamp is);
