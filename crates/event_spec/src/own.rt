@@ -1,4 +1,5 @@
 //! What an event is handed of its session's open transaction.
+ghost use Rattle.std.specs.Prelude.{◌≡◌};
 
 use block_layout::SlotId;
 use isolation_spec::Place;
@@ -36,6 +37,15 @@ impl From<Arc<BTreeMap<Place, SlotId>>> for OwnWrites {
 
     fn from(by_row: Arc<BTreeMap<Place, SlotId>>) -> OwnWrites {
         OwnWrites { by_row }
+    }
+}
+
+impl OwnWrites {
+    /// The rows, each with its slot's place, lent.
+    pub fn by_row(&self) -> &BTreeMap<Place, SlotId>
+        ensures { result.now.entries ≡ self.now }
+    {
+        &self.by_row
     }
 }
 
