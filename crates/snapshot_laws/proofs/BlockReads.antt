@@ -143,10 +143,10 @@ module _ (sh : Shape) (s : Parts) (own : OwnTransaction) (t : ℕ) (m : Isolatio
       (there.0, omega (arith, less, size))
 
   all : (key : ℤ) (row : Row) → at_place (seen_rows m open') (place_at t key) ≡ Some row
-      → (p : ℕ) × HasPlace sh t p × (row_read sh s own t p ≡ Some row)
+      → (p : ℕ) × HasPlace sh t p × (row_read sh s own t p ≡ Some row) × (key_of row ≡ key)
   all key row is = go (option_cases (at_place own.writes (place_at t key)))
     where
-      go : (at_place own.writes (place_at t key) ≡ None) ⊎ ((w : ℕ) × (at_place own.writes (place_at t key) ≡ Some w)) → (p : ℕ) × HasPlace sh t p × (row_read sh s own t p ≡ Some row)
+      go : (at_place own.writes (place_at t key) ≡ None) ⊎ ((w : ℕ) × (at_place own.writes (place_at t key) ≡ Some w)) → (p : ℕ) × HasPlace sh t p × (row_read sh s own t p ≡ Some row) × (key_of row ≡ key)
       go (inl none) =
           let committed = ap (λ o. over o (at_place (state_at m.history own.snapshot.number) (place_at t key))) (sym (no_own key none)) ∙ sym (sees key) ∙ is in
           let found = (sessions.before (slot_at sh s) (places_at sh s) (desk_at sh s) m f.follows own.session own.snapshot has).all t key row committed in
@@ -156,6 +156,7 @@ module _ (sh : Shape) (s : Parts) (own : OwnTransaction) (t : ℕ) (m : Isolatio
             place_there found.0 row shown,
             row_kept (λ row. is_elsewhere (at_place own.writes (place_at t (key_of row))) found.0) (seen (slot_at sh s t found.0) own.snapshot.stamp own.session) row shown
                 (ap (λ k. is_elsewhere (at_place own.writes (place_at t k)) found.0) key_is ∙ ap (λ o. is_elsewhere o found.0) none),
+            key_is,
           )
       go (inr w) =
           let mine = own_row key w.0 w.1 in
@@ -166,6 +167,7 @@ module _ (sh : Shape) (s : Parts) (own : OwnTransaction) (t : ℕ) (m : Isolatio
             place_there w.0 row shown,
             row_kept (λ row. is_elsewhere (at_place own.writes (place_at t (key_of row))) w.0) (seen (slot_at sh s t w.0) own.snapshot.stamp own.session) row shown
                 (ap (λ k. is_elsewhere (at_place own.writes (place_at t k)) w.0) key_is ∙ ap (λ o. is_elsewhere o w.0) w.1 ∙ num_refl w.0),
+            key_is,
           )
 
   once : (one other : ℕ) (row another : Row) → row_read sh s own t one ≡ Some row → row_read sh s own t other ≡ Some another → key_of row ≡ key_of another → one ≡ other

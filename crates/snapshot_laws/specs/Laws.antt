@@ -38,6 +38,7 @@ pub record ReadsEachOnce (shape : Shape) (parts : Parts) (own : OwnTransaction) 
       → at_place rows (place_of table row) ≡ Some row
   pub all : (key : ℤ) (row : Row) → at_place rows (place_at table key) ≡ Some row
       → (place : ℕ) × HasPlace shape table place × (row_read shape parts own table place ≡ Some row)
+      × (key_of row ≡ key)
   pub once : (one other : ℕ) (row another : Row)
       → row_read shape parts own table one ≡ Some row → row_read shape parts own table other ≡ Some another
       → key_of row ≡ key_of another → one ≡ other
