@@ -44,7 +44,7 @@ both false b e f = absurd (not_true e)
 number_is : (a b : ℕ) → (a == b) ≡ true → a ≡ b
 number_is a b e = grind (arith, nat_tests, e)
 
-named : (session : ℕ) (e : CoreEvent) → is_of session e ≡ true → IfSome (session_of e) (λ other. other ≡ session)
+pub named : (session : ℕ) (e : CoreEvent) → is_of session e ≡ true → IfSome (session_of e) (λ other. other ≡ session)
 named session e is = go (session_of e) is
   where
     go : (o : Option ℕ) → Rattle.std.specs.Option.option_map_or (λ other. other == session) o true ≡ true

@@ -35,48 +35,48 @@ and_first true b e = refl
 and_first false b e = e
 
 module _ (p : CoreEvent → Bool) where
-  all_map : (f : ℕ → CoreEvent) → ((n : ℕ) → p (f n) ≡ true) → (ns : List ℕ) → list_all p (map f ns) ≡ true
+  pub all_map : (f : ℕ → CoreEvent) → ((n : ℕ) → p (f n) ≡ true) → (ns : List ℕ) → list_all p (map f ns) ≡ true
   all_map f each [] = refl
   all_map f each (n ∷ ns) = both (p (f n)) (list_all p (map f ns)) (each n) (all_map f each ns)
 
-  all_flat : (f : ℕ → List CoreEvent) → ((n : ℕ) → list_all p (f n) ≡ true) → (ns : List ℕ)
+  pub all_flat : (f : ℕ → List CoreEvent) → ((n : ℕ) → list_all p (f n) ≡ true) → (ns : List ℕ)
       → list_all p (flat_map f ns) ≡ true
   all_flat f each [] = refl
   all_flat f each (n ∷ ns) =
       list_all-append p (f n) (flat_map f ns)
       ∙ both (list_all p (f n)) (list_all p (flat_map f ns)) (each n) (all_flat f each ns)
 
-  all_append : (xs ys : List CoreEvent) → list_all p xs ≡ true → list_all p ys ≡ true → list_all p (xs ++ ys) ≡ true
+  pub all_append : (xs ys : List CoreEvent) → list_all p xs ≡ true → list_all p ys ≡ true → list_all p (xs ++ ys) ≡ true
   all_append xs ys e f = list_all-append p xs ys ∙ both (list_all p xs) (list_all p ys) e f
 
-  one : (e : CoreEvent) → p e ≡ true → list_all p (e ∷ []) ≡ true
+  pub one : (e : CoreEvent) → p e ≡ true → list_all p (e ∷ []) ≡ true
   one e h = both (p e) true h refl
 
-  all_blocks : (shape : Shape) (f : ℕ → ℕ → CoreEvent) → ((table block : ℕ) → p (f table block) ≡ true)
+  pub all_blocks : (shape : Shape) (f : ℕ → ℕ → CoreEvent) → ((table block : ℕ) → p (f table block) ≡ true)
       → list_all p (at_all_blocks shape f) ≡ true
   all_blocks shape f each = all_flat
       (λ table. at_blocks shape table (f table))
       (λ table. all_map (f table) (each table) (below (blocks_of shape table)))
       (tables_of shape)
 
-  all_prunes : (shape : Shape) (made : List Occurrence) → ((table block oldest : ℕ) → p (event.Prune table block oldest) ≡ true)
+  pub all_prunes : (shape : Shape) (made : List Occurrence) → ((table block oldest : ℕ) → p (event.Prune table block oldest) ≡ true)
       → list_all p (prunes shape made) ≡ true
   all_prunes shape made each = all_flat
       (λ oldest. at_all_blocks shape (λ table block. event.Prune table block oldest))
       (λ oldest. all_blocks shape (λ table block. event.Prune table block oldest) (λ table block. each table block oldest))
       (filter_map oldest_told (replies_in made))
 
-  all_moves : (table : ℕ) (pairs : List MovePair) → ((pairs : List MovePair) → p (event.Move table pairs) ≡ true)
+  pub all_moves : (table : ℕ) (pairs : List MovePair) → ((pairs : List MovePair) → p (event.Move table pairs) ≡ true)
       → list_all p (moves table pairs) ≡ true
   all_moves table [] each = refl
   all_moves table (pair ∷ pairs) each = one (event.Move table (pair ∷ pairs)) (each (pair ∷ pairs))
 
-  all_thaws : (table : ℕ) (block : Option ℕ) → ((block : ℕ) → p (event.Thaw table block) ≡ true)
+  pub all_thaws : (table : ℕ) (block : Option ℕ) → ((block : ℕ) → p (event.Thaw table block) ≡ true)
       → list_all p (map (event.Thaw table) (option_to_list block)) ≡ true
   all_thaws table block each = all_map (event.Thaw table) each (option_to_list block)
 
   -- a test that all events of the command pass, those of its call pass
-  call_passes : (shape : Shape) (worker : Bool) (session : ℕ) (own : Option OwnTransaction) (refusal : Option Said) (call : Call)
+  pub call_passes : (shape : Shape) (worker : Bool) (session : ℕ) (own : Option OwnTransaction) (refusal : Option Said) (call : Call)
       → list_all p (events_of shape own session call.command call.made) ≡ true
       → IsCallBy shape worker session own refusal call → list_all p (events_in call.made) ≡ true
   call_passes shape worker session own (Some refusal) call passes h =
@@ -87,13 +87,13 @@ module _ (p : CoreEvent → Bool) where
       (list_all p h.missed)
       (sym (list_all-append p (events_in call.made) h.missed) ∙ ap (list_all p) (sym h.events) ∙ passes)
 
-  reads : (shape : Shape) (own : Option OwnTransaction) (table : ℕ)
+  pub reads : (shape : Shape) (own : Option OwnTransaction) (table : ℕ)
       → ((t : OwnTransaction) → own ≡ Some t → (block : ℕ) → p (event.Read t table block) ≡ true)
       → list_all p (Rattle.run_spec.specs.Asked.by_own own (λ t. at_blocks shape table (event.Read t table))) ≡ true
   reads shape None table each = refl
   reads shape (Some t) table each = all_map (event.Read t table) (each t refl) (below (blocks_of shape table))
 
-  compacts : (shape : Shape) (table : ℕ) (made : List Occurrence) → ((block : ℕ) → p (event.Look table block) ≡ true)
+  pub compacts : (shape : Shape) (table : ℕ) (made : List Occurrence) → ((block : ℕ) → p (event.Look table block) ≡ true)
       → ((pairs : List MovePair) → p (event.Move table pairs) ≡ true)
       → list_all p (at_blocks shape table (event.Look table) ++ moves table (plan_of (looks_in made))) ≡ true
   compacts shape table made looks each = all_append

@@ -94,7 +94,7 @@ some_and P (Some x) h = (x, refl, h)
 -- ---- events that leave the machine
 
 -- it neither begins nor ends a transaction
-abbrev is_calm : CoreEvent → Bool
+abbrev pub is_calm : CoreEvent → Bool
 is_calm (event.Begin session) = false
 is_calm (event.Get own table key) = true
 is_calm (event.Insert own table row) = true
@@ -139,7 +139,7 @@ refused_stays m n request told e h = (subst
     (memory_is told (was_refused (is_memory told) e))
     h).2
 
-event_stays : (m n : IsolationMachine) (e : CoreEvent) (told : CoreReply) → is_calm e ≡ true
+pub event_stays : (m n : IsolationMachine) (e : CoreEvent) (told : CoreReply) → is_calm e ≡ true
     → (is_memory told || not (is_final e)) ≡ true → IsStep (command_in e) m told n → n ≡ m
 event_stays m n (event.Begin session) told calm cut h = absurd (not_true calm)
 event_stays m n (event.Get own table key) told calm cut h =

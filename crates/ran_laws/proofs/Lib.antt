@@ -1,10 +1,10 @@
-mod Dues
-mod Meeting
-mod Moments
-mod Open
-mod Lines
-mod Coming
-mod Asking
-mod Along
-mod Named
-mod Upkeep
+pub mod Dues
+pub mod Meeting
+pub mod Moments
+pub mod Open
+pub mod Lines
+pub mod Coming
+pub mod Asking
+pub mod Along
+pub mod Named
+pub mod Upkeep

@@ -79,7 +79,7 @@ lines_of_others r q made (call ∷ calls) ne = go call.made (lines_of_others r q
     go (first ∷ next ∷ more) rest = away (Some made) None []
 
 -- the event is theirs, and the others are to come
-events_of_one : (q : ℕ) (made : Occurrence) (rest : List Occurrence) (calls : List Pending) → made ∷ rest ≡ events_to_come calls
+pub events_of_one : (q : ℕ) (made : Occurrence) (rest : List Occurrence) (calls : List Pending) → made ∷ rest ≡ events_to_come calls
     → (events_at (advanced q made calls).moments ≡ made ∷ []) × (rest ≡ events_to_come (advanced q made calls).pending)
 events_of_one q made rest [] e = absurd (no_tail made rest e)
 events_of_one q made rest (call ∷ calls) e = go call.made e (events_of_one q made rest calls)

@@ -13,7 +13,7 @@ use Rattle.workload_spec.specs.declared.reply.Who.TheVariants.{Session, Worker}
 use Rattle.workload_spec.specs.declared.script.Line.{Line}
 use Rattle.workload_spec.specs.declared.script.Script.{Script}
 use Rattle.run_spec.specs.Occurrences.{Logged, Occurrence, events_in, occurrences_from, under}
-use Rattle.run_spec.specs.Ran.{Agenda, AreRounds, IsDone, IsOfScript, IsRound, RoundRun, Share, agenda_of, agendas_in, session_of, shape_of, turns_of}
+use Rattle.run_spec.specs.Ran.{Ran, Agenda, AreRounds, IsDone, IsOfScript, IsRound, RoundRun, Share, agenda_of, agendas_in, session_of, shape_of, turns_of}
 use Rattle.ran_laws.specs.Along.{are_named}
 use Rattle.ran_laws.specs.Asking.{is_of}
 use Rattle.ran_laws.specs.Named.{RunsGoAlong}
@@ -221,16 +221,21 @@ named_log shape parts [] = refl
 named_log shape parts (entry ∷ log) =
     ap (λ (b : Bool). is_of entry.session entry.made.event && b) (named_log shape (after shape parts entry.made) log)
 
+-- The events of a run stand under their own sessions.
+pub run_named : (script : Script) (log : List Logged) (text : List ℕ) → Ran script log text → are_named log ≡ true
+run_named script log text ran =
+    named_log (shape_of script) (opening (shape_of script)) log
+    ∙ ap (list_all is_its) ran.parted
+    ∙ each_is_its
+    script
+    (made_in ran.rounds)
+    (rounds_own script [] ran.rounds script.rounds ran.asked ran.done (λ q low high. refl))
+    (all_of_script script [] ran.rounds ran.done)
+
 pub runs_go_along : RunsGoAlong
 runs_go_along script log text is_shape ran = machines_go_along
     (shape_of script)
     log
     is_shape
     ran.lawful
-    (named_log (shape_of script) (opening (shape_of script)) log
-    ∙ ap (list_all is_its) ran.parted
-    ∙ each_is_its
-    script
-    (made_in ran.rounds)
-    (rounds_own script [] ran.rounds script.rounds ran.asked ran.done (λ q low high. refl))
-    (all_of_script script [] ran.rounds ran.done))
+    (run_named script log text ran)

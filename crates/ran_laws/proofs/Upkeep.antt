@@ -177,7 +177,7 @@ logs_are_replied shape parts [] = tt
 logs_are_replied shape parts (entry ∷ log) =
     ((entry.made.refused, refl), logs_are_replied shape (after shape parts entry.made) log)
 
-under_replied : (shape : Shape) (session : ℕ) (made : List Occurrence) → AreReplied shape made
+pub under_replied : (shape : Shape) (session : ℕ) (made : List Occurrence) → AreReplied shape made
     → AreReplied shape (under session made)
 under_replied shape session [] replied = tt
 under_replied shape session (first ∷ rest) replied =
@@ -188,11 +188,11 @@ under_replied shape session (first ∷ rest) replied =
     go true later = (replied.0, later)
     go false later = later
 
-front_replied : (shape : Shape) (xs ys : List Occurrence) → AreReplied shape (xs ++ ys) → AreReplied shape xs
+pub front_replied : (shape : Shape) (xs ys : List Occurrence) → AreReplied shape (xs ++ ys) → AreReplied shape xs
 front_replied shape [] ys replied = tt
 front_replied shape (x ∷ xs) ys replied = (replied.0, front_replied shape xs ys replied.1)
 
-rest_replied : (shape : Shape) (xs ys : List Occurrence) → AreReplied shape (xs ++ ys) → AreReplied shape ys
+pub rest_replied : (shape : Shape) (xs ys : List Occurrence) → AreReplied shape (xs ++ ys) → AreReplied shape ys
 rest_replied shape [] ys replied = replied
 rest_replied shape (x ∷ xs) ys replied = rest_replied shape xs ys replied.1
 

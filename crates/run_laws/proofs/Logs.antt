@@ -24,7 +24,7 @@ use Rattle.txn_desk.specs.declared.Snapshot.{Snapshot}
 use Rattle.sound_laws.proofs.Invariant.{keeps}
 
 -- one event that was made keeps the invariant
-made_keeps : (sh : Shape) (s : Parts) (made : Made) → IsShape sh → Sound sh s → IsLawful sh made.event s → Sound sh (after sh s made)
+pub made_keeps : (sh : Shape) (s : Parts) (made : Made) → IsShape sh → Sound sh s → IsLawful sh made.event s → Sound sh (after sh s made)
 made_keeps sh s made shape ok lawful = go made.refused
   where
     go : (b : Bool) → Sound sh (cond b s (effect sh s made.event))
@@ -68,7 +68,7 @@ module _ (sh : Shape) (s : Parts) (ok : Sound sh s) (m : IsolationMachine) (f : 
   memory_step (event.Image t b image) lawful takes = refl
   memory_step (event.Thaw t b) lawful takes = refl
 
-made_step : (sh : Shape) (s : Parts) (made : Made) (m : IsolationMachine) → IsShape sh → Sound sh s → FollowsMachine sh s m → IsLawful sh made.event s
+pub made_step : (sh : Shape) (s : Parts) (made : Made) (m : IsolationMachine) → IsShape sh → Sound sh s → FollowsMachine sh s m → IsLawful sh made.event s
     → (made.refused ≡ true → takes_memory made.event ≡ true)
     → (next : IsolationMachine) × IsStep (command_in made.event) m (reply_after sh s made) next × FollowsMachine sh (after sh s made) next
 made_step sh s made m shape ok f lawful memory = go made.refused memory

@@ -1,0 +1,5 @@
+pub mod Printing
+pub mod Standing
+pub mod Seats
+pub mod Threads
+pub mod Rounds
