@@ -1,0 +1,3 @@
+pub mod Stamps
+pub mod Room
+pub mod Numbering

@@ -1,0 +1,28 @@
+//! Laws of counts: each function does nothing, and its contract is one of them.
+ghost use Rattle.count_laws.specs.Numbers.{NumbersAreNarrow, OpensNarrow};
+ghost use Rattle.count_laws.specs.Room.{FullIsFull, OpensEmpty, RoomIsCounted};
+ghost use Rattle.count_laws.specs.Stamps.{ImagesAreTold, OpensLoose, SealsAreTold, StampsAreCounted};
+
+/// A block's last stamp counts its seals, and a block is sealed while they are one more than its
+/// images.
+pub fn stamps_are_counted()
+    ensures opens { OpensLoose }
+    ensures next { StampsAreCounted }
+    ensures seals { SealsAreTold }
+    ensures images { ImagesAreTold }
+{}
+
+/// The slots of a table that are in use are no more than its inserts that took one, which are no
+/// more
+/// than those that were granted; without room for an insert they are all its slots.
+pub fn room_is_counted()
+    ensures opens { OpensEmpty }
+    ensures next { RoomIsCounted }
+    ensures full { FullIsFull }
+{}
+
+/// Commits are no more than stamps, which end below 2^63.
+pub fn numbers_are_narrow()
+    ensures opens { OpensNarrow }
+    ensures next { NumbersAreNarrow }
+{}
