@@ -163,3 +163,13 @@ module _ (printed timeline front : List Entry) (entry : Entry) (rest : List Entr
       ∙ find-behind holds past.done (spans its (entry ∷ thread its rest)) (done-misses its (thread its front) entry past.done misses-front past.ended)
       ∙ ap (λ (o : Option ℕ). find holds (cons_option (option_map (λ snapshot. span its snapshot (up_to_end (entry ∷ thread its rest))) o) (spans its (thread its rest)))) none
       ∙ none-opened its entry (thread its rest) misses-rest
+
+  -- Where none is open in front, the transaction that the reply opens is its own.
+  pub found-opened : Past its (thread its front) None → (snapshot : ℕ) → snapshot_in entry.reply.said ≡ Some snapshot
+      → transaction_with (transactions_of printed) entry ≡ Some (span its snapshot (up_to_end (entry ∷ thread its rest)))
+  found-opened past snapshot opens =
+      found-own
+      ∙ ap (find holds) (past.parts (entry ∷ thread its rest))
+      ∙ find-behind holds past.done (spans its (entry ∷ thread its rest)) (done-misses its (thread its front) entry past.done misses-front past.ended)
+      ∙ ap (λ (o : Option ℕ). find holds (cons_option (option_map (λ snapshot. span its snapshot (up_to_end (entry ∷ thread its rest))) o) (spans its (thread its rest)))) opens
+      ∙ ap (λ (b : Bool). cond b (Some (span its snapshot (up_to_end (entry ∷ thread its rest)))) (find holds (spans its (thread its rest)))) (has-itself entry [] (thread its rest))

@@ -1,0 +1,11 @@
+pub mod Rereading
+pub mod Shown
+pub mod Holding
+pub mod Counting
+pub mod Scripts
+pub mod Taking
+pub mod Walk
+pub mod Conflicting
+pub mod Answering
+pub mod Standing
+pub mod Explaining

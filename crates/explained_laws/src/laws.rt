@@ -1,0 +1,18 @@
+//! Laws of runs as outputs: each function does nothing, and its contract is one of them.
+ghost use Rattle.explained_laws.specs.Reads.{ReadsStand};
+ghost use Rattle.explained_laws.specs.Timelines.{RunsAreExplained, RunsGiveTimelines};
+
+/// What a session read since its last other event stays what its reads give.
+pub fn reads_stand()
+    ensures { ReadsStand }
+{}
+
+/// Where nothing is pruned or exported, the moments of a run are a timeline of its printed replies.
+pub fn runs_give_timelines()
+    ensures { RunsGiveTimelines }
+{}
+
+/// The text of a run is an explained output.
+pub fn runs_are_explained()
+    ensures { RunsAreExplained }
+{}
