@@ -1,6 +1,6 @@
 -- A row that fits columns which begin with the key has a key.
-use Rattle.std.proofs.Common.{◌≡◌, ◌∙◌, Bool, true, false, not, ◌&&◌, cond, List, [], ◌∷◌, Option, None, Some, refl, sym, ap, subst, length, eqb}
-use Rattle.std.specs.Prelude.{is_none, nat_lt}
+use Rattle.std.proofs.Common.{◌≡◌, ◌∙◌, Bool, true, false, not, ◌&&◌, cond, List, [], ◌∷◌, Option, None, Some, refl, sym, ap, length, eqb}
+use Rattle.std.specs.Prelude.{is_none}
 use Rattle.cell_model.specs.declared.cell.Cell.{Cell}
 use Rattle.cell_model.specs.declared.cell.Cell.TheVariants.{Null, Num, Truth, Text, Blob}
 use Rattle.cell_model.specs.declared.column.Column.{Column}
@@ -10,7 +10,7 @@ use Rattle.cell_model.specs.declared.row.RowFault.{RowFault}
 use Rattle.cell_model.specs.declared.row.RowFault.TheVariants.{Arity, NullAt, RangeAt}
 use Rattle.cell_model.specs.Rows.{Fits, cell_fault, first_fault}
 use Rattle.cell_model.specs.Schemas.{begins_with_key, is_i64}
-use Rattle.cell_model.specs.Values.{is_integer_of, is_value_of}
+use Rattle.cell_model.specs.Values.{is_value_of}
 use Rattle.block_spec.specs.Slots.{Row}
 use Rattle.block_body.specs.Keys.{HasKey}
 

@@ -2,11 +2,13 @@ pub mod After
 pub mod Bodies
 pub mod Counts
 pub mod Installed
+pub mod Frozen
 pub mod Keyed
 pub mod Listed
 pub mod Looks
 pub mod Lookups
 pub mod Moved
+pub mod Nexts
 pub mod Popped
 pub mod Pruned
 pub mod RolledBack

@@ -1,8 +1,8 @@
 -- What a look finds, slot after slot.
-use Rattle.std.proofs.Common.{◌≡◌, ◌∙◌, ℕ, zero, suc, ◌+◌, ℤ, Bool, true, false, cond, List, [], ◌∷◌, ◌++◌, Option, None, Some, get_or, refl, sym, ap, subst, arith}
+use Rattle.std.proofs.Common.{◌≡◌, ◌∙◌, ℕ, zero, suc, ◌+◌, ◌-◌, ◌<◌, ◌≤◌, ℤ, Bool, true, false, cond, List, [], ◌∷◌, ◌++◌, Option, None, Some, get_or, refl, sym, ap, subst, arith}
 use mathlib.Core.List.{append-nil}
-use Rattle.std.specs.Prelude.{◌↔◌, IsTrue, IsSome, IfSome, filter, is_some}
-use Rattle.std.specs.List.{filter_map, range_with_len, cons_option}
+use Rattle.std.specs.Prelude.{◌↔◌, ◌&&◌, slice_get, IsTrue, IsSome, IfSome, filter, is_some, is_none}
+use Rattle.std.specs.List.{filter_map, list_all, range_with_len, cons_option}
 use Rattle.std.proofs.lemmas.List.Elements.{filter-append, filter_map-append}
 use Rattle.cell_model.specs.declared.cell.Cell.{Cell}
 use Rattle.cell_model.specs.declared.cell.Cell.TheVariants.{Null, Num, Truth, Text, Blob}
@@ -10,9 +10,11 @@ use Rattle.cell_model.specs.declared.kind.Kind.TheVariants.{I64}
 use Rattle.cell_model.specs.Values.{is_integer_of}
 use Rattle.isolation_spec.specs.Contents.{key_of}
 use Rattle.block_spec.specs.declared.look.MovableRow.{MovableRow}
-use Rattle.block_spec.specs.Slots.{Row, has_none}
-use Rattle.block_spec.specs.Looks.{movable_row}
+use Rattle.block_spec.specs.Slots.{Row, Slot, bare, has_none, is_bare}
+use Rattle.block_spec.specs.Bodies.{Body as BodyValue, is_empty, slot_in}
+use Rattle.block_spec.specs.Looks.{movable, movable_row}
 use Rattle.block_spec.specs.declared.change.Before.{Before}
+use Rattle.undo_chain.specs.declared.undo.Undo.{Undo}
 use Rattle.undo_chain.specs.State.{ChainState}
 use Rattle.block_columns.specs.Columns.{cell_of}
 use Rattle.block_body.specs.Chains.{IsChain, entries_of}
@@ -100,3 +102,64 @@ module _ (slot : ℕ) (row : Option Row) (found : Option (ChainState Before)) (a
       go (Some r) (Some chain) tells has_key cell_is = let never : true ≡ false = sym has_key ∙ lacks in cc
       go (Some r) None tells has_key cell_is =
           ap (λ (n : ℤ). let m : MovableRow = record { slot = slot; key = n } in Some m) (key_is ∙ ap (λ (c : Cell). key_of (c ∷ [])) cell_is ∙ first_key r)
+
+-- ---- an empty body
+
+filter_all : {X : Type 0} (p : X → Bool) (xs : List X) → ((x : X) → p x ≡ true) → filter p xs ≡ xs
+filter_all p [] all = refl
+filter_all p (x ∷ xs) all = ap (λ b. cond b (x ∷ filter p xs) (filter p xs)) (all x) ∙ ap (λ (l : List _). x ∷ l) (filter_all p xs all)
+
+filter_map_none : {X Y : Type 0} (h : X → Option Y) (xs : List X) → ((x : X) → h x ≡ None) → filter_map h xs ≡ []
+filter_map_none h [] none = refl
+filter_map_none h (x ∷ xs) none = ap (λ (o : Option _). cons_option o (filter_map h xs)) (none x) ∙ filter_map_none h xs none
+
+bare_at : (slots : List Slot) (j : ℕ) → list_all is_bare slots ≡ true → is_bare (get_or slots j bare) ≡ true
+bare_at [] j all = refl
+bare_at (slot ∷ slots) zero all = first (is_bare slot) (list_all is_bare slots) all
+  where
+    first : (a b : Bool) → (a && b) ≡ true → a ≡ true
+    first true b both = refl
+    first false b both = both
+bare_at (slot ∷ slots) (suc j) all = bare_at slots j (rest (is_bare slot) (list_all is_bare slots) all)
+  where
+    rest : (a b : Bool) → (a && b) ≡ true → b ≡ true
+    rest true b both = both
+    rest false b both = let no : false ≡ true = both in cc
+
+bare_row : (j : ℕ) (row : Option Row) (entries : List (Undo Before)) → (is_none row && has_none entries) ≡ true → movable_row j row (has_none entries) ≡ None
+bare_row j None entries is = refl
+bare_row j (Some row) entries is = let no : false ≡ true = is in cc
+
+pub no_movable : (body : BodyValue) (n : ℕ) → is_empty body ≡ true → [] ≡ filter_map (movable body) (range_with_len 0 n)
+no_movable body n empty =
+    sym (filter_map_none (movable body) (range_with_len 0 n)
+    (λ j. bare_row j (slot_in body j).row (slot_in body j).entries (bare_at body.slots j empty)))
+
+pub all_gaps : (body : BodyValue) (n : ℕ) → is_empty body ≡ true →
+    range_with_len 0 n ++ [] ≡ filter (λ j. is_bare (slot_in body j)) (range_with_len 0 n)
+all_gaps body n empty =
+    append-nil (range_with_len 0 n)
+    ∙ sym (filter_all (λ j. is_bare (slot_in body j)) (range_with_len 0 n) (λ j. bare_at body.slots j empty))
+
+range_at : (a n k : ℕ) (rest : List ℕ) → k < n → slice_get (range_with_len a n ++ rest) k ≡ Some (a + k)
+range_at a zero k rest lt = absurd (omega arith)
+range_at a (suc n) zero rest lt = let same : a ≡ a + 0 = omega arith in ap (λ (x : ℕ). Some x) same
+range_at a (suc n) (suc k) rest lt =
+    let same : a + 1 + k ≡ a + suc k = omega arith in
+    range_at (a + 1) n k rest (omega arith) ∙ ap (λ (x : ℕ). Some x) same
+
+range_past : (a n k : ℕ) (rest : List ℕ) → n ≤ k → slice_get (range_with_len a n ++ rest) k ≡ slice_get rest (k - n)
+range_past a zero k rest le = let same : k ≡ k - 0 = omega arith in ap (λ (x : ℕ). slice_get rest x) same
+range_past a (suc n) zero rest le = absurd (omega arith)
+range_past a (suc n) (suc k) rest le =
+    let same : k - n ≡ suc k - suc n = omega arith in
+    range_past (a + 1) n k rest (omega arith) ∙ ap (λ (x : ℕ). slice_get rest x) same
+
+-- a gap is one of the first, or one that is listed
+pub gap_first : (first place : ℕ) (gaps : List ℕ) → place < first → slice_get (range_with_len 0 first ++ gaps) place ≡ Some place
+gap_first first place gaps lt =
+    let same : 0 + place ≡ place = omega arith in
+    range_at 0 first place gaps lt ∙ ap (λ (x : ℕ). Some x) same
+
+pub gap_listed : (first place : ℕ) (gaps : List ℕ) → first ≤ place → slice_get (range_with_len 0 first ++ gaps) place ≡ slice_get gaps (place - first)
+gap_listed first place gaps le = range_past 0 first place gaps le

@@ -1,5 +1,5 @@
 -- What the counts of a body's rows and chains tell of all its slots.
-use Rattle.std.proofs.Common.{◌≡◌, ◌∙◌, ℕ, zero, suc, ◌+◌, ◌<◌, ◌≤◌, eqb, Bool, true, false, not, ◌&&◌, cond, List, [], ◌∷◌, Option, None, Some, length, get_or, refl, sym, ap, subst, arith, ⊎_elim}
+use Rattle.std.proofs.Common.{◌≡◌, ◌∙◌, ℕ, zero, suc, ◌+◌, ◌<◌, ◌≤◌, eqb, Bool, true, false, not, ◌&&◌, cond, List, [], ◌∷◌, Option, None, Some, length, get_or, take, refl, sym, ap, subst, arith, ⊎_elim}
 use Rattle.std.specs.Prelude.{◌↔◌, IsTrue, IsSome, count_by, is_some, is_none}
 use Rattle.std.specs.List.{list_any, list_all}
 use Rattle.std.proofs.lemmas.Bool.{cases_lt, eqb-true, ne_eqb, eq-eqb}
@@ -59,6 +59,54 @@ front_false f at [] k lt none = absurd (omega arith)
 front_false f at (Some row ∷ rows) zero lt none = cc
 front_false f at (Some row ∷ rows) (suc k) lt none = front_false f (at + 1) rows k (omega arith) none
 front_false f at (None ∷ rows) k lt none = some_row f (at + 1) rows (omega arith)
+
+taken_few : {X : Type 0} (n : ℕ) (rows : List (Option X)) → taken (take n rows) ≤ n
+taken_few zero rows = omega arith
+taken_few (suc n) [] = omega arith
+taken_few (suc n) (None ∷ rows) = let rest : taken (take n rows) ≤ n = taken_few n rows in omega arith
+taken_few (suc n) (Some row ∷ rows) = let rest : taken (take n rows) ≤ n = taken_few n rows in omega arith
+
+all_taken : {X : Type 0} (n : ℕ) (rows : List (Option X)) → taken (take n rows) ≡ n → (k : ℕ) → k < n → is_some (get_or rows k None) ≡ true
+all_taken zero rows all k lt = absurd (omega arith)
+all_taken (suc n) [] all k lt = absurd (omega arith)
+all_taken (suc n) (None ∷ rows) all k lt = let few : taken (take n rows) ≤ n = taken_few n rows in absurd (omega arith)
+all_taken (suc n) (Some row ∷ rows) all zero lt = refl
+all_taken (suc n) (Some row ∷ rows) all (suc k) lt = all_taken n rows (omega arith) k (omega arith)
+
+front_counts : (f : ℕ → List (Undo Before)) (at : ℕ) (rows : List (Option Row)) (n : ℕ) → taken rows ≡ n →
+    is_front (slots_from f at rows) ≡ true → taken (take n rows) ≡ n
+front_counts f at rows zero is front = refl
+front_counts f at [] (suc n) is front = absurd (omega arith)
+front_counts f at (Some row ∷ rows) (suc n) is front =
+    let rest : taken (take n rows) ≡ n = front_counts f (at + 1) rows n (omega arith) front in omega arith
+front_counts f at (None ∷ rows) (suc n) is front =
+    let never : true ≡ false = sym front ∙ some_row f (at + 1) rows (omega arith) in cc
+
+-- the rows stand in front where the first slots, as many as there are rows, have as many
+pub front_is : (f : ℕ → List (Undo Before)) (at : ℕ) (rows : List (Option Row)) (n first : ℕ) → n ≡ count_by is_some rows →
+    first ≡ count_by is_some (take n rows) → eqb first n ≡ is_front (slots_from f at rows)
+front_is f at rows n first all counted = go (is_front (slots_from f at rows)) refl
+  where
+    go : (front : Bool) → is_front (slots_from f at rows) ≡ front → eqb first n ≡ is_front (slots_from f at rows)
+    go true is =
+        eq-eqb first n (counted ∙ sym (taken_is (take n rows)) ∙ front_counts f at rows n (taken_is rows ∙ sym all) is) ∙ sym is
+    go false is =
+        ne_eqb first n
+        (λ same.
+        let full : taken (take n rows) ≡ n = taken_is (take n rows) ∙ sym counted ∙ same in
+        let many : taken rows ≡ n = taken_is rows ∙ sym all in
+        let never : true ≡ false = sym (front_true f at rows (λ k lt. all_taken n rows full k (omega arith))) ∙ is in
+        cc)
+        ∙ sym is
+
+-- no more slots have a row than have memory
+pub taken_room : {X : Type 0} (rows : List (Option X)) (room : ℕ) → ((slot : ℕ) → IsSome (get_or rows slot None) → slot < room) → taken rows ≤ room
+taken_room [] room within = omega arith
+taken_room (None ∷ rows) room within = taken_room rows room (λ slot some. let lt : suc slot < room = within (suc slot) some in omega arith)
+taken_room (Some row ∷ rows) zero within = let lt : 0 < 0 = within 0 refl in absurd (omega arith)
+taken_room (Some row ∷ rows) (suc room) within =
+    let rest : taken rows ≤ room = taken_room rows room (λ slot some. let lt : suc slot < suc room = within (suc slot) some in omega arith) in
+    omega arith
 
 -- ---- chains
 

@@ -1,5 +1,5 @@
 -- The image of a block's rows.
-use Rattle.std.specs.Prelude.{◌≡◌, List, Option, Some, is_some, map, take, count_by}
+use Rattle.std.specs.Prelude.{◌≡◌, ℕ, List, Option, Some, is_some, map, take, count_by}
 use Rattle.arrow_spec.specs.Batches.{arrays_of}
 use Rattle.block_spec.specs.Slots.{Row}
 use Rattle.block_columns.specs.Images.{ImageValue}
@@ -12,3 +12,7 @@ pub record IsImageOf (columns : List Column) (slots : List (Option Row)) (image 
   pub rows : image.rows ≡ count_by is_some slots
   pub buffers : (batch : List Row) → take image.rows slots ≡ map Some batch →
       image.buffers ≡ map (λ array. array.buffers) (arrays_of columns batch)
+
+-- an image of all these rows with these buffers
+abbrev pub image_of : List Column → List (Option Row) → List (List (List ℕ)) → ImageValue
+image_of columns slots buffers = record { columns = columns; slots = slots; rows = count_by is_some slots; buffers = buffers }

@@ -7,9 +7,10 @@ ghost use Rattle.block_spec.specs.Fitting.{ChangeFits};
 ghost use Rattle.block_spec.specs.Slots.{has_none, is_bare, kind_of, moved_in, moved_out, seen, taken_back, written};
 ghost use Rattle.block_spec.specs.Looks.{looked, movable};
 ghost use Rattle.block_spec.specs.Bodies.{untouched, slot_in, is_loose, is_sealed, is_imaged, is_empty, is_quiet, is_front, has_row, with_slot, committed_in, rolled_back_in, pruned_in, dropped_from, observed, turns, seal_fault, sealed, imaged, thawed, taken_back_in};
+ghost use Rattle.block_columns.specs.Images.{IsWhole};
 ghost use Rattle.block_body.specs.Bodies.{wants_row};
-ghost use Rattle.block_body.specs.Changes.{changed, key_left};
-ghost use Rattle.block_body.specs.Frozen.{IsImageOf};
+ghost use Rattle.block_body.specs.Changes.{IsNextVersioned, changed, key_left};
+ghost use Rattle.block_body.specs.Frozen.{IsImageOf, image_of};
 ghost use Rattle.block_body.specs.Keys.{HasKey, HasKeys};
 
 use crate::chains::Chains;
@@ -22,7 +23,7 @@ use crate::view::visible_row;
 use crate::{chains, lists};
 use block_columns::{Before, Columns, Image};
 use block_spec::{Change, MovableRow, Phase, SealFault};
-use cell_model::{Row, Schema};
+use cell_model::{Buffers, Row, Schema};
 use std::alloc::{AllocError, AllocFailed, Global};
 use std::collections::BTreeMap;
 use std::marker::Model;
@@ -142,13 +143,23 @@ impl Body {
     }
 
     /// The rows that may move, with their keys, and the bare slots, both in slot order, and the
-    /// body's state.
+    /// body's state. An empty body takes no memory for it.
     pub fn look(&self) -> Result<Look, AllocError>
         requires { HasKeys self.now }
         ensures { IfOk result (λ look. look ≡ looked self.now) }
     {
+        if self.empty() {
+            return Ok(Look {
+                rows: Vec::new(self.alloc),
+                first: self.rows.columns().slots(),
+                gaps: Vec::new(self.alloc),
+                phase: self.phase,
+                cooling: self.cooling,
+            });
+        }
         Ok(Look {
             rows: self.movable_rows()?,
+            first: 0,
             gaps: self.gaps()?,
             phase: self.phase,
             cooling: self.cooling,
@@ -233,6 +244,13 @@ impl Body {
         self.take_off(slot);
         self.cooling = true;
         self.rounds = 2;
+    }
+
+    /// The least slot from `from` on that has an entry.
+    pub fn next_versioned(&self, from: u32) -> Option<u32>
+        ensures { IsNextVersioned self.now from result }
+    {
+        chains::next_slot(&self.chains, from)
     }
 
     /// The key of a slot that has an entry and that a pruning of the entries with a stamp at most
@@ -369,6 +387,21 @@ impl Body {
         Ok(())
     }
 
+    /// Makes an image of a sealed body's own columns, which are not copied, and these buffers, those
+    /// of the batch of its rows. Without memory the body stays.
+    pub fn freeze(&mut self, buffers: Vec<Buffers>) -> Result<(), AllocError>
+        requires sealed { is_sealed self.old.phase ≡ true }
+        requires whole { IsWhole (image_of self.old.columns (map (λ slot. slot.row) self.old.slots) buffers.items) }
+        ensures ok { OnOk result (self.new ≡ imaged self.old) }
+        ensures err { OnErr result (self.new ≡ self.old) }
+    {
+        self.rows.freeze_own(self.alloc, buffers)?;
+        if let Phase::Sealed(stamp) = self.phase {
+            self.phase = Phase::Imaged(stamp);
+        }
+        Ok(())
+    }
+
     /// Makes an imaged body loose again, with the same rows. Those who share the image keep it. Without
     /// memory the body stays.
     pub fn thaw(&mut self) -> Result<(), AllocError>
@@ -455,8 +488,8 @@ impl Body {
         Ok(rows)
     }
 
-    // The row of a slot, if it may move.
-    fn movable(&self, slot: u32) -> Result<Option<MovableRow>, AllocError>
+    /// The row of a slot, if it may move.
+    pub fn movable(&self, slot: u32) -> Result<Option<MovableRow>, AllocError>
         requires { HasKeys self.now }
         ensures { IfOk result (λ row. row ≡ movable self.now slot) }
     {
@@ -484,8 +517,8 @@ impl Body {
         Ok(gaps)
     }
 
-    // Whether a slot has a row.
-    fn has_row(&self) -> bool
+    /// Whether a slot has a row.
+    pub fn has_row(&self) -> bool
         ensures { result ≡ has_row self.now }
     {
         self.rows.count() != 0

@@ -149,8 +149,8 @@ pub(crate) fn prune(chains: &mut Chains, slots: u32, oldest: u64) -> u64
     dropped
 }
 
-// The least slot from `from` on that has a chain.
-fn next_slot(chains: &Chains, from: u32) -> Option<u32>
+/// The least slot from `from` on that has a chain.
+pub(crate) fn next_slot(chains: &Chains, from: u32) -> Option<u32>
     ensures some { IfSome result (λ slot. IsSome (chain_at chains.now.entries slot)) }
     ensures above { IfSome result (λ slot. from ≤ slot) }
     ensures least { IfSome result (λ slot. (other : ℕ) → from ≤ other → other < slot →

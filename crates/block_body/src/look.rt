@@ -1,5 +1,5 @@
 //! What a compaction reads of a body.
-ghost use Rattle.std.specs.Prelude.{◌≡◌, ◌<◌, ℕ, [], ◌∷◌, None, IfOk, length, slice_index_or};
+ghost use Rattle.std.specs.Prelude.{◌≡◌, ◌<◌, ℕ, [], ◌∷◌, None, IfOk, length, slice_get, slice_index_or};
 ghost use Rattle.isolation_spec.specs.Contents.{key_of};
 ghost use Rattle.block_columns.specs.Columns.{cell_of};
 ghost use Rattle.block_body.specs.Keys.{HasKey};
@@ -15,17 +15,26 @@ use std::marker::Model;
 #[derive(Drop)]
 pub struct Look {
     pub(crate) rows: Vec<MovableRow>,
+    // So many first slots are gaps, and the others are listed: an empty body needs no list.
+    pub(crate) first: u32,
     pub(crate) gaps: Vec<u32>,
     pub(crate) phase: Phase,
     pub(crate) cooling: bool,
 }
 
 impl Model for Look {
+    ghost use Rattle.std.specs.Prelude.{◌++◌};
+    ghost use Rattle.std.specs.List.{range_with_len};
     ghost use Rattle.block_spec.specs.Looks.{Look as LookValue};
 
     ghost Value = { LookValue };
 
-    ghost view = { λ l. record { rows = l.rows.items; gaps = l.gaps.items; phase = l.phase; cooling = l.cooling } };
+    ghost view = { λ l. record {
+      rows = l.rows.items;
+      gaps = range_with_len 0 l.first ++ l.gaps.items;
+      phase = l.phase;
+      cooling = l.cooling;
+    } };
 }
 
 impl Look {
@@ -36,11 +45,23 @@ impl Look {
         self.rows.as_slice()
     }
 
-    /// The slots with neither row nor entry, in order.
-    pub fn gaps(&self) -> &[u32]
-        ensures { result.now ≡ self.now.gaps }
+    /// The slot at a place among those with neither row nor entry, which stand in order.
+    pub fn gap(&self, place: usize) -> Option<u32>
+        ensures { result ≡ slice_get self.now.gaps place }
     {
-        self.gaps.as_slice()
+        let first = self.first as usize;
+        if place < first {
+            Some(place as u32)
+        } else {
+            self.gaps.get(place - first).copied()
+        }
+    }
+
+    /// How many slots have neither row nor entry.
+    pub fn gap_count(&self) -> usize
+        ensures { result ≡ length self.now.gaps }
+    {
+        self.first as usize + self.gaps.len()
     }
 
     /// The body's phase.

@@ -8,15 +8,17 @@ ghost use Rattle.block_spec.specs.Fitting.{BeforeFits, ChangeFits, PatchFits, co
 ghost use Rattle.block_spec.specs.Slots.{image_before, laid_back, row_after};
 ghost use Rattle.block_spec.specs.Bodies.{is_front};
 ghost use Rattle.block_columns.specs.Columns.{WantsRow};
+ghost use Rattle.block_columns.specs.Images.{IsWhole};
 ghost use Rattle.block_body.specs.Bodies.{wants_row};
+ghost use Rattle.block_body.specs.Frozen.{image_of};
 ghost use Rattle.block_body.specs.Rows.{in_image, own_rows};
 ghost use Rattle.block_body.specs.Slots.{slots_from};
 
 use crate::shared::Shared;
 use block_columns::{Before, Columns, Image, Patch};
 use block_spec::Change;
-use cell_model::{Row, Schema};
-use std::alloc::{AllocError, Global};
+use cell_model::{Buffers, Row, Schema};
+use std::alloc::{AllocError, AllocFailed, Global};
 use std::marker::Model;
 
 /// Slots with or without a row, and how many have one.
@@ -81,12 +83,10 @@ impl Rows {
         ensures { (entries : ℕ → List (Undo BeforeImage)) → result ≡ is_front (slots_from entries 0 self.now.rows) }
     {
         let columns = self.columns();
-        for slot in 0..self.count {
-            if !columns.has_row(slot) {
-                return false;
-            }
-        }
-        true
+        // Each slot with a row has memory.
+        let _room = columns.room();
+        let count = self.count as usize;
+        columns.count_first(count) == count
     }
 
     /// The image, if the rows are one's.
@@ -107,6 +107,33 @@ impl Rows {
         self.columns = None;
         self.image = Some(shared);
         Ok(())
+    }
+
+    /// Makes an image of its own columns with these buffers, and has the rows from it. Without memory
+    /// the rows stay.
+    pub fn freeze_own(&mut self, alloc: Global, buffers: Vec<Buffers>) -> Result<(), AllocError>
+        requires own { self.old.image ≡ None }
+        requires whole { IsWhole (image_of self.old.columns self.old.rows buffers.items) }
+        ensures ok { OnOk result (self.new ≡ in_image (image_of self.old.columns self.old.rows buffers.items)) }
+        ensures columns { self.new.columns ≡ self.old.columns }
+        ensures rows { self.new.rows ≡ self.old.rows }
+        ensures own { OnErr result (self.new.image ≡ None) }
+    {
+        let Some(columns) = self.columns.take() else {
+            unreachable!()
+        };
+        // Each slot with a row has memory.
+        let _room = columns.room();
+        match Shared::new(alloc, Image::of(columns, self.count, buffers)) {
+            Ok(shared) => {
+                self.image = Some(shared);
+                Ok(())
+            }
+            Err(AllocFailed { value: image }) => {
+                self.columns = Some(image.into_columns());
+                Err(AllocError)
+            }
+        }
     }
 
     /// Takes the rows back from the image, which its other owners keep.

@@ -2,7 +2,7 @@
 ghost use Rattle.std.specs.Prelude.{◌≡◌, IfOk, IfErr};
 
 use block_columns::{Columns, Image};
-use std::alloc::{AllocError, Global};
+use std::alloc::{AllocError, AllocFailed, Global};
 use std::marker::Model;
 use std::sync::Arc;
 
@@ -22,9 +22,10 @@ impl Model for Shared {
 }
 
 impl Shared {
-    /// The image with its first owner.
-    pub fn new(alloc: Global, image: Image) -> Result<Shared, AllocError>
-        ensures { IfOk result (λ s. s ≡ image) }
+    /// The image with its first owner. Without memory the image comes back.
+    pub fn new(alloc: Global, image: Image) -> Result<Shared, AllocFailed<Image>>
+        ensures shared { IfOk result (λ s. s ≡ image) }
+        ensures back { IfErr result (λ refused. refused.value ≡ image) }
     {
         Ok(Shared {
             image: Arc::new(alloc, image)?,

@@ -4,9 +4,11 @@ use lib.Signed.{mag}
 use mir.Val.{to_z, of_z}
 use mir.Syntax.{w128}
 use Rattle.std.proofs.lemmas.Int.{to_z-of_z}
-use Rattle.std.proofs.Common.{◌≡◌, ℤ, ◌<◌, ◌^◌, ℕ, suc, zero, List, ◌∷◌, ◌++◌, replicate, map, refl, sym, ap, ◌∙◌}
+use Rattle.std.proofs.Common.{◌≡◌, ℤ, ◌<◌, ◌^◌, ◌+◌, ℕ, suc, zero, Bool, cond, List, [], ◌∷◌, ◌++◌, replicate, map, refl, sym, ap, ◌∙◌}
 use Rattle.std.specs.Prelude.{slice_set, Result, Ok, Err, OnErr}
+use Rattle.std.specs.List.{count_by}
 use Rattle.std.proofs.lemmas.List.{map-set, map-append}
+use Rattle.std.proofs.lemmas.List.Sums.{sum_by-cons}
 use Rattle.cell_model.specs.declared.cell.Cell.{Cell}
 use Rattle.cell_model.specs.declared.cell.Cell.TheVariants.{Null}
 
@@ -30,3 +32,10 @@ fits_back z fits = to_z-of_z w128 z (search rules)
 pub on_err : {T E P : Type 0} (r : Result T E) → P → OnErr r P
 on_err (Ok x) p = tt
 on_err (Err e) p = p
+
+-- what a test holds for is counted by its answers
+pub count-map : {X : Type 0} (p : X → Bool) (xs : List X) → count_by (λ bit. bit) (map p xs) ≡ count_by p xs
+count-map p [] = refl
+count-map p (x ∷ xs) =
+    sum_by-cons (λ (bit : Bool). cond bit 1 0) (p x) (map p xs) ∙ ap (λ n. cond (p x) 1 0 + n) (count-map p xs)
+    ∙ sym (sum_by-cons (λ y. cond (p y) 1 0) x xs)

@@ -1,6 +1,6 @@
 -- The rows that the bits and the columns give.
 use Rattle.std.proofs.Common.{◌≡◌, ◌≢◌, ℕ, zero, suc, ◌<◌, ◌≤◌, ◌+◌, inl, inr, get_or, Bool, true, false, cond, List, [], ◌∷◌, ◌++◌, length, take, drop, replicate, map, refl, sym, ap, ◌∙◌, subst, arith, zero-add}
-use Rattle.std.specs.Prelude.{slice_set, slice_get, All, Option, None, Some, IsSome, Result, Ok, Err, OnOk, OnErr}
+use Rattle.std.specs.Prelude.{slice_set, slice_get, is_some, All, Option, None, Some, IsSome, Result, Ok, Err, OnOk, OnErr}
 use Rattle.std.specs.List.{AllZip, range_with_len}
 use Rattle.std.proofs.lemmas.Bool.{cases_lt}
 use Rattle.std.proofs.lemmas.List.{get_or_past, drop_all, append-nil, take_all, length-append, length-replicate, append_assoc, replicate-append-replicate, get_or-set_same, get_or-set_other, same_lists, length-take-le, length-map, get_or-take, get_or_default, get_or-map}
@@ -309,3 +309,22 @@ cells_of_rows cells rows column n many some each =
     ∙ each k
     ∙ sym (get_or-map (cell_of column) (take n rows) k None e (omega (arith, short, length-take-le n rows some))
     ∙ ap (cell_of column) (get_or-take n rows k None short)))
+
+-- the first bits tell which of the first slots have a row
+pub first_bits : (taken : List Bool) (cs : List ColumnValue) (slots n : ℕ) → AreColumns taken cs slots → n ≤ length taken
+    → take n taken ≡ map is_some (take n (rows_in taken cs slots))
+first_bits taken cs slots n are room =
+    let rows : List (Option (List Cell)) = rows_in taken cs slots in
+    let some : n ≤ length rows = omega (arith, are.within, room, rows_long taken cs slots) in
+    same_lists (take n taken) (map is_some (take n rows))
+    (length-take-le n taken room ∙ sym (length-map (take n rows) is_some ∙ length-take-le n rows some))
+    (λ k e below.
+    let short : k < n = omega (arith, below, length-take-le n taken room) in
+    get_or-take n taken k e short ∙ get_or_default taken k e false (omega (arith, short, room))
+    ∙ sym (bit_is (get_or taken k false) (cells_at k cs)) ∙ ap is_some (sym (row_at taken cs slots k are))
+    ∙ sym (get_or-map is_some (take n rows) k None e (omega (arith, short, length-take-le n rows some))
+    ∙ ap is_some (get_or-take n rows k None short)))
+  where
+    bit_is : (bit : Bool) (row : List Cell) → is_some (cond bit (Some row) None) ≡ bit
+    bit_is true row = refl
+    bit_is false row = refl

@@ -1,5 +1,5 @@
 //! The columns of a block.
-ghost use Rattle.std.specs.Prelude.{◌≡◌, ◌+◌, ◌<◌, ◌≤◌, ◌↔◌, ℕ, None, Some, IfOk, OnOk, OnErr, IsTrue, IsSome, is_some, option_map, length, replicate, slice_get, slice_index_or, slice_set, take, ◌^◌, if◌then◌else◌};
+ghost use Rattle.std.specs.Prelude.{◌≡◌, ◌+◌, ◌<◌, ◌≤◌, ◌↔◌, ℕ, None, Some, IfOk, OnOk, OnErr, IsTrue, IsSome, is_some, option_map, count_by, length, replicate, slice_get, slice_index_or, slice_set, take, ◌^◌, if◌then◌else◌};
 ghost use Rattle.std.specs.Int.{Width};
 ghost use Rattle.std.specs.List.{flat_map};
 ghost use Rattle.arrow_spec.specs.Arrays.{fixed, layout_of, number_of};
@@ -93,6 +93,14 @@ impl Columns {
         ensures held { (slot : ℕ) → IsSome (slice_index_or self.now.rows slot None) → slot < result }
     {
         self.taken.len()
+    }
+
+    /// How many of the first `n` slots have a row. These slots have memory.
+    pub fn count_first(&self, n: usize) -> usize
+        requires { n ≤ self.now.room }
+        ensures { result ≡ count_by is_some (take n self.now.rows) }
+    {
+        self.taken.count_first(n)
     }
 
     /// The cells of a column, lent: those of its slots' rows, with a null where there is no row.

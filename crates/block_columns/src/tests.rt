@@ -47,6 +47,9 @@ fn through_a_slot<L: Ledger>(
 {
     let mut columns = Columns::new(alloc, schema, 4)?;
     let _empty = columns.put(2, row)?;
+    if columns.count_first(2) != 0 || columns.count_first(3) != 1 {
+        return Err(Fail::from("another slot has a row"));
+    }
     let whole = columns.clear(2)?;
     columns.restore(2, whole);
     let _none = columns.patch(2, &Patch::from(Vec::<Assignment>::new(alloc)))?;

@@ -78,17 +78,23 @@ batch_buffers : (cs : List Column) (slots : List (Option Row)) (batch : List Row
 unfolding arrays_from
 batch_buffers cs slots batch is = ap (λ (l : List (Option Row)). buffers_from 0 cs l) is ∙ batch_from 0 cs batch
 
--- so an image with them is whole
-pub whole_image : (columns : ColumnsValue) (n : ℕ) (buffers : List (List (List ℕ))) (copy : ColumnsValue) (image : ImageValue)
+-- so they make the rows' image whole
+pub whole_buffers : (columns : ColumnsValue) (n : ℕ) (buffers : List (List (List ℕ)))
+    → HasRows n columns.rows → buffers ≡ buffers_from 0 columns.columns (take n columns.rows)
+    → IsWhole (record { columns = columns.columns; slots = columns.rows; rows = n; buffers = buffers })
+whole_buffers columns n buffers held made = record {
+  held = held;
+  buffers = made ∙ batch_buffers columns.columns (take n columns.rows) (rows_in_slots (take n columns.rows)) (held_rows n columns.rows held);
+}
+
+-- and an image of the same columns
+pub whole_image : (columns copy : ColumnsValue) (n : ℕ) (buffers : List (List (List ℕ))) (image : ImageValue)
     → image ≡ record { columns = copy.columns; slots = copy.rows; rows = n; buffers = buffers } → copy ≡ columns
-    → HasRows n columns.rows → buffers ≡ buffers_from 0 columns.columns (take n columns.rows) → IsWhole image
-whole_image columns n buffers copy image is same held made =
+    → IsWhole (record { columns = columns.columns; slots = columns.rows; rows = n; buffers = buffers }) → IsWhole image
+whole_image columns copy n buffers image is same whole =
     subst IsWhole
     (ap (λ (v : ColumnsValue). let i : ImageValue = record { columns = v.columns; slots = v.rows; rows = n; buffers = buffers } in i) (sym same) ∙ sym is)
-    (record {
-      held = held;
-      buffers = made ∙ batch_buffers columns.columns (take n columns.rows) (rows_in_slots (take n columns.rows)) (held_rows n columns.rows held);
-    })
+    whole
 
 pub buffers_all : (cs : List Column) (slots : List (Option Row)) (i : ℕ) (before : List (List (List ℕ))) → before ≡ take i (buffers_from 0 cs slots) → length cs ≤ i → before ≡ buffers_from 0 cs slots
 buffers_all cs slots i before is le = is ∙ take_all i (buffers_from 0 cs slots) (omega (arith, le, buffers_long 0 cs slots))

@@ -10,13 +10,12 @@ use std::alloc::{AllocError, Global};
 use std::thread;
 use std::thread::Threads;
 
-// How many bytes of a column make a thread of its own pay.
-const LARGE: usize = 100_000;
+// How many bytes of a column make a thread of its own pay: numbers are copied sooner than a thread
+// starts, the values of a text of a whole block are not.
+const LARGE: usize = 400_000;
 
-/// An image of the columns with the Arrow buffers of the first `rows` slots, each of which has a
-/// row: those of the batch of these rows. Only want of memory is refused.
-///
-/// Where a column is large, the columns are made side by side, else in turn.
+/// An image of a copy of the columns with the Arrow buffers of the first `rows` slots, each of which
+/// has a row: those of the batch of these rows. Only want of memory is refused.
 pub fn gather<R: Threads + Sync>(
     rt: &R,
     alloc: Global,
@@ -32,8 +31,33 @@ pub fn gather<R: Threads + Sync>(
 {
     // Each slot with a row has memory.
     let _room = columns.room();
-    let buffers = gather_columns(rt, alloc, columns, rows as usize)?;
+    let buffers = gather_buffers(rt, alloc, columns, rows)?;
     Ok(Image::of(columns.copy()?, rows, buffers))
+}
+
+/// The Arrow buffers of each column for the first `rows` slots, each of which has a row: those of the
+/// batch of these rows. Only want of memory is refused.
+///
+/// Where a column is large, the columns are made side by side, else in turn.
+pub fn gather_buffers<R: Threads + Sync>(
+    rt: &R,
+    alloc: Global,
+    columns: &Columns,
+    rows: u32,
+) -> Result<Vec<Buffers>, AllocError>
+    requires held { (slot : ℕ) → slot < rows → IsSome (slice_index_or columns.now.rows slot None) }
+    requires few { rows ≤ 2 ^ 15 }
+    ensures each { IfOk result (λ buffers. length buffers.items ≡ length columns.now.columns) }
+    ensures whole { IfOk result (λ buffers. IsWhole (record {
+      columns = columns.now.columns;
+      slots = columns.now.rows;
+      rows = rows;
+      buffers = buffers.items;
+    })) }
+{
+    // Each slot with a row has memory.
+    let _room = columns.room();
+    gather_columns(rt, alloc, columns, rows as usize)
 }
 
 // The buffers of each column.

@@ -51,8 +51,10 @@ fn add_data(
             buffers.push(Bytes::from(bytes))?;
         }
         Kind::Utf8 | Kind::Binary => {
-            buffers.push(Bytes::from(offsets(alloc, column, n)?))?;
-            buffers.push(Bytes::from(values(alloc, column, n)?))?;
+            let ends = offsets(alloc, column, n)?;
+            let values = values(alloc, column, n, ends.last as usize)?;
+            buffers.push(Bytes::from(ends.offsets))?;
+            buffers.push(Bytes::from(values))?;
         }
         Kind::I8
         | Kind::I16

@@ -5,7 +5,7 @@ mod block;
 mod column;
 mod values;
 
-pub use block::gather;
+pub use block::{gather, gather_buffers};
 
 #[cfg(test)]
 mod tests;

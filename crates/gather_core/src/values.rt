@@ -8,11 +8,18 @@ use block_columns::ColumnCells;
 use byteorder::{ByteOrder, LittleEndian};
 use std::alloc::{AllocError, Global};
 
+// Where the values of a column end among their bytes.
+#[derive(Drop)]
+pub struct Ends {
+    pub offsets: Vec<u8>,
+    pub last: u32,
+}
+
 // The offsets of the first cells, one more than there are.
-pub fn offsets(alloc: Global, column: &ColumnCells, n: usize) -> Result<Vec<u8>, AllocError>
+pub fn offsets(alloc: Global, column: &ColumnCells, n: usize) -> Result<Ends, AllocError>
     requires room { n ≤ length column.now.cells }
     requires few { n ≤ 2 ^ 15 }
-    ensures { IfOk result (λ bytes. bytes.items ≡
+    ensures { IfOk result (λ ends. ends.offsets.items ≡
         flat_map (to_le_bytes w32) (offsets 0 (take n column.now.cells))) }
 {
     let mut bytes = Vec::with_capacity(alloc, 4 * (n + 1))?;
@@ -22,17 +29,29 @@ pub fn offsets(alloc: Global, column: &ColumnCells, n: usize) -> Result<Vec<u8>,
         end += column.bytes(at).len() as u32;
     }
     add_u32(&mut bytes, end)?;
-    Ok(bytes)
+    Ok(Ends {
+        offsets: bytes,
+        last: end,
+    })
 }
 
-// The bytes of the first cells, one after another.
-pub fn values(alloc: Global, column: &ColumnCells, n: usize) -> Result<Vec<u8>, AllocError>
+// The bytes of the first cells, one after another, of which there are about `len`.
+pub fn values(
+    alloc: Global,
+    column: &ColumnCells,
+    n: usize,
+    len: usize,
+) -> Result<Vec<u8>, AllocError>
     requires { n ≤ length column.now.cells }
     ensures { IfOk result (λ bytes. bytes.items ≡ flat_map value_of (take n column.now.cells)) }
 {
-    let mut bytes = Vec::new(alloc);
+    let mut bytes = Vec::with_capacity(alloc, len)?;
     for at in 0..n {
-        bytes.extend_from_slice(column.bytes(at))?;
+        let value = column.bytes(at);
+        // A null has none.
+        if !value.is_empty() {
+            bytes.extend_from_slice(value)?;
+        }
     }
     Ok(bytes)
 }

@@ -1,15 +1,12 @@
-use Rattle.std.proofs.Common.{ap, ◌∙◌, length, sym, take}
+use Rattle.std.proofs.Common.{ap, ◌∙◌, length, sym}
 use Rattle.block_columns.specs.Columns.{ColumnsValue}
-use Rattle.gather_core.proofs.Columns.{buffers_long, whole_image}
+use Rattle.gather_core.proofs.Columns.{whole_image}
 use Rattle.gather_core.proofs.block.gather.Goals as goal
 
 pub of-requires-clause-each : goal.of-requires-clause-each
-of-requires-clause-each g c =
-    ap length c.in_ok-buffers.ensures
-    ∙ buffers_long 0 c.args.columns.now.columns (take c.args.rows c.args.columns.now.rows)
-    ∙ ap (λ (v : ColumnsValue). length v.columns) (sym c.in_ok-copy.ensures)
+of-requires-clause-each g c = c.in_ok-buffers.ensures.each ∙ ap (λ (v : ColumnsValue). length v.columns) (sym c.in_ok-copy.ensures)
 
 pub returns-clause-whole : goal.returns-clause-whole
 returns-clause-whole g c =
-    whole_image c.args.columns.now c.args.rows c.in_ok-buffers.buffers.items c.in_ok-copy.field-0 c.of.result
-    c.of.ensures c.in_ok-copy.ensures c.requires.held c.in_ok-buffers.ensures
+    whole_image c.args.columns.now c.in_ok-copy.field-0 c.args.rows c.in_ok-buffers.buffers.items c.of.result
+    c.of.ensures c.in_ok-copy.ensures c.in_ok-buffers.ensures.whole

@@ -1,30 +1,19 @@
-use Rattle.std.proofs.Common.{◌≡◌, ◌∙◌, ◌<◌, ◌↔◌, Bool, true, false, None, List, Option, get_or, subst, sym, ap, refl, arith}
-use Rattle.std.specs.Prelude.{is_some, count_by, IsTrue, IsSome}
+use Rattle.std.proofs.Common.{◌≡◌, ◌∙◌, ◌≤◌, List, Option, take, sym, ap, arith}
+use Rattle.std.specs.Prelude.{is_some, count_by}
 use Rattle.block_spec.specs.Slots.{Row}
-use Rattle.block_body.proofs.Whole.{taken, taken_is, front_true, front_false}
+use Rattle.block_body.proofs.Whole.{front_is, taken, taken_is, taken_room}
 use Rattle.block_body.proofs.rows.Rows.is_front.Goals as goal
 
-none_there : {X : Type 0} (o : Option X) (has : Bool) → has ≡ false → IsTrue has ↔ IsSome o → is_some o ≡ false
-none_there o has lacks tells = go (is_some o) refl
-  where
-    go : (b : Bool) → is_some o ≡ b → is_some o ≡ false
-    go true is = let never : has ≡ true = tells.1 is in cc
-    go false is = is
-
-pub returns-then-not-has_row : goal.returns-then-not-has_row
-returns-then-not-has_row c = λ entries.
-    let rows : c.columns-columns.result.now.rows ≡ c.args.self.now.rows = c.columns-columns.ensures.rows in
+pub count_first-requires : goal.count_first-requires
+count_first-requires c =
     let count : c.self.inside.count ≡ count_by is_some c.args.self.now.rows = c.self.invariant.count ∙ ap (λ v. count_by is_some v.rows) c.self.view_is in
-    let less : c.loop-slot.slot < taken c.args.self.now.rows = subst (λ n. c.loop-slot.slot < n) (count ∙ sym (taken_is c.args.self.now.rows)) c.loop-slot-test.true in
-    let none : is_some (get_or c.args.self.now.rows c.loop-slot.slot None) ≡ false =
-    none_there (get_or c.args.self.now.rows c.loop-slot.slot None) c.has_row.result c.if-not-has_row.true
-    (subst (λ (l : List (Option Row)). IsTrue c.has_row.result ↔ IsSome (get_or l c.loop-slot.slot None)) rows c.has_row.ensures) in
-    sym (front_false entries 0 c.args.self.now.rows c.loop-slot.slot less none)
+    let few : taken c.columns-columns.result.now.rows ≤ c.room-room.result = taken_room c.columns-columns.result.now.rows c.room-room.result c.room-room.ensures.held in
+    let same : taken c.columns-columns.result.now.rows ≡ c.self.inside.count =
+    taken_is c.columns-columns.result.now.rows ∙ ap (λ (l : List (Option Row)). count_by is_some l) c.columns-columns.ensures.rows ∙ sym count in
+    omega (arith, few, same, c.room-room.ensures.room)
 
 pub returns : goal.returns
 returns c = λ entries.
-    let rows : c.columns-columns.result.now.rows ≡ c.args.self.now.rows = c.columns-columns.ensures.rows in
     let count : c.self.inside.count ≡ count_by is_some c.args.self.now.rows = c.self.invariant.count ∙ ap (λ v. count_by is_some v.rows) c.self.view_is in
-    let same : taken c.args.self.now.rows ≡ c.self.inside.count = taken_is c.args.self.now.rows ∙ sym count in
-    sym (front_true entries 0 c.args.self.now.rows
-    (λ k lt. sym (ap (λ (l : List (Option Row)). is_some (get_or l k None)) rows) ∙ c.loop-slot.invariant k (omega arith)))
+    front_is entries 0 c.args.self.now.rows c.self.inside.count c.count_first.result count
+    (c.count_first.ensures ∙ ap (λ (l : List (Option Row)). count_by is_some (take c.self.inside.count l)) c.columns-columns.ensures.rows)
