@@ -116,7 +116,7 @@ kept_alike i keep other ix h same = fold_alike
     ap (with_candidates now e.0) (filter_same keep other (candidates_of ix e.0) (λ p b. same e.0 p (h.own e.0 there.0 there.1) b)))
     ix
 
-head_is_there : (sh : Shape) (s : Parts) (t : ℕ) (piece : CorePart) → part_at sh s (HeadOf t) ≡ Some piece → HasTable sh t
+pub head_is_there : (sh : Shape) (s : Parts) (t : ℕ) (piece : CorePart) → part_at sh s (HeadOf t) ≡ Some piece → HasTable sh t
 head_is_there sh s t piece is = last (split (heads_in sh ++ shards_in sh ++ bodies_in sh) (TheDesk ∷ []) (HeadOf t) (named_member (names sh) s (HeadOf t) piece is))
   where
     zero_is : rank (HeadOf t) ≡ 0

@@ -105,7 +105,7 @@ kept_holds i keep ix h = go (finite.entries ix) (λ e a. let x = entry_there ix 
         go es (λ x a. own x (inr a)) (with_candidates now e.0 (filter keep (candidates_of ix e.0)))
         (with_holds i now e.0 (filter keep (candidates_of ix e.0)) holds (own e (inl refl)))
 
-moved_holds : (sh : Shape) (s : Parts) (i : ℕ) (pairs : List MovePair) (ix : Places) → ShardHolds i ix → ShardHolds i (fold (places_moved sh s i) ix pairs)
+pub moved_holds : (sh : Shape) (s : Parts) (i : ℕ) (pairs : List MovePair) (ix : Places) → ShardHolds i ix → ShardHolds i (fold (places_moved sh s i) ix pairs)
 moved_holds sh s i [] ix h = h
 moved_holds sh s i (pair ∷ pairs) ix h = moved_holds sh s i pairs (places_moved sh s i ix pair) (go (shard_of pair.key == i) refl)
   where

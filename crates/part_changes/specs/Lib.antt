@@ -1,0 +1,3 @@
+pub mod Heads
+pub mod Shards
+pub mod Laws
