@@ -1,0 +1,4 @@
+pub mod Numbering
+pub mod Placing
+pub mod Changing
+pub mod Telling
