@@ -1,0 +1,4 @@
+pub mod Held
+pub mod Names
+pub mod Nexts
+pub mod Numbered
