@@ -1,0 +1,135 @@
+//! Where a write of a key goes, or what is against it.
+ghost use Rattle.std.specs.Prelude.{◌≡◌, ◌+◌, ◌≤◌, None, IfOk, IfSome, length, option_and_then};
+ghost use Rattle.std.specs.Option.{option_or};
+ghost use Rattle.block_layout.specs.Place.{block_of};
+ghost use Rattle.core_parts.specs.Hands.{Has};
+ghost use Rattle.event_spec.specs.Judged.{current_place, fault_of, freezing_of, judged, judged_change, judged_insert, newer_by, next_place};
+ghost use Rattle.event_spec.specs.Lawful.{HasTable};
+ghost use Rattle.event_spec.specs.declared.reply.WriteFault.TheVariants.{Full, Missing};
+ghost use Rattle.event_spec.specs.Parts.{HeadOf, Parts, body_at, head_at, slot_at, slots_of};
+ghost use Rattle.hall_rule.specs.Hands.{Agrees};
+ghost use Rattle.key_judge.specs.Slots.{HasSlot, HasSlots};
+
+use crate::finds::{current, found};
+use crate::meetings::newer;
+use block_layout::SlotId;
+use block_spec::Phase;
+use core_parts::{CorePart, Shape, body, head};
+use event_spec::{OwnKey, WriteFault};
+use hall_rule::Hand;
+use std::alloc::AllocError;
+use std::sync::ledger::Ledger;
+use steps::Steps;
+use undo_chain::Newer;
+
+// What a write is refused for by what it meets.
+fn fault_of(newer: Newer) -> Option<WriteFault>
+    ensures { result ≡ fault_of newer }
+{
+    match newer {
+        Newer::Nothing => None,
+        Newer::Session(writer) => Some(WriteFault::ConflictSession(writer)),
+        Newer::Number(number) => Some(WriteFault::ConflictCommit(number)),
+    }
+}
+
+// The slot that an insert takes where the transaction did not write the key, or that the table is full.
+fn next_slot(
+    shape: &Shape,
+    held: &Hand<CorePart>,
+    own: &OwnKey,
+    table: u32,
+) -> Result<SlotId, WriteFault>
+    requires table { HasTable shape.now table }
+    requires head { own.now.written ≡ None → Has shape.now held.now (HeadOf table) }
+    ensures { (s : Parts) → Agrees held.now s → result ≡ judged None
+        (option_or own.now.written (next_place (head_at shape.now s table) (slots_of shape.now table)))
+        (Full (head_at shape.now s table).inserts) }
+{
+    if let Some(place) = own.written {
+        return Ok(place);
+    }
+    let head = head(shape, held, table);
+    match head.next_place(shape.slots(table)) {
+        Some(place) => Ok(place),
+        None => Err(WriteFault::Full {
+            inserts: head.inserts(),
+        }),
+    }
+}
+
+/// Where an insert of a key with these candidates goes, or the first thing that is against it.
+pub fn judge_insert<L: Ledger>(
+    shape: &Shape,
+    held: &Hand<CorePart>,
+    own: &OwnKey,
+    table: u32,
+    places: &[SlotId],
+    steps: &mut Steps<L>,
+) -> Result<Result<SlotId, WriteFault>, AllocError>
+    requires table { HasTable shape.now table }
+    requires head { own.now.written ≡ None → Has shape.now held.now (HeadOf table) }
+    requires places { HasSlots shape.now held.now table places.now }
+    requires own { IfSome own.now.written (HasSlot shape.now held.now table) }
+    ensures judged { IfOk result (λ judged. (s : Parts) → Agrees held.now s → judged ≡
+        judged_insert (slot_at shape.now s table) places.now (head_at shape.now s table) (slots_of shape.now table) own.now) }
+    ensures steps { steps.new ≤ steps.old + (length places.now + 1) }
+{
+    if let Some(fault) = fault_of(newer(shape, held, own, table, places)) {
+        return Ok(Err(fault));
+    }
+    if found(shape, held, own, table, places, steps)?.is_some() {
+        return Ok(Err(WriteFault::Exists));
+    }
+    Ok(next_slot(shape, held, own, table))
+}
+
+// Where a change of a found row goes, or that its block is sealed.
+fn current_slot(
+    shape: &Shape,
+    held: &Hand<CorePart>,
+    table: u32,
+    places: &[SlotId],
+) -> Result<SlotId, WriteFault>
+    requires { HasSlots shape.now held.now table places.now }
+    ensures { (s : Parts) → Agrees held.now s → result ≡ judged
+        (option_and_then (λ place. freezing_of (block_of place) (body_at shape.now s table (block_of place)).phase)
+        (current_place (slot_at shape.now s table) places.now))
+        (current_place (slot_at shape.now s table) places.now) Missing }
+{
+    let Some(place) = current(shape, held, table, places) else {
+        return Err(WriteFault::Missing);
+    };
+    match body(shape, held, table, place.block()).phase() {
+        Phase::Sealed(stamp) => Err(WriteFault::Freezing {
+            block: place.block(),
+            stamp,
+        }),
+        Phase::Loose | Phase::Imaged(_) => Ok(place),
+    }
+}
+
+/// Where an update or a delete of a key with these candidates goes, or the first thing that is against
+/// it.
+pub fn judge_change<L: Ledger>(
+    shape: &Shape,
+    held: &Hand<CorePart>,
+    own: &OwnKey,
+    table: u32,
+    places: &[SlotId],
+    steps: &mut Steps<L>,
+) -> Result<Result<SlotId, WriteFault>, AllocError>
+    requires places { HasSlots shape.now held.now table places.now }
+    requires own { IfSome own.now.written (HasSlot shape.now held.now table) }
+    ensures judged { IfOk result (λ judged. (s : Parts) → Agrees held.now s → judged ≡
+        judged_change (slot_at shape.now s table) places.now (λ block. (body_at shape.now s table block).phase) own.now) }
+    ensures steps { steps.new ≤ steps.old + (length places.now + 1) }
+{
+    if let Some(fault) = fault_of(newer(shape, held, own, table, places)) {
+        return Ok(Err(fault));
+    }
+    if found(shape, held, own, table, places, steps)?.is_none() {
+        return Ok(Err(WriteFault::Missing));
+    }
+    Ok(current_slot(shape, held, table, places))
+}
