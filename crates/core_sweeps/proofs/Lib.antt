@@ -1,0 +1,5 @@
+pub mod Aborts
+pub mod Dropping
+pub mod Handing
+pub mod Prunes
+pub mod Rolling

@@ -1,0 +1,32 @@
+use Rattle.block_spec.specs.Bodies.{pruned_in}
+use Rattle.core_sweeps.proofs.Handing.{has_still, room_still}
+use Rattle.core_sweeps.proofs.Prunes.{ends, has_body_mid, has_head_mid, room_mid}
+use Rattle.core_sweeps.specs.Steps.{body_changed}
+use Rattle.event_spec.specs.Parts.{BodyOf, HeadOf}
+use Rattle.core_sweeps.proofs.pruning.prune.Goals as goal
+
+pub prune_body-dropped-requires-clause-body : goal.prune_body-dropped-requires-clause-body
+prune_body-dropped-requires-clause-body c = has_body_mid c.args.shape.now c.args.table c.args.block c.args.oldest c.args.held.now c.drop_left.new.held c.drop_left.ensures
+
+pub prune_body-dropped-requires-clause-room : goal.prune_body-dropped-requires-clause-room
+prune_body-dropped-requires-clause-room c = room_mid c.args.shape.now c.args.table c.args.block c.args.oldest c.args.held.now c.drop_left.new.held c.drop_left.ensures
+
+pub tell_empty-requires-clause-head : goal.tell_empty-requires-clause-head
+tell_empty-requires-clause-head c =
+    has_still c.args.shape.now (body_changed c.args.table c.args.block (pruned_in c.args.oldest)) c.drop_left.new.held c.prune_body-dropped.new.held (HeadOf c.args.table) c.prune_body-dropped.ensures.pruned
+    (has_head_mid c.args.shape.now c.args.table c.args.block c.args.oldest c.args.held.now c.drop_left.new.held c.drop_left.ensures)
+
+pub tell_empty-requires-clause-body : goal.tell_empty-requires-clause-body
+tell_empty-requires-clause-body c =
+    has_still c.args.shape.now (body_changed c.args.table c.args.block (pruned_in c.args.oldest)) c.drop_left.new.held c.prune_body-dropped.new.held (BodyOf c.args.table c.args.block) c.prune_body-dropped.ensures.pruned
+    (has_body_mid c.args.shape.now c.args.table c.args.block c.args.oldest c.args.held.now c.drop_left.new.held c.drop_left.ensures)
+
+pub tell_empty-requires-clause-room : goal.tell_empty-requires-clause-room
+tell_empty-requires-clause-room c =
+    room_still c.args.shape.now (body_changed c.args.table c.args.block (pruned_in c.args.oldest)) c.drop_left.new.held c.prune_body-dropped.new.held c.prune_body-dropped.ensures.pruned
+    (room_mid c.args.shape.now c.args.table c.args.block c.args.oldest c.args.held.now c.drop_left.new.held c.drop_left.ensures)
+
+pub returns : goal.returns
+returns c =
+    ends c.args.shape.now c.args.table c.args.block c.args.oldest c.args.held.now c.drop_left.new.held c.drop_left.ensures c.prune_body-dropped.new.held c.tell_empty.new.held c.prune_body-dropped.result
+    c.prune_body-dropped.ensures.pruned c.prune_body-dropped.ensures.count c.tell_empty.ensures
