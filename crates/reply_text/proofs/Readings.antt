@@ -97,13 +97,13 @@ who_by word who None at e = mapped Session (u32_in word) who e (λ n read same.
     let u = u32_is word n read in
     (ap who_text (sym same) ∙ u.text, ap is_who (sym same) ∙ u.fits))
 
-record IsHead (line : List ℕ) (head : Heading) : Type 0 where
-  round : is_u32 head.round ≡ true
-  who : is_who head.who ≡ true
-  index : is_u64 head.index ≡ true
-  text : line ≡ decimal head.round ++ 32 ∷ (who_text head.who ++ 32 ∷ (decimal head.index ++ 32 ∷ head.words))
+pub record IsHead (line : List ℕ) (head : Heading) : Type 0 where
+  pub round : is_u32 head.round ≡ true
+  pub who : is_who head.who ≡ true
+  pub index : is_u64 head.index ≡ true
+  pub text : line ≡ decimal head.round ++ 32 ∷ (who_text head.who ++ 32 ∷ (decimal head.index ++ 32 ∷ head.words))
 
-head_is : (line : List ℕ) (head : Heading) → head_in line ≡ Some head → IsHead line head
+pub head_is : (line : List ℕ) (head : Heading) → head_in line ≡ Some head → IsHead line head
 head_is line head e =
     step (cut 32 line) _ head e (λ first c1 e1.
     step (u32_in first.0) _ head e1 (λ round n1 e2.

@@ -52,10 +52,10 @@ reply_parts tables reply fits =
     record { round = d.0; who = d.1; index = c.1; told = b.1 }
 
 -- the line of a round, whom it answers, an index and words
-abbrev head_text : ℕ → Who → ℕ → List ℕ → List ℕ
+abbrev pub head_text : ℕ → Who → ℕ → List ℕ → List ℕ
 head_text round who index words = decimal round ++ 32 ∷ (who_text who ++ 32 ∷ (decimal index ++ 32 ∷ words))
 
-head_back : (round index : ℕ) (who : Who) (words : List ℕ) → is_u32 round ≡ true → is_who who ≡ true → is_u64 index ≡ true
+pub head_back : (round index : ℕ) (who : Who) (words : List ℕ) → is_u32 round ≡ true → is_who who ≡ true → is_u64 index ≡ true
     → head_in (head_text round who index words) ≡ Some (record { round = round; who = who; index = index; words = words })
 head_back round index who words a b c =
     let head : Option Heading = Some (record { round = round; who = who; index = index; words = words }) in

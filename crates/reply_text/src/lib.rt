@@ -11,8 +11,10 @@ mod said;
 mod shapes;
 
 pub use lines::{print_line, put_line};
-pub use reading::read_line;
+pub use pieces::behind;
+pub use reading::{head_in, read_line, told_in};
 pub use refusal::put_refusal;
+pub use rows::row_in;
 
 #[cfg(test)]
 mod tests;

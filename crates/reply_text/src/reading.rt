@@ -41,7 +41,7 @@ pub fn read_line(
 }
 
 /// The round, whom it answers, the index, and the words behind them.
-fn head_in(line: &[u8]) -> Option<(u32, Who, u64, &[u8])>
+pub fn head_in(line: &[u8]) -> Option<(u32, Who, u64, &[u8])>
     ensures { option_map (λ x. record { round = x.0; who = x.1; index = x.2; words = x.3.now }) result ≡ head_in line.now }
 {
     let (round, rest) = cut(line, b' ')?;
@@ -64,7 +64,7 @@ fn who_in(word: &[u8]) -> Option<Who>
 }
 
 /// What a reply says in its first line, with what stands behind that line.
-fn told_in(
+pub fn told_in(
     alloc: Global,
     tables: &[TableDecl],
     words: &[u8],

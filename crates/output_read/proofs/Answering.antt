@@ -1,0 +1,332 @@
+-- What may be said where a reply is due, both ways: by kind, and among those that the definition of forms lists.
+use Rattle.std.proofs.Common.{◌≡◌, ℕ, ◌+◌, ◌^◌, ◌<◌, Bool, true, false, cond, ◌&&◌, ◌||◌, not, List, [], ◌∷◌, ◌++◌, length, drop, map, Option, None, Some, refl, sym, ap, ◌∙◌, subst, arith, ℤ}
+use Rattle.std.proofs.Common.{◌≤◌, ◌-◌}
+use Rattle.std.proofs.lemmas.Bool.{leb-true}
+use Rattle.std.specs.Prelude.{◌==◌, nat_lt, nat_le, find, slice_get, is_some, if◌then◌else◌, unwrap_or, option_and_then}
+use Rattle.workload_spec.specs.Valid.{is_within as is_within_range}
+use Rattle.workload_spec.specs.Reading.{natural_of}
+use Rattle.outcome_spec.specs.Reading.{word_at}
+use Rattle.std.specs.List.{filter, list_all}
+use Rattle.std.specs.Option.{option_map_or}
+use Rattle.std.specs.Ordering.{int_eq}
+use Rattle.std.proofs.lemmas.Bool.{and_parts, and_from, lt-ltb, ltb-true, eqb-true, eq-eqb}
+use Rattle.cell_model.specs.declared.cell.Cell.{Cell}
+use Rattle.cell_model.specs.declared.column.Column.{Column}
+use Rattle.cell_model.specs.declared.kind.Kind.TheVariants as kind
+use Rattle.cell_model.specs.declared.table.TableDecl.{TableDecl}
+use Rattle.cell_model.specs.Rows.{fits}
+use Rattle.cell_model.specs.Values.{is_integer_of}
+use Rattle.isolation_spec.specs.Contents.{key_of}
+use Rattle.workload_spec.specs.declared.command.Command.{Command}
+use Rattle.workload_spec.specs.declared.command.Command.TheVariants as command
+use Rattle.workload_spec.specs.declared.reply.Who.{Who}
+use Rattle.workload_spec.specs.declared.reply.Said.{Said}
+use Rattle.workload_spec.specs.declared.reply.Said.TheVariants as said
+use Rattle.workload_spec.specs.ReplyText.{lines_behind}
+use Rattle.workload_spec.specs.Valid.{is_command, is_table, is_table_place, is_block_of, is_key_number}
+use Rattle.outcome_spec.specs.Entries.{Entry}
+use Rattle.outcome_spec.specs.Reading.{row_of, u32_at, u64_at, tagged_u64_at, integer_at}
+use Rattle.outcome_spec.specs.Tables.{columns_at}
+use Rattle.outcome_spec.specs.Forms.{Due, is_upkeep, is_worker, is_silent, is_within, replies_within, replies_without, replies_due, row_replies, dirty_replies, conflict_replies, change_replies}
+use Rattle.reply_text.specs.Shown.{is_u32, is_u64, is_row, is_said}
+use Rattle.timeline_spec.specs.Forms.{IsReplyWithin, IsReplyWithout, IsBeginReply, IsChangeReply, IsInsertReply, IsGetReply, IsScanReply, IsCommitReply, IsExportReply, IsObserveReply, IsPruneReply, IsCompactReply, IsSealReply, IsGatherReply}
+use Rattle.timeline_laws.proofs.ReadNumbers.{u32_small, u64_small}
+use Rattle.timeline_laws.proofs.Stated.{GotFits, RowsFit, IsReply}
+use Rattle.timeline_laws.proofs.Turns.{EachSaid}
+use Rattle.output_read.specs.Answers.{answers, answers_within, answers_without, answers_begin, answers_get, answers_scan, answers_insert, answers_change, answers_commit, answers_abort, answers_observe, answers_prune, answers_compact, answers_seal, answers_gather, answers_export, is_opening, is_without, may_say}
+use Rattle.output_read.proofs.Fitting.{never, row_fits, row_of_is}
+
+-- ---- by kind: what answers is a reply
+
+begin-reply : (told : Said) → answers_begin told ≡ true → told ≡ said.InTransaction
+begin-reply said.InTransaction h = refl
+begin-reply _ h = absurd (never h)
+
+get-reply : (columns : List Column) (key : ℤ) (told : Said) → answers_get columns key told ≡ true → IsGetReply told × GotFits columns key told
+get-reply columns key (said.Found row) h = (tt, and_parts (fits columns row) (int_eq (key_of row) key) h)
+get-reply columns key said.Absent h = (tt, tt)
+get-reply columns key said.Memory h = (tt, tt)
+get-reply columns key _ h = absurd (never h)
+
+insert-reply : (tables : List TableDecl) (told : Said) → answers_insert told ≡ true → is_said tables told ≡ true → IsInsertReply told
+insert-reply tables said.Accepted h fit = tt
+insert-reply tables said.Exists h fit = tt
+insert-reply tables said.Full h fit = tt
+insert-reply tables said.Memory h fit = tt
+insert-reply tables (said.ConflictSession session) h fit = ltb-true session (2 ^ 32) fit
+insert-reply tables (said.ConflictCommit number) h fit = ltb-true number (2 ^ 64) fit
+insert-reply tables _ h fit = absurd (never h)
+
+change-reply : (tables : List TableDecl) (table : ℕ) (told : Said) → answers_change table told ≡ true → is_said tables told ≡ true → IsChangeReply table told
+change-reply tables table said.Accepted h fit = tt
+change-reply tables table said.Missing h fit = tt
+change-reply tables table said.Memory h fit = tt
+change-reply tables table (said.Freezing of block stamp) h fit =
+    let parts = and_parts (is_table_place tables of && is_u32 block) (is_u32 stamp) fit in
+    let first = and_parts (is_table_place tables of) (is_u32 block) parts.0 in
+    (eqb-true of table h, ltb-true block (2 ^ 32) first.1, ltb-true stamp (2 ^ 32) parts.1)
+change-reply tables table (said.ConflictSession session) h fit = ltb-true session (2 ^ 32) fit
+change-reply tables table (said.ConflictCommit number) h fit = ltb-true number (2 ^ 64) fit
+change-reply tables table _ h fit = absurd (never h)
+
+commit-reply : (tables : List TableDecl) (told : Said) → answers_commit told ≡ true → is_said tables told ≡ true → IsCommitReply told
+commit-reply tables (said.Committed None) h fit = tt
+commit-reply tables (said.Committed (Some number)) h fit = ltb-true number (2 ^ 64) fit
+commit-reply tables _ h fit = absurd (never h)
+
+abort-reply : (told : Said) → answers_abort told ≡ true → told ≡ said.Aborted
+abort-reply said.Aborted h = refl
+abort-reply _ h = absurd (never h)
+
+observe-reply : (tables : List TableDecl) (told : Said) → answers_observe told ≡ true → is_said tables told ≡ true → IsObserveReply told
+observe-reply tables (said.Cooling count) h fit = ltb-true count (2 ^ 64) fit
+observe-reply tables _ h fit = absurd (never h)
+
+prune-reply : (tables : List TableDecl) (told : Said) → answers_prune told ≡ true → is_said tables told ≡ true → IsPruneReply told
+prune-reply tables (said.Pruned count) h fit = ltb-true count (2 ^ 64) fit
+prune-reply tables _ h fit = absurd (never h)
+
+compact-reply : (tables : List TableDecl) (told : Said) → answers_compact told ≡ true → is_said tables told ≡ true → IsCompactReply told
+compact-reply tables (said.Moved count) h fit = ltb-true count (2 ^ 64) fit
+compact-reply tables said.Memory h fit = tt
+compact-reply tables _ h fit = absurd (never h)
+
+seal-reply : (tables : List TableDecl) (table block : ℕ) (told : Said) → answers_seal table block told ≡ true → is_said tables told ≡ true → IsSealReply table block told
+seal-reply tables table block (said.Sealed of at stamp) h fit =
+    let same = and_parts (of == table) (at == block) h in
+    (eqb-true of table same.0, eqb-true at block same.1, ltb-true stamp (2 ^ 32) (and_parts (is_table_place tables of && is_u32 at) (is_u32 stamp) fit).1)
+seal-reply tables table block (said.NotSealed cause) h fit = tt
+seal-reply tables table block _ h fit = absurd (never h)
+
+gather-reply : (tables : List TableDecl) (table block : ℕ) (told : Said) → answers_gather table block told ≡ true → is_said tables told ≡ true → IsGatherReply table block told
+gather-reply tables table block (said.Frozen of at rows) h fit =
+    let same = and_parts (of == table) (at == block) h in
+    (eqb-true of table same.0, eqb-true at block same.1, ltb-true rows (2 ^ 32) (and_parts (is_table_place tables of && is_u32 at) (is_u32 rows) fit).1)
+gather-reply tables table block said.NotFrozen h fit = tt
+gather-reply tables table block said.Memory h fit = tt
+gather-reply tables table block _ h fit = absurd (never h)
+
+export-reply : (tables : List TableDecl) (told : Said) → answers_export told ≡ true → is_said tables told ≡ true → IsExportReply told
+export-reply tables (said.Exported number rows batches frozen) h fit =
+    let a = and_parts (is_u64 number && is_u64 rows && is_u32 batches) (is_u32 frozen) fit in
+    let b = and_parts (is_u64 number && is_u64 rows) (is_u32 batches) a.0 in
+    let c = and_parts (is_u64 number) (is_u64 rows) b.0 in
+    (ltb-true number (2 ^ 64) c.0, ltb-true rows (2 ^ 64) c.1, ltb-true batches (2 ^ 32) b.1, ltb-true frozen (2 ^ 32) a.1)
+export-reply tables (said.Dirty key) h fit = fit
+export-reply tables said.Memory h fit = tt
+export-reply tables _ h fit = absurd (never h)
+
+scan-reply : (told : Said) → answers_scan told ≡ true → told ≡ said.Memory
+scan-reply said.Memory h = refl
+scan-reply _ h = absurd (never h)
+
+within-reply : (tables : List TableDecl) (asked : Command) (told : Said) → answers_within tables asked told ≡ true → is_said tables told ≡ true → IsReplyWithin asked told × RowsFit tables asked told
+within-reply tables command.Begin told h fit = (begin-reply told h, tt)
+within-reply tables (command.Get table key) told h fit = get-reply (columns_at tables table) key told h
+within-reply tables (command.Scan table) told h fit =
+    subst (λ (s : Said). IsScanReply s × RowsFit tables (command.Scan table) s) (sym (scan-reply told h)) (tt, tt)
+within-reply tables (command.Insert table row) told h fit = (insert-reply tables told h fit, tt)
+within-reply tables (command.Update table row) told h fit = (change-reply tables table told h fit, tt)
+within-reply tables (command.Delete table key) told h fit = (change-reply tables table told h fit, tt)
+within-reply tables command.Commit told h fit = (commit-reply tables told h fit, tt)
+within-reply tables command.Abort told h fit = (abort-reply told h, tt)
+within-reply tables command.Observe told h fit = (observe-reply tables told h fit, tt)
+within-reply tables command.Prune told h fit = (prune-reply tables told h fit, tt)
+within-reply tables (command.Compact table) told h fit = (compact-reply tables told h fit, tt)
+within-reply tables (command.Seal table block) told h fit = (seal-reply tables table block told h fit, tt)
+within-reply tables (command.Gather table block) told h fit = (gather-reply tables table block told h fit, tt)
+within-reply tables (command.Export table) told h fit = (export-reply tables told h fit, tt)
+
+opening-reply : (tables : List TableDecl) (told : Said) → is_opening told ≡ true → is_said tables told ≡ true → IsBeginReply told
+opening-reply tables (said.At number) h fit = ltb-true number (2 ^ 64) fit
+opening-reply tables _ h fit = absurd (never h)
+
+without-reply : (told : Said) → is_without told ≡ true → told ≡ said.NoTransaction
+without-reply said.NoTransaction h = refl
+without-reply _ h = absurd (never h)
+
+-- a session's reply without a transaction shows no row
+none-fit : (tables : List TableDecl) (asked : Command) (told : Said) → told ≡ said.NoTransaction → RowsFit tables asked told
+none-fit tables (command.Get table key) told e = subst (GotFits (columns_at tables table) key) (sym e) tt
+none-fit tables (command.Scan table) told e = subst (λ (s : Said). RowsFit tables (command.Scan table) s) (sym e) tt
+none-fit tables _ told e = tt
+
+without-replies : (tables : List TableDecl) (asked : Command) (told : Said) → is_upkeep asked ≡ false → answers_without asked told ≡ true → is_said tables told ≡ true → IsReplyWithout asked told × RowsFit tables asked told
+without-replies tables command.Begin told up h fit = (opening-reply tables told h fit, tt)
+without-replies tables (command.Get table key) told up h fit = let e = without-reply told h in (e, none-fit tables (command.Get table key) told e)
+without-replies tables (command.Scan table) told up h fit = let e = without-reply told h in (e, none-fit tables (command.Scan table) told e)
+without-replies tables (command.Insert table row) told up h fit = (without-reply told h, tt)
+without-replies tables (command.Update table row) told up h fit = (without-reply told h, tt)
+without-replies tables (command.Delete table key) told up h fit = (without-reply told h, tt)
+without-replies tables command.Commit told up h fit = (without-reply told h, tt)
+without-replies tables command.Abort told up h fit = (without-reply told h, tt)
+without-replies tables (command.Export table) told up h fit = (without-reply told h, tt)
+without-replies tables _ told up h fit = absurd (never (sym up))
+
+chosen-reply : (tables : List TableDecl) (asked : Command) (told : Said) (b : Bool) → (b ≡ false → is_upkeep asked ≡ false)
+    → (if b then answers_within tables asked told else answers_without asked told) ≡ true → is_said tables told ≡ true
+    → (elim b as (λ x. Type 0) [ true ↦ IsReplyWithin asked told | false ↦ IsReplyWithout asked told ]) × RowsFit tables asked told
+chosen-reply tables asked told true up h fit = within-reply tables asked told h fit
+chosen-reply tables asked told false up h fit = without-replies tables asked told (up refl) h fit
+
+or-false : (a b : Bool) → (a || b) ≡ false → b ≡ false
+or-false true b h = absurd (never (sym h))
+or-false false b h = h
+
+-- what may be said is a reply, in a transaction or not
+pub answer-reply : (tables : List TableDecl) (within : Bool) (asked : Command) (told : Said) → answers tables within asked told ≡ true → is_said tables told ≡ true → IsReply within asked told × RowsFit tables asked told
+answer-reply tables within asked told h fit = chosen-reply tables asked told (within || is_upkeep asked) (or-false within (is_upkeep asked)) h fit
+
+-- ---- among those listed: each answers
+
+-- it answers, fits its widths, and has no line behind it
+abbrev pub Answered : List TableDecl → (Said → Bool) → Said → Type 0
+Answered tables test told = (test told ≡ true) × (is_said tables told ≡ true) × (lines_behind told ≡ [])
+
+fits_u64 : (words : List (List ℕ)) (at : ℕ) → is_u64 (u64_at words at) ≡ true
+fits_u64 words at = lt-ltb (u64_at words at) (2 ^ 64) (u64_small words at)
+
+fits_u32 : (words : List (List ℕ)) (at : ℕ) → is_u32 (u32_at words at) ≡ true
+fits_u32 words at = lt-ltb (u32_at words at) (2 ^ 32) (u32_small words at)
+
+same-number : (n : ℕ) → (n == n) ≡ true
+same-number n = eq-eqb n n refl
+
+block-place : (o : Option TableDecl) (block : ℕ) → option_map_or (λ table. nat_lt block table.blocks) o false ≡ true → is_some o ≡ true
+block-place None block h = absurd (never h)
+block-place (Some table) block h = refl
+
+chosen_most : (b : Bool) (most value : ℕ) → is_within_range 0 most value ≡ b → unwrap_or (cond b (Some value) None) 0 ≤ most
+chosen_most true most value h = let e : value ≤ most = leb-true value most (and_parts (nat_le 0 value) (nat_le value most) h).1 in e
+chosen_most false most value h = omega arith
+
+read_most : (most : ℕ) (o : Option ℕ) → unwrap_or (option_and_then (λ value. cond (is_within_range 0 most value) (Some value) None) o) 0 ≤ most
+read_most most None = omega arith
+read_most most (Some value) = chosen_most (is_within_range 0 most value) most value refl
+
+tagged_small : (words : List (List ℕ)) (at : ℕ) → is_u64 (tagged_u64_at words at) ≡ true
+tagged_small words at =
+    let e : tagged_u64_at words at ≤ 2 ^ 64 - 1 = read_most (2 ^ 64 - 1) (natural_of (drop 1 (word_at words at))) in
+    lt-ltb (tagged_u64_at words at) (2 ^ 64) (omega (arith, e))
+
+module _ (tables : List TableDecl) (words behind : List (List ℕ)) where
+  abbrev Each : Command → List Said → Type 0
+  Each asked saids = EachSaid (Answered tables (answers_within tables asked)) saids
+
+  each-got : (columns : List Column) (key : ℤ) (row : List Cell) (b : Bool) → 0 < length columns → fits columns row ≡ true → int_eq (key_of row) key ≡ b
+      → EachSaid (Answered tables (answers_get columns key)) (if b then said.Found row ∷ [] else [])
+  each-got columns key row true some fit same = ((and_from (fits columns row) (int_eq (key_of row) key) fit same, row_fits columns row some fit, refl), tt)
+  each-got columns key row false some fit same = tt
+
+  each-row : (columns : List Column) (key : ℤ) → 0 < length columns → (o : Option (List Cell)) → row_of columns (drop 1 words) ≡ o
+      → EachSaid (Answered tables (answers_get columns key)) (option_map_or (λ row. if int_eq (key_of row) key then said.Found row ∷ [] else []) o [])
+  each-row columns key some None is = tt
+  each-row columns key some (Some row) is = each-got columns key row (int_eq (key_of row) key) some (row_of_is columns (drop 1 words) row is).1 refl
+
+  each-conflict : (test : Said → Bool) → test (said.ConflictSession (u32_at words 2)) ≡ true → test (said.ConflictCommit (tagged_u64_at words 1)) ≡ true
+      → EachSaid (Answered tables test) (conflict_replies words)
+  each-conflict test h k = ((h, fits_u32 words 2, refl), ((k, tagged_small words 1, refl), tt))
+
+  each-change : (table : ℕ) → is_table_place tables table ≡ true → EachSaid (Answered tables (answers_change table)) (change_replies table words)
+  each-change table place = (
+    (refl, refl, refl),
+    (
+      (refl, refl, refl),
+      (
+        (refl, refl, refl),
+        (
+          (same-number table, and_from (is_table_place tables table && is_u32 (u32_at words 2)) (is_u32 (u32_at words 3)) (and_from (is_table_place tables table) (is_u32 (u32_at words 2)) place (fits_u32 words 2)) (fits_u32 words 3), refl),
+          each-conflict (answers_change table) refl refl,
+        ),
+      ),
+    ),
+  )
+
+  each-dirty : (key : ℤ) (b : Bool) → is_integer_of kind.I64 key ≡ b → EachSaid (Answered tables answers_export) (if b then said.Dirty key ∷ [] else [])
+  each-dirty key true fit = ((refl, fit, refl), tt)
+  each-dirty key false fit = tt
+
+  block-fits : (table block : ℕ) (number : ℕ) → is_table_place tables table ≡ true → is_u32 block ≡ true → is_u32 number ≡ true → (is_table_place tables table && is_u32 block && is_u32 number) ≡ true
+  block-fits table block number a b c = and_from (is_table_place tables table && is_u32 block) (is_u32 number) (and_from (is_table_place tables table) (is_u32 block) a b) c
+
+  same-block : (table block : ℕ) → (table == table && block == block) ≡ true
+  same-block table block = and_from (table == table) (block == block) (same-number table) (same-number block)
+
+  -- the command names tables, blocks and columns that there are, and is no scan
+  abbrev pub IsListed : Command → Type 0
+  IsListed (command.Get table key) = 0 < length (columns_at tables table)
+  IsListed (command.Scan table) = ⊥
+  IsListed (command.Update table row) = is_table_place tables table ≡ true
+  IsListed (command.Delete table key) = is_table_place tables table ≡ true
+  IsListed (command.Seal table block) = (is_table_place tables table ≡ true) × (is_u32 block ≡ true)
+  IsListed (command.Gather table block) = (is_table_place tables table ≡ true) × (is_u32 block ≡ true)
+  IsListed _ = Unit {0}
+
+  each-within : (asked : Command) → IsListed asked → Each asked (replies_within tables words behind asked)
+  each-within command.Begin h = ((refl, refl, refl), tt)
+  each-within (command.Get table key) h =
+      ((refl, refl, refl), ((refl, refl, refl), each-row (columns_at tables table) key h (row_of (columns_at tables table) (drop 1 words)) refl))
+  each-within (command.Scan table) h = absurd h
+  each-within (command.Insert table row) h = ((refl, refl, refl), ((refl, refl, refl), ((refl, refl, refl), ((refl, refl, refl), each-conflict answers_insert refl refl))))
+  each-within (command.Update table row) h = each-change table h
+  each-within (command.Delete table key) h = each-change table h
+  each-within command.Commit h = ((refl, refl, refl), ((refl, fits_u64 words 1, refl), tt))
+  each-within command.Abort h = ((refl, refl, refl), tt)
+  each-within command.Observe h = ((refl, fits_u64 words 1, refl), tt)
+  each-within command.Prune h = ((refl, fits_u64 words 1, refl), tt)
+  each-within (command.Compact table) h = ((refl, fits_u64 words 1, refl), ((refl, refl, refl), tt))
+  each-within (command.Seal table block) h = (
+    (same-block table block, block-fits table block (u32_at words 3) h.0 h.1 (fits_u32 words 3), refl),
+    ((refl, refl, refl), ((refl, refl, refl), ((refl, refl, refl), ((refl, refl, refl), ((refl, refl, refl), ((refl, refl, refl), ((refl, refl, refl), tt))))))),
+  )
+  each-within (command.Gather table block) h = (
+    (same-block table block, block-fits table block (u32_at words 3) h.0 h.1 (fits_u32 words 3), refl),
+    ((refl, refl, refl), ((refl, refl, refl), tt)),
+  )
+  each-within (command.Export table) h = (
+    (
+      refl,
+      and_from (is_u64 (u64_at words 1) && is_u64 (u64_at words 3) && is_u32 (u32_at words 5)) (is_u32 (u32_at words 7))
+          (and_from (is_u64 (u64_at words 1) && is_u64 (u64_at words 3)) (is_u32 (u32_at words 5)) (and_from (is_u64 (u64_at words 1)) (is_u64 (u64_at words 3)) (fits_u64 words 1) (fits_u64 words 3)) (fits_u32 words 5)) (fits_u32 words 7),
+      refl,
+    ),
+    ((refl, refl, refl), each-dirty (integer_at words 1) (is_integer_of kind.I64 (integer_at words 1)) refl),
+  )
+
+  each-without : (asked : Command) → EachSaid (Answered tables (answers_without asked)) (replies_without words asked)
+  each-without command.Begin = ((refl, fits_u64 words 1, refl), tt)
+  each-without (command.Get table key) = ((refl, refl, refl), tt)
+  each-without (command.Scan table) = ((refl, refl, refl), tt)
+  each-without (command.Insert table row) = ((refl, refl, refl), tt)
+  each-without (command.Update table row) = ((refl, refl, refl), tt)
+  each-without (command.Delete table key) = ((refl, refl, refl), tt)
+  each-without command.Commit = ((refl, refl, refl), tt)
+  each-without command.Abort = ((refl, refl, refl), tt)
+  each-without command.Observe = ((refl, refl, refl), tt)
+  each-without command.Prune = ((refl, refl, refl), tt)
+  each-without (command.Compact table) = ((refl, refl, refl), tt)
+  each-without (command.Seal table block) = ((refl, refl, refl), tt)
+  each-without (command.Gather table block) = ((refl, refl, refl), tt)
+  each-without (command.Export table) = ((refl, refl, refl), tt)
+
+  each-chosen : (asked : Command) (b : Bool) → (b ≡ true → IsListed asked)
+      → EachSaid (Answered tables (λ told. if b then answers_within tables asked told else answers_without asked told)) (if b then replies_within tables words behind asked else replies_without words asked)
+  each-chosen asked true h = each-within asked (h refl)
+  each-chosen asked false h = each-without asked
+
+kept-step : (Q : Said → Type 0) (b : Bool) (told : Said) (kept : List Said) → (b ≡ true → Q told) → EachSaid Q kept → EachSaid Q (cond b (told ∷ kept) kept)
+kept-step Q true told kept h rest = (h refl, rest)
+kept-step Q false told kept h rest = rest
+
+each-kept : (tables : List TableDecl) (keep test : Said → Bool) (saids : List Said) → EachSaid (Answered tables test) saids → EachSaid (Answered tables (λ told. keep told && test told)) (filter keep saids)
+each-kept tables keep test [] h = tt
+each-kept tables keep test (told ∷ saids) h =
+    kept-step (Answered tables (λ s. keep s && test s)) (keep told) told (filter keep saids) (λ kept. (and_from (keep told) (test told) kept h.0.0, h.0.1, h.0.2)) (each-kept tables keep test saids h.1)
+
+-- each reply that is due answers
+pub each-due : (tables : List TableDecl) (earlier : List Entry) (due : Due) (words behind : List (List ℕ)) → ((is_within due.who earlier || is_upkeep due.command) ≡ true → IsListed tables words behind due.command)
+    → EachSaid (Answered tables (may_say tables (is_within due.who earlier) due)) (replies_due tables earlier due words behind)
+each-due tables earlier due words behind h =
+    each-kept tables (λ told. not (is_worker due.who && is_silent told)) (answers tables (is_within due.who earlier) due.command)
+    (if is_within due.who earlier || is_upkeep due.command then replies_within tables words behind due.command else replies_without words due.command)
+    (each-chosen tables words behind due.command (is_within due.who earlier || is_upkeep due.command) h)

@@ -1,0 +1,14 @@
+pub mod Fitting
+pub mod Answering
+pub mod Keys
+pub mod Scans
+pub mod Walks
+pub mod Silences
+pub mod Placing
+pub mod Stepping
+pub mod Turning
+pub mod Texts
+pub mod RowLines
+pub mod Names
+pub mod Keeping
+pub mod SessionReplies

@@ -1,0 +1,48 @@
+-- The replies of an output that kept ones are.
+use Rattle.std.specs.Prelude.{Bool, true, false, ◌==◌, List, [], map, length, is_some, unwrap_or}
+use Rattle.std.specs.List.{list_all}
+use Rattle.std.specs.Option.{option_map_or}
+use Rattle.workload_spec.specs.declared.command.Command.TheVariants as command
+use Rattle.workload_spec.specs.declared.reply.Said.{Said}
+use Rattle.workload_spec.specs.declared.reply.Said.TheVariants as said
+use Rattle.workload_spec.specs.Words.{line_feed}
+use Rattle.workload_spec.specs.Reading.{parts}
+use Rattle.reply_text.specs.Readers.{row_in, rows_in}
+use Rattle.outcome_spec.specs.Entries.{Entry}
+use Rattle.output_read.specs.declared.kept.KeptReply.{KeptReply}
+use Rattle.output_read.specs.declared.kept.Told.{Told}
+use Rattle.output_read.specs.declared.kept.Told.TheVariants as told
+
+-- What is kept says this: a row is the one that its words spell, and rows are those of their lines.
+abbrev pub said_of : Told → Said
+said_of (told.Found words) = said.Found (unwrap_or (row_in words.now) [])
+said_of (told.Scanned count lines) = said.Scanned (unwrap_or (rows_in (parts line_feed lines.now)) [])
+said_of (told.Plain plain) = plain
+
+-- what is said has no row
+abbrev pub is_plain : Said → Bool
+is_plain (said.Found row) = false
+is_plain (said.Scanned rows) = false
+is_plain _ = true
+
+-- What is kept says something: its words spell a row, its lines are as many rows as it counts, and any other has no row.
+abbrev pub is_told : Told → Bool
+is_told (told.Found words) = is_some (row_in words.now)
+is_told (told.Scanned count lines) = option_map_or (λ rows. length rows == count) (rows_in (parts line_feed lines.now)) false
+is_told (told.Plain plain) = is_plain plain
+
+-- The reply that a kept one is. It keeps no command where it is a worker's, which is taken for the first of its turn.
+abbrev pub entry_of : KeptReply → Entry
+entry_of kept = record {
+  number = kept.number;
+  command = option_map_or (λ asked. asked.now) kept.command command.Observe;
+  reply = record { round = kept.round; who = kept.who; index = kept.index; said = said_of kept.told };
+}
+
+-- the replies that kept ones are
+abbrev pub entries_of : List KeptReply → List Entry
+entries_of kept = map entry_of kept
+
+-- each of them says something
+abbrev pub are_told : List KeptReply → Bool
+are_told kept = list_all (λ reply. is_told reply.told) kept

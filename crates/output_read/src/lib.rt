@@ -1,0 +1,13 @@
+//! The replies that the lines of an output are, each where it is due.
+#![tactic(auto)]
+
+mod answers;
+mod fault;
+pub mod kept;
+mod reader;
+mod rows;
+mod sessions;
+mod turns;
+
+pub use fault::ReadFault;
+pub use kept::{KeptReply, Told};

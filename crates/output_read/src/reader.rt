@@ -1,0 +1,165 @@
+//! How far an output was read.
+ghost use Rattle.std.specs.Prelude.{◌≡◌, ◌+◌, ◌<◌, ◌^◌, ◌++◌, ◌∷◌, [], true, length, drop, option_map, OnOk, IfOk, IfSome, None};
+ghost use Rattle.workload_spec.specs.Words.{line_feed};
+ghost use Rattle.reply_text.specs.Shown.{are_tables};
+ghost use Rattle.outcome_spec.specs.Entries.{is_same};
+ghost use Rattle.outcome_spec.specs.Lines.{lines_of};
+ghost use Rattle.output_read.specs.Fronts.{IsSaidBy, count_first, is_single, said_first, words_behind, words_first};
+ghost use Rattle.output_read.specs.Kept.{is_told, said_of};
+ghost use Rattle.output_read.specs.Readers.{lines_left};
+
+use crate::kept::{KeptReply, Told};
+use cell_model::TableDecl;
+use reply_text::{behind, head_in, told_in};
+use std::alloc::{AllocError, Global};
+use word_read::{natural, split_line};
+use workload_spec::{Command, Said, Who};
+
+/// How far an output was read: what is left of it, the number of the next line, and the replies of
+/// the lines before it.
+#[derive(Drop)]
+pub struct Reader<'a> {
+    pub tables: &'a [TableDecl],
+    pub rest: &'a [u8],
+    pub line: u64,
+    pub replies: Vec<KeptReply<'a>>,
+}
+
+/// Whom a line answers: a round, a session or worker, and the index of the reply.
+#[derive(Clone, Copy)]
+pub struct Heading {
+    pub round: u32,
+    pub who: Who,
+    pub index: u64,
+}
+
+/// What the next line says, and what stands behind it.
+#[derive(Drop)]
+pub struct Front<'a> {
+    pub said: Said,
+    pub words: &'a [u8],
+    pub behind: &'a [u8],
+}
+
+/// Whether the two are one session, or one worker.
+fn is_same(a: Who, b: Who) -> bool
+    ensures { result ≡ is_same a b }
+{
+    match (a, b) {
+        (Who::Session(m), Who::Session(n)) | (Who::Worker(m), Who::Worker(n)) => m == n,
+        _ => false,
+    }
+}
+
+/// The words of the line behind this heading.
+fn words_behind(heading: Heading, line: &[u8]) -> Option<&[u8]>
+    ensures { option_map (λ words. words.now) result ≡ words_behind heading.round heading.who heading.index line.now }
+{
+    match head_in(line) {
+        Some((round, who, index, words))
+            if round == heading.round && is_same(who, heading.who) && index == heading.index => {
+            Some(words)
+        }
+        _ => None,
+    }
+}
+
+/// The words of the first line behind this heading, and what stands behind the line.
+pub fn words_first<'a>(heading: Heading, text: &'a [u8]) -> Option<(&'a [u8], &'a [u8])>
+    ensures words { option_map (λ x. x.0.now) result ≡ words_first heading.round heading.who heading.index (lines_of text.now) }
+    ensures behind { IfSome result (λ x. drop 1 (lines_of text.now) ≡ lines_of x.1.now) }
+    ensures shorter { IfSome result (λ x. length x.1.now < length text.now) }
+{
+    match split_line(text) {
+        Some((line, behind)) => match words_behind(heading, line) {
+            Some(words) => Some((words, behind)),
+            None => None,
+        },
+        None => None,
+    }
+}
+
+/// What the first line says behind this heading.
+pub fn said_first<'a>(
+    alloc: Global,
+    tables: &[TableDecl],
+    heading: Heading,
+    text: &'a [u8],
+) -> Result<Option<Front<'a>>, AllocError>
+    requires { length tables.now < 2 ^ 32 }
+    ensures said { IfOk result (λ front. option_map (λ x. x.said) front ≡ said_first tables.now heading.round heading.who heading.index (lines_of text.now)) }
+    ensures words { IfOk result (λ front. IfSome front (λ x. IsSaidBy x.words.now x.said)) }
+    ensures behind { IfOk result (λ front. IfSome front (λ x. drop 1 (lines_of text.now) ≡ lines_of x.behind.now)) }
+    ensures shorter { IfOk result (λ front. IfSome front (λ x. length x.behind.now < length text.now)) }
+{
+    let Some((words, behind)) = words_first(heading, text) else {
+        return Ok(None);
+    };
+    match told_in(alloc, tables, words, b"")? {
+        Some(said) => Ok(Some(Front {
+            said,
+            words,
+            behind,
+        })),
+        None => Ok(None),
+    }
+}
+
+/// How many rows the first line says behind this heading that follow it, and what stands behind it.
+pub fn count_first<'a>(heading: Heading, text: &'a [u8]) -> Option<(u64, &'a [u8])>
+    ensures count { option_map (λ x. x.0) result ≡ count_first heading.round heading.who heading.index (lines_of text.now) }
+    ensures behind { IfSome result (λ x. drop 1 (lines_of text.now) ≡ lines_of x.1.now) }
+    ensures shorter { IfSome result (λ x. length x.1.now < length text.now) }
+{
+    let (words, others) = words_first(heading, text)?;
+    match behind(words, b"rows ") {
+        Some(word) => match natural(word) {
+            Some(count) => Some((count, others)),
+            None => None,
+        },
+        None => None,
+    }
+}
+
+/// What is kept of a reply of one line.
+pub fn told_of<'a>(said: Said, words: &'a [u8]) -> Told<'a>
+    requires single { is_single said ≡ true }
+    requires words { IsSaidBy words.now said }
+    ensures said { said_of result ≡ said }
+    ensures told { is_told result ≡ true }
+{
+    match said {
+        Said::Found(_) => Told::Found(behind(words, b"row ").unwrap_or(words)),
+        plain => Told::Plain(plain),
+    }
+}
+
+impl<'a> Reader<'a> {
+    /// Keeps a reply of so many lines, behind which this stands.
+    pub fn keep(
+        &mut self,
+        heading: Heading,
+        command: Option<&'a Command>,
+        told: Told<'a>,
+        lines: u64,
+        behind: &'a [u8],
+    ) -> Result<(), AllocError>
+        requires room { self.old.line + lines < 2 ^ 64 }
+        ensures tables { self.new.tables.now ≡ self.old.tables.now }
+        ensures rest { OnOk result (self.new.rest.now ≡ behind.now) }
+        ensures line { OnOk result (self.new.line ≡ self.old.line + lines) }
+        ensures kept { OnOk result (self.new.replies.items ≡ self.old.replies.items ++ record { number = self.old.line; command = command.entry; round = heading.round; who = heading.who; index = heading.index; told = told.entry } ∷ []) }
+    {
+        self.replies.push(KeptReply {
+            number: self.line,
+            command,
+            round: heading.round,
+            who: heading.who,
+            index: heading.index,
+            told,
+        })?;
+        self.line += lines;
+        self.rest = behind;
+        Ok(())
+    }
+}
