@@ -1,2 +1,4 @@
 pub mod Examples
+pub mod Opened
+pub mod Places
 pub mod Sides

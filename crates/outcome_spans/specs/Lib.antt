@@ -1,0 +1,4 @@
+pub mod Openings
+pub mod Ends
+pub mod Written
+pub mod Commits
