@@ -1,0 +1,5 @@
+pub mod Ranks
+pub mod Held
+pub mod Leads
+pub mod Written
+pub mod Rivals

@@ -1,0 +1,102 @@
+-- Keys that compare as one are one, and what a stamp tells of a block.
+use Rattle.std.proofs.Common.{◌≡◌, ℕ, ◌+◌, Bool, true, false, cond, ◌&&◌, eqb, List, [], ◌∷◌, Option, None, Some, refl, sym, ap, ◌∙◌, subst, arith, ◌⊎◌, inl, inr}
+use Rattle.std.specs.Cmp.{nat_cmp_total, tied_itself}
+use Rattle.std.specs.FinMap.{nat_cmp-IsAntisymmetric}
+use Rattle.std.specs.Option.{option_map_or}
+use Rattle.std.specs.Ordering.{nat_cmp, ordering_then, is_eq}
+use Rattle.std.specs.Prelude.{option_map, is_some, if◌then◌else◌, ◌==◌}
+use Rattle.std.specs.declared.cmp.Ordering.{Ordering}
+use Rattle.std.specs.declared.cmp.Ordering.TheVariants.{Less, Equal, Greater}
+use Rattle.std.proofs.lemmas.Bool.Decides.{nat_tests}
+use Rattle.std.proofs.lemmas.Bool.{eq-eqb, ne_eqb, cases_eq, false_from_ne_true}
+use Rattle.workload_spec.specs.declared.reply.Said.{Said}
+use Rattle.workload_spec.specs.declared.reply.Said.TheVariants as said
+use Rattle.outcome_spec.specs.Entries.{Entry}
+use Rattle.outcome_spec.specs.Upkeep.{stamp_in, rows_in}
+use Rattle.outcome_counts.specs.Keys.{block_cmp, stamp_cmp, stamp_told, block_sealed, block_frozen, is_keyed, above_told}
+use Rattle.outcome_counts.specs.declared.keys.Block.{Block}
+use Rattle.outcome_counts.specs.declared.keys.Stamp.{Stamp}
+
+then-equal : (a b : Ordering) → is_eq (ordering_then a b) ≡ true → (a ≡ Equal) × (b ≡ Equal)
+then-equal Less b h = absurd (let never : ⊥ = cc in never)
+then-equal Equal Less h = absurd (let never : ⊥ = cc in never)
+then-equal Equal Equal h = (refl, refl)
+then-equal Equal Greater h = absurd (let never : ⊥ = cc in never)
+then-equal Greater b h = absurd (let never : ⊥ = cc in never)
+
+pub nat-one : (a b : ℕ) → is_eq (nat_cmp a b) ≡ true → a ≡ b
+nat-one a b h = by (nat_cmp a b) refl h
+  where
+    by : (o : Ordering) → nat_cmp a b ≡ o → is_eq o ≡ true → a ≡ b
+    by Less is k = absurd (let never : ⊥ = cc in never)
+    by Equal is k = nat_cmp-IsAntisymmetric a b is
+    by Greater is k = absurd (let never : ⊥ = cc in never)
+
+pub block-one : (a b : Block) → is_eq (block_cmp a b) ≡ true → a ≡ b
+block-one a b h =
+    let parts = then-equal (nat_cmp a.table b.table) (nat_cmp a.block b.block) h in
+    let table : a.table ≡ b.table = nat_cmp-IsAntisymmetric a.table b.table parts.0 in
+    let block : a.block ≡ b.block = nat_cmp-IsAntisymmetric a.block b.block parts.1 in
+    ap (λ (n : ℕ). record a { table = n }) table ∙ ap (λ (n : ℕ). record b { block = n }) block
+
+-- ---- as tests of numbers
+
+pub nat-same : (a b : ℕ) → is_eq (nat_cmp a b) ≡ eqb a b
+nat-same a b = by (cases_eq a b)
+  where
+    by : (a ≡ b) ⊎ (a ≡ b → ⊥) → is_eq (nat_cmp a b) ≡ eqb a b
+    by (inl e) = ap (λ (n : ℕ). is_eq (nat_cmp n b)) e ∙ ap is_eq (tied_itself nat_cmp_total b) ∙ sym (eq-eqb a b e)
+    by (inr n) = false_from_ne_true (is_eq (nat_cmp a b)) (λ h. n (nat-one a b h)) ∙ sym (ne_eqb a b n)
+
+then-same : (a b : Ordering) → is_eq (ordering_then a b) ≡ (is_eq a && is_eq b)
+then-same Less b = refl
+then-same Equal b = refl
+then-same Greater b = refl
+
+pub block-same : (a b : Block) → is_eq (block_cmp a b) ≡ (eqb a.table b.table && eqb a.block b.block)
+block-same a b =
+    then-same (nat_cmp a.table b.table) (nat_cmp a.block b.block)
+    ∙ ap (λ (t : Bool). t && is_eq (nat_cmp a.block b.block)) (nat-same a.table b.table)
+    ∙ ap (λ (t : Bool). eqb a.table b.table && t) (nat-same a.block b.block)
+
+pub stamp-same : (a b : Stamp) → is_eq (stamp_cmp a b) ≡ ((eqb a.of.table b.of.table && eqb a.of.block b.of.block) && eqb a.stamp b.stamp)
+stamp-same a b =
+    then-same (block_cmp a.of b.of) (nat_cmp a.stamp b.stamp)
+    ∙ ap (λ (t : Bool). t && is_eq (nat_cmp a.stamp b.stamp)) (block-same a.of b.of)
+    ∙ ap (λ (t : Bool). (eqb a.of.table b.of.table && eqb a.of.block b.of.block) && t) (nat-same a.stamp b.stamp)
+
+-- ---- what the definitions ask of what is said
+
+some-if : (b : Bool) (n : ℕ) → is_some (if b then Some n else None) ≡ b
+some-if true n = refl
+some-if false n = refl
+
+pub seal-told : (block : Block) (told : Said) → is_some (stamp_in block.table block.block told) ≡ is_keyed block_cmp block (block_sealed told)
+seal-told block (said.Sealed table of stamp) =
+    some-if (eqb table block.table && eqb of block.block) stamp ∙ sym (block-same (record { table = table; block = of }) block)
+seal-told block _ = refl
+
+pub freeze-told : (block : Block) (told : Said) → is_some (rows_in block.table block.block told) ≡ is_keyed block_cmp block (block_frozen told)
+freeze-told block (said.Frozen table of rows) =
+    some-if (eqb table block.table && eqb of block.block) rows ∙ sym (block-same (record { table = table; block = of }) block)
+freeze-told block _ = refl
+
+counted-if : (b : Bool) (n stamp : ℕ) → option_map_or (λ shown. shown == stamp) (if b then Some n else None) false ≡ (b && eqb n stamp)
+counted-if true n stamp = refl
+counted-if false n stamp = refl
+
+pub stamp-said : (stamp : Stamp) (told : Said) → option_map_or (λ shown. shown == stamp.stamp) (stamp_in stamp.of.table stamp.of.block told) false ≡ is_keyed stamp_cmp stamp (stamp_told told)
+stamp-said stamp (said.Sealed table of shown) =
+    counted-if (eqb table stamp.of.table && eqb of stamp.of.block) shown stamp.stamp
+    ∙ sym (stamp-same (record { of = record { table = table; block = of }; stamp = shown }) stamp)
+stamp-said stamp _ = refl
+
+above-if : (b : Bool) (n : ℕ) → option_map_or (λ stamp. stamp + 1) (if b then Some n else None) 0 ≡ (if b then n + 1 else 0)
+above-if true n = refl
+above-if false n = refl
+
+pub above-said : (block : Block) (told : Said) → option_map_or (λ stamp. stamp + 1) (stamp_in block.table block.block told) 0 ≡ above_told block (stamp_told told)
+above-said block (said.Sealed table of shown) =
+    above-if (eqb table block.table && eqb of block.block) shown
+    ∙ ap (λ (b : Bool). if b then shown + 1 else 0) (sym (block-same (record { table = table; block = of }) block))
+above-said block _ = refl

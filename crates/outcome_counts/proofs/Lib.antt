@@ -1,0 +1,11 @@
+pub mod Parts
+pub mod Keyed
+pub mod Starts
+pub mod Noted
+pub mod Counts
+pub mod About
+pub mod Peaks
+pub mod Asked
+pub mod Numbered
+pub mod Later
+pub mod Shown

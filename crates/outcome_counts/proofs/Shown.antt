@@ -1,0 +1,52 @@
+-- What the definitions ask of numbers, by counts and the highest.
+use Rattle.std.proofs.Common.{◌≡◌, ℕ, ◌+◌, ◌-◌, ◌^◌, ◌<◌, Bool, true, false, List, [], ◌∷◌, length, nat_lt, nat_le, Option, None, Some, refl, sym, ap, ◌∙◌, arith}
+use Rattle.std.specs.List.{count_by, list_all, filter_map}
+use Rattle.std.specs.Option.{option_map_or}
+use Rattle.std.specs.Ordering.{is_eq, nat_cmp}
+use Rattle.std.specs.Prelude.{is_some, ◌==◌, ◌&&◌}
+use Rattle.std.proofs.lemmas.Bool.Decides.{nat_tests}
+use Rattle.workload_spec.specs.declared.reply.Said.{Said}
+use Rattle.workload_spec.specs.declared.reply.Said.TheVariants as said
+use Rattle.outcome_spec.specs.Entries.{Entry, before, after, commit_in, shown_in, snapshot_in}
+use Rattle.outcome_spec.specs.Numbers.{number_shown, snapshot_holds}
+use Rattle.outcome_spec.specs.Runs.{Run, commits_as, commit_count}
+use Rattle.mark_index.specs.Marks.{highest}
+use Rattle.outcome_counts.specs.LaterCommits.{below_commit}
+use Rattle.outcome_counts.specs.NumberMarks.{is_commit_of, is_numbered, above_commit, above_shown}
+use Rattle.outcome_counts.specs.Numbers.{is_snapshot}
+use Rattle.outcome_counts.proofs.Counts.{count-agree, length-shown}
+use Rattle.outcome_counts.proofs.Keyed.{nat-same}
+use Rattle.outcome_counts.proofs.Later.{all-above}
+use Rattle.outcome_counts.proofs.Peaks.{all-below}
+
+commit-told : (number : ℕ) (told : Option ℕ) → option_map_or (λ shown. shown == number) told false ≡ option_map_or (λ its. is_eq (nat_cmp its number)) told false
+commit-told number None = refl
+commit-told number (Some n) = sym (nat-same n number)
+
+pub commits-counted : (number : ℕ) (entries : List Entry) → count_by (commits_as number) entries ≡ count_by (is_commit_of number) entries
+commits-counted number entries = count-agree (commits_as number) (is_commit_of number) (λ e. commit-told number (commit_in e.reply.said)) entries
+
+pub numbered-counted : (entries : List Entry) → commit_count entries ≡ count_by is_numbered entries
+numbered-counted entries = length-shown (λ (e : Entry). commit_in e.reply.said) entries
+
+pub commits-below : (number : ℕ) (entries : List Entry) → list_all (λ earlier. nat_lt earlier number) (shown_in commit_in entries) ≡ nat_le (highest above_commit entries) number
+commits-below number entries = all-below (λ (e : Entry). commit_in e.reply.said) number entries
+
+all-agree : {X : Type 0} (p q : X → Bool) → ((x : X) → p x ≡ q x) → (xs : List X) → list_all p xs ≡ list_all q xs
+all-agree p q same [] = refl
+all-agree p q same (x ∷ xs) = ap (λ (b : Bool). b && list_all p xs) (same x) ∙ ap (λ (b : Bool). q x && b) (all-agree p q same xs)
+
+pub shown-up-to : (number : ℕ) (entries : List Entry) → list_all (λ earlier. nat_le earlier number) (shown_in number_shown entries) ≡ nat_le (highest above_shown entries) (number + 1)
+shown-up-to number entries =
+    all-agree (λ n. nat_le n number) (λ n. nat_lt n (number + 1)) (λ n. same n number) (shown_in number_shown entries)
+    ∙ all-below (λ (e : Entry). number_shown e.reply.said) (number + 1) entries
+  where
+    same : (n number : ℕ) → nat_le n number ≡ nat_lt n (number + 1)
+    same n number = grind (arith, nat_tests)
+
+pub commits-above : (number : ℕ) → number < 2 ^ 64 → (entries : List Entry) → list_all (λ later. nat_lt number later) (shown_in commit_in entries) ≡ nat_lt (highest below_commit entries) (2 ^ 64 - number)
+commits-above number small entries = all-above (2 ^ 64) number small (λ (e : Entry). commit_in e.reply.said) entries
+
+pub snapshot-by : (run : Run) (entry : Entry) (told : Said) → snapshot_holds run entry told ≡ option_map_or (λ number. is_snapshot run.entries number entry) (snapshot_in told) true
+snapshot-by run entry (said.At number) = refl
+snapshot-by run entry _ = refl

@@ -1,0 +1,6 @@
+use Rattle.output_read.specs.Kept.{entries_of}
+use Rattle.outcome_counts.specs.BlockMarks.{AreBlockMarks}
+use Rattle.outcome_counts.proofs.block_marks.BlockMarks.of.Given as goal
+
+abbrev pub invariant-loop-place : goal.invariant-loop-place
+invariant-loop-place l = AreBlockMarks (entries_of l.replies) l.place l.marks

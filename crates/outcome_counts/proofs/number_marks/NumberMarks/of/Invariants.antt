@@ -1,0 +1,6 @@
+use Rattle.output_read.specs.Kept.{entries_of}
+use Rattle.outcome_counts.specs.NumberMarks.{AreNumberMarks}
+use Rattle.outcome_counts.proofs.number_marks.NumberMarks.of.Given as goal
+
+abbrev pub invariant-loop-place : goal.invariant-loop-place
+invariant-loop-place l = AreNumberMarks (entries_of l.replies) l.place l.marks
