@@ -1,14 +1,19 @@
-//! The image that an event lays into a sealed block.
-ghost use Rattle.std.specs.Prelude.{◌≡◌};
+//! The Arrow buffers that an event lays into a sealed block.
+ghost use Rattle.std.specs.Prelude.{◌≡◌, ◌↔◌, IfSome, IsTrue, map};
+ghost use Rattle.arrow_spec.specs.Batches.{arrays_of};
 ghost use Rattle.block_columns.specs.Images.{IsWhole, rows_of};
+ghost use Rattle.core_images.specs.Kinds.{kinds_of};
 
-use block_columns::Image;
+use block_columns::Columns;
+use cell_model::Buffers;
 use std::marker::Model;
 
-/// A whole image of some rows. Contracts see the rows.
+/// The Arrow buffers of some rows, with the columns of which they were gathered. Contracts see the rows.
 #[derive(Drop)]
 pub struct Gathered {
-    image: Image,
+    columns: Columns,
+    rows: u32,
+    buffers: Vec<Buffers>,
 }
 
 impl Model for Gathered {
@@ -18,34 +23,73 @@ impl Model for Gathered {
 
     ghost Value = { List Row };
 
-    ghost view = { λ gathered. rows_of gathered.image };
+    ghost view = { λ gathered. rows_of (record {
+      columns = gathered.columns.columns;
+      slots = gathered.columns.rows;
+      rows = gathered.rows;
+      buffers = gathered.buffers.items;
+    }) };
 
-    ghost invariant = { λ gathered. IsWhole gathered.image };
+    ghost invariant = { λ gathered. IsWhole (record {
+      columns = gathered.columns.columns;
+      slots = gathered.columns.rows;
+      rows = gathered.rows;
+      buffers = gathered.buffers.items;
+    }) };
 }
 
 impl Gathered {
-    /// A whole image.
-    pub fn new(image: Image) -> Gathered
-        requires { IsWhole image }
-        ensures { result ≡ rows_of image }
+    /// The buffers that were gathered of the first `rows` slots of the columns.
+    pub fn new(columns: Columns, rows: u32, buffers: Vec<Buffers>) -> Gathered
+        requires { IsWhole (record {
+          columns = columns.columns;
+          slots = columns.rows;
+          rows = rows;
+          buffers = buffers.items;
+        }) }
+        ensures { result ≡ rows_of (record {
+          columns = columns.columns;
+          slots = columns.rows;
+          rows = rows;
+          buffers = buffers.items;
+        }) }
     {
-        Gathered { image }
+        Gathered {
+            columns,
+            rows,
+            buffers,
+        }
     }
 
-    /// The image, lent.
-    pub fn image(&self) -> &Image
-        ensures rows { rows_of result.now ≡ self.now }
-        ensures whole { IsWhole result.now }
+    /// The buffers of the rows as rows of these columns: there are none where one of the columns is of
+    /// another kind than the one in its place of which the buffers were gathered.
+    pub fn into_buffers_of(self, columns: &Columns) -> Option<Vec<Buffers>>
+        ensures { IfSome result (λ buffers. buffers.items ≡ map (λ array. array.buffers) (arrays_of columns.now.columns self)) }
     {
-        &self.image
+        let Gathered {
+            columns: of,
+            rows: _,
+            buffers,
+        } = self;
+        if are_of_same_kinds(&of, columns) {
+            Some(buffers)
+        } else {
+            None
+        }
     }
+}
 
-    /// The image.
-    pub fn into_image(self) -> Image
-        ensures rows { rows_of result ≡ self }
-        ensures whole { IsWhole result }
-    {
-        let Gathered { image } = self;
-        image
+// Whether there are as many of the one columns as of the others, each of the kind of that in its place.
+fn are_of_same_kinds(one: &Columns, other: &Columns) -> bool
+    ensures { IsTrue result ↔ kinds_of one.now.columns ≡ kinds_of other.now.columns }
+{
+    if one.width() != other.width() {
+        return false;
     }
+    for at in 0..one.width() {
+        if one.column(at).kind() != other.column(at).kind() {
+            return false;
+        }
+    }
+    true
 }

@@ -14,6 +14,7 @@ use std::marker::Model;
 /// record of `event_spec`.
 #[derive(Drop)]
 pub struct Shape {
+    alloc: Global,
     tables: Vec<TableDecl>,
     passes: u32,
     // The number of each table's first body.
@@ -62,11 +63,17 @@ impl Shape {
     {
         let (bodies, desk) = numbers_of(alloc, &tables)?;
         Ok(Shape {
+            alloc,
             tables,
             passes,
             bodies,
             desk,
         })
+    }
+
+    /// Where the core takes memory.
+    pub fn alloc(&self) -> Global {
+        self.alloc
     }
 
     /// For how many passes the core was made.

@@ -191,7 +191,7 @@ module _ (sh : Shape) (s : Parts) (shape : IsShape sh) (ok : Sound sh s) (own : 
       part_of : slot_of (place_of b j) ≡ j
       part_of = slot_is b j small
 
-  commit_stays : (t b : ℕ) (body : Body) → part_at sh s (BodyOf t b) ≡ Some (part.Body body) → is_body_written own.writes (BodyOf t b) ≡ false
+  pub commit_stays : (t b : ℕ) (body : Body) → part_at sh s (BodyOf t b) ≡ Some (part.Body body) → is_body_written own.writes (BodyOf t b) ≡ false
       → (stamp number : ℕ) → committed_in own.session stamp number body ≡ body
   commit_stays t b body is none stamp number = ap (λ slots. record body { slots = slots }) (map_same (committed own.session stamp number) body.slots at)
     where

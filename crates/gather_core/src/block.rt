@@ -60,6 +60,27 @@ pub fn gather_buffers<R: Threads + Sync>(
     gather_columns(rt, alloc, columns, rows as usize)
 }
 
+/// The same where no thread may start: the columns are made one after another.
+pub fn gather_in_turn(
+    alloc: Global,
+    columns: &Columns,
+    rows: u32,
+) -> Result<Vec<Buffers>, AllocError>
+    requires held { (slot : ℕ) → slot < rows → IsSome (slice_index_or columns.now.rows slot None) }
+    requires few { rows ≤ 2 ^ 15 }
+    ensures each { IfOk result (λ buffers. length buffers.items ≡ length columns.now.columns) }
+    ensures whole { IfOk result (λ buffers. IsWhole (record {
+      columns = columns.now.columns;
+      slots = columns.now.rows;
+      rows = rows;
+      buffers = buffers.items;
+    })) }
+{
+    // Each slot with a row has memory.
+    let _room = columns.room();
+    in_turn(alloc, columns, rows as usize)
+}
+
 // The buffers of each column.
 fn gather_columns<R: Threads + Sync>(
     rt: &R,

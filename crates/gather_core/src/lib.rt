@@ -5,7 +5,7 @@ mod block;
 mod column;
 mod values;
 
-pub use block::{gather, gather_buffers};
+pub use block::{gather, gather_buffers, gather_in_turn};
 
 #[cfg(test)]
 mod tests;

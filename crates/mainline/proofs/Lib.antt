@@ -6,3 +6,4 @@ pub mod Asked
 pub mod Scripts
 pub mod Said
 pub mod Stopped
+pub mod Judged

@@ -1,4 +1,5 @@
 pub mod Today
+pub mod Verdict
 pub mod Words
 pub mod Codes
 pub mod Outcome

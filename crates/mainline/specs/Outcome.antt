@@ -1,5 +1,5 @@
 -- How a run of the program ends: what each status says of what was read, printed and sent.
-use Rattle.std.specs.Prelude.{◌≡◌, ◌≢◌, ◌<◌, ◌≤◌, ◌^◌, ◌⊎◌, ◌==◌, ℕ, Bool, true, length, false, List, [], ◌∷◌, ◌++◌, All, Option, None, Some, option_map, filter, Ok, Err, IsSome, if◌then◌else◌}
+use Rattle.std.specs.Prelude.{◌≡◌, ◌≢◌, ◌<◌, ◌≤◌, ◌^◌, ◌⊎◌, ◌==◌, ℕ, Bool, true, length, false, List, [], ◌∷◌, ◌++◌, All, Option, None, Some, option_map, filter, codes, decimal, Ok, Err, IsSome, if◌then◌else◌}
 use Rattle.std.specs.List.{list_any}
 use Rattle.std.specs.List.Sorted.{IsPermutation}
 use Rattle.std.specs.Io.KnownBytes.{Appends, Consumes, IsAtEnd}
@@ -19,10 +19,11 @@ use Rattle.workload_spec.specs.declared.reply.Said.{Said}
 use Rattle.workload_spec.specs.declared.reply.Said.TheVariants as said
 use Rattle.workload_spec.specs.declared.script.Line.{Line}
 use Rattle.workload_spec.specs.declared.script.Script.{Script}
-use Rattle.workload_spec.specs.Grammar.{Fault, read_with, refused_text}
+use Rattle.workload_spec.specs.Grammar.{Fault, checked_of, read_with, refused_text}
+use Rattle.workload_spec.specs.Words.{line_feed}
 use Rattle.workload_spec.specs.Valid.{is_export, all_lines}
 use Rattle.outcome_spec.specs.Entries.{Entry}
-use Rattle.outcome_spec.specs.Explained.{Explained, run_in}
+use Rattle.outcome_spec.specs.Explained.{Explained, failing_line, run_in}
 use Rattle.outcome_spec.specs.Runs.{Run, Span, transaction_of}
 use Rattle.outcome_spec.specs.Tables.{columns_at, slots_at}
 use Rattle.mainline.specs.Today.{today}
@@ -305,6 +306,46 @@ ShowEnds status.NotAStream before now = IsShown Appends IsNoStream before now
 ShowEnds status.TooLong before now =
     ConsumesAtLeast before.left now.left (2 ^ 32) × IsSilent before now
 
+-- ---- an output that is checked
+
+-- the line that tells whether an output is explained, or the first line at which it is not
+abbrev pub verdict_text : Option ℕ → List ℕ
+verdict_text None = codes "explained" ++ line_feed ∷ []
+verdict_text (Some line) = codes "not explained " ++ decimal line ++ line_feed ∷ []
+
+-- The input was read to its end and is a workload of the whole format with an output behind it, and
+-- it is printed whether the output is explained.
+pub record IsJudged (Prints : Option (List ℕ) → Option (List ℕ) → List ℕ → Type 0) (before now : Outside) : Type 0 where
+  pub bytes : List ℕ
+  pub input : IsRead bytes before now
+  pub script : Script
+  pub output : List ℕ
+  pub checked : checked_of bytes ≡ Ok (script, output)
+  pub printed : Prints before.printed now.printed (verdict_text (failing_line script output))
+  pub outlet : LeavesOutlet before now
+
+-- The input is no workload with an output behind it, and the line of its first fault is printed.
+pub record IsNoneToCheck (Prints : Option (List ℕ) → Option (List ℕ) → List ℕ → Type 0) (before now : Outside) : Type 0 where
+  pub bytes : List ℕ
+  pub input : IsRead bytes before now
+  pub fault : Fault
+  pub first : checked_of bytes ≡ Err fault
+  pub printed : Prints before.printed now.printed (refused_text fault)
+  pub outlet : LeavesOutlet before now
+
+-- How the program ends where the words ask for an output to be checked.
+abbrev pub CheckEnds : Status → Outside → Outside → Type 0
+CheckEnds status.Done before now = IsJudged Appends before now
+CheckEnds status.Usage before now = ⊥
+CheckEnds status.Refused before now = IsNoneToCheck Appends before now
+CheckEnds status.ReadFault before now = IsSilent before now
+CheckEnds status.OutFault before now = IsJudged AppendsFront before now ⊎ IsNoneToCheck AppendsFront before now
+CheckEnds status.ExportFault before now = ⊥
+CheckEnds status.Memory before now = IsSilent before now
+CheckEnds status.NotAStream before now = ⊥
+CheckEnds status.TooLong before now =
+    ConsumesAtLeast before.left now.left (2 ^ 32) × IsSilent before now
+
 -- How the program ends where the words ask for nothing that runs. Before they are judged there may
 -- be no memory.
 abbrev pub UsageEnds : Status → Outside → Outside → Type 0
@@ -318,13 +359,12 @@ UsageEnds status.Memory before now = now ≡ before
 UsageEnds status.NotAStream before now = ⊥
 UsageEnds status.TooLong before now = ⊥
 
--- How the program ends, by what the words ask for. No output is checked yet, and no workload
--- generated.
+-- How the program ends, by what the words ask for. No workload is generated yet.
 abbrev pub Ends : Option Asked → Status → Outside → Outside → Type 0
 Ends None ended before now = UsageEnds ended before now
 Ends (Some (ToRun path)) ended before now = RunEnds path ended before now
 Ends (Some ToShow) ended before now = ShowEnds ended before now
-Ends (Some ToCheck) ended before now = UsageEnds ended before now
+Ends (Some ToCheck) ended before now = CheckEnds ended before now
 Ends (Some ToBench) ended before now = UsageEnds ended before now
 
 -- A run ends with this status only where a count of faults rose, and with any other the count is as

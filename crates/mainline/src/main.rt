@@ -2,6 +2,7 @@
 //! prints the replies, and writes the export as an Arrow stream to the path.
 #![tactic(auto)]
 
+mod checking;
 mod export;
 mod extent;
 mod fault;

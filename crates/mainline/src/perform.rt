@@ -11,6 +11,7 @@ ghost use Rattle.mainline.specs.Sent.{RefusalEnds, PlayEnds};
 ghost use Rattle.mainline.specs.Today.{today};
 ghost use Rattle.mainline.specs.Words.{asked_by};
 
+use crate::checking::check;
 use crate::extent::today;
 use crate::fault::RunFault;
 use crate::round::run_round;
@@ -28,14 +29,15 @@ use stream_spec::StreamFault;
 use workload_spec::{Command, Round, Script};
 
 /// As many bytes of input, or more, are too long.
-const MOST_BYTES: usize = 1 << 32;
+pub(crate) const MOST_BYTES: usize = 1 << 32;
 
 const USAGE: &[u8] = b"usage: mainline run [--export PATH] | show | check | bench SEED SIZE\n";
 
 /// Runs the program: the words ask for the run of a workload, which is read from the source to its
 /// end; the replies go to `out`, and the export to the outlet, which is started with the words'
 /// path. Without a path the export is dropped. Or they ask for a stream to be shown, which is read
-/// from the source to its end; its rows go to `out`.
+/// from the source to its end; its rows go to `out`. Or they ask for an output to be checked, which
+/// stands behind its workload in the source; whether it is explained goes to `out`.
 ///
 /// The words are judged first, then the reading of the input, its grammar, the start of the outlet
 /// and the rounds. Where the line that tells of a fault can't be printed, the status is `OutFault`.
@@ -58,7 +60,8 @@ pub fn perform<R: Wait + Threads + Sync, S: Source, O: Sink, X: Outlet + Send, G
     match work_of(alloc, &words) {
         Ok(Work::Run(path)) => run(rt, alloc, path, source, out, export, gate),
         Ok(Work::Show) => show(alloc, source, out),
-        Ok(Work::Check | Work::Bench) | Err(WordsFault::Usage) => tell_usage(out),
+        Ok(Work::Check) => check(alloc, source, out),
+        Ok(Work::Bench) | Err(WordsFault::Usage) => tell_usage(out),
         Err(WordsFault::Memory) => Status::Memory,
     }
 }
@@ -155,7 +158,7 @@ fn parse_today(alloc: Global, bytes: &[u8]) -> Result<Script, ScriptFault>
 }
 
 /// Prints at which line and for which cause the input is refused.
-fn refuse<O: Sink>(alloc: Global, fault: ScriptFault, out: &mut O) -> Status
+pub(crate) fn refuse<O: Sink>(alloc: Global, fault: ScriptFault, out: &mut O) -> Status
     ensures ends { RefusalEnds fault result (O.written out.old) (O.written out.new) }
     ensures out_faults { TellsFaults Status.OutFault result (O.faults out.old) (O.faults out.new) }
 {

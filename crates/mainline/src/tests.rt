@@ -174,7 +174,7 @@ struct Fault {
     exported: usize,
 }
 
-const FAULTS: [Fault; 16] = [
+const FAULTS: [Fault; 18] = [
     Fault {
         words: &["mainline", "walk"],
         commands: EXPORT,
@@ -220,6 +220,24 @@ const FAULTS: [Fault; 16] = [
         failing: NOTHING_FAILS,
         status: Status::NotAStream,
         printed: "not a stream at 0 Marker\n",
+        started: 0,
+        exported: 0,
+    },
+    Fault {
+        words: &["mainline", "check"],
+        commands: "1 begin\n1 insert b 1\n====\n1 1 1 at 0\n1 1 2 ok\n",
+        failing: NOTHING_FAILS,
+        status: Status::Done,
+        printed: "explained\n",
+        started: 0,
+        exported: 0,
+    },
+    Fault {
+        words: &["mainline", "check"],
+        commands: "1 begin\n1 insert b 1\n====\n1 1 1 at 0\n1 1 2 exists\n",
+        failing: NOTHING_FAILS,
+        status: Status::Done,
+        printed: "not explained 2\n",
         started: 0,
         exported: 0,
     },

@@ -319,16 +319,20 @@ module _ {X : Type 0} (value : X → ℕ) (xs front : List X) (x : X) (rest : Li
       let next : sum_by value (take (n + 1) xs) ≡ sum_by value (take n xs) = sum-next ∙ (let e = none in omega (arith, e)) in
       rw at (ap (λ (o : Option Sum). option_map_or (λ sum. sum.total) o 0) same-sum ∙ old ∙ sym next)
 
-  pub sums-missed : value x ≡ 0 → AreSums value xs (n + 1) sums
-  sums-missed none =
-      let small = summed.small in
+  small-missed : (place : ℕ) → (place ≤ n) ⊎ (place ≡ n + 1) → total_below place sums ≤ place * 2 ^ 64
+  small-missed place (inl low) = summed.small place low
+  small-missed place (inr at) =
+      let small = summed.small n (omega arith) in
       let same = ap (λ (o : Option Sum). option_map_or (λ sum. sum.total) o 0) same-sum in
-      record {
-        rise = summed.rise;
-        within = within-more;
-        total = λ place h. sums-missed-at none place (up-to-next place n h);
-        small = omega (arith, small, same);
-      }
+      subst (λ (k : ℕ). total_below k sums ≤ k * 2 ^ 64) (sym at) (omega (arith, small, same))
+
+  pub sums-missed : value x ≡ 0 → AreSums value xs (n + 1) sums
+  sums-missed none = record {
+    rise = summed.rise;
+    within = within-more;
+    total = λ place h. sums-missed-at none place (up-to-next place n h);
+    small = λ place h. small-missed place (up-to-next place n h);
+  }
 
   abbrev sum_mark : Sum
   sum_mark = next_sum sums n (value x)
@@ -353,16 +357,23 @@ module _ {X : Type 0} (value : X → ℕ) (xs front : List X) (x : X) (rest : Li
       let old = summed.total n (omega arith) in
       rw at (new-total ∙ ap (λ (k : ℕ). k + value x) old ∙ sym sum-next)
 
-  pub sums-pushed : value x < 2 ^ 64 → AreSums value xs (n + 1) (sums ++ sum_mark ∷ [])
-  sums-pushed fits =
-      let small = summed.small in
+  small-pushed : value x < 2 ^ 64 → (place : ℕ) → (place ≤ n) ⊎ (place ≡ n + 1) → total_below place (sums ++ sum_mark ∷ []) ≤ place * 2 ^ 64
+  small-pushed fits place (inl low) =
+      let old = summed.small place low in
+      let same = ap (λ (o : Option Sum). option_map_or (λ sum. sum.total) o 0) (old-sum place low) in
+      omega (arith, old, same)
+  small-pushed fits place (inr at) =
+      let small = summed.small n (omega arith) in
       let new = new-total in
-      record {
-        rise = rises-push (λ (s : Sum). s.place) sums sum_mark summed.rise summed.within;
-        within = within-sum;
-        total = λ place h. sums-pushed-at place (up-to-next place n h);
-        small = omega (arith, small, new, fits);
-      }
+      subst (λ (k : ℕ). total_below k (sums ++ sum_mark ∷ []) ≤ k * 2 ^ 64) (sym at) (omega (arith, small, new, fits))
+
+  pub sums-pushed : value x < 2 ^ 64 → AreSums value xs (n + 1) (sums ++ sum_mark ∷ [])
+  sums-pushed fits = record {
+    rise = rises-push (λ (s : Sum). s.place) sums sum_mark summed.rise summed.within;
+    within = within-sum;
+    total = λ place h. sums-pushed-at place (up-to-next place n h);
+    small = λ place h. small-pushed fits place (up-to-next place n h);
+  }
 
 pub sums-next : {X : Type 0} (value : X → ℕ) (xs front : List X) (x : X) (rest : List X) (n : ℕ) → xs ≡ front ++ x ∷ rest → length front ≡ n
     → (old new : List Sum) → AreSums value xs n old → value x < 2 ^ 64
@@ -371,3 +382,11 @@ sums-next value xs front x rest n whole far old new summed fits true none now =
     subst (AreSums value xs (n + 1)) (sym now) (sums-pushed value xs front x rest n whole far old summed fits)
 sums-next value xs front x rest n whole far old new summed fits false none now =
     subst (AreSums value xs (n + 1)) (sym now) (sums-missed value xs front x rest n whole far old summed (none refl))
+
+pub sums-nil : {X : Type 0} (value : X → ℕ) (xs : List X) → AreSums value xs 0 []
+sums-nil value xs = record {
+  rise = λ i j d h k. absurd (omega (arith, k));
+  within = refl;
+  total = λ place h. let e : place ≡ 0 = omega (arith, h) in rw e refl;
+  small = λ place h. omega arith;
+}

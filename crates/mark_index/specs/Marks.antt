@@ -69,7 +69,7 @@ pub record AreSums {X : Type 0} (value : X → ℕ) (xs : List X) (taken : ℕ) 
   pub rise : IsNonDecreasingBy (λ sum. sum.place) sums
   pub within : list_all (λ sum. nat_lt sum.place taken) sums ≡ true
   pub total : (place : ℕ) → place ≤ taken → total_below place sums ≡ sum_by value (take place xs)
-  pub small : total_below taken sums ≤ taken * 2 ^ 64
+  pub small : (place : ℕ) → place ≤ taken → total_below place sums ≤ place * 2 ^ 64
 
 -- the sum that follows others at a place
 abbrev pub next_sum : List Sum → ℕ → ℕ → Sum

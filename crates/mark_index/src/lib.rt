@@ -6,6 +6,8 @@ ghost use Rattle.std.specs.Ordering.{is_eq};
 ghost use Rattle.mark_index.specs.Lists.{marks_at, with_mark};
 
 pub mod marks;
+#[cfg(test)]
+mod tests;
 
 use std::alloc::{AllocError, Global};
 use std::collections::BTreeMap;

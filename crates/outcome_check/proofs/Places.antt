@@ -420,3 +420,25 @@ pub by-places : (front : List Entry) (entry : Entry) (rest entries : List Entry)
 by-places front entry rest entries whole rises =
     let r : Rises (front ++ entry ∷ rest) = subst Rises whole rises in
     subst (Stands front entry) (sym whole) (places-before front entry rest r, places-not_after front entry rest r, places-after front entry rest r)
+
+module _ (front : List Entry) (entry : Entry) (rest : List Entry) (rises : Rises (front ++ entry ∷ rest)) where
+  own-behind : list_all (is_own entry) (between (length front + 1) (own_end (front ++ entry ∷ rest) entry) (front ++ entry ∷ rest)) ≡ true
+  unfolding sides
+  own-behind =
+      all-weaker (λ other. is_own entry other && nat_lt entry.reply.index other.reply.index) (is_own entry)
+      (λ other h. (and_parts (is_own entry other) (nat_lt entry.reply.index other.reply.index) h).0)
+      (between (length front + 1) (own_end (front ++ entry ∷ rest) entry) (front ++ entry ∷ rest)) (sides front entry rest rises).rest_are
+
+  beside-behind : list_all (is_beside entry) (between (own_end (front ++ entry ∷ rest) entry) (round_end (front ++ entry ∷ rest) entry) (front ++ entry ∷ rest)) ≡ true
+  unfolding sides
+  beside-behind = (sides front entry rest rises).back_are
+
+-- Behind a reply are its own up to the end of its own, and then others' up to the end of its round.
+pub behind-places : (front : List Entry) (entry : Entry) (rest entries : List Entry) → entries ≡ front ++ entry ∷ rest → Rises entries
+    → (list_all (is_own entry) (between (length front + 1) (own_end entries entry) entries) ≡ true)
+    × (list_all (is_beside entry) (between (own_end entries entry) (round_end entries entry) entries) ≡ true)
+behind-places front entry rest entries whole rises =
+    let r : Rises (front ++ entry ∷ rest) = subst Rises whole rises in (
+      subst (λ (es : List Entry). list_all (is_own entry) (between (length front + 1) (own_end es entry) es) ≡ true) (sym whole) (own-behind front entry rest r),
+      subst (λ (es : List Entry). list_all (is_beside entry) (between (own_end es entry) (round_end es entry) es) ≡ true) (sym whole) (beside-behind front entry rest r),
+    )

@@ -21,10 +21,10 @@ use Rattle.outcome_counts.proofs.Starts.{KeptAt, kept-at}
 use Rattle.outcome_conflicts.specs.Held.{Held, held_in}
 use Rattle.outcome_conflicts.specs.Leads.{but_of, lead_below, but_own}
 use Rattle.outcome_conflicts.specs.Rivals.{AreRivals, holds_until, writer_cmp}
-use Rattle.outcome_conflicts.specs.Written.{key_cmp, place_in}
+use Rattle.outcome_history.specs.Kept.{key_cmp, place_in}
 use Rattle.outcome_conflicts.specs.declared.rivals.Rivals.{Rivals}
 use Rattle.outcome_conflicts.specs.declared.rivals.Writer.{Writer}
-use Rattle.outcome_conflicts.specs.declared.written.RowKey.{RowKey}
+use Rattle.outcome_history.specs.declared.keys.RowKey.{RowKey}
 use Rattle.outcome_conflicts.proofs.Tops.{names-by, passes-by}
 
 module _ (replies : List KeptReply) (at : ℕ) (stretch : Stretch) (asked : IsAsked replies at stretch) (rivals : Rivals) (held : AreRivals (entries_of replies) (length replies) rivals)

@@ -6,3 +6,10 @@ pub mod Leading
 pub mod Tops
 pub mod Marking
 pub mod Judged
+pub mod Counting
+pub mod Committing
+pub mod Updating
+pub mod Whole
+pub mod Noting
+pub mod Numbering
+pub mod Valuing

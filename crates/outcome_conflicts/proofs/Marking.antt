@@ -18,10 +18,11 @@ use Rattle.outcome_counts.specs.Keys.{is_keyed}
 use Rattle.outcome_counts.proofs.Keyed.{nat-same}
 use Rattle.outcome_conflicts.specs.Held.{Held, held_in}
 use Rattle.outcome_conflicts.specs.Rivals.{AreRivals, IsMarked, is_writer, writer_cmp, writer_until, holds_until}
-use Rattle.outcome_conflicts.specs.Written.{key_cmp, place_in, writes_to}
+use Rattle.outcome_conflicts.specs.Written.{writes_to}
+use Rattle.outcome_history.specs.Kept.{key_cmp, place_in}
 use Rattle.outcome_conflicts.specs.declared.rivals.Rivals.{Rivals}
 use Rattle.outcome_conflicts.specs.declared.rivals.Writer.{Writer}
-use Rattle.outcome_conflicts.specs.declared.written.RowKey.{RowKey}
+use Rattle.outcome_history.specs.declared.keys.RowKey.{RowKey}
 use Rattle.outcome_conflicts.proofs.Leading.{leads-next, leads-nil}
 
 -- ---- keys

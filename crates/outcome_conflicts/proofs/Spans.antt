@@ -32,7 +32,7 @@ found-in p (x ∷ xs) h = by (p x) refl h (found-in p xs)
         let later = behind k in
         record { item = later.item; passes = later.passes; found = λ q its. or-right (q x) (list_any q xs) (later.found q its) }
 
-both-ways : (a b : Bool) → (a ≡ true → b ≡ true) → (b ≡ true → a ≡ true) → a ≡ b
+pub both-ways : (a b : Bool) → (a ≡ true → b ≡ true) → (b ≡ true → a ≡ true) → a ≡ b
 both-ways true true f g = refl
 both-ways true false f g = sym (f refl)
 both-ways false true f g = g refl

@@ -22,8 +22,9 @@ use Rattle.mark_index.specs.Marks.{highest}
 use Rattle.outcome_conflicts.specs.Held.{Held, held_in, never, stop_in}
 use Rattle.outcome_conflicts.specs.Leads.{but_own}
 use Rattle.outcome_conflicts.specs.Rivals.{holds_until, writer_until}
-use Rattle.outcome_conflicts.specs.Written.{place_in, writes_to}
-use Rattle.outcome_conflicts.specs.declared.written.RowKey.{RowKey}
+use Rattle.outcome_conflicts.specs.Written.{writes_to}
+use Rattle.outcome_history.specs.Kept.{place_in}
+use Rattle.outcome_history.specs.declared.keys.RowKey.{RowKey}
 use Rattle.outcome_conflicts.proofs.Splits.{held-entries}
 use Rattle.outcome_conflicts.proofs.Spans.{any-agree, held-chosen}
 use Rattle.outcome_conflicts.proofs.Whos.{same-itself, same-is, same-turned}
@@ -76,7 +77,7 @@ all-up s (entry ∷ entries) h = by (is_end entry.reply.said) refl (and_parts (s
     by true is parts rest = rw (is, parts.0) refl
     by false is parts rest = rw (is, parts.0) (rest parts.1)
 
-span-same : (entry : Entry) (entries : List Entry) → list_all (λ (x : Entry). is_same x.reply.who entry.reply.who) (up_to_end (entry ∷ thread entry.reply.who entries)) ≡ true
+pub span-same : (entry : Entry) (entries : List Entry) → list_all (λ (x : Entry). is_same x.reply.who entry.reply.who) (up_to_end (entry ∷ thread entry.reply.who entries)) ≡ true
 span-same entry entries =
     all-up (λ (x : Entry). is_same x.reply.who entry.reply.who) (entry ∷ thread entry.reply.who entries)
     (and_from (is_same entry.reply.who entry.reply.who) (list_all (λ (x : Entry). is_same x.reply.who entry.reply.who) (thread entry.reply.who entries)) (same-itself entry.reply.who) (same-thread entry.reply.who entries))

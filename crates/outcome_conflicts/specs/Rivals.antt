@@ -9,10 +9,11 @@ use Rattle.mark_index.specs.Lists.{marks_at, with_mark}
 use Rattle.mark_index.specs.Marks.{ArePeaks, next_peak}
 use Rattle.outcome_conflicts.specs.Held.{Held, held_in}
 use Rattle.outcome_conflicts.specs.Leads.{AreLeads, AreFollowed}
-use Rattle.outcome_conflicts.specs.Written.{key_cmp, place_in, writes_to}
+use Rattle.outcome_conflicts.specs.Written.{writes_to}
+use Rattle.outcome_history.specs.Kept.{key_cmp, place_in}
 use Rattle.outcome_conflicts.specs.declared.rivals.Rivals.{Rivals}
 use Rattle.outcome_conflicts.specs.declared.rivals.Writer.{Writer}
-use Rattle.outcome_conflicts.specs.declared.written.RowKey.{RowKey}
+use Rattle.outcome_history.specs.declared.keys.RowKey.{RowKey}
 
 -- writers go by place and then by session
 abbrev pub writer_cmp : Writer → Writer → Ordering

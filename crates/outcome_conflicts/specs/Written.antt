@@ -1,22 +1,11 @@
 -- The places that are written.
 use Rattle.std.specs.Prelude.{Bool, false, Option, option_map}
 use Rattle.std.specs.Option.{option_map_or}
-use Rattle.std.specs.Ordering.{nat_cmp, int_cmp, ordering_then}
-use Rattle.std.specs.declared.cmp.Ordering.{Ordering}
 use Rattle.isolation_spec.specs.Contents.{is_place}
 use Rattle.isolation_spec.specs.declared.place.Place.{Place}
 use Rattle.workload_spec.specs.declared.command.Command.{Command}
 use Rattle.outcome_spec.specs.Entries.{Entry}
 use Rattle.outcome_spec.specs.Runs.{write_of, accepted_write}
-use Rattle.outcome_conflicts.specs.declared.written.RowKey.{RowKey}
-
--- keys of rows go by table and then by key
-abbrev pub key_cmp : RowKey → RowKey → Ordering
-key_cmp a b = ordering_then (nat_cmp a.table b.table) (int_cmp a.key b.key)
-
--- the place of a row's key
-abbrev pub place_in : RowKey → Place
-place_in of = record { table = of.table; key = of.key }
 
 -- the place that a command writes, and the one that a reply accepts a write of
 abbrev pub place_written : Command → Option Place

@@ -2,11 +2,19 @@
 #![tactic(auto)]
 
 mod by_who;
+mod commits;
+mod conflicts;
 mod held;
 mod leads;
+mod lines;
 mod rivals;
 mod sessions;
+mod transactions;
+mod writers;
 mod written;
 
+pub use commits::{Transaction, Writers};
+pub use conflicts::Conflicts;
 pub use rivals::Rivals;
-pub use written::RowKey;
+pub use transactions::transaction_at;
+pub use writers::Written;

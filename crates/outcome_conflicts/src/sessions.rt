@@ -7,13 +7,13 @@ ghost use Rattle.outcome_counts.specs.Asked.{IsAsked, asked_at};
 ghost use Rattle.outcome_spec.specs.Conflicts.{names_session, passes_no_session};
 ghost use Rattle.outcome_spec.specs.Runs.{Span, run_of};
 ghost use Rattle.outcome_conflicts.specs.Rivals.{AreRivals};
-ghost use Rattle.outcome_conflicts.specs.Written.{place_in};
+ghost use Rattle.outcome_history.specs.Kept.{place_in};
 
 use crate::leads::{is_one, most_but};
 use crate::rivals::{Rivals, Writer};
-use crate::written::RowKey;
 use mark_index::marks::most_below;
 use outcome_counts::Stretch;
+use outcome_history::RowKey;
 use output_read::KeptReply;
 use workload_spec::Who;
 

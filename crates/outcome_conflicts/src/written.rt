@@ -1,29 +1,12 @@
 //! The place that a reply accepts a write of.
 ghost use Rattle.std.specs.Prelude.{◌≡◌, option_map};
-ghost use Rattle.isolation_spec.specs.Contents.{key_of};
 ghost use Rattle.output_read.specs.Kept.{entry_of};
-ghost use Rattle.outcome_conflicts.specs.Written.{place_in, place_written, written_by};
+ghost use Rattle.outcome_conflicts.specs.Written.{place_written, written_by};
+ghost use Rattle.outcome_history.specs.Kept.{place_in};
 
-use cell_model::{Cell, Row};
+use outcome_history::{RowKey, key_of};
 use output_read::{KeptReply, Told};
 use workload_spec::{Command, Said};
-
-/// The key of a row in a table. A key of the text is as wide as a cell's number.
-#[derive(Clone, Copy, Debug, PartialEq, Eq, PartialOrd, Ord)]
-pub struct RowKey {
-    pub table: u32,
-    pub key: i128,
-}
-
-/// The key of a row; 0 where it has none.
-fn key_of(row: &Row) -> i128
-    ensures { result ≡ key_of row.now }
-{
-    match row.as_slice() {
-        [Cell::Num(key), ..] => *key,
-        _ => 0,
-    }
-}
 
 /// The place that a command writes.
 pub(crate) fn place_written(command: &Command) -> Option<RowKey>

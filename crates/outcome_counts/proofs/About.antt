@@ -1,23 +1,22 @@
 -- Counts about the reply that is judged, as the definitions count.
-use Rattle.std.proofs.Common.{◌≡◌, ℕ, ◌+◌, ◌<◌, ◌≤◌, Bool, true, false, List, ◌∷◌, ◌++◌, length, map, refl, sym, ap, ◌∙◌, subst, arith}
-use Rattle.std.specs.List.{count_by, list_all}
+use Rattle.std.proofs.Common.{◌≡◌, ℕ, Bool, true, false, List, length, refl, sym, ap, ◌∙◌, subst, arith}
+use Rattle.std.specs.List.{count_by}
 use Rattle.std.specs.Option.{option_map_or}
 use Rattle.std.specs.Ordering.{nat_cmp}
 use Rattle.std.specs.Prelude.{slice_index_or, is_some, ◌==◌, ◌&&◌, nat_lt, if◌then◌else◌, None, Some}
 use Rattle.std.proofs.lemmas.List.{length-map, get_or_default, take_all}
-use Rattle.std.proofs.lemmas.Bool.{and_parts}
 use Rattle.workload_spec.specs.declared.command.Command.{Command}
 use Rattle.workload_spec.specs.declared.command.Command.TheVariants as command
 use Rattle.workload_spec.specs.declared.reply.Said.{Said}
 use Rattle.outcome_spec.specs.Entries.{Entry, before, not_after, is_accepted}
 use Rattle.outcome_spec.specs.Upkeep.{stamp_in, rows_in, stamp_count, seals_in, freezes_in, inserts_in, is_accepted_insert, inserted_table}
-use Rattle.mark_index.specs.Marks.{AreCounted, count_below}
+use Rattle.mark_index.specs.Marks.{AreCounted}
 use Rattle.mark_index.proofs.Noted.{count-all}
 use Rattle.output_read.specs.Kept.{entries_of, entry_of}
 use Rattle.output_read.specs.declared.kept.KeptReply.{KeptReply}
 use Rattle.outcome_counts.specs.Asked.{IsAsked, asked_at, count_before, count_not_after}
 use Rattle.outcome_counts.specs.BlockMarks.{is_insert_into, is_seal_of, is_stamp_of, is_freeze_of}
-use Rattle.outcome_counts.specs.Keys.{inserted_into, is_keyed}
+use Rattle.outcome_counts.specs.Keys.{is_keyed}
 use Rattle.outcome_counts.specs.Stretch.{stretch_of}
 use Rattle.outcome_counts.specs.declared.keys.Block.{Block}
 use Rattle.outcome_counts.specs.declared.keys.Stamp.{Stamp}

@@ -1,5 +1,5 @@
 -- Peaks from the end, and the highest after the reply that is judged.
-use Rattle.std.proofs.Common.{◌≡◌, ℕ, ◌+◌, ◌-◌, ◌<◌, ◌≤◌, ◌⊎◌, inl, inr, max, zero, suc, Bool, true, false, ◌&&◌, ◌||◌, eqb, nat_lt, nat_le, List, [], ◌∷◌, ◌++◌, length, take, drop, reverse, slice_get, Option, None, Some, refl, sym, ap, ◌∙◌, subst, arith, append_assoc}
+use Rattle.std.proofs.Common.{◌≡◌, ℕ, ◌+◌, ◌-◌, ◌<◌, ◌≤◌, ◌⊎◌, inl, inr, max, Bool, true, false, ◌&&◌, ◌||◌, eqb, nat_lt, List, [], ◌∷◌, ◌++◌, length, take, drop, reverse, slice_get, Option, None, Some, refl, sym, ap, ◌∙◌, subst, arith, append_assoc}
 use Rattle.std.specs.List.{count_by, list_all, filter_map, cons_option}
 use Rattle.std.specs.Option.{option_map_or}
 use Rattle.std.specs.Prelude.{slice_index_or, is_some}
@@ -7,21 +7,20 @@ use Rattle.std.proofs.lemmas.Bool.{and_parts, false_from_ne_true, or_from}
 use Rattle.std.proofs.lemmas.Bool.Decides.{nat_tests}
 use Rattle.std.proofs.lemmas.List.{length-append, length-reverse, length-drop, length-map, reverse-append, take_at, drop_at, take-append-drop, get_or_default}
 use Rattle.workload_spec.specs.declared.reply.Who.{Who}
-use Rattle.outcome_spec.specs.Entries.{Entry, is_same, after, commit_in, shown_in}
+use Rattle.outcome_spec.specs.Entries.{Entry, is_same, after}
 use Rattle.outcome_check.specs.Places.{Rises, is_ahead, is_earlier, is_up_to, is_up_to_own, own_end, round_end, between}
 use Rattle.outcome_check.proofs.Pieces.{front-reaches, parted-front, drop-between}
 use Rattle.outcome_check.proofs.Places.{Behind, Beside, Own, ahead-cases, rest-behind, at-oe, own-parts, by-places, earlier-not, earlier-itself, same-is}
-use Rattle.mark_index.specs.Marks.{ArePeaks, AreStarts, highest, most_below, own_below, part}
+use Rattle.mark_index.specs.Marks.{AreStarts, highest, most_below, own_below, part}
 use Rattle.mark_index.specs.declared.marks.Peak.{Peak}
 use Rattle.mark_index.proofs.Noted.{highest-append, highest-push}
 use Rattle.output_read.specs.Kept.{entries_of, entry_of}
 use Rattle.output_read.specs.declared.kept.KeptReply.{KeptReply}
 use Rattle.outcome_counts.specs.Asked.{IsAsked, asked_at}
 use Rattle.outcome_counts.specs.LaterCommits.{AreLater, below_commit, ends_in, below}
-use Rattle.outcome_counts.specs.Stretch.{stretch_of}
 use Rattle.outcome_counts.specs.declared.stretch.Stretch.{Stretch}
 use Rattle.outcome_counts.proofs.Counts.{InOrder, in-order}
-use Rattle.outcome_counts.proofs.Starts.{At, at-place, get-at, KeptAt, kept-at}
+use Rattle.outcome_counts.proofs.Starts.{at-place, get-at, KeptAt, kept-at}
 
 -- ---- lists from their ends
 

@@ -1,10 +1,9 @@
 -- The marks of blocks with a reply more.
-use Rattle.std.proofs.Common.{◌≡◌, ℕ, ◌+◌, Bool, true, false, List, ◌∷◌, ◌++◌, length, Option, None, Some, refl, sym, ap, ◌∙◌, subst, cond}
-use Rattle.std.specs.Option.{option_map_or}
-use Rattle.std.specs.Ordering.{nat_cmp, is_eq}
+use Rattle.std.proofs.Common.{◌≡◌, ℕ, ◌+◌, Bool, false, List, ◌∷◌, ◌++◌, length, Option, None, Some, refl, ap}
+use Rattle.std.specs.Ordering.{nat_cmp}
 use Rattle.std.specs.Prelude.{option_map, if◌then◌else◌}
-use Rattle.mark_index.specs.Lists.{marks_at, with_mark}
-use Rattle.mark_index.specs.Marks.{AreStarts, next_peak}
+use Rattle.mark_index.specs.Lists.{marks_at}
+use Rattle.mark_index.specs.Marks.{AreStarts}
 use Rattle.mark_index.proofs.Noted.{counted-next, peaks-next}
 use Rattle.outcome_spec.specs.Entries.{Entry}
 use Rattle.outcome_counts.specs.Keys.{block_cmp, stamp_cmp, is_keyed, above_told, stamp_told}

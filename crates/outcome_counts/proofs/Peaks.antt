@@ -1,10 +1,10 @@
 -- The highest before the reply that is judged, by peaks.
-use Rattle.std.proofs.Common.{◌≡◌, ℕ, ◌+◌, ◌<◌, ◌≤◌, max, Bool, true, false, ◌&&◌, List, [], ◌∷◌, ◌++◌, length, take, nat_lt, nat_le, Option, None, Some, refl, sym, ap, ◌∙◌, subst, arith}
+use Rattle.std.proofs.Common.{◌≡◌, ℕ, ◌+◌, max, Bool, ◌&&◌, List, [], ◌∷◌, ◌++◌, length, take, nat_lt, nat_le, Option, None, Some, refl, sym, ap, ◌∙◌, subst, arith}
 use Rattle.std.specs.List.{list_all, filter_map, cons_option}
 use Rattle.std.specs.Option.{option_map_or}
 use Rattle.std.specs.Prelude.{slice_index_or}
 use Rattle.std.proofs.lemmas.Bool.Decides.{nat_tests}
-use Rattle.std.proofs.lemmas.List.{length-map, get_or_default, length-append}
+use Rattle.std.proofs.lemmas.List.{length-map, get_or_default}
 use Rattle.outcome_spec.specs.Entries.{Entry, before, shown_in}
 use Rattle.outcome_spec.specs.Upkeep.{stamp_in}
 use Rattle.outcome_check.specs.Places.{round_start, own_start, between}
@@ -16,8 +16,6 @@ use Rattle.output_read.specs.Kept.{entries_of, entry_of}
 use Rattle.output_read.specs.declared.kept.KeptReply.{KeptReply}
 use Rattle.outcome_counts.specs.Asked.{IsAsked, asked_at, peak_before}
 use Rattle.outcome_counts.specs.BlockMarks.{starts_in, above_stamp}
-use Rattle.outcome_counts.specs.Keys.{above_told, stamp_told}
-use Rattle.outcome_counts.specs.Stretch.{stretch_of}
 use Rattle.outcome_counts.specs.declared.keys.Block.{Block}
 use Rattle.outcome_counts.specs.declared.stretch.Stretch.{Stretch}
 use Rattle.outcome_counts.proofs.Counts.{InOrder, in-order}

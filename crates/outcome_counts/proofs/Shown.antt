@@ -1,13 +1,13 @@
 -- What the definitions ask of numbers, by counts and the highest.
-use Rattle.std.proofs.Common.{◌≡◌, ℕ, ◌+◌, ◌-◌, ◌^◌, ◌<◌, Bool, true, false, List, [], ◌∷◌, length, nat_lt, nat_le, Option, None, Some, refl, sym, ap, ◌∙◌, arith}
-use Rattle.std.specs.List.{count_by, list_all, filter_map}
+use Rattle.std.proofs.Common.{◌≡◌, ℕ, ◌+◌, ◌-◌, ◌^◌, ◌<◌, Bool, true, false, List, [], ◌∷◌, nat_lt, nat_le, Option, None, Some, refl, sym, ap, ◌∙◌, arith}
+use Rattle.std.specs.List.{count_by, list_all}
 use Rattle.std.specs.Option.{option_map_or}
 use Rattle.std.specs.Ordering.{is_eq, nat_cmp}
-use Rattle.std.specs.Prelude.{is_some, ◌==◌, ◌&&◌}
+use Rattle.std.specs.Prelude.{◌==◌, ◌&&◌}
 use Rattle.std.proofs.lemmas.Bool.Decides.{nat_tests}
 use Rattle.workload_spec.specs.declared.reply.Said.{Said}
 use Rattle.workload_spec.specs.declared.reply.Said.TheVariants as said
-use Rattle.outcome_spec.specs.Entries.{Entry, before, after, commit_in, shown_in, snapshot_in}
+use Rattle.outcome_spec.specs.Entries.{Entry, commit_in, shown_in, snapshot_in}
 use Rattle.outcome_spec.specs.Numbers.{number_shown, snapshot_holds}
 use Rattle.outcome_spec.specs.Runs.{Run, commits_as, commit_count}
 use Rattle.mark_index.specs.Marks.{highest}

@@ -1,12 +1,12 @@
 -- Where the own replies of each reply begin, for replies that rise.
-use Rattle.std.proofs.Common.{◌≡◌, ℕ, ◌+◌, ◌-◌, ◌<◌, ◌≤◌, ◌⊎◌, inl, inr, zero, suc, Bool, true, false, ◌&&◌, ◌||◌, eqb, nat_lt, List, [], ◌∷◌, ◌++◌, length, slice_get, slice_index_or, Option, Some, refl, sym, ap, ◌∙◌, subst, arith, append_assoc}
+use Rattle.std.proofs.Common.{◌≡◌, ℕ, ◌+◌, ◌<◌, ◌≤◌, ◌⊎◌, inl, inr, zero, suc, true, ◌&&◌, ◌||◌, eqb, nat_lt, List, [], ◌∷◌, ◌++◌, length, slice_get, slice_index_or, Option, Some, refl, sym, ap, ◌∙◌, subst, arith, append_assoc}
 use Rattle.std.specs.List.{list_all, count_by}
 use Rattle.std.specs.Option.{option_map_or}
 use Rattle.std.proofs.lemmas.Bool.{and_parts, or_left, or_right, and_from}
 use Rattle.std.proofs.lemmas.Bool.Decides.{nat_tests}
 use Rattle.std.proofs.lemmas.List.{length-append}
 use Rattle.workload_spec.specs.declared.reply.Who.{Who}
-use Rattle.outcome_spec.specs.Entries.{Entry, is_same}
+use Rattle.outcome_spec.specs.Entries.{Entry}
 use Rattle.outcome_check.specs.Places.{Rises, is_ahead, is_earlier, is_in_front, own_start}
 use Rattle.outcome_check.specs.Sides.{is_past}
 use Rattle.outcome_check.proofs.Pieces.{back-reaches, parted-back}

@@ -1,5 +1,5 @@
 -- What is marked of blocks, by the replies.
-use Rattle.std.specs.Prelude.{◌≡◌, ℕ, ◌+◌, Bool, List, slice_get, Option}
+use Rattle.std.specs.Prelude.{◌≡◌, ℕ, Bool, List, slice_get}
 use Rattle.std.specs.Option.{option_map_or}
 use Rattle.std.specs.Ordering.{nat_cmp}
 use Rattle.outcome_spec.specs.Entries.{Entry}

@@ -1,11 +1,13 @@
 //! What may be said of blocks, by counts.
 ghost use Rattle.std.specs.Prelude.{◌≡◌, ◌+◌, ◌*◌, ◌&&◌, ◌==◌, ◌<◌, ◌^◌, List, length, nat_le, nat_lt};
 ghost use Rattle.cell_model.specs.declared.table.TableDecl.{TableDecl as Table};
+ghost use Rattle.outcome_spec.specs.Entries.{not_after};
 ghost use Rattle.outcome_spec.specs.Runs.{run_of};
 ghost use Rattle.outcome_spec.specs.Tables.{blocks_at, slots_at};
-ghost use Rattle.outcome_spec.specs.Upkeep.{freezing_holds, full_holds};
+ghost use Rattle.outcome_spec.specs.Upkeep.{freezing_holds, frozen_blocks, full_holds};
 ghost use Rattle.output_read.specs.Kept.{entries_of};
-ghost use Rattle.outcome_counts.specs.Asked.{IsAsked, IsJudgedBy};
+ghost use Rattle.output_read.specs.declared.kept.KeptReply.{KeptReply as Kept};
+ghost use Rattle.outcome_counts.specs.Asked.{IsAsked, IsJudgedBy, asked_at};
 ghost use Rattle.outcome_counts.specs.BlockMarks.{AreBlockMarks};
 ghost use Rattle.outcome_counts.specs.Blocks.{block_upkeep_holds, is_freeze, is_freezing, is_full, is_idle, is_seal};
 
@@ -32,7 +34,7 @@ fn is_freeze_by(rows: u32, slots: u32, freezes: usize, seals: usize) -> bool
 }
 
 /// How many slots a block of the table has.
-pub(crate) fn slots_at(tables: &[TableDecl], table: u32) -> u32
+pub fn slots_at(tables: &[TableDecl], table: u32) -> u32
     ensures { result ≡ slots_at tables.now table }
 {
     match tables.get(table as usize) {
@@ -42,7 +44,7 @@ pub(crate) fn slots_at(tables: &[TableDecl], table: u32) -> u32
 }
 
 /// How many blocks the table has.
-pub(crate) fn blocks_at(tables: &[TableDecl], table: u32) -> u32
+pub fn blocks_at(tables: &[TableDecl], table: u32) -> u32
     ensures { result ≡ blocks_at tables.now table }
 {
     match tables.get(table as usize) {
@@ -196,6 +198,29 @@ impl BlockMarks {
             Some(count) => count <= MOST_MOVED,
             None => true,
         }
+    }
+
+    /// How many blocks of the table have a freeze that is not after the reply.
+    pub fn frozen_blocks(
+        &self,
+        tables: &[TableDecl],
+        replies: &[KeptReply<'_>],
+        at: usize,
+        stretch: &Stretch,
+        table: u32,
+    ) -> u32
+        requires marked { AreBlockMarks (entries_of replies.now) (length replies.now) self.now }
+        requires asked { IsAsked replies.now at stretch.now }
+        ensures { (none : Kept) → result ≡ frozen_blocks tables.now table (not_after (entries_of replies.now) (asked_at replies.now at none)) }
+    {
+        let mut count = 0;
+        for block in 0..blocks_at(tables, table) {
+            let freezes = self.freezes_not_after(replies, at, stretch, Block { table, block });
+            if freezes > 0 {
+                count += 1;
+            }
+        }
+        count
     }
 }
 

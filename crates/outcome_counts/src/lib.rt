@@ -12,8 +12,9 @@ mod numbers;
 mod stretch;
 
 pub use block_marks::BlockMarks;
+pub use blocks::{blocks_at, slots_at};
 pub use keys::{Block, Stamp, commit_told, snapshot_told};
 pub use later_commits::LaterCommits;
 pub use noting::note_key;
 pub use number_marks::NumberMarks;
-pub use stretch::{Stretch, stretch_about};
+pub use stretch::{Stretch, peak_before, stretch_about};

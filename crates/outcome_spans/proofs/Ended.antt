@@ -1,6 +1,6 @@
 -- The ends of transactions, from the last reply on.
-use Rattle.std.proofs.Common.{◌≡◌, ℕ, ◌+◌, ◌-◌, ◌<◌, ◌≤◌, ◌⊎◌, inl, inr, zero, suc, Bool, true, false, cond, ◌&&◌, not, List, [], ◌∷◌, ◌++◌, length, drop, take, Option, None, Some, refl, sym, ap, ◌∙◌, subst, arith, append_assoc}
-use Rattle.std.specs.List.{position_or_len, slice_get, filter, find, list_any}
+use Rattle.std.proofs.Common.{◌≡◌, ℕ, ◌+◌, ◌<◌, ◌≤◌, ◌⊎◌, inl, inr, zero, suc, Bool, true, false, cond, ◌&&◌, not, List, [], ◌∷◌, ◌++◌, length, drop, take, Option, None, Some, refl, sym, ap, ◌∙◌, arith}
+use Rattle.std.specs.List.{slice_get, find}
 use Rattle.std.specs.Prelude.{unwrap_or, if◌then◌else◌}
 use Rattle.std.proofs.lemmas.Bool.{cases_lt}
 use Rattle.std.proofs.lemmas.List.{length-append, drop_at, drop-take}
@@ -8,7 +8,7 @@ use Rattle.workload_spec.specs.declared.reply.Who.{Who}
 use Rattle.workload_spec.specs.declared.reply.Who.TheVariants.{Session, Worker}
 use Rattle.outcome_spec.specs.Entries.{Entry, is_same, is_end, thread}
 use Rattle.outcome_spec.specs.Forms.{is_worker}
-use Rattle.outcome_spec.specs.Runs.{Span, span_from, up_to_end, ending_of}
+use Rattle.outcome_spec.specs.Runs.{span_from, up_to_end, ending_of}
 use Rattle.outcome_check.specs.Places.{between}
 use Rattle.timeline_laws.proofs.Order.{same-itself}
 use Rattle.outcome_counts.proofs.Starts.{get-at}

@@ -1,9 +1,9 @@
 -- Which transactions are open behind replies, and to which one each reply belongs.
-use Rattle.std.proofs.Common.{◌≡◌, ℕ, ◌+◌, ◌<◌, ◌≤◌, ◌⊎◌, inl, inr, zero, suc, Bool, true, false, cond, ◌||◌, List, [], ◌∷◌, ◌++◌, length, drop, map, Option, None, Some, refl, sym, ap, ◌∙◌, subst, arith, append_assoc}
-use Rattle.std.specs.List.{filter, fold, list_any, slice_get}
+use Rattle.std.proofs.Common.{◌≡◌, ℕ, Bool, true, false, cond, ◌||◌, List, [], ◌∷◌, ◌++◌, length, drop, map, Option, None, Some, refl, sym, ap, ◌∙◌, subst, append_assoc}
+use Rattle.std.specs.List.{fold, list_any}
 use Rattle.std.specs.Prelude.{is_some, option_map, option_and_then, if◌then◌else◌}
-use Rattle.std.proofs.lemmas.Bool.{cases_Bool, or_parts, or_from}
-use Rattle.std.proofs.lemmas.List.{map_push, drop_at, length-append}
+use Rattle.std.proofs.lemmas.Bool.{or_parts, or_from}
+use Rattle.std.proofs.lemmas.List.{map_push, drop_at}
 use Rattle.std.proofs.lemmas.List.Elements.{filter-append}
 use Rattle.std.proofs.lemmas.List.Folds.{list_any-append}
 use Rattle.std.proofs.lemmas.List.Sums.{fold_push}
@@ -13,13 +13,13 @@ use Rattle.workload_spec.specs.declared.reply.Said.{Said}
 use Rattle.workload_spec.specs.declared.reply.Said.TheVariants as said
 use Rattle.outcome_spec.specs.Entries.{Entry, is_same, thread, snapshot_in, is_end}
 use Rattle.outcome_spec.specs.Forms.{is_within, within_behind, is_worker}
-use Rattle.outcome_spec.specs.Runs.{Span, span_from, up_to_end, transactions_of, transaction_with}
+use Rattle.outcome_spec.specs.Runs.{span_from, up_to_end, transactions_of, transaction_with}
 use Rattle.outcome_check.specs.Opened.{OpensOutside}
 use Rattle.outcome_check.specs.Places.{Rises}
 use Rattle.timeline_laws.proofs.Order.{same-is, same-itself}
-use Rattle.timeline_laws.proofs.Spans.{span, spans, Past, past-nil, past-idle, past-opens, past-goes_on, past-ends}
+use Rattle.timeline_laws.proofs.Spans.{span, Past, past-nil, past-idle, past-opens, past-goes_on, past-ends}
 use Rattle.timeline_laws.proofs.Belongs.{At, found-open, found-none, found-opened}
-use Rattle.outcome_spans.specs.Openings.{opened_by, opened_at, opening_of, own_next, open_next, opening_next}
+use Rattle.outcome_spans.specs.Openings.{opened_by, opened_at, own_next, open_next, opening_next}
 use Rattle.outcome_spans.proofs.Ordered.{at-rising}
 
 -- ---- what is said
@@ -27,7 +27,7 @@ use Rattle.outcome_spans.proofs.Ordered.{at-rising}
 impossible : {P : Type 0} → true ≡ false → P
 impossible h = absurd (let never : ⊥ = cc in never)
 
-opens-not-end : (told : Said) (n : ℕ) → snapshot_in told ≡ Some n → is_end told ≡ false
+pub opens-not-end : (told : Said) (n : ℕ) → snapshot_in told ≡ Some n → is_end told ≡ false
 opens-not-end (said.At number) n h = refl
 opens-not-end _ n h = absurd (let never : ⊥ = cc in never)
 
@@ -52,7 +52,7 @@ goes-out _ b h = impossible (sym h)
 
 -- ---- threads with a reply more
 
-thread-own : (who : Who) (front : List Entry) (entry : Entry) → is_same entry.reply.who who ≡ true → thread who (front ++ entry ∷ []) ≡ thread who front ++ entry ∷ []
+pub thread-own : (who : Who) (front : List Entry) (entry : Entry) → is_same entry.reply.who who ≡ true → thread who (front ++ entry ∷ []) ≡ thread who front ++ entry ∷ []
 thread-own who front entry same =
     filter-append (λ e. is_same e.reply.who who) front (entry ∷ []) ∙ ap (λ (b : Bool). thread who front ++ cond b (entry ∷ []) []) same
 
@@ -60,7 +60,7 @@ append-none : {X : Type 0} (xs : List X) → xs ++ [] ≡ xs
 append-none [] = refl
 append-none (x ∷ xs) = ap (λ ys. x ∷ ys) (append-none xs)
 
-thread-other : (who : Who) (front : List Entry) (entry : Entry) → is_same entry.reply.who who ≡ false → thread who (front ++ entry ∷ []) ≡ thread who front
+pub thread-other : (who : Who) (front : List Entry) (entry : Entry) → is_same entry.reply.who who ≡ false → thread who (front ++ entry ∷ []) ≡ thread who front
 thread-other who front entry apart =
     filter-append (λ e. is_same e.reply.who who) front (entry ∷ []) ∙ ap (λ (b : Bool). thread who front ++ cond b (entry ∷ []) []) apart ∙ append-none (thread who front)
 

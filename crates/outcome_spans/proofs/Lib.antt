@@ -5,3 +5,6 @@ pub mod Cuts
 pub mod Written
 pub mod Committed
 pub mod Whose
+pub mod Totals
+pub mod Sums
+pub mod Upkeep

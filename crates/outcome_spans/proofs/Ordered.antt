@@ -1,10 +1,10 @@
 -- Replies that rise came about in order, and each is the only one of its round, session or worker, and index.
-use Rattle.std.proofs.Common.{◌≡◌, ℕ, ◌<◌, Bool, true, false, ◌&&◌, eqb, nat_lt, List, [], ◌∷◌, ◌++◌, ◌⊎◌, inl, inr, refl, sym, ap, ◌∙◌, subst, arith}
+use Rattle.std.proofs.Common.{◌≡◌, Bool, true, false, ◌&&◌, eqb, nat_lt, List, [], ◌∷◌, ◌++◌, ◌⊎◌, inl, inr, refl, sym, ◌∙◌, subst, arith}
 use Rattle.std.specs.List.{list_all}
-use Rattle.std.proofs.lemmas.Bool.{and_parts, or_from}
+use Rattle.std.proofs.lemmas.Bool.{and_parts}
 use Rattle.std.proofs.lemmas.Bool.Decides.{nat_tests}
 use Rattle.workload_spec.specs.declared.reply.Who.{Who}
-use Rattle.outcome_spec.specs.Entries.{Entry, is_same, is_before, is_reply, thread}
+use Rattle.outcome_spec.specs.Entries.{Entry, is_same, is_before}
 use Rattle.outcome_check.specs.Places.{Rises, is_ahead, is_earlier}
 use Rattle.outcome_check.proofs.Places.{Behind, Beside, Own, ahead-cases, same-is, earlier-itself, same-itself}
 use Rattle.timeline_spec.specs.Timeline.{Each, Follows, InOrder}

@@ -1,22 +1,19 @@
 -- Whose a transaction is, its snapshot, and the number as which it commits.
-use Rattle.std.proofs.Common.{◌≡◌, ℕ, ◌+◌, ◌<◌, Bool, true, false, cond, ◌&&◌, ◌||◌, eqb, List, [], ◌∷◌, ◌++◌, length, map, drop, ◌⊎◌, inl, inr, Option, None, Some, refl, sym, ap, ◌∙◌, subst, arith}
-use Rattle.std.specs.List.{find, list_any, slice_get}
-use Rattle.std.specs.Prelude.{option_map, option_and_then, is_some, unwrap_or}
+use Rattle.std.proofs.Common.{◌≡◌, ℕ, ◌<◌, Bool, true, false, cond, ◌&&◌, eqb, List, [], ◌∷◌, length, drop, ◌⊎◌, inl, inr, Option, None, Some, refl, sym, ap, ◌∙◌, subst}
+use Rattle.std.specs.List.{find, list_any}
+use Rattle.std.specs.Prelude.{option_map, option_and_then}
 use Rattle.std.proofs.lemmas.Bool.{and_parts, or_cases}
 use Rattle.workload_spec.specs.declared.reply.Who.{Who}
-use Rattle.outcome_spec.specs.Entries.{Entry, is_same, is_reply, is_end, thread, snapshot_in, commit_in}
-use Rattle.outcome_spec.specs.Runs.{Span, span_from, up_to_end, ending_of, transactions_of, transaction_with}
+use Rattle.outcome_spec.specs.Entries.{Entry, is_same, is_reply, thread, snapshot_in}
+use Rattle.outcome_spec.specs.Runs.{Span, span_from, transactions_of}
 use Rattle.timeline_spec.specs.Timeline.{Each}
 use Rattle.timeline_laws.proofs.Order.{same-is, same-itself}
 use Rattle.timeline_laws.proofs.Spans.{thread-of}
 use Rattle.timeline_laws.proofs.Belongs.{Each-up_to_end}
-use Rattle.output_read.specs.Kept.{entries_of, entry_of}
+use Rattle.output_read.specs.Kept.{entries_of}
 use Rattle.output_read.specs.declared.kept.KeptReply.{KeptReply}
 use Rattle.outcome_counts.specs.Asked.{asked_at}
 use Rattle.outcome_spans.specs.Openings.{opened_at, opened_by, opening_of, AreOpenings}
-use Rattle.outcome_spans.specs.Ends.{next_end}
-use Rattle.outcome_spans.proofs.Ended.{span-ending}
-use Rattle.outcome_spans.proofs.Held.{opened-there}
 use Rattle.outcome_spans.proofs.Written.{transaction-asked}
 
 -- what is found passes the test

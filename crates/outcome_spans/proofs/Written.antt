@@ -1,12 +1,12 @@
 -- The writes of a transaction, counted.
-use Rattle.std.proofs.Common.{◌≡◌, ℕ, ◌+◌, ◌-◌, ◌<◌, ◌≤◌, ◌⊎◌, inl, inr, min, zero, suc, Bool, true, false, cond, ◌&&◌, ◌||◌, List, [], ◌∷◌, ◌++◌, length, map, take, drop, nat_lt, Option, None, Some, refl, sym, ap, ◌∙◌, subst, arith}
+use Rattle.std.proofs.Common.{◌≡◌, ℕ, ◌+◌, ◌-◌, ◌<◌, ◌≤◌, ◌⊎◌, inl, inr, min, zero, suc, Bool, true, false, cond, ◌&&◌, ◌||◌, List, [], ◌∷◌, ◌++◌, length, map, take, drop, nat_lt, Option, None, Some, refl, sym, ap, ◌∙◌, arith}
 use Rattle.std.specs.List.{count_by, filter, list_any}
 use Rattle.std.specs.Option.{option_map_or}
-use Rattle.std.specs.Ordering.{nat_cmp, is_eq}
+use Rattle.std.specs.Ordering.{nat_cmp}
 use Rattle.std.specs.Prelude.{is_some, option_map, option_and_then, IfSome, if◌then◌else◌, ◌==◌, slice_index_or, slice_get, unwrap_or}
 use Rattle.std.proofs.lemmas.Bool.{cases_lt}
 use Rattle.std.proofs.lemmas.Bool.Decides.{nat_tests}
-use Rattle.std.proofs.lemmas.List.{take_min, drop_all, length-append, length-map, get_or_default}
+use Rattle.std.proofs.lemmas.List.{take_min, drop_all, length-append, get_or_default}
 use Rattle.workload_spec.specs.declared.reply.Who.{Who}
 use Rattle.workload_spec.specs.declared.reply.Who.TheVariants.{Session, Worker}
 use Rattle.outcome_spec.specs.Entries.{Entry, is_same, thread, snapshot_in}
@@ -21,12 +21,12 @@ use Rattle.outcome_counts.proofs.Counts.{count-agree}
 use Rattle.outcome_counts.proofs.Keyed.{nat-same}
 use Rattle.outcome_spans.specs.Ends.{next_end}
 use Rattle.outcome_spec.specs.Runs.{transactions_of, transaction_with}
-use Rattle.output_read.specs.Kept.{entries_of, entry_of}
+use Rattle.output_read.specs.Kept.{entries_of}
 use Rattle.output_read.specs.declared.kept.KeptReply.{KeptReply}
 use Rattle.outcome_counts.specs.Asked.{asked_at}
 use Rattle.outcome_counts.proofs.Starts.{kept-at}
 use Rattle.outcome_spans.specs.Openings.{opened_at, opened_by, opening_of, AreOpenings}
-use Rattle.outcome_spans.specs.Written.{is_write, writer_of, session_of, is_write_by, writes_of}
+use Rattle.outcome_spans.specs.Written.{is_write, session_of, is_write_by, writes_of}
 use Rattle.outcome_spans.proofs.Ended.{span-replies, span-ending}
 use Rattle.outcome_spans.proofs.Held.{opened-there}
 
@@ -164,3 +164,8 @@ pub got-none : {X : Type 0} (xs : List X) (i : ℕ) → length xs ≤ i → slic
 got-none [] i h = refl
 got-none (x ∷ xs) zero h = absurd (omega (arith, h))
 got-none (x ∷ xs) (suc i) h = got-none xs i (omega (arith, h))
+
+-- the writes of the transaction that is found
+pub writes-found : (o : Option Span) (n : ℕ) → is_some o ≡ true → ((t : Span) → o ≡ Some t → n ≡ writes_of t) → n ≡ option_map_or writes_of o 0
+writes-found None n h counted = absurd (let never : ⊥ = cc in never)
+writes-found (Some t) n h counted = counted t refl

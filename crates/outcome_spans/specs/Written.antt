@@ -1,10 +1,9 @@
 -- What transactions wrote, counted.
-use Rattle.std.specs.Prelude.{◌≡◌, ℕ, ◌+◌, ◌<◌, Bool, false, List, ◌∷◌, ◌++◌, count_by, is_some, length, if◌then◌else◌, Option, None, Some}
+use Rattle.std.specs.Prelude.{ℕ, Bool, List, count_by, is_some, if◌then◌else◌, Option, None, Some}
 use Rattle.std.specs.Ordering.{nat_cmp}
 use Rattle.workload_spec.specs.declared.reply.Who.{Who}
 use Rattle.workload_spec.specs.declared.reply.Who.TheVariants.{Session, Worker}
 use Rattle.outcome_spec.specs.Entries.{Entry}
-use Rattle.outcome_spec.specs.Forms.{is_worker}
 use Rattle.outcome_spec.specs.Runs.{Span, accepted_write}
 use Rattle.mark_index.specs.Lists.{marks_at}
 use Rattle.mark_index.specs.Marks.{AreCounted}

@@ -4,4 +4,5 @@
 mod commits;
 pub mod ends;
 pub mod openings;
+pub mod prunes;
 pub mod spans;

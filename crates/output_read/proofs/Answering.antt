@@ -1,12 +1,12 @@
 -- What may be said where a reply is due, both ways: by kind, and among those that the definition of forms lists.
-use Rattle.std.proofs.Common.{◌≡◌, ℕ, ◌+◌, ◌^◌, ◌<◌, Bool, true, false, cond, ◌&&◌, ◌||◌, not, List, [], ◌∷◌, ◌++◌, length, drop, map, Option, None, Some, refl, sym, ap, ◌∙◌, subst, arith, ℤ}
+use Rattle.std.proofs.Common.{◌≡◌, ℕ, ◌^◌, ◌<◌, Bool, true, false, cond, ◌&&◌, ◌||◌, not, List, [], ◌∷◌, length, drop, Option, None, Some, refl, sym, subst, arith, ℤ}
 use Rattle.std.proofs.Common.{◌≤◌, ◌-◌}
 use Rattle.std.proofs.lemmas.Bool.{leb-true}
-use Rattle.std.specs.Prelude.{◌==◌, nat_lt, nat_le, find, slice_get, is_some, if◌then◌else◌, unwrap_or, option_and_then}
+use Rattle.std.specs.Prelude.{◌==◌, nat_lt, nat_le, is_some, if◌then◌else◌, unwrap_or, option_and_then}
 use Rattle.workload_spec.specs.Valid.{is_within as is_within_range}
 use Rattle.workload_spec.specs.Reading.{natural_of}
 use Rattle.outcome_spec.specs.Reading.{word_at}
-use Rattle.std.specs.List.{filter, list_all}
+use Rattle.std.specs.List.{filter}
 use Rattle.std.specs.Option.{option_map_or}
 use Rattle.std.specs.Ordering.{int_eq}
 use Rattle.std.proofs.lemmas.Bool.{and_parts, and_from, lt-ltb, ltb-true, eqb-true, eq-eqb}
@@ -19,16 +19,15 @@ use Rattle.cell_model.specs.Values.{is_integer_of}
 use Rattle.isolation_spec.specs.Contents.{key_of}
 use Rattle.workload_spec.specs.declared.command.Command.{Command}
 use Rattle.workload_spec.specs.declared.command.Command.TheVariants as command
-use Rattle.workload_spec.specs.declared.reply.Who.{Who}
 use Rattle.workload_spec.specs.declared.reply.Said.{Said}
 use Rattle.workload_spec.specs.declared.reply.Said.TheVariants as said
 use Rattle.workload_spec.specs.ReplyText.{lines_behind}
-use Rattle.workload_spec.specs.Valid.{is_command, is_table, is_table_place, is_block_of, is_key_number}
+use Rattle.workload_spec.specs.Valid.{is_table_place}
 use Rattle.outcome_spec.specs.Entries.{Entry}
 use Rattle.outcome_spec.specs.Reading.{row_of, u32_at, u64_at, tagged_u64_at, integer_at}
 use Rattle.outcome_spec.specs.Tables.{columns_at}
-use Rattle.outcome_spec.specs.Forms.{Due, is_upkeep, is_worker, is_silent, is_within, replies_within, replies_without, replies_due, row_replies, dirty_replies, conflict_replies, change_replies}
-use Rattle.reply_text.specs.Shown.{is_u32, is_u64, is_row, is_said}
+use Rattle.outcome_spec.specs.Forms.{Due, is_upkeep, is_worker, is_silent, is_within, replies_within, replies_without, replies_due, conflict_replies, change_replies}
+use Rattle.reply_text.specs.Shown.{is_u32, is_u64, is_said}
 use Rattle.timeline_spec.specs.Forms.{IsReplyWithin, IsReplyWithout, IsBeginReply, IsChangeReply, IsInsertReply, IsGetReply, IsScanReply, IsCommitReply, IsExportReply, IsObserveReply, IsPruneReply, IsCompactReply, IsSealReply, IsGatherReply}
 use Rattle.timeline_laws.proofs.ReadNumbers.{u32_small, u64_small}
 use Rattle.timeline_laws.proofs.Stated.{GotFits, RowsFit, IsReply}

@@ -1,8 +1,7 @@
 -- A reply that is kept, and what is read behind it.
-use Rattle.std.proofs.Common.{◌≡◌, ℕ, ◌+◌, ◌^◌, ◌<◌, ◌≤◌, Bool, true, false, ◌&&◌, List, [], ◌∷◌, ◌++◌, length, drop, map, Option, None, Some, Ok, Err, refl, sym, ap, ◌∙◌, subst, arith}
-use Rattle.std.specs.Prelude.{◌==◌}
-use Rattle.std.specs.List.{list_all, count_by, filter, fold}
-use Rattle.std.proofs.lemmas.Bool.{and_from, and_parts, eq-eqb}
+use Rattle.std.proofs.Common.{◌≡◌, ℕ, ◌+◌, ◌≤◌, Bool, true, false, ◌&&◌, List, [], ◌∷◌, ◌++◌, length, drop, map, None, Some, Err, refl, sym, ap, ◌∙◌, arith}
+use Rattle.std.specs.List.{count_by, filter, fold}
+use Rattle.std.proofs.lemmas.Bool.{and_from}
 use Rattle.std.proofs.lemmas.List.{map-append, length_push, length-map}
 use Rattle.std.proofs.lemmas.List.Folds.{list_all-append}
 use Rattle.std.proofs.Common.{cond, append-nil}
@@ -12,15 +11,12 @@ use Rattle.cell_model.specs.declared.table.TableDecl.{TableDecl}
 use Rattle.workload_spec.specs.declared.reply.Who.{Who}
 use Rattle.workload_spec.specs.declared.reply.Said.{Said}
 use Rattle.outcome_spec.specs.Entries.{Entry, is_same}
-use Rattle.outcome_spec.specs.Lines.{lines_of}
 use Rattle.outcome_spec.specs.Forms.{Due, entry_behind, line_count, lines_begun, may_be_silent, next_line, reading, reply_at, is_within, within_behind}
 use Rattle.output_read.specs.declared.kept.KeptReply.{KeptReply}
 use Rattle.output_read.specs.declared.reader.Reader.{Reader}
 use Rattle.output_read.specs.Kept.{entry_of, entries_of, are_told, is_told}
-use Rattle.output_read.specs.Readers.{IsReading, Passes, FailsAt, read_by, lines_left, reads, is_of, next_index}
-use Rattle.output_read.specs.Turns.{begins_anew}
-use Rattle.output_read.proofs.Keys.{who-same}
-use Rattle.output_read.proofs.Walks.{Reading, taken, failed, missing, next-more}
+use Rattle.output_read.specs.Readers.{IsReading, Passes, PassesAll, FailsAll, FailsAt, read_by, lines_left, is_of, next_index}
+use Rattle.output_read.proofs.Walks.{taken, failed, missing, next-more}
 
 -- the reader behind a kept reply
 pub record Kept (old new : Reader) (kept : KeptReply) (n : ℕ) : Type 0 where
@@ -52,8 +48,8 @@ module _ (old new : Reader) (kept : KeptReply) (n : ℕ) (k : Kept old new kept 
   E = read_by old
 
   -- what is due was taken
-  pub passes : (line : List ℕ) (behind : List (List ℕ)) → lines_left old ≡ line ∷ behind → reply_at T E due line behind ≡ Some (entry_behind T E due told) → Passes old new (due ∷ [])
-  passes line behind front at dues anew =
+  pub passes-all : (line : List ℕ) (behind : List (List ℕ)) → lines_left old ≡ line ∷ behind → reply_at T E due line behind ≡ Some (entry_behind T E due told) → PassesAll old new (due ∷ [])
+  passes-all line behind front at dues =
       ap (reading T (due ∷ dues) E) front
       ∙ taken T due dues E line behind (entry_behind T E due told) speaks at
       ∙ ap (λ (e : Entry). reading T dues (E ++ e ∷ []) (drop (line_count T e) (line ∷ behind))) (sym entry)
@@ -63,18 +59,24 @@ module _ (old new : Reader) (kept : KeptReply) (n : ℕ) (k : Kept old new kept 
       ∙ ap (λ (es : List Entry). reading T dues es (lines_left new)) (sym (read-more old new kept n k))
       ∙ ap (λ (ts : List TableDecl). reading ts dues (read_by new) (lines_left new)) (sym k.tables)
 
+  pub passes : (line : List ℕ) (behind : List (List ℕ)) → lines_left old ≡ line ∷ behind → reply_at T E due line behind ≡ Some (entry_behind T E due told) → Passes old new (due ∷ [])
+  passes line behind front at dues anew = passes-all line behind front at dues
+
 -- what is due fails
 pub fails-at : (reader : Reader) (due : Due) (line : List ℕ) (behind : List (List ℕ)) (n : ℕ) → IsReading reader → may_be_silent due ≡ false → lines_left reader ≡ line ∷ behind
-    → reply_at reader.tables.now (read_by reader) due line behind ≡ None → lines_begun reader.tables.now (read_by reader) due line behind ≡ n → FailsAt reader (due ∷ []) (reader.line + n)
-fails-at reader due line behind n reading speaks front at begun dues anew =
+    → reply_at reader.tables.now (read_by reader) due line behind ≡ None → lines_begun reader.tables.now (read_by reader) due line behind ≡ n → FailsAll reader (due ∷ []) (reader.line + n)
+fails-at reader due line behind n reading speaks front at begun dues =
     ap (Rattle.outcome_spec.specs.Forms.reading reader.tables.now (due ∷ dues) (read_by reader)) front
     ∙ failed reader.tables.now due dues (read_by reader) line behind speaks at
     ∙ ap Err (let a = reading.line in let e : next_line reader.tables.now (read_by reader) + lines_begun reader.tables.now (read_by reader) due line behind ≡ reader.line + n = omega (arith, a, begun) in e)
 
-pub fails-end : (reader : Reader) (due : Due) → IsReading reader → may_be_silent due ≡ false → lines_left reader ≡ [] → FailsAt reader (due ∷ []) reader.line
-fails-end reader due reading speaks end dues anew =
+pub fails-end : (reader : Reader) (due : Due) → IsReading reader → may_be_silent due ≡ false → lines_left reader ≡ [] → FailsAll reader (due ∷ []) reader.line
+fails-end reader due reading speaks end dues =
     ap (Rattle.outcome_spec.specs.Forms.reading reader.tables.now (due ∷ dues) (read_by reader)) end
     ∙ missing reader.tables.now due dues (read_by reader) speaks ∙ ap Err (sym reading.line)
+
+pub fails-anew : (reader : Reader) (dues : List Due) (n : ℕ) → FailsAll reader dues n → FailsAt reader dues n
+fails-anew reader dues n h rest anew = h rest
 
 -- ---- one more of the round to one
 

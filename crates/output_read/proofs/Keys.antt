@@ -1,7 +1,7 @@
 -- The reply of one line at the front of lines, by what the line says.
-use Rattle.std.proofs.Common.{◌≡◌, ℕ, ◌+◌, ◌^◌, ◌<◌, Bool, true, false, cond, ◌&&◌, ◌||◌, not, List, [], ◌∷◌, ◌++◌, length, drop, map, Option, None, Some, refl, sym, ap, ◌∙◌, subst, arith, append-nil, append_assoc, ◌⊎◌, inl, inr}
-use Rattle.std.specs.Prelude.{◌==◌, bytes_eq, decimal, find}
-use Rattle.std.specs.List.{starts_with, filter, count_by}
+use Rattle.std.proofs.Common.{◌≡◌, ℕ, ◌+◌, Bool, true, false, cond, ◌&&◌, ◌||◌, List, [], ◌∷◌, ◌++◌, drop, Option, None, Some, refl, sym, ap, ◌∙◌, subst, append-nil}
+use Rattle.std.specs.Prelude.{◌==◌, bytes_eq, decimal}
+use Rattle.std.specs.List.{starts_with, count_by}
 use Rattle.std.proofs.lemmas.Bool.{and_parts, and_from, eqb-true, eq-eqb}
 use Rattle.std.proofs.lemmas.Slice.Eq.{bytes_eq-Decides}
 use Rattle.cell_model.specs.declared.table.TableDecl.{TableDecl}
@@ -12,15 +12,15 @@ use Rattle.workload_spec.specs.declared.reply.Who.{Who}
 use Rattle.workload_spec.specs.declared.reply.Who.TheVariants.{Session, Worker}
 use Rattle.workload_spec.specs.declared.reply.Said.{Said}
 use Rattle.workload_spec.specs.declared.reply.Said.TheVariants as said
-use Rattle.workload_spec.specs.ReplyText.{said_words, lines_behind, reply_lines, reply_text, who_text}
+use Rattle.workload_spec.specs.ReplyText.{said_words, lines_behind, reply_text, who_text}
 use Rattle.workload_spec.specs.Words.{spaced, lines_text}
 use Rattle.workload_laws.proofs.Apart.{is_whole, whole_append}
 use Rattle.outcome_spec.specs.Entries.{Entry, is_same}
 use Rattle.outcome_spec.specs.Lines.{lines_of}
 use Rattle.outcome_spec.specs.Reading.{words_in}
-use Rattle.outcome_spec.specs.Forms.{Due, begins_with, replies_due, reply_at, entry_behind, is_upkeep, is_worker, is_silent, is_within}
+use Rattle.outcome_spec.specs.Forms.{Due, begins_with, replies_due, reply_at, entry_behind, is_upkeep, is_within}
 use Rattle.reply_text.specs.Shown.{is_u32, is_u64, is_who, is_said, is_reply, are_tables}
-use Rattle.reply_text.specs.Readers.{◌>>=◌, where_true, reply_in}
+use Rattle.reply_text.specs.Readers.{where_true, reply_in}
 use Rattle.reply_text.proofs.PieceLemmas.{step, where_is, gives}
 use Rattle.reply_text.proofs.Readings.{words_spaced, said_some, reply_is}
 use Rattle.reply_text.proofs.SaidBack.{plain_whole, said_whole}
@@ -29,7 +29,7 @@ use Rattle.timeline_laws.proofs.Lines.{ended, first_line, is_said as is_spoken, 
 use Rattle.timeline_laws.proofs.ReadBack.{NamesPlain, reply-back}
 use Rattle.timeline_laws.proofs.ReadLines.{lines_behind_first}
 use Rattle.timeline_laws.proofs.ReadNumbers.{plain_decimal}
-use Rattle.timeline_laws.proofs.Turns.{EachSaid, Found, found-by}
+use Rattle.timeline_laws.proofs.Turns.{found-by}
 use Rattle.output_read.specs.Answers.{answers, answers_within, answers_without, may_say}
 use Rattle.output_read.specs.Fronts.{has_head, said_at}
 use Rattle.output_read.proofs.Fitting.{never}

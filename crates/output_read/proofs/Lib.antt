@@ -12,3 +12,12 @@ pub mod RowLines
 pub mod Names
 pub mod Keeping
 pub mod SessionReplies
+pub mod Passing
+pub mod SessionLines
+pub mod Faults
+pub mod WorkLines
+pub mod StepLines
+pub mod StepLoops
+pub mod Shifts
+pub mod RoundParts
+pub mod Whole

@@ -1,6 +1,6 @@
 -- What of valid tables is used.
-use Rattle.std.proofs.Common.{◌≡◌, ℕ, ◌≤◌, ◌<◌, Bool, true, false, ◌&&◌, ◌||◌, nat_le, nat_lt, eqb, zero, suc, List, [], ◌∷◌, length, get_or, refl, ap, arith, ◌∙◌, sym}
-use Rattle.std.specs.Prelude.{◌==◌, Option, Some, None, slice_get, is_some, is_none, ◌+◌}
+use Rattle.std.proofs.Common.{◌≡◌, ℕ, ◌≤◌, ◌<◌, Bool, true, false, ◌&&◌, ◌||◌, nat_le, nat_lt, eqb, zero, suc, List, [], ◌∷◌, length, refl, arith}
+use Rattle.std.specs.Prelude.{Option, Some, None, slice_get, is_some, is_none}
 use Rattle.std.specs.List.{list_all}
 use Rattle.std.specs.Option.{option_map_or}
 use Rattle.std.proofs.lemmas.Bool.{and_parts, and_from, leb-true, lt-ltb, ltb-true}

@@ -1,9 +1,9 @@
 -- Which steps of a turn may be next, by their tables and blocks.
-use Rattle.std.proofs.Common.{◌≡◌, ℕ, ◌+◌, ◌-◌, ◌≤◌, ◌<◌, ◌^◌, Bool, true, false, cond, ◌&&◌, ◌||◌, not, List, [], ◌∷◌, ◌++◌, length, drop, Option, None, Some, Ok, Err, refl, sym, ap, ◌∙◌, subst, arith, append-nil, suc, zero, get_or, drop-cons}
-use Rattle.std.specs.Prelude.{Result, ◌==◌, nat_lt, nat_le, slice_get, is_some, if◌then◌else◌}
+use Rattle.std.proofs.Common.{◌≡◌, ℕ, ◌+◌, ◌-◌, ◌≤◌, ◌<◌, ◌^◌, Bool, true, false, cond, ◌&&◌, List, [], ◌∷◌, ◌++◌, length, drop, Option, None, Some, refl, sym, ap, ◌∙◌, subst, arith, suc, zero, get_or, drop-cons}
+use Rattle.std.specs.Prelude.{◌==◌, nat_lt, nat_le, is_some, if◌then◌else◌}
 use Rattle.std.specs.List.{list_all, flat_map, range_with_len, enumerate_from}
 use Rattle.std.specs.Option.{option_map_or}
-use Rattle.std.proofs.lemmas.Bool.{and_parts, and_from, eqb-true, eq-eqb, ne_eqb, ltb-true, ltb-false, lt-ltb, leb-true}
+use Rattle.std.proofs.lemmas.Bool.{and_parts, eqb-true, eq-eqb, ne_eqb, ltb-true, ltb-false, lt-ltb, leb-true}
 use Rattle.std.proofs.lemmas.List.FromFn.{length-enumerate_from, get_or-enumerate_from}
 use Rattle.std.proofs.lemmas.Option.{slice_get_past, slice_get-get_or}
 use Rattle.cell_model.specs.declared.table.TableDecl.{TableDecl}
@@ -15,9 +15,7 @@ use Rattle.outcome_spec.specs.Tables.{blocks_at}
 use Rattle.outcome_spec.specs.Forms.{Due, next_line, reading, reply_at, lines_begun, scanned_by, is_seal_or_gather}
 use Rattle.reply_text.specs.Shown.{is_u32}
 use Rattle.output_read.specs.declared.turns.NextSteps.{NextSteps}
-use Rattle.output_read.specs.Turns.{one_more}
 use Rattle.output_read.proofs.Fitting.{never}
-use Rattle.output_read.proofs.Answering.{IsListed}
 use Rattle.output_read.proofs.Walks.{Reading}
 use Rattle.output_read.proofs.Silences.{step_due, first_hit, blocks_of, AreQuiet, AllQuiet, joined, from_steps, beyond, beyond-is, further_on, lines_left, now_read, NoneHit, one-here, one-later, one-none, all-none}
 
@@ -149,6 +147,14 @@ module _ (tables : List TableDecl) where
 
   pub entries-none : (table : ℕ) → length tables ≤ table → entries_at table ≡ []
   entries-none table few = entries-past (enumerate_from 0 tables) table (let e = length-enumerate_from 0 tables in omega (arith, e, few))
+
+  length-left : (xs : List (ℕ × TableDecl)) (k : ℕ) → length (drop k xs) ≡ length xs - k
+  length-left xs zero = let e : length xs ≡ length xs - 0 = omega arith in e
+  length-left [] (suc k) = let e : 0 ≡ 0 - suc k = omega arith in e
+  length-left (x ∷ xs) (suc k) = let e = length-left xs k in let m : length xs - k ≡ length (x ∷ xs) - suc k = omega arith in e ∙ m
+
+  pub entries-count : (table : ℕ) → length (entries_at table) ≡ length tables - table
+  entries-count table = length-left (enumerate_from 0 tables) table ∙ ap (λ (n : ℕ). n - table) (length-enumerate_from 0 tables)
 
   -- ---- they are quiet
 

@@ -1,46 +1,42 @@
 -- The reply to a scan at the front of lines.
-use Rattle.std.proofs.Common.{◌≡◌, ℕ, ◌+◌, ◌-◌, ◌^◌, ◌<◌, ◌≤◌, Bool, true, false, cond, ◌&&◌, ◌||◌, not, List, [], ◌∷◌, ◌++◌, length, take, drop, map, Option, None, Some, refl, sym, ap, ◌∙◌, subst, arith, append-nil, append_assoc, ◌⊎◌, inl, inr, ℤ, int_lt, suc, zero}
-use Rattle.std.specs.Prelude.{◌==◌, bytes_eq, decimal, find, codes, if◌then◌else◌}
-use Rattle.std.specs.List.{starts_with, filter, count_by}
+use Rattle.std.proofs.Common.{◌≡◌, ℕ, ◌+◌, ◌^◌, ◌<◌, ◌≤◌, Bool, true, false, cond, ◌&&◌, ◌||◌, List, [], ◌∷◌, ◌++◌, length, take, drop, map, Option, None, Some, refl, sym, ap, ◌∙◌, subst, arith, append_assoc, ◌⊎◌, inl, inr, ℤ, int_lt, suc, zero}
+use Rattle.std.specs.Prelude.{◌==◌, bytes_eq, decimal, codes, if◌then◌else◌}
+use Rattle.std.specs.List.{starts_with, filter}
 use Rattle.std.specs.Option.{option_map_or}
 use Rattle.std.proofs.lemmas.Bool.{and_parts, and_from, eqb-true, eq-eqb, ltb-true, lt-ltb}
 use Rattle.std.proofs.lemmas.Slice.Eq.{bytes_eq-Decides}
 use Rattle.cell_model.specs.declared.cell.Cell.{Cell}
 use Rattle.cell_model.specs.declared.column.Column.{Column}
 use Rattle.cell_model.specs.declared.table.TableDecl.{TableDecl}
-use Rattle.cell_model.specs.Rows.{fits}
 use Rattle.isolation_spec.specs.Contents.{key_of}
-use Rattle.workload_spec.specs.declared.command.Command.{Command}
 use Rattle.workload_spec.specs.declared.command.Command.TheVariants as command
-use Rattle.workload_spec.specs.declared.reply.ReplyLine.{ReplyLine}
 use Rattle.workload_spec.specs.declared.reply.Who.{Who}
-use Rattle.workload_spec.specs.declared.reply.Who.TheVariants.{Session, Worker}
+use Rattle.workload_spec.specs.declared.reply.Who.TheVariants.{Session}
 use Rattle.workload_spec.specs.declared.reply.Said.{Said}
 use Rattle.workload_spec.specs.declared.reply.Said.TheVariants as said
-use Rattle.workload_spec.specs.ReplyText.{said_words, lines_behind, reply_lines, reply_text, who_text, row_line}
-use Rattle.workload_spec.specs.Words.{line_feed, spaced, lines_text}
-use Rattle.workload_laws.proofs.Apart.{AreWords, is_whole, whole_append}
+use Rattle.workload_spec.specs.ReplyText.{lines_behind, reply_lines, who_text, row_line}
+use Rattle.workload_spec.specs.Words.{line_feed, spaced}
+use Rattle.workload_laws.proofs.Apart.{is_whole, whole_append}
 use Rattle.outcome_spec.specs.Entries.{Entry, is_same}
-use Rattle.outcome_spec.specs.Lines.{lines_of}
 use Rattle.outcome_spec.specs.Reading.{words_in, row_at, rows_above, u64_at}
 use Rattle.outcome_spec.specs.Tables.{columns_at}
-use Rattle.outcome_spec.specs.Forms.{Due, begins_with, replies_due, reply_at, entry_behind, is_upkeep, is_worker, is_silent, is_within, replies_within, scan_line, lines_of_scan, lines_begun, scanned_by}
-use Rattle.reply_text.specs.Shown.{is_u32, is_u64, is_who, is_said, is_reply, are_tables}
-use Rattle.reply_text.specs.Readers.{◌>>=◌, where_true, reply_in, behind as behind_front, cut, u64_in, Heading, head_in}
+use Rattle.outcome_spec.specs.Forms.{Due, begins_with, replies_due, reply_at, entry_behind, is_within, replies_within, lines_of_scan, lines_begun, scanned_by}
+use Rattle.reply_text.specs.Shown.{is_u32, is_u64, is_who, are_tables}
+use Rattle.reply_text.specs.Readers.{where_true, behind as behind_front, cut, Heading, head_in}
 use Rattle.reply_text.proofs.PieceLemmas.{step, where_is, gives, cut_is, cut_back, behind_is}
 use Rattle.reply_text.proofs.Spelled.{u64_is, u64_back}
-use Rattle.reply_text.proofs.Readings.{words_spaced, head_is}
+use Rattle.reply_text.proofs.Readings.{head_is}
 use Rattle.reply_text.proofs.SaidBack.{plain_whole}
 use Rattle.reply_text.proofs.RepliesBack.{head_text, head_back}
-use Rattle.timeline_laws.proofs.Lines.{a-word, ended, first_line, lines-alone, lines-of, AreUnbroken, IsSaid, IsRead, reply-unbroken, is_said as is_spoken, reply-read, who-word, all-words, dropped}
+use Rattle.timeline_laws.proofs.Lines.{a-word, ended, first_line, lines-alone, IsSaid, IsRead, reply-unbroken, is_said as is_spoken, reply-read, who-word, all-words}
 use Rattle.timeline_laws.proofs.ReadBack.{NamesPlain, reply-back}
 use Rattle.timeline_laws.proofs.ReadLines.{words_of_line}
 use Rattle.timeline_laws.proofs.ReadNumbers.{plain_decimal, u64_read, u64_small}
 use Rattle.timeline_laws.proofs.Stated.{RowsRise}
-use Rattle.timeline_laws.proofs.Turns.{EachSaid, Found, found-by}
+use Rattle.timeline_laws.proofs.Turns.{EachSaid, found-by}
 use Rattle.output_read.specs.Fronts.{words_at, count_at}
-use Rattle.output_read.proofs.Fitting.{never, row_at_is}
-use Rattle.output_read.proofs.Keys.{absurdly, same-said, same-who, who-same, said_there, may, next, reply_of, IsNarrow, reads-own, begins-own, is-reply}
+use Rattle.output_read.proofs.Fitting.{row_at_is}
+use Rattle.output_read.proofs.Keys.{absurdly, same-who, who-same, said_there, next, reply_of, IsNarrow, reads-own, begins-own, is-reply}
 
 -- ---- the first line of a scan
 

@@ -1,6 +1,6 @@
 -- The reply to a session's command, by what the next line says.
 use Rattle.std.proofs.Common.{◌≡◌, ℕ, ◌+◌, ◌-◌, ◌^◌, ◌<◌, ◌≤◌, Bool, true, false, cond, ◌&&◌, ◌||◌, not, List, [], ◌∷◌, ◌++◌, length, drop, take, map, Option, None, Some, Ok, Err, refl, sym, ap, ◌∙◌, subst, arith, ◌⊎◌, inl, inr}
-use Rattle.std.specs.Prelude.{◌==◌, nat_lt}
+use Rattle.std.specs.Prelude.{◌==◌}
 use Rattle.std.specs.List.{list_all, count_by}
 use Rattle.std.specs.Option.{option_map_or}
 use Rattle.std.proofs.lemmas.Bool.{and_from, and_parts, eq-eqb, lt-ltb}
@@ -34,28 +34,26 @@ use Rattle.workload_spec.specs.declared.reply.Who.{Who}
 use Rattle.workload_spec.specs.declared.reply.Who.TheVariants.{Session}
 use Rattle.workload_spec.specs.declared.reply.Said.{Said}
 use Rattle.workload_spec.specs.declared.reply.Said.TheVariants as said
-use Rattle.workload_spec.specs.ReplyText.{lines_behind}
-use Rattle.workload_spec.specs.Valid.{is_command, is_table, is_table_place}
+use Rattle.workload_spec.specs.Valid.{is_command, is_table_place}
 use Rattle.outcome_spec.specs.Entries.{Entry, is_same}
 use Rattle.outcome_spec.specs.Reading.{words_in, rows_above}
 use Rattle.outcome_spec.specs.Tables.{columns_at}
-use Rattle.outcome_spec.specs.Forms.{Due, entry_behind, line_count, lines_begun, lines_of_scan, may_be_silent, next_line, reply_at, is_within, is_upkeep, scanned_by, within_behind}
-use Rattle.reply_text.specs.Shown.{is_u32, is_u64, are_tables}
+use Rattle.outcome_spec.specs.Forms.{Due, entry_behind, line_count, lines_begun, lines_of_scan, next_line, reply_at, is_within, is_upkeep, scanned_by, within_behind}
+use Rattle.reply_text.specs.Shown.{are_tables}
 use Rattle.timeline_laws.proofs.ReadBack.{NamesPlain}
 use Rattle.output_read.specs.declared.kept.KeptReply.{KeptReply}
 use Rattle.output_read.specs.declared.reader.Reader.{Reader}
 use Rattle.output_read.specs.declared.sessions.Thread.{Thread}
-use Rattle.output_read.specs.Answers.{answers, may_say}
+use Rattle.output_read.specs.Answers.{answers}
 use Rattle.output_read.specs.Fronts.{said_at, said_first, count_at, count_first, is_single}
 use Rattle.output_read.specs.Kept.{entry_of, is_told, said_of}
-use Rattle.output_read.specs.Readers.{IsReading, Passes, FailsAt, read_by, lines_left, is_of, next_index}
-use Rattle.output_read.specs.Threads.{IsThread, NoCount, Adds, ThreadGoes, session_due}
+use Rattle.output_read.specs.Readers.{IsReading, FailsAt, read_by, lines_left, is_of, next_index}
+use Rattle.output_read.specs.Threads.{IsThread, NoCount, ThreadGoes, session_due}
 use Rattle.output_read.proofs.Fitting.{never}
-use Rattle.output_read.proofs.Answering.{IsListed}
 use Rattle.output_read.proofs.Keys.{absurdly, same-said, who-same, said_there, may, next, IsNarrow, matches, misses, alone}
 use Rattle.output_read.proofs.Scans.{scan-misses, scan-unbegun, scan-matches, scan-begun, rows_of}
 use Rattle.output_read.proofs.Names.{names-plain, tables-valid, command-listed, IsNoScan}
-use Rattle.output_read.proofs.Keeping.{Kept, read-more, still-reading, passes, fails-at, fails-end, next-index, within-more, index-few}
+use Rattle.output_read.proofs.Keeping.{Kept, read-more, still-reading, passes, fails-anew, fails-at, fails-end, next-index, within-more, index-few}
 
 -- ---- the first of lines
 
@@ -203,7 +201,7 @@ module _ (old : Reader) (thread : Thread) (asked : Command) (are : are_tables ol
   -- the line says nothing that may be said
   pub single-fails : (lines : List (List ℕ)) → lines_left old ≡ lines → NoCount (scanned_by thread.within asked) (count_first thread.round who heading lines)
       → ((told : Said) → Some told ≡ said_first T thread.round who heading lines → answers T thread.within asked told ≡ true → ⊥) → FailsAt old (due ∷ []) old.line
-  single-fails [] front no_count none = fails-end old due reading refl front
+  single-fails [] front no_count none = fails-anew old (due ∷ []) old.line (fails-end old due reading refl front)
   single-fails (line ∷ behind) front no_count none = by (scanned_by thread.within asked) refl no_count
     where
       says-nothing : (told : Said) → said_there T are E due line ≡ Some told → may T are E due told ≡ true → ⊥
@@ -211,11 +209,11 @@ module _ (old : Reader) (thread : Thread) (asked : Command) (are : are_tables ol
 
       by : (o : Option ℕ) → scanned_by thread.within asked ≡ o → NoCount o (count_first thread.round who heading (line ∷ behind)) → FailsAt old (due ∷ []) old.line
       by None is c =
-          zero-fails (fails-at old due line behind 0 reading refl front
+          zero-fails (λ rest anew. fails-at old due line behind 0 reading refl front
           (misses T are E due (narrow-of asked) line behind
           (λ up. command-listed T (Rattle.std.proofs.Common.drop 3 (words_in line)) behind (tables-valid T are) asked valid (no-scan (is_within who E) asked (scanned-is None is) up))
           says-nothing)
-          (unscanned-begun line behind is))
+          (unscanned-begun line behind is) rest)
       by (Some table) is c =
           let s = scans thread.within asked table is in
           let within : is_within who E ≡ true = sym is_thread.within ∙ s.is_within in
@@ -226,7 +224,7 @@ module _ (old : Reader) (thread : Thread) (asked : Command) (are : are_tables ol
           (λ memory. none said.Memory (sym (ap (λ (n : ℕ). said_at T thread.round who n line) is_thread.index ∙ memory)) (ap (λ (b : Bool). answers T b asked said.Memory) s.is_within ∙ ap (λ (a : Command). answers T true a said.Memory) s.is_scan))
           (λ n counted many. absurdly (sym counted ∙ count)) in
           let begun : lines_begun T E d line behind ≡ 0 = scan-unbegun T are plain E thread.round thread.session table within (narrow-of (command.Scan table)) line behind count in
-          zero-fails (subst (λ (a : Command). FailsAt old (session_due thread a ∷ []) (old.line + 0)) (sym s.is_scan) (fails-at old d line behind 0 reading refl front at begun))
+          zero-fails (subst (λ (a : Command). FailsAt old (session_due thread a ∷ []) (old.line + 0)) (sym s.is_scan) (λ rest anew. fails-at old d line behind 0 reading refl front at begun rest))
 
   -- nothing is said
   pub nothing-fails : None ≡ said_first T thread.round who heading (lines_left old) → NoCount (scanned_by thread.within asked) (count_first thread.round who heading (lines_left old)) → FailsAt old (due ∷ []) old.line
@@ -351,7 +349,7 @@ module _ (old : Reader) (thread : Thread) (asked : Command) (are : are_tables ol
             omega (arith, whole, same, short, few)) in
             let begun : lines_begun T E scan_due line behind ≡ 1 + many =
             scan-begun T are plain E thread.round thread.session table in_transaction line behind count counted-there ∙ ap (λ (n : ℕ). 1 + n) rows-many in
-            as_scan (λ dues anew. fails-at old scan_due line behind (1 + many) reading refl front at begun dues anew ∙ ap Err (let e : old.line + (1 + many) ≡ old.line + 1 + many = omega arith in e))
+            as_scan (λ dues anew. fails-at old scan_due line behind (1 + many) reading refl front at begun dues ∙ ap Err (let e : old.line + (1 + many) ≡ old.line + 1 + many = omega arith in e))
 
         -- all are there
         module _ (full : many ≡ count) where

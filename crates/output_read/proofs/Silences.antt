@@ -1,22 +1,17 @@
 -- A worker's steps that may be silent: which of them may be next is known by where the first of them is.
-use Rattle.std.proofs.Common.{◌≡◌, ℕ, ◌+◌, ◌≤◌, ◌<◌, Bool, true, false, cond, ◌&&◌, ◌||◌, not, List, [], ◌∷◌, ◌++◌, length, drop, map, Option, None, Some, Ok, Err, refl, sym, ap, ◌∙◌, subst, arith, append-nil, append_assoc, suc, zero, max}
-use Rattle.std.specs.Prelude.{Result, if◌then◌else◌}
-use Rattle.std.specs.List.{list_all, flat_map, range_with_len}
+use Rattle.std.proofs.Common.{◌≡◌, ℕ, ◌+◌, ◌≤◌, Bool, true, false, cond, List, [], ◌∷◌, ◌++◌, length, drop, Option, None, Some, Ok, Err, refl, sym, ap, ◌∙◌, subst, arith, append_assoc, suc, zero, max}
+use Rattle.std.specs.Prelude.{if◌then◌else◌}
+use Rattle.std.specs.List.{flat_map, range_with_len}
 use Rattle.std.proofs.lemmas.List.{map-append}
 use Rattle.cell_model.specs.declared.table.TableDecl.{TableDecl}
 use Rattle.workload_spec.specs.declared.command.Command.{Command}
 use Rattle.workload_spec.specs.declared.command.Command.TheVariants as command
-use Rattle.workload_spec.specs.declared.reply.Who.{Who}
-use Rattle.workload_spec.specs.declared.reply.Who.TheVariants.{Session, Worker}
-use Rattle.workload_spec.specs.declared.reply.Said.{Said}
+use Rattle.workload_spec.specs.declared.reply.Who.TheVariants.{Worker}
 use Rattle.outcome_spec.specs.Entries.{Entry}
-use Rattle.outcome_spec.specs.Forms.{Due, dues_to, further, line_count, lines_begun, may_be_silent, is_seal_or_gather, is_upkeep, is_within, next_line, reading, reply_at, entry_behind, scanned_by}
-use Rattle.reply_text.specs.Shown.{is_u32, is_u64, is_who, are_tables}
-use Rattle.timeline_laws.proofs.ReadBack.{NamesPlain}
-use Rattle.output_read.proofs.Fitting.{never}
+use Rattle.outcome_spec.specs.Forms.{Due, dues_to, further, line_count, lines_begun, is_seal_or_gather, next_line, reading, reply_at, scanned_by}
 use Rattle.output_read.proofs.Answering.{IsListed}
-use Rattle.output_read.proofs.Keys.{absurdly, same-said, said_there, may, next, IsNarrow, matches, misses}
-use Rattle.output_read.proofs.Walks.{Reading, Late, late, late-less, late-further, late-first, late-last, further-assoc, further-self, next-more, either, passed, taken, failed, missing, silenced}
+use Rattle.output_read.proofs.Keys.{absurdly, same-said}
+use Rattle.output_read.proofs.Walks.{Reading, Late, late, late-less, late-first, late-last, further-assoc, further-self, next-more, either, passed, silenced}
 
 -- what a worker's step is due
 abbrev pub step_due : ℕ → ℕ → Command → Due
@@ -41,7 +36,7 @@ Covers a b = further a b ≡ a
 covers-more : (a b c : Reading) → Covers b c → Covers (further a b) c
 covers-more a b c h = further-assoc a b c ∙ ap (further a) h
 
-no-first : (r : Reading) → further r (Err 0) ≡ r
+pub no-first : (r : Reading) → further r (Err 0) ≡ r
 no-first (Ok entries) = refl
 no-first (Err line) = ap Err (let e : max line 0 ≡ line = omega arith in e)
 

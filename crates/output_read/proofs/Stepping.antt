@@ -1,9 +1,9 @@
 -- A line of a worker's step, and what is read behind it.
-use Rattle.std.proofs.Common.{◌≡◌, ℕ, ◌+◌, ◌-◌, ◌≤◌, ◌<◌, ◌^◌, Bool, true, false, cond, ◌&&◌, ◌||◌, not, List, [], ◌∷◌, ◌++◌, length, drop, take, Option, None, Some, Ok, Err, refl, sym, ap, ◌∙◌, subst, arith, suc, zero, ◌⊎◌, inl, inr}
-use Rattle.std.specs.Prelude.{Result, ◌==◌, nat_lt, is_some, slice_get, bytes_eq, decimal, codes, slice_index_or, if◌then◌else◌}
-use Rattle.std.specs.List.{list_all, starts_with}
+use Rattle.std.proofs.Common.{◌≡◌, ℕ, ◌+◌, ◌-◌, ◌≤◌, ◌<◌, Bool, true, false, cond, ◌&&◌, ◌||◌, not, List, [], ◌∷◌, ◌++◌, length, drop, take, Option, None, Some, Err, refl, sym, ap, ◌∙◌, subst, arith, suc, zero, ◌⊎◌, inl, inr}
+use Rattle.std.specs.Prelude.{◌==◌, nat_lt, bytes_eq, decimal, codes, slice_index_or}
+use Rattle.std.specs.List.{list_all}
 use Rattle.std.specs.Option.{option_map_or}
-use Rattle.std.proofs.lemmas.Bool.{and_parts, and_from, eqb-true, eq-eqb, ne_eqb, ltb-true, ltb-false, lt-ltb}
+use Rattle.std.proofs.lemmas.Bool.{eqb-true, eq-eqb, ne_eqb, ltb-true, ltb-false}
 use Rattle.std.proofs.lemmas.Slice.Eq.{bytes_eq-Decides}
 use Rattle.cell_model.specs.declared.table.TableDecl.{TableDecl}
 use Rattle.workload_spec.specs.declared.command.Command.{Command}
@@ -13,28 +13,28 @@ use Rattle.workload_spec.specs.declared.reply.Who.{Who}
 use Rattle.workload_spec.specs.declared.reply.Who.TheVariants.{Session, Worker}
 use Rattle.workload_spec.specs.declared.reply.Said.{Said}
 use Rattle.workload_spec.specs.declared.reply.Said.TheVariants as said
-use Rattle.workload_spec.specs.Valid.{is_table, is_table_place}
-use Rattle.workload_spec.specs.ReplyText.{said_words, lines_behind, who_text}
+use Rattle.workload_spec.specs.Valid.{is_table}
+use Rattle.workload_spec.specs.ReplyText.{said_words, who_text}
 use Rattle.outcome_spec.specs.Entries.{Entry}
 use Rattle.outcome_spec.specs.Reading.{words_in, u64_at, rows_above}
 use Rattle.outcome_spec.specs.Tables.{blocks_at, columns_at}
 use Rattle.outcome_spec.specs.Forms.{Due, next_line, reading, reply_at, entry_behind, lines_begun, lines_of_scan, scan_line, scanned_by, is_seal_or_gather, is_upkeep, is_within, is_silent, is_worker, may_be_silent}
-use Rattle.reply_text.specs.Shown.{is_u32, is_u64, is_who, is_said, are_tables}
+use Rattle.reply_text.specs.Shown.{is_u32, is_u64, is_who, are_tables}
 use Rattle.timeline_laws.proofs.Lines.{first_line, all-words, a-word, said-words, IsSaid}
 use Rattle.timeline_laws.proofs.ReadBack.{NamesPlain}
 use Rattle.timeline_laws.proofs.ReadLines.{words_of_line}
 use Rattle.timeline_laws.proofs.ReadNumbers.{is_digit_byte, digits_decimal, plain_decimal}
 use Rattle.timeline_laws.proofs.Turns.{StepSaid, or-last, any-found, begin-found, session-not-step, begin-not-step, step-is-said}
 use Rattle.output_read.specs.declared.turns.NextSteps.{NextSteps}
-use Rattle.output_read.specs.Answers.{answers_within, answers_without, may_say}
-use Rattle.output_read.specs.Turns.{one_more, next_table, after_memory, may_seal, may_gather, next_steps, begins_turn, begins_anew}
+use Rattle.output_read.specs.Answers.{answers_within, answers_without}
+use Rattle.output_read.specs.Turns.{begins_turn, begins_anew}
 use Rattle.output_read.proofs.Fitting.{never}
 use Rattle.output_read.proofs.Answering.{IsListed}
-use Rattle.output_read.proofs.Keys.{absurdly, same-said, said_there, may, next, reply_of, IsNarrow, matches, misses, said-is, one-text}
-use Rattle.output_read.proofs.Walks.{Reading, taken, failed, missing}
+use Rattle.output_read.proofs.Keys.{same-said, said_there, may, next, IsNarrow, matches, misses}
+use Rattle.output_read.proofs.Walks.{Reading, failed}
 use Rattle.output_read.proofs.Scans.{scan_text}
-use Rattle.output_read.proofs.Silences.{step_due, first_hit, blocks_of, AreQuiet, AllQuiet, joined, from_steps, beyond, beyond-is, further_on, lines_left, now_read, NoneHit, one-here, one-later, one-none, all-none, compact-hit, compact-next, compact-none}
-use Rattle.output_read.proofs.Placing.{blocks_from, blocks-whole, miss-one, hit-one, steps_left, none-says, memory-says, seal-says, gather-says, seal-none, gather-none, decl_at, entries_at, entries-first, blocks-is, has-blocks, entries-none, few-blocks, entry-quiet, InTurn, left-quiet, quiet-next, from_next, joined-cap}
+use Rattle.output_read.proofs.Silences.{step_due, first_hit, blocks_of, AllQuiet, from_steps, beyond, beyond-is, NoneHit, one-here, one-later, one-none, all-none}
+use Rattle.output_read.proofs.Placing.{blocks_from, steps_left, none-says, seal-says, gather-says, seal-none, gather-none, decl_at, entries_at, entries-first, has-blocks, entries-none, InTurn, left-quiet, quiet-next, from_next}
 
 -- ---- a worker's line is none of a session's, nor of what begins a turn
 

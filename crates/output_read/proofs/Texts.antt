@@ -1,25 +1,22 @@
 -- The first line of a text, and what it says.
-use Rattle.std.proofs.Common.{◌≡◌, ℕ, Bool, true, false, cond, ◌&&◌, not, List, [], ◌∷◌, ◌++◌, length, drop, Option, None, Some, refl, sym, ap, ◌∙◌, subst, ◌⊎◌, inl, inr}
+use Rattle.std.proofs.Common.{◌≡◌, ℕ, Bool, true, false, cond, ◌&&◌, not, List, [], ◌∷◌, ◌++◌, length, Option, None, Some, refl, sym, ap, ◌∙◌, ◌⊎◌, inl, inr}
 use Rattle.std.specs.Prelude.{◌==◌, bytes_eq, codes, option_map, if◌then◌else◌}
 use Rattle.std.specs.List.{list_all}
-use Rattle.std.proofs.lemmas.Bool.{and_parts, and_from, eqb-true, ne_eqb, eq-eqb}
+use Rattle.std.proofs.lemmas.Bool.{and_parts, and_from, eqb-true}
 use Rattle.cell_model.specs.declared.table.TableDecl.{TableDecl}
-use Rattle.workload_spec.specs.declared.reply.ReplyLine.{ReplyLine}
 use Rattle.workload_spec.specs.declared.reply.Who.{Who}
 use Rattle.workload_spec.specs.declared.reply.Said.{Said}
 use Rattle.workload_spec.specs.declared.reply.Said.TheVariants as said
 use Rattle.workload_spec.specs.Reading.{parts, parted, onto_first}
-use Rattle.workload_spec.specs.ReplyText.{said_words}
 use Rattle.workload_spec.specs.Words.{line_feed, spaced, cell_words}
-use Rattle.workload_laws.proofs.Apart.{is_whole}
 use Rattle.outcome_spec.specs.Entries.{is_same}
-use Rattle.outcome_spec.specs.Lines.{lines_of, with_byte}
+use Rattle.outcome_spec.specs.Lines.{lines_of}
 use Rattle.reply_text.specs.Readers.{◌>>=◌, where_true, behind, cut, u64_in, Heading, head_in, row_in, told_in, said_in, scanned_in, reply_in}
-use Rattle.reply_text.proofs.PieceLemmas.{step, where_is, gives, cut_back, mapped}
+use Rattle.reply_text.proofs.PieceLemmas.{step, where_is, cut_back}
 use Rattle.reply_text.proofs.RowsBack.{row_back}
-use Rattle.reply_text.proofs.SaidSound.{said_is, row_words, IsRowOf}
+use Rattle.reply_text.proofs.SaidSound.{said_is}
 use Rattle.timeline_laws.proofs.ReadLines.{lines_behind_first}
-use Rattle.output_read.specs.Fronts.{IsSaidBy, has_head, said_at, words_at, words_behind, said_first, words_first, count_at}
+use Rattle.output_read.specs.Fronts.{IsSaidBy, has_head, said_at, words_at, words_behind, said_first, words_first}
 use Rattle.output_read.proofs.Fitting.{never}
 
 -- the first line, and what stands behind it

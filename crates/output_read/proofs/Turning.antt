@@ -1,13 +1,12 @@
 -- What a worker's step says tells which steps may be next behind it.
-use Rattle.std.proofs.Common.{◌≡◌, ℕ, ◌+◌, ◌-◌, ◌≤◌, ◌<◌, ◌^◌, Bool, true, false, cond, ◌&&◌, ◌||◌, not, List, [], ◌∷◌, ◌++◌, length, drop, take, Option, None, Some, Ok, Err, refl, sym, ap, ◌∙◌, subst, arith, suc, zero, ◌⊎◌, inl, inr}
-use Rattle.std.specs.Prelude.{Result, ◌==◌, nat_lt}
+use Rattle.std.proofs.Common.{◌≡◌, ℕ, ◌+◌, ◌-◌, ◌≤◌, ◌<◌, Bool, true, false, cond, ◌&&◌, ◌||◌, not, List, [], ◌∷◌, ◌++◌, length, drop, Option, None, Some, Err, refl, sym, ap, ◌∙◌, subst, arith, suc, zero}
+use Rattle.std.specs.Prelude.{◌==◌, nat_lt}
 use Rattle.std.specs.List.{list_all}
-use Rattle.std.proofs.lemmas.Bool.{and_parts, and_from, eqb-true, eq-eqb, ne_eqb, ltb-true, ltb-false, lt-ltb}
+use Rattle.std.proofs.lemmas.Bool.{and_parts, and_from, eqb-true, ltb-true, ltb-false, lt-ltb}
 use Rattle.std.proofs.lemmas.Bool.Decides.{nat_tests}
 use Rattle.cell_model.specs.declared.table.TableDecl.{TableDecl}
 use Rattle.workload_spec.specs.declared.command.Command.{Command}
 use Rattle.workload_spec.specs.declared.command.Command.TheVariants as command
-use Rattle.workload_spec.specs.declared.reply.Who.TheVariants.{Session, Worker}
 use Rattle.workload_spec.specs.declared.reply.Said.{Said}
 use Rattle.workload_spec.specs.declared.reply.Said.TheVariants as said
 use Rattle.workload_spec.specs.Valid.{is_table}
@@ -17,13 +16,12 @@ use Rattle.outcome_spec.specs.Forms.{Due, line_count, next_line, reading, reply_
 use Rattle.reply_text.specs.Shown.{is_u32, is_u64, are_tables}
 use Rattle.timeline_laws.proofs.ReadBack.{NamesPlain}
 use Rattle.output_read.specs.declared.turns.NextSteps.{NextSteps}
-use Rattle.output_read.specs.Turns.{one_more, next_table, after_memory, may_seal, may_gather, next_steps}
-use Rattle.output_read.proofs.Fitting.{never}
+use Rattle.output_read.specs.Turns.{one_more, next_table, may_seal, may_gather, next_steps}
 use Rattle.output_read.proofs.Keys.{said_there}
 use Rattle.output_read.proofs.Walks.{Reading, taken}
 use Rattle.output_read.proofs.Silences.{first_hit, blocks_of, AreQuiet, AllQuiet, joined, from_steps, compact-hit, compact-next, compact-none}
-use Rattle.output_read.proofs.Placing.{blocks_from, blocks-whole, miss-one, hit-one, steps_left, none-says, memory-says, decl_at, entries_at, entries-first, entries-none, has-blocks, InTurn, left-quiet, quiet-next, from_next, joined-cap}
-use Rattle.output_read.proofs.Stepping.{due_of, there, narrow, says, says-is, the_entry, found, found-quiet, missed, step-begun, outcome, now, later, one-read, seal-range, gather-range}
+use Rattle.output_read.proofs.Placing.{blocks_from, blocks-whole, miss-one, hit-one, steps_left, none-says, memory-says, decl_at, entries_at, entries-first, entries-none, InTurn, left-quiet, quiet-next, joined-cap}
+use Rattle.output_read.proofs.Stepping.{due_of, there, says, says-is, the_entry, found, found-quiet, missed, step-begun, outcome, now, later, one-read, seal-range, gather-range}
 
 -- ---- tests
 

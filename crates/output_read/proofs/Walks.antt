@@ -1,10 +1,9 @@
 -- Ways of reading, one due after the other.
-use Rattle.std.proofs.Common.{◌≡◌, ℕ, ◌+◌, ◌≤◌, ◌<◌, Bool, true, false, cond, ◌&&◌, List, [], ◌∷◌, ◌++◌, length, drop, Option, None, Some, Ok, Err, refl, sym, ap, ◌∙◌, subst, arith, max}
-use Rattle.std.specs.Prelude.{Result, sum_by}
+use Rattle.std.proofs.Common.{◌≡◌, ℕ, ◌+◌, ◌≤◌, Bool, true, false, cond, ◌&&◌, List, [], ◌∷◌, ◌++◌, drop, Option, None, Some, Ok, Err, refl, ap, ◌∙◌, arith, max}
+use Rattle.std.specs.Prelude.{Result}
 use Rattle.std.specs.List.{list_all}
 use Rattle.std.proofs.lemmas.List.Sums.{sum_by_push}
 use Rattle.cell_model.specs.declared.table.TableDecl.{TableDecl}
-use Rattle.workload_spec.specs.ReplyText.{reply_lines}
 use Rattle.outcome_spec.specs.Entries.{Entry}
 use Rattle.outcome_spec.specs.Forms.{Due, further, line_count, lines_begun, may_be_silent, next_line, reading, reply_at}
 

@@ -1,12 +1,12 @@
 -- What the first of lines says, as a line of one reply.
-use Rattle.std.specs.Prelude.{ℕ, ◌<◌, ◌≡◌, true, false, Bool, ◌&&◌, ◌==◌, List, [], ◌∷◌, length, drop, Option, None, Some, bytes_eq, codes}
+use Rattle.std.specs.Prelude.{ℕ, ◌≡◌, true, false, Bool, ◌&&◌, ◌==◌, List, [], ◌∷◌, Option, None, Some, bytes_eq, codes}
 use Rattle.cell_model.specs.declared.table.TableDecl.{TableDecl}
 use Rattle.workload_spec.specs.declared.reply.ReplyLine.{ReplyLine}
 use Rattle.workload_spec.specs.declared.reply.Who.{Who}
 use Rattle.workload_spec.specs.declared.reply.Said.{Said}
 use Rattle.workload_spec.specs.declared.reply.Said.TheVariants as said
 use Rattle.workload_spec.specs.Words.{line_feed}
-use Rattle.reply_text.specs.Readers.{◌>>=◌, where_true, behind, cut, u64_in, Heading, head_in, row_in, told_in, reply_in}
+use Rattle.reply_text.specs.Readers.{◌>>=◌, where_true, behind, cut, u64_in, head_in, row_in, reply_in}
 use Rattle.outcome_spec.specs.Entries.{is_same}
 
 -- the reply has this round, session or worker, and index

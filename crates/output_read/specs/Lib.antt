@@ -1,7 +1,10 @@
 pub mod Answers
 pub mod Fronts
 pub mod Kept
+pub mod Order
 pub mod Readers
+pub mod Rounds
 pub mod Rows
 pub mod Threads
 pub mod Turns
+pub mod Work

@@ -1,6 +1,5 @@
 -- How far an output was read, and what is read from there on.
-use Rattle.std.specs.Prelude.{ℕ, ◌+◌, ◌^◌, ◌<◌, ◌≤◌, ◌≡◌, Bool, true, ◌&&◌, ◌==◌, List, [], ◌∷◌, ◌++◌, length, count_by, Result, Ok, Err}
-use Rattle.std.specs.List.{list_all}
+use Rattle.std.specs.Prelude.{ℕ, ◌+◌, ◌^◌, ◌<◌, ◌≤◌, ◌≡◌, Bool, true, ◌&&◌, ◌==◌, List, ◌++◌, length, count_by, Result, Ok, Err}
 use Rattle.workload_spec.specs.declared.reply.Who.{Who}
 use Rattle.outcome_spec.specs.Entries.{Entry, is_same}
 use Rattle.outcome_spec.specs.Lines.{lines_of}
@@ -33,6 +32,13 @@ pub record IsReading (reader : Reader) : Type 0 where
 -- What was due was read: from here on the rest is read as from there with it, if the rest begins anew.
 abbrev pub Passes : Reader → Reader → List Due → Type 0
 Passes old new passed = (dues : List Due) → begins_anew dues ≡ true → reads old (passed ++ dues) ≡ reads new dues
+
+-- the same, whatever the rest
+abbrev pub PassesAll : Reader → Reader → List Due → Type 0
+PassesAll old new passed = (dues : List Due) → reads old (passed ++ dues) ≡ reads new dues
+
+abbrev pub FailsAll : Reader → List Due → ℕ → Type 0
+FailsAll old passed line = (dues : List Due) → reads old (passed ++ dues) ≡ Err line
 
 -- With these dues it fails at this line.
 abbrev pub FailsAt : Reader → List Due → ℕ → Type 0

@@ -2,11 +2,13 @@
 use Rattle.std.specs.Prelude.{ℕ, ◌+◌, ◌<◌, ◌^◌, ◌≡◌, Bool, true, List, [], ◌∷◌, ◌++◌, Option, None, Some}
 use Rattle.workload_spec.specs.declared.command.Command.{Command}
 use Rattle.workload_spec.specs.declared.reply.Who.{Who}
-use Rattle.workload_spec.specs.declared.reply.Who.TheVariants.{Session, Worker}
+use Rattle.workload_spec.specs.declared.reply.Who.TheVariants.{Session}
 use Rattle.outcome_spec.specs.Entries.{Entry}
-use Rattle.outcome_spec.specs.Forms.{Due, is_within}
+use Rattle.outcome_spec.specs.Forms.{Due, commands_of, dues_to, is_within}
 use Rattle.output_read.specs.declared.reader.Reader.{Reader}
 use Rattle.output_read.specs.declared.sessions.Thread.{Thread}
+use Rattle.workload_spec.specs.declared.script.Line.{Line}
+use Rattle.output_read.specs.Order.{AddsAll}
 use Rattle.output_read.specs.Readers.{IsReading, Passes, is_of, next_index, read_by}
 
 -- what is due to a session
@@ -39,3 +41,23 @@ pub record ThreadGoes (old new : Reader) (thread after : Thread) (asked : Comman
   pub session : after.session ≡ thread.session
   pub passes : Passes old new (session_due thread asked ∷ [])
   pub adds : Adds old new thread.round (Session thread.session)
+
+-- what is due of a line of the round
+abbrev pub line_dues : Thread → Line → List Due
+line_dues thread line = dues_to thread.round (Session thread.session) (commands_of thread.session (line ∷ []))
+
+-- What was due of a line was read.
+pub record LineGoes (old new : Reader) (thread after : Thread) (line : Line) : Type 0 where
+  pub reading : IsReading new
+  pub thread_on : IsThread after (read_by new)
+  pub round : after.round ≡ thread.round
+  pub session : after.session ≡ thread.session
+  pub passes : Passes old new (line_dues thread line)
+  pub adds : AddsAll old new thread.round (Session thread.session)
+
+-- What was due to a session in a round was read.
+pub record SessionGoes (old new : Reader) (round session : ℕ) (within : Bool) (lines : List Line) : Type 0 where
+  pub reading : IsReading new
+  pub within_is : within ≡ is_within (Session session) (read_by new)
+  pub passes : Passes old new (dues_to round (Session session) (commands_of session lines))
+  pub adds : AddsAll old new round (Session session)

@@ -5,9 +5,12 @@ mod answers;
 mod fault;
 pub mod kept;
 mod reader;
+mod rounds;
 mod rows;
 mod sessions;
 mod turns;
+mod workers;
 
 pub use fault::ReadFault;
 pub use kept::{KeptReply, Told};
+pub use rounds::read_output;

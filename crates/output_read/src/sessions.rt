@@ -3,10 +3,12 @@ ghost use Rattle.std.specs.Prelude.{◌≡◌, ◌<◌, ◌+◌, ◌^◌, [], �
 ghost use Rattle.workload_spec.specs.Valid.{is_command};
 ghost use Rattle.workload_spec.specs.declared.reply.Who.TheVariants.{Session as SessionWho};
 ghost use Rattle.reply_text.specs.Shown.{are_tables};
-ghost use Rattle.outcome_spec.specs.Forms.{scanned_by, within_behind};
+ghost use Rattle.outcome_spec.specs.Forms.{commands_of, dues_to, is_within, scanned_by, within_behind};
 ghost use Rattle.output_read.specs.Fronts.{count_first};
 ghost use Rattle.output_read.specs.Readers.{FailsAt, IsReading, OnLine, lines_left, read_by};
-ghost use Rattle.output_read.specs.Threads.{IsThread, NoCount, ThreadGoes, session_due};
+ghost use Rattle.output_read.specs.Threads.{IsThread, NoCount, LineGoes, SessionGoes, ThreadGoes, line_dues, session_due};
+ghost use Rattle.output_read.specs.Order.{are_ahead};
+ghost use Rattle.std.specs.List.{list_all};
 
 use crate::answers::answers;
 use crate::fault::ReadFault;
@@ -14,7 +16,7 @@ use crate::kept::Told;
 use crate::reader::{Front, Heading, Reader, count_first, said_first, told_of};
 use crate::rows::rows_above;
 use std::alloc::Global;
-use workload_spec::{Command, Said, Who};
+use workload_spec::{Command, Line, Said, Who};
 
 /// The replies to a session in a round: how many were read, and whether it is in a transaction.
 #[derive(Clone, Copy)]
@@ -47,6 +49,61 @@ fn within_behind(within: bool, said: &Said) -> bool
 }
 
 impl<'a> Reader<'a> {
+    /// Reads the replies to a session in a round, and tells whether it is in a transaction behind
+    /// them.
+    pub fn session_replies(
+        &mut self,
+        alloc: Global,
+        round: u32,
+        session: u32,
+        within: bool,
+        lines: &'a [Line],
+    ) -> Result<bool, ReadFault>
+        requires tables { are_tables self.old.tables.now ≡ true }
+        requires few { length self.old.tables.now < 2 ^ 32 }
+        requires reading { IsReading self.old }
+        requires ahead { are_ahead round (SessionWho session) (read_by self.old) ≡ true }
+        requires within { within ≡ is_within (SessionWho session) (read_by self.old) }
+        requires lines { list_all (λ line. is_command self.old.tables.now line.command) lines.now ≡ true }
+        ensures tables { self.new.tables.now ≡ self.old.tables.now }
+        ensures read { IfOk result (λ after. SessionGoes self.old self.new round session after lines.now) }
+        ensures failed { OnLine result (FailsAt self.old (dues_to round (SessionWho session) (commands_of session lines.now))) }
+    {
+        let mut thread = Thread {
+            round,
+            session,
+            index: 0,
+            within,
+        };
+        for line in lines {
+            thread = self.line_reply(alloc, thread, line)?;
+        }
+        Ok(thread.within)
+    }
+
+    /// Reads the reply to a line of a round, where it is the session's.
+    fn line_reply(
+        &mut self,
+        alloc: Global,
+        thread: Thread,
+        line: &'a Line,
+    ) -> Result<Thread, ReadFault>
+        requires tables { are_tables self.old.tables.now ≡ true }
+        requires few { length self.old.tables.now < 2 ^ 32 }
+        requires reading { IsReading self.old }
+        requires thread { IsThread thread (read_by self.old) }
+        requires command { is_command self.old.tables.now line.now.command ≡ true }
+        ensures tables { self.new.tables.now ≡ self.old.tables.now }
+        ensures read { IfOk result (λ after. LineGoes self.old self.new thread after line.now) }
+        ensures failed { OnLine result (FailsAt self.old (line_dues thread line.now)) }
+    {
+        if line.session == thread.session {
+            self.session_reply(alloc, thread, &line.command)
+        } else {
+            Ok(thread)
+        }
+    }
+
     /// Reads the reply to a command of a session.
     pub fn session_reply(
         &mut self,

@@ -14,7 +14,7 @@ pub use lines::{print_line, put_line};
 pub use pieces::behind;
 pub use reading::{head_in, read_line, told_in};
 pub use refusal::put_refusal;
-pub use rows::row_in;
+pub use rows::{row_in, rows_in};
 
 #[cfg(test)]
 mod tests;

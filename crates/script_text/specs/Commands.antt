@@ -1,6 +1,7 @@
 -- What is read of a command's words, as a reader goes through them.
 use Rattle.std.specs.Prelude.{ℕ, Bool, ◌&&◌, not, ◌∷◌, List, Result, Ok}
 use Rattle.cell_model.specs.declared.cell.Cell.{Cell}
+use Rattle.cell_model.specs.declared.cell.Cell.TheVariants.{Num}
 use Rattle.cell_model.specs.declared.column.Column.{Column}
 use Rattle.cell_model.specs.declared.table.TableDecl.{TableDecl}
 use Rattle.workload_spec.specs.declared.command.Command.{Command}
@@ -9,11 +10,15 @@ use Rattle.workload_spec.specs.declared.script.Cause.{Cause}
 use Rattle.workload_spec.specs.declared.script.Cause.TheVariants as cause
 use Rattle.workload_spec.specs.declared.script.Line.{Line}
 use Rattle.workload_spec.specs.Valid.{is_export}
-use Rattle.workload_spec.specs.Grammar.{◌>>=◌, or_cause, rule, word, no_word, number, cells_of, form_of, formed}
+use Rattle.workload_spec.specs.Grammar.{◌>>=◌, or_cause, rule, word, no_word, number, key_in, cells_of, form_of, formed}
 
 -- the row of a key's cell and of the words of the further columns
 abbrev pub row_read : List Column → Cell → List (List ℕ) → Result (List Cell) Cause
 row_read columns key words = cells_of columns words >>= λ cells. Ok (key ∷ cells)
+
+-- the row of a key's word and of the words of the further columns
+abbrev pub keyed_row : List Column → List ℕ → List (List ℕ) → Result (List Cell) Cause
+keyed_row columns key_word words = key_in key_word >>= λ key. row_read columns (Num key) words
 
 -- the command, where no word is left
 abbrev pub alone_read : Command → List (List ℕ) → Result Command Cause

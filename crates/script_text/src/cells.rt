@@ -1,5 +1,5 @@
 //! Cells: the words that are a value of a column, or none.
-ghost use Rattle.std.specs.Prelude.{◌≡◌, IfOk};
+ghost use Rattle.std.specs.Prelude.{◌≡◌, ◌+◌, IfOk, length};
 ghost use Rattle.workload_spec.specs.declared.script.Cause.TheVariants as cause;
 ghost use Rattle.workload_spec.specs.Reading.{cell_of};
 ghost use Rattle.workload_spec.specs.Grammar.{or_cause};
@@ -15,9 +15,16 @@ use std::alloc::{AllocError, Global};
 use word_read::{blob_of, integer, text_of, truth_of, word_behind};
 use workload_spec::Cause;
 
-/// The row of a key's cell and the words of the further columns.
-pub fn row_of(alloc: Global, key: Cell, columns: &[Column], words: &[u8]) -> Result<Row, WordFault>
-    ensures { Gives (λ row. row) result (row_read columns.now key (words_behind words.now)) }
+/// The row of a key's cell and the words of the further columns, and what stands behind them. It is
+/// short where words are missing.
+pub fn row_of<'a>(
+    alloc: Global,
+    key: Cell,
+    columns: &[Column],
+    words: &'a [u8],
+) -> Result<(Row, &'a [u8]), WordFault>
+    ensures row { Gives (λ x. x.0) result (row_read columns.now key (words_behind words.now)) }
+    ensures taken { IfOk result (λ x. length x.0 + length (words_behind x.1.now) ≡ length (words_behind words.now) + 1) }
 {
     let mut cells = Vec::with_capacity(alloc, columns.len() + 1)?;
     cells.push(key)?;
@@ -29,7 +36,7 @@ pub fn row_of(alloc: Global, key: Cell, columns: &[Column], words: &[u8]) -> Res
         cells.push(cell_of(alloc, column, word)?)?;
         rest = behind;
     }
-    Ok(Row::from(cells))
+    Ok((Row::from(cells), rest))
 }
 
 /// The cell of a column that the word spells.

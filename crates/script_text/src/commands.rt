@@ -1,12 +1,12 @@
 //! The lines of a round: a session and a command.
-ghost use Rattle.std.specs.Prelude.{◌≡◌, ◌^◌, ◌<◌, ℕ, ℤ, List, length, drop, nat_lt};
+ghost use Rattle.std.specs.Prelude.{◌≡◌, ◌==◌, ◌+◌, ◌^◌, ◌<◌, ℕ, ℤ, List, IfOk, length, drop, nat_lt};
 ghost use Rattle.cell_model.specs.declared.cell.Cell.{Cell as CellValue};
 ghost use Rattle.workload_spec.specs.declared.command.Command.{Command as CommandValue};
 ghost use Rattle.workload_spec.specs.Reading.{words_of};
 ghost use Rattle.workload_spec.specs.Valid.{is_export, is_block_of};
 ghost use Rattle.workload_spec.specs.Grammar.{table_named, schema_at, formed, line_of, OfTable, OfKey, OfRow, OfBlock};
 ghost use Rattle.word_read.specs.Cursor.{words_behind};
-ghost use Rattle.script_text.specs.Commands.{command_read, alone_read};
+ghost use Rattle.script_text.specs.Commands.{command_read, alone_read, keyed_row};
 ghost use Rattle.script_text.specs.Verbs.{verb_form};
 ghost use Rattle.script_text.specs.Answers.{Gives};
 
@@ -153,12 +153,39 @@ fn row_in(alloc: Global, tables: &Declared, words: &[u8]) -> Result<(u32, Row), 
     let (key_word, rest) = next_word(Cause::Command, rest)?;
     let table = table_named(tables, name)?;
     let columns = columns_at(tables, table);
-    if columns.len() != word_count(rest) + 1 {
+    let read = keyed_row(alloc, key_word, further(columns), rest);
+    if !are_as_many(columns, &read, rest) {
         return Err(WordFault::Bad(Cause::Command));
     }
-    let key = key(key_word)?;
-    let row = row_of(alloc, Cell::Num(key as i128), further(columns), rest)?;
+    let (row, _) = read?;
     Ok((table, row))
+}
+
+/// The row of the key that the word spells and the words of the further columns, and what stands
+/// behind them.
+fn keyed_row<'a>(
+    alloc: Global,
+    key_word: &[u8],
+    columns: &[Column],
+    words: &'a [u8],
+) -> Result<(Row, &'a [u8]), WordFault>
+    ensures row { Gives (λ x. x.0) result (keyed_row columns.now key_word.now (words_behind words.now)) }
+    ensures taken { IfOk result (λ x. length x.0 + length (words_behind x.1.now) ≡ length (words_behind words.now) + 1) }
+{
+    let key = key(key_word)?;
+    row_of(alloc, Cell::Num(key as i128), columns, words)
+}
+
+/// Whether there is a word for each column but the first. A row that was read tells it, so that the
+/// words are counted only where something is wrong.
+fn are_as_many(columns: &[Column], read: &Result<(Row, &[u8]), WordFault>, words: &[u8]) -> bool
+    requires { IfOk read.now (λ x. length x.0 + length (words_behind x.1.now) ≡ length (words_behind words.now) + 1) }
+    ensures { result ≡ (length columns.now == length (words_behind words.now) + 1) }
+{
+    match read {
+        Ok((row, [])) if row.len() == columns.len() => true,
+        _ => columns.len() == word_count(words) + 1,
+    }
 }
 
 /// The table and the block that the two words name.

@@ -26,14 +26,14 @@ pub fn rounds_of(
     ensures { LineGives (λ rounds. rounds.items) result (rounds_from extent.now tables.now sessions first false (parts line_feed bytes.now)) }
 {
     let mut rounds = Vec::new(alloc);
-    let mut lines = Vec::with_capacity(alloc, lines_of_round(extent, bytes))?;
+    let mut lines = Vec::new(alloc);
     let mut exported = false;
     let mut at = first;
     let mut rest = bytes;
     while let Some((line, behind)) = split_line(rest) {
         if is_parting(extent, line) {
             rounds.push(Round::from(lines))?;
-            lines = Vec::with_capacity(alloc, lines_of_round(extent, behind))?;
+            lines = Vec::new(alloc);
         } else {
             let read = match line_of(alloc, extent, tables, sessions, exported, line) {
                 Ok(read) => read,
@@ -60,18 +60,4 @@ fn is_parting(extent: &Extent, line: &[u8]) -> bool
     ensures { result ≡ (extent.now.parts_rounds && bytes_eq line.now (codes "--")) }
 {
     extent.parts_rounds && line == b"--".as_slice()
-}
-
-/// How many lines there are up to the next that parts two rounds.
-fn lines_of_round(extent: &Extent, bytes: &[u8]) -> usize {
-    let mut count = 0;
-    let mut rest = bytes;
-    while let Some((line, behind)) = split_line(rest) {
-        if is_parting(extent, line) {
-            break;
-        }
-        count += 1;
-        rest = behind;
-    }
-    count
 }

@@ -5,6 +5,8 @@ ghost use Rattle.workload_spec.specs.Words.{line_feed};
 ghost use Rattle.workload_spec.specs.Reading.{parts};
 ghost use Rattle.word_read.specs.Cursor.{line_end};
 
+use memchr::memchr;
+
 /// The first line without its line feed, and the bytes behind it; none where no line feed stands.
 #[tactic(auto, using(crate::proofs::LineEnds::cut, crate::proofs::LineEnds::whole, crate::proofs::LineEnds::ends))]
 pub fn split_line(bytes: &[u8]) -> Option<(&[u8], &[u8])>
@@ -35,15 +37,14 @@ pub fn part_count(bytes: &[u8]) -> u64
     count
 }
 
+/// Where the first line feed stands; the length where there is none.
 fn line_length(bytes: &[u8]) -> usize
     ensures value { result ≡ line_end bytes.now }
     ensures whole { list_all (λ byte. not (byte == line_feed)) (take result bytes.now) ≡ true }
     ensures within { result ≤ length bytes.now }
 {
-    for (at, byte) in bytes.iter().enumerate() {
-        if *byte == b'\n' {
-            return at;
-        }
+    match memchr(b'\n', bytes) {
+        Some(at) => at,
+        None => bytes.len(),
     }
-    bytes.len()
 }

@@ -6,9 +6,9 @@ use Rattle.outcome_spec.specs.Entries.{is_same}
 use Rattle.mark_index.specs.Lists.{marks_at, with_mark}
 use Rattle.outcome_counts.specs.Keys.{is_keyed}
 use Rattle.outcome_conflicts.specs.Leads.{but_of, is_ordered}
-use Rattle.outcome_conflicts.specs.Written.{key_cmp}
+use Rattle.outcome_history.specs.Kept.{key_cmp}
 use Rattle.outcome_conflicts.specs.declared.leads.Lead.{Lead}
-use Rattle.outcome_conflicts.specs.declared.written.RowKey.{RowKey}
+use Rattle.outcome_history.specs.declared.keys.RowKey.{RowKey}
 use Rattle.outcome_conflicts.proofs.Marking.{key-one}
 use Rattle.outcome_conflicts.proofs.rivals.note_lead.Goals as goal
 

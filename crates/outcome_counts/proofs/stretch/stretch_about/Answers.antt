@@ -1,18 +1,16 @@
-use Rattle.std.proofs.Common.{◌≡◌, ◌∙◌, ap, sym, ℕ, List, Bool, nat_lt, nat_le, rules, true, false, get_or, map}
+use Rattle.std.proofs.Common.{◌≡◌, ◌∙◌, ap, sym, ℕ, List, Bool, nat_le, rules, get_or}
 use Rattle.std.specs.List.{count_by}
-use Rattle.std.specs.List.Sorted.{IsPartitionPoint, IsPartitionedBy}
+use Rattle.std.specs.List.Sorted.{IsPartitionedBy}
 use Rattle.std.proofs.lemmas.List.Sorted.{IsPartitionPoint-from_clause}
 use Rattle.std.proofs.lemmas.List.{get_or_read}
 use Rattle.outcome_spec.specs.Entries.{Entry}
 use Rattle.outcome_check.specs.Sides.{is_past}
 use Rattle.outcome_check.specs.Places.{is_in_front, is_up_to_own}
-use Rattle.outcome_check.proofs.Pieces.{Parted}
 use Rattle.outcome_check.proofs.Places.{past-parts, front-parts, own-parts, round-parts}
 use Rattle.mark_index.proofs.Parted.{passed-count}
 use Rattle.output_read.specs.Kept.{entries_of, entry_of}
 use Rattle.output_read.specs.declared.kept.KeptReply.{KeptReply as Kept}
 use Rattle.outcome_counts.specs.Stretch.{stretch_of}
-use Rattle.outcome_counts.specs.declared.stretch.Stretch.{Stretch}
 use Rattle.outcome_counts.proofs.Parts.{parted-at, parted-map, count-map}
 use Rattle.outcome_counts.proofs.stretch.stretch_about.Goals as goal
 

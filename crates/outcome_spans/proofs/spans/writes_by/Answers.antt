@@ -1,4 +1,4 @@
-use Rattle.std.proofs.Common.{◌∙◌, ap, sym, refl, ℕ, Option}
+use Rattle.std.proofs.Common.{◌∙◌, ap, refl, ℕ, Option}
 use Rattle.std.specs.Ordering.{nat_cmp}
 use Rattle.mark_index.specs.Lists.{marks_at, with_mark}
 use Rattle.mark_index.proofs.Noted.{counted-next}

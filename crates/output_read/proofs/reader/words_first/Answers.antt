@@ -1,4 +1,4 @@
-use Rattle.std.proofs.Common.{◌≡◌, sym, ap, ◌∙◌, drop, List, ℕ}
+use Rattle.std.proofs.Common.{sym, ap, ◌∙◌, drop, List, ℕ}
 use Rattle.output_read.specs.Fronts.{words_first}
 use Rattle.output_read.proofs.Texts.{first-line, words-line, endless, no-words}
 use Rattle.output_read.proofs.reader.words_first.Goals as goal

@@ -1,6 +1,5 @@
-use Rattle.std.proofs.Common.{◌≡◌, sym, ◌∙◌}
 use Rattle.workload_spec.specs.declared.reply.Who.TheVariants.{Session}
-use Rattle.output_read.proofs.RowLines.{walk-starts, walk-full, walk-endless, key-lacks, key-kept}
+use Rattle.output_read.proofs.RowLines.{walk-endless, key-lacks, key-kept}
 use Rattle.output_read.proofs.Texts.{endless, lines-one}
 use Rattle.output_read.proofs.rows.rows_above.Goals as goal
 

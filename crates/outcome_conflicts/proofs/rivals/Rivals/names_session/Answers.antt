@@ -7,7 +7,7 @@ use Rattle.mark_index.specs.declared.marks.Peak.{Peak}
 use Rattle.output_read.specs.Kept.{entries_of}
 use Rattle.outcome_counts.specs.Asked.{asked_at}
 use Rattle.outcome_counts.proofs.Asked.{asked-is}
-use Rattle.outcome_conflicts.specs.Written.{place_in}
+use Rattle.outcome_history.specs.Kept.{place_in}
 use Rattle.outcome_conflicts.proofs.Judged.{names-judged}
 use Rattle.outcome_conflicts.proofs.Tops.{names-own}
 use Rattle.outcome_conflicts.proofs.rivals.Rivals.names_session.Goals as goal

@@ -8,8 +8,9 @@ use Rattle.output_read.specs.Kept.{entry_of}
 use Rattle.outcome_counts.specs.Keys.{is_keyed}
 use Rattle.outcome_conflicts.specs.Leads.{AreFollowed}
 use Rattle.outcome_conflicts.specs.Rivals.{writer_cmp}
-use Rattle.outcome_conflicts.specs.Written.{key_cmp, place_in, writes_to}
-use Rattle.outcome_conflicts.specs.declared.written.RowKey.{RowKey}
+use Rattle.outcome_conflicts.specs.Written.{writes_to}
+use Rattle.outcome_history.specs.Kept.{key_cmp, place_in}
+use Rattle.outcome_history.specs.declared.keys.RowKey.{RowKey}
 use Rattle.outcome_conflicts.proofs.Marking.{writes-keyed}
 use Rattle.outcome_conflicts.proofs.rivals.Rivals.note.Goals as goal
 

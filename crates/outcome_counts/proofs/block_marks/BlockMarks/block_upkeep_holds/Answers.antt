@@ -1,14 +1,10 @@
-use Rattle.std.proofs.Common.{◌≡◌, ◌∙◌, ap, sym, ℕ, Bool, Option, Some, None, true, nat_le}
+use Rattle.std.proofs.Common.{◌≡◌, ◌∙◌, ap, sym, Bool, Option, Some, None}
 use Rattle.std.specs.Option.{option_map_or}
 use Rattle.outcome_spec.specs.Entries.{Entry}
-use Rattle.outcome_spec.specs.Upkeep.{moved_in, most_moved}
-use Rattle.output_read.specs.Kept.{entries_of, entry_of}
+use Rattle.output_read.specs.Kept.{entries_of}
 use Rattle.outcome_counts.specs.Asked.{asked_at}
 use Rattle.outcome_counts.specs.Blocks.{is_seal, is_freeze, is_idle}
 use Rattle.outcome_counts.specs.Keys.{stamp_told, freeze_told, idle_told}
-use Rattle.outcome_counts.specs.declared.keys.Block.{Block}
-use Rattle.outcome_counts.specs.declared.keys.Frozen.{Frozen}
-use Rattle.outcome_counts.specs.declared.keys.Stamp.{Stamp}
 use Rattle.outcome_counts.proofs.Asked.{asked-is}
 use Rattle.outcome_counts.proofs.block_marks.BlockMarks.block_upkeep_holds.Goals as goal
 

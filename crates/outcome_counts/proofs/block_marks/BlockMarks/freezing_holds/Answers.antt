@@ -1,7 +1,7 @@
-use Rattle.std.proofs.Common.{◌≡◌, ◌∙◌, ap, sym, ℕ, Option, Some, true}
+use Rattle.std.proofs.Common.{◌∙◌, ap, sym, true}
 use Rattle.std.specs.Option.{option_map_or}
 use Rattle.outcome_spec.specs.Entries.{Entry}
-use Rattle.outcome_spec.specs.Runs.{Run, run_of}
+use Rattle.outcome_spec.specs.Runs.{run_of}
 use Rattle.output_read.specs.Kept.{entries_of}
 use Rattle.outcome_counts.specs.Asked.{asked_at}
 use Rattle.outcome_counts.specs.Blocks.{is_freezing}

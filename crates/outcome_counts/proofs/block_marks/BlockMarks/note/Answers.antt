@@ -1,10 +1,8 @@
-use Rattle.std.proofs.Common.{◌≡◌, ◌∙◌, ap, sym, ℕ, List, Bool, Option, Result, Ok, Err, OnOk}
+use Rattle.std.proofs.Common.{◌∙◌, ap, ℕ, Option, Result, Ok, Err, OnOk}
 use Rattle.std.specs.Ordering.{nat_cmp}
 use Rattle.std.specs.Prelude.{option_map}
-use Rattle.workload_spec.specs.declared.reply.Said.{Said}
 use Rattle.mark_index.specs.Lists.{marks_at, with_mark}
 use Rattle.mark_index.specs.Marks.{next_peak}
-use Rattle.mark_index.specs.declared.marks.Peak.{Peak}
 use Rattle.outcome_counts.specs.Keys.{block_cmp, stamp_cmp, above_told, is_keyed}
 use Rattle.outcome_counts.specs.declared.keys.Block.{Block}
 use Rattle.outcome_counts.specs.declared.keys.Stamp.{Stamp}

@@ -1,4 +1,4 @@
-use Rattle.std.proofs.Common.{◌≡◌, ◌∙◌, ap, ℕ, ◌-◌, max, List, length}
+use Rattle.std.proofs.Common.{◌≡◌, ◌∙◌, ℕ, ◌-◌, max, List, length}
 use Rattle.mark_index.specs.Marks.{most_below, own_below}
 use Rattle.mark_index.specs.declared.marks.Peak.{Peak}
 use Rattle.outcome_counts.proofs.Later.{peaks-after}

@@ -1,14 +1,12 @@
-use Rattle.std.proofs.Common.{◌≡◌, ◌∙◌, ◌+◌, ◌-◌, ap, sym, subst, ℕ, List, ◌∷◌, length, reverse, Option, true, false, arith}
+use Rattle.std.proofs.Common.{◌≡◌, ◌∙◌, ◌-◌, ap, sym, ℕ, ◌∷◌, length, reverse, Option, arith}
 use Rattle.std.specs.Prelude.{is_some}
 use Rattle.std.proofs.lemmas.List.{length-reverse, length-append, length-map}
-use Rattle.outcome_spec.specs.Entries.{Entry, commit_in}
+use Rattle.outcome_spec.specs.Entries.{commit_in}
 use Rattle.output_read.specs.Kept.{entries_of, entry_of}
 use Rattle.output_read.specs.declared.kept.KeptReply.{KeptReply}
 use Rattle.outcome_check.specs.Places.{own_end}
 use Rattle.mark_index.proofs.Noted.{peaks-next}
-use Rattle.mark_index.specs.declared.marks.Peak.{Peak}
-use Rattle.outcome_counts.specs.LaterCommits.{below_commit, ends_in, with_low, below}
-use Rattle.outcome_counts.specs.Stretch.{stretch_of}
+use Rattle.outcome_counts.specs.LaterCommits.{below_commit, ends_in, with_low}
 use Rattle.outcome_counts.specs.declared.stretch.Stretch.{Stretch}
 use Rattle.outcome_counts.proofs.Starts.{kept-at}
 use Rattle.outcome_counts.proofs.Later.{end-at, ends-are, turned-front, none-below}

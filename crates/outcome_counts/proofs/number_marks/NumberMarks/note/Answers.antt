@@ -1,4 +1,4 @@
-use Rattle.std.proofs.Common.{◌≡◌, ◌∙◌, ap, sym, ℕ, List, Bool, Option, Result, Ok, Err, OnOk}
+use Rattle.std.proofs.Common.{◌∙◌, ap, ℕ, Option, Result, Ok, Err, OnOk}
 use Rattle.std.specs.Ordering.{nat_cmp}
 use Rattle.std.specs.Prelude.{is_some}
 use Rattle.mark_index.specs.Lists.{marks_at, with_mark}

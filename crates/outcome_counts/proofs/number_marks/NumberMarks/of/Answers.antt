@@ -1,11 +1,9 @@
-use Rattle.std.proofs.Common.{◌≡◌, ◌∙◌, ◌+◌, ap, sym, subst, ℕ, List}
-use Rattle.outcome_spec.specs.Entries.{Entry}
+use Rattle.std.proofs.Common.{◌≡◌, ◌∙◌, ap, sym, subst, ℕ}
 use Rattle.output_read.specs.Kept.{entries_of, entry_of}
 use Rattle.output_read.specs.declared.kept.KeptReply.{KeptReply}
 use Rattle.outcome_check.specs.Places.{own_start}
 use Rattle.outcome_counts.specs.BlockMarks.{starts_in}
-use Rattle.outcome_counts.specs.NumberMarks.{AreNumberMarks, IsNumbered}
-use Rattle.outcome_counts.specs.Stretch.{stretch_of}
+use Rattle.outcome_counts.specs.NumberMarks.{IsNumbered}
 use Rattle.outcome_counts.specs.declared.stretch.Stretch.{Stretch}
 use Rattle.outcome_counts.proofs.Starts.{kept-at, start-at, starts-are}
 use Rattle.outcome_counts.proofs.Numbered.{number-marks-next}

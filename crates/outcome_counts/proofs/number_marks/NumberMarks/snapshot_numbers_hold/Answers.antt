@@ -1,4 +1,4 @@
-use Rattle.std.proofs.Common.{◌≡◌, ◌∙◌, ap, sym, ℕ, Option, Some, true}
+use Rattle.std.proofs.Common.{◌∙◌, ap, sym, true}
 use Rattle.std.specs.Option.{option_map_or}
 use Rattle.outcome_spec.specs.Entries.{Entry, snapshot_in}
 use Rattle.outcome_spec.specs.Runs.{run_of}

@@ -1,13 +1,11 @@
-use Rattle.std.proofs.Common.{◌≡◌, ◌∙◌, ◌+◌, ◌-◌, ap, sym, subst, ℕ, List, [], ◌∷◌, ◌++◌, length, take, drop, Option, false, arith, append_assoc}
+use Rattle.std.proofs.Common.{◌≡◌, ◌∙◌, ◌+◌, ◌-◌, ap, sym, subst, ℕ, List, [], ◌∷◌, ◌++◌, length, take, drop, Option, arith, append_assoc}
 use Rattle.std.specs.Prelude.{unwrap_or}
 use Rattle.std.proofs.lemmas.List.{take_at, drop_at, length-append, length-map}
-use Rattle.workload_spec.specs.declared.reply.Who.{Who}
 use Rattle.workload_spec.specs.declared.reply.Who.TheVariants.{Session}
 use Rattle.outcome_spec.specs.Entries.{Entry}
-use Rattle.outcome_spec.specs.Forms.{is_worker}
 use Rattle.output_read.specs.Kept.{entries_of, entry_of}
 use Rattle.outcome_counts.proofs.Starts.{kept-at}
-use Rattle.outcome_spans.specs.Ends.{AreEnds, ended_of, ended_next, next_end}
+use Rattle.outcome_spans.specs.Ends.{AreEnds, ended_of}
 use Rattle.outcome_spans.proofs.Cuts.{one-cut}
 use Rattle.outcome_spans.proofs.Ended.{Known, known-next, ends-next, own-end}
 use Rattle.outcome_spans.proofs.ends.Ends.of.Goals as goal

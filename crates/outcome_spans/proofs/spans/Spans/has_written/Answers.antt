@@ -4,7 +4,6 @@ use Rattle.std.specs.Option.{option_map_or}
 use Rattle.std.specs.Prelude.{option_and_then, is_some}
 use Rattle.outcome_spec.specs.Runs.{Span, accepted_write}
 use Rattle.output_read.specs.Kept.{entries_of}
-use Rattle.outcome_counts.specs.Asked.{asked_at}
 use Rattle.outcome_spans.specs.Openings.{opened_at, opening_of}
 use Rattle.outcome_spans.proofs.Written.{transaction-asked, written-by}
 use Rattle.outcome_spans.proofs.spans.Spans.has_written.Goals as goal

@@ -1,6 +1,5 @@
-use Rattle.std.proofs.Common.{◌≡◌, refl, sym, ap, ◌∙◌, Some, List, ℕ, drop, length, subst, arith}
+use Rattle.std.proofs.Common.{◌≡◌, refl, sym, ap, ◌∙◌, Some, List, ℕ, drop, subst, arith}
 use Rattle.workload_spec.specs.declared.reply.Who.TheVariants.{Session}
-use Rattle.outcome_spec.specs.Lines.{lines_of}
 use Rattle.outcome_spec.specs.Tables.{columns_at}
 use Rattle.output_read.specs.declared.reader.Heading.{Heading}
 use Rattle.output_read.specs.declared.kept.Told.TheVariants as told
@@ -8,7 +7,7 @@ use Rattle.output_read.specs.Fronts.{count_first}
 use Rattle.output_read.specs.Readers.{lines_left}
 use Rattle.output_read.specs.Threads.{ThreadGoes}
 use Rattle.output_read.proofs.RowLines.{above-short}
-use Rattle.output_read.proofs.SessionReplies.{scan-goes, scan-lacks, columns-is, columns-some, table-there, count-of, heading-small, rows-most, taken-said, taken-told, taken-text}
+use Rattle.output_read.proofs.SessionReplies.{scan-goes, scan-lacks, columns-is, columns-some, table-there, count-of, rows-most, taken-said, taken-told, taken-text}
 use Rattle.output_read.proofs.reader.Reader.scan_reply.Goals as goal
 
 pub rows_above-requires : goal.rows_above-requires

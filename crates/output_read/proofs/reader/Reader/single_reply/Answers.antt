@@ -1,13 +1,12 @@
-use Rattle.std.proofs.Common.{◌≡◌, refl, sym, ap, ◌∙◌, Option, Some, None, List, ℕ, length, subst, arith}
+use Rattle.std.proofs.Common.{refl, sym, ap, ◌∙◌, Option, Some, List, ℕ, length, subst, arith}
 use Rattle.std.specs.Prelude.{option_map}
-use Rattle.workload_spec.specs.declared.reply.Said.{Said}
 use Rattle.output_read.specs.declared.reader.Front.{Front}
 use Rattle.output_read.specs.declared.reader.Heading.{Heading}
 use Rattle.output_read.specs.Fronts.{said_first}
 use Rattle.outcome_spec.specs.Lines.{lines_of}
 use Rattle.output_read.specs.Readers.{lines_left}
 use Rattle.output_read.specs.Threads.{ThreadGoes}
-use Rattle.output_read.proofs.SessionReplies.{nothing-fails, other-fails, single-goes, answer-single, heading-small}
+use Rattle.output_read.proofs.SessionReplies.{nothing-fails, other-fails, single-goes}
 use Rattle.output_read.proofs.reader.Reader.single_reply.Goals as goal
 
 pub returns-in_default-clause-failed : goal.returns-in_default-clause-failed

@@ -1,0 +1,4 @@
+pub mod Bodies
+pub mod Replying
+pub mod Rows
+pub mod Shares

@@ -1,0 +1,118 @@
+//! A read of a block.
+ghost use Rattle.std.specs.Prelude.{◌≡◌, ◌+◌, ◌≤◌, ◌<◌, ◌^◌, ℕ, IfOk, IfSome, length, if◌then◌else◌};
+ghost use Rattle.block_body.specs.Keys.{HasKey};
+ghost use Rattle.block_layout.specs.Place.{slot_of};
+ghost use Rattle.block_spec.specs.Bodies.{is_imaged, slot_in};
+ghost use Rattle.block_spec.specs.Slots.{seen};
+ghost use Rattle.core_parts.specs.Hands.{Makes, MayRun};
+ghost use Rattle.core_reads.specs.Reads.{reply_of, row_in, rows_in};
+ghost use Rattle.event_spec.specs.declared.event.Event.TheVariants as event;
+ghost use Rattle.event_spec.specs.Parts.{Parts, body_at, slots_of};
+ghost use Rattle.event_spec.specs.Replies.{is_elsewhere};
+ghost use Rattle.hall_rule.specs.Hands.{Agrees};
+ghost use Rattle.isolation_spec.specs.Contents.{at_place, place_at};
+
+use block_body::Body;
+use block_layout::SlotId;
+use cell_model::{Row, Rows};
+use core_images::SharedRows;
+use core_parts::{CorePart, Shape, body};
+use event_spec::{OwnTransaction, OwnWrites};
+use hall_rule::Hand;
+use isolation_spec::Place;
+use slot_writes::key_of;
+use std::alloc::{AllocError, Global};
+use std::sync::ledger::Ledger;
+use steps::Steps;
+
+/// The rows of a block, as a session sees them.
+#[derive(Drop)]
+pub enum BlockRows {
+    /// The rows that it sees, in slot order, without those whose key it wrote at another slot.
+    Seen(Rows),
+    /// The shared image of an imaged block's rows.
+    Shared(SharedRows),
+}
+
+/// The rows of a block that the session sees. Each slot's row is read once, and none where the block is
+/// imaged.
+pub fn read<L: Ledger>(
+    shape: &Shape,
+    held: &Hand<CorePart>,
+    own: &OwnTransaction,
+    table: u32,
+    block: u32,
+    steps: &mut Steps<L>,
+) -> Result<BlockRows, AllocError>
+    requires { MayRun shape.now (event.Read own.now table block) held.now }
+    ensures reply { IfOk result (λ rows. Makes shape.now (event.Read own.now table block) held.now held.now (reply_of rows)) }
+    ensures steps { (s : Parts) → Agrees held.now s →
+        steps.new ≤ steps.old + (if is_imaged (body_at shape.now s table block).phase then 0 else slots_of shape.now table) }
+{
+    // The rows fit the table's columns, which begin with the key.
+    let _schema = shape.schema(table);
+    let body = body(shape, held, table, block);
+    match body.shared()? {
+        Some(shared) => Ok(BlockRows::Shared(SharedRows::new(shared))),
+        None => {
+            let rows = rows_in(shape.alloc(), body, own, table, block, steps)?;
+            Ok(BlockRows::Seen(rows))
+        }
+    }
+}
+
+// The rows of a body that the session sees, in slot order, without those whose key it wrote at another
+// slot.
+fn rows_in<L: Ledger>(
+    alloc: Global,
+    body: &Body,
+    own: &OwnTransaction,
+    table: u32,
+    block: u32,
+    steps: &mut Steps<L>,
+) -> Result<Rows, AllocError>
+    requires few { length body.now.slots ≤ 2 ^ 15 }
+    requires keys { (slot : ℕ) → IfSome (seen (slot_in body.now slot) own.now.snapshot.stamp own.now.session) HasKey }
+    ensures rows { IfOk result (λ rows. rows ≡ rows_in own.now table block body.now) }
+    ensures steps { steps.new ≤ steps.old + length body.now.slots }
+{
+    let mut rows = Vec::new(alloc);
+    for slot in 0..body.columns().slots() {
+        if let Some(row) = row_in(body, own, table, SlotId::join(block, slot), steps)? {
+            rows.push(row)?;
+        }
+    }
+    Ok(Rows::from(rows))
+}
+
+// The row of a slot that the session sees, if it did not write the row's key at another slot.
+fn row_in<L: Ledger>(
+    body: &Body,
+    own: &OwnTransaction,
+    table: u32,
+    place: SlotId,
+    steps: &mut Steps<L>,
+) -> Result<Option<Row>, AllocError>
+    requires slot { slot_of place < length body.now.slots }
+    requires key { IfSome (seen (slot_in body.now (slot_of place)) own.now.snapshot.stamp own.now.session) HasKey }
+    ensures row { IfOk result (λ row. row ≡ row_in own.now table place (slot_in body.now (slot_of place))) }
+    ensures steps { steps.new ≤ steps.old + 1 }
+{
+    let Some(row) = body.read(place.slot(), own.snapshot.stamp, own.session, steps)? else {
+        return Ok(None);
+    };
+    if is_elsewhere(&own.writes, table, key_of(&row), place) {
+        return Ok(None);
+    }
+    Ok(Some(row))
+}
+
+// Whether the session wrote a key at another slot.
+fn is_elsewhere(writes: &OwnWrites, table: u32, key: i64, place: SlotId) -> bool
+    ensures { result ≡ is_elsewhere (at_place writes.now (place_at table key)) place }
+{
+    match writes.by_row().get(&Place { table, key }) {
+        Some(other) => *other != place,
+        None => false,
+    }
+}

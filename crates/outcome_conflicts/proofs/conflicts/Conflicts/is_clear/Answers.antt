@@ -1,0 +1,15 @@
+use Rattle.std.proofs.Common.{◌∙◌, Bool, ◌&&◌, ap}
+use Rattle.output_read.specs.Kept.{entries_of}
+use Rattle.outcome_counts.specs.Asked.{asked_at}
+use Rattle.outcome_spec.specs.Conflicts.{passes_no_commit}
+use Rattle.outcome_spec.specs.Runs.{run_of}
+use Rattle.outcome_history.specs.Kept.{place_in}
+use Rattle.outcome_conflicts.proofs.conflicts.Conflicts.is_clear.Goals as goal
+
+pub returns : goal.returns
+returns c = λ none tables t who snapshot.
+    let run = run_of tables (entries_of c.args.replies.now) in
+    let entry = asked_at c.args.replies.now c.args.at none in
+    c.both.ensures
+    ∙ ap (λ (b : Bool). b && c.passes_no_session-no_session.result) (c.passes_no_commit-no_commit.ensures none tables t snapshot)
+    ∙ ap (λ (b : Bool). passes_no_commit run t (place_in c.args.of) entry && b) (c.passes_no_session-no_session.ensures none tables t who)

@@ -1,0 +1,13 @@
+pub mod Laid
+pub mod Rows
+pub mod Noted
+pub mod Own
+pub mod Held
+pub mod Spanned
+pub mod Commits
+pub mod History
+pub mod Seen
+pub mod Judged
+pub mod Keyed
+pub mod Scans
+pub mod Least

@@ -1,0 +1,7 @@
+pub mod Timed
+pub mod Kept
+pub mod Own
+pub mod Commits
+pub mod Seen
+pub mod Judged
+pub mod Exports

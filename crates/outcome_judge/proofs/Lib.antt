@@ -1,0 +1,3 @@
+pub mod Both
+pub mod Found
+pub mod Answered

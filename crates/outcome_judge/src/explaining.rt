@@ -1,0 +1,29 @@
+//! Whether an output is explained.
+ghost use Rattle.std.specs.Prelude.{◌≡◌, true};
+ghost use Rattle.outcome_spec.specs.Explained.{failing_line};
+ghost use Rattle.workload_spec.specs.Valid.{is_valid};
+ghost use Rattle.outcome_judge.specs.Verdicts.{Explains};
+
+use crate::fault::ExplainFault;
+use crate::judge::Judge;
+use output_read::read_output;
+use reading_laws::laws::{replies_that_are_read_open_outside, replies_that_are_read_rise};
+use std::alloc::Global;
+use workload_spec::Script;
+
+/// Whether an output is explained by its script: its lines are those of the replies that are due, and each
+/// reply is what snapshot isolation and the counts of blocks allow.
+pub fn explained(alloc: Global, script: &Script, text: &[u8]) -> Result<(), ExplainFault>
+    requires { is_valid script.now ≡ true }
+    ensures { Explains (failing_line script.now text.now) result }
+{
+    replies_that_are_read_rise();
+    replies_that_are_read_open_outside();
+    let replies = read_output(alloc, script, text)?;
+    let replies = replies.as_slice();
+    let judge = Judge::of(alloc, replies)?;
+    match judge.unsound_line(alloc, script.tables.as_slice(), replies)? {
+        None => Ok(()),
+        Some(line) => Err(ExplainFault::NotExplained(line)),
+    }
+}

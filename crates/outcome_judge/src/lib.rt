@@ -1,0 +1,11 @@
+//! Whether an output is explained by its script, and else at which line it first is not.
+#![tactic(auto)]
+
+mod counts;
+mod explaining;
+mod fault;
+mod judge;
+mod views;
+
+pub use explaining::explained;
+pub use fault::ExplainFault;

@@ -1,0 +1,4 @@
+//! Laws of the replies that are read from an output.
+#![tactic(auto)]
+
+pub mod laws;
