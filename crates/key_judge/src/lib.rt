@@ -5,5 +5,5 @@ mod finds;
 mod meetings;
 mod verdicts;
 
-pub use finds::found;
+pub use finds::{current, found};
 pub use verdicts::{judge_change, judge_insert};

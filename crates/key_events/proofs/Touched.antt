@@ -1,0 +1,93 @@
+-- What updates, deletes and inserts touch.
+use Rattle.std.proofs.Common.{◌≡◌, ◌⊎◌, ℕ, ℤ, ◌++◌, Bool, true, false, ◌==◌, ◌∷◌, List, Option, None, Some, Ok, option_to_list, length, refl, sym, ap, ◌∙◌, subst}
+use mathlib.Core.Logic.{inl, inr}
+use Rattle.std.specs.Prelude.{IfSome}
+use Rattle.std.specs.List.{list_any}
+use Rattle.std.specs.Option.{option_or}
+use Rattle.block_layout.specs.Place.{block_of, slot_of}
+use Rattle.block_spec.specs.Slots.{Row}
+use Rattle.core_parts.proofs.Telling.{has_body, has_head}
+use Rattle.core_parts.specs.Hands.{Has, Held, MayRun, in_hand}
+use Rattle.event_laws.proofs.Lists.{in_left}
+use Rattle.event_laws.proofs.Slots.{num_refl}
+use Rattle.event_spec.specs.declared.event.Event.TheVariants as event
+use Rattle.event_spec.specs.declared.own.OwnKey.{OwnKey}
+use Rattle.event_spec.specs.Judged.{next_place}
+use Rattle.event_spec.specs.Lawful.{Among, HasBlock}
+use Rattle.event_spec.specs.Parts.{Parts, Shape, HeadOf, ShardOf, BodyOf, head_at, head_from, names, places_at, shard_of, slots_of}
+use Rattle.event_spec.specs.Touched.{held_next, touched_by_key}
+use Rattle.frame_laws.proofs.Fitness.{body_touched, shard_touched}
+use Rattle.frame_laws.proofs.Looks.{and_true, block_among, look, or_left}
+use Rattle.hall_rule.specs.Hands.{Agrees}
+use Rattle.isolation_spec.specs.Contents.{key_of}
+use Rattle.key_events.proofs.Keys.{candidates_are, own_slot, the_shard, the_slots}
+use Rattle.key_events.specs.Candidates.{candidates_in}
+use Rattle.key_judge.specs.Slots.{HasSlot, HasSlots}
+use Rattle.event_spec.specs.Parts.{held_named}
+
+module _ (sh : Shape) (hand : Held) (own : OwnKey) (t : ℕ) (key : ℤ) (m : MayRun sh (event.Delete own t key) hand) where
+  pub delete_shard : Has sh hand (ShardOf t (shard_of key))
+  delete_shard = the_shard sh (event.Delete own t key) hand m own t key m.lawful.1.0 m.lawful.0
+      (shard_touched t key (option_to_list own.written ++ candidates_in sh hand t key)) (body_touched t key (option_to_list own.written) (candidates_in sh hand t key))
+
+  pub delete_slots : HasSlots sh hand t (candidates_in sh hand t key)
+  delete_slots = the_slots sh (event.Delete own t key) hand m own t key m.lawful.1.0 m.lawful.0
+      (shard_touched t key (option_to_list own.written ++ candidates_in sh hand t key)) (body_touched t key (option_to_list own.written) (candidates_in sh hand t key))
+
+  pub delete_own : IfSome own.written (HasSlot sh hand t)
+  delete_own = own_slot sh (event.Delete own t key) hand m own t key m.lawful.1.0 m.lawful.0
+      (shard_touched t key (option_to_list own.written ++ candidates_in sh hand t key)) (body_touched t key (option_to_list own.written) (candidates_in sh hand t key))
+
+  pub delete_same : (s : Parts) → Agrees hand s → places_at sh s t key ≡ candidates_in sh hand t key
+  delete_same = candidates_are sh (event.Delete own t key) hand m own t key m.lawful.1.0 m.lawful.0
+      (shard_touched t key (option_to_list own.written ++ candidates_in sh hand t key)) (body_touched t key (option_to_list own.written) (candidates_in sh hand t key))
+
+module _ (sh : Shape) (hand : Held) (own : OwnKey) (t : ℕ) (row : Row) (m : MayRun sh (event.Update own t row) hand) where
+  pub update_shard : Has sh hand (ShardOf t (shard_of (key_of row)))
+  update_shard = the_shard sh (event.Update own t row) hand m own t (key_of row) m.lawful.1.0 m.lawful.0
+      (shard_touched t (key_of row) (option_to_list own.written ++ candidates_in sh hand t (key_of row))) (body_touched t (key_of row) (option_to_list own.written) (candidates_in sh hand t (key_of row)))
+
+  pub update_slots : HasSlots sh hand t (candidates_in sh hand t (key_of row))
+  update_slots = the_slots sh (event.Update own t row) hand m own t (key_of row) m.lawful.1.0 m.lawful.0
+      (shard_touched t (key_of row) (option_to_list own.written ++ candidates_in sh hand t (key_of row))) (body_touched t (key_of row) (option_to_list own.written) (candidates_in sh hand t (key_of row)))
+
+  pub update_own : IfSome own.written (HasSlot sh hand t)
+  update_own = own_slot sh (event.Update own t row) hand m own t (key_of row) m.lawful.1.0 m.lawful.0
+      (shard_touched t (key_of row) (option_to_list own.written ++ candidates_in sh hand t (key_of row))) (body_touched t (key_of row) (option_to_list own.written) (candidates_in sh hand t (key_of row)))
+
+  pub update_same : (s : Parts) → Agrees hand s → places_at sh s t (key_of row) ≡ candidates_in sh hand t (key_of row)
+  update_same = candidates_are sh (event.Update own t row) hand m own t (key_of row) m.lawful.1.0 m.lawful.0
+      (shard_touched t (key_of row) (option_to_list own.written ++ candidates_in sh hand t (key_of row))) (body_touched t (key_of row) (option_to_list own.written) (candidates_in sh hand t (key_of row)))
+
+module _ (sh : Shape) (hand : Held) (own : OwnKey) (t : ℕ) (row : Row) (m : MayRun sh (event.Insert own t row) hand) where
+  abbrev taken : Option ℕ
+  taken = option_or own.written (held_next sh (held_named (names sh) hand) t)
+
+  pub insert_shard : Has sh hand (ShardOf t (shard_of (key_of row)))
+  insert_shard = the_shard sh (event.Insert own t row) hand m own t (key_of row) m.lawful.1.0 m.lawful.0
+      (shard_touched t (key_of row) (option_to_list taken ++ candidates_in sh hand t (key_of row))) (body_touched t (key_of row) (option_to_list taken) (candidates_in sh hand t (key_of row)))
+
+  pub insert_slots : HasSlots sh hand t (candidates_in sh hand t (key_of row))
+  insert_slots = the_slots sh (event.Insert own t row) hand m own t (key_of row) m.lawful.1.0 m.lawful.0
+      (shard_touched t (key_of row) (option_to_list taken ++ candidates_in sh hand t (key_of row))) (body_touched t (key_of row) (option_to_list taken) (candidates_in sh hand t (key_of row)))
+
+  pub insert_own : IfSome own.written (HasSlot sh hand t)
+  insert_own = own_slot sh (event.Insert own t row) hand m own t (key_of row) m.lawful.1.0 m.lawful.0
+      (shard_touched t (key_of row) (option_to_list taken ++ candidates_in sh hand t (key_of row))) (body_touched t (key_of row) (option_to_list taken) (candidates_in sh hand t (key_of row)))
+
+  pub insert_same : (s : Parts) → Agrees hand s → places_at sh s t (key_of row) ≡ candidates_in sh hand t (key_of row)
+  insert_same = candidates_are sh (event.Insert own t row) hand m own t (key_of row) m.lawful.1.0 m.lawful.0
+      (shard_touched t (key_of row) (option_to_list taken ++ candidates_in sh hand t (key_of row))) (body_touched t (key_of row) (option_to_list taken) (candidates_in sh hand t (key_of row)))
+
+  pub insert_head : Has sh hand (HeadOf t)
+  insert_head = has_head sh (event.Insert own t row) hand m t m.lawful.1.0 (or_left (t == t) false (num_refl t))
+
+  -- the body of the slot that it takes
+  pub insert_body : (p : ℕ) → option_or own.written (next_place (head_at sh m.parts t) (slots_of sh t)) ≡ Some p → HasBlock sh t (block_of p) → Has sh hand (BodyOf t (block_of p))
+  insert_body p goes there = has_body sh (event.Insert own t row) hand m t (block_of p) there
+      (and_true (t == t) (list_any (λ place. block_of place == block_of p) (option_to_list taken ++ candidates_in sh hand t (key_of row))) (num_refl t)
+      (block_among (option_to_list taken ++ candidates_in sh hand t (key_of row)) p (in_left (option_to_list taken) (candidates_in sh hand t (key_of row)) p
+      (subst (λ o. Among p (option_to_list o)) (sym (same ∙ goes)) (inl refl)))))
+    where
+      same : taken ≡ option_or own.written (next_place (head_at sh m.parts t) (slots_of sh t))
+      same = ap (λ o. option_or own.written (next_place (head_from o) (slots_of sh t))) (look sh (event.Insert own t row) hand m.parts (HeadOf t) m.covers m.agrees (or_left (t == t) false (num_refl t)))

@@ -1,0 +1,32 @@
+use Rattle.std.proofs.Common.{◌≡◌, ◌==◌, ◌+◌, ◌<◌, ◌^◌, ℕ, ℤ, true, false, Some, None, rules, not, to_z, of_z, w64, length, refl, sym, ap, ◌∙◌, subst}
+use Rattle.std.proofs.Math.Facts.{to_z-of_z}
+use Rattle.std.specs.List.{list_any}
+use Rattle.std.specs.Prelude.{OnOk}
+use Rattle.block_layout.specs.Place.{block_of, slot_of}
+use Rattle.block_spec.specs.declared.change.Change.TheVariants as change
+use Rattle.core_parts.specs.Hands.{Has, after, in_hand}
+use Rattle.event_spec.specs.Effects.{taken_by, with_place}
+use Rattle.event_spec.specs.Parts.{HeadOf, ShardOf, head_from, shard_from, shard_of, slots_of}
+use Rattle.event_spec.specs.Sound.{IsOfKind}
+use Rattle.frame_laws.specs.Shards.{ShardHolds}
+use Rattle.key_events.proofs.Puts.{none_by, not_false, not_true, on_ok, row_put, slot_kept, slot_taken, still_head, still_room, still_shard, still_takes, taken_back, was_there}
+use Rattle.key_events.specs.Puts.{put_changes, row_changes}
+use Rattle.key_index.specs.Candidates.{candidates_of}
+use Rattle.part_changes.proofs.Shards.{added_is_dropped}
+use Rattle.slot_writes.specs.Writes.{of_shard}
+use Rattle.key_events.proofs.inserts.put.Goals as goal
+
+pub put_next-requires-clause-fresh : goal.put_next-requires-clause-fresh
+put_next-requires-clause-fresh c = none_by c.args.own.now.written (c.is_none.ensures ∙ ap not c.if-is_none.true)
+
+pub returns-clause-ok : goal.returns-clause-ok
+returns-clause-ok c = let key : to_z w64 (of_z w64 c.args.key) ≡ c.args.key = to_z-of_z {w = w64} (search rules) in let k = to_z w64 (of_z w64 c.args.key) in
+    on_ok c.put_row.result _ _ c.put_row.ensures.ok (λ is.
+    slot_kept c.args.shape.now c.args.held.now c.put_row.new.held c.args.own.now c.args.table k c.args.place c.args.row (c.is_none.ensures ∙ ap not c.if-is_none.false) is
+    ∙ ap (λ (k : ℤ). after c.args.shape.now (put_changes c.args.shape.now c.args.own.now c.args.table k c.args.place c.args.row) c.args.held.now) key)
+
+pub returns-then-is_none-clause-ok : goal.returns-then-is_none-clause-ok
+returns-then-is_none-clause-ok c =
+    let key : to_z w64 (of_z w64 c.args.key) ≡ c.args.key = to_z-of_z {w = w64} (search rules) in
+    on_ok c.put_next.result _ _ c.put_next.ensures.ok (λ is.
+    is ∙ ap (λ (k : ℤ). after c.args.shape.now (put_changes c.args.shape.now c.args.own.now c.args.table k c.args.place c.args.row) c.args.held.now) key)

@@ -1,0 +1,34 @@
+use Rattle.std.proofs.Common.{◌≡◌, ◌==◌, ◌+◌, ◌<◌, ◌^◌, ℕ, ℤ, true, false, Some, None, rules, not, to_z, of_z, w64, length, refl, sym, ap, ◌∙◌, subst}
+use Rattle.std.proofs.Math.Facts.{to_z-of_z}
+use Rattle.std.specs.List.{list_any}
+use Rattle.std.specs.Prelude.{OnOk}
+use Rattle.block_layout.specs.Place.{block_of, slot_of}
+use Rattle.block_spec.specs.declared.change.Change.TheVariants as change
+use Rattle.core_parts.specs.Hands.{Has, after, in_hand}
+use Rattle.event_spec.specs.Effects.{taken_by, with_place}
+use Rattle.event_spec.specs.Parts.{HeadOf, ShardOf, head_from, shard_from, shard_of, slots_of}
+use Rattle.event_spec.specs.Sound.{IsOfKind}
+use Rattle.frame_laws.specs.Shards.{ShardHolds}
+use Rattle.key_events.proofs.Puts.{none_by, not_false, not_true, on_ok, row_put, slot_kept, slot_taken, still_head, still_room, still_shard, still_takes, taken_back, was_there}
+use Rattle.key_events.specs.Puts.{put_changes, row_changes}
+use Rattle.key_index.specs.Candidates.{candidates_of}
+use Rattle.part_changes.proofs.Shards.{added_is_dropped}
+use Rattle.slot_writes.specs.Writes.{of_shard}
+use Rattle.key_events.proofs.inserts.put_next.Goals as goal
+
+pub take_slot-requires-clause-room : goal.take_slot-requires-clause-room
+take_slot-requires-clause-room c = let key : to_z w64 (of_z w64 c.args.key) ≡ c.args.key = to_z-of_z {w = w64} (search rules) in let k = to_z w64 (of_z w64 c.args.key) in
+    still_room c.args.shape.now (row_changes c.args.own.now.session c.args.table k c.args.place c.args.row) c.args.held.now c.put_row.new.held c.requires.room c.in_ok-put_row.ensures.ok
+
+pub take_slot-requires-clause-head : goal.take_slot-requires-clause-head
+take_slot-requires-clause-head c = let key : to_z w64 (of_z w64 c.args.key) ≡ c.args.key = to_z-of_z {w = w64} (search rules) in let k = to_z w64 (of_z w64 c.args.key) in
+    subst (IsOfKind (HeadOf c.args.table)) (sym (still_head c.args.shape.now c.args.held.now c.put_row.new.held c.args.own.now.session c.args.table k c.args.place c.args.row c.in_ok-put_row.ensures.ok c.requires.head)) c.requires.head
+
+pub take_slot-requires-clause-count : goal.take_slot-requires-clause-count
+take_slot-requires-clause-count c = let key : to_z w64 (of_z w64 c.args.key) ≡ c.args.key = to_z-of_z {w = w64} (search rules) in let k = to_z w64 (of_z w64 c.args.key) in
+    subst (λ o. (head_from o).inserts + 1 < 2 ^ 64) (sym (still_head c.args.shape.now c.args.held.now c.put_row.new.held c.args.own.now.session c.args.table k c.args.place c.args.row c.in_ok-put_row.ensures.ok c.requires.head)) (c.counts_on.ensures (search rules))
+
+pub returns-clause-ok : goal.returns-clause-ok
+returns-clause-ok c = let key : to_z w64 (of_z w64 c.args.key) ≡ c.args.key = to_z-of_z {w = w64} (search rules) in let k = to_z w64 (of_z w64 c.args.key) in
+    slot_taken c.args.shape.now c.args.held.now c.put_row.new.held c.take_slot.new.held c.args.own.now c.args.table k c.args.place c.args.row c.requires.fresh c.in_ok-put_row.ensures.ok c.take_slot.ensures
+    ∙ ap (λ (k : ℤ). after c.args.shape.now (put_changes c.args.shape.now c.args.own.now c.args.table k c.args.place c.args.row) c.args.held.now) key

@@ -1,0 +1,96 @@
+//! Changing the row of a key, and removing it.
+ghost use Rattle.std.specs.Prelude.{◌≡◌, ◌+◌, ◌≤◌, ◌<◌, ◌^◌, IfOk, OnErr, [], length, unwrap_or};
+ghost use Rattle.block_layout.specs.Place.{block_of};
+ghost use Rattle.core_parts.specs.Hands.{Has, Makes, MayRun};
+ghost use Rattle.event_spec.specs.declared.event.Event.TheVariants as event;
+ghost use Rattle.event_spec.specs.Judged.{differences};
+ghost use Rattle.event_spec.specs.Parts.{Parts, places_at, slot_at};
+ghost use Rattle.event_spec.specs.Replies.{reply_to_write};
+ghost use Rattle.hall_rule.specs.Hands.{Agrees};
+ghost use Rattle.isolation_spec.specs.Contents.{key_of};
+ghost use Rattle.key_judge.specs.Slots.{HasSlot};
+
+use crate::keyed::candidates;
+use block_layout::SlotId;
+use block_spec::{Change, Patch};
+use cell_model::Row;
+use core_parts::{CorePart, Shape, body};
+use event_spec::{OwnKey, WriteFault};
+use hall_rule::Hand;
+use key_judge::judge_change;
+use slot_writes::{install, key_of, patch_of};
+use std::alloc::AllocError;
+use std::sync::ledger::Ledger;
+use steps::Steps;
+
+// What an update changes of the row in a slot.
+fn changed_at<L: Ledger>(
+    shape: &Shape,
+    held: &Hand<CorePart>,
+    table: u32,
+    place: SlotId,
+    new: &Row,
+    steps: &mut Steps<L>,
+) -> Result<Patch, AllocError>
+    requires slot { HasSlot shape.now held.now table place }
+    requires short { length new.now < 2 ^ 32 }
+    ensures patch { IfOk result (λ patch. (s : Parts) → Agrees held.now s →
+        patch ≡ differences 0 (unwrap_or (slot_at shape.now s table place).row []) new.now) }
+    ensures steps { steps.new ≤ steps.old + 1 }
+{
+    let columns = body(shape, held, table, place.block()).columns();
+    match columns.row(place.slot(), steps)? {
+        Some(old) => patch_of(shape.alloc(), old.as_slice(), new.as_slice()),
+        None => patch_of(shape.alloc(), &[], new.as_slice()),
+    }
+}
+
+/// Changes the row of a key that has one. Without memory the hand stays.
+pub fn update<L: Ledger>(
+    shape: &Shape,
+    held: &mut Hand<CorePart>,
+    own: &OwnKey,
+    table: u32,
+    row: Row,
+    steps: &mut Steps<L>,
+) -> Result<Result<SlotId, WriteFault>, AllocError>
+    requires { MayRun shape.now (event.Update own.now table row) held.old }
+    ensures ok { IfOk result (λ judged. Makes shape.now (event.Update own.now table row) held.old held.new (reply_to_write judged)) }
+    ensures err { OnErr result (held.new ≡ held.old) }
+    ensures steps { (s : Parts) → Agrees held.old s → steps.new ≤ steps.old + (length (places_at shape.now s table (key_of row)) + 2) }
+{
+    // The row fits the table's columns, which begin with the key.
+    let _schema = shape.schema(table).columns();
+    let key = key_of(&row);
+    let places = candidates(shape, held, table, key);
+    let place = match judge_change(shape, held, own, table, places, steps)? {
+        Ok(place) => place,
+        Err(fault) => return Ok(Err(fault)),
+    };
+    let patch = changed_at(shape, held, table, place, &row, steps)?;
+    install(shape, held, table, place, own.session, Change::Patch(patch))?;
+    Ok(Ok(place))
+}
+
+/// Removes the row of a key. Without memory the hand stays.
+pub fn delete<L: Ledger>(
+    shape: &Shape,
+    held: &mut Hand<CorePart>,
+    own: &OwnKey,
+    table: u32,
+    key: i64,
+    steps: &mut Steps<L>,
+) -> Result<Result<SlotId, WriteFault>, AllocError>
+    requires { MayRun shape.now (event.Delete own.now table key) held.old }
+    ensures ok { IfOk result (λ judged. Makes shape.now (event.Delete own.now table key) held.old held.new (reply_to_write judged)) }
+    ensures err { OnErr result (held.new ≡ held.old) }
+    ensures steps { (s : Parts) → Agrees held.old s → steps.new ≤ steps.old + (length (places_at shape.now s table key) + 1) }
+{
+    let places = candidates(shape, held, table, key);
+    let place = match judge_change(shape, held, own, table, places, steps)? {
+        Ok(place) => place,
+        Err(fault) => return Ok(Err(fault)),
+    };
+    install(shape, held, table, place, own.session, Change::Gone)?;
+    Ok(Ok(place))
+}

@@ -1,0 +1,141 @@
+//! Adding a row whose key has none.
+ghost use Rattle.std.specs.Prelude.{◌≡◌, ◌+◌, ◌≤◌, ◌<◌, ◌^◌, None, IfOk, IsTrue, OnOk, OnErr, length};
+ghost use Rattle.block_spec.specs.declared.change.Change.TheVariants as change;
+ghost use Rattle.core_parts.specs.Hands.{Has, Makes, MayRun, after, in_hand};
+ghost use Rattle.event_spec.specs.declared.event.Event.TheVariants as event;
+ghost use Rattle.event_spec.specs.Parts.{HeadOf, Parts, ShardOf, head_from, names, places_at, shard_from, shard_of};
+ghost use Rattle.event_spec.specs.Replies.{reply_to_write};
+ghost use Rattle.frame_laws.specs.Shards.{ShardHolds};
+ghost use Rattle.hall_rule.specs.Hands.{Agrees};
+ghost use Rattle.isolation_spec.specs.Contents.{key_of};
+ghost use Rattle.key_events.specs.Puts.{put_changes, row_changes};
+ghost use Rattle.slot_writes.specs.Writes.{TakesAt};
+
+use crate::keyed::candidates;
+use block_layout::SlotId;
+use block_spec::Change;
+use cell_model::Row;
+use core_parts::{CorePart, Shape, head};
+use event_spec::{OwnKey, WriteFault};
+use hall_rule::Hand;
+use key_judge::judge_insert;
+use slot_writes::{add_candidate, drop_candidate, install, key_of, take_slot};
+use std::alloc::AllocError;
+use std::sync::ledger::Ledger;
+use steps::Steps;
+
+// Puts a row in a slot, and adds the slot to the key's candidates before. Without memory the hand stays.
+fn put_row(
+    shape: &Shape,
+    held: &mut Hand<CorePart>,
+    session: u32,
+    table: u32,
+    key: i64,
+    place: SlotId,
+    row: Row,
+) -> Result<(), AllocError>
+    requires room { length held.old ≡ length (names shape.now) }
+    requires shard { Has shape.now held.old (ShardOf table (shard_of key)) }
+    requires order { ShardHolds (shard_of key) (shard_from (in_hand shape.now held.old (ShardOf table (shard_of key)))) }
+    requires takes { TakesAt shape.now held.old table place session (change.Put row) }
+    ensures ok { OnOk result (held.new ≡ after shape.now (row_changes session table key place row) held.old) }
+    ensures err { OnErr result (held.new ≡ held.old) }
+{
+    let added = add_candidate(shape, held, table, key, place)?;
+    match install(shape, held, table, place, session, Change::Put(row)) {
+        Ok(()) => Ok(()),
+        Err(error) => {
+            if added {
+                drop_candidate(shape, held, table, key, place);
+            }
+            Err(error)
+        }
+    }
+}
+
+// Whether a table's head can count one more insert.
+fn counts_on(shape: &Shape, held: &Hand<CorePart>, table: u32) -> bool
+    requires { Has shape.now held.now (HeadOf table) }
+    ensures { IsTrue result → (head_from (in_hand shape.now held.now (HeadOf table))).inserts + 1 < 2 ^ 64 }
+{
+    head(shape, held, table).inserts() < u64::MAX
+}
+
+// Puts a row of a key that the transaction did not write in the head's next slot. Without memory, and where
+// the count of inserts is at its end, the hand stays.
+fn put_next(
+    shape: &Shape,
+    held: &mut Hand<CorePart>,
+    own: &OwnKey,
+    table: u32,
+    key: i64,
+    place: SlotId,
+    row: Row,
+) -> Result<(), AllocError>
+    requires room { length held.old ≡ length (names shape.now) }
+    requires shard { Has shape.now held.old (ShardOf table (shard_of key)) }
+    requires order { ShardHolds (shard_of key) (shard_from (in_hand shape.now held.old (ShardOf table (shard_of key)))) }
+    requires takes { TakesAt shape.now held.old table place own.now.session (change.Put row) }
+    requires head { Has shape.now held.old (HeadOf table) }
+    requires fresh { own.now.written ≡ None }
+    ensures ok { OnOk result (held.new ≡ after shape.now (put_changes shape.now own.now table key place row) held.old) }
+    ensures err { OnErr result (held.new ≡ held.old) }
+{
+    if !counts_on(shape, held, table) {
+        return Err(AllocError);
+    }
+    put_row(shape, held, own.session, table, key, place, row)?;
+    take_slot(shape, held, table);
+    Ok(())
+}
+
+// Puts a row in the slot that an insert goes to. Without memory the hand stays.
+fn put(
+    shape: &Shape,
+    held: &mut Hand<CorePart>,
+    own: &OwnKey,
+    table: u32,
+    key: i64,
+    place: SlotId,
+    row: Row,
+) -> Result<(), AllocError>
+    requires room { length held.old ≡ length (names shape.now) }
+    requires shard { Has shape.now held.old (ShardOf table (shard_of key)) }
+    requires order { ShardHolds (shard_of key) (shard_from (in_hand shape.now held.old (ShardOf table (shard_of key)))) }
+    requires takes { TakesAt shape.now held.old table place own.now.session (change.Put row) }
+    requires head { Has shape.now held.old (HeadOf table) }
+    ensures ok { OnOk result (held.new ≡ after shape.now (put_changes shape.now own.now table key place row) held.old) }
+    ensures err { OnErr result (held.new ≡ held.old) }
+{
+    if own.written.is_none() {
+        return put_next(shape, held, own, table, key, place, row);
+    }
+    put_row(shape, held, own.session, table, key, place, row)
+}
+
+/// Adds a row whose key has none. Without memory, and where the table's count of inserts is at its end,
+/// the hand stays.
+pub fn insert<L: Ledger>(
+    shape: &Shape,
+    held: &mut Hand<CorePart>,
+    own: &OwnKey,
+    table: u32,
+    row: Row,
+    steps: &mut Steps<L>,
+) -> Result<Result<SlotId, WriteFault>, AllocError>
+    requires { MayRun shape.now (event.Insert own.now table row) held.old }
+    ensures ok { IfOk result (λ judged. Makes shape.now (event.Insert own.now table row) held.old held.new (reply_to_write judged)) }
+    ensures err { OnErr result (held.new ≡ held.old) }
+    ensures steps { (s : Parts) → Agrees held.old s → steps.new ≤ steps.old + (length (places_at shape.now s table (key_of row)) + 1) }
+{
+    // The row fits the table's columns, which begin with the key.
+    let _schema = shape.schema(table).columns();
+    let key = key_of(&row);
+    let places = candidates(shape, held, table, key);
+    let place = match judge_insert(shape, held, own, table, places, steps)? {
+        Ok(place) => place,
+        Err(fault) => return Ok(Err(fault)),
+    };
+    put(shape, held, own, table, key, place, row)?;
+    Ok(Ok(place))
+}
