@@ -1,4 +1,5 @@
 //! Whole runs: what the words and the input give.
+mod checked;
 mod shown;
 
 ghost use Rattle.std.specs.Prelude.{None, refl};
@@ -174,7 +175,7 @@ struct Fault {
     exported: usize,
 }
 
-const FAULTS: [Fault; 18] = [
+const FAULTS: [Fault; 16] = [
     Fault {
         words: &["mainline", "walk"],
         commands: EXPORT,
@@ -220,24 +221,6 @@ const FAULTS: [Fault; 18] = [
         failing: NOTHING_FAILS,
         status: Status::NotAStream,
         printed: "not a stream at 0 Marker\n",
-        started: 0,
-        exported: 0,
-    },
-    Fault {
-        words: &["mainline", "check"],
-        commands: "1 begin\n1 insert b 1\n====\n1 1 1 at 0\n1 1 2 ok\n",
-        failing: NOTHING_FAILS,
-        status: Status::Done,
-        printed: "explained\n",
-        started: 0,
-        exported: 0,
-    },
-    Fault {
-        words: &["mainline", "check"],
-        commands: "1 begin\n1 insert b 1\n====\n1 1 1 at 0\n1 1 2 exists\n",
-        failing: NOTHING_FAILS,
-        status: Status::Done,
-        printed: "not explained 2\n",
         started: 0,
         exported: 0,
     },
