@@ -1,5 +1,5 @@
 -- What a call tells may stand where it is due.
-use Rattle.std.proofs.Common.{◌≡◌, ◌⊎◌, ℕ, ◌+◌, ◌<◌, ◌^◌, ℤ, Bool, true, false, cond, List, length, Option, None, Some, is_some, is_none, refl, sym, ap, ◌∙◌, subst, arith}
+use Rattle.std.proofs.Common.{◌≡◌, ◌⊎◌, ℕ, ◌+◌, ◌<◌, ◌^◌, ℤ, Bool, true, false, cond, List, length, Option, None, Some, option_map, is_some, is_none, refl, sym, ap, ◌∙◌, subst, arith}
 use mathlib.Core.Logic.{inl, inr}
 use Rattle.std.specs.Prelude.{IfSome, Result, Ok, Err, option_and_then}
 use Rattle.std.specs.Option.{option_or}
@@ -37,6 +37,7 @@ use Rattle.workload_spec.specs.declared.script.Script.{Script}
 use Rattle.run_spec.specs.Asked.{looks_in}
 use Rattle.run_spec.specs.Calls.{line_to, may_lack_memory}
 use Rattle.run_spec.specs.Occurrences.{Occurrence}
+use Rattle.run_spec.specs.Opened.{least_written}
 use Rattle.run_spec.specs.Ran.{shape_of}
 use Rattle.run_spec.specs.Told.{cause_told, refusal_of, told_by}
 use Rattle.told_laws.specs.Laws.{TellsAt, TellsMove, is_quiet}
@@ -53,6 +54,7 @@ use Rattle.isolation_spec.specs.declared.command.Act.TheVariants as act
 use Rattle.timeline_spec.specs.Forms.{IsChangeReply}
 use Rattle.explained_laws.proofs.Counting.{current_row, kept_few, plan_few, row_filled}
 use Rattle.explained_laws.proofs.Holding.{Holds}
+use Rattle.explained_laws.proofs.Keys.{KeysFit, least_fits}
 use Rattle.explained_laws.proofs.Shown.{silent_or}
 
 true_false : true ≡ false → ⊥
@@ -70,22 +72,27 @@ needs_stands : (asked : Command) (own : Option OwnTransaction) (line : Said) →
 needs_stands asked None line is e = inr (subst (IsReplyWithout asked) (same_line said.NoTransaction line e) is)
 needs_stands asked (Some t) line is e = absurd (none_is line e)
 
-pub refusal_stands : (asked : Command) (own : Option OwnTransaction) (line : Said) → ((table : ℕ) → asked ≡ command.Export table → ⊥) → refusal_of asked own ≡ Some line → MayStand asked line
-refusal_stands command.Begin None line not_export e = absurd (none_is line e)
-refusal_stands command.Begin (Some t) line not_export e = inl (sym (same_line said.InTransaction line e))
-refusal_stands (command.Get table key) own line not_export e = needs_stands (command.Get table key) own line refl e
-refusal_stands (command.Scan table) own line not_export e = needs_stands (command.Scan table) own line refl e
-refusal_stands (command.Insert table row) own line not_export e = needs_stands (command.Insert table row) own line refl e
-refusal_stands (command.Update table row) own line not_export e = needs_stands (command.Update table row) own line refl e
-refusal_stands (command.Delete table key) own line not_export e = needs_stands (command.Delete table key) own line refl e
-refusal_stands command.Commit own line not_export e = needs_stands command.Commit own line refl e
-refusal_stands command.Abort own line not_export e = needs_stands command.Abort own line refl e
-refusal_stands command.Observe own line not_export e = absurd (none_is line e)
-refusal_stands command.Prune own line not_export e = absurd (none_is line e)
-refusal_stands (command.Compact table) own line not_export e = absurd (none_is line e)
-refusal_stands (command.Seal table block) own line not_export e = absurd (none_is line e)
-refusal_stands (command.Gather table block) own line not_export e = absurd (none_is line e)
-refusal_stands (command.Export table) own line not_export e = absurd (not_export table refl)
+pub refusal_stands : (asked : Command) (own : Option OwnTransaction) (line : Said) → KeysFit own → refusal_of asked own ≡ Some line → MayStand asked line
+refusal_stands command.Begin None line fit e = absurd (none_is line e)
+refusal_stands command.Begin (Some t) line fit e = inl (sym (same_line said.InTransaction line e))
+refusal_stands (command.Get table key) own line fit e = needs_stands (command.Get table key) own line refl e
+refusal_stands (command.Scan table) own line fit e = needs_stands (command.Scan table) own line refl e
+refusal_stands (command.Insert table row) own line fit e = needs_stands (command.Insert table row) own line refl e
+refusal_stands (command.Update table row) own line fit e = needs_stands (command.Update table row) own line refl e
+refusal_stands (command.Delete table key) own line fit e = needs_stands (command.Delete table key) own line refl e
+refusal_stands command.Commit own line fit e = needs_stands command.Commit own line refl e
+refusal_stands command.Abort own line fit e = needs_stands command.Abort own line refl e
+refusal_stands command.Observe own line fit e = absurd (none_is line e)
+refusal_stands command.Prune own line fit e = absurd (none_is line e)
+refusal_stands (command.Compact table) own line fit e = absurd (none_is line e)
+refusal_stands (command.Seal table block) own line fit e = absurd (none_is line e)
+refusal_stands (command.Gather table block) own line fit e = absurd (none_is line e)
+refusal_stands (command.Export table) None line fit e = inr (sym (same_line said.NoTransaction line e))
+refusal_stands (command.Export table) (Some t) line fit e = go (least_written table t) refl e
+  where
+    go : (o : Option ℤ) → least_written table t ≡ o → option_map said.Dirty o ≡ Some line → MayStand (command.Export table) line
+    go None is e = absurd (none_is line e)
+    go (Some key) is e = subst (MayStand (command.Export table)) (same_line (said.Dirty key) line e) (inl (least_fits table t key fit is))
 
 pub memory_stands : (asked : Command) → may_lack_memory asked ≡ true → MayStand asked said.Memory
 memory_stands command.Begin e = absurd (true_false (sym e))

@@ -139,7 +139,7 @@ row_filled slot e = go slot.row e
 
 -- ---- tables
 
-blocks_same : (tables : List TableDecl) (n t : ℕ) → blocks_at tables t ≡ blocks_of (record { tables = tables; passes = n }) t
+pub blocks_same : (tables : List TableDecl) (n t : ℕ) → blocks_at tables t ≡ blocks_of (record { tables = tables; passes = n }) t
 blocks_same tables n t = go (slice_get tables t)
   where
     go : (o : Option TableDecl) → option_map_or (λ decl. decl.blocks) o 0 ≡ unwrap_or (option_map (λ (decl : TableDecl). decl.blocks) o) 0

@@ -214,7 +214,7 @@ module _ (script : Script) (valid : is_valid script ≡ true) where
 
 -- ---- all moments
 
-module _ (script : Script) (valid : is_valid script ≡ true) (never_prunes : Never script command.Prune) (never_exports : (table : ℕ) → Never script (command.Export table)) where
+module _ (script : Script) (valid : is_valid script ≡ true) (never_prunes : Never script command.Prune) where
   few32 : (t : ℕ) → blocks_of (shape_of script) t < 2 ^ 32
   few32 t = let few = few_blocks script valid t in omega (arith, few)
 
@@ -222,8 +222,8 @@ module _ (script : Script) (valid : is_valid script ≡ true) (never_prunes : Ne
       → Holds script parts front at lines → Ends script front seat None line → Answered (who_at script seat) line.call
   ends_alone parts front at lines seat line held ends = answered (who_at script seat) line.call
       (plain_or_moved (is_worker (who_at script seat)) line.call.command line.call.told plain.0 plain.1 plain.2)
-      (λ said' tells. may_stand script valid seat parts front at at line.call (alone_ended script valid never_prunes never_exports parts front at lines seat line held ends)
-      never_prunes never_exports (all_few script valid) few32 said' tells (inl none))
+      (λ said' tells. may_stand script valid seat parts front at at line.call (alone_ended script valid never_prunes parts front at lines seat line held ends)
+      never_prunes (all_few script valid) few32 said' tells (inl none))
     where
       none : line.call.made ≡ []
       none = ends.made ∙ ap (λ xs. xs ++ []) (ends.none refl)
@@ -246,33 +246,33 @@ module _ (script : Script) (valid : is_valid script ≡ true) (never_prunes : Ne
   one seat None None ms on log parts front at lines held lawful are its stands rest events = absurd stands
   one seat None (Some line) ms on log parts front at lines held lawful are its stands rest events = (
     ends_alone parts front at lines seat line held stands,
-    on log parts front at (with_reply lines line.printed) (alone_held script valid never_prunes never_exports parts front at lines seat line held stands) lawful are rest events,
+    on log parts front at (with_reply lines line.printed) (alone_held script valid never_prunes parts front at lines seat line held stands) lawful are rest events,
   )
-  one seat (Some o) line ms on [] parts front at lines held lawful are its stands rest events = absurd (no_event script valid never_prunes never_exports o (events_at ms) events)
+  one seat (Some o) line ms on [] parts front at lines held lawful are its stands rest events = absurd (no_event script valid never_prunes o (events_at ms) events)
   one seat (Some o) None ms on (entry ∷ log) parts front at lines held lawful are its stands rest events =
-      let same : o ≡ occurrence_of (shape_of script) parts entry = first_is script valid never_prunes never_exports o (occurrence_of (shape_of script) parts entry) (events_at ms) (occurrences_from (shape_of script) (after (shape_of script) parts entry.made) log) events in
+      let same : o ≡ occurrence_of (shape_of script) parts entry = first_is script valid never_prunes o (occurrence_of (shape_of script) parts entry) (events_at ms) (occurrences_from (shape_of script) (after (shape_of script) parts entry.made) log) events in
       let seat_is : entry.session ≡ seat = ap (λ (o : Occurrence). o.session) (sym same) ∙ its in
       let goes = subst (GoesOn script front seat) same stands in
       let here = named entry.session entry.made.event (and_first (is_of entry.session entry.made.event) (are_named log) are) in (
         tt,
         on log (after (shape_of script) parts entry.made) (front ++ occurrence_of (shape_of script) parts entry ∷ []) at lines
-            (onward script valid never_prunes never_exports parts front at lines seat entry seat_is held lawful.0 lawful.1 here goes)
+            (onward script valid never_prunes parts front at lines seat entry seat_is held lawful.0 lawful.1 here goes)
             lawful.2 (and_second (is_of entry.session entry.made.event) (are_named log) are)
             (subst (λ o. AreMoments script (front ++ o ∷ []) ms) same rest)
-            (rest_is script valid never_prunes never_exports o (occurrence_of (shape_of script) parts entry) (events_at ms) (occurrences_from (shape_of script) (after (shape_of script) parts entry.made) log) events),
+            (rest_is script valid never_prunes o (occurrence_of (shape_of script) parts entry) (events_at ms) (occurrences_from (shape_of script) (after (shape_of script) parts entry.made) log) events),
       )
   one seat (Some o) (Some line) ms on (entry ∷ log) parts front at lines held lawful are its stands rest events =
-      let same : o ≡ occurrence_of (shape_of script) parts entry = first_is script valid never_prunes never_exports o (occurrence_of (shape_of script) parts entry) (events_at ms) (occurrences_from (shape_of script) (after (shape_of script) parts entry.made) log) events in
+      let same : o ≡ occurrence_of (shape_of script) parts entry = first_is script valid never_prunes o (occurrence_of (shape_of script) parts entry) (events_at ms) (occurrences_from (shape_of script) (after (shape_of script) parts entry.made) log) events in
       let seat_is : entry.session ≡ seat = ap (λ (o : Occurrence). o.session) (sym same) ∙ its in
       let ends = subst (λ o. Ends script front seat (Some o) line) same stands in
       let here = named entry.session entry.made.event (and_first (is_of entry.session entry.made.event) (are_named log) are) in
-      let next = moved script valid never_prunes never_exports parts front at lines seat entry seat_is held lawful.0 lawful.1 here in
-      let tells = tells_at script valid never_prunes never_exports parts front at lines seat entry seat_is held lawful.0 lawful.1 here line ends in
-      let is_ended = ended script valid never_prunes never_exports parts front at lines seat entry seat_is held lawful.0 lawful.1 here line ends in (
+      let next = moved script valid never_prunes parts front at lines seat entry seat_is held lawful.0 lawful.1 here in
+      let tells = tells_at script valid never_prunes parts front at lines seat entry seat_is held lawful.0 lawful.1 here line ends in
+      let is_ended = ended script valid never_prunes parts front at lines seat entry seat_is held lawful.0 lawful.1 here line ends in (
         answered (who_at script seat) line.call
             (event_loud (shape_of script) parts (is_worker (who_at script seat)) line.call.made line.call.command line.call.told entry.made.event entry.made.refused tells)
             (λ said' says. may_stand script valid seat (after (shape_of script) parts entry.made) (front ++ occurrence_of (shape_of script) parts entry ∷ []) at next.0 line.call is_ended
-            never_prunes never_exports (all_few script valid) few32 said' says
+            never_prunes (all_few script valid) few32 said' says
             (inr (record {
               done = ends.done;
               made = occurrence_of (shape_of script) parts entry;
@@ -281,10 +281,10 @@ module _ (script : Script) (valid : is_valid script ≡ true) (never_prunes : Ne
                   line.call.made line.call.command line.call.told lawful.0 lawful.1 next.1 tells loud said' says;
             }))),
         on log (after (shape_of script) parts entry.made) (front ++ occurrence_of (shape_of script) parts entry ∷ []) next.0 (with_reply lines line.printed)
-            (after_held script valid never_prunes never_exports parts front at lines seat entry seat_is held lawful.0 lawful.1 here line ends)
+            (after_held script valid never_prunes parts front at lines seat entry seat_is held lawful.0 lawful.1 here line ends)
             lawful.2 (and_second (is_of entry.session entry.made.event) (are_named log) are)
             (subst (λ o. AreMoments script (front ++ o ∷ []) ms) same rest)
-            (rest_is script valid never_prunes never_exports o (occurrence_of (shape_of script) parts entry) (events_at ms) (occurrences_from (shape_of script) (after (shape_of script) parts entry.made) log) events),
+            (rest_is script valid never_prunes o (occurrence_of (shape_of script) parts entry) (events_at ms) (occurrences_from (shape_of script) (after (shape_of script) parts entry.made) log) events),
       )
 
   all_answer : (ms : List Moment) → On ms
@@ -321,12 +321,12 @@ rounds_stand number (round ∷ rounds) each =
     (shares_stand number round.shares each.0) (rounds_stand (number + 1) rounds each.1)
 
 pub runs_are_explained : RunsAreExplained
-runs_are_explained script log text valid never_prunes never_exports ran =
+runs_are_explained script log text valid never_prunes ran =
     let moments = runs_have_moments script log text ran in
-    let each = all_answer script valid never_prunes never_exports (moments_of script ran.rounds) log (opening (shape_of script)) [] machine.opening []
+    let each = all_answer script valid never_prunes (moments_of script ran.rounds) log (opening (shape_of script)) [] machine.opening []
     (holds_first script (is_shape script valid)) ran.lawful (run_named script log text ran) moments.calls moments.events in
     let stand = subst (λ dues. AllMayStand dues (told_in ran.rounds)) (sym (calls_answer script ran.rounds ran.asked))
     (rounds_stand 1 ran.rounds (each_call script log text ran Answered each)) in
     subst (Explained script) (sym ran.printed)
     (run-explained script (told_in ran.rounds) (replies_at (moments_of script ran.rounds)) valid stand
-    (runs_give_timelines script log text valid never_prunes never_exports ran))
+    (runs_give_timelines script log text valid never_prunes ran))

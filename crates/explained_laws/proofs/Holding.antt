@@ -44,7 +44,9 @@ use Rattle.ran_laws.specs.Upkeep.{AreReplied}
 use Rattle.moment_laws.specs.Laws.{Ends, IsPrinted}
 use Rattle.moment_laws.specs.Moments.{who_at, with_reply}
 use Rattle.told_laws.proofs.Tells.{last_events_are_told}
+use Rattle.told_laws.specs.Laws.{TellsAt}
 use Rattle.explained_laws.specs.Reads.{ReadsStandIn}
+use Rattle.explained_laws.proofs.Keys.{KeyFits, KeysAgree, keys_go, no_keys}
 use Rattle.explained_laws.proofs.Rereading.{reads_stand}
 use Rattle.explained_laws.proofs.Shown.{Adds, accepted, event_adds, insert_adds, inserts_more, shown, shown_more}
 
@@ -73,6 +75,7 @@ pub record Holds (script : Script) (parts : Parts) (front : List Occurrence) (at
   pub frozen : (made : Occurrence) → Among made front → WasFrozen lines made
   pub room : (t : ℕ) → HasTable (shape_of script) t → HasRoom (shape_of script) parts lines t
   pub narrow : IsNarrow (desk_at (shape_of script) parts)
+  pub keys : KeysAgree front at
 
 pub holds_first : (script : Script) → IsShape (shape_of script) → Holds script (opening (shape_of script)) [] machine.opening []
 holds_first script is_shape = record {
@@ -89,6 +92,7 @@ holds_first script is_shape = record {
   frozen = λ made among. absurd among;
   room = λ t has. let o = opens_empty (shape_of script) t is_shape has in let a = o.0 in let b = o.1 in record { used_up = omega (arith, a); inserts = omega (arith, b) };
   narrow = opens_narrow (shape_of script) is_shape;
+  keys = no_keys;
 }
   where
     none : (began done : List Occurrence) → [] ≡ began ++ done → (made : Occurrence) → Among made done → ⊥
@@ -110,16 +114,11 @@ module _ (script : Script) (parts : Parts) (front : List Occurrence) (lines : Li
   abbrev worker : Bool
   worker = is_worker (who_at script seat)
 
-  pub ends_adds : (entry : Logged) (line : Lined) → entry.session ≡ seat → AreReplied (shape_of script) front
+  pub ends_tells : (entry : Logged) (line : Lined) → entry.session ≡ seat → AreReplied (shape_of script) front
       → Ends script front seat (Some (occurrence_of (shape_of script) parts entry)) line
-      → AddsAt (shape_of script) parts entry.made line.call.told line.call.command
-  ends_adds entry line same replied ends =
-      let made : Occurrence = occurrence_of (shape_of script) parts entry in
-      let is = last_events_are_told (shape_of script) (is_worker (who_at script seat)) seat ends.began line.call ends.done made ends.is_call call_replied ends.made in
-      record {
-        adds = λ t b. event_adds (shape_of script) parts t b (is_worker (who_at script seat)) line.call.command line.call.made line.call.told entry.made.event entry.made.refused is;
-        inserts = λ t. insert_adds (shape_of script) parts t 0 (is_worker (who_at script seat)) line.call.command line.call.made line.call.told entry.made.event entry.made.refused is;
-      }
+      → TellsAt (is_worker (who_at script seat)) line.call.made entry.made.event (reply_after (shape_of script) parts entry.made) line.call.command line.call.told
+  ends_tells entry line same replied ends =
+      last_events_are_told (shape_of script) (is_worker (who_at script seat)) seat ends.began line.call ends.done (occurrence_of (shape_of script) parts entry) ends.is_call call_replied ends.made
     where
       all : AreReplied (shape_of script) (under seat front ++ occurrence_of (shape_of script) parts entry ∷ [])
       all = append (under seat front) (under_replied (shape_of script) seat front replied)
@@ -132,6 +131,16 @@ module _ (script : Script) (parts : Parts) (front : List Occurrence) (lines : Li
       call_replied = subst (AreReplied (shape_of script)) (sym ends.made)
           (rest_replied (shape_of script) ends.began (ends.done ++ occurrence_of (shape_of script) parts entry ∷ [])
           (subst (AreReplied (shape_of script)) (ap (λ xs. xs ++ occurrence_of (shape_of script) parts entry ∷ []) ends.behind ∙ append_assoc ends.began ends.done (occurrence_of (shape_of script) parts entry ∷ [])) all))
+
+  pub ends_adds : (entry : Logged) (line : Lined) → entry.session ≡ seat → AreReplied (shape_of script) front
+      → Ends script front seat (Some (occurrence_of (shape_of script) parts entry)) line
+      → AddsAt (shape_of script) parts entry.made line.call.told line.call.command
+  ends_adds entry line same replied ends =
+      let is = ends_tells entry line same replied ends in
+      record {
+        adds = λ t b. event_adds (shape_of script) parts t b (is_worker (who_at script seat)) line.call.command line.call.made line.call.told entry.made.event entry.made.refused is;
+        inserts = λ t. insert_adds (shape_of script) parts t 0 (is_worker (who_at script seat)) line.call.command line.call.made line.call.told entry.made.event entry.made.refused is;
+      }
 
 -- ---- lines in front
 
@@ -176,13 +185,13 @@ imaged_loose (Sealed g) e = absurd (let never : ⊥ = cc e in never)
 imaged_loose (Imaged g) e = (refl, refl)
 
 pub next_holds : (script : Script) (parts : Parts) (front : List Occurrence) (at next : IsolationMachine) (lines after_lines : List Entry) (entry : Logged)
-    → IsShape (shape_of script) → IsLawful (shape_of script) entry.made.event parts → IsNamed entry
+    → IsShape (shape_of script) → IsLawful (shape_of script) entry.made.event parts → IsNamed entry → KeyFits entry.made.event
     → IsStep (command_in entry.made.event) at (reply_after (shape_of script) parts entry.made) next
     → FollowsMachine (shape_of script) (after (shape_of script) parts entry.made) next
     → Counted script parts entry.made lines after_lines
     → Holds script parts front at lines
     → Holds script (after (shape_of script) parts entry.made) (front ++ occurrence_of (shape_of script) parts entry ∷ []) next after_lines
-next_holds script parts front at next lines after_lines entry is_shape lawful named step follows counted holds = record {
+next_holds script parts front at next lines after_lines entry is_shape lawful named fits step follows counted holds = record {
   ok = made_keeps (shape_of script) parts entry.made is_shape holds.ok lawful;
   follows = follows;
   agrees = opens_as (shape_of script) parts entry front at next named step holds.agrees;
@@ -205,6 +214,7 @@ next_holds script parts front at next lines after_lines entry is_shape lawful na
       let u = old.used_up in let i = old.inserts in let cr = c.room in let ci = c.inserts in let m = counted.inserts t in
       record { used_up = omega (arith, u, cr); inserts = omega (arith, i, ci, m) };
   narrow = numbers_are_narrow (shape_of script) parts entry.made holds.ok lawful holds.narrow;
+  keys = keys_go (shape_of script) parts entry front at next named fits step holds.keys;
 }
   where
     append : (xs : List Occurrence) → AreReplied (shape_of script) xs → AreReplied (shape_of script) (xs ++ occurrence_of (shape_of script) parts entry ∷ [])
@@ -266,4 +276,5 @@ same_holds script parts front at lines after_lines seals freezes inserts holds =
   frozen = λ made among own t b is shared. let low = holds.frozen made among own t b is shared in let f = freezes t b in omega (arith, low, f);
   room = λ t has. let old = holds.room t has in let u = old.used_up in let i = old.inserts in let m = inserts t in record { used_up = u; inserts = omega (arith, i, m) };
   narrow = holds.narrow;
+  keys = holds.keys;
 }

@@ -1,9 +1,11 @@
+pub mod Keys
 pub mod Rereading
 pub mod Shown
 pub mod Holding
 pub mod Counting
 pub mod Scripts
 pub mod Taking
+pub mod Exporting
 pub mod Walk
 pub mod Conflicting
 pub mod Answering

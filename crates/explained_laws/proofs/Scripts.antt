@@ -1,27 +1,42 @@
 -- What is asked of a workload's sessions and workers, and its tables.
-use Rattle.std.proofs.Common.{◌≡◌, ℕ, zero, suc, ◌<◌, ◌≤◌, ◌^◌, nat_le, nat_lt, min, Bool, true, false, cond, ◌&&◌, ◌==◌, List, [], ◌∷◌, length, None, Some, refl, sym, ap, ◌∙◌, subst, arith}
+use Rattle.std.proofs.Common.{◌≡◌, ◌⊎◌, ℕ, zero, suc, ◌<◌, ◌≤◌, ◌^◌, nat_le, nat_lt, min, Bool, true, false, cond, ◌&&◌, ◌==◌, List, [], ◌∷◌, length, Option, None, Some, refl, sym, ap, ◌∙◌, subst, arith}
 use mathlib.Core.Logic.{inl, inr}
-use Rattle.std.specs.Prelude.{◌*◌, ◌/◌, ◌%◌, is_some, option_map, slice_get, unwrap_or}
+use Rattle.std.specs.Prelude.{◌*◌, ◌/◌, ◌%◌, is_none, is_some, option_map, slice_get, unwrap_or}
 use Rattle.std.specs.List.{enumerate_from, filter_map, flat_map, list_all, range_with_len}
 use Rattle.std.specs.Option.{option_map_or}
 use Rattle.std.proofs.lemmas.Bool.Decides.{nat_tests}
 use Rattle.std.proofs.lemmas.List.Folds.{list_all-append}
 use Rattle.std.proofs.lemmas.Option.{slice_get_past}
+use Rattle.cell_model.specs.declared.cell.Cell.{Cell}
+use Rattle.cell_model.specs.declared.column.Column.{Column}
+use Rattle.cell_model.specs.declared.row.RowFault.{RowFault}
+use Rattle.cell_model.specs.declared.row.RowFault.TheVariants.{Arity}
 use Rattle.cell_model.specs.declared.table.TableDecl.{TableDecl}
-use Rattle.cell_model.specs.Schemas.{most_slots_of, row_bits}
+use Rattle.cell_model.specs.Rows.{cell_fault, first_fault, fits}
+use Rattle.cell_model.specs.Schemas.{begins_with_key, first_twins, most_columns, most_slots_of, row_bits}
 use Rattle.event_laws.proofs.Lists.{kept_member, member_flat}
+use Rattle.event_spec.specs.declared.event.Event.TheVariants as event
+use Rattle.event_spec.specs.Effects.{CoreEvent}
 use Rattle.event_spec.specs.Lawful.{Among, HasTable}
 use Rattle.event_spec.specs.Parts.{blocks_of, slots_of}
+use Rattle.event_spec.specs.Replies.{CoreReply}
 use Rattle.event_spec.specs.Sound.{IsShape}
+use Rattle.isolation_spec.specs.Contents.{key_of}
 use Rattle.outcome_spec.specs.Forms.{commands_of, is_upkeep, turn_of}
 use Rattle.workload_spec.specs.declared.command.Command.{Command}
 use Rattle.workload_spec.specs.declared.command.Command.TheVariants as command
 use Rattle.workload_spec.specs.declared.script.Line.{Line}
 use Rattle.workload_spec.specs.declared.script.Script.{Script}
-use Rattle.workload_spec.specs.Valid.{all_lines, are_blocks, are_columns, are_slots, has_head, have_own_names, is_command, is_export, is_line, is_name, is_table, is_valid, is_within, most_sessions, most_tables, most_turns, most_workers}
+use Rattle.workload_spec.specs.Valid.{all_lines, are_blocks, are_columns, are_slots, fits_table, has_head, have_own_names, is_command, is_export, is_key_number, is_line, is_name, is_table, is_valid, is_table_place, is_within, most_sessions, most_tables, most_turns, most_workers}
+use Rattle.workload_spec.specs.declared.reply.Said.{Said}
+use Rattle.workload_laws.proofs.CommandsBack.{key_cell}
+use Rattle.run_spec.specs.Occurrences.{Occurrence}
 use Rattle.run_spec.specs.Ran.{shape_of, turns_of}
 use Rattle.ran_laws.proofs.Along.{and_first, and_second, both}
+use Rattle.told_laws.specs.Laws.{TellsAt}
 use Rattle.moment_laws.specs.Laws.{IsAsked}
+use Rattle.moment_laws.proofs.Seats.{either}
+use Rattle.explained_laws.proofs.Keys.{KeyFits}
 
 all_member : {X : Type 0} (p : X → Bool) (xs : List X) (x : X) → list_all p xs ≡ true → Among x xs → p x ≡ true
 all_member p [] x all a = absurd a
@@ -47,6 +62,27 @@ pub worker_upkeep : (script : Script) (seat : ℕ) (asked : Command) → script.
 worker_upkeep script seat asked high is =
     let e : nat_le seat script.sessions ≡ false = grind (arith, nat_tests, high) in
     all_member is_upkeep (turns_of script) asked (turns_upkeep script) (subst (Among asked) (ap (λ b. cond b (commands_of seat is.0) (turns_of script)) e) is.2)
+
+-- ---- keys
+
+fit_parts : (b : Bool) (fault : Option RowFault) → is_none (cond b fault (Some Arity)) ≡ true → (b ≡ true) × (is_none fault ≡ true)
+fit_parts true fault fitting = (refl, fitting)
+fit_parts false fault fitting = absurd (let never : ⊥ = cc fitting in never)
+
+first_fits : (own rest : Option RowFault) → is_none (cond (is_none own) rest own) ≡ true → is_none own ≡ true
+first_fits None rest none = refl
+first_fits (Some fault) rest none = absurd (let never : ⊥ = cc none in never)
+
+-- the key of a row that fits columns which begin with a key is a number of 64 bits
+row_key : (columns : List Column) (row : List Cell) → begins_with_key columns ≡ true → fits columns row ≡ true → is_key_number (key_of row) ≡ true
+row_key [] row key fitting = absurd (let never : ⊥ = cc key in never)
+row_key (column ∷ columns) [] key fitting =
+    let same = (fit_parts (length {A = Cell} [] == length (column ∷ columns)) (first_fault 0 (column ∷ columns) []) fitting).0 in
+    absurd (let never : ⊥ = grind (arith, nat_tests, same) in never)
+row_key (column ∷ columns) (cell ∷ cells) key fitting =
+    let found = key_cell column cell key
+    (first_fits (cell_fault 0 column cell) (first_fault 1 columns cells) (fit_parts (length (cell ∷ cells) == length (column ∷ columns)) (first_fault 0 (column ∷ columns) (cell ∷ cells)) fitting).1) in
+    ap (λ (c : Cell). is_key_number (key_of (c ∷ cells))) found.1 ∙ found.2
 
 -- ---- sessions
 
@@ -129,3 +165,53 @@ module _ (script : Script) (valid : is_valid script ≡ true) where
           let high = and_second (nat_le 1 at.0.blocks) (nat_le at.0.blocks 1024) within in
           let most : at.0.blocks ≤ 1024 = grind (arith, nat_tests, high) in
           omega (arith, is, most)
+
+  -- ---- keys that are written
+
+  row_fits : (t : ℕ) (row : List Cell) → fits_table script.tables t row ≡ true → is_key_number (key_of row) ≡ true
+  row_fits t row fitting = go (nat_lt t (length script.tables)) refl
+    where
+      go : (b : Bool) → nat_lt t (length script.tables) ≡ b → is_key_number (key_of row) ≡ true
+      go false e =
+          let none : slice_get script.tables t ≡ None = slice_get_past script.tables t (grind (arith, nat_tests, e)) in
+          let never : false ≡ true = sym (ap (λ o. option_map_or (λ (decl : TableDecl). fits decl.schema row) o false) none) ∙ fitting in
+          absurd (let no : ⊥ = cc in no)
+      go true e =
+          let at = table_at script.tables t tables_are (grind (arith, nat_tests, e)) in
+          let columns : are_columns at.0.schema ≡ true = and_second (is_name at.0.name) (are_columns at.0.schema)
+          (and_first (is_name at.0.name && are_columns at.0.schema) (are_slots at.0.schema at.0.slots)
+          (and_first (is_name at.0.name && are_columns at.0.schema && are_slots at.0.schema at.0.slots) (are_blocks at.0.blocks) at.2)) in
+          let begins : begins_with_key at.0.schema ≡ true = and_first (begins_with_key at.0.schema) (nat_le (length at.0.schema) most_columns)
+          (and_first (begins_with_key at.0.schema && nat_le (length at.0.schema) most_columns) (is_none (first_twins 0 at.0.schema))
+          (and_first (begins_with_key at.0.schema && nat_le (length at.0.schema) most_columns && is_none (first_twins 0 at.0.schema)) (list_all (λ (column : Column). is_name column.name) at.0.schema) columns)) in
+          row_key at.0.schema row begins (ap (λ o. option_map_or (λ (decl : TableDecl). fits decl.schema row) o false) (sym at.1) ∙ fitting)
+
+  pub asked_fits : (seat : ℕ) (asked : Command) → IsAsked script seat asked → is_upkeep asked ≡ false → is_command script.tables asked ≡ true
+  asked_fits seat asked is not_upkeep = go (either script seat)
+    where
+      go : (seat ≤ script.sessions) ⊎ (script.sessions < seat) → is_command script.tables asked ≡ true
+      go (inl low) = session_asked seat asked low is
+      go (inr high) = let never : false ≡ true = sym not_upkeep ∙ worker_upkeep script seat asked high is in absurd (let no : ⊥ = cc in no)
+
+  -- an event that a call ends with writes a key of 64 bits, if it writes
+  pub event_key : (seat : ℕ) (worker : Bool) (made : List Occurrence) (e : CoreEvent) (told : CoreReply) (asked : Command) (line : Option Said)
+      → IsAsked script seat asked → TellsAt worker made e told asked line → KeyFits e
+  event_key seat worker made (event.Begin session) told asked line is h = tt
+  event_key seat worker made (event.Get own table key) told asked line is h = tt
+  event_key seat worker made (event.Insert own table row) told asked line is h =
+      row_fits table row (ap (is_command script.tables) (sym h.0) ∙ asked_fits seat asked is (ap is_upkeep h.0))
+  event_key seat worker made (event.Update own table row) told asked line is h =
+      row_fits table row (ap (is_command script.tables) (sym h.0) ∙ asked_fits seat asked is (ap is_upkeep h.0))
+  event_key seat worker made (event.Delete own table key) told asked line is h =
+      and_second (is_table_place script.tables table) (is_key_number key) (ap (is_command script.tables) (sym h.0) ∙ asked_fits seat asked is (ap is_upkeep h.0))
+  event_key seat worker made (event.Read own table block) told asked line is h = tt
+  event_key seat worker made (event.Commit own) told asked line is h = tt
+  event_key seat worker made (event.Abort own) told asked line is h = tt
+  event_key seat worker made event.Oldest told asked line is h = tt
+  event_key seat worker made (event.Observe table block) told asked line is h = tt
+  event_key seat worker made (event.Prune table block oldest) told asked line is h = tt
+  event_key seat worker made (event.Look table block) told asked line is h = tt
+  event_key seat worker made (event.Move table moves) told asked line is h = tt
+  event_key seat worker made (event.Seal table block) told asked line is h = tt
+  event_key seat worker made (event.Image table block image) told asked line is h = tt
+  event_key seat worker made (event.Thaw table block) told asked line is h = tt

@@ -2,9 +2,8 @@
 use Rattle.std.proofs.Common.{◌≡◌, ◌⊎◌, ℕ, zero, suc, ◌+◌, ◌*◌, ◌<◌, ◌≤◌, ◌^◌, Bool, true, false, cond, List, [], ◌∷◌, ◌++◌, length, Option, None, Some, is_some, refl, sym, ap, ◌∙◌, subst, arith, append-nil, length-append}
 use mathlib.Core.Logic.{inl, inr}
 use Rattle.std.specs.Prelude.{count_by, option_and_then, option_to_list, slice_get, sum_by}
-use Rattle.std.specs.List.{flat_map, last_or, list_all, range_with_len}
+use Rattle.std.specs.List.{flat_map, last_or, list_all}
 use Rattle.std.proofs.lemmas.List.{length-map}
-use Rattle.std.proofs.lemmas.List.Sums.{sum_by-cons}
 use Rattle.event_spec.specs.declared.event.Event.TheVariants as event
 use Rattle.event_spec.specs.declared.own.OwnTransaction.{OwnTransaction}
 use Rattle.event_spec.specs.declared.reply.Reply.TheVariants as reply
@@ -29,7 +28,7 @@ use Rattle.run_spec.specs.Calls.{Call, IsCallBy, IsWhole, line_to}
 use Rattle.run_spec.specs.Occurrences.{Occurrence, events_in, replies_in}
 use Rattle.run_spec.specs.Opened.{own_after, own_key}
 use Rattle.run_spec.specs.Ran.{shape_of}
-use Rattle.run_spec.specs.Told.{in_key_order, is_turned, line_of, moved_told, refusal_of, rows_told, told_by}
+use Rattle.run_spec.specs.Told.{in_key_order, is_shared, is_turned, line_of, moved_told, refusal_of, rows_told, summary_of, told_by}
 use Rattle.ran_laws.specs.Upkeep.{AreReplied, IsReplied}
 use Rattle.told_laws.specs.Laws.{is_quiet}
 use Rattle.told_laws.proofs.Splits.{are_quiet, heads, loud_of, none_behind, none_some, quiet_of, split_events, tails}
@@ -38,6 +37,7 @@ use Rattle.moment_laws.specs.Moments.{who_at}
 use Rattle.moment_laws.proofs.Seats.{either}
 use Rattle.explained_laws.specs.Timelines.{Never}
 use Rattle.explained_laws.proofs.Answering.{memory_stands, refusal_stands}
+use Rattle.explained_laws.proofs.Exporting.{count_few, export_low, has_rows, number_low, range_long, read_few, read_long, replies_long}
 use Rattle.explained_laws.proofs.Scripts.{is_shape, session_asked, worker_upkeep}
 use Rattle.explained_laws.proofs.Taking.{Ended, has_table, scanned, stand}
 
@@ -77,18 +77,6 @@ loud_is shape own session (command.Export table) made l e = absurd (let never : 
 
 -- ---- lengths
 
-count_few : (p : CoreReply → Bool) (xs : List CoreReply) → count_by p xs ≤ length xs
-count_few p [] = omega arith
-count_few p (x ∷ xs) =
-    let one = sum_by-cons (λ (y : CoreReply). cond (p y) 1 0) x xs in
-    let rest = count_few p xs in
-    let few = most (p x) in
-    omega (arith, one, rest, few)
-  where
-    most : (b : Bool) → cond {A = ℕ} b 1 0 ≤ 1
-    most true = omega arith
-    most false = omega arith
-
 times_most : (a b c : ℕ) → b ≤ c → a * b ≤ a * c
 times_most zero b c h = omega arith
 times_most (suc a) b c h =
@@ -96,14 +84,6 @@ times_most (suc a) b c h =
     let m : suc a * b ≡ b + a * b = grind arith in
     let n : suc a * c ≡ c + a * c = grind arith in
     omega (arith, h, rest, m, n)
-
-range_long : (a n : ℕ) → length (range_with_len a n) ≡ n
-range_long a zero = refl
-range_long a (suc n) = ap suc (range_long (a + 1) n)
-
-replies_long : (made : List Occurrence) → length (replies_in made) ≡ length (events_in made)
-replies_long [] = refl
-replies_long (x ∷ made) = ap suc (replies_long made)
 
 init_same : (xs : List CoreEvent) (ys : List CoreEvent) (x y : CoreEvent) → xs ++ x ∷ [] ≡ ys ++ y ∷ [] → x ≡ y
 init_same [] [] x y e = heads x y [] [] e
@@ -135,13 +115,10 @@ pub record LastStands (call : Call) (line : Said) : Type 0 where
 
 module _ (script : Script) (valid : is_valid script ≡ true) (seat : ℕ) (parts : Parts) (front : List Occurrence) (at next : IsolationMachine) (call : Call)
     (ended : Ended script seat parts front at next call)
-    (never_prunes : Never script command.Prune) (never_exports : (table : ℕ) → Never script (command.Export table))
+    (never_prunes : Never script command.Prune)
     (few_tables : length (at_all_blocks (shape_of script) event.Observe) < 2 ^ 32) (few_blocks : (t : ℕ) → blocks_of (shape_of script) t < 2 ^ 32) (line : Said) (tells : call.told ≡ Some line) (last : (call.made ≡ []) ⊎ LastStands call line) where
   worker : Bool
   worker = is_worker (who_at script seat)
-
-  no_export : (table : ℕ) → call.command ≡ command.Export table → ⊥
-  no_export table e = never_exports table seat (subst (IsAsked script seat) e ended.asked)
 
   no_prune : call.command ≡ command.Prune → ⊥
   no_prune e = never_prunes seat (subst (IsAsked script seat) e ended.asked)
@@ -250,13 +227,34 @@ module _ (script : Script) (valid : is_valid script ≡ true) (seat : ℕ) (part
       (inl (let w : sum_by moved_told (replies_in call.made) < 2 ^ 64 = omega (arith, sum) in w))
   at_quiet (command.Seal table block) is own mine free w none = absurd (let never : ⊥ = cc none in never)
   at_quiet (command.Gather table block) is own mine free w none = absurd (let never : ⊥ = cc none in never)
-  at_quiet (command.Export table) is own mine free w none = absurd (no_export table is)
+  at_quiet (command.Export table) is None mine free w none = absurd (let never : ⊥ = cc free in never)
+  at_quiet (command.Export table) is (Some t) mine free w none =
+      let e : events_in call.made ≡ at_blocks (shape_of script) table (event.Read t table) = w.events ∙ ap (λ c. events_of (shape_of script) (Some t) seat c call.made) is in
+      let low = export_low script valid seat parts front at next call ended table is in
+      let has : is_some (slice_get script.tables table) ≡ true = ap (is_command script.tables) (sym is) ∙ session_asked script valid seat call.command low ended.asked in
+      let number = number_low script valid seat parts front at next call ended table is t mine e w.granted in
+      let rows = flat_stands (replies_in call.made) (slots_of (shape_of script) table) (read_few script valid seat parts front at next call ended table is t mine e w.granted) in
+      let long = read_long script valid seat parts front at next call ended table is t mine e w.granted in
+      let slots : slots_of (shape_of script) table ≤ 2 ^ 15 = ((is_shape script valid).slots table (has_table script.tables table has)).1 in
+      let most = times_most (length (replies_in call.made)) (slots_of (shape_of script) table) (2 ^ 15) slots in
+      let small = few_blocks table in
+      let narrow : length (replies_in call.made) * 2 ^ 15 ≡ 2 ^ 15 * length (replies_in call.made) = grind arith in
+      let batches = count_few has_rows (replies_in call.made) in
+      let images = count_few is_shared (replies_in call.made) in
+      subst (MayStand (command.Export table)) (line_same (is_worker (who_at script seat)) (summary_of t (replies_in call.made)) line call.told refl
+      (w.line ∙ ap (λ c. line_to (is_worker (who_at script seat)) (line_of (Some t) c (replies_in call.made))) is) tells)
+      (inl (
+        let n : t.snapshot.number < 2 ^ 64 = omega (arith, number) in n,
+        let n : length (flat_map rows_told (replies_in call.made)) < 2 ^ 64 = omega (arith, rows, long, most, narrow, small) in n,
+        let n : count_by has_rows (replies_in call.made) < 2 ^ 32 = omega (arith, batches, long, small) in n,
+        let n : count_by is_shared (replies_in call.made) < 2 ^ 32 = omega (arith, images, long, small) in n,
+      ))
 
   pub may_stand : MayStand call.command line
   may_stand = go (refusal_of call.command (own_after ended.began)) refl ended.is_call
     where
       go : (r : Option Said) → refusal_of call.command (own_after ended.began) ≡ r → IsCallBy (shape_of script) (is_worker (who_at script seat)) seat (own_after ended.began) r call → MayStand call.command line
-      go (Some refused) e h = subst (MayStand call.command) (same_line refused line (sym h.1 ∙ tells)) (refusal_stands call.command (own_after ended.began) refused no_export e)
+      go (Some refused) e h = subst (MayStand call.command) (same_line refused line (sym h.1 ∙ tells)) (refusal_stands call.command (own_after ended.began) refused ended.keys.fit e)
       go None e (inr p) = subst (MayStand call.command) (same_line said.Memory line (sym p.line ∙ tells)) (memory_stands call.command p.may)
       go None e (inl w) = by (loud_of (shape_of script) (own_after ended.began) seat call.command call.made) refl
         where

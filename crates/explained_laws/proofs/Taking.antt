@@ -8,14 +8,13 @@ use Rattle.std.proofs.lemmas.List.Sums.{fold-append}
 use Rattle.std.proofs.lemmas.Option.{slice_get_past}
 use Rattle.block_spec.specs.Slots.{Row}
 use Rattle.cell_model.specs.declared.table.TableDecl.{TableDecl}
+use Rattle.count_laws.specs.Numbers.{IsNarrow}
 use Rattle.event_laws.specs.Laws.{IsStep, command_in}
 use Rattle.event_laws.specs.Named.{FollowsMachine}
 use Rattle.event_spec.specs.declared.event.Event.TheVariants as event
 use Rattle.event_spec.specs.declared.own.OwnTransaction.{OwnTransaction}
-use Rattle.event_spec.specs.Effects.{CoreEvent}
 use Rattle.event_spec.specs.Lawful.{Among, OwnsAll}
-use Rattle.event_spec.specs.Parts.{Parts, Shape, below, blocks_of}
-use Rattle.event_spec.specs.Replies.{CoreReply}
+use Rattle.event_spec.specs.Parts.{Parts, Shape, below, blocks_of, desk_at}
 use Rattle.event_spec.specs.Sound.{Sound}
 use Rattle.isolation_spec.specs.Contents.{contents_of}
 use Rattle.isolation_spec.specs.Machine.{IsolationMachine, Transaction, seen_rows, step, step_of, transaction_of}
@@ -56,6 +55,7 @@ use Rattle.moment_laws.specs.Laws.{IsAsked, command_told}
 use Rattle.moment_laws.specs.Moments.{who_at}
 use Rattle.moment_laws.proofs.Seats.{either, session_at, worker_at}
 use Rattle.explained_laws.specs.Reads.{ReadsStandIn, Stands, is_read}
+use Rattle.explained_laws.proofs.Keys.{SameKeys, quiet_own}
 use Rattle.explained_laws.proofs.Rereading.{read_together}
 use Rattle.explained_laws.proofs.Scripts.{is_shape, session_asked, worker_upkeep}
 
@@ -66,24 +66,6 @@ same_line : (a b : Said) → Some a ≡ Some b → a ≡ b
 same_line a b e = cc
 
 -- ---- what a session has open when a call ends
-
-pub quiet_own : (own : Option OwnTransaction) (e : CoreEvent) (told : CoreReply) → is_quiet e ≡ true → own_behind own e told ≡ own
-quiet_own own (event.Begin session) told q = absurd (true_false (sym q))
-quiet_own own (event.Get handed table key) told q = refl
-quiet_own own (event.Insert handed table row) told q = absurd (true_false (sym q))
-quiet_own own (event.Update handed table row) told q = absurd (true_false (sym q))
-quiet_own own (event.Delete handed table key) told q = absurd (true_false (sym q))
-quiet_own own (event.Read handed table block) told q = refl
-quiet_own own (event.Commit handed) told q = absurd (true_false (sym q))
-quiet_own own (event.Abort handed) told q = absurd (true_false (sym q))
-quiet_own own event.Oldest told q = refl
-quiet_own own (event.Observe table block) told q = refl
-quiet_own own (event.Prune table block oldest) told q = refl
-quiet_own own (event.Look table block) told q = refl
-quiet_own own (event.Move table moves) told q = absurd (true_false (sym q))
-quiet_own own (event.Seal table block) told q = absurd (true_false (sym q))
-quiet_own own (event.Image table block image) told q = absurd (true_false (sym q))
-quiet_own own (event.Thaw table block) told q = refl
 
 quiet_after : (own : Option OwnTransaction) (xs : List Occurrence) → list_all is_quiet (events_in xs) ≡ true
     → fold (λ own (o : Occurrence). own_behind own o.event o.reply) own xs ≡ own
@@ -136,8 +118,11 @@ pub record Ended (script : Script) (seat : ℕ) (parts : Parts) (front : List Oc
   pub follows : FollowsMachine (shape_of script) parts next
   pub reads : ReadsStandIn (shape_of script) parts front
   pub whole : under seat front ≡ began ++ call.made
+  pub narrow : IsNarrow (desk_at (shape_of script) parts)
+  -- what it had open
+  pub keys : SameKeys (own_after began) (transaction_of seat at)
 
-one_open : (seat : ℕ) (m : IsolationMachine) (own : OwnTransaction) → OpenAs seat (Some own) (transaction_of seat m)
+pub one_open : (seat : ℕ) (m : IsolationMachine) (own : OwnTransaction) → OpenAs seat (Some own) (transaction_of seat m)
     → (t : Transaction) × (transaction_of seat m ≡ Some t)
 one_open seat m own open' = go (transaction_of seat m) open'.snapshot refl
   where
@@ -146,7 +131,7 @@ one_open seat m own open' = go (transaction_of seat m) open'.snapshot refl
     go None e is = absurd (let never : ⊥ = cc e in never)
     go (Some t) e is = (t, is)
 
-none_open : (seat : ℕ) (m : IsolationMachine) → OpenAs seat None (transaction_of seat m) → transaction_of seat m ≡ None
+pub none_open : (seat : ℕ) (m : IsolationMachine) → OpenAs seat None (transaction_of seat m) → transaction_of seat m ≡ None
 none_open seat m open' = go (transaction_of seat m) open'.snapshot
   where
     go : (o : Option Transaction) → None ≡ option_map (λ (t : Transaction). t.snapshot) o → o ≡ None
@@ -165,7 +150,7 @@ module _ (script : Script) (valid : is_valid script ≡ true) (seat : ℕ) (part
   sh : Shape
   sh = shape_of script
 
-  stays : is_single call.command ≡ false → next ≡ at
+  pub stays : is_single call.command ≡ false → next ≡ at
   stays other = stays_at call.made at next (others_ask_nothing (shape_of script) (is_worker (who_at script seat)) seat ended.began call other ended.is_call) ended.ends
 
   -- ---- a scan of a session
@@ -180,7 +165,7 @@ module _ (script : Script) (valid : is_valid script ≡ true) (seat : ℕ) (part
   pub stand : (own : OwnTransaction) (table : ℕ) (blocks : List ℕ) → events_in call.made ≡ map (event.Read own table) blocks → (o : Occurrence) → Among o call.made → Stands (shape_of script) parts seat o
   stand own table blocks e o a = ended.reads seat ended.began call.made ended.whole (all_reads own table blocks e) o a
 
-  owns_it : (own : OwnTransaction) (table : ℕ) → (0 < blocks_of (shape_of script) table) → events_in call.made ≡ at_blocks (shape_of script) table (event.Read own table) → OwnsAll (shape_of script) own parts
+  pub owns_it : (own : OwnTransaction) (table : ℕ) → (0 < blocks_of (shape_of script) table) → events_in call.made ≡ at_blocks (shape_of script) table (event.Read own table) → OwnsAll (shape_of script) own parts
   owns_it own table some e = go (blocks_of (shape_of script) table) refl some
     where
       go : (n : ℕ) → blocks_of (shape_of script) table ≡ n → 0 < n → OwnsAll (shape_of script) own parts

@@ -1,23 +1,25 @@
 -- A run's lines come about one behind the other, at its moments.
-use Rattle.std.proofs.Common.{◌≡◌, ◌⊎◌, ℕ, ◌+◌, ◌<◌, ◌≤◌, Bool, true, false, cond, ◌||◌, not, List, [], ◌∷◌, ◌++◌, map, Option, None, Some, refl, sym, ap, ◌∙◌, subst, arith, append_assoc, append-nil}
+use Rattle.std.proofs.Common.{◌≡◌, ◌⊎◌, ℕ, ◌+◌, ◌<◌, ◌≤◌, Bool, true, false, cond, ◌==◌, List, [], ◌∷◌, ◌++◌, map, Option, None, Some, refl, sym, ap, ◌∙◌, subst, arith, append_assoc, append-nil}
 use mathlib.Core.Logic.{inl, inr}
 use Rattle.std.specs.Prelude.{IfSome, option_and_then}
 use Rattle.std.specs.List.{cons_option, list_all}
+use Rattle.event_laws.proofs.Apart.{kept_among}
 use Rattle.event_laws.specs.Laws.{IsStep, command_in}
 use Rattle.event_laws.specs.Named.{FollowsMachine}
 use Rattle.event_spec.specs.declared.event.Event.TheVariants as event
+use Rattle.event_spec.specs.declared.own.OwnTransaction.{OwnTransaction}
 use Rattle.event_spec.specs.declared.reply.Reply.TheVariants as reply
 use Rattle.event_spec.specs.Effects.{CoreEvent, change_judged, insert_judged}
-use Rattle.event_spec.specs.Lawful.{IsLawful, takes_memory}
+use Rattle.event_spec.specs.Lawful.{Among, IsLawful, takes_memory}
 use Rattle.event_spec.specs.Parts.{Parts, Shape}
 use Rattle.event_spec.specs.Replay.{IsLawfulFrom, after, opening, reply_after}
-use Rattle.event_spec.specs.Replies.{CoreReply, reply_to}
+use Rattle.event_spec.specs.Replies.{reply_to}
 use Rattle.isolation_spec.specs.Contents.{key_of}
 use Rattle.isolation_spec.specs.Machine.{IsolationMachine, transaction_of}
 use Rattle.isolation_spec.specs.Machine as machine
 use Rattle.outcome_spec.specs.Entries.{Entry}
 use Rattle.outcome_spec.specs.Forms.{is_upkeep, is_worker}
-use Rattle.outcome_spec.specs.Upkeep.{inserts_in}
+use Rattle.outcome_spec.specs.Upkeep.{freezes_in, inserts_in, rows_in}
 use Rattle.timeline_spec.specs.Timeline.{Counts, Runs, Takes}
 use Rattle.workload_spec.specs.declared.command.Command.{Command}
 use Rattle.workload_spec.specs.declared.command.Command.TheVariants as command
@@ -30,8 +32,8 @@ use Rattle.run_spec.specs.Calls.{Call, line_to}
 use Rattle.run_spec.specs.Occurrences.{Logged, Occurrence, events_in, occurrence_of, occurrences_from, under}
 use Rattle.run_spec.specs.Opened.{own_after}
 use Rattle.run_spec.specs.Ran.{shape_of}
+use Rattle.run_spec.specs.Told.{is_shared}
 use Rattle.ran_laws.proofs.Along.{and_first, and_second, named}
-use Rattle.ran_laws.proofs.Coming.{event_stays, is_calm}
 use Rattle.ran_laws.specs.Along.{are_named}
 use Rattle.ran_laws.specs.Asking.{is_of}
 use Rattle.ran_laws.specs.Coming.{EndsAt}
@@ -39,7 +41,6 @@ use Rattle.ran_laws.specs.Moments.{Lined, Moment, events_at}
 use Rattle.ran_laws.specs.Open.{AgreesWith, IsNamed, OpenAs}
 use Rattle.ran_laws.specs.Upkeep.{AreReplied}
 use Rattle.ran_laws.proofs.Upkeep.{rest_replied, under_replied}
-use Rattle.run_spec.specs.Calls.{is_final, is_memory}
 use Rattle.told_laws.proofs.Tells.{calls_go_on_quietly, last_events_are_told, not_silent, refusals_are_plain}
 use Rattle.told_laws.specs.Laws.{TellsAt, is_plain, is_quiet}
 use Rattle.moment_laws.specs.Laws.{AreMoments, Ends, GoesOn, IsAsked, IsPrinted, Stands, command_told, with_event}
@@ -50,8 +51,10 @@ use Rattle.moment_laws.proofs.Rounds.{runs_have_moments}
 use Rattle.ran_laws.proofs.Named.{run_named}
 use Rattle.explained_laws.specs.Timelines.{Never, RunsGiveTimelines}
 use Rattle.explained_laws.proofs.Counting.{event_says, plain_counts}
-use Rattle.explained_laws.proofs.Holding.{AddsAt, Counted, Holds, ends_adds, freezes_with, holds_first, inserts_with, next_holds, same_holds, seals_with}
-use Rattle.explained_laws.proofs.Scripts.{is_shape, worker_upkeep}
+use Rattle.explained_laws.proofs.Holding.{AddsAt, Counted, Holds, ends_adds, ends_tells, freezes_with, holds_first, inserts_with, next_holds, same_holds, seals_with}
+use Rattle.explained_laws.proofs.Exporting.{exports_by}
+use Rattle.explained_laws.proofs.Keys.{KeysAgree, SameKeys, quiet_fits, quiet_stays}
+use Rattle.explained_laws.proofs.Scripts.{event_key, is_shape, worker_upkeep}
 use Rattle.explained_laws.proofs.Shown.{Adds, accepted, plain_adds, quiet_none, shown, write_line}
 use Rattle.explained_laws.proofs.Taking.{Ended, ends_at, front_quiet, own_same, takes}
 
@@ -62,31 +65,6 @@ none_some : {X : Type 0} (x : X) → None ≡ Some x → ⊥
 none_some x e = cc
 
 -- ---- silence leaves the machine
-
-quiet_calm : (e : CoreEvent) → is_quiet e ≡ true → (is_calm e ≡ true) × (is_final e ≡ false)
-quiet_calm (event.Begin session) q = absurd (true_false (sym q))
-quiet_calm (event.Get own table key) q = (refl, refl)
-quiet_calm (event.Insert own table row) q = absurd (true_false (sym q))
-quiet_calm (event.Update own table row) q = absurd (true_false (sym q))
-quiet_calm (event.Delete own table key) q = absurd (true_false (sym q))
-quiet_calm (event.Read own table block) q = (refl, refl)
-quiet_calm (event.Commit own) q = absurd (true_false (sym q))
-quiet_calm (event.Abort own) q = absurd (true_false (sym q))
-quiet_calm event.Oldest q = (refl, refl)
-quiet_calm (event.Observe table block) q = (refl, refl)
-quiet_calm (event.Prune table block oldest) q = (refl, refl)
-quiet_calm (event.Look table block) q = (refl, refl)
-quiet_calm (event.Move table moves) q = absurd (true_false (sym q))
-quiet_calm (event.Seal table block) q = absurd (true_false (sym q))
-quiet_calm (event.Image table block image) q = absurd (true_false (sym q))
-quiet_calm (event.Thaw table block) q = (refl, refl)
-
-quiet_stays : (at next : IsolationMachine) (e : CoreEvent) (told : CoreReply) → is_quiet e ≡ true → IsStep (command_in e) at told next → next ≡ at
-quiet_stays at next e told q step = event_stays at next e told (quiet_calm e q).0 (ap (λ b. is_memory told || not b) (quiet_calm e q).1 ∙ last (is_memory told)) step
-  where
-    last : (b : Bool) → (b || true) ≡ true
-    last true = refl
-    last false = refl
 
 pub told_something : (told : Option Said) (line : Said) → told ≡ Some line → told ≡ None → ⊥
 told_something told line is none = none_some line (sym none ∙ is)
@@ -146,7 +124,7 @@ inserts_rise t lines (Some entry) = let more = Rattle.explained_laws.proofs.Show
 
 -- ---- one moment
 
-module _ (script : Script) (valid : is_valid script ≡ true) (never_prunes : Never script command.Prune) (never_exports : (table : ℕ) → Never script (command.Export table)) where
+module _ (script : Script) (valid : is_valid script ≡ true) (never_prunes : Never script command.Prune) where
   sh : Shape
   sh = shape_of script
 
@@ -167,6 +145,11 @@ module _ (script : Script) (valid : is_valid script ≡ true) (never_prunes : Ne
       → OpenAs seat (own_after began) (transaction_of seat at)
   opens seat at front began done agrees behind quiet =
       subst (λ o. OpenAs seat o (transaction_of seat at)) (ap own_after behind ∙ own_same began done quiet) (agrees seat)
+
+  keys_same : (seat : ℕ) (at : IsolationMachine) (front began done : List Occurrence) → KeysAgree front at → under seat front ≡ began ++ done → list_all is_quiet (events_in done) ≡ true
+      → SameKeys (own_after began) (transaction_of seat at)
+  keys_same seat at front began done agrees behind quiet =
+      subst (λ o. SameKeys o (transaction_of seat at)) (ap own_after behind ∙ own_same began done quiet) (agrees seat)
 
   is_said : (who : Rattle.workload_spec.specs.declared.reply.Who.Who) (call : Call) (printed : Option Entry) (entry : Entry) → IsPrinted who call printed → printed ≡ Some entry
       → (call.told ≡ Some entry.reply.said) × (entry.reply.who ≡ who) × (entry.command ≡ command_told who call.command)
@@ -205,6 +188,8 @@ module _ (script : Script) (valid : is_valid script ≡ true) (never_prunes : Ne
       follows = held.follows;
       reads = held.reads;
       whole = ends.behind ∙ ap (λ xs. ends.began ++ xs) (sym (append-nil ends.done) ∙ sym ends.made);
+      narrow = held.narrow;
+      keys = keys_same seat at front ends.began ends.done held.keys ends.behind (subst (λ xs. list_all is_quiet (events_in xs) ≡ true) (sym (ends.none refl)) refl);
     }
 
     alone_counts : (asked : Command) (said' : Said) → (is_plain said' ≡ true) ⊎ (said' ≡ said.Moved 0) → Counts script.tables lines asked said'
@@ -218,7 +203,8 @@ module _ (script : Script) (valid : is_valid script ≡ true) (never_prunes : Ne
     alone_comes entry e =
         let is = is_said (who_at script seat) line.call line.printed entry ends.printed e in (
           takes script valid seat parts front at at line.call lines entry alone_ended is.0 is.1 is.2
-              (λ table asked. absurd (never_exports table seat (subst (IsAsked script seat) asked ends.asked))),
+              (λ table asked. exports_by script valid seat parts front at at line.call alone_ended table asked lines entry.reply.said is.0
+              (λ o among. absurd (subst (Among o) none among))),
           subst (Counts script.tables lines entry.command) (same_said plain.0 entry.reply.said (sym plain.1 ∙ is.0)) (alone_counts entry.command plain.0 plain.2),
         )
 
@@ -240,7 +226,7 @@ module _ (script : Script) (valid : is_valid script ≡ true) (never_prunes : Ne
         → (Holds script (after (shape_of script) parts entry.made) (front ++ occurrence_of (shape_of script) parts entry ∷ []) at lines)
     onward goes = subst (λ m. Holds script (after (shape_of script) parts entry.made) (front ++ occurrence_of (shape_of script) parts entry ∷ []) m lines)
         (quiet_stays at moved.0 entry.made.event (reply_after (shape_of script) parts entry.made) quiet moved.1)
-        (next_holds script parts front at moved.0 lines lines entry (is_shape script valid) lawful is_named moved.1 moved.2 counted held)
+        (next_holds script parts front at moved.0 lines lines entry (is_shape script valid) lawful is_named (quiet_fits entry.made.event quiet) moved.1 moved.2 counted held)
       where
         quiet : is_quiet entry.made.event ≡ true
         quiet = calls_go_on_quietly (shape_of script) (is_worker (who_at script seat)) seat goes.began goes.call goes.done (occurrence_of (shape_of script) parts entry) goes.next goes.rest goes.is_call goes.made
@@ -274,7 +260,10 @@ module _ (script : Script) (valid : is_valid script ≡ true) (never_prunes : Ne
       }
 
       pub after_held : Holds script (after (shape_of script) parts entry.made) (front ++ occurrence_of (shape_of script) parts entry ∷ []) moved.0 (with_reply lines line.printed)
-      after_held = next_holds script parts front at moved.0 lines (with_reply lines line.printed) entry (is_shape script valid) lawful is_named moved.1 moved.2 counted held
+      after_held = next_holds script parts front at moved.0 lines (with_reply lines line.printed) entry (is_shape script valid) lawful is_named
+          (event_key script valid seat (is_worker (who_at script seat)) line.call.made entry.made.event (reply_after (shape_of script) parts entry.made) line.call.command line.call.told ends.asked
+          (ends_tells script parts front lines seat entry line same held.replied ends))
+          moved.1 moved.2 counted held
 
       whole : under seat (front ++ occurrence_of (shape_of script) parts entry ∷ []) ≡ ends.began ++ line.call.made
       whole =
@@ -305,13 +294,30 @@ module _ (script : Script) (valid : is_valid script ≡ true) (never_prunes : Ne
         follows = after_held.follows;
         reads = after_held.reads;
         whole = whole;
+        narrow = after_held.narrow;
+        keys = keys_same seat at front ends.began ends.done held.keys ends.behind
+            (front_quiet (shape_of script) (is_worker (who_at script seat)) seat ends.began line.call [] ends.done (occurrence_of (shape_of script) parts entry) ends.is_call ends.made);
       }
+
+      -- its images are of blocks that were frozen in front
+      was_frozen : (o : Occurrence) → Among o line.call.made → (own : OwnTransaction) (t b : ℕ) → o.event ≡ event.Read own t b → is_shared o.reply ≡ true
+          → 1 ≤ freezes_in t b lines + shown (rows_in t b) line.call.told
+      was_frozen o among own t b read shared =
+          let low = after_held.frozen o (kept_among (λ (o : Occurrence). o.session == seat) (front ++ occurrence_of (shape_of script) parts entry ∷ []) o
+          (subst (Among o) (sym whole) (behind ends.began line.call.made among))).0 own t b read shared in
+          let w = freezes_with t b lines (who_at script seat) line.call line.printed ends.printed in
+          omega (arith, low, w)
+        where
+          behind : (began made : List Occurrence) → Among o made → Among o (began ++ made)
+          behind [] made a = a
+          behind (x ∷ began) made a = inr (behind began made a)
 
       comes : (printed : Entry) → line.printed ≡ Some printed → Takes script.tables lines at printed moved.0 × Counts script.tables lines printed.command printed.reply.said
       comes printed e =
           let is = is_said (who_at script seat) line.call line.printed printed ends.printed e in (
             takes script valid seat (after (shape_of script) parts entry.made) (front ++ occurrence_of (shape_of script) parts entry ∷ []) at moved.0 line.call lines printed ended is.0 is.1 is.2
-                (λ table asked. absurd (never_exports table seat (subst (IsAsked script seat) asked ends.asked))),
+                (λ table asked. exports_by script valid seat (after (shape_of script) parts entry.made) (front ++ occurrence_of (shape_of script) parts entry ∷ []) at moved.0 line.call ended table asked
+                lines printed.reply.said is.0 was_frozen),
             subst (λ c. Counts script.tables lines c printed.reply.said) (sym is.2)
                 (event_says script parts front at moved.0 lines (is_shape script valid) held (who_at script seat) entry.made.event entry.made.refused line.call.made line.call.command line.call.told
                 lawful moved.1 (λ asked. never_prunes seat (subst (IsAsked script seat) asked ends.asked)) tells_at printed.reply.said is.0),
@@ -380,11 +386,11 @@ module _ (script : Script) (valid : is_valid script ≡ true) (never_prunes : Ne
       one m.session m.event m.line ms (all_run ms) log parts front at lines held lawful are moments.0.event_is moments.0.stands moments.1 events
 
 pub runs_give_timelines : RunsGiveTimelines
-runs_give_timelines script log text valid never_prunes never_exports ran =
+runs_give_timelines script log text valid never_prunes ran =
     let moments = runs_have_moments script log text ran in
     record {
       threads = moments.threads;
       order = moments.order;
-      runs = all_run script valid never_prunes never_exports (moments_of script ran.rounds) log (opening (shape_of script)) [] machine.opening []
+      runs = all_run script valid never_prunes (moments_of script ran.rounds) log (opening (shape_of script)) [] machine.opening []
           (holds_first script (is_shape script valid)) ran.lawful (run_named script log text ran) moments.calls moments.events;
     }

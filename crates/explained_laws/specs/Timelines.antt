@@ -16,23 +16,21 @@ use Rattle.moment_laws.specs.Moments.{moments_of, replies_at}
 abbrev pub Never : Script → Command → Type 0
 Never script asked = (seat : ℕ) → IsAsked script seat asked → ⊥
 
--- Where nothing is pruned or exported, the moments of a run are a timeline of its printed replies.
+-- Where nothing is pruned, the moments of a run are a timeline of its printed replies.
 abbrev pub RunsGiveTimelines : Type 0
 RunsGiveTimelines = (script : Script) (log : List Logged) (text : List ℕ)
     → is_valid script ≡ true
     → Never script command.Prune
-    → ((table : ℕ) → Never script (command.Export table))
     → (ran : Ran script log text)
     → Timeline
     script.tables
     (printed_of script (told_in ran.rounds))
     (replies_at (moments_of script ran.rounds))
 
--- Where nothing is pruned or exported, the text of a run is explained.
+-- Where nothing is pruned, the text of a run is explained.
 abbrev pub RunsAreExplained : Type 0
 RunsAreExplained = (script : Script) (log : List Logged) (text : List ℕ)
     → is_valid script ≡ true
     → Never script command.Prune
-    → ((table : ℕ) → Never script (command.Export table))
     → Ran script log text
     → Explained script text

@@ -7,12 +7,12 @@ pub fn reads_stand()
     ensures { ReadsStand }
 {}
 
-/// Where nothing is pruned or exported, the moments of a run are a timeline of its printed replies.
+/// Where nothing is pruned, the moments of a run are a timeline of its printed replies.
 pub fn runs_give_timelines()
     ensures { RunsGiveTimelines }
 {}
 
-/// The text of a run is an explained output.
+/// Where nothing is pruned, the text of a run is an explained output.
 pub fn runs_are_explained()
     ensures { RunsAreExplained }
 {}
