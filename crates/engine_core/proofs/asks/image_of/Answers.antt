@@ -1,0 +1,38 @@
+use Rattle.std.proofs.Common.{◌∙◌, List, Option, None, Some, take, get_or, ◌<◌, sym, ap, subst}
+use Rattle.std.specs.Prelude.{IsSome, flat_map, option_to_list}
+use mathlib.Core.Logic.{inl, inr}
+use Rattle.block_columns.specs.Columns.{ColumnsValue}
+use Rattle.block_spec.specs.Slots.{Row}
+use Rattle.core_images.proofs.Front.{front_held}
+use Rattle.engine_core.proofs.Asked.{few_slots, front_is, image_imaged, image_loose, image_sealed, image_there, rows_few, sealed_front}
+use Rattle.engine_core.proofs.asks.image_of.Goals as goal
+
+pub gather_buffers-requires-clause-held : goal.gather_buffers-requires-clause-held
+gather_buffers-requires-clause-held g c κs within = λ slot less.
+    let x = c.body-sealed.result.now in
+    let front = sealed_front c.args.shape.now c.args.held.now c.args.table c.args.block x c.body-sealed.ensures c.requires.core c.requires.body c.in-Sealed.field-0 (sym c.phase.ensures ∙ c.in-Sealed.is) in
+    subst (λ (l : List (Option Row)). IsSome (get_or l slot None)) (sym c.columns-columns.ensures.rows)
+    (front_held x.slots front slot (subst (λ n. slot < n) c.rows-rows.ensures less))
+
+pub gather_buffers-requires-clause-few : goal.gather_buffers-requires-clause-few
+gather_buffers-requires-clause-few g c κs within =
+    let x = c.body-sealed.result.now in
+    rows_few x c.rows-rows.result c.rows-rows.ensures (few_slots c.args.shape.now c.args.held.now c.args.table c.args.block x c.body-sealed.ensures c.requires.core c.requires.body)
+
+pub returns-in_ok-copy-in-Sealed : goal.returns-in_ok-copy-in-Sealed
+returns-in_ok-copy-in-Sealed g c = λ s holds agrees.
+    let x = c.body-sealed.result.now in
+    let sealed = sym c.phase.ensures ∙ c.in-Sealed.is in
+    let front = sealed_front c.args.shape.now c.args.held.now c.args.table c.args.block x c.body-sealed.ensures c.requires.core c.requires.body c.in-Sealed.field-0 sealed in
+    image_there c.args.shape.now c.args.held.now c.args.table c.args.block x c.body-sealed.ensures (Some c.new.result)
+    (image_sealed x c.new.result c.in-Sealed.field-0 sealed (
+    c.new.ensures
+    ∙ ap (λ (l : List (Option Row)). flat_map (λ slot. option_to_list slot) (take c.rows-rows.result l)) (ap (λ (v : ColumnsValue). v.rows) c.in_ok-copy-in-Sealed.ensures ∙ c.columns-columns.ensures.rows)
+    ∙ front_is x c.rows-rows.result front c.rows-rows.ensures
+    )) s agrees
+
+pub returns-in-Loose : goal.returns-in-Loose
+returns-in-Loose g c = λ s holds agrees.
+    let x = c.body-sealed.result.now in
+    image_there c.args.shape.now c.args.held.now c.args.table c.args.block x c.body-sealed.ensures None
+    (elim c.in-Loose.is [ inl e ↦ image_loose x (sym c.phase.ensures ∙ e) | inr y ↦ image_imaged x y.0 (sym c.phase.ensures ∙ y.1) ]) s agrees

@@ -1,0 +1,28 @@
+-- How many rows an event may read.
+use Rattle.std.specs.Prelude.{ℕ, ◌+◌, length, if◌then◌else◌}
+use Rattle.block_spec.specs.Bodies.{is_imaged}
+use Rattle.event_spec.specs.declared.event.Event.TheVariants as event
+use Rattle.event_spec.specs.Effects.{CoreEvent}
+use Rattle.event_spec.specs.Parts.{Parts, Shape, body_at, places_at, slots_of}
+use Rattle.isolation_spec.specs.Contents.{key_of}
+
+-- An event on a key reads a row of each candidate at most, and of its own write, and an update the row that it changes; a
+-- read of a block one for each slot, but none where the block is imaged.
+abbrev pub cost_of : Shape → CoreEvent → Parts → ℕ
+cost_of shape (event.Begin session) parts = 0
+cost_of shape (event.Get own table key) parts = length (places_at shape parts table key) + 1
+cost_of shape (event.Insert own table row) parts = length (places_at shape parts table (key_of row)) + 1
+cost_of shape (event.Update own table row) parts = length (places_at shape parts table (key_of row)) + 2
+cost_of shape (event.Delete own table key) parts = length (places_at shape parts table key) + 1
+cost_of shape (event.Read own table block) parts =
+    if is_imaged (body_at shape parts table block).phase then 0 else slots_of shape table
+cost_of shape (event.Commit own) parts = 0
+cost_of shape (event.Abort own) parts = 0
+cost_of shape event.Oldest parts = 0
+cost_of shape (event.Observe table block) parts = 0
+cost_of shape (event.Prune table block oldest) parts = 0
+cost_of shape (event.Look table block) parts = 0
+cost_of shape (event.Move table moves) parts = 0
+cost_of shape (event.Seal table block) parts = 0
+cost_of shape (event.Image table block image) parts = 0
+cost_of shape (event.Thaw table block) parts = 0

@@ -1,0 +1,162 @@
+//! The core as parts on which a hall lets threads work.
+ghost use Rattle.std.specs.Prelude.{◌≡◌, ◌+◌, ◌≤◌, ◌^◌, ◌<◌, true, false, IfOk, MatchBool, length};
+ghost use Rattle.engine_core.specs.Core.{IsOpening, is_memory};
+ghost use Rattle.engine_core.specs.Costs.{cost_of};
+ghost use Rattle.engine_core.specs.Laws.{holds_opening, rests_opening};
+ghost use Rattle.event_spec.specs.Effects.{effect};
+ghost use Rattle.event_spec.specs.Lawful.{FitsIn, IsOldest, Stands, Teaches, session_of, takes_memory, transaction};
+ghost use Rattle.event_spec.specs.Replies.{reply_to};
+ghost use Rattle.event_spec.specs.Touched.{touching};
+ghost use Rattle.frame_laws.specs.Shards.{CoreHolds};
+ghost use Rattle.frame_laws.proofs.Order.{ascends};
+ghost use Rattle.hall_laws.proofs.Meets.{has_laws};
+ghost use Rattle.part_laws.proofs.Lasting.{learns};
+
+use crate::running::run;
+use block_body::Look;
+use core_images::SharedRows;
+use core_parts::{CorePart, Shape};
+use core_touches::{KeyedEvent, next_touched, touches};
+use event_spec::Reply;
+use hall_rule::{Hand, Parts, Steps};
+use std::alloc::AllocError;
+use std::marker::Model;
+use std::sync::ledger::Ledger;
+
+/// What the core replies.
+pub type CoreReply = Reply<SharedRows, Look>;
+
+/// A core of tables: a hand that has all its parts. Contracts see its shape and its parts, which are
+/// those of a core that holds.
+#[derive(Drop)]
+pub struct Core {
+    pub(crate) shape: Shape,
+    pub(crate) hand: Hand<CorePart>,
+}
+
+impl Model for Core {
+    ghost use Rattle.std.specs.Coded.{coded_list, coded_ℕ, coded_ℤ, codes};
+    ghost use Rattle.std.specs.FinMap as map;
+    ghost use Rattle.std.specs.Ordering.{int_cmp};
+    ghost use Rattle.engine_core.specs.Core.{CoreState, IsWhole, parts_in};
+
+    ghost Value = { CoreState };
+
+    ghost coded = { Prim.hlevel (codes, map.code {R = int_cmp} coded_ℤ (coded_list coded_ℕ)) };
+
+    ghost view = { λ core. record { shape = core.shape; parts = parts_in core.hand } };
+
+    ghost invariant = { λ core. IsWhole core.shape core.hand };
+}
+
+/// A session's open transaction, as proofs speak of it. No value of it is made.
+pub struct Opened;
+
+impl Model for Opened {
+    ghost use Rattle.std.specs.Prelude.{[]};
+    ghost use Rattle.event_spec.specs.Lawful.{Opened as OpenedValue};
+
+    ghost Value = { OpenedValue };
+
+    ghost view = { λ opened. record { snapshot = record { stamp = 0; number = 0 }; writes = [] } };
+}
+
+impl Parts for Core {
+    type Part = CorePart;
+
+    type Event = KeyedEvent;
+
+    type Reply = CoreReply;
+
+    type Shape = Shape;
+
+    type Transaction = Opened;
+
+    type Fact = u64;
+
+    ghost shape_of = { λ core. core.shape };
+
+    ghost state_of = { λ core. core.parts };
+
+    ghost opening = { IsOpening };
+
+    ghost sound = { CoreHolds };
+
+    ghost touching = { touching };
+
+    ghost names = { session_of };
+
+    ghost stands = { Stands };
+
+    ghost fits = { FitsIn };
+
+    ghost effect = { λ shape event parts. effect shape parts event };
+
+    ghost reply = { λ shape event parts. reply_to shape parts event };
+
+    ghost cost = { cost_of };
+
+    ghost takes_memory = { takes_memory };
+
+    ghost refused = { is_memory };
+
+    ghost transaction = { transaction };
+
+    ghost fact = { IsOldest };
+
+    ghost teaches = { λ shape event said fact. Teaches event said fact };
+
+    fn parts(&self) -> u32 {
+        let _tables = self.shape.tables();
+        self.shape.desk() + 1
+    }
+
+    fn into_parts(self) -> Result<(Shape, Hand<CorePart>), AllocError> {
+        let Core { shape, hand } = self;
+        Ok((shape, hand))
+    }
+
+    fn touches(shape: &Shape, event: &KeyedEvent, held: &Hand<CorePart>, part: u32) -> bool {
+        touches(shape, event, held, part)
+    }
+
+    fn next_touched(
+        shape: &Shape,
+        event: &KeyedEvent,
+        held: &Hand<CorePart>,
+        from: u32,
+    ) -> Option<u32> {
+        next_touched(shape, event, held, from)
+    }
+
+    fn run<L: Ledger>(
+        shape: &Shape,
+        event: KeyedEvent,
+        held: &mut Hand<CorePart>,
+        steps: &mut Steps<L>,
+    ) -> CoreReply {
+        run(shape, event, held, steps)
+    }
+
+    ghost opens = { λ shape parts is. holds_opening shape parts is };
+
+    ghost rests = { λ shape parts session is. rests_opening shape parts session is };
+
+    ghost keeps = { λ shape event parts holds stands fits. (has_laws shape parts 0 0).keeps event parts holds stands fits };
+
+    ghost ascends = { λ shape event one other part same. ascends shape event one other part same };
+
+    ghost frame = { λ shape event hand parts holds covers agrees stands fits. (has_laws shape parts 0 0).frame event hand parts holds covers agrees stands fits };
+
+    ghost room = { λ shape event parts holds. (has_laws shape parts 0 0).room event parts holds };
+
+    ghost local = { λ shape event hand parts others holds also covers here there stands fits. (has_laws shape parts 0 0).local event hand parts others holds also covers here there stands fits };
+
+    ghost depends = { λ shape event parts others holds also same facts stands. (has_laws shape parts 0 0).depends event parts others holds also same facts stands };
+
+    ghost leaves = { λ shape event parts session holds stands fits other. (has_laws shape parts 0 0).leaves event parts session holds stands fits other };
+
+    ghost outlives = { λ shape event fact parts holds stands fits known. (has_laws shape parts 0 0).outlives event fact parts holds stands fits known };
+
+    ghost learns = { λ shape event fact parts holds stands fits taught. learns shape event fact parts taught };
+}

@@ -1,0 +1,12 @@
+//! The core of the engine: tables in parts, and the sixteen events that work on them, on the parts in a
+//! hand or on a core as a whole.
+#![tactic(auto)]
+
+mod asks;
+mod calls;
+mod engine;
+mod replies;
+mod running;
+
+pub use asks::{image_of, imaged};
+pub use engine::{Core, CoreReply, Opened};
