@@ -1,3 +1,4 @@
 pub mod Stamps
 pub mod Room
+pub mod Versions
 pub mod Numbers

@@ -1,5 +1,5 @@
 -- The widths of stamps and of commit numbers.
-use Rattle.std.specs.Prelude.{ℕ, ◌<◌, ◌≤◌, ◌^◌}
+use Rattle.std.specs.Prelude.{◌<◌, ◌≤◌, ◌^◌}
 use Rattle.event_spec.specs.Lawful.{IsLawful}
 use Rattle.event_spec.specs.Parts.{Parts, Shape, desk_at}
 use Rattle.event_spec.specs.Replay.{Made, after, opening}

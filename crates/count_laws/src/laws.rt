@@ -2,6 +2,7 @@
 ghost use Rattle.count_laws.specs.Numbers.{NumbersAreNarrow, OpensNarrow};
 ghost use Rattle.count_laws.specs.Room.{FullIsFull, OpensEmpty, RoomIsCounted};
 ghost use Rattle.count_laws.specs.Stamps.{ImagesAreTold, OpensLoose, SealsAreTold, StampsAreCounted};
+ghost use Rattle.count_laws.specs.Versions.{IdleOwnNone, OpensWithout, VersionsAreCounted};
 
 /// A block's last stamp counts its seals, and a block is sealed while they are one more than its
 /// images.
@@ -25,4 +26,13 @@ pub fn room_is_counted()
 pub fn numbers_are_narrow()
     ensures opens { OpensNarrow }
     ensures next { NumbersAreNarrow }
+{}
+
+/// What prunings drop and what still has a stamp are no more than the entries that commits and
+/// moves gave one; a session has as many of its own at most as it was granted writes, and none
+/// without a transaction.
+pub fn versions_are_counted()
+    ensures opens { OpensWithout }
+    ensures next { VersionsAreCounted }
+    ensures idle { IdleOwnNone }
 {}

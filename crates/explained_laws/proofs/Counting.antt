@@ -1,7 +1,7 @@
 -- What a moment's line says of blocks and counts is what the lines in front say.
 use Rattle.std.proofs.Common.{◌≡◌, ◌⊎◌, ℕ, zero, suc, ◌+◌, ◌*◌, ◌≤◌, ℤ, Bool, true, false, cond, ◌&&◌, List, [], ◌∷◌, length, map, filter, reverse, take, nat_lt, Option, None, Some, refl, sym, ap, ◌∙◌, subst, arith}
 use mathlib.Core.Logic.{inl, inr}
-use Rattle.std.specs.Prelude.{Result, Ok, Err, option_map, slice_get, unwrap_or}
+use Rattle.std.specs.Prelude.{Result, Ok, Err, option_map, slice_get, sum, sum_by, unwrap_or}
 use Rattle.std.specs.List.{flat_map, prefix_len, zip}
 use Rattle.std.proofs.lemmas.List.{length-map}
 use Rattle.block_spec.specs.declared.look.MovableRow.{MovableRow}
@@ -31,10 +31,11 @@ use Rattle.event_spec.specs.Replies.{reply_to, reply_to_image, reply_to_seal, re
 use Rattle.event_spec.specs.Sound.{IsShape}
 use Rattle.isolation_spec.specs.Contents.{key_of}
 use Rattle.isolation_spec.specs.Machine.{IsolationMachine}
-use Rattle.outcome_spec.specs.Entries.{Entry}
+use Rattle.outcome_spec.specs.Entries.{Entry, shown_in}
+use Rattle.outcome_spec.specs.Runs.{writes_committed_in}
 use Rattle.outcome_spec.specs.Forms.{is_worker}
 use Rattle.outcome_spec.specs.Tables.{blocks_at, slots_at}
-use Rattle.outcome_spec.specs.Upkeep.{capacity_at, freezes_in, inserts_in, seals_in}
+use Rattle.outcome_spec.specs.Upkeep.{capacity_at, freezes_in, inserts_in, moved_in, pruned_in, seals_in}
 use Rattle.timeline_spec.specs.Timeline.{Counts, FindsFull, FindsUnsealed}
 use Rattle.workload_spec.specs.declared.command.Command.{Command}
 use Rattle.workload_spec.specs.declared.command.Command.TheVariants as command
@@ -46,9 +47,9 @@ use Rattle.run_laws.proofs.Refusals.{freezes_exactly, full_exactly}
 use Rattle.run_laws.specs.Laws.{IsSealedIn}
 use Rattle.run_spec.specs.Asked.{looks_in}
 use Rattle.run_spec.specs.Calls.{line_to}
-use Rattle.run_spec.specs.Occurrences.{Occurrence}
+use Rattle.run_spec.specs.Occurrences.{Occurrence, replies_in}
 use Rattle.run_spec.specs.Ran.{shape_of}
-use Rattle.run_spec.specs.Told.{cause_told, told_by}
+use Rattle.run_spec.specs.Told.{cause_told, dropped_told, told_by}
 use Rattle.sound_laws.proofs.Written.{filled_there}
 use Rattle.told_laws.specs.Laws.{TellsAt, TellsMove, TellsQuietly, is_plain}
 use Rattle.told_laws.proofs.Tells.{not_silent}
@@ -173,10 +174,16 @@ module _ (script : Script) (parts : Parts) (front : List Occurrence) (at next : 
   says_none : (asked : Command) (told : Option Said) → told ≡ None → Says asked told
   says_none asked told is line tells = absurd (let never : None ≡ Some line = sym is ∙ tells in let no : ⊥ = cc in no)
 
-  quiet_says : (asked : Command) (made : List Occurrence) (told : Option Said) → (asked ≡ command.Prune → ⊥) → TellsQuietly asked made told → Says asked told
-  quiet_says asked made told never (line, is, inl plain) = says_plain asked told line is plain
-  quiet_says asked made told never (line, is, inr (inl moved)) = says asked told line is (subst (Counts script.tables lines (command_told who asked)) (sym moved) (let few : 0 ≤ 64 = omega arith in few))
-  quiet_says asked made told never (line, is, inr (inr pruned)) = absurd (never pruned.0)
+  -- a pruning's count is no more than what the lines in front allow
+  abbrev PruneCounts : Command → List Occurrence → Type 0
+  PruneCounts asked made = asked ≡ command.Prune
+      → sum_by dropped_told (replies_in made) + sum (shown_in pruned_in lines) ≤ writes_committed_in lines + 2 * sum (shown_in moved_in lines)
+
+  quiet_says : (asked : Command) (made : List Occurrence) (told : Option Said) → PruneCounts asked made → TellsQuietly asked made told → Says asked told
+  quiet_says asked made told counts (line, is, inl plain) = says_plain asked told line is plain
+  quiet_says asked made told counts (line, is, inr (inl moved)) = says asked told line is (subst (Counts script.tables lines (command_told who asked)) (sym moved) (let few : 0 ≤ 64 = omega arith in few))
+  quiet_says asked made told counts (line, is, inr (inr pruned)) =
+      says asked told line is (subst (Counts script.tables lines (command_told who asked)) (sym pruned.1) (counts pruned.0))
 
   -- an insert finds no room
   full_says : (own : OwnKey) (table : ℕ) (row : Row) (n : ℕ) → IsLawful (shape_of script) (event.Insert own table row) parts
@@ -307,14 +314,14 @@ module _ (script : Script) (parts : Parts) (front : List Occurrence) (at next : 
   pub event_says : (e : CoreEvent) (refused : Bool) (made : List Occurrence) (asked : Command) (told : Option Said)
       → IsLawful (shape_of script) e parts
       → IsStep (command_in e) at (cond refused reply.Memory (reply_to (shape_of script) parts e)) next
-      → (asked ≡ command.Prune → ⊥)
+      → PruneCounts asked made
       → TellsAt (is_worker who) made e (cond refused reply.Memory (reply_to (shape_of script) parts e)) asked told
       → Says asked told
-  event_says (event.Begin session) true made asked told lawful step never h = says_plain asked told said.Memory (h.1 ∙ not_silent (is_worker who) said.Memory refl) refl
-  event_says (event.Begin session) false made asked told lawful step never h =
+  event_says (event.Begin session) true made asked told lawful step counts h = says_plain asked told said.Memory (h.1 ∙ not_silent (is_worker who) said.Memory refl) refl
+  event_says (event.Begin session) false made asked told lawful step counts h =
       says asked told (said.At (Rattle.event_spec.specs.Parts.desk_at (shape_of script) parts).commits) (h.1 ∙ not_silent (is_worker who) (said.At (Rattle.event_spec.specs.Parts.desk_at (shape_of script) parts).commits) refl) tt
-  event_says (event.Get own table key) refused made asked told lawful step never h = quiet_says asked made told never h
-  event_says (event.Insert own table row) refused made asked told lawful step never h =
+  event_says (event.Get own table key) refused made asked told lawful step counts h = quiet_says asked made told counts h
+  event_says (event.Insert own table row) refused made asked told lawful step counts h =
       write_says table asked told (is_worker who) refused (insert_judged (shape_of script) parts own table (key_of row)) h.1
       (λ n is granted. subst (λ c. Counts script.tables lines (command_told who c) said.Full) (sym h.0) (full_says own table row n lawful (ap reply_to_write is)))
       (λ b g is granted. absurd (never_freezing b g is granted))
@@ -323,7 +330,7 @@ module _ (script : Script) (parts : Parts) (front : List Occurrence) (at next : 
       never_freezing b g is granted =
           (subst (λ r. IsStep (command_in (event.Insert own table row)) at (reply_to_write r) next) is
           (subst (λ x. IsStep (command_in (event.Insert own table row)) at (cond x reply.Memory (reply_to (shape_of script) parts (event.Insert own table row))) next) granted step)).0
-  event_says (event.Update own table row) refused made asked told lawful step never h =
+  event_says (event.Update own table row) refused made asked told lawful step counts h =
       write_says table asked told (is_worker who) refused (change_judged (shape_of script) parts own table (key_of row)) h.1
       (λ n is granted. absurd (never_full n is granted))
       (λ b g is granted. freezing_says table (key_of row) asked b g
@@ -333,7 +340,7 @@ module _ (script : Script) (parts : Parts) (front : List Occurrence) (at next : 
       never_full n is granted =
           (subst (λ r. IsStep (command_in (event.Update own table row)) at (reply_to_write r) next) is
           (subst (λ x. IsStep (command_in (event.Update own table row)) at (cond x reply.Memory (reply_to (shape_of script) parts (event.Update own table row))) next) granted step)).0
-  event_says (event.Delete own table key) refused made asked told lawful step never h =
+  event_says (event.Delete own table key) refused made asked told lawful step counts h =
       write_says table asked told (is_worker who) refused (change_judged (shape_of script) parts own table key) h.1
       (λ n is granted. absurd (never_full n is granted))
       (λ b g is granted. freezing_says table key asked b g
@@ -343,19 +350,19 @@ module _ (script : Script) (parts : Parts) (front : List Occurrence) (at next : 
       never_full n is granted =
           (subst (λ r. IsStep (command_in (event.Delete own table key)) at (reply_to_write r) next) is
           (subst (λ x. IsStep (command_in (event.Delete own table key)) at (cond x reply.Memory (reply_to (shape_of script) parts (event.Delete own table key))) next) granted step)).0
-  event_says (event.Read own table block) refused made asked told lawful step never h = quiet_says asked made told never h
-  event_says (event.Commit own) true made asked told lawful step never h = says_plain asked told said.Memory (h.1 ∙ not_silent (is_worker who) said.Memory refl) refl
-  event_says (event.Commit own) false made asked told lawful step never h =
+  event_says (event.Read own table block) refused made asked told lawful step counts h = quiet_says asked made told counts h
+  event_says (event.Commit own) true made asked told lawful step counts h = says_plain asked told said.Memory (h.1 ∙ not_silent (is_worker who) said.Memory refl) refl
+  event_says (event.Commit own) false made asked told lawful step counts h =
       let n : Option ℕ = cond (Rattle.event_spec.specs.Effects.is_some_write own.writes) (Some ((Rattle.event_spec.specs.Parts.desk_at (shape_of script) parts).commits + 1)) None in
       says asked told (said.Committed n) (h.1 ∙ not_silent (is_worker who) (said.Committed n) refl) tt
-  event_says (event.Abort own) true made asked told lawful step never h = says_plain asked told said.Memory (h.1 ∙ not_silent (is_worker who) said.Memory refl) refl
-  event_says (event.Abort own) false made asked told lawful step never h = says asked told said.Aborted (h.1 ∙ not_silent (is_worker who) said.Aborted refl) tt
-  event_says event.Oldest refused made asked told lawful step never h = quiet_says asked made told never h
-  event_says (event.Observe table block) refused made asked told lawful step never h = quiet_says asked made told never h
-  event_says (event.Prune table block oldest) refused made asked told lawful step never h = quiet_says asked made told never h
-  event_says (event.Look table block) refused made asked told lawful step never h = quiet_says asked made told never h
-  event_says (event.Move table moves) refused made asked told lawful step never h = move_says table moves made asked told refused h.1 h.2
-  event_says (event.Seal table block) refused made asked told lawful step never h = seal_says table block asked told (is_worker who) refused lawful.1 h.1
-  event_says (event.Image table block image) refused made asked told lawful step never h =
+  event_says (event.Abort own) true made asked told lawful step counts h = says_plain asked told said.Memory (h.1 ∙ not_silent (is_worker who) said.Memory refl) refl
+  event_says (event.Abort own) false made asked told lawful step counts h = says asked told said.Aborted (h.1 ∙ not_silent (is_worker who) said.Aborted refl) tt
+  event_says event.Oldest refused made asked told lawful step counts h = quiet_says asked made told counts h
+  event_says (event.Observe table block) refused made asked told lawful step counts h = quiet_says asked made told counts h
+  event_says (event.Prune table block oldest) refused made asked told lawful step counts h = quiet_says asked made told counts h
+  event_says (event.Look table block) refused made asked told lawful step counts h = quiet_says asked made told counts h
+  event_says (event.Move table moves) refused made asked told lawful step counts h = move_says table moves made asked told refused h.1 h.2
+  event_says (event.Seal table block) refused made asked told lawful step counts h = seal_says table block asked told (is_worker who) refused lawful.1 h.1
+  event_says (event.Image table block image) refused made asked told lawful step counts h =
       subst (λ c. Says c told) (sym h.0) (image_says table block image told refused lawful.1.0 h.1)
-  event_says (event.Thaw table block) refused made asked told lawful step never h = quiet_says asked made told never h
+  event_says (event.Thaw table block) refused made asked told lawful step counts h = quiet_says asked made told counts h

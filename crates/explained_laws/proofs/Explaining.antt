@@ -9,6 +9,7 @@ use Rattle.block_spec.specs.Bodies.{seal_fault}
 use Rattle.block_spec.specs.declared.phase.Phase.{Phase}
 use Rattle.block_spec.specs.declared.phase.Phase.TheVariants.{Loose, Sealed, Imaged}
 use Rattle.block_spec.specs.declared.phase.SealFault.{SealFault}
+use Rattle.event_spec.specs.Lawful.{Among}
 use Rattle.event_spec.specs.declared.event.Event.TheVariants as event
 use Rattle.event_spec.specs.declared.reply.Reply.TheVariants as reply
 use Rattle.event_spec.specs.Effects.{CoreEvent, change_judged, insert_judged, is_some_write}
@@ -24,7 +25,6 @@ use Rattle.outcome_spec.specs.Forms.{Due, is_seal_or_gather, is_silent, is_worke
 use Rattle.timeline_laws.proofs.Scripts.{run-explained}
 use Rattle.timeline_spec.specs.Forms.{AllMayStand, MayAnswer, MayStand}
 use Rattle.workload_spec.specs.declared.command.Command.{Command}
-use Rattle.workload_spec.specs.declared.command.Command.TheVariants as command
 use Rattle.workload_spec.specs.declared.reply.Said.{Said}
 use Rattle.workload_spec.specs.declared.reply.Said.TheVariants as said
 use Rattle.workload_spec.specs.declared.reply.Who.{Who}
@@ -47,7 +47,7 @@ use Rattle.told_laws.specs.Laws.{TellsAt, TellsMove, TellsQuietly, is_plain}
 use Rattle.moment_laws.specs.Laws.{AreMoments, EachCall, EachEnds, EachOf, EachShare, Ends, GoesOn, Stands, with_event}
 use Rattle.moment_laws.specs.Moments.{due_of, moments_of, replies_at, who_at, with_reply}
 use Rattle.moment_laws.proofs.Rounds.{each_call, runs_have_moments}
-use Rattle.explained_laws.specs.Timelines.{Never, RunsAreExplained}
+use Rattle.explained_laws.specs.Timelines.{PruningsFit, RunsAreExplained}
 use Rattle.explained_laws.proofs.Answering.{event_stands}
 use Rattle.explained_laws.proofs.Holding.{Holds, holds_first}
 use Rattle.explained_laws.proofs.Scripts.{head, is_shape}
@@ -158,6 +158,10 @@ module _ (shape : Shape) (parts : Parts) (worker : Bool) (made : List Occurrence
 abbrev pub Answered : Who → Call → Type 0
 Answered who call = (number : ℕ) → MayAnswer (due_of number who call) call.told
 
+-- where its pruning's count fits
+abbrev pub AnswersIf : Who → Call → Type 0
+AnswersIf who call = ((count : ℕ) → call.told ≡ Some (said.Pruned count) → count < 2 ^ 64) → Answered who call
+
 answered : (who : Who) (call : Call) → Loud (is_worker who) call.command call.told → ((line : Said) → call.told ≡ Some line → MayStand call.command line) → Answered who call
 answered who call loud may number = go call.told refl
   where
@@ -214,16 +218,16 @@ module _ (script : Script) (valid : is_valid script ≡ true) where
 
 -- ---- all moments
 
-module _ (script : Script) (valid : is_valid script ≡ true) (never_prunes : Never script command.Prune) where
+module _ (script : Script) (valid : is_valid script ≡ true) where
   few32 : (t : ℕ) → blocks_of (shape_of script) t < 2 ^ 32
   few32 t = let few = few_blocks script valid t in omega (arith, few)
 
-  ends_alone : (parts : Parts) (front : List Occurrence) (at : IsolationMachine) (lines : List Entry) (seat : ℕ) (line : Lined)
-      → Holds script parts front at lines → Ends script front seat None line → Answered (who_at script seat) line.call
-  ends_alone parts front at lines seat line held ends = answered (who_at script seat) line.call
+  ends_alone : (parts : Parts) (front : List Occurrence) (at : IsolationMachine) (lines : List Entry) (seat : ℕ) (low : 1 ≤ seat) (line : Lined)
+      → Holds script parts front at lines → Ends script front seat None line → AnswersIf (who_at script seat) line.call
+  ends_alone parts front at lines seat low line held ends = λ fits. answered (who_at script seat) line.call
       (plain_or_moved (is_worker (who_at script seat)) line.call.command line.call.told plain.0 plain.1 plain.2)
-      (λ said' tells. may_stand script valid seat parts front at at line.call (alone_ended script valid never_prunes parts front at lines seat line held ends)
-      never_prunes (all_few script valid) few32 said' tells (inl none))
+      (λ said' tells. may_stand script valid seat parts front at at line.call (alone_ended script valid parts front at lines seat low line held ends)
+      fits (all_few script valid) few32 said' tells (inl none))
     where
       none : line.call.made ≡ []
       none = ends.made ∙ ap (λ xs. xs ++ []) (ends.none refl)
@@ -235,44 +239,44 @@ module _ (script : Script) (valid : is_valid script ≡ true) (never_prunes : Ne
   On ms = (log : List Logged) (parts : Parts) (front : List Occurrence) (at : IsolationMachine) (lines : List Entry)
       → Holds script parts front at lines → IsLawfulFrom (shape_of script) parts (map (λ entry. entry.made) log) → are_named log ≡ true
       → AreMoments script front ms → events_at ms ≡ occurrences_from (shape_of script) parts log
-      → EachEnds script Answered ms
+      → EachEnds script AnswersIf ms
 
-  one : (seat : ℕ) (event : Option Occurrence) (line : Option Lined) (ms : List Moment) → On ms
+  one : (seat : ℕ) → 1 ≤ seat → seat ≤ script.sessions + script.workers → (event : Option Occurrence) (line : Option Lined) (ms : List Moment) → On ms
       → (log : List Logged) (parts : Parts) (front : List Occurrence) (at : IsolationMachine) (lines : List Entry)
       → Holds script parts front at lines → IsLawfulFrom (shape_of script) parts (map (λ entry. entry.made) log) → are_named log ≡ true
       → IfSome event (λ o. o.session ≡ seat) → Stands script front seat event line → AreMoments script (with_event front event) ms
       → cons_option event (events_at ms) ≡ occurrences_from (shape_of script) parts log
-      → IfSome line (λ line. Answered (who_at script seat) line.call) × EachEnds script Answered ms
-  one seat None None ms on log parts front at lines held lawful are its stands rest events = absurd stands
-  one seat None (Some line) ms on log parts front at lines held lawful are its stands rest events = (
-    ends_alone parts front at lines seat line held stands,
-    on log parts front at (with_reply lines line.printed) (alone_held script valid never_prunes parts front at lines seat line held stands) lawful are rest events,
+      → IfSome line (λ line. AnswersIf (who_at script seat) line.call) × EachEnds script AnswersIf ms
+  one seat low high None None ms on log parts front at lines held lawful are its stands rest events = absurd stands
+  one seat low high None (Some line) ms on log parts front at lines held lawful are its stands rest events = (
+    ends_alone parts front at lines seat low line held stands,
+    on log parts front at (with_reply lines line.printed) (alone_held script valid parts front at lines seat low line held stands) lawful are rest events,
   )
-  one seat (Some o) line ms on [] parts front at lines held lawful are its stands rest events = absurd (no_event script valid never_prunes o (events_at ms) events)
-  one seat (Some o) None ms on (entry ∷ log) parts front at lines held lawful are its stands rest events =
-      let same : o ≡ occurrence_of (shape_of script) parts entry = first_is script valid never_prunes o (occurrence_of (shape_of script) parts entry) (events_at ms) (occurrences_from (shape_of script) (after (shape_of script) parts entry.made) log) events in
+  one seat low high (Some o) line ms on [] parts front at lines held lawful are its stands rest events = absurd (no_event script valid o (events_at ms) events)
+  one seat low high (Some o) None ms on (entry ∷ log) parts front at lines held lawful are its stands rest events =
+      let same : o ≡ occurrence_of (shape_of script) parts entry = first_is script valid o (occurrence_of (shape_of script) parts entry) (events_at ms) (occurrences_from (shape_of script) (after (shape_of script) parts entry.made) log) events in
       let seat_is : entry.session ≡ seat = ap (λ (o : Occurrence). o.session) (sym same) ∙ its in
       let goes = subst (GoesOn script front seat) same stands in
       let here = named entry.session entry.made.event (and_first (is_of entry.session entry.made.event) (are_named log) are) in (
         tt,
         on log (after (shape_of script) parts entry.made) (front ++ occurrence_of (shape_of script) parts entry ∷ []) at lines
-            (onward script valid never_prunes parts front at lines seat entry seat_is held lawful.0 lawful.1 here goes)
+            (onward script valid parts front at lines seat low high entry seat_is held lawful.0 lawful.1 here goes)
             lawful.2 (and_second (is_of entry.session entry.made.event) (are_named log) are)
             (subst (λ o. AreMoments script (front ++ o ∷ []) ms) same rest)
-            (rest_is script valid never_prunes o (occurrence_of (shape_of script) parts entry) (events_at ms) (occurrences_from (shape_of script) (after (shape_of script) parts entry.made) log) events),
+            (rest_is script valid o (occurrence_of (shape_of script) parts entry) (events_at ms) (occurrences_from (shape_of script) (after (shape_of script) parts entry.made) log) events),
       )
-  one seat (Some o) (Some line) ms on (entry ∷ log) parts front at lines held lawful are its stands rest events =
-      let same : o ≡ occurrence_of (shape_of script) parts entry = first_is script valid never_prunes o (occurrence_of (shape_of script) parts entry) (events_at ms) (occurrences_from (shape_of script) (after (shape_of script) parts entry.made) log) events in
+  one seat low high (Some o) (Some line) ms on (entry ∷ log) parts front at lines held lawful are its stands rest events =
+      let same : o ≡ occurrence_of (shape_of script) parts entry = first_is script valid o (occurrence_of (shape_of script) parts entry) (events_at ms) (occurrences_from (shape_of script) (after (shape_of script) parts entry.made) log) events in
       let seat_is : entry.session ≡ seat = ap (λ (o : Occurrence). o.session) (sym same) ∙ its in
       let ends = subst (λ o. Ends script front seat (Some o) line) same stands in
       let here = named entry.session entry.made.event (and_first (is_of entry.session entry.made.event) (are_named log) are) in
-      let next = moved script valid never_prunes parts front at lines seat entry seat_is held lawful.0 lawful.1 here in
-      let tells = tells_at script valid never_prunes parts front at lines seat entry seat_is held lawful.0 lawful.1 here line ends in
-      let is_ended = ended script valid never_prunes parts front at lines seat entry seat_is held lawful.0 lawful.1 here line ends in (
-        answered (who_at script seat) line.call
+      let next = moved script valid parts front at lines seat low high entry seat_is held lawful.0 lawful.1 here in
+      let tells = tells_at script valid parts front at lines seat low high entry seat_is held lawful.0 lawful.1 here line ends in
+      let is_ended = ended script valid parts front at lines seat low high entry seat_is held lawful.0 lawful.1 here line ends in (
+        λ fits. answered (who_at script seat) line.call
             (event_loud (shape_of script) parts (is_worker (who_at script seat)) line.call.made line.call.command line.call.told entry.made.event entry.made.refused tells)
             (λ said' says. may_stand script valid seat (after (shape_of script) parts entry.made) (front ++ occurrence_of (shape_of script) parts entry ∷ []) at next.0 line.call is_ended
-            never_prunes (all_few script valid) few32 said' says
+            fits (all_few script valid) few32 said' says
             (inr (record {
               done = ends.done;
               made = occurrence_of (shape_of script) parts entry;
@@ -281,16 +285,16 @@ module _ (script : Script) (valid : is_valid script ≡ true) (never_prunes : Ne
                   line.call.made line.call.command line.call.told lawful.0 lawful.1 next.1 tells loud said' says;
             }))),
         on log (after (shape_of script) parts entry.made) (front ++ occurrence_of (shape_of script) parts entry ∷ []) next.0 (with_reply lines line.printed)
-            (after_held script valid never_prunes parts front at lines seat entry seat_is held lawful.0 lawful.1 here line ends)
+            (after_held script valid parts front at lines seat low high entry seat_is held lawful.0 lawful.1 here line ends)
             lawful.2 (and_second (is_of entry.session entry.made.event) (are_named log) are)
             (subst (λ o. AreMoments script (front ++ o ∷ []) ms) same rest)
-            (rest_is script valid never_prunes o (occurrence_of (shape_of script) parts entry) (events_at ms) (occurrences_from (shape_of script) (after (shape_of script) parts entry.made) log) events),
+            (rest_is script valid o (occurrence_of (shape_of script) parts entry) (events_at ms) (occurrences_from (shape_of script) (after (shape_of script) parts entry.made) log) events),
       )
 
   all_answer : (ms : List Moment) → On ms
   all_answer [] log parts front at lines held lawful are moments events = tt
   all_answer (m ∷ ms) log parts front at lines held lawful are moments events =
-      one m.session m.event m.line ms (all_answer ms) log parts front at lines held lawful are moments.0.event_is moments.0.stands moments.1 events
+      one m.session moments.0.low moments.0.high m.event m.line ms (all_answer ms) log parts front at lines held lawful are moments.0.event_is moments.0.stands moments.1 events
 
 -- ---- all dues
 
@@ -300,33 +304,50 @@ stand_append [] es (t ∷ ts) us a b = absurd a
 stand_append (d ∷ ds) es [] us a b = absurd a
 stand_append (d ∷ ds) es (t ∷ ts) us a b = (a.0, stand_append ds es ts us a.1 b)
 
-calls_stand : (number : ℕ) (who : Who) (calls : List Call) → EachOf Answered who calls → AllMayStand (map (due_of number who) calls) (map (λ (call : Call). call.told) calls)
-calls_stand number who [] each = tt
-calls_stand number who (call ∷ calls) each = (each.0 number, calls_stand number who calls each.1)
+among_left : (line : Option Said) (xs ys : List (Option Said)) → Among line xs → Among line (xs ++ ys)
+among_left line [] ys a = absurd a
+among_left line (x ∷ xs) ys (inl e) = inl e
+among_left line (x ∷ xs) ys (inr a) = inr (among_left line xs ys a)
 
-shares_stand : (number : ℕ) (shares : List Share) → EachShare Answered shares
+among_right : (line : Option Said) (xs ys : List (Option Said)) → Among line ys → Among line (xs ++ ys)
+among_right line [] ys a = a
+among_right line (x ∷ xs) ys a = inr (among_right line xs ys a)
+
+calls_stand : (number : ℕ) (who : Who) (calls : List Call) → EachOf AnswersIf who calls → PruningsFit (map (λ (call : Call). call.told) calls)
+    → AllMayStand (map (due_of number who) calls) (map (λ (call : Call). call.told) calls)
+calls_stand number who [] each fit = tt
+calls_stand number who (call ∷ calls) each fit =
+    (each.0 (λ count is. fit count (inl (sym is))) number, calls_stand number who calls each.1 (λ count a. fit count (inr a)))
+
+shares_stand : (number : ℕ) (shares : List Share) → EachShare AnswersIf shares → PruningsFit (flat_map (λ (share : Share). map (λ (call : Call). call.told) share.calls) shares)
     → AllMayStand (flat_map (λ (share : Share). map (due_of number share.who) share.calls) shares) (flat_map (λ (share : Share). map (λ (call : Call). call.told) share.calls) shares)
-shares_stand number [] each = tt
-shares_stand number (share ∷ shares) each =
+shares_stand number [] each fit = tt
+shares_stand number (share ∷ shares) each fit =
     stand_append (map (due_of number share.who) share.calls) (flat_map (λ (share : Share). map (due_of number share.who) share.calls) shares)
     (map (λ (call : Call). call.told) share.calls) (flat_map (λ (share : Share). map (λ (call : Call). call.told) share.calls) shares)
-    (calls_stand number share.who share.calls each.0) (shares_stand number shares each.1)
+    (calls_stand number share.who share.calls each.0
+    (λ count a. fit count (among_left (Some (said.Pruned count)) (map (λ (call : Call). call.told) share.calls) (flat_map (λ (share : Share). map (λ (call : Call). call.told) share.calls) shares) a)))
+    (shares_stand number shares each.1
+    (λ count a. fit count (among_right (Some (said.Pruned count)) (map (λ (call : Call). call.told) share.calls) (flat_map (λ (share : Share). map (λ (call : Call). call.told) share.calls) shares) a)))
 
-rounds_stand : (number : ℕ) (rounds : List RoundRun) → EachCall Answered rounds
+rounds_stand : (number : ℕ) (rounds : List RoundRun) → EachCall AnswersIf rounds → PruningsFit (told_in rounds)
     → AllMayStand (flat_map (λ (entry : ℕ × RoundRun). dues_answered entry.0 entry.1) (enumerate_from number rounds)) (told_in rounds)
-rounds_stand number [] each = tt
-rounds_stand number (round ∷ rounds) each =
+rounds_stand number [] each fit = tt
+rounds_stand number (round ∷ rounds) each fit =
     stand_append (dues_answered number round) (flat_map (λ (entry : ℕ × RoundRun). dues_answered entry.0 entry.1) (enumerate_from (number + 1) rounds))
     (flat_map (λ (share : Share). map (λ (call : Call). call.told) share.calls) round.shares) (told_in rounds)
-    (shares_stand number round.shares each.0) (rounds_stand (number + 1) rounds each.1)
+    (shares_stand number round.shares each.0
+    (λ count a. fit count (among_left (Some (said.Pruned count)) (flat_map (λ (share : Share). map (λ (call : Call). call.told) share.calls) round.shares) (told_in rounds) a)))
+    (rounds_stand (number + 1) rounds each.1
+    (λ count a. fit count (among_right (Some (said.Pruned count)) (flat_map (λ (share : Share). map (λ (call : Call). call.told) share.calls) round.shares) (told_in rounds) a)))
 
 pub runs_are_explained : RunsAreExplained
-runs_are_explained script log text valid never_prunes ran =
+runs_are_explained script log text valid ran fit =
     let moments = runs_have_moments script log text ran in
-    let each = all_answer script valid never_prunes (moments_of script ran.rounds) log (opening (shape_of script)) [] machine.opening []
+    let each = all_answer script valid (moments_of script ran.rounds) log (opening (shape_of script)) [] machine.opening []
     (holds_first script (is_shape script valid)) ran.lawful (run_named script log text ran) moments.calls moments.events in
     let stand = subst (λ dues. AllMayStand dues (told_in ran.rounds)) (sym (calls_answer script ran.rounds ran.asked))
-    (rounds_stand 1 ran.rounds (each_call script log text ran Answered each)) in
+    (rounds_stand 1 ran.rounds (each_call script log text ran AnswersIf each) fit) in
     subst (Explained script) (sym ran.printed)
     (run-explained script (told_in ran.rounds) (replies_at (moments_of script ran.rounds)) valid stand
-    (runs_give_timelines script log text valid never_prunes ran))
+    (runs_give_timelines script log text valid ran))

@@ -46,6 +46,7 @@ use Rattle.moment_laws.specs.Moments.{who_at, with_reply}
 use Rattle.told_laws.proofs.Tells.{last_events_are_told}
 use Rattle.told_laws.specs.Laws.{TellsAt}
 use Rattle.explained_laws.specs.Reads.{ReadsStandIn}
+use Rattle.explained_laws.proofs.Dropping.{Brings, Kept, kept_first, next_kept}
 use Rattle.explained_laws.proofs.Keys.{KeyFits, KeysAgree, keys_go, no_keys}
 use Rattle.explained_laws.proofs.Rereading.{reads_stand}
 use Rattle.explained_laws.proofs.Shown.{Adds, accepted, event_adds, insert_adds, inserts_more, shown, shown_more}
@@ -76,6 +77,7 @@ pub record Holds (script : Script) (parts : Parts) (front : List Occurrence) (at
   pub room : (t : ℕ) → HasTable (shape_of script) t → HasRoom (shape_of script) parts lines t
   pub narrow : IsNarrow (desk_at (shape_of script) parts)
   pub keys : KeysAgree front at
+  pub kept : Kept script parts front lines
 
 pub holds_first : (script : Script) → IsShape (shape_of script) → Holds script (opening (shape_of script)) [] machine.opening []
 holds_first script is_shape = record {
@@ -93,6 +95,7 @@ holds_first script is_shape = record {
   room = λ t has. let o = opens_empty (shape_of script) t is_shape has in let a = o.0 in let b = o.1 in record { used_up = omega (arith, a); inserts = omega (arith, b) };
   narrow = opens_narrow (shape_of script) is_shape;
   keys = no_keys;
+  kept = kept_first script machine.opening is_shape (sound (shape_of script) is_shape) (opening_follows (shape_of script) is_shape) nothing_is_open;
 }
   where
     none : (began done : List Occurrence) → [] ≡ began ++ done → (made : Occurrence) → Among made done → ⊥
@@ -114,11 +117,12 @@ module _ (script : Script) (parts : Parts) (front : List Occurrence) (lines : Li
   abbrev worker : Bool
   worker = is_worker (who_at script seat)
 
-  pub ends_tells : (entry : Logged) (line : Lined) → entry.session ≡ seat → AreReplied (shape_of script) front
-      → Ends script front seat (Some (occurrence_of (shape_of script) parts entry)) line
-      → TellsAt (is_worker (who_at script seat)) line.call.made entry.made.event (reply_after (shape_of script) parts entry.made) line.call.command line.call.told
-  ends_tells entry line same replied ends =
-      last_events_are_told (shape_of script) (is_worker (who_at script seat)) seat ends.began line.call ends.done (occurrence_of (shape_of script) parts entry) ends.is_call call_replied ends.made
+  pub ends_replied : (entry : Logged) (line : Lined) → entry.session ≡ seat → AreReplied (shape_of script) front
+      → Ends script front seat (Some (occurrence_of (shape_of script) parts entry)) line → AreReplied (shape_of script) line.call.made
+  ends_replied entry line same replied ends =
+      subst (AreReplied (shape_of script)) (sym ends.made)
+      (rest_replied (shape_of script) ends.began (ends.done ++ occurrence_of (shape_of script) parts entry ∷ [])
+      (subst (AreReplied (shape_of script)) (ap (λ xs. xs ++ occurrence_of (shape_of script) parts entry ∷ []) ends.behind ∙ append_assoc ends.began ends.done (occurrence_of (shape_of script) parts entry ∷ [])) all))
     where
       all : AreReplied (shape_of script) (under seat front ++ occurrence_of (shape_of script) parts entry ∷ [])
       all = append (under seat front) (under_replied (shape_of script) seat front replied)
@@ -127,10 +131,12 @@ module _ (script : Script) (parts : Parts) (front : List Occurrence) (lines : Li
           append [] r = ((entry.made.refused, refl), tt)
           append (x ∷ xs) r = (r.0, append xs r.1)
 
-      call_replied : AreReplied (shape_of script) line.call.made
-      call_replied = subst (AreReplied (shape_of script)) (sym ends.made)
-          (rest_replied (shape_of script) ends.began (ends.done ++ occurrence_of (shape_of script) parts entry ∷ [])
-          (subst (AreReplied (shape_of script)) (ap (λ xs. xs ++ occurrence_of (shape_of script) parts entry ∷ []) ends.behind ∙ append_assoc ends.began ends.done (occurrence_of (shape_of script) parts entry ∷ [])) all))
+  pub ends_tells : (entry : Logged) (line : Lined) → entry.session ≡ seat → AreReplied (shape_of script) front
+      → Ends script front seat (Some (occurrence_of (shape_of script) parts entry)) line
+      → TellsAt (is_worker (who_at script seat)) line.call.made entry.made.event (reply_after (shape_of script) parts entry.made) line.call.command line.call.told
+  ends_tells entry line same replied ends =
+      last_events_are_told (shape_of script) (is_worker (who_at script seat)) seat ends.began line.call ends.done (occurrence_of (shape_of script) parts entry) ends.is_call
+      (ends_replied entry line same replied ends) ends.made
 
   pub ends_adds : (entry : Logged) (line : Lined) → entry.session ≡ seat → AreReplied (shape_of script) front
       → Ends script front seat (Some (occurrence_of (shape_of script) parts entry)) line
@@ -189,9 +195,11 @@ pub next_holds : (script : Script) (parts : Parts) (front : List Occurrence) (at
     → IsStep (command_in entry.made.event) at (reply_after (shape_of script) parts entry.made) next
     → FollowsMachine (shape_of script) (after (shape_of script) parts entry.made) next
     → Counted script parts entry.made lines after_lines
+    → 1 ≤ entry.session → entry.session ≤ script.sessions + script.workers
+    → Brings script parts front lines after_lines entry.session entry.made.event (reply_after (shape_of script) parts entry.made)
     → Holds script parts front at lines
     → Holds script (after (shape_of script) parts entry.made) (front ++ occurrence_of (shape_of script) parts entry ∷ []) next after_lines
-next_holds script parts front at next lines after_lines entry is_shape lawful named fits step follows counted holds = record {
+next_holds script parts front at next lines after_lines entry is_shape lawful named fits step follows counted low high brings holds = record {
   ok = made_keeps (shape_of script) parts entry.made is_shape holds.ok lawful;
   follows = follows;
   agrees = opens_as (shape_of script) parts entry front at next named step holds.agrees;
@@ -215,6 +223,8 @@ next_holds script parts front at next lines after_lines entry is_shape lawful na
       record { used_up = omega (arith, u, cr); inserts = omega (arith, i, ci, m) };
   narrow = numbers_are_narrow (shape_of script) parts entry.made holds.ok lawful holds.narrow;
   keys = keys_go (shape_of script) parts entry front at next named fits step holds.keys;
+  kept = next_kept script parts front lines after_lines entry low high next is_shape holds.ok lawful (made_keeps (shape_of script) parts entry.made is_shape holds.ok lawful) follows
+      (opens_as (shape_of script) parts entry front at next named step holds.agrees) brings holds.kept;
 }
   where
     append : (xs : List Occurrence) → AreReplied (shape_of script) xs → AreReplied (shape_of script) (xs ++ occurrence_of (shape_of script) parts entry ∷ [])
@@ -262,9 +272,9 @@ next_holds script parts front at next lines after_lines entry is_shape lawful na
 -- a moment without an event
 pub same_holds : (script : Script) (parts : Parts) (front : List Occurrence) (at : IsolationMachine) (lines after_lines : List Entry)
     → ((t b : ℕ) → seals_in t b after_lines ≡ seals_in t b lines) → ((t b : ℕ) → freezes_in t b after_lines ≡ freezes_in t b lines)
-    → ((t : ℕ) → inserts_in t lines ≤ inserts_in t after_lines)
+    → ((t : ℕ) → inserts_in t lines ≤ inserts_in t after_lines) → Kept script parts front after_lines
     → Holds script parts front at lines → Holds script parts front at after_lines
-same_holds script parts front at lines after_lines seals freezes inserts holds = record {
+same_holds script parts front at lines after_lines seals freezes inserts kept holds = record {
   ok = holds.ok;
   follows = holds.follows;
   agrees = holds.agrees;
@@ -277,4 +287,5 @@ same_holds script parts front at lines after_lines seals freezes inserts holds =
   room = λ t has. let old = holds.room t has in let u = old.used_up in let i = old.inserts in let m = inserts t in record { used_up = u; inserts = omega (arith, i, m) };
   narrow = holds.narrow;
   keys = holds.keys;
+  kept = kept;
 }

@@ -2,6 +2,10 @@ pub mod Keys
 pub mod Rereading
 pub mod Shown
 pub mod Holding
+pub mod Spans
+pub mod Pruning
+pub mod Dropping
+pub mod Bringing
 pub mod Counting
 pub mod Scripts
 pub mod Taking

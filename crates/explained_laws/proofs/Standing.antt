@@ -10,7 +10,6 @@ use Rattle.event_spec.specs.declared.reply.Reply.TheVariants as reply
 use Rattle.event_spec.specs.Effects.{CoreEvent}
 use Rattle.event_laws.proofs.Lists.{map_member, member_map}
 use Rattle.event_spec.specs.Lawful.{Among}
-use Rattle.moment_laws.specs.Laws.{IsAsked}
 use Rattle.std.specs.Option.{option_map_or}
 use Rattle.event_spec.specs.Parts.{Parts, Shape, below, blocks_of, slots_of}
 use Rattle.event_spec.specs.Replies.{CoreReply, reply_to}
@@ -28,14 +27,13 @@ use Rattle.run_spec.specs.Calls.{Call, IsCallBy, IsWhole, line_to}
 use Rattle.run_spec.specs.Occurrences.{Occurrence, events_in, replies_in}
 use Rattle.run_spec.specs.Opened.{own_after, own_key}
 use Rattle.run_spec.specs.Ran.{shape_of}
-use Rattle.run_spec.specs.Told.{in_key_order, is_shared, is_turned, line_of, moved_told, refusal_of, rows_told, summary_of, told_by}
+use Rattle.run_spec.specs.Told.{dropped_told, in_key_order, is_shared, is_turned, line_of, moved_told, refusal_of, rows_told, summary_of, told_by}
 use Rattle.ran_laws.specs.Upkeep.{AreReplied, IsReplied}
 use Rattle.told_laws.specs.Laws.{is_quiet}
 use Rattle.told_laws.proofs.Splits.{are_quiet, heads, loud_of, none_behind, none_some, quiet_of, split_events, tails}
 use Rattle.told_laws.proofs.Tells.{not_silent, sum_unmoved}
 use Rattle.moment_laws.specs.Moments.{who_at}
 use Rattle.moment_laws.proofs.Seats.{either}
-use Rattle.explained_laws.specs.Timelines.{Never}
 use Rattle.explained_laws.proofs.Answering.{memory_stands, refusal_stands}
 use Rattle.explained_laws.proofs.Exporting.{count_few, export_low, has_rows, number_low, range_long, read_few, read_long, replies_long}
 use Rattle.explained_laws.proofs.Scripts.{is_shape, session_asked, worker_upkeep}
@@ -115,13 +113,10 @@ pub record LastStands (call : Call) (line : Said) : Type 0 where
 
 module _ (script : Script) (valid : is_valid script ≡ true) (seat : ℕ) (parts : Parts) (front : List Occurrence) (at next : IsolationMachine) (call : Call)
     (ended : Ended script seat parts front at next call)
-    (never_prunes : Never script command.Prune)
+    (fits : (count : ℕ) → call.told ≡ Some (said.Pruned count) → count < 2 ^ 64)
     (few_tables : length (at_all_blocks (shape_of script) event.Observe) < 2 ^ 32) (few_blocks : (t : ℕ) → blocks_of (shape_of script) t < 2 ^ 32) (line : Said) (tells : call.told ≡ Some line) (last : (call.made ≡ []) ⊎ LastStands call line) where
   worker : Bool
   worker = is_worker (who_at script seat)
-
-  no_prune : call.command ≡ command.Prune → ⊥
-  no_prune e = never_prunes seat (subst (IsAsked script seat) e ended.asked)
 
   -- a loud event is the last
   at_loud : (own : Option OwnTransaction) (l : CoreEvent) → events_in call.made ≡ events_of (shape_of script) own seat call.command call.made
@@ -216,7 +211,11 @@ module _ (script : Script) (valid : is_valid script ≡ true) (seat : ℕ) (part
       subst (MayStand command.Observe) (line_same (is_worker (who_at script seat)) (said.Cooling (count_by is_turned (replies_in call.made))) line call.told refl
       (w.line ∙ ap (λ c. line_to (is_worker (who_at script seat)) (line_of own c (replies_in call.made))) is) tells)
       (inl (let w : count_by is_turned (replies_in call.made) < 2 ^ 64 = omega (arith, few, long, all, few_tables) in w))
-  at_quiet command.Prune is own mine free w none = absurd (no_prune is)
+  at_quiet command.Prune is own mine free w none =
+      let told : call.told ≡ line_to (is_worker (who_at script seat)) (Some (said.Pruned (sum_by dropped_told (replies_in call.made)))) =
+      w.line ∙ ap (λ c. line_to (is_worker (who_at script seat)) (line_of own c (replies_in call.made))) is in
+      subst (MayStand command.Prune) (line_same (is_worker (who_at script seat)) (said.Pruned (sum_by dropped_told (replies_in call.made))) line call.told refl told tells)
+      (inl (fits (sum_by dropped_told (replies_in call.made)) (told ∙ not_silent (is_worker (who_at script seat)) (said.Pruned (sum_by dropped_told (replies_in call.made))) refl)))
   at_quiet (command.Compact table) is own mine free w none =
       let e : events_in call.made ≡ quiet_of (shape_of script) own (command.Compact table) call.made =
       w.events ∙ ap (λ c. events_of (shape_of script) own seat c call.made) is ∙ split_events (shape_of script) own seat (command.Compact table) call.made

@@ -1,7 +1,7 @@
 -- A run's lines come about one behind the other, at its moments.
-use Rattle.std.proofs.Common.{◌≡◌, ◌⊎◌, ℕ, ◌+◌, ◌<◌, ◌≤◌, Bool, true, false, cond, ◌==◌, List, [], ◌∷◌, ◌++◌, map, Option, None, Some, refl, sym, ap, ◌∙◌, subst, arith, append_assoc, append-nil}
+use Rattle.std.proofs.Common.{◌≡◌, ◌⊎◌, ℕ, ◌+◌, ◌*◌, ◌<◌, ◌≤◌, Bool, true, false, cond, ◌==◌, List, [], ◌∷◌, ◌++◌, map, Option, None, Some, refl, sym, ap, ◌∙◌, subst, arith, append_assoc, append-nil}
 use mathlib.Core.Logic.{inl, inr}
-use Rattle.std.specs.Prelude.{IfSome, option_and_then}
+use Rattle.std.specs.Prelude.{IfSome, option_and_then, sum, sum_by}
 use Rattle.std.specs.List.{cons_option, list_all}
 use Rattle.event_laws.proofs.Apart.{kept_among}
 use Rattle.event_laws.specs.Laws.{IsStep, command_in}
@@ -10,16 +10,17 @@ use Rattle.event_spec.specs.declared.event.Event.TheVariants as event
 use Rattle.event_spec.specs.declared.own.OwnTransaction.{OwnTransaction}
 use Rattle.event_spec.specs.declared.reply.Reply.TheVariants as reply
 use Rattle.event_spec.specs.Effects.{CoreEvent, change_judged, insert_judged}
-use Rattle.event_spec.specs.Lawful.{Among, IsLawful, takes_memory}
+use Rattle.event_spec.specs.Lawful.{Among, IsLawful, session_of, takes_memory}
 use Rattle.event_spec.specs.Parts.{Parts, Shape}
 use Rattle.event_spec.specs.Replay.{IsLawfulFrom, after, opening, reply_after}
 use Rattle.event_spec.specs.Replies.{reply_to}
 use Rattle.isolation_spec.specs.Contents.{key_of}
 use Rattle.isolation_spec.specs.Machine.{IsolationMachine, transaction_of}
 use Rattle.isolation_spec.specs.Machine as machine
-use Rattle.outcome_spec.specs.Entries.{Entry}
+use Rattle.outcome_spec.specs.Entries.{Entry, shown_in}
+use Rattle.outcome_spec.specs.Runs.{writes_committed_in}
 use Rattle.outcome_spec.specs.Forms.{is_upkeep, is_worker}
-use Rattle.outcome_spec.specs.Upkeep.{freezes_in, inserts_in, rows_in}
+use Rattle.outcome_spec.specs.Upkeep.{freezes_in, inserts_in, moved_in, pruned_in, rows_in}
 use Rattle.timeline_spec.specs.Timeline.{Counts, Runs, Takes}
 use Rattle.workload_spec.specs.declared.command.Command.{Command}
 use Rattle.workload_spec.specs.declared.command.Command.TheVariants as command
@@ -29,10 +30,10 @@ use Rattle.workload_spec.specs.declared.script.Script.{Script}
 use Rattle.workload_spec.specs.Valid.{is_valid}
 use Rattle.run_laws.proofs.Logs.{made_step}
 use Rattle.run_spec.specs.Calls.{Call, line_to}
-use Rattle.run_spec.specs.Occurrences.{Logged, Occurrence, events_in, occurrence_of, occurrences_from, under}
+use Rattle.run_spec.specs.Occurrences.{Logged, Occurrence, events_in, occurrence_of, occurrences_from, replies_in, under}
 use Rattle.run_spec.specs.Opened.{own_after}
 use Rattle.run_spec.specs.Ran.{shape_of}
-use Rattle.run_spec.specs.Told.{is_shared}
+use Rattle.run_spec.specs.Told.{dropped_told, is_shared}
 use Rattle.ran_laws.proofs.Along.{and_first, and_second, named}
 use Rattle.ran_laws.specs.Along.{are_named}
 use Rattle.ran_laws.specs.Asking.{is_of}
@@ -43,15 +44,18 @@ use Rattle.ran_laws.specs.Upkeep.{AreReplied}
 use Rattle.ran_laws.proofs.Upkeep.{rest_replied, under_replied}
 use Rattle.told_laws.proofs.Tells.{calls_go_on_quietly, last_events_are_told, not_silent, refusals_are_plain}
 use Rattle.told_laws.specs.Laws.{TellsAt, is_plain, is_quiet}
-use Rattle.moment_laws.specs.Laws.{AreMoments, Ends, GoesOn, IsAsked, IsPrinted, Stands, command_told, with_event}
+use Rattle.moment_laws.specs.Laws.{AreMoments, Ends, GoesOn, IsPrinted, Stands, command_told, with_event}
 use Rattle.moment_laws.specs.Moments.{moments_of, replies_at, who_at, with_reply}
 use Rattle.moment_laws.proofs.Seats.{either, worker_at}
 use Rattle.moment_laws.proofs.Standing.{own_last}
 use Rattle.moment_laws.proofs.Rounds.{runs_have_moments}
 use Rattle.ran_laws.proofs.Named.{run_named}
-use Rattle.explained_laws.specs.Timelines.{Never, RunsGiveTimelines}
+use Rattle.explained_laws.specs.Timelines.{RunsGiveTimelines}
+use Rattle.explained_laws.proofs.Bringing.{brings_end, brings_on, kept_alone, prune_counts, shown_as, whose_is}
 use Rattle.explained_laws.proofs.Counting.{event_says, plain_counts}
-use Rattle.explained_laws.proofs.Holding.{AddsAt, Counted, Holds, ends_adds, ends_tells, freezes_with, holds_first, inserts_with, next_holds, same_holds, seals_with}
+use Rattle.explained_laws.proofs.Dropping.{Brings, untold_at}
+use Rattle.explained_laws.proofs.Pruning.{Way, all_blocks, dropped_at, goes_on, is_pruning, last_pruning, prune_calls, told_last, untold, way_last, way_of}
+use Rattle.explained_laws.proofs.Holding.{AddsAt, Counted, Holds, ends_adds, ends_replied, ends_tells, freezes_with, holds_first, inserts_with, next_holds, same_holds, seals_with}
 use Rattle.explained_laws.proofs.Exporting.{exports_by}
 use Rattle.explained_laws.proofs.Keys.{KeysAgree, SameKeys, quiet_fits, quiet_stays}
 use Rattle.explained_laws.proofs.Scripts.{event_key, is_shape, worker_upkeep}
@@ -60,6 +64,24 @@ use Rattle.explained_laws.proofs.Taking.{Ended, ends_at, front_quiet, own_same, 
 
 true_false : true ≡ false → ⊥
 true_false e = cc
+
+pruning_quiet : (e : CoreEvent) → is_pruning e ≡ true → is_quiet e ≡ true
+pruning_quiet event.Oldest p = refl
+pruning_quiet (event.Prune table block oldest) p = refl
+pruning_quiet (event.Begin session) p = absurd (true_false (sym p))
+pruning_quiet (event.Get own table key) p = absurd (true_false (sym p))
+pruning_quiet (event.Insert own table row) p = absurd (true_false (sym p))
+pruning_quiet (event.Update own table row) p = absurd (true_false (sym p))
+pruning_quiet (event.Delete own table key) p = absurd (true_false (sym p))
+pruning_quiet (event.Read own table block) p = absurd (true_false (sym p))
+pruning_quiet (event.Commit own) p = absurd (true_false (sym p))
+pruning_quiet (event.Abort own) p = absurd (true_false (sym p))
+pruning_quiet (event.Observe table block) p = absurd (true_false (sym p))
+pruning_quiet (event.Look table block) p = absurd (true_false (sym p))
+pruning_quiet (event.Move table moves) p = absurd (true_false (sym p))
+pruning_quiet (event.Seal table block) p = absurd (true_false (sym p))
+pruning_quiet (event.Image table block image) p = absurd (true_false (sym p))
+pruning_quiet (event.Thaw table block) p = absurd (true_false (sym p))
 
 none_some : {X : Type 0} (x : X) → None ≡ Some x → ⊥
 none_some x e = cc
@@ -124,7 +146,7 @@ inserts_rise t lines (Some entry) = let more = Rattle.explained_laws.proofs.Show
 
 -- ---- one moment
 
-module _ (script : Script) (valid : is_valid script ≡ true) (never_prunes : Never script command.Prune) where
+module _ (script : Script) (valid : is_valid script ≡ true) where
   sh : Shape
   sh = shape_of script
 
@@ -159,7 +181,7 @@ module _ (script : Script) (valid : is_valid script ≡ true) (never_prunes : Ne
   is_silent who call printed is e = subst (IsPrinted who call) e is
 
   -- a moment without an event
-  module _ (parts : Parts) (front : List Occurrence) (at : IsolationMachine) (lines : List Entry) (seat : ℕ) (line : Lined)
+  module _ (parts : Parts) (front : List Occurrence) (at : IsolationMachine) (lines : List Entry) (seat : ℕ) (low : 1 ≤ seat) (line : Lined)
       (held : Holds script parts front at lines) (ends : Ends script front seat None line) where
     none : line.call.made ≡ []
     none = ends.made ∙ ap (λ xs. xs ++ []) (ends.none refl)
@@ -174,7 +196,10 @@ module _ (script : Script) (valid : is_valid script ≡ true) (never_prunes : Ne
     alone_held = same_holds script parts front at lines (with_reply lines line.printed)
         (λ t b. let w = seals_with t b lines (who_at script seat) line.call line.printed ends.printed in let a = (alone_adds t b).seals_are in omega (arith, w, a))
         (λ t b. let w = freezes_with t b lines (who_at script seat) line.call line.printed ends.printed in let a = (alone_adds t b).images_are in omega (arith, w, a))
-        (λ t. inserts_rise t lines line.printed) held
+        (λ t. inserts_rise t lines line.printed)
+        (kept_alone script parts front lines seat low held.kept line.printed line.call.told line.call.command
+        (shown_as (who_at script seat) line.call line.printed ends.printed) (whose_is (who_at script seat) line.call line.printed ends.printed) plain.0 plain.1 plain.2)
+        held
 
     pub alone_ended : Ended script seat parts front at at line.call
     alone_ended = record {
@@ -212,7 +237,7 @@ module _ (script : Script) (valid : is_valid script ≡ true) (never_prunes : Ne
     alone moments rest = lines_on at at lines line.printed moments (λ e. refl) alone_comes rest
 
   -- a moment with an event
-  module _ (parts : Parts) (front : List Occurrence) (at : IsolationMachine) (lines : List Entry) (seat : ℕ) (entry : Logged) (same : entry.session ≡ seat)
+  module _ (parts : Parts) (front : List Occurrence) (at : IsolationMachine) (lines : List Entry) (seat : ℕ) (low : 1 ≤ seat) (high : seat ≤ script.sessions + script.workers) (entry : Logged) (same : entry.session ≡ seat)
       (held : Holds script parts front at lines) (lawful : IsLawful (shape_of script) entry.made.event parts) (memory : entry.made.refused ≡ true → takes_memory entry.made.event ≡ true)
       (is_named : IsNamed entry) where
     abbrev made : Occurrence
@@ -221,12 +246,20 @@ module _ (script : Script) (valid : is_valid script ≡ true) (never_prunes : Ne
     pub moved : (next : IsolationMachine) × IsStep (command_in entry.made.event) at (reply_after (shape_of script) parts entry.made) next × FollowsMachine (shape_of script) (after (shape_of script) parts entry.made) next
     moved = made_step (shape_of script) parts entry.made at (is_shape script valid) held.ok held.follows lawful memory
 
+    low_session : 1 ≤ entry.session
+    low_session = omega (arith, low, same)
+
+    high_session : entry.session ≤ script.sessions + script.workers
+    high_session = omega (arith, high, same)
+
     -- of a call that goes on
     pub onward : GoesOn script front seat (occurrence_of (shape_of script) parts entry)
         → (Holds script (after (shape_of script) parts entry.made) (front ++ occurrence_of (shape_of script) parts entry ∷ []) at lines)
     onward goes = subst (λ m. Holds script (after (shape_of script) parts entry.made) (front ++ occurrence_of (shape_of script) parts entry ∷ []) m lines)
         (quiet_stays at moved.0 entry.made.event (reply_after (shape_of script) parts entry.made) quiet moved.1)
-        (next_holds script parts front at moved.0 lines lines entry (is_shape script valid) lawful is_named (quiet_fits entry.made.event quiet) moved.1 moved.2 counted held)
+        (next_holds script parts front at moved.0 lines lines entry (is_shape script valid) lawful is_named (quiet_fits entry.made.event quiet) moved.1 moved.2 counted
+        low_session high_session
+        (brings_on script parts front lines entry.session entry.made.event (reply_after (shape_of script) parts entry.made) low_session held.kept quiet) held)
       where
         quiet : is_quiet entry.made.event ≡ true
         quiet = calls_go_on_quietly (shape_of script) (is_worker (who_at script seat)) seat goes.began goes.call goes.done (occurrence_of (shape_of script) parts entry) goes.next goes.rest goes.is_call goes.made
@@ -259,11 +292,47 @@ module _ (script : Script) (valid : is_valid script ≡ true) (never_prunes : Ne
             let a = adds.inserts t in omega (arith, w, a);
       }
 
+      call_so_far : AreReplied (shape_of script) line.call.made
+      call_so_far = ends_replied script parts front lines seat entry line same held.replied ends
+
+      pruning : line.call.command ≡ command.Prune → is_pruning entry.made.event ≡ true
+      pruning asked =
+          let p = prune_calls (shape_of script) (is_worker (who_at script seat)) seat ends.began line.call ends.is_call call_so_far asked in
+          last_pruning ends.done (occurrence_of (shape_of script) parts entry) (subst (λ os. list_all is_pruning (events_in os) ≡ true) ends.made p.pruning)
+
+      -- a pruning tells all that was not told
+      all_told : line.call.command ≡ command.Prune
+          → untold (all_blocks (shape_of script)) (goes_on (way_of (under seat front)) entry.made.event (reply_after (shape_of script) parts entry.made)) + sum_by dropped_told (replies_in line.call.made)
+          ≤ untold_at script front seat + dropped_at entry.made.event (reply_after (shape_of script) parts entry.made)
+      all_told asked =
+          let p = prune_calls (shape_of script) (is_worker (who_at script seat)) seat ends.began line.call ends.is_call call_so_far asked in
+          told_last (all_blocks (shape_of script)) (sum_by dropped_told (replies_in line.call.made)) (way_of (under seat front)) entry.made.event (reply_after (shape_of script) parts entry.made)
+          (pruning asked) (ap (λ (w : Way). w.prunes) way ∙ p.blocks) (ap (λ (w : Way). w.drops) way ∙ p.drops)
+        where
+          way : goes_on (way_of (under seat front)) entry.made.event (reply_after (shape_of script) parts entry.made) ≡ way_of (ends.began ++ line.call.made)
+          way =
+              sym (way_last (under seat front) (occurrence_of (shape_of script) parts entry))
+              ∙ ap (λ os. way_of (os ++ occurrence_of (shape_of script) parts entry ∷ [])) ends.behind
+              ∙ ap way_of (append_assoc ends.began ends.done (occurrence_of (shape_of script) parts entry ∷ []))
+              ∙ ap (λ os. way_of (ends.began ++ os)) (sym ends.made)
+
+      brings : Brings script parts front lines (with_reply lines line.printed) seat entry.made.event (reply_after (shape_of script) parts entry.made)
+      brings = brings_end script parts front lines seat low held.kept line.printed line.call.told line.call.command line.call.made
+          (shown_as (who_at script seat) line.call line.printed ends.printed) (whose_is (who_at script seat) line.call line.printed ends.printed) of_worker
+          entry.made.event entry.made.refused (subst (λ n. IfSome (session_of entry.made.event) (λ s. s ≡ n)) same is_named) memory
+          (ends_tells script parts front lines seat entry line same held.replied ends) all_told
+
+      prune_counted : line.call.command ≡ command.Prune
+          → sum_by dropped_told (replies_in line.call.made) + sum (shown_in pruned_in lines) ≤ writes_committed_in lines + 2 * sum (shown_in moved_in lines)
+      prune_counted asked = prune_counts script parts front lines entry (sum_by dropped_told (replies_in line.call.made)) seat low high held.ok lawful held.kept
+          (pruning_quiet entry.made.event (pruning asked)) (all_told asked)
+
       pub after_held : Holds script (after (shape_of script) parts entry.made) (front ++ occurrence_of (shape_of script) parts entry ∷ []) moved.0 (with_reply lines line.printed)
       after_held = next_holds script parts front at moved.0 lines (with_reply lines line.printed) entry (is_shape script valid) lawful is_named
           (event_key script valid seat (is_worker (who_at script seat)) line.call.made entry.made.event (reply_after (shape_of script) parts entry.made) line.call.command line.call.told ends.asked
           (ends_tells script parts front lines seat entry line same held.replied ends))
-          moved.1 moved.2 counted held
+          moved.1 moved.2 counted low_session high_session
+          (subst (λ n. Brings script parts front lines (with_reply lines line.printed) n entry.made.event (reply_after (shape_of script) parts entry.made)) (sym same) brings) held
 
       whole : under seat (front ++ occurrence_of (shape_of script) parts entry ∷ []) ≡ ends.began ++ line.call.made
       whole =
@@ -320,7 +389,7 @@ module _ (script : Script) (valid : is_valid script ≡ true) (never_prunes : Ne
                 lines printed.reply.said is.0 was_frozen),
             subst (λ c. Counts script.tables lines c printed.reply.said) (sym is.2)
                 (event_says script parts front at moved.0 lines (is_shape script valid) held (who_at script seat) entry.made.event entry.made.refused line.call.made line.call.command line.call.told
-                lawful moved.1 (λ asked. never_prunes seat (subst (IsAsked script seat) asked ends.asked)) tells_at printed.reply.said is.0),
+                lawful moved.1 prune_counted tells_at printed.reply.said is.0),
           )
 
       stays : line.printed ≡ None → moved.0 ≡ at
@@ -344,38 +413,38 @@ module _ (script : Script) (valid : is_valid script ≡ true) (never_prunes : Ne
       → AreMoments script front ms → events_at ms ≡ occurrences_from (shape_of script) parts log
       → Runs script.tables lines at (replies_at ms)
 
-  one : (seat : ℕ) (event : Option Occurrence) (line : Option Lined) (ms : List Moment) → On ms
+  one : (seat : ℕ) → 1 ≤ seat → seat ≤ script.sessions + script.workers → (event : Option Occurrence) (line : Option Lined) (ms : List Moment) → On ms
       → (log : List Logged) (parts : Parts) (front : List Occurrence) (at : IsolationMachine) (lines : List Entry)
       → Holds script parts front at lines → IsLawfulFrom (shape_of script) parts (map (λ entry. entry.made) log) → are_named log ≡ true
       → IfSome event (λ o. o.session ≡ seat) → Stands script front seat event line → AreMoments script (with_event front event) ms
       → cons_option event (events_at ms) ≡ occurrences_from (shape_of script) parts log
       → Runs script.tables lines at (cons_option (option_and_then (λ (line : Lined). line.printed) line) (replies_at ms))
-  one seat None None ms on log parts front at lines held lawful are its stands rest events = absurd stands
-  one seat None (Some line) ms on log parts front at lines held lawful are its stands rest events =
-      alone parts front at lines seat line held stands ms
-      (on log parts front at (with_reply lines line.printed) (alone_held parts front at lines seat line held stands) lawful are rest events)
-  one seat (Some o) line ms on [] parts front at lines held lawful are its stands rest events = absurd (no_event o (events_at ms) events)
-  one seat (Some o) None ms on (entry ∷ log) parts front at lines held lawful are its stands rest events =
+  one seat low high None None ms on log parts front at lines held lawful are its stands rest events = absurd stands
+  one seat low high None (Some line) ms on log parts front at lines held lawful are its stands rest events =
+      alone parts front at lines seat low line held stands ms
+      (on log parts front at (with_reply lines line.printed) (alone_held parts front at lines seat low line held stands) lawful are rest events)
+  one seat low high (Some o) line ms on [] parts front at lines held lawful are its stands rest events = absurd (no_event o (events_at ms) events)
+  one seat low high (Some o) None ms on (entry ∷ log) parts front at lines held lawful are its stands rest events =
       let same : o ≡ occurrence_of (shape_of script) parts entry = first_is o (occurrence_of (shape_of script) parts entry) (events_at ms) (occurrences_from (shape_of script) (after (shape_of script) parts entry.made) log) events in
       let seat_is : entry.session ≡ seat = ap (λ (o : Occurrence). o.session) (sym same) ∙ its in
       let goes = subst (GoesOn script front seat) same stands in
       let here = named entry.session entry.made.event (and_first (is_of entry.session entry.made.event) (are_named log) are) in
       on log (after (shape_of script) parts entry.made) (front ++ occurrence_of (shape_of script) parts entry ∷ []) at lines
-      (onward parts front at lines seat entry seat_is held lawful.0 lawful.1 here goes)
+      (onward parts front at lines seat low high entry seat_is held lawful.0 lawful.1 here goes)
       lawful.2 (and_second (is_of entry.session entry.made.event) (are_named log) are)
       (subst (λ o. AreMoments script (front ++ o ∷ []) ms) same rest)
       (rest_is o (occurrence_of (shape_of script) parts entry) (events_at ms) (occurrences_from (shape_of script) (after (shape_of script) parts entry.made) log) events)
-  one seat (Some o) (Some line) ms on (entry ∷ log) parts front at lines held lawful are its stands rest events =
+  one seat low high (Some o) (Some line) ms on (entry ∷ log) parts front at lines held lawful are its stands rest events =
       let same : o ≡ occurrence_of (shape_of script) parts entry = first_is o (occurrence_of (shape_of script) parts entry) (events_at ms) (occurrences_from (shape_of script) (after (shape_of script) parts entry.made) log) events in
       let seat_is : entry.session ≡ seat = ap (λ (o : Occurrence). o.session) (sym same) ∙ its in
       let ends = subst (λ o. Ends script front seat (Some o) line) same stands in
       let here = named entry.session entry.made.event (and_first (is_of entry.session entry.made.event) (are_named log) are) in
-      let next = (moved parts front at lines seat entry seat_is held lawful.0 lawful.1 here).0 in
+      let next = (moved parts front at lines seat low high entry seat_is held lawful.0 lawful.1 here).0 in
       lines_on at next lines line.printed ms
-      (stays parts front at lines seat entry seat_is held lawful.0 lawful.1 here line ends)
-      (comes parts front at lines seat entry seat_is held lawful.0 lawful.1 here line ends)
+      (stays parts front at lines seat low high entry seat_is held lawful.0 lawful.1 here line ends)
+      (comes parts front at lines seat low high entry seat_is held lawful.0 lawful.1 here line ends)
       (on log (after (shape_of script) parts entry.made) (front ++ occurrence_of (shape_of script) parts entry ∷ []) next (with_reply lines line.printed)
-      (after_held parts front at lines seat entry seat_is held lawful.0 lawful.1 here line ends)
+      (after_held parts front at lines seat low high entry seat_is held lawful.0 lawful.1 here line ends)
       lawful.2 (and_second (is_of entry.session entry.made.event) (are_named log) are)
       (subst (λ o. AreMoments script (front ++ o ∷ []) ms) same rest)
       (rest_is o (occurrence_of (shape_of script) parts entry) (events_at ms) (occurrences_from (shape_of script) (after (shape_of script) parts entry.made) log) events))
@@ -383,14 +452,14 @@ module _ (script : Script) (valid : is_valid script ≡ true) (never_prunes : Ne
   pub all_run : (ms : List Moment) → On ms
   all_run [] log parts front at lines held lawful are moments events = tt
   all_run (m ∷ ms) log parts front at lines held lawful are moments events =
-      one m.session m.event m.line ms (all_run ms) log parts front at lines held lawful are moments.0.event_is moments.0.stands moments.1 events
+      one m.session moments.0.low moments.0.high m.event m.line ms (all_run ms) log parts front at lines held lawful are moments.0.event_is moments.0.stands moments.1 events
 
 pub runs_give_timelines : RunsGiveTimelines
-runs_give_timelines script log text valid never_prunes ran =
+runs_give_timelines script log text valid ran =
     let moments = runs_have_moments script log text ran in
     record {
       threads = moments.threads;
       order = moments.order;
-      runs = all_run script valid never_prunes (moments_of script ran.rounds) log (opening (shape_of script)) [] machine.opening []
+      runs = all_run script valid (moments_of script ran.rounds) log (opening (shape_of script)) [] machine.opening []
           (holds_first script (is_shape script valid)) ran.lawful (run_named script log text ran) moments.calls moments.events;
     }

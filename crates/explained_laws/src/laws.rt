@@ -7,12 +7,12 @@ pub fn reads_stand()
     ensures { ReadsStand }
 {}
 
-/// Where nothing is pruned, the moments of a run are a timeline of its printed replies.
+/// The moments of a run are a timeline of its printed replies.
 pub fn runs_give_timelines()
     ensures { RunsGiveTimelines }
 {}
 
-/// Where nothing is pruned, the text of a run is an explained output.
+/// Where the counts of prunings have 64 bits, the text of a run is an explained output.
 pub fn runs_are_explained()
     ensures { RunsAreExplained }
 {}
