@@ -18,6 +18,18 @@ pub struct MarkIndex<K: Ord, M> {
     lists: BTreeMap<K, Vec<M>>,
 }
 
+/// Makes room for one more mark where there is none, as much again as there is: most keys have few
+/// marks, and `Vec` would begin with room for four.
+fn make_room<M>(marks: &mut Vec<M>) -> Result<(), AllocError>
+    ensures { marks.new.items ≡ marks.old.items }
+{
+    let count = marks.len();
+    if count == marks.capacity() {
+        marks.reserve_exact(count)?;
+    }
+    Ok(())
+}
+
 impl<K: Ord + Drop, M: Drop> MarkIndex<K, M> {
     /// No key has a mark.
     pub fn new(alloc: Global) -> MarkIndex<K, M>
@@ -44,10 +56,11 @@ impl<K: Ord + Drop, M: Drop> MarkIndex<K, M> {
             ≡ with_mark (is_eq (K.cmp key other)) mark (marks_at K.cmp self.old other)) }
     {
         if let Some(marks) = self.lists.get_mut(&key) {
+            make_room(marks)?;
             marks.push(mark)?;
             return Ok(());
         }
-        let mut marks = Vec::new(alloc);
+        let mut marks = Vec::with_capacity(alloc, 1)?;
         marks.push(mark)?;
         self.lists.insert(key, marks)?;
         Ok(())

@@ -1,4 +1,6 @@
 pub mod Parts
+pub mod Near
+pub mod Behind
 pub mod Keyed
 pub mod Starts
 pub mod Noted

@@ -10,7 +10,8 @@ all-get p [] i d within h = absurd (omega (arith, within))
 all-get p (x ∷ xs) zero d within h = (and_parts (p x) (list_all p xs) h).0
 all-get p (x ∷ xs) (suc i) d within h = all-get p xs i d (omega (arith, within)) (and_parts (p x) (list_all p xs) h).1
 
-first-passes : {X : Type 0} (p : X → Bool) (x : X) (xs : List X) (j : ℕ) (d : X) (b : Bool) → p x ≡ b → (p x ≡ false → list_all (λ y. not (p y)) xs ≡ true) → j < length xs → p (get_or xs j d) ≡ true → p x ≡ true
+-- where one behind passes, the first does
+pub first-passes : {X : Type 0} (p : X → Bool) (x : X) (xs : List X) (j : ℕ) (d : X) (b : Bool) → p x ≡ b → (p x ≡ false → list_all (λ y. not (p y)) xs ≡ true) → j < length xs → p (get_or xs j d) ≡ true → p x ≡ true
 first-passes p x xs j d true is stops within h = is
 first-passes p x xs j d false is stops within h =
     let e : p (get_or xs j d) ≡ false = not-true (p (get_or xs j d)) (all-get (λ y. not (p y)) xs j d within (stops is)) in

@@ -17,4 +17,4 @@ pub use keys::{Block, Stamp, commit_told, snapshot_told};
 pub use later_commits::LaterCommits;
 pub use noting::note_key;
 pub use number_marks::NumberMarks;
-pub use stretch::{Stretch, peak_before, stretch_about};
+pub use stretch::{Stretch, peak_before, stretch_about, stretch_behind};

@@ -1,8 +1,10 @@
 //! The places about a reply, among replies in the order of their lines.
-ghost use Rattle.std.specs.Prelude.{◌≡◌, ◌+◌, ◌<◌, ◌^◌, length, slice_index_or};
+ghost use Rattle.std.specs.Prelude.{◌≡◌, ◌+◌, ◌-◌, ◌<◌, IfSome, ◌≤◌, ◌^◌, drop, length, nat_le, not, slice_index_or, take, true};
+ghost use Rattle.std.specs.List.{list_all};
+ghost use Rattle.outcome_check.specs.Sides.{is_past};
 ghost use Rattle.outcome_check.specs.Places.{Rises, is_earlier, is_in_front, is_up_to_own};
 ghost use Rattle.std.specs.List.Sorted.{IsNonDecreasing, IsNonDecreasingBy};
-ghost use Rattle.outcome_counts.specs.Asked.{count_before, count_not_after, peak_before};
+ghost use Rattle.outcome_counts.specs.Asked.{IsAsked, count_before, count_not_after, peak_before};
 ghost use Rattle.output_read.specs.Kept.{entries_of, entry_of};
 ghost use Rattle.output_read.specs.declared.kept.KeptReply.{KeptReply as Kept};
 ghost use Rattle.outcome_counts.specs.Stretch.{stretch_of};
@@ -48,6 +50,70 @@ fn is_up_to_own(reply: &KeptReply<'_>, other: &KeptReply<'_>) -> bool
             && (is_earlier(other.who, reply.who) || other.who == reply.who)
 }
 
+/// How far about a place its round is sought first.
+const NEAR: usize = 64;
+
+/// Between which places the round of a reply stands.
+#[derive(Clone, Copy, Debug, Drop)]
+pub(crate) struct Around {
+    pub(crate) from: usize,
+    pub(crate) to: usize,
+}
+
+/// Whether all in front of a place are of rounds before the reply's.
+fn is_behind_others(replies: &[KeptReply<'_>], reply: &KeptReply<'_>, place: usize) -> bool
+    requires rises { Rises (entries_of replies.now) }
+    requires inside { place ≤ length replies.now }
+    ensures { result ≡ true → list_all (λ (kept : Kept). is_past (entry_of reply.now) (entry_of kept)) (take place replies.now) ≡ true }
+{
+    if place == 0 {
+        return true;
+    }
+    replies[place - 1].round < reply.round
+}
+
+/// Whether all from a place on are of rounds behind the reply's.
+fn is_in_front_of_others(replies: &[KeptReply<'_>], reply: &KeptReply<'_>, place: usize) -> bool
+    requires rises { Rises (entries_of replies.now) }
+    requires inside { place ≤ length replies.now }
+    ensures { result ≡ true → list_all (λ (kept : Kept). not (nat_le kept.round reply.now.round)) (drop place replies.now) ≡ true }
+{
+    if place == replies.len() {
+        return true;
+    }
+    replies[place].round > reply.round
+}
+
+/// Places about one between which the round of the reply there stands: near ones, where they are
+/// far enough apart, since most rounds are short; or else all.
+fn part_about(replies: &[KeptReply<'_>], reply: &KeptReply<'_>, at: usize) -> Around
+    requires rises { Rises (entries_of replies.now) }
+    requires inside { at < length replies.now }
+    ensures order { result.from ≤ result.to }
+    ensures inside { result.to ≤ length replies.now }
+    ensures front { list_all (λ (kept : Kept). is_past (entry_of reply.now) (entry_of kept)) (take result.from replies.now) ≡ true }
+    ensures back { list_all (λ (kept : Kept). not (nat_le kept.round reply.now.round)) (drop result.to replies.now) ≡ true }
+{
+    let count = replies.len();
+    let from = at.saturating_sub(NEAR);
+    let to = if count - at > NEAR { at + NEAR } else { count };
+    if is_behind_others(replies, reply, from) && is_in_front_of_others(replies, reply, to) {
+        return Around { from, to };
+    }
+    Around { from: 0, to: count }
+}
+
+/// The replies from one place up to another.
+fn between<'r, 'a>(replies: &'r [KeptReply<'a>], around: Around) -> &'r [KeptReply<'a>]
+    requires order { around.from ≤ around.to }
+    requires inside { around.to ≤ length replies.now }
+    ensures { result.now ≡ drop around.from (take around.to replies.now) }
+{
+    let (front, _) = replies.split_at(around.to);
+    let (_, part) = front.split_at(around.from);
+    part
+}
+
 /// The places about the reply at a place.
 pub fn stretch_about(replies: &[KeptReply<'_>], at: usize) -> Stretch
     requires rises { Rises (entries_of replies.now) }
@@ -56,11 +122,28 @@ pub fn stretch_about(replies: &[KeptReply<'_>], at: usize) -> Stretch
         ≡ stretch_of (entries_of replies.now) (entry_of (slice_index_or replies.now at none)) }
 {
     let reply = &replies[at];
+    let around = part_about(replies, reply, at);
+    let near = between(replies, around);
+    let from = around.from;
     Stretch {
-        round_start: replies.partition_point(|other| other.round < reply.round),
-        own_start: replies.partition_point(|other| is_in_front(reply, other)),
-        own_end: replies.partition_point(|other| is_up_to_own(reply, other)),
-        round_end: replies.partition_point(|other| other.round <= reply.round),
+        round_start: from + near.partition_point(|other| other.round < reply.round),
+        own_start: from + near.partition_point(|other| is_in_front(reply, other)),
+        own_end: from + near.partition_point(|other| is_up_to_own(reply, other)),
+        round_end: from + near.partition_point(|other| other.round <= reply.round),
+    }
+}
+
+/// The places about the reply at a place, by those about the one in front of it where they are known:
+/// its own have the same.
+pub fn stretch_behind(replies: &[KeptReply<'_>], at: usize, known: Option<Stretch>) -> Stretch
+    requires rises { Rises (entries_of replies.now) }
+    requires inside { at < length replies.now }
+    requires known { IfSome known (IsAsked replies.now (at - 1)) }
+    ensures { IsAsked replies.now at result }
+{
+    match known {
+        Some(stretch) if at < stretch.own_end => stretch,
+        _ => stretch_about(replies, at),
     }
 }
 
