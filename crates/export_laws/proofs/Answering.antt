@@ -1,0 +1,241 @@
+-- What is told to a call may stand in a run's text.
+use Rattle.std.proofs.Common.{◌≡◌, ◌⊎◌, ℕ, zero, suc, ◌+◌, ◌*◌, ◌<◌, ◌≤◌, ◌^◌, nat_le, Bool, true, false, cond, ◌&&◌, ◌==◌, List, [], ◌∷◌, ◌++◌, length, map, Option, None, Some, refl, sym, ap, ◌∙◌, arith, length-append}
+use mathlib.Core.Logic.{inl, inr}
+use Rattle.std.specs.Prelude.{Result}
+use Rattle.std.specs.List.{enumerate_from, flat_map, list_all, range_with_len}
+use Rattle.std.proofs.lemmas.Bool.Decides.{nat_tests}
+use Rattle.std.proofs.lemmas.List.{length-map}
+use Rattle.block_spec.specs.Bodies.{seal_fault}
+use Rattle.block_spec.specs.declared.phase.Phase.{Phase}
+use Rattle.block_spec.specs.declared.phase.Phase.TheVariants.{Loose, Sealed, Imaged}
+use Rattle.block_spec.specs.declared.phase.SealFault.{SealFault}
+use Rattle.event_spec.specs.Lawful.{Among}
+use Rattle.event_spec.specs.declared.event.Event.TheVariants as event
+use Rattle.event_spec.specs.declared.reply.Reply.TheVariants as reply
+use Rattle.event_spec.specs.Effects.{CoreEvent, change_judged, insert_judged, is_some_write}
+use Rattle.event_spec.specs.Parts.{Parts, Shape, below, blocks_of, body_at, desk_at, is_head}
+use Rattle.event_spec.specs.Replies.{reply_to, reply_to_image, reply_to_seal, reply_to_write}
+use Rattle.isolation_spec.specs.Contents.{key_of}
+use Rattle.outcome_spec.specs.Forms.{Due, is_seal_or_gather, is_silent, is_worker}
+use Rattle.timeline_spec.specs.Forms.{AllMayStand, MayAnswer, MayStand}
+use Rattle.workload_spec.specs.declared.command.Command.{Command}
+use Rattle.workload_spec.specs.declared.reply.Said.{Said}
+use Rattle.workload_spec.specs.declared.reply.Said.TheVariants as said
+use Rattle.workload_spec.specs.declared.reply.Who.{Who}
+use Rattle.workload_spec.specs.declared.script.Script.{Script}
+use Rattle.workload_spec.specs.Valid.{have_own_names, is_table, is_valid, is_within, most_sessions, most_tables, most_turns, most_workers}
+use Rattle.run_spec.specs.Asked.{at_all_blocks, at_blocks}
+use Rattle.run_spec.specs.Calls.{Call, line_to}
+use Rattle.run_spec.specs.Occurrences.{Occurrence}
+use Rattle.run_spec.specs.Ran.{RoundRun, Share, shape_of, told_in}
+use Rattle.run_spec.specs.Told.{cause_told, told_by}
+use Rattle.ran_laws.proofs.Along.{and_first, and_second}
+use Rattle.ran_laws.specs.Dues.{dues_answered}
+use Rattle.told_laws.proofs.Tells.{not_silent}
+use Rattle.told_laws.specs.Laws.{TellsAt, TellsMove, TellsQuietly, is_plain}
+use Rattle.moment_laws.specs.Laws.{EachCall, EachOf, EachShare}
+use Rattle.moment_laws.specs.Moments.{due_of}
+use Rattle.explained_laws.specs.Timelines.{PruningsFit}
+use Rattle.explained_laws.proofs.Scripts.{head, is_shape}
+use Rattle.explained_laws.proofs.Shown.{write_line}
+use Rattle.explained_laws.proofs.Walk.{told_something}
+use Rattle.explained_laws.proofs.Explaining.{Answered, AnswersIf}
+
+true_false : true ≡ false → ⊥
+true_false e = cc
+
+-- ---- silence
+
+-- a worker's seal or gathering alone is silent, and what is told is not
+pub record Loud (worker : Bool) (asked : Command) (told : Option Said) : Type 0 where
+  pub silent : told ≡ None → (worker && is_seal_or_gather asked) ≡ true
+  pub loud : (line : Said) → told ≡ Some line → (worker && is_silent line) ≡ false
+
+same_line : (a b : Said) → Some a ≡ Some b → a ≡ b
+same_line a b e = cc
+
+and_false : (b : Bool) → (b && false) ≡ false
+and_false true = refl
+and_false false = refl
+
+loud_line : (worker : Bool) (asked : Command) (told : Option Said) (here : Said) → told ≡ Some here → is_silent here ≡ false → Loud worker asked told
+loud_line worker asked told here is e = record {
+  silent = λ none. absurd (told_something told here is none);
+  loud = λ line tells. ap (λ b. worker && b) (ap is_silent (sym (same_line here line (sym is ∙ tells))) ∙ e) ∙ and_false worker;
+}
+
+plain_loud : (line : Said) → is_plain line ≡ true → is_silent line ≡ false
+plain_loud (said.NotSealed cause) e = absurd (true_false (sym e))
+plain_loud said.NotFrozen e = absurd (true_false (sym e))
+plain_loud _ e = refl
+
+pub plain_or_moved : (worker : Bool) (asked : Command) (told : Option Said) (line : Said) → told ≡ Some line → (is_plain line ≡ true) ⊎ (line ≡ said.Moved 0) → Loud worker asked told
+plain_or_moved worker asked told line is (inl plain) = loud_line worker asked told line is (plain_loud line plain)
+plain_or_moved worker asked told line is (inr moved) = loud_line worker asked told line is (ap is_silent moved)
+
+quiet_loud : (worker : Bool) (asked : Command) (made : List Occurrence) (told : Option Said) → TellsQuietly asked made told → Loud worker asked told
+quiet_loud worker asked made told (line, is, inl plain) = loud_line worker asked told line is (plain_loud line plain)
+quiet_loud worker asked made told (line, is, inr (inl moved)) = loud_line worker asked told line is (ap is_silent moved)
+quiet_loud worker asked made told (line, is, inr (inr pruned)) = loud_line worker asked told line is (ap is_silent pruned.1)
+
+-- a seal's or a gathering's line, whatever it says
+may_hush : (worker : Bool) (asked : Command) (told : Option Said) (here : Said) → is_seal_or_gather asked ≡ true → told ≡ line_to worker (Some here) → Loud worker asked told
+may_hush false asked told here seal is = record {
+  silent = λ none. absurd (told_something told here is none);
+  loud = λ line tells. refl;
+}
+may_hush true asked told here seal is = record {
+  silent = λ none. seal;
+  loud = λ line tells. go (is_silent here) refl line tells (sym is ∙ tells);
+}
+  where
+    go : (b : Bool) → is_silent here ≡ b → (line : Said) → told ≡ Some line → cond (is_silent here) None (Some here) ≡ Some line → is_silent line ≡ false
+    go true e line tells f = absurd (let never : None ≡ Some line = ap (λ b. cond b None (Some here)) (sym e) ∙ f in let none : ⊥ = cc in none)
+    go false e line tells f = ap is_silent (sym (same_line here line (ap (λ b. cond b None (Some here)) (sym e) ∙ f))) ∙ e
+
+module _ (shape : Shape) (parts : Parts) (worker : Bool) (made : List Occurrence) (asked : Command) (told : Option Said) where
+  memory_loud : told ≡ line_to worker (Some said.Memory) → Loud worker asked told
+  memory_loud is = loud_line worker asked told said.Memory (is ∙ not_silent worker said.Memory refl) refl
+
+  write_loud : (table : ℕ) (refused : Bool) (r : Result ℕ Rattle.event_spec.specs.declared.reply.WriteFault.WriteFault) → told ≡ line_to worker (told_by table 0 (cond refused reply.Memory (reply_to_write r))) → Loud worker asked told
+  write_loud table true r is = memory_loud is
+  write_loud table false r is = let w = write_line table r in loud_line worker asked told w.0 (is ∙ ap (line_to worker) w.1 ∙ not_silent worker w.0 w.2) w.2
+
+  seal_hush : (table block : ℕ) (refused : Bool) (o : Option SealFault) (last : ℕ) → is_seal_or_gather asked ≡ true → told ≡ line_to worker (told_by table block (cond refused reply.Memory (reply_to_seal o last))) → Loud worker asked told
+  seal_hush table block true o last seal is = may_hush worker asked told said.Memory seal is
+  seal_hush table block false None last seal is = may_hush worker asked told (said.Sealed table block (last + 1)) seal is
+  seal_hush table block false (Some fault) last seal is = may_hush worker asked told (said.NotSealed (cause_told fault)) seal is
+
+  image_hush : (table block : ℕ) (refused : Bool) (phase : Phase) (body : Rattle.block_spec.specs.Bodies.Body) → is_seal_or_gather asked ≡ true → told ≡ line_to worker (told_by table block (cond refused reply.Memory (reply_to_image phase body))) → Loud worker asked told
+  image_hush table block true phase body seal is = may_hush worker asked told said.Memory seal is
+  image_hush table block false Loose body seal is = may_hush worker asked told said.NotFrozen seal is
+  image_hush table block false (Imaged g) body seal is = may_hush worker asked told said.NotFrozen seal is
+  image_hush table block false (Sealed g) body seal is = may_hush worker asked told (said.Frozen table block (length (Rattle.block_spec.specs.Bodies.rows_of body))) seal is
+
+  pub event_loud : (e : CoreEvent) (refused : Bool) → TellsAt worker made e (cond refused reply.Memory (reply_to shape parts e)) asked told → Loud worker asked told
+  event_loud (event.Begin session) true h = memory_loud h.1
+  event_loud (event.Begin session) false h = loud_line worker asked told (said.At (desk_at shape parts).commits) (h.1 ∙ not_silent worker (said.At (desk_at shape parts).commits) refl) refl
+  event_loud (event.Get own table key) refused h = quiet_loud worker asked made told h
+  event_loud (event.Insert own table row) refused h = write_loud table refused (insert_judged shape parts own table (key_of row)) h.1
+  event_loud (event.Update own table row) refused h = write_loud table refused (change_judged shape parts own table (key_of row)) h.1
+  event_loud (event.Delete own table key) refused h = write_loud table refused (change_judged shape parts own table key) h.1
+  event_loud (event.Read own table block) refused h = quiet_loud worker asked made told h
+  event_loud (event.Commit own) true h = memory_loud h.1
+  event_loud (event.Commit own) false h =
+      let n : Option ℕ = cond (is_some_write own.writes) (Some ((desk_at shape parts).commits + 1)) None in
+      loud_line worker asked told (said.Committed n) (h.1 ∙ not_silent worker (said.Committed n) refl) refl
+  event_loud (event.Abort own) true h = memory_loud h.1
+  event_loud (event.Abort own) false h = loud_line worker asked told said.Aborted (h.1 ∙ not_silent worker said.Aborted refl) refl
+  event_loud event.Oldest refused h = quiet_loud worker asked made told h
+  event_loud (event.Observe table block) refused h = quiet_loud worker asked made told h
+  event_loud (event.Prune table block oldest) refused h = quiet_loud worker asked made told h
+  event_loud (event.Look table block) refused h = quiet_loud worker asked made told h
+  event_loud (event.Move table moves) refused h = go h.2
+    where
+      go : TellsMove (cond refused reply.Memory (reply_to shape parts (event.Move table moves))) told → Loud worker asked told
+      go (inl m) = loud_line worker asked told said.Memory m.1 refl
+      go (inr e) = loud_line worker asked told (said.Moved (Rattle.run_spec.specs.Told.moved_told (cond refused reply.Memory (reply_to shape parts (event.Move table moves))))) e refl
+  event_loud (event.Seal table block) refused h = seal_hush table block refused (seal_fault (is_head shape parts table block) (body_at shape parts table block)) (body_at shape parts table block).last (ap is_seal_or_gather h.0) h.1
+  event_loud (event.Image table block image) refused h = image_hush table block refused (body_at shape parts table block).phase (body_at shape parts table block) (ap is_seal_or_gather h.0) h.1
+  event_loud (event.Thaw table block) refused h = quiet_loud worker asked made told h
+
+-- ---- what answers a due
+
+pub answered : (who : Who) (call : Call) → Loud (is_worker who) call.command call.told → ((line : Said) → call.told ≡ Some line → MayStand call.command line) → Answered who call
+answered who call loud may number = go call.told refl
+  where
+    go : (told : Option Said) → call.told ≡ told → MayAnswer (due_of number who call) told
+    go None e = loud.silent e
+    go (Some line) e = (may line e, loud.loud line e)
+
+-- ---- few blocks
+
+module _ (script : Script) (valid : is_valid script ≡ true) where
+  pub few_seats : script.sessions + script.workers < 2 ^ 32
+  few_seats =
+      let h = head script valid in
+      let a = and_first (script.version == 1 && is_within 1 most_tables (length script.tables) && list_all is_table script.tables && have_own_names script.tables && is_within 1 most_sessions script.sessions && nat_le script.workers most_workers) (nat_le script.turns most_turns) h in
+      let workers = and_second (script.version == 1 && is_within 1 most_tables (length script.tables) && list_all is_table script.tables && have_own_names script.tables && is_within 1 most_sessions script.sessions) (nat_le script.workers most_workers) a in
+      let b = and_first (script.version == 1 && is_within 1 most_tables (length script.tables) && list_all is_table script.tables && have_own_names script.tables && is_within 1 most_sessions script.sessions) (nat_le script.workers most_workers) a in
+      let sessions = and_second (nat_le 1 script.sessions) (nat_le script.sessions 64) (and_second (script.version == 1 && is_within 1 most_tables (length script.tables) && list_all is_table script.tables && have_own_names script.tables) (is_within 1 most_sessions script.sessions) b) in
+      let w : script.workers ≤ 16 = grind (arith, nat_tests, workers) in
+      let s : script.sessions ≤ 64 = grind (arith, nat_tests, sessions) in
+      omega (arith, w, s)
+
+  few_tables : length script.tables ≤ 16
+  few_tables =
+      let h = head script valid in
+      let a = and_first (script.version == 1 && is_within 1 most_tables (length script.tables) && list_all is_table script.tables && have_own_names script.tables && is_within 1 most_sessions script.sessions && nat_le script.workers most_workers) (nat_le script.turns most_turns) h in
+      let b = and_first (script.version == 1 && is_within 1 most_tables (length script.tables) && list_all is_table script.tables && have_own_names script.tables && is_within 1 most_sessions script.sessions) (nat_le script.workers most_workers) a in
+      let c = and_first (script.version == 1 && is_within 1 most_tables (length script.tables) && list_all is_table script.tables && have_own_names script.tables) (is_within 1 most_sessions script.sessions) b in
+      let d = and_first (script.version == 1 && is_within 1 most_tables (length script.tables) && list_all is_table script.tables) (have_own_names script.tables) c in
+      let e = and_first (script.version == 1 && is_within 1 most_tables (length script.tables)) (list_all is_table script.tables) d in
+      let f = and_second (nat_le 1 (length script.tables)) (nat_le (length script.tables) 16) (and_second (script.version == 1) (is_within 1 most_tables (length script.tables)) e) in
+      grind (arith, nat_tests, f)
+
+  pub few_blocks : (t : ℕ) → blocks_of (shape_of script) t ≤ 1024
+  few_blocks t = Rattle.explained_laws.proofs.Scripts.blocks_few script valid t
+
+  pub all_few : length (at_all_blocks (shape_of script) event.Observe) < 2 ^ 32
+  all_few =
+      let most = go 0 (length script.tables) in
+      let tables = few_tables in
+      omega (arith, most, tables)
+    where
+      range_long : (a n : ℕ) → length (range_with_len a n) ≡ n
+      range_long a n = Rattle.std.proofs.lemmas.List.FromFn.length-range_with_len a n
+
+      go : (a n : ℕ) → length (flat_map (λ table. at_blocks (shape_of script) table (event.Observe table)) (range_with_len a n)) ≤ 1024 * n
+      go a zero = omega arith
+      go a (suc n) =
+          let rest = go (a + 1) n in
+          let here = length-map {B = CoreEvent} (below (blocks_of (shape_of script) a)) (event.Observe a) in
+          let long = Rattle.std.proofs.lemmas.List.FromFn.length-range_with_len 0 (blocks_of (shape_of script) a) in
+          let few = few_blocks a in
+          let all = length-append (at_blocks (shape_of script) a (event.Observe a)) (flat_map (λ table. at_blocks (shape_of script) table (event.Observe table)) (range_with_len (a + 1) n)) in
+          omega (arith, rest, here, long, few, all)
+
+-- ---- all dues
+
+stand_append : (ds es : List Due) (ts us : List (Option Said)) → AllMayStand ds ts → AllMayStand es us → AllMayStand (ds ++ es) (ts ++ us)
+stand_append [] es [] us a b = b
+stand_append [] es (t ∷ ts) us a b = absurd a
+stand_append (d ∷ ds) es [] us a b = absurd a
+stand_append (d ∷ ds) es (t ∷ ts) us a b = (a.0, stand_append ds es ts us a.1 b)
+
+among_left : (line : Option Said) (xs ys : List (Option Said)) → Among line xs → Among line (xs ++ ys)
+among_left line [] ys a = absurd a
+among_left line (x ∷ xs) ys (inl e) = inl e
+among_left line (x ∷ xs) ys (inr a) = inr (among_left line xs ys a)
+
+among_right : (line : Option Said) (xs ys : List (Option Said)) → Among line ys → Among line (xs ++ ys)
+among_right line [] ys a = a
+among_right line (x ∷ xs) ys a = inr (among_right line xs ys a)
+
+calls_stand : (number : ℕ) (who : Who) (calls : List Call) → EachOf AnswersIf who calls → PruningsFit (map (λ (call : Call). call.told) calls)
+    → AllMayStand (map (due_of number who) calls) (map (λ (call : Call). call.told) calls)
+calls_stand number who [] each fit = tt
+calls_stand number who (call ∷ calls) each fit =
+    (each.0 (λ count is. fit count (inl (sym is))) number, calls_stand number who calls each.1 (λ count a. fit count (inr a)))
+
+shares_stand : (number : ℕ) (shares : List Share) → EachShare AnswersIf shares → PruningsFit (flat_map (λ (share : Share). map (λ (call : Call). call.told) share.calls) shares)
+    → AllMayStand (flat_map (λ (share : Share). map (due_of number share.who) share.calls) shares) (flat_map (λ (share : Share). map (λ (call : Call). call.told) share.calls) shares)
+shares_stand number [] each fit = tt
+shares_stand number (share ∷ shares) each fit =
+    stand_append (map (due_of number share.who) share.calls) (flat_map (λ (share : Share). map (due_of number share.who) share.calls) shares)
+    (map (λ (call : Call). call.told) share.calls) (flat_map (λ (share : Share). map (λ (call : Call). call.told) share.calls) shares)
+    (calls_stand number share.who share.calls each.0
+    (λ count a. fit count (among_left (Some (said.Pruned count)) (map (λ (call : Call). call.told) share.calls) (flat_map (λ (share : Share). map (λ (call : Call). call.told) share.calls) shares) a)))
+    (shares_stand number shares each.1
+    (λ count a. fit count (among_right (Some (said.Pruned count)) (map (λ (call : Call). call.told) share.calls) (flat_map (λ (share : Share). map (λ (call : Call). call.told) share.calls) shares) a)))
+
+pub rounds_stand : (number : ℕ) (rounds : List RoundRun) → EachCall AnswersIf rounds → PruningsFit (told_in rounds)
+    → AllMayStand (flat_map (λ (entry : ℕ × RoundRun). dues_answered entry.0 entry.1) (enumerate_from number rounds)) (told_in rounds)
+rounds_stand number [] each fit = tt
+rounds_stand number (round ∷ rounds) each fit =
+    stand_append (dues_answered number round) (flat_map (λ (entry : ℕ × RoundRun). dues_answered entry.0 entry.1) (enumerate_from (number + 1) rounds))
+    (flat_map (λ (share : Share). map (λ (call : Call). call.told) share.calls) round.shares) (told_in rounds)
+    (shares_stand number round.shares each.0
+    (λ count a. fit count (among_left (Some (said.Pruned count)) (flat_map (λ (share : Share). map (λ (call : Call). call.told) share.calls) round.shares) (told_in rounds) a)))
+    (rounds_stand (number + 1) rounds each.1
+    (λ count a. fit count (among_right (Some (said.Pruned count)) (flat_map (λ (share : Share). map (λ (call : Call). call.told) share.calls) round.shares) (told_in rounds) a)))

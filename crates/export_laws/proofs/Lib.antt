@@ -1,0 +1,15 @@
+pub mod Permuted
+pub mod Clean
+pub mod Groups
+pub mod Told
+pub mod Tables
+pub mod Streams
+pub mod Saying
+pub mod Once
+pub mod Lines
+pub mod Sent
+pub mod Answering
+pub mod Walking
+pub mod Exported
+pub mod Calling
+pub mod Quiet

@@ -1,0 +1,5 @@
+pub mod Rounds
+pub mod Lines
+pub mod Fronts
+pub mod Texts
+pub mod Working

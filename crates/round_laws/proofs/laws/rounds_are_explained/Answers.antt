@@ -1,0 +1,8 @@
+use Rattle.round_laws.proofs.Texts.{rounds_are_explained, nothing_is_explained}
+use Rattle.round_laws.proofs.laws.rounds_are_explained.Goals as goal
+
+pub returns-clause-some : goal.returns-clause-some
+returns-clause-some c = rounds_are_explained
+
+pub returns-clause-none : goal.returns-clause-none
+returns-clause-none c = nothing_is_explained

@@ -1,0 +1,5 @@
+pub mod Calling
+pub mod Entries
+pub mod Knowing
+pub mod Making
+pub mod Stamps

@@ -1,0 +1,31 @@
+//! What a store's sessions know, of the log of its hall: it is the log of a run, and of a session's own
+//! events it has those that the session made. The functions do nothing; their contracts are the laws.
+#![tactic(auto)]
+
+ghost use Rattle.store_laws.specs.Laws.{EventsGoOn, JoinsGoOn, LooksGoOn, LogsAreRuns, SingleEventsAreCalls, StampsAreFew};
+
+/// The log of a store's hall is a lawful log of a run, and leaves the same parts.
+pub fn a_halls_log_is_a_runs_log()
+    ensures { LogsAreRuns }
+{}
+
+/// A session that sees more of the log has the same of its own events, and the same open.
+pub fn looking_on_changes_nothing_of_ones_own()
+    ensures looks { LooksGoOn }
+    ensures joins { JoinsGoOn }
+{}
+
+/// A session that made an event has it among its own, and has open what the event told.
+pub fn an_event_is_ones_own()
+    ensures { EventsGoOn }
+{}
+
+/// Each event takes at most one stamp.
+pub fn stamps_are_few()
+    ensures { StampsAreFew }
+{}
+
+/// A command that is one event is carried out by it.
+pub fn a_single_event_is_a_call()
+    ensures { SingleEventsAreCalls }
+{}
