@@ -133,8 +133,8 @@ pub fn stretch_about(replies: &[KeptReply<'_>], at: usize) -> Stretch
     }
 }
 
-/// The places about the reply at a place, by those about the one in front of it where they are known:
-/// its own have the same.
+/// The places about the reply at a place, by those about the one in front of it where they are
+/// known: its own have the same.
 pub fn stretch_behind(replies: &[KeptReply<'_>], at: usize, known: Option<Stretch>) -> Stretch
     requires rises { Rises (entries_of replies.now) }
     requires inside { at < length replies.now }
