@@ -1,5 +1,5 @@
 -- What is answered of an output that is read, and of one that is not.
-use Rattle.std.proofs.Common.{◌≡◌, ℕ, List, Option, None, Some, Ok, Err, sym, ap, subst}
+use Rattle.std.proofs.Common.{◌≡◌, ℕ, List, Option, Some, Ok, Err, sym, ap, subst}
 use Rattle.std.specs.Prelude.{Result, IfOk}
 use Rattle.std.specs.Result.{IsErr, IsErrAnd}
 use Rattle.std.specs.declared.alloc.AllocError.{AllocError}

@@ -15,7 +15,7 @@ any-index (reply ∷ replies) zero a b few = refl
 any-index (reply ∷ replies) (suc at) a b few = any-index replies at a b (omega (arith, few))
 
 module _ (sound : Entry → Bool) where
-  abbrev failing : List KeptReply → Option ℕ
+  abbrev pub failing : List KeptReply → Option ℕ
   failing replies = option_map (λ entry. entry.number) (find (λ entry. not (sound entry)) (entries_of replies))
 
   so-far : (replies : List KeptReply) (at : ℕ) → at < length replies → list_all sound (take at (entries_of replies)) ≡ true → ((none : KeptReply) → true ≡ sound (asked_at replies at none)) → list_all sound (take (suc at) (entries_of replies)) ≡ true

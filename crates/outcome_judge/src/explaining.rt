@@ -5,7 +5,7 @@ ghost use Rattle.workload_spec.specs.Valid.{is_valid};
 ghost use Rattle.outcome_judge.specs.Verdicts.{Explains};
 
 use crate::fault::ExplainFault;
-use crate::judge::Judge;
+use crate::judge::unsound_line;
 use output_read::read_output;
 use reading_laws::laws::{replies_that_are_read_open_outside, replies_that_are_read_rise};
 use std::alloc::Global;
@@ -21,8 +21,7 @@ pub fn explained(alloc: Global, script: &Script, text: &[u8]) -> Result<(), Expl
     replies_that_are_read_open_outside();
     let replies = read_output(alloc, script, text)?;
     let replies = replies.as_slice();
-    let judge = Judge::of(alloc, replies)?;
-    match judge.unsound_line(alloc, script.tables.as_slice(), replies)? {
+    match unsound_line(alloc, script.tables.as_slice(), replies)? {
         None => Ok(()),
         Some(line) => Err(ExplainFault::NotExplained(line)),
     }

@@ -1,80 +1,101 @@
-//! Whether a reply is sound, by what is kept of all of them.
-ghost use Rattle.std.specs.Prelude.{◌≡◌, ◌<◌, IfOk, length, true};
+//! Which reply is the first that is not sound.
+ghost use Rattle.std.specs.Prelude.{◌≡◌, ◌≤◌, IfOk, length, true};
 ghost use Rattle.outcome_check.specs.Opened.{OpensOutside};
 ghost use Rattle.outcome_check.specs.Places.{Rises};
-ghost use Rattle.outcome_counts.specs.Asked.{IsJudgedBy};
 ghost use Rattle.outcome_spec.specs.Explained.{is_sound, unsound_line};
-ghost use Rattle.outcome_spec.specs.Runs.{run_of};
+ghost use Rattle.outcome_spec.specs.Runs.{commit_count, run_of};
 ghost use Rattle.output_read.specs.Kept.{are_told, entries_of};
-ghost use Rattle.outcome_judge.specs.Kept.{IsJudge};
+ghost use Rattle.outcome_judge.specs.Judged.{EndsAt, conflicts_and_views_hold};
+ghost use Rattle.outcome_judge.specs.Kept.{AreShared};
 
+use crate::clashes::{conflicts_end, conflicts_of};
 use crate::counts::Counts;
+use crate::shared::Shared;
 use crate::views::Views;
 use cell_model::TableDecl;
-use outcome_counts::stretch_about;
+use outcome_conflicts::Written;
+use outcome_counts::NumberMarks;
+use outcome_history::{Changes, CommitPlaces, Committed, Sights};
+use outcome_spans::openings::openings_of;
 use output_read::KeptReply;
 use std::alloc::{AllocError, Global};
 
-/// What is kept of all replies.
-#[derive(Drop)]
-pub(crate) struct Judge<'a> {
-    pub(crate) counts: Counts,
-    pub(crate) views: Views<'a>,
+/// Where the first reply stands, in front of a place, that conflicts or what its transaction sees do
+/// not allow, or else that place. What conflicts are judged by is let go before the other is made.
+fn written_end<'a>(
+    alloc: Global,
+    shared: &Shared,
+    tables: &[TableDecl],
+    replies: &[KeptReply<'a>],
+    count: usize,
+    until: usize,
+) -> Result<usize, AllocError>
+    requires shared { AreShared (entries_of replies.now) (length replies.now) shared.now }
+    requires rises { Rises (entries_of replies.now) }
+    requires outside { OpensOutside (entries_of replies.now) }
+    requires told { are_told replies.now ≡ true }
+    requires count { count ≡ commit_count (entries_of replies.now) }
+    requires within { until ≤ length replies.now }
+    ensures { IfOk result (EndsAt (conflicts_and_views_hold (run_of tables.now (entries_of replies.now))) replies.now until) }
+{
+    let openings = openings_of(alloc, replies)?;
+    let openings = openings.as_slice();
+    let places = CommitPlaces::of(alloc, replies)?;
+    let changes = Changes::of(alloc, replies, openings)?;
+    let written = Written {
+        openings,
+        changes: &changes,
+        places: &places,
+    };
+    let conflicts = conflicts_of(alloc, replies, &written, count)?;
+    let clear = conflicts_end(&conflicts, &shared.spans, replies, until);
+    drop(conflicts);
+    let committed = Committed::of(alloc, replies, openings, &changes, &places, count)?;
+    let sights = Sights::of(alloc, replies, openings, committed)?;
+    let views = Views {
+        openings,
+        changes: &changes,
+        sights,
+    };
+    views.end(alloc, &shared.blocks, tables, replies, clear)
 }
 
-impl<'a> Judge<'a> {
-    /// What is kept of these.
-    pub(crate) fn of(alloc: Global, replies: &[KeptReply<'a>]) -> Result<Judge<'a>, AllocError>
-        requires rises { Rises (entries_of replies.now) }
-        requires outside { OpensOutside (entries_of replies.now) }
-        ensures { IfOk result (λ judge. IsJudge (entries_of replies.now) (length replies.now) judge) }
-    {
-        let counts = Counts::of(alloc, replies)?;
-        let views = Views::of(alloc, replies, &counts.numbers)?;
-        Ok(Judge { counts, views })
-    }
+/// Where the first reply stands that is not sound, or else the count of the replies.
+fn sound_end(
+    alloc: Global,
+    tables: &[TableDecl],
+    replies: &[KeptReply<'_>],
+) -> Result<usize, AllocError>
+    requires rises { Rises (entries_of replies.now) }
+    requires outside { OpensOutside (entries_of replies.now) }
+    requires told { are_told replies.now ≡ true }
+    ensures { IfOk result (EndsAt (is_sound (run_of tables.now (entries_of replies.now))) replies.now (length replies.now)) }
+{
+    let shared = Shared::of(alloc, replies)?;
+    let numbers = NumberMarks::of(alloc, replies)?;
+    let count = numbers.commit_count(replies);
+    let counts = Counts::of(alloc, &shared, numbers, replies)?;
+    let until = counts.end(tables, replies);
+    drop(counts);
+    written_end(alloc, &shared, tables, replies, count, until)
+}
 
-    /// Whether the reply at a place is sound.
-    pub(crate) fn is_sound(
-        &self,
-        alloc: Global,
-        tables: &[TableDecl],
-        replies: &[KeptReply<'a>],
-        at: usize,
-    ) -> Result<bool, AllocError>
-        requires judge { IsJudge (entries_of replies.now) (length replies.now) self.now }
-        requires rises { Rises (entries_of replies.now) }
-        requires outside { OpensOutside (entries_of replies.now) }
-        requires told { are_told replies.now ≡ true }
-        requires inside { at < length replies.now }
-        ensures { IfOk result (λ answer. IsJudgedBy (is_sound (run_of tables.now (entries_of replies.now))) replies.now at answer) }
-    {
-        let stretch = stretch_about(replies, at);
-        if !self.counts.counts_hold(tables, replies, at, &stretch) {
-            return Ok(false);
-        }
-        self.views
-            .views_hold(alloc, &self.counts, tables, replies, at, &stretch)
-    }
-
-    /// The line of the first reply that is not sound.
-    pub(crate) fn unsound_line(
-        &self,
-        alloc: Global,
-        tables: &[TableDecl],
-        replies: &[KeptReply<'a>],
-    ) -> Result<Option<u64>, AllocError>
-        requires judge { IsJudge (entries_of replies.now) (length replies.now) self.now }
-        requires rises { Rises (entries_of replies.now) }
-        requires outside { OpensOutside (entries_of replies.now) }
-        requires told { are_told replies.now ≡ true }
-        ensures { IfOk result (λ line. line ≡ unsound_line (run_of tables.now (entries_of replies.now))) }
-    {
-        for at in 0..replies.len() {
-            if !self.is_sound(alloc, tables, replies, at)? {
-                return Ok(Some(replies[at].number));
-            }
-        }
+/// The line of the first reply that is not sound. What each condition is judged by is made in its turn
+/// and then let go, so that memory never holds all of it.
+pub(crate) fn unsound_line(
+    alloc: Global,
+    tables: &[TableDecl],
+    replies: &[KeptReply<'_>],
+) -> Result<Option<u64>, AllocError>
+    requires rises { Rises (entries_of replies.now) }
+    requires outside { OpensOutside (entries_of replies.now) }
+    requires told { are_told replies.now ≡ true }
+    ensures { IfOk result (λ line. line ≡ unsound_line (run_of tables.now (entries_of replies.now))) }
+{
+    let end = sound_end(alloc, tables, replies)?;
+    if end < replies.len() {
+        Ok(Some(replies[end].number))
+    } else {
         Ok(None)
     }
 }

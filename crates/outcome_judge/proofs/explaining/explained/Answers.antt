@@ -1,4 +1,4 @@
-use Rattle.std.proofs.Common.{◌≡◌, ◌∙◌, sym, ap, List, Ok}
+use Rattle.std.proofs.Common.{◌∙◌, sym, ap, List, Ok}
 use Rattle.cell_model.specs.declared.table.TableDecl.{TableDecl}
 use Rattle.outcome_spec.specs.Explained.{unsound_line}
 use Rattle.outcome_spec.specs.Runs.{run_of}
@@ -6,11 +6,6 @@ use Rattle.output_read.specs.Kept.{entries_of}
 use Rattle.output_read.specs.declared.kept.KeptReply.{KeptReply}
 use Rattle.outcome_judge.proofs.Answered.{read-fails}
 use Rattle.outcome_judge.proofs.explaining.explained.Goals as goal
-
-pub of-requires-clause-outside : goal.of-requires-clause-outside
-of-requires-clause-outside c =
-    c.replies_that_are_read_open_outside.ensures c.args.script.now c.args.text.now (entries_of c.as_slice-replies.result.now)
-    (c.in_ok-replies.ensures.read ∙ ap (λ (kept : List KeptReply). Ok (entries_of kept)) (sym c.as_slice-replies.ensures.value))
 
 pub unsound_line-requires-clause-outside : goal.unsound_line-requires-clause-outside
 unsound_line-requires-clause-outside c =
