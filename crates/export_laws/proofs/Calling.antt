@@ -1,14 +1,14 @@
 -- A session's reads of a table's blocks are the call of an export.
-use Rattle.std.proofs.Common.{◌≡◌, ℕ, true, false, List, [], ◌∷◌, ◌++◌, Option, None, Some, option_map, refl, sym, ap, ◌∙◌, subst, append-nil}
+use Rattle.std.proofs.Common.{◌≡◌, ℕ, false, List, [], ◌++◌, Option, None, option_map, refl, sym, ap, ◌∙◌, subst, append-nil}
 use mathlib.Core.Logic.{inl, inr}
 use Rattle.event_spec.specs.declared.own.OwnTransaction.{OwnTransaction}
 use Rattle.event_spec.specs.Parts.{Shape}
 use Rattle.export_laws.specs.Calls.{AllReadsAreAnExport, ReadsOn, RefusedExportsReadNothing, SomeReadsAreAnExport, export_call}
 use Rattle.run_spec.specs.Asked.{events_of}
-use Rattle.run_spec.specs.Calls.{Call, IsCall, IsCallBy}
+use Rattle.run_spec.specs.Calls.{IsCall, IsCallBy}
 use Rattle.run_spec.specs.Handed.{own_in}
 use Rattle.run_spec.specs.Occurrences.{Logged, Occurrence, events_in, replies_in}
-use Rattle.run_spec.specs.Opened.{least_written, own_after}
+use Rattle.run_spec.specs.Opened.{own_after}
 use Rattle.run_spec.specs.Told.{line_of, refusal_of, summary_of}
 use Rattle.workload_spec.specs.declared.command.Command.TheVariants as command
 use Rattle.workload_spec.specs.declared.reply.Said.{Said}

@@ -1,6 +1,8 @@
 //! Laws of exports: each function does nothing, and its contract is one of them.
-ghost use Rattle.export_laws.specs.Calls.{AllReadsAreAnExport, RefusedExportsReadNothing, SomeReadsAreAnExport};
-ghost use Rattle.export_laws.specs.Laws.{ExportsAreSaid, OrderedRowsAreTheRows, WithoutAnExportNothingIsSent};
+ghost use Rattle.export_laws.specs.Calls.{AllReadsAreAnExport, RefusedExportsReadNothing};
+ghost use Rattle.export_laws.specs.Calls.{SomeReadsAreAnExport};
+ghost use Rattle.export_laws.specs.Laws.{ExportsAreSaid, OrderedRowsAreTheRows};
+ghost use Rattle.export_laws.specs.Laws.{WithoutAnExportNothingIsSent};
 
 /// Rows that are as many as they are in the order of their keys are the same rows.
 pub fn ordered_rows_are_the_rows()

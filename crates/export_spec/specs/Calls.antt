@@ -39,13 +39,35 @@ BreaksOff columns blocks made bytes =
     ⊎ (AreAllRead blocks made × IsFrontIn (stream_of columns (groups_told made)) bytes)
 
 -- What an export sends that tells this line: the canonical stream of its reads' rows, a batch for
--- each read that told a row; where memory was wanting, or the outlet failed, a front of it; nothing
--- with any other line.
+-- each read that told a row; where memory was wanting, or the outlet failed, which counts as the
+-- same, a front of it; nothing with any other line.
 abbrev pub SendsAs : List Column → ℕ → List Occurrence → Said → List ℕ → Type 0
 SendsAs columns blocks made (said.Exported number rows batches frozen) bytes =
     bytes ≡ stream_of columns (groups_told made)
 SendsAs columns blocks made said.Memory bytes = BreaksOff columns blocks made bytes
-SendsAs columns blocks made _ bytes = bytes ≡ []
+SendsAs columns blocks made (said.At n) bytes = bytes ≡ []
+SendsAs columns blocks made said.InTransaction bytes = bytes ≡ []
+SendsAs columns blocks made said.NoTransaction bytes = bytes ≡ []
+SendsAs columns blocks made (said.Found row) bytes = bytes ≡ []
+SendsAs columns blocks made said.Absent bytes = bytes ≡ []
+SendsAs columns blocks made (said.Scanned rows) bytes = bytes ≡ []
+SendsAs columns blocks made said.Accepted bytes = bytes ≡ []
+SendsAs columns blocks made (said.ConflictSession session) bytes = bytes ≡ []
+SendsAs columns blocks made (said.ConflictCommit n) bytes = bytes ≡ []
+SendsAs columns blocks made said.Exists bytes = bytes ≡ []
+SendsAs columns blocks made said.Missing bytes = bytes ≡ []
+SendsAs columns blocks made (said.Freezing table block stamp) bytes = bytes ≡ []
+SendsAs columns blocks made said.Full bytes = bytes ≡ []
+SendsAs columns blocks made (said.Committed n) bytes = bytes ≡ []
+SendsAs columns blocks made said.Aborted bytes = bytes ≡ []
+SendsAs columns blocks made (said.Cooling count) bytes = bytes ≡ []
+SendsAs columns blocks made (said.Pruned count) bytes = bytes ≡ []
+SendsAs columns blocks made (said.Moved count) bytes = bytes ≡ []
+SendsAs columns blocks made (said.Sealed table block stamp) bytes = bytes ≡ []
+SendsAs columns blocks made (said.NotSealed cause) bytes = bytes ≡ []
+SendsAs columns blocks made (said.Frozen table block rows) bytes = bytes ≡ []
+SendsAs columns blocks made said.NotFrozen bytes = bytes ≡ []
+SendsAs columns blocks made (said.Dirty key) bytes = bytes ≡ []
 
 -- What a call of an export sends; of another command's nothing is said.
 abbrev pub SendsBy : List TableDecl → Call → List ℕ → Type 0

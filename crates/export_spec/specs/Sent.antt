@@ -52,12 +52,46 @@ abbrev pub SaysOfExport : Run → Entry → ℕ → Said → List ℕ → Type 0
 SaysOfExport run entry table (said.Exported number rows batches frozen) bytes =
     IsStreamOf (columns_at run.tables table) (slots_at run.tables table) (contents_of table (state_at run.history number)) rows batches bytes
 SaysOfExport run entry table said.Memory bytes = IsFrontAt run entry table bytes
-SaysOfExport run entry table _ bytes = bytes ≡ []
+SaysOfExport run entry table (said.At n) bytes = bytes ≡ []
+SaysOfExport run entry table said.InTransaction bytes = bytes ≡ []
+SaysOfExport run entry table said.NoTransaction bytes = bytes ≡ []
+SaysOfExport run entry table (said.Found row) bytes = bytes ≡ []
+SaysOfExport run entry table said.Absent bytes = bytes ≡ []
+SaysOfExport run entry table (said.Scanned rows) bytes = bytes ≡ []
+SaysOfExport run entry table said.Accepted bytes = bytes ≡ []
+SaysOfExport run entry table (said.ConflictSession session) bytes = bytes ≡ []
+SaysOfExport run entry table (said.ConflictCommit n) bytes = bytes ≡ []
+SaysOfExport run entry table said.Exists bytes = bytes ≡ []
+SaysOfExport run entry table said.Missing bytes = bytes ≡ []
+SaysOfExport run entry table (said.Freezing at block stamp) bytes = bytes ≡ []
+SaysOfExport run entry table said.Full bytes = bytes ≡ []
+SaysOfExport run entry table (said.Committed n) bytes = bytes ≡ []
+SaysOfExport run entry table said.Aborted bytes = bytes ≡ []
+SaysOfExport run entry table (said.Cooling count) bytes = bytes ≡ []
+SaysOfExport run entry table (said.Pruned count) bytes = bytes ≡ []
+SaysOfExport run entry table (said.Moved count) bytes = bytes ≡ []
+SaysOfExport run entry table (said.Sealed at block stamp) bytes = bytes ≡ []
+SaysOfExport run entry table (said.NotSealed cause) bytes = bytes ≡ []
+SaysOfExport run entry table (said.Frozen at block rows) bytes = bytes ≡ []
+SaysOfExport run entry table said.NotFrozen bytes = bytes ≡ []
+SaysOfExport run entry table (said.Dirty key) bytes = bytes ≡ []
 
 -- what a reply says of them: none but the reply to an export says anything
 abbrev pub SaysOfBytes : Run → Entry → Command → List ℕ → Type 0
 SaysOfBytes run entry (command.Export table) bytes = SaysOfExport run entry table entry.reply.said bytes
-SaysOfBytes run entry _ bytes = Unit {0}
+SaysOfBytes run entry command.Begin bytes = Unit {0}
+SaysOfBytes run entry (command.Get table key) bytes = Unit {0}
+SaysOfBytes run entry (command.Scan table) bytes = Unit {0}
+SaysOfBytes run entry (command.Insert table row) bytes = Unit {0}
+SaysOfBytes run entry (command.Update table row) bytes = Unit {0}
+SaysOfBytes run entry (command.Delete table key) bytes = Unit {0}
+SaysOfBytes run entry command.Commit bytes = Unit {0}
+SaysOfBytes run entry command.Abort bytes = Unit {0}
+SaysOfBytes run entry command.Observe bytes = Unit {0}
+SaysOfBytes run entry command.Prune bytes = Unit {0}
+SaysOfBytes run entry (command.Compact table) bytes = Unit {0}
+SaysOfBytes run entry (command.Seal table block) bytes = Unit {0}
+SaysOfBytes run entry (command.Gather table block) bytes = Unit {0}
 
 -- each of these replies says what went out
 abbrev pub EachSays : Run → List ℕ → List Entry → Type 0

@@ -39,7 +39,8 @@ FirstLinesAsk = (counts : ℕ → ℕ) (lines : List Line) (session : ℕ)
     → commands_of session (first_lines counts lines)
     ≡ take (counts session) (commands_of session lines)
 
--- Some first rounds of a workload are a workload, and so they are with first lines of the next.
+-- The first rounds of a workload, at least one, are a workload, and so they are with first lines of
+-- the next.
 abbrev pub FirstRoundsAreValid : Type 0
 FirstRoundsAreValid = (script : Script) (first : List Line) (whole rest : List (List Line))
     → script.rounds ≡ (first ∷ whole) ++ rest

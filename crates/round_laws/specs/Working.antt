@@ -56,8 +56,8 @@ WorkEnds = (script : Script) (finished began ended met later : List Logged) (sha
     → MeetsIn (shape_of script) met (session_of script share.who) ended later
     → Ends script finished met later share
 
--- To meet one after another is to meet: along the row each shows what it saw to the next one, and on
--- the way back each sees what the last had seen.
+-- A log that goes on from one that goes on from a first goes on from the first. So sessions that
+-- meet one after another, along a row and back, all meet.
 abbrev pub GoesOnFurther : Type 0
 GoesOnFurther = (first second third : List Logged)
     → GoesOn first second → GoesOn second third → GoesOn first third

@@ -50,12 +50,12 @@ single_events_are_calls shape session old new own command e told line own_is gra
     go true is t = inr (record {
       may = t.0;
       missed = [];
-      events = events (occurrence ∷ []);
+      events = events;
       cut = ap (λ b. b || not (is_final e)) is;
       line = ap Some t.1;
     })
     go false is t = inl (record {
-      events = sym (events (occurrence ∷ []));
+      events = sym events;
       granted = ap (λ b. b || false) is;
       line = sym t;
     })

@@ -19,7 +19,6 @@ use Rattle.run_spec.specs.Handed.{Called, GoesOn, own_in}
 use Rattle.run_spec.specs.Occurrences.{Logged}
 use Rattle.run_spec.specs.Opened.{own_after, own_behind}
 use Rattle.run_spec.specs.Asked.{events_of}
-use Rattle.run_spec.specs.Occurrences.{Occurrence}
 use Rattle.run_spec.specs.Told.{line_of, refusal_of}
 use Rattle.workload_spec.specs.declared.command.Command.{Command}
 use Rattle.workload_spec.specs.declared.reply.Said.{Said}
@@ -104,7 +103,8 @@ SingleEventsAreCalls = (shape : Shape) (session : ℕ) (old new : List Logged)
     → own ≡ own_after (own_in shape session old)
     → refusal_of command own ≡ None
     → (made : MakesOne shape session old new event told)
-    → ((events : List Occurrence) → events_of shape own session command events ≡ event ∷ [])
+    → events_of shape own session command (occurrence_at session (parts_after shape made.before) event told ∷ [])
+    ≡ event ∷ []
     → TellsLine own command told line
     → Called shape false session old new (record {
       command = command;

@@ -1,8 +1,9 @@
-//! What a store's sessions know, of the log of its hall: it is the log of a run, and of a session's own
-//! events it has those that the session made. The functions do nothing; their contracts are the laws.
+//! What a store's sessions know of the log of its hall: it is the log of a run, and of a session's own
+//! events it has those that the session made. The functions do nothing; their contracts are laws.
 #![tactic(auto)]
 
-ghost use Rattle.store_laws.specs.Laws.{EventsGoOn, JoinsGoOn, LooksGoOn, LogsAreRuns, SingleEventsAreCalls, StampsAreFew};
+ghost use Rattle.store_laws.specs.Laws.{EventsGoOn, JoinsGoOn, LooksGoOn, LogsAreRuns};
+ghost use Rattle.store_laws.specs.Laws.{SingleEventsAreCalls, StampsAreFew};
 
 /// The log of a store's hall is a lawful log of a run, and leaves the same parts.
 pub fn a_halls_log_is_a_runs_log()
@@ -20,7 +21,7 @@ pub fn an_event_is_ones_own()
     ensures { EventsGoOn }
 {}
 
-/// Each event takes at most one stamp.
+/// The newest stamp is at most the number of events.
 pub fn stamps_are_few()
     ensures { StampsAreFew }
 {}
