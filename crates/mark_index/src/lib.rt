@@ -25,7 +25,7 @@ fn make_room<M>(marks: &mut Vec<M>) -> Result<(), AllocError>
 {
     let count = marks.len();
     if count == marks.capacity() {
-        marks.reserve_exact(count)?;
+        marks.reserve_exact(count.max(1))?;
     }
     Ok(())
 }
@@ -55,14 +55,9 @@ impl<K: Ord + Drop, M: Drop> MarkIndex<K, M> {
         ensures { OnOk result ((other : K) → marks_at K.cmp self.new other
             ≡ with_mark (is_eq (K.cmp key other)) mark (marks_at K.cmp self.old other)) }
     {
-        if let Some(marks) = self.lists.get_mut(&key) {
-            make_room(marks)?;
-            marks.push(mark)?;
-            return Ok(());
-        }
-        let mut marks = Vec::with_capacity(alloc, 1)?;
+        let marks = self.lists.entry(key)?.or_insert(Vec::new(alloc));
+        make_room(marks)?;
         marks.push(mark)?;
-        self.lists.insert(key, marks)?;
         Ok(())
     }
 }
