@@ -1,5 +1,5 @@
 -- A list that one key has with one mark more.
-use Rattle.std.proofs.Common.{◌≡◌, Bool, true, false, cond, List, [], ◌∷◌, ◌++◌, Option, Some, None, Vec, Global, unwrap_or, refl, ap, ◌∙◌}
+use Rattle.std.proofs.Common.{◌≡◌, Bool, true, false, cond, ◌&&◌, not, List, [], ◌∷◌, ◌++◌, Option, Some, None, Vec, Global, unwrap_or, refl, ap, ◌∙◌}
 use Rattle.std.specs.BTreeMap.{BTreeMap, get, is_at}
 use Rattle.std.specs.Cmp.{IsTotalOrder}
 use Rattle.std.specs.Map.{lookup}
@@ -27,14 +27,25 @@ pub marks-or-none : {M : Type 0} (list : Option (Vec M Global)) (none : Vec M Gl
 marks-or-none (Some marks) none is = refl
 marks-or-none None none is = is
 
-pub pushed : {K M : Type 0} (cmp : K → K → Ordering) (total : IsTotalOrder cmp) (before now : BTreeMap K (Vec M Global)) (key other : K) (list : Vec M Global) (mark : M)
-    → get cmp now other ≡ cond (is_at (cmp key) other) (Some list) (get cmp before other) → list.items ≡ marks_of (get cmp before key) ++ mark ∷ []
-    → marks_of (get cmp now other) ≡ with_mark (is_eq (cmp key other)) mark (marks_of (get cmp before other))
-pushed {K} {M} cmp total before now key other list mark put is = ap marks_of put ∙ by (is_eq (cmp key other)) refl
-  where
-    same : is_eq (cmp key other) ≡ true → get cmp before key ≡ get cmp before other
-    same h = same-lookup (is_at (cmp key)) (is_at (cmp other)) (λ x. ap is_eq (total.congr key other x (equal (cmp key other) h))) before.entries
+-- where a list is put at a key, equal keys have it
+module _ {K M : Type 0} (cmp : K → K → Ordering) (total : IsTotalOrder cmp) (before now : BTreeMap K (Vec M Global)) (key other : K) (list : Vec M Global)
+    (put : get cmp now other ≡ cond (is_at (cmp key) other) (Some list) (get cmp before other)) where
+  same : is_eq (cmp key other) ≡ true → get cmp before key ≡ get cmp before other
+  same h = same-lookup (is_at (cmp key)) (is_at (cmp other)) (λ x. ap is_eq (total.congr key other x (equal (cmp key other) h))) before.entries
 
-    by : (b : Bool) → is_eq (cmp key other) ≡ b → marks_of (cond b (Some list) (get cmp before other)) ≡ with_mark b mark (marks_of (get cmp before other))
-    by true e = is ∙ ap (λ (o : Option (Vec M Global)). marks_of o ++ mark ∷ []) (same e)
-    by false e = refl
+  pub pushed : (mark : M) → list.items ≡ marks_of (get cmp before key) ++ mark ∷ [] → marks_of (get cmp now other) ≡ with_mark (is_eq (cmp key other)) mark (marks_of (get cmp before other))
+  pushed mark is = ap marks_of put ∙ by (is_eq (cmp key other)) refl
+    where
+      by : (b : Bool) → is_eq (cmp key other) ≡ b → marks_of (cond b (Some list) (get cmp before other)) ≡ with_mark b mark (marks_of (get cmp before other))
+      by true e = is ∙ ap (λ (o : Option (Vec M Global)). marks_of o ++ mark ∷ []) (same e)
+      by false e = refl
+
+-- the marks of a list that was there, or of an empty one
+pub read-is : {M : Type 0} (list none : Vec M Global) (found : Option (Vec M Global)) → list ≡ unwrap_or found none → none.items ≡ [] → list.items ≡ marks_of found
+read-is list none found had is = ap (λ its. its.items) had ∙ marks-or-none found none is
+
+-- where another is the last, it is put
+pub put-one : {M : Type 0} (put last : Bool) (mark : M) (marks : List M) → last ≡ false → with_mark put mark marks ≡ with_mark (put && not last) mark marks
+put-one true false mark marks h = refl
+put-one false false mark marks h = refl
+put-one put true mark marks h = absurd (let never : ⊥ = cc in never)

@@ -5,6 +5,7 @@ ghost use Rattle.std.specs.Prelude.{◌≡◌, [], OnOk};
 ghost use Rattle.std.specs.Ordering.{is_eq};
 ghost use Rattle.mark_index.specs.Lists.{marks_at, with_mark};
 
+mod behind;
 pub mod marks;
 #[cfg(test)]
 mod tests;

@@ -11,5 +11,5 @@ returns g c = λ other.
     let had : c.or_insert-marks.result.now ≡ unwrap_or (get g.K.Ord.cmp lists c.args.key) c.new.result = c.or_insert-marks.ensures.value ∙ ap (λ o. unwrap_or o c.new.result) c.in_ok-self.ensures.value in
     let items : list.items ≡ marks_of (get g.K.Ord.cmp lists c.args.key) ++ c.args.mark ∷ [] =
     c.in_ok-push.ensures.items ∙ ap (λ (xs : List _). xs ++ c.args.mark ∷ []) (c.in_ok-make_room.ensures ∙ ap (λ its. its.items) had ∙ marks-or-none (get g.K.Ord.cmp lists c.args.key) c.new.result c.new.ensures.items) in
-    let each = pushed g.K.Ord.cmp g.met.K.Ord.total lists (map_with_value c.in_ok-self.field-0 list) c.args.key other list c.args.mark ((c.in_ok-self.ensures.update.0 list).0 other) items in
+    let each = pushed g.K.Ord.cmp g.met.K.Ord.total lists (map_with_value c.in_ok-self.field-0 list) c.args.key other list ((c.in_ok-self.ensures.update.0 list).0 other) c.args.mark items in
     grind (arith, each)
