@@ -1,16 +1,17 @@
--- A reply behind another and among its own has the same places about it.
-use Rattle.std.proofs.Common.{◌≡◌, ℕ, ◌-◌, ◌<◌, ◌⊎◌, inl, inr, zero, suc, Bool, true, ◌&&◌, ◌||◌, ◌==◌, nat_lt, nat_le, List, [], ◌∷◌, take, length, get_or, refl, sym, ap, ◌∙◌, subst, arith}
+-- A reply behind another, or in front of it, and among its own has the same places about it.
+use Rattle.std.proofs.Common.{◌≡◌, ℕ, ◌-◌, ◌<◌, ◌⊎◌, inl, inr, ◌+◌, ◌≤◌, zero, suc, Bool, true, not, ◌&&◌, ◌||◌, ◌==◌, nat_lt, nat_le, List, [], ◌∷◌, take, drop, length, get_or, refl, sym, ap, ◌∙◌, subst, arith}
 use Rattle.std.specs.List.{count_by, list_all}
 use Rattle.std.proofs.lemmas.Bool.{and_parts, or_cases, eqb-true, ltb-true}
 use Rattle.workload_spec.specs.declared.reply.Who.{Who}
 use Rattle.workload_spec.specs.declared.reply.Who.TheVariants.{Session, Worker}
 use Rattle.outcome_spec.specs.Entries.{Entry, is_same}
-use Rattle.outcome_check.specs.Places.{Rises, is_ahead, is_earlier, is_in_front, is_up_to, is_up_to_own, own_end}
+use Rattle.outcome_check.specs.Places.{Rises, is_ahead, is_earlier, is_in_front, is_up_to, is_up_to_own, own_end, own_start}
 use Rattle.outcome_check.specs.Sides.{is_own}
-use Rattle.outcome_check.proofs.Pieces.{parted-front}
-use Rattle.outcome_check.proofs.Places.{own-parts}
+use Rattle.outcome_check.proofs.Pieces.{parted-back, parted-front}
+use Rattle.outcome_check.proofs.Places.{front-parts, own-parts}
 use Rattle.output_read.specs.Kept.{entries_of, entry_of}
 use Rattle.output_read.specs.declared.kept.KeptReply.{KeptReply as Kept}
+use Rattle.outcome_counts.specs.Asked.{IsAsked}
 use Rattle.outcome_counts.specs.Stretch.{stretch_of}
 use Rattle.outcome_counts.specs.declared.stretch.Stretch.{Stretch}
 
@@ -44,6 +45,9 @@ by-these entries round who = record {
   own_end = count_by (λ (other : Entry). nat_lt other.reply.round round || other.reply.round == round && is_up_to other.reply.who who) entries;
   round_end = count_by (λ (other : Entry). nat_le other.reply.round round) entries;
 }
+
+no-other : not true ≡ true → ⊥
+no-other h = let never : ⊥ = cc in never
 
 -- ---- one that is ahead, and of which the other is among its own
 
@@ -80,6 +84,13 @@ module _ (x y : Entry) where
       by (inl front) = absurd (not-front front k)
       by (inr own) = of-own (and_parts (is_own y x) (nat_lt x.reply.index y.reply.index) own).0
 
+  beside : is_ahead x y ≡ true → not (is_in_front y x) ≡ true → Together
+  beside h k = by (or_cases (is_in_front y x) (is_own y x && nat_lt x.reply.index y.reply.index) h)
+    where
+      by : (is_in_front y x ≡ true) ⊎ ((is_own y x && nat_lt x.reply.index y.reply.index) ≡ true) → Together
+      by (inl front) = absurd (no-other (subst (λ (b : Bool). not b ≡ true) front k))
+      by (inr own) = of-own (and_parts (is_own y x) (nat_lt x.reply.index y.reply.index) own).0
+
   same-stretch : (entries : List Entry) → Together → stretch_of entries x ≡ stretch_of entries y
   same-stretch entries same =
       ap (λ (round : ℕ). by-these entries round x.reply.who) same.0 ∙ ap (λ (who : Who). by-these entries y.reply.round who) same.1
@@ -97,6 +108,12 @@ front-kept p (x ∷ xs) zero j d below within h = absurd (omega (arith, below))
 front-kept p (x ∷ xs) (suc n) zero d below within h = (and_parts (p (entry_of x)) (list_all p (take n (entries_of xs))) h).0
 front-kept p (x ∷ xs) (suc n) (suc j) d below within h =
     front-kept p xs n j d (omega (arith, below)) (omega (arith, within)) (and_parts (p (entry_of x)) (list_all p (take n (entries_of xs))) h).1
+
+back-kept : (p : Entry → Bool) (xs : List Kept) (n j : ℕ) (d : Kept) → n ≤ j → j < length xs → list_all p (drop n (entries_of xs)) ≡ true → p (entry_of (get_or xs j d)) ≡ true
+back-kept p [] n j d past within h = absurd (omega (arith, within))
+back-kept p (x ∷ xs) zero j d past within h = all-kept p (x ∷ xs) j d within h
+back-kept p (x ∷ xs) (suc n) zero d past within h = absurd (omega (arith, past))
+back-kept p (x ∷ xs) (suc n) (suc j) d past within h = back-kept p xs n j d (omega (arith, past)) (omega (arith, within)) h
 
 ahead-of : (xs : List Kept) (i j : ℕ) (d : Kept) → Rises (entries_of xs) → i < j → j < length xs → is_ahead (entry_of (get_or xs i d)) (entry_of (get_or xs j d)) ≡ true
 ahead-of [] i j d rises less within = absurd (omega (arith, within))
@@ -116,3 +133,17 @@ stretch-behind xs (suc at) d rises within below =
     let ahead : is_ahead x y ≡ true = subst (λ (n : ℕ). is_ahead (entry_of (get_or xs n d)) y ≡ true) (sym e) (ahead-of xs at (suc at) d rises (omega arith) within) in
     let own : is_up_to_own x y ≡ true = front-kept (is_up_to_own x) xs (own_end (entries_of xs) x) (suc at) d below within (parted-front (is_up_to_own x) (entries_of xs) (own-parts x (entries_of xs) rises)) in
     same-stretch x y (entries_of xs) (together x y ahead own)
+
+-- and those about the one behind it, where it is among that one's own
+pub stretch-in-front : (xs : List Kept) (at : ℕ) (d : Kept) → Rises (entries_of xs) → at + 1 < length xs → own_start (entries_of xs) (entry_of (get_or xs (at + 1) d)) ≤ at
+    → stretch_of (entries_of xs) (entry_of (get_or xs (at + 1) d)) ≡ stretch_of (entries_of xs) (entry_of (get_or xs at d))
+stretch-in-front xs at d rises within low =
+    let x : Entry = entry_of (get_or xs at d) in
+    let y : Entry = entry_of (get_or xs (at + 1) d) in
+    let ahead : is_ahead x y ≡ true = ahead-of xs at (at + 1) d rises (omega arith) within in
+    let behind : not (is_in_front y x) ≡ true = back-kept (λ e. not (is_in_front y e)) xs (own_start (entries_of xs) y) at d low (omega (arith, within)) (parted-back (is_in_front y) (entries_of xs) (front-parts y (entries_of xs) rises)) in
+    sym (same-stretch x y (entries_of xs) (beside x y ahead behind))
+
+-- the places about a reply are known at the next place
+pub known-behind : (replies : List Kept) (at : ℕ) (stretch : Stretch) → IsAsked replies at stretch → IsAsked replies (at + 1 - 1) stretch
+known-behind replies at stretch asked = subst (λ (n : ℕ). IsAsked replies n stretch) (let e : at ≡ at + 1 - 1 = omega arith in e) asked

@@ -13,7 +13,7 @@ ghost use Rattle.outcome_counts.specs.declared.keys.Stamp.{Stamp as Under};
 
 use crate::keys::{Block, Stamp, block_frozen, block_sealed, inserted_into, stamp_told};
 use crate::noting::note_key;
-use crate::stretch::stretch_about;
+use crate::stretch::stretch_behind;
 use mark_index::MarkIndex;
 use mark_index::marks::{Peak, next_peak};
 use output_read::KeptReply;
@@ -94,9 +94,11 @@ impl BlockMarks {
         ensures { IfOk result (λ marks. AreBlockMarks (entries_of replies.now) (length replies.now) marks) }
     {
         let mut marks = BlockMarks::new(alloc);
+        let mut known = None;
         for (place, reply) in replies.iter().enumerate() {
-            let start = stretch_about(replies, place).own_start;
-            marks.note(alloc, reply, place, start)?;
+            let stretch = stretch_behind(replies, place, known);
+            marks.note(alloc, reply, place, stretch.own_start)?;
+            known = Some(stretch);
         }
         Ok(marks)
     }

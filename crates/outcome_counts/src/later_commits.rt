@@ -10,7 +10,7 @@ ghost use Rattle.outcome_counts.specs.Asked.{IsAsked, asked_at};
 ghost use Rattle.outcome_counts.specs.LaterCommits.{AreLater, below_commit, with_low};
 
 use crate::keys::commit_told;
-use crate::stretch::{Stretch, stretch_about};
+use crate::stretch::{Stretch, stretch_in_front};
 use mark_index::marks::{Peak, most_below, next_peak, own_below};
 use output_read::KeptReply;
 use std::alloc::{AllocError, Global};
@@ -49,12 +49,13 @@ impl LaterCommits {
         ensures { IfOk result (λ later. AreLater (entries_of replies.now) (length replies.now) later.peaks.items) }
     {
         let mut peaks = Vec::new(alloc);
+        let mut known = None;
         for back in 0..replies.len() {
             let at = replies.len() - 1 - back;
-            let start = replies
-                .len()
-                .saturating_sub(stretch_about(replies, at).own_end);
+            let stretch = stretch_in_front(replies, at, known);
+            let start = replies.len().saturating_sub(stretch.own_end);
             note_low(&mut peaks, commit_told(&replies[at]), back, start)?;
+            known = Some(stretch);
         }
         Ok(LaterCommits { peaks })
     }

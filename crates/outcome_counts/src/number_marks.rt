@@ -9,7 +9,7 @@ ghost use Rattle.outcome_counts.specs.NumberMarks.{AreNumberMarks, IsNumbered, w
 
 use crate::keys::{commit_told, shown_told};
 use crate::noting::note_key;
-use crate::stretch::stretch_about;
+use crate::stretch::stretch_behind;
 use mark_index::MarkIndex;
 use mark_index::marks::{Peak, next_peak};
 use output_read::KeptReply;
@@ -93,9 +93,11 @@ impl NumberMarks {
         ensures { IfOk result (λ marks. AreNumberMarks (entries_of replies.now) (length replies.now) marks) }
     {
         let mut marks = NumberMarks::new(alloc);
+        let mut known = None;
         for (place, reply) in replies.iter().enumerate() {
-            let start = stretch_about(replies, place).own_start;
-            marks.note(alloc, reply, place, start)?;
+            let stretch = stretch_behind(replies, place, known);
+            marks.note(alloc, reply, place, stretch.own_start)?;
+            known = Some(stretch);
         }
         Ok(marks)
     }

@@ -147,6 +147,24 @@ pub fn stretch_behind(replies: &[KeptReply<'_>], at: usize, known: Option<Stretc
     }
 }
 
+/// The places about the reply at a place, by those about the one behind it where they are known:
+/// its own have the same.
+pub(crate) fn stretch_in_front(
+    replies: &[KeptReply<'_>],
+    at: usize,
+    known: Option<Stretch>,
+) -> Stretch
+    requires rises { Rises (entries_of replies.now) }
+    requires inside { at < length replies.now }
+    requires known { IfSome known (IsAsked replies.now (at + 1)) }
+    ensures { IsAsked replies.now at result }
+{
+    match known {
+        Some(stretch) if stretch.own_start <= at => stretch,
+        _ => stretch_about(replies, at),
+    }
+}
+
 /// How many of the places, which rise, are before the reply at a place.
 pub fn count_before(places: &[usize], at: usize, stretch: &Stretch) -> usize
     requires { IsNonDecreasing places.now }
