@@ -19,7 +19,7 @@ use Rattle.isolation_spec.specs.declared.place.Place.{Place}
 use Rattle.isolation_laws.proofs.Entries.{lookup-insert_entry}
 use Rattle.isolation_laws.proofs.Rows.{place_cmp-total}
 use Rattle.timeline_laws.proofs.Ranges.{range-push}
-use Rattle.mark_index.specs.Lists.{marks_at, with_mark}
+use Rattle.mark_index.specs.Lists.{is_last, marks_at, with_mark}
 use Rattle.mark_index.specs.declared.marks.Peak.{Peak}
 use Rattle.mark_index.proofs.Noted.{all-weaker}
 use Rattle.outcome_spec.specs.Entries.{Entry}
@@ -38,7 +38,7 @@ use Rattle.outcome_history.proofs.Laid.{entered}
 use Rattle.outcome_history.proofs.Noted.{push-none, symmetric}
 use Rattle.outcome_history.proofs.Own.{changes-all}
 use Rattle.outcome_history.proofs.Spanned.{IsSpan, spanned, unspanned}
-use Rattle.outcome_conflicts.specs.Writers.{history_in, is_last, is_written, numbers_up_to}
+use Rattle.outcome_conflicts.specs.Writers.{history_in, is_written, numbers_up_to}
 
 -- ---- what holds of each, where it came about
 

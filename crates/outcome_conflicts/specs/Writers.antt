@@ -1,7 +1,7 @@
 -- The commits that wrote a place, by their numbers and by the places of their lines.
 use Rattle.std.specs.Prelude.{◌≡◌, ℕ, ◌+◌, Bool, true, false, ◌&&◌, ◌==◌, nat_le, nat_lt, List, map, length, count_by, slice_get, Option, None, Some, option_and_then, if◌then◌else◌}
 use Rattle.std.specs.BTreeMap.{get}
-use Rattle.std.specs.List.{filter, last_or, list_all, list_any, range_with_len}
+use Rattle.std.specs.List.{filter, list_all, list_any, range_with_len}
 use Rattle.std.specs.List.Sorted.{IsNonDecreasing}
 use Rattle.std.specs.Option.{option_map_or}
 use Rattle.std.specs.Ordering.{nat_cmp, is_eq}
@@ -63,10 +63,6 @@ transaction_told t = record {
   snapshot = t.snapshot;
   committed = option_and_then (λ ending. commit_in ending.reply.said) (ending_of t);
 }
-
--- the last passes the test
-abbrev pub is_last : {X : Type 0} → (X → Bool) → List X → Bool
-is_last test xs = option_map_or test (last_or None xs) false
 
 -- the place is changed up to a time
 abbrev pub is_written : RowKey → ℕ → List Change → Bool

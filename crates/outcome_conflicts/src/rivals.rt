@@ -18,7 +18,7 @@ use crate::held::held_until;
 use crate::leads::{Lead, next_lead};
 use crate::written::written_by;
 use mark_index::MarkIndex;
-use mark_index::marks::{Peak, next_peak};
+use mark_index::marks::Peak;
 use outcome_history::RowKey;
 use output_read::KeptReply;
 use std::alloc::{AllocError, Global};
@@ -53,8 +53,7 @@ fn note_writer(
         (marks_at writer_cmp writers.old other)) }
 {
     if let Some(writer) = writer {
-        let peak = next_peak(writers.at(&writer), place, place, u128::from(until));
-        writers.push(alloc, writer, peak)?;
+        writers.push_peak(alloc, writer, place, place, u128::from(until))?;
     }
     Ok(())
 }

@@ -6,7 +6,7 @@ ghost use Rattle.std.specs.List.Sorted.{IsNonDecreasingBy};
 ghost use Rattle.std.specs.Option.{option_map_or};
 ghost use Rattle.std.specs.Ordering.{is_eq};
 ghost use Rattle.isolation_spec.specs.Machine.{writes_place};
-ghost use Rattle.mark_index.specs.Lists.{marks_at, with_mark};
+ghost use Rattle.mark_index.specs.Lists.{is_last, marks_at, with_mark};
 ghost use Rattle.mark_index.specs.Marks.{next_peak};
 ghost use Rattle.output_read.specs.Kept.{entries_of};
 ghost use Rattle.output_read.specs.declared.kept.KeptReply.{KeptReply as Kept};
@@ -15,42 +15,16 @@ ghost use Rattle.outcome_counts.specs.BlockMarks.{starts_in};
 ghost use Rattle.outcome_spec.specs.Runs.{commit_count, committed_writes, transactions_of};
 ghost use Rattle.outcome_history.specs.Kept.{key_cmp, place_in};
 ghost use Rattle.outcome_history.specs.declared.keys.RowKey.{RowKey as Where};
-ghost use Rattle.outcome_conflicts.specs.Writers.{AreNumbers, ArePeaksUpTo, AreWriters, IsWritten, is_last, is_line_at, is_written, line_told, value_at};
+ghost use Rattle.outcome_conflicts.specs.Writers.{AreNumbers, ArePeaksUpTo, AreWriters, IsWritten, is_line_at, is_written, line_told, value_at};
 
 use crate::commits::Writers;
 use crate::lines::lines_of;
 use mark_index::MarkIndex;
-use mark_index::marks::{Peak, next_peak};
+use mark_index::marks::Peak;
 use outcome_counts::{commit_told, stretch_about};
 use outcome_history::{Change, Changes, CommitPlaces, RowKey, opening_at};
 use output_read::KeptReply;
 use std::alloc::{AllocError, Global};
-
-/// Whether the last of the numbers is this one.
-fn is_last_number(numbers: &[u64], number: u64) -> bool
-    ensures { result ≡ is_last (λ its. its == number) numbers.now }
-{
-    match numbers.last().copied() {
-        None => false,
-        Some(last) => last == number,
-    }
-}
-
-/// Puts a number behind those of a place, unless it is the last there.
-fn note_number(
-    alloc: Global,
-    numbers: &mut MarkIndex<RowKey, u64>,
-    of: RowKey,
-    number: u64,
-) -> Result<(), AllocError>
-    ensures { OnOk result ((other : Where) → marks_at key_cmp numbers.new other
-        ≡ with_mark (is_eq (key_cmp of other) && not (is_last (λ its. its == number) (marks_at key_cmp numbers.old of))) number (marks_at key_cmp numbers.old other)) }
-{
-    if is_last_number(numbers.at(&of), number) {
-        return Ok(());
-    }
-    numbers.push(alloc, of, number)
-}
 
 /// Puts a number behind those of each place that is changed up to a time.
 fn note_numbers(
@@ -66,20 +40,10 @@ fn note_numbers(
 {
     for change in own.iter() {
         if change.left.time <= bound {
-            note_number(alloc, numbers, change.of, number)?;
+            numbers.push_number(alloc, change.of, number)?;
         }
     }
     Ok(())
-}
-
-/// Whether the last of the peaks stands at this place.
-fn is_last_peak(peaks: &[Peak], place: usize) -> bool
-    ensures { result ≡ is_last (λ its. its.place == place) peaks.now }
-{
-    match peaks.last().copied() {
-        None => false,
-        Some(last) => last.place == place,
-    }
 }
 
 /// Puts a number at a place behind those of a key, unless one stands there; the part at the place
@@ -97,11 +61,7 @@ fn note_peak(
         ≡ with_mark (is_eq (key_cmp of other) && not (is_last (λ its. its.place == place) (marks_at key_cmp peaks.old of)))
         (next_peak (marks_at key_cmp peaks.old of) place start number) (marks_at key_cmp peaks.old other)) }
 {
-    if is_last_peak(peaks.at(&of), place) {
-        return Ok(());
-    }
-    let peak = next_peak(peaks.at(&of), place, start, u128::from(number));
-    peaks.push(alloc, of, peak)
+    peaks.push_peak_once(alloc, of, place, start, u128::from(number))
 }
 
 /// Puts a number at a place behind those of each key that is changed up to it.

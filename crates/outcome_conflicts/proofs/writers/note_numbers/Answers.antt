@@ -9,7 +9,7 @@ use Rattle.outcome_conflicts.specs.Writers.{is_written}
 use Rattle.outcome_conflicts.proofs.Marking.{key-one}
 use Rattle.outcome_conflicts.proofs.Numbering.{none-same, noted-step, or-none, written-step}
 use Rattle.outcome_conflicts.proofs.writers.note_numbers.Goals as goal
-use Rattle.outcome_conflicts.proofs.writers.note_numbers.Goals.{then-change-bound+in_ok-note_number, else-change-bound}
+use Rattle.outcome_conflicts.proofs.writers.note_numbers.Goals.{then-change-bound+in_ok-push_number, else-change-bound}
 
 pub loop-change-preserved : goal.loop-change-preserved
 loop-change-preserved c = λ of.
@@ -22,15 +22,15 @@ loop-change-preserved c = λ of.
     let was = is_written of bound (take i own) in
     let next : take (i + 1) own ≡ take i own ++ change ∷ [] = take-next-one own i change c.loop-change-test.true c.change-item.is in
     elim c.if-change-bound.branch [
-      | then-change-bound+in_ok-note_number w ↦
+      | then-change-bound+in_ok-push_number w ↦
           let low : change.left.time ≤ bound = w.if-change-bound.true in
           let early : nat_le change.left.time bound ≡ true = grind (arith, nat_tests, low) in
           let itself : eqb number number ≡ true = grind (arith, nat_tests) in
           let one = is_eq (key_cmp change.of of) in
           ap (λ (ns : _). marks_at key_cmp ns of) w.numbers-is
           ∙ noted-step (λ (its : ℕ). eqb its number) (λ (ns : List ℕ). number) base (marks_at key_cmp c.loop-change.numbers change.of) (marks_at key_cmp c.loop-change.numbers of)
-          (marks_at key_cmp w.note_number.new.numbers of) was one itself (none-same number base (c.requires of)) (c.loop-change.invariant of)
-          (λ same. ap (marks_at key_cmp c.loop-change.numbers) (key-one change.of of same)) (w.in_ok-note_number.ensures of)
+          (marks_at key_cmp w.push_number.new.self of) was one itself (none-same number base (c.requires of)) (c.loop-change.invariant of)
+          (λ same. ap (marks_at key_cmp c.loop-change.numbers) (key-one change.of of same)) (w.in_ok-push_number.ensures of)
           ∙ sym (ap (λ (b : Bool). with_mark b number base) (written-step of bound own i change next true early))
       | else-change-bound w ↦
           let high : bound < change.left.time = w.if-change-bound.false in
