@@ -16,7 +16,6 @@ use cell_model::TableDecl;
 use outcome_conflicts::Written;
 use outcome_counts::NumberMarks;
 use outcome_history::{Changes, CommitPlaces, Committed, Sights};
-use outcome_spans::openings::openings_of;
 use output_read::KeptReply;
 use std::alloc::{AllocError, Global};
 
@@ -38,8 +37,7 @@ fn written_end<'a>(
     requires within { until ≤ length replies.now }
     ensures { IfOk result (EndsAt (conflicts_and_views_hold (run_of tables.now (entries_of replies.now))) replies.now until) }
 {
-    let openings = openings_of(alloc, replies)?;
-    let openings = openings.as_slice();
+    let openings = shared.spans.openings(replies);
     let places = CommitPlaces::of(alloc, replies)?;
     let changes = Changes::of(alloc, replies, openings)?;
     let written = Written {

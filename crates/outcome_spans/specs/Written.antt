@@ -1,5 +1,5 @@
 -- What transactions wrote, counted.
-use Rattle.std.specs.Prelude.{ℕ, Bool, List, count_by, is_some, if◌then◌else◌, Option, None, Some}
+use Rattle.std.specs.Prelude.{◌≡◌, ℕ, Bool, List, count_by, is_some, if◌then◌else◌, Option, None, Some}
 use Rattle.std.specs.Ordering.{nat_cmp}
 use Rattle.workload_spec.specs.declared.reply.Who.{Who}
 use Rattle.workload_spec.specs.declared.reply.Who.TheVariants.{Session, Worker}
@@ -9,7 +9,7 @@ use Rattle.mark_index.specs.Lists.{marks_at}
 use Rattle.mark_index.specs.Marks.{AreCounted}
 use Rattle.outcome_counts.specs.Keys.{is_keyed}
 use Rattle.outcome_spans.specs.Ends.{AreEnds}
-use Rattle.outcome_spans.specs.Openings.{AreOpenings}
+use Rattle.outcome_spans.specs.Openings.{AreOpenings, openings_in}
 use Rattle.outcome_spans.specs.declared.spans.Spans.{Spans}
 
 -- the session that is answered
@@ -34,5 +34,6 @@ writes_of t = count_by is_write t.replies
 -- Where each reply's transaction is opened and ended, and where each session's writes are.
 pub record AreSpans (entries : List Entry) (taken : ℕ) (spans : Spans) : Type 0 where
   pub openings : AreOpenings entries spans.openings.items
+  pub each : spans.openings.items ≡ openings_in entries
   pub ends : AreEnds entries taken spans.ends.backs.items
   pub writes : (session : ℕ) → AreCounted (is_write_by session) entries taken (marks_at nat_cmp spans.writes session)

@@ -10,7 +10,7 @@ ghost use Rattle.outcome_spec.specs.Numbers.{has_written};
 ghost use Rattle.outcome_spec.specs.Runs.{run_of};
 ghost use Rattle.output_read.specs.Kept.{entries_of, entry_of};
 ghost use Rattle.outcome_counts.specs.Asked.{IsJudgedBy};
-ghost use Rattle.outcome_spans.specs.Openings.{opened_at, opening_of};
+ghost use Rattle.outcome_spans.specs.Openings.{AreOpenings, opened_at, opening_of, openings_in};
 ghost use Rattle.outcome_spans.specs.Written.{AreSpans, is_write_by, writer_of, writes_of};
 ghost use Rattle.outcome_spec.specs.Entries.{commit_in};
 ghost use Rattle.outcome_spec.specs.Runs.{Span as Transaction, ending_of};
@@ -77,6 +77,16 @@ impl Spans {
             ends: Ends::of(alloc, replies)?,
             writes: writes_by(alloc, replies)?,
         })
+    }
+
+    /// For each reply where its transaction is opened, if it is in one.
+    pub fn openings(&self, replies: &[KeptReply<'_>]) -> &[Option<usize>]
+        requires { AreSpans (entries_of replies.now) (length replies.now) self.now }
+        ensures own { AreOpenings (entries_of replies.now) result.now }
+        ensures each { result.now ≡ openings_in (entries_of replies.now) }
+    {
+        let _ = replies;
+        self.openings.as_slice()
     }
 
     /// How many accepted writes the transaction has that is opened at a place.
