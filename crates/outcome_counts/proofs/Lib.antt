@@ -3,6 +3,7 @@ pub mod Near
 pub mod Behind
 pub mod Keyed
 pub mod Starts
+pub mod Beside
 pub mod Noted
 pub mod Counts
 pub mod About

@@ -13,7 +13,7 @@ drop-past zero (x ∷ xs) h = absurd (omega (arith, h))
 drop-past (suc n) (x ∷ xs) h = drop-past n xs (omega (arith, h))
 
 module _ {X : Type 0} (p : X → Bool) where
-  count-all : (xs : List X) → list_all p xs ≡ true → count_by p xs ≡ length xs
+  pub count-all : (xs : List X) → list_all p xs ≡ true → count_by p xs ≡ length xs
   count-all [] h = refl
   count-all (x ∷ xs) h =
       let parts = and_parts (p x) (list_all p xs) h in

@@ -133,8 +133,33 @@ pub fn stretch_about(replies: &[KeptReply<'_>], at: usize) -> Stretch
     }
 }
 
+/// The places about the reply at a place, by those about the one in front of it, which is of the same
+/// round and another's: its own begin here.
+fn stretch_beside(replies: &[KeptReply<'_>], at: usize, known: Stretch) -> Stretch
+    requires inside { at < length replies.now }
+    requires known { IsAsked replies.now (at - 1) known }
+    requires apart { known.own_end ≤ at }
+    requires together { at < known.round_end }
+    ensures { IsAsked replies.now at result }
+{
+    let reply = &replies[at];
+    let others = between(
+        replies,
+        Around {
+            from: at,
+            to: known.round_end,
+        },
+    );
+    let own = others.partition_point(|other| is_up_to_own(reply, other));
+    Stretch {
+        own_start: at,
+        own_end: at + own,
+        ..known
+    }
+}
+
 /// The places about the reply at a place, by those about the one in front of it where they are
-/// known: its own have the same.
+/// known: its own have the same, and others of its round that of the round.
 pub fn stretch_behind(replies: &[KeptReply<'_>], at: usize, known: Option<Stretch>) -> Stretch
     requires rises { Rises (entries_of replies.now) }
     requires inside { at < length replies.now }
@@ -143,6 +168,7 @@ pub fn stretch_behind(replies: &[KeptReply<'_>], at: usize, known: Option<Stretc
 {
     match known {
         Some(stretch) if at < stretch.own_end => stretch,
+        Some(stretch) if at < stretch.round_end => stretch_beside(replies, at, stretch),
         _ => stretch_about(replies, at),
     }
 }
