@@ -1,8 +1,8 @@
 //! Marks at places, which count what stands up to a place, or tell the highest value there.
-ghost use Rattle.std.specs.Prelude.{◌≡◌, ◌*◌, ◌^◌, ◌<◌, ◌≤◌, max};
+ghost use Rattle.std.specs.Prelude.{◌≡◌, ◌*◌, ◌^◌, ◌<◌, ◌≤◌, max, nat_lt, if◌then◌else◌};
 ghost use Rattle.std.specs.List.{list_all};
 ghost use Rattle.std.specs.List.Sorted.{IsNonDecreasing, IsNonDecreasingBy};
-ghost use Rattle.std.specs.Option.{option_copied};
+ghost use Rattle.std.specs.Option.{option_copied, option_map_or};
 ghost use Rattle.mark_index.specs.Marks.{count_below, last_below, last_sum, most_below, next_peak, next_sum, own_below, total_below};
 
 /// How many of the places, which rise, are below one.
@@ -30,15 +30,33 @@ fn last_below(peaks: &[Peak], place: usize) -> Option<Peak>
     peaks[..count].last().copied()
 }
 
+/// The highest value that a peak tells.
+fn most_of(last: Option<Peak>) -> u128
+    ensures { result ≡ option_map_or (λ peak. peak.most) last 0 }
+{
+    match last {
+        None => 0,
+        Some(peak) => peak.most,
+    }
+}
+
+/// The highest value that a peak tells from a start on.
+fn own_of(last: Option<Peak>, start: usize) -> u128
+    ensures { result ≡ option_map_or (λ peak. if nat_lt peak.place start then 0 else peak.own) last 0 }
+{
+    match last {
+        None => 0,
+        Some(peak) if peak.place < start => 0,
+        Some(peak) => peak.own,
+    }
+}
+
 /// The highest value up to a place.
 pub fn most_below(peaks: &[Peak], place: usize) -> u128
     requires { IsNonDecreasingBy (λ peak. peak.place) peaks.now }
     ensures { result ≡ most_below place peaks.now }
 {
-    match last_below(peaks, place) {
-        None => 0,
-        Some(peak) => peak.most,
-    }
+    most_of(last_below(peaks, place))
 }
 
 /// The highest value from a start up to a place.
@@ -46,11 +64,7 @@ pub fn own_below(peaks: &[Peak], start: usize, place: usize) -> u128
     requires { IsNonDecreasingBy (λ peak. peak.place) peaks.now }
     ensures { result ≡ own_below start place peaks.now }
 {
-    match last_below(peaks, place) {
-        None => 0,
-        Some(peak) if peak.place < start => 0,
-        Some(peak) => peak.own,
-    }
+    own_of(last_below(peaks, place), start)
 }
 
 /// The peak that follows others at a place, whose part begins at a start.
@@ -58,10 +72,11 @@ pub fn next_peak(peaks: &[Peak], place: usize, start: usize, value: u128) -> Pea
     requires { IsNonDecreasingBy (λ peak. peak.place) peaks.now }
     ensures { result ≡ next_peak peaks.now place start value }
 {
+    let last = last_below(peaks, place);
     Peak {
         place,
-        most: most_below(peaks, place).max(value),
-        own: own_below(peaks, start, place).max(value),
+        most: most_of(last).max(value),
+        own: own_of(last, start).max(value),
     }
 }
 
