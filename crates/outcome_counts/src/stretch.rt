@@ -133,8 +133,8 @@ pub fn stretch_about(replies: &[KeptReply<'_>], at: usize) -> Stretch
     }
 }
 
-/// The places about the reply at a place, by those about the one in front of it, which is of the same
-/// round and another's: its own begin here.
+/// The places about the reply at a place, by those about the one in front of it, which is of the
+/// same round and another's: its own begin at the place.
 fn stretch_beside(replies: &[KeptReply<'_>], at: usize, known: Stretch) -> Stretch
     requires inside { at < length replies.now }
     requires known { IsAsked replies.now (at - 1) known }
@@ -159,7 +159,7 @@ fn stretch_beside(replies: &[KeptReply<'_>], at: usize, known: Stretch) -> Stret
 }
 
 /// The places about the reply at a place, by those about the one in front of it where they are
-/// known: its own have the same, and others of its round that of the round.
+/// known: its own have the same, and others of its round are sought within the round.
 pub fn stretch_behind(replies: &[KeptReply<'_>], at: usize, known: Option<Stretch>) -> Stretch
     requires rises { Rises (entries_of replies.now) }
     requires inside { at < length replies.now }
