@@ -1,0 +1,168 @@
+-- What a read of a block tells: its rows fit the table, and are no more than the block's slots.
+use Rattle.std.proofs.Common.{◌≡◌, ◌⊎◌, ℕ, ◌≤◌, Bool, true, false, cond, List, [], ◌∷◌, ◌++◌, Option, None, Some, length, option_and_then, sym, ap, subst, ◌∙◌, arith}
+use Rattle.std.proofs.lemmas.List.{map-append}
+use mathlib.Core.Logic.{inl, inr}
+use Rattle.std.specs.Prelude.{All, IfSome, filter_map, fold}
+use Rattle.std.specs.List.{cons_option}
+use Rattle.std.proofs.lemmas.List.Elements.{All-cons, All-head, All-nil, All-tail}
+use Rattle.std.proofs.lemmas.List.FromFn.{length-range_with_len}
+use Rattle.block_layout.specs.Place.{place_of}
+use Rattle.block_spec.specs.Bodies.{is_imaged, rows_of}
+use Rattle.block_spec.specs.Slots.{Row, Slot, seen as seen_in}
+use Rattle.cell_model.specs.declared.column.Column.{Column}
+use Rattle.cell_model.specs.Rows.{Fits}
+use Rattle.event_laws.proofs.Fitting.{current_fits, seen_fits, versions_fit}
+use Rattle.event_spec.specs.declared.event.Event.TheVariants as event
+use Rattle.event_spec.specs.declared.own.OwnTransaction.{OwnTransaction}
+use Rattle.event_spec.specs.declared.reply.Reply.TheVariants as reply
+use Rattle.event_spec.specs.Lawful.{HasBlock}
+use Rattle.event_spec.specs.Parts.{Parts, Shape, below, body_at, slot_at, slots_of}
+use Rattle.event_spec.specs.Replay.{IsLawfulFrom, IsLawfulLog, Made, after, columns_in, opening}
+use Rattle.event_spec.specs.Replies.{CoreReply, is_elsewhere, reply_to_read, row_read, rows_read}
+use Rattle.event_spec.specs.SlotSound.{VersionsFit}
+use Rattle.event_spec.specs.Sound.{Sound}
+use Rattle.frame_laws.proofs.Reached.{core_kept}
+use Rattle.frame_laws.specs.Shards.{CoreHolds}
+use Rattle.isolation_spec.specs.Contents.{at_place, key_of, place_at}
+use Rattle.run_spec.specs.Occurrences.{Logged}
+use Rattle.run_spec.specs.Told.{rows_told}
+use Rattle.store_laws.specs.Logs.{made_in}
+use Rattle.store_laws.specs.Own.{entry_of, parts_after}
+use Rattle.shared_store.specs.Making.{Makes}
+use Rattle.shared_store.specs.Reading.{ReadsBlock}
+use Rattle.shared_store.specs.Store.{IsAt, IsSession, StoreView, own_of, seen, shape_in}
+use Rattle.shared_store.specs.declared.session.Session.{Session}
+use Rattle.shared_store.proofs.Calls.{told_or_memory}
+use Rattle.shared_store.proofs.Sessions.{session_is}
+
+-- ---- rows that are kept
+
+kept_fit : {X : Type 0} (f : X → Option Row) (P : Row → Type 0) (xs : List X) → All (λ x. IfSome (f x) P) xs → All P (filter_map f xs)
+kept_fit f P [] all = All-nil P
+kept_fit f P (x ∷ xs) all = go (f x) (All-head (λ x. IfSome (f x) P) x xs all) (kept_fit f P xs (All-tail (λ x. IfSome (f x) P) x xs all))
+  where
+    go : (o : Option Row) → IfSome o P → All P (filter_map f xs) → All P (cons_option o (filter_map f xs))
+    go None fits rest = rest
+    go (Some row) fits rest = All-cons P row (filter_map f xs) fits rest
+
+kept_few : {X : Type 0} (f : X → Option Row) (xs : List X) → length (filter_map f xs) ≤ length xs
+kept_few f [] = omega arith
+kept_few f (x ∷ xs) = go (f x) (kept_few f xs)
+  where
+    go : (o : Option Row) → length (filter_map f xs) ≤ length xs → length (cons_option o (filter_map f xs)) ≤ length (x ∷ xs)
+    go None few = omega (arith, few)
+    go (Some row) few = omega (arith, few)
+
+all_of : {X : Type 0} (P : X → Type 0) → ((x : X) → P x) → (xs : List X) → All P xs
+all_of P each [] = All-nil P
+all_of P each (x ∷ xs) = All-cons P x xs (each x) (all_of P each xs)
+
+all_so : {X : Type 0} (P Q : X → Type 0) → ((x : X) → P x → Q x) → (xs : List X) → All P xs → All Q xs
+all_so P Q each [] all = All-nil Q
+all_so P Q each (x ∷ xs) all = All-cons Q x xs (each x (All-head P x xs all)) (all_so P Q each xs (All-tail P x xs all))
+
+-- ---- a block
+
+module _ (sh : Shape) (s : Parts) (ok : Sound sh s) (own : OwnTransaction) (t b : ℕ) where
+  abbrev columns : List Column
+  columns = columns_in sh t
+
+  row_fits : (place : ℕ) → IfSome (row_read sh s own t place) (Fits columns)
+  row_fits place = go
+      (seen_in (slot_at sh s t place) own.snapshot.stamp own.session)
+      (seen_fits columns (slot_at sh s t place).row (slot_at sh s t place).entries own.snapshot.stamp own.session (versions_fit sh s ok t place))
+    where
+      two : (elsewhere : Bool) (row : Row) → Fits columns row → IfSome (cond elsewhere None (Some row)) (Fits columns)
+      two true row fits = tt
+      two false row fits = fits
+
+      go : (o : Option Row) → IfSome o (Fits columns)
+          → IfSome (option_and_then (λ row. cond (is_elsewhere (at_place own.writes (place_at t (key_of row))) place) None (Some row)) o) (Fits columns)
+      go None fits = tt
+      go (Some row) fits = two (is_elsewhere (at_place own.writes (place_at t (key_of row))) place) row fits
+
+  pub block_fits : HasBlock sh t b → All (Fits columns) (rows_told (reply_to_read sh s own t b))
+  block_fits has = go (is_imaged (body_at sh s t b).phase)
+    where
+      image : All (Fits columns) (rows_of (body_at sh s t b))
+      image = kept_fit (λ slot. slot.row) (Fits columns) (body_at sh s t b).slots
+          (all_so (λ (slot : Slot). VersionsFit columns slot.row slot.entries) (λ (slot : Slot). IfSome slot.row (Fits columns))
+          (λ slot fits. current_fits columns slot.row slot.entries fits) (body_at sh s t b).slots (ok.bodies t b has).versions)
+
+      rows : All (Fits columns) (rows_read sh s own t b)
+      rows = kept_fit (λ slot. row_read sh s own t (place_of b slot)) (Fits columns) (below (length (body_at sh s t b).slots))
+          (all_of (λ slot. IfSome (row_read sh s own t (place_of b slot)) (Fits columns)) (λ slot. row_fits (place_of b slot)) (below (length (body_at sh s t b).slots)))
+
+      go : (imaged : Bool) → All (Fits columns) (rows_told (cond imaged (reply.Shared (rows_of (body_at sh s t b))) (reply.Rows (rows_read sh s own t b))))
+      go true = image
+      go false = rows
+
+  pub block_few : HasBlock sh t b → length (rows_told (reply_to_read sh s own t b)) ≤ slots_of sh t
+  block_few has = go (is_imaged (body_at sh s t b).phase)
+    where
+      slots : length (body_at sh s t b).slots ≡ slots_of sh t
+      slots = (ok.bodies t b has).slots
+
+      image : length (rows_of (body_at sh s t b)) ≤ slots_of sh t
+      image = let few = kept_few (λ (slot : Slot). slot.row) (body_at sh s t b).slots in omega (arith, few, slots)
+
+      rows : length (rows_read sh s own t b) ≤ slots_of sh t
+      rows =
+          let few = kept_few (λ slot. row_read sh s own t (place_of b slot)) (below (length (body_at sh s t b).slots)) in
+          let many : length (below (length (body_at sh s t b).slots)) ≡ length (body_at sh s t b).slots = length-range_with_len 0 (length (body_at sh s t b).slots) in
+          omega (arith, few, many, slots)
+
+      go : (imaged : Bool) → length (rows_told (cond imaged (reply.Shared (rows_of (body_at sh s t b))) (reply.Rows (rows_read sh s own t b)))) ≤ slots_of sh t
+      go true = image
+      go false = rows
+
+-- ---- the core that a front of a lawful log leaves
+
+holds_front : (sh : Shape) (s : Parts) (front more : List Made) → CoreHolds sh s → IsLawfulFrom sh s (front ++ more) → CoreHolds sh (fold (after sh) s front)
+holds_front sh s [] more holds lawful = holds
+holds_front sh s (made ∷ front) more holds lawful = holds_front sh (after sh s made) front more (kept made.refused) lawful.2
+  where
+    kept : (refused : Bool) → CoreHolds sh (cond refused s (Rattle.event_spec.specs.Effects.effect sh s made.event))
+    kept true = holds
+    kept false = core_kept sh made.event s holds lawful.0
+
+pub holds_before : (sh : Shape) (before : List Logged) (entry : Logged) (log : List Logged) → CoreHolds sh (opening sh) → log ≡ before ++ entry ∷ [] → IsLawfulLog sh (made_in log)
+    → CoreHolds sh (parts_after sh before)
+holds_before sh before entry log first is lawful = holds_front sh (opening sh) (made_in before) (entry.made ∷ []) first
+    (subst (IsLawfulLog sh) (ap made_in is ∙ map-append (λ (e : Logged). e.made) before (entry ∷ [])) lawful)
+
+-- ---- a read
+
+-- what it told fits the table, whatever it told
+told_fits : (sh : Shape) (s : Parts) (ok : Sound sh s) (own : OwnTransaction) (t b : ℕ) (told : CoreReply) → HasBlock sh t b
+    → (told ≡ reply.Memory) ⊎ (told ≡ reply_to_read sh s own t b) → All (Fits (columns_in sh t)) (rows_told told) × (length (rows_told told) ≤ slots_of sh t)
+told_fits sh s ok own t b told has (inl is) =
+    subst (λ (r : CoreReply). All (Fits (columns_in sh t)) (rows_told r) × (length (rows_told r) ≤ slots_of sh t)) (sym is) (All-nil (Fits (columns_in sh t)), omega arith)
+told_fits sh s ok own t b told has (inr is) =
+    subst (λ (r : CoreReply). All (Fits (columns_in sh t)) (rows_told r) × (length (rows_told r) ≤ slots_of sh t)) (sym is) (block_fits sh s ok own t b has, block_few sh s ok own t b has)
+
+pub read_done : (store : StoreView) (s new : Session) (own : OwnTransaction) (t b : ℕ) (told : CoreReply)
+    → IsSession store s → HasBlock (shape_in store) t b
+    → Makes store s.session s.pass.seat new.pass.seat new.pass.hands (own_of s) (event.Read own t b) told
+    → new.session ≡ s.session → own_of new ≡ own_of s → ReadsBlock store s new own t b told
+read_done store s new own t b told is has m same opened = record {
+  session = session;
+  same = same;
+  opened = opened;
+  makes = m.makes;
+  count = m.count;
+  took = m.took;
+  fits = both.0;
+  few = both.1;
+}
+  where
+    session : IsSession store new
+    session = session_is store new (subst (λ q. IsAt store q new.pass.seat new.pass.hands (own_of new)) (sym same)
+        (subst (IsAt store s.session new.pass.seat new.pass.hands) (sym opened) m.stands))
+
+    holds : CoreHolds (shape_in store) (parts_after (shape_in store) m.makes.before)
+    holds = holds_before (shape_in store) m.makes.before (entry_of s.session (event.Read own t b) told) (seen new) m.stands.within.pass.of.1.begins m.makes.log session.lawful
+
+    both : All (Fits (columns_in (shape_in store) t)) (rows_told told) × (length (rows_told told) ≤ slots_of (shape_in store) t)
+    both = told_fits (shape_in store) (parts_after (shape_in store) m.makes.before) holds.sound own t b told has
+        (told_or_memory store s.session s.pass.seat new.pass.seat new.pass.hands (own_of s) (event.Read own t b) told m)

@@ -1,0 +1,13 @@
+pub mod BlockReads
+pub mod Calls
+pub mod Changed
+pub mod Hands
+pub mod Laid
+pub mod Made
+pub mod Maps
+pub mod Rows
+pub mod Scanned
+pub mod Sessions
+pub mod Shown
+pub mod Thaws
+pub mod Wrote

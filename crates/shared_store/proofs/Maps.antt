@@ -1,0 +1,84 @@
+-- A row's entry that was laid beforehand, and is then settled or taken away.
+use Rattle.std.proofs.Common.{◌≡◌, ℕ, Bool, true, false, cond, [], ◌∷◌, Option, None, Some, is_some, Ordering, Less, Equal, Greater, refl, sym, ap, ◌∙◌, true≢false}
+use Rattle.std.specs.BTreeMap.{insert_entry}
+use Rattle.std.specs.Map.{remove_entry}
+use Rattle.std.specs.Ordering.{is_eq, match_ordering, ordering_reverse}
+use Rattle.isolation_laws.proofs.Rows.{place_cmp-total}
+use Rattle.isolation_spec.specs.Contents.{PlaceMap, at_place, is_place, place_cmp}
+use Rattle.isolation_spec.specs.declared.place.Place.{Place}
+use Rattle.shared_store.specs.Writing.{roomed}
+
+self_equal : (r : Ordering) → r ≡ ordering_reverse r → r ≡ Equal
+self_equal Less h = absurd (let never : ⊥ = cc in never)
+self_equal Equal h = refl
+self_equal Greater h = absurd (let never : ⊥ = cc in never)
+
+same : (p : Place) → place_cmp p p ≡ Equal
+same p = self_equal (place_cmp p p) (place_cmp-total.antisymm p p)
+
+itself : (p : Place) → is_place p p ≡ true
+itself p = ap is_eq (same p)
+
+-- the last of two values laid at one place stands
+pub twice_laid : (m : PlaceMap ℕ) (p : Place) (one other : ℕ) → insert_entry place_cmp (insert_entry place_cmp m p one) p other ≡ insert_entry place_cmp m p other
+twice_laid [] p one other = ap (λ r. match_ordering r ((p, other) ∷ (p, one) ∷ []) ((p, other) ∷ []) ((p, one) ∷ insert_entry place_cmp [] p other)) (same p)
+twice_laid (e ∷ m) p one other = go (place_cmp p e.0) refl (twice_laid m p one other)
+  where
+    go : (r : Ordering) → place_cmp p e.0 ≡ r → insert_entry place_cmp (insert_entry place_cmp m p one) p other ≡ insert_entry place_cmp m p other
+        → insert_entry place_cmp (match_ordering r ((p, one) ∷ e ∷ m) ((e.0, one) ∷ m) (e ∷ insert_entry place_cmp m p one)) p other
+        ≡ match_ordering r ((p, other) ∷ e ∷ m) ((e.0, other) ∷ m) (e ∷ insert_entry place_cmp m p other)
+    go Less is rest = ap (λ r. match_ordering r ((p, other) ∷ (p, one) ∷ e ∷ m) ((p, other) ∷ e ∷ m) ((p, one) ∷ insert_entry place_cmp (e ∷ m) p other)) (same p)
+    go Equal is rest = ap (λ r. match_ordering r ((p, other) ∷ (e.0, one) ∷ m) ((e.0, other) ∷ m) ((e.0, one) ∷ insert_entry place_cmp m p other)) is
+    go Greater is rest =
+        ap (λ r. match_ordering r ((p, other) ∷ e ∷ insert_entry place_cmp m p one) ((e.0, other) ∷ insert_entry place_cmp m p one) (e ∷ insert_entry place_cmp (insert_entry place_cmp m p one) p other)) is
+        ∙ ap (λ (es : PlaceMap ℕ). e ∷ es) rest
+
+-- what was laid at a place where nothing lay is taken away again
+pub laid_away : (m : PlaceMap ℕ) (p : Place) (one : ℕ) → at_place m p ≡ None → remove_entry (is_place p) (insert_entry place_cmp m p one) ≡ m
+laid_away [] p one none' = ap (λ b. cond b [] ((p, one) ∷ [])) (itself p)
+laid_away (e ∷ m) p one none' = go (place_cmp p e.0) refl none' (laid_away m p one)
+  where
+    some_none : (x : ℕ) → Some x ≡ None → ⊥
+    some_none x h = cc
+
+    go : (r : Ordering) → place_cmp p e.0 ≡ r → cond (is_eq r) (Some e.1) (at_place m p) ≡ None → (at_place m p ≡ None → remove_entry (is_place p) (insert_entry place_cmp m p one) ≡ m)
+        → remove_entry (is_place p) (match_ordering r ((p, one) ∷ e ∷ m) ((e.0, one) ∷ m) (e ∷ insert_entry place_cmp m p one)) ≡ e ∷ m
+    go Less is gone later = ap (λ b. cond b (e ∷ m) ((p, one) ∷ remove_entry (is_place p) (e ∷ m))) (itself p)
+    go Equal is gone later = absurd (some_none e.1 gone)
+    go Greater is gone later =
+        ap (λ r. cond (is_eq r) (insert_entry place_cmp m p one) (e ∷ remove_entry (is_place p) (insert_entry place_cmp m p one))) is
+        ∙ ap (λ (es : PlaceMap ℕ). e ∷ es) (later gone)
+
+-- what was laid at a place lies there
+laid_there : (m : PlaceMap ℕ) (p : Place) (one : ℕ) → at_place (insert_entry place_cmp m p one) p ≡ Some one
+laid_there [] p one = ap (λ b. cond b (Some one) None) (itself p)
+laid_there (e ∷ m) p one = go (place_cmp p e.0) refl (laid_there m p one)
+  where
+    go : (r : Ordering) → place_cmp p e.0 ≡ r → at_place (insert_entry place_cmp m p one) p ≡ Some one
+        → at_place (match_ordering r ((p, one) ∷ e ∷ m) ((e.0, one) ∷ m) (e ∷ insert_entry place_cmp m p one)) p ≡ Some one
+    go Less is rest = ap (λ b. cond b (Some one) (at_place (e ∷ m) p)) (itself p)
+    go Equal is rest = ap (λ r. cond (is_eq r) (Some one) (at_place m p)) is
+    go Greater is rest = ap (λ r. cond (is_eq r) (Some e.1) (at_place (insert_entry place_cmp m p one) p)) is ∙ rest
+
+some_none : (x : ℕ) → Some x ≡ None → ⊥
+some_none x h = cc
+
+-- a row for which room was made has an entry
+pub roomed_there : (m : PlaceMap ℕ) (p : Place) (had : Bool) → is_some (at_place m p) ≡ had → at_place (roomed m p had) p ≡ None → ⊥
+roomed_there m p false is none' = some_none 0 (sym (laid_there m p 0) ∙ none')
+roomed_there m p true is none' = absurd (true≢false (sym is ∙ ap (λ (o : Option ℕ). is_some o) none'))
+
+-- its slot is laid as if none had been made
+pub roomed_laid : (m : PlaceMap ℕ) (p : Place) (had : Bool) (slot : ℕ) → insert_entry place_cmp (roomed m p had) p slot ≡ insert_entry place_cmp m p slot
+roomed_laid m p false slot = twice_laid m p 0 slot
+roomed_laid m p true slot = refl
+
+-- and it is taken away as if none had been made
+pub roomed_away : (m now later : PlaceMap ℕ) (p : Place) (had : Bool) → is_some (at_place m p) ≡ had → now ≡ roomed m p had
+    → (had ≡ true → later ≡ now) → (had ≡ false → later ≡ remove_entry (is_place p) now) → later ≡ m
+roomed_away m now later p false is room some' none' = none' refl ∙ ap (remove_entry (is_place p)) room ∙ laid_away m p 0 (go (at_place m p) is)
+  where
+    go : (o : Option ℕ) → is_some o ≡ false → o ≡ None
+    go None h = refl
+    go (Some x) h = absurd (true≢false h)
+roomed_away m now later p true is room some' none' = some' refl ∙ room

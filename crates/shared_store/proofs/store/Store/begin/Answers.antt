@@ -1,0 +1,55 @@
+use Rattle.std.proofs.Common.{Some, refl, sym, ap, subst, ◌∙◌}
+use mathlib.Core.Logic.{inl}
+use Rattle.event_spec.specs.declared.event.Event.TheVariants as event
+use Rattle.event_spec.specs.Effects.{CoreEvent}
+use Rattle.event_spec.specs.Lawful.{session_of}
+use Rattle.event_spec.specs.Replies.{CoreReply}
+use Rattle.run_spec.specs.Opened.{begun_by}
+use Rattle.run_spec.specs.Told.{refusal_of}
+use Rattle.store_laws.specs.Laws.{IsOfSession, TellsLine}
+use Rattle.workload_spec.specs.declared.command.Command.TheVariants as command
+use Rattle.workload_spec.specs.declared.reply.Said.TheVariants as said
+use Rattle.shared_store.specs.Making.{Makes}
+use Rattle.shared_store.specs.Store.{opened_at, own_of}
+use Rattle.shared_store.specs.declared.session.Session.{Session}
+use Rattle.shared_store.proofs.Calls.{begin_refused, no_event, none_open, one_event, told_always}
+use Rattle.shared_store.proofs.store.Store.begin.Goals as goal
+
+pub unreachable-requires : goal.unreachable-requires
+unreachable-requires g c =
+    let s = c.args.session.now in
+    let mine : IsOfSession s.session c.new-event.result = inl (ap session_of c.new-event.ensures) in
+    let m = subst (λ (e : CoreEvent). Makes c.args.self.now s.session s.pass.seat c.make.new.pass.seat c.make.new.pass.hands (own_of s) e c.make.result) c.new-event.ensures
+    (c.make.ensures s.session (own_of s) c.requires.session.stands mine) in
+    c.in_default.not-Begun _ (told_always c.args.self.now s.session s.pass.seat c.make.new.pass.seat c.make.new.pass.hands (own_of s) (event.Begin s.session) c.make.result m refl)
+
+pub returns-clause-session : goal.returns-clause-session
+returns-clause-session g c =
+    let s = c.args.session.now in
+    let none' = none_open s (sym c.is_some.ensures ∙ c.if-is_some.false) in
+    let mine : IsOfSession s.session c.new-event.result = inl (ap session_of c.new-event.ensures) in
+    let m = subst (λ (e : CoreEvent). Makes c.args.self.now s.session s.pass.seat c.make.new.pass.seat c.make.new.pass.hands (own_of s) e c.make.result) c.new-event.ensures
+    (c.make.ensures s.session (own_of s) c.requires.session.stands mine) in
+    let new : Session = record { pass = c.make.new.pass; session = s.session; snapshot = Some c.in-Begun.snapshot; writes = c.clear.new.self } in
+    (one_event c.args.self.now s new command.Begin (event.Begin s.session) c.make.result (said.At c.in-Begun.snapshot.number) c.requires.session m refl
+    (ap (λ w. Some (opened_at s.session w c.in-Begun.snapshot)) c.clear.ensures ∙ ap (begun_by s.session (own_of s)) (sym c.in-Begun.is))
+    (ap (refusal_of command.Begin) none') (λ made. refl)
+    (subst (λ (r : CoreReply). TellsLine (own_of s) command.Begin r (said.At c.in-Begun.snapshot.number)) (sym c.in-Begun.is) refl)).0
+
+pub returns-clause-answers : goal.returns-clause-answers
+returns-clause-answers g c =
+    let s = c.args.session.now in
+    let none' = none_open s (sym c.is_some.ensures ∙ c.if-is_some.false) in
+    let mine : IsOfSession s.session c.new-event.result = inl (ap session_of c.new-event.ensures) in
+    let m = subst (λ (e : CoreEvent). Makes c.args.self.now s.session s.pass.seat c.make.new.pass.seat c.make.new.pass.hands (own_of s) e c.make.result) c.new-event.ensures
+    (c.make.ensures s.session (own_of s) c.requires.session.stands mine) in
+    let new : Session = record { pass = c.make.new.pass; session = s.session; snapshot = Some c.in-Begun.snapshot; writes = c.clear.new.self } in
+    (one_event c.args.self.now s new command.Begin (event.Begin s.session) c.make.result (said.At c.in-Begun.snapshot.number) c.requires.session m refl
+    (ap (λ w. Some (opened_at s.session w c.in-Begun.snapshot)) c.clear.ensures ∙ ap (begun_by s.session (own_of s)) (sym c.in-Begun.is))
+    (ap (refusal_of command.Begin) none') (λ made. refl)
+    (subst (λ (r : CoreReply). TellsLine (own_of s) command.Begin r (said.At c.in-Begun.snapshot.number)) (sym c.in-Begun.is) refl)).1
+
+pub returns-then-is_some-clause-answers : goal.returns-then-is_some-clause-answers
+returns-then-is_some-clause-answers g c =
+    let s = c.args.session.now in
+    no_event c.args.self.now s command.Begin said.InTransaction c.requires.session (begin_refused s (sym c.is_some.ensures ∙ c.if-is_some.true))

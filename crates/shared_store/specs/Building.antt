@@ -1,0 +1,39 @@
+-- What a store is that was just built, and its row of sessions.
+use Rattle.std.specs.Prelude.{◌≡◌, ℕ, ◌+◌, ◌≤◌, List, [], None, Some, length, slice_get}
+use Rattle.event_spec.specs.Lawful.{transaction}
+use Rattle.hall_rule.specs.Hands.{Holds}
+use Rattle.hall_rule.specs.Opening.{sessions_to}
+use Rattle.hall_steps.specs.Hall.{IsPass, first_of}
+use Rattle.run_spec.specs.Handed.{own_in}
+use Rattle.store_laws.specs.Logs.{store_meaning}
+use Rattle.shared_store.specs.Making.{parts_seen}
+use Rattle.shared_store.specs.Store.{HandsView, IsSession, SeatView, StoreView, events_made, own_of, seen, shape_in, taken_by}
+use Rattle.shared_store.specs.declared.session.Session.{Session}
+
+-- The first pass, while it has the sessions 1 to `count`: it made no event and took no part, and no
+-- session has anything open as far as it saw.
+pub record HasSessions (store : StoreView) (count : ℕ) (seat : SeatView) (hands : HandsView)
+    : Type 0 where
+  pub pass : IsPass (store_meaning (shape_in store)) store.id seat hands
+  pub empty : (part : ℕ) → ¬ Holds (first_of hands) part
+  pub sessions : seat.me.0.sessions ≡ sessions_to count
+  pub sole : seat.me.0.sole ≡ sessions_to (shape_in store).passes
+  pub few : count ≤ (shape_in store).passes
+  pub mine : seat.me.0.mine ≡ []
+  pub taken : seat.me.0.taken ≡ []
+  pub rests : (session : ℕ)
+      → transaction (shape_in store) (parts_seen (shape_in store) seat.me.0) session ≡ None
+
+-- It is the store's session of this number. It made no event and has nothing open.
+pub record IsNewSession (store : StoreView) (number : ℕ) (s : Session) : Type 0 where
+  pub session : IsSession store s
+  pub numbered : s.session ≡ number
+  pub rests : own_of s ≡ None
+  pub made : events_made s ≡ 0
+  pub none : own_in (shape_in store) number (seen s) ≡ []
+  pub taken : taken_by s ≡ []
+
+-- All sessions of a store that was just built, in the order of their numbers, from 1 on.
+pub record IsNewRow (store : StoreView) (count : ℕ) (row : List Session) : Type 0 where
+  pub many : length row ≡ count
+  pub each : (k : ℕ) (s : Session) → slice_get row k ≡ Some s → IsNewSession store (k + 1) s

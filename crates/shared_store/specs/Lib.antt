@@ -1,0 +1,9 @@
+pub mod Building
+pub mod Changing
+pub mod Making
+pub mod Meeting
+pub mod Reading
+pub mod Scanning
+pub mod Store
+pub mod Told
+pub mod Writing

@@ -1,0 +1,46 @@
+-- What a scan's reads tell, block after block, and the rows by their places.
+use Rattle.std.specs.Prelude.{◌≡◌, ⊤, ℕ, false, List, [], ◌∷◌, fold, flat_map, map, OnOk, Result}
+use Rattle.std.specs.BTreeMap.{insert_entry}
+use Rattle.block_spec.specs.Slots.{Row}
+use Rattle.event_spec.specs.declared.event.Event.TheVariants as event
+use Rattle.event_spec.specs.declared.own.OwnTransaction.{OwnTransaction}
+use Rattle.event_spec.specs.Parts.{below}
+use Rattle.event_spec.specs.Replies.{CoreReply}
+use Rattle.isolation_spec.specs.Contents.{State, place_cmp, place_of}
+use Rattle.run_spec.specs.Asked.{at_blocks}
+use Rattle.run_spec.specs.Calls.{is_final, is_memory, is_refused}
+use Rattle.run_spec.specs.Occurrences.{Occurrence, events_in, replies_in}
+use Rattle.run_spec.specs.Told.{rows_told}
+use Rattle.shared_store.specs.Reading.{ReadsBlock, Went}
+use Rattle.shared_store.specs.Store.{StoreView, shape_in}
+use Rattle.shared_store.specs.declared.session.Session.{Session}
+
+-- rows of a table, each laid in the place of its key
+abbrev pub laid : ℕ → State → List Row → State
+laid table state rows = fold (λ state row. insert_entry place_cmp state (place_of table row) row) state rows
+
+-- A block was read, and with Ok its rows were laid.
+pub record ReadsInto
+    {T E : Type 0} (store : StoreView) (old new : Session) (own : OwnTransaction) (table at : ℕ)
+    (before now : State) (result : Result T E)
+    : Type 0 where
+  pub told : CoreReply
+  pub reads : ReadsBlock store old new own table at told
+  pub granted : OnOk result (is_memory told ≡ false)
+  pub laid : OnOk result (now ≡ laid table before (rows_told told))
+
+-- none was refused memory, and none is one that ends a call
+abbrev pub ArePlain : List Occurrence → Type 0
+ArePlain [] = ⊤
+ArePlain (occurrence ∷ rest) =
+    (is_refused occurrence ≡ false) × (is_final occurrence.event ≡ false) × ArePlain rest
+
+-- So many blocks of the table were read, and their rows were laid.
+pub record Scans
+    (store : StoreView) (old new : Session) (own : OwnTransaction) (table count : ℕ) (state : State)
+    : Type 0 where
+  pub made : List Occurrence
+  pub went : Went store old new (at_blocks (shape_in store) table (event.Read own table)) made
+  pub events : events_in made ≡ map (event.Read own table) (below count)
+  pub plain : ArePlain made
+  pub rows : state ≡ laid table [] (flat_map rows_told (replies_in made))

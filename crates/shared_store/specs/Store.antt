@@ -1,0 +1,152 @@
+-- What a store and its sessions are, between two calls.
+use Rattle.std.specs.Prelude.{◌≡◌, ℕ, ◌+◌, ◌<◌, ◌≤◌, ◌^◌, true, false, List, [], ◌∷◌, ◌++◌, All, Option, Some, IfSome, None, length, map, option_map}
+use Rattle.std.specs.List.{last_or}
+use Rattle.atomic_table.specs.declared.shared.Seat.{Seat}
+use Rattle.engine_core.specs.Core.{CoreState, IsOpening}
+use Rattle.event_spec.specs.declared.own.OwnTransaction.{OwnTransaction}
+use Rattle.event_spec.specs.Effects.{CoreEvent}
+use Rattle.event_spec.specs.Lawful.{Among}
+use Rattle.event_spec.specs.Parts.{CorePart, Shape}
+use Rattle.event_spec.specs.Replay.{IsLawfulLog}
+use Rattle.event_spec.specs.Touched.{touching}
+use Rattle.hall_rule.specs.EventLog.{has}
+use Rattle.hall_rule.specs.Hands.{Holds}
+use Rattle.hall_rule.specs.declared.view.View.{View}
+use Rattle.hall_steps.specs.Hall.{HallView, IsPass, first_of}
+use Rattle.isolation_spec.specs.Contents.{PlaceMap}
+use Rattle.run_spec.specs.Asked.{events_of}
+use Rattle.run_spec.specs.Handed.{Called, GoesOn, own_in}
+use Rattle.run_spec.specs.Occurrences.{Logged, Occurrence}
+use Rattle.run_spec.specs.Opened.{own_after}
+use Rattle.store_laws.specs.Logs.{log_of, made_in, store_meaning}
+use Rattle.store_laws.specs.Own.{KnowsOwn, entry_of, parts_after}
+use Rattle.txn_desk.specs.declared.Snapshot.{Snapshot}
+use Rattle.workload_spec.specs.declared.command.Command.{Command}
+use Rattle.workload_spec.specs.declared.reply.Said.{Said}
+use Rattle.shared_store.specs.declared.session.Session.{Session}
+
+-- What contracts see of a store: its hall, with the core that it was built of.
+abbrev pub StoreView : Type 0
+StoreView = HallView CoreState Shape
+
+abbrev pub shape_in : StoreView → Shape
+shape_in store = store.core.shape
+
+-- The hall was built of a core before its first event, for that core's passes.
+pub record IsStore (store : StoreView) : Type 0 where
+  pub opening : IsOpening store.core.shape store.core.parts
+  pub passes : store.passes ≡ store.core.shape.passes
+  pub shape : store.shape ≡ store.core.shape
+
+-- ---- a pass
+
+abbrev pub SeatView : Type 0
+SeatView = Seat (Option CorePart) (View CoreEvent)
+
+abbrev pub HandsView : Type 0
+HandsView = List (List (Option CorePart))
+
+-- A session's pass, whatever it holds; the session has this open.
+pub record IsWithin
+    (store : StoreView) (session : ℕ) (seat : SeatView) (hands : HandsView)
+    (own : Option OwnTransaction)
+    : Type 0 where
+  pub pass : IsPass (store_meaning (shape_in store)) store.id seat hands
+  pub knows : KnowsOwn (shape_in store) session seat.me.0 own
+
+-- The same of a pass that holds no part.
+pub record IsAt
+    (store : StoreView) (session : ℕ) (seat : SeatView) (hands : HandsView)
+    (own : Option OwnTransaction)
+    : Type 0 where
+  pub within : IsWithin store session seat hands own
+  pub empty : (part : ℕ) → ¬ Holds (first_of hands) part
+
+-- It is so of one session or another.
+abbrev pub IsAnyWithin : StoreView → SeatView → HandsView → Type 0
+IsAnyWithin store seat hands =
+    (session : ℕ) × (own : Option OwnTransaction) × IsWithin store session seat hands own
+
+abbrev pub IsAnyAt : StoreView → SeatView → HandsView → Type 0
+IsAnyAt store seat hands =
+    (session : ℕ) × (own : Option OwnTransaction) × IsAt store session seat hands own
+
+-- ---- a session
+
+-- what a session has open
+abbrev pub opened_at : ℕ → PlaceMap ℕ → Snapshot → OwnTransaction
+opened_at session writes snapshot =
+    record { session = session; snapshot = snapshot; writes = writes }
+
+abbrev pub own_of : Session → Option OwnTransaction
+own_of s = option_map (opened_at s.session s.writes) s.snapshot
+
+-- the log as far as its pass saw it
+abbrev pub seen : Session → List Logged
+seen s = log_of s.pass.seat.me.0.log
+
+-- how many events its pass made, and which parts it ever took
+abbrev pub events_made : Session → ℕ
+events_made s = length s.pass.seat.me.0.mine
+
+abbrev pub taken_by : Session → List ℕ
+taken_by s = s.pass.seat.me.0.taken
+
+-- the entry stands under one of the store's sessions
+abbrev pub IsNamed : ℕ → Logged → Type 0
+IsNamed passes entry = (1 ≤ entry.session) × (entry.session ≤ passes)
+
+-- It is a session of this store: it has open what its own events told. Its log is lawful, and each
+-- entry stands under a session of the store.
+pub record IsSession (store : StoreView) (s : Session) : Type 0 where
+  pub stands : IsAt store s.session s.pass.seat s.pass.hands (own_of s)
+  pub own : own_of s ≡ own_after (own_in (shape_in store) s.session (seen s))
+  pub lawful : IsLawfulLog (shape_in store) (made_in (seen s))
+  pub named : All (IsNamed (shape_in store).passes) (seen s)
+
+-- A session's pass may make so many events more: it makes fewer than 2 ^ 56.
+abbrev pub HasRoomFor : ℕ → Session → Type 0
+HasRoomFor count s = events_made s + count < 2 ^ 56
+
+-- ---- a call
+
+-- One of these events touches the part, as the parts tell that the log left as far as it was seen
+-- at some moment of the call.
+pub record IsTouched (shape : Shape) (events : List CoreEvent) (old new : List Logged) (part : ℕ)
+    : Type 0 where
+  pub event : CoreEvent
+  pub is_one : Among event events
+  pub log : List Logged
+  pub saw : GoesOn old log
+  pub left : GoesOn log new
+  pub touches : touching shape event (map Some (parts_after shape log)) part ≡ true
+
+-- Each part that was taken since is one that these events touch.
+pub record TookPartsOf
+    (shape : Shape) (events : List CoreEvent) (old new : List Logged) (taken later : List ℕ)
+    : Type 0 where
+  pub parts : List ℕ
+  pub took : later ≡ taken ++ parts
+  pub touched : (part : ℕ) → has part parts ≡ true → IsTouched shape events old new part
+
+-- The log ends with the last of these events, if there is one.
+abbrev pub EndsWithLast : List Occurrence → List Logged → Type 0
+EndsWithLast made log = IfSome (last_or None made) (λ last.
+    (before : List Logged) × (log ≡ before ++ entry_of last.session last.event last.reply ∷ []))
+
+-- The session carried out the command and was told this line: these are the events that it made. It
+-- took no other parts than those that the command's events touch.
+pub record Answers (store : StoreView) (old new : Session) (command : Command) (told : Said)
+    : Type 0 where
+  pub made : List Occurrence
+  pub called : Called (shape_in store) false old.session (seen old) (seen new)
+      (record { command = command; made = made; told = Some told })
+  pub count : events_made new ≡ events_made old + length made
+  pub ends : EndsWithLast made (seen new)
+  pub took : TookPartsOf
+      (shape_in store)
+      (events_of (shape_in store) (own_of old) old.session command made)
+      (seen old)
+      (seen new)
+      (taken_by old)
+      (taken_by new)

@@ -1,0 +1,185 @@
+//! Changing rows: where the block of a row is imaged, it is thawed before.
+ghost use Rattle.std.specs.Prelude.{◌≡◌, ◌<◌, ℕ, true, is_some, length};
+ghost use Rattle.engine_core.specs.Asks.{HasKeyParts, IsOfCore};
+ghost use Rattle.event_spec.specs.Parts.{Parts};
+ghost use Rattle.hall_rule.specs.Hands.{Agrees};
+ghost use Rattle.hall_steps.specs.Hall.{first_of};
+ghost use Rattle.isolation_spec.specs.Contents.{at_place};
+ghost use Rattle.run_spec.specs.Asked.{imaged_block};
+ghost use Rattle.workload_spec.specs.Valid.{fits_table};
+ghost use Rattle.workload_spec.specs.declared.command.Command.{Command};
+ghost use Rattle.workload_spec.specs.declared.command.Command.TheVariants as command;
+ghost use Rattle.shared_store.specs.Changing.{ChangesAny, ChangesAnyHeld, IsChangeBy, IsChangeOf};
+ghost use Rattle.shared_store.specs.Changing.{MayChange, MayChangeHeld};
+ghost use Rattle.shared_store.specs.Making.{MakesAnyHeld, MayMakeHeld};
+ghost use Rattle.shared_store.specs.Store.{Answers, HasRoomFor, IsSession, own_of, shape_in};
+ghost use Rattle.shared_store.specs.Told.{written_told};
+
+use crate::faults::StoreFault;
+use crate::session::Session;
+use crate::store::Store;
+use cell_model::Row;
+use core_touches::KeyedEvent;
+use engine_core::{Core, CoreReply, imaged};
+use event_spec::{Event, Reply};
+use hall_rule::Steps;
+use hall_steps::Pass;
+use isolation_spec::Place;
+use std::marker::Brand;
+use std::sync::Wait;
+use std::sync::ledger::{Blank, Ledger};
+
+impl Store {
+    // Makes an event on parts that a pass holds, with a count of steps of its own.
+    fn make_held_by<L: Ledger>(
+        &self,
+        pass: &mut Pass<Core>,
+        event: KeyedEvent,
+        blank: Blank,
+    ) -> CoreReply
+        requires may { MayMakeHeld self.now pass.old.seat pass.old.hands event }
+        requires name { blank.name ≡ L.name }
+        requires parts { blank.parts ≡ L.parts }
+        requires some { 0 < L.parts }
+        ensures { MakesAnyHeld self.now
+            pass.old.seat pass.old.hands pass.new.seat pass.new.hands event result }
+    {
+        let mut steps = Steps::<L>::new(blank);
+        self.make_held(pass, event, &mut steps)
+    }
+
+    // Makes an event on parts that a pass holds, whose steps nobody counts.
+    fn make_on(&self, pass: &mut Pass<Core>, event: KeyedEvent) -> CoreReply
+        requires { MayMakeHeld self.now pass.old.seat pass.old.hands event }
+        ensures { MakesAnyHeld self.now
+            pass.old.seat pass.old.hands pass.new.seat pass.new.hands event result }
+    {
+        self.make_held_by::<Brand>(pass, event, Blank::new(1))
+    }
+
+    // The imaged block that a change of a row would change, as the parts that a pass holds tell.
+    fn imaged_at(&self, pass: &Pass<Core>, place: Place) -> Option<u32>
+        requires hand { 0 < length pass.now.hands }
+        requires core { IsOfCore (shape_in self.now) (first_of pass.now.hands) }
+        requires parts { HasKeyParts (shape_in self.now)
+            (first_of pass.now.hands) place.table place.key }
+        ensures { (s : Parts) → Agrees (first_of pass.now.hands) s
+            → result ≡ imaged_block (shape_in self.now) place.table place.key s }
+    {
+        imaged(self.hall.shape(), pass.hand(), place.table, place.key)
+    }
+
+    // Changes a row on the parts that a pass holds: its block is thawed where it is imaged, and the
+    // change is made. Where there is no memory for the thaw, nothing is changed.
+    fn change_held(&self, pass: &mut Pass<Core>, place: Place, event: KeyedEvent) -> CoreReply
+        requires { MayChangeHeld self.now pass.old.seat pass.old.hands place event }
+        ensures { ChangesAnyHeld self.now
+            pass.old.seat pass.old.hands pass.new.seat pass.new.hands place event result }
+    {
+        let Some(block) = self.imaged_at(pass, place) else {
+            return self.make_on(pass, event);
+        };
+        let thaw = KeyedEvent::new(Event::Thaw {
+            table: place.table,
+            block,
+        });
+        if let Reply::Memory = self.make_on(pass, thaw) {
+            return Reply::Memory;
+        }
+        self.make_on(pass, event)
+    }
+
+    // Changes a row for a pass that holds no part.
+    fn change<R: Wait>(
+        &self,
+        rt: &R,
+        pass: &mut Pass<Core>,
+        place: Place,
+        event: KeyedEvent,
+    ) -> CoreReply
+        requires { MayChange self.now pass.old.seat pass.old.hands place event }
+        ensures { ChangesAny self.now
+            pass.old.seat pass.old.hands pass.new.seat pass.new.hands place event result }
+    {
+        self.take_for(rt, pass, &event);
+        let told = self.change_held(pass, place, event);
+        self.give_back(pass);
+        told
+    }
+
+    // Changes the row of a place for the session's transaction, which wrote it already or not.
+    fn change_row<R: Wait>(
+        &self,
+        rt: &R,
+        session: &mut Session,
+        place: Place,
+        had: bool,
+        event: KeyedEvent,
+    ) -> Result<(), StoreFault>
+        requires session { IsSession self.now session.old }
+        requires room { HasRoomFor 2 session.old }
+        requires change { IsChangeOf (shape_in self.now)
+            session.old.session (own_of session.old) place event }
+        requires had { is_some (at_place session.old.writes place) ≡ had }
+        ensures session { IsSession self.now session.new }
+        ensures same { session.new.session ≡ session.old.session }
+        ensures answers { (asked : Command)
+            → IsChangeBy (shape_in self.now)
+            session.old.session (own_of session.old) place event asked
+            → Answers self.now session.old session.new asked (written_told place.table result) }
+    {
+        if !session.writes.make_room(rt, place, had) {
+            return Err(StoreFault::Memory);
+        }
+        let told = self.change(rt, &mut session.pass, place, event);
+        session.writes.settle(rt, place, had, told)
+    }
+
+    /// Changes the row of a key that has one. A block that is imaged is thawed before.
+    pub fn update<R: Wait>(
+        &self,
+        rt: &R,
+        session: &mut Session,
+        table: u32,
+        row: Row,
+    ) -> Result<(), StoreFault>
+        requires session { IsSession self.now session.old }
+        requires room { HasRoomFor 2 session.old }
+        requires busy { is_some (own_of session.old) ≡ true }
+        requires fits { fits_table (shape_in self.now).tables table row ≡ true }
+        ensures session { IsSession self.now session.new }
+        ensures same { session.new.session ≡ session.old.session }
+        ensures answers { Answers self.now session.old session.new
+            (command.Update table row) (written_told table result) }
+    {
+        let place = self.place_in(table, &row);
+        let own = session.own_key(place);
+        let had = own.written.is_some();
+        let event = KeyedEvent::new(Event::Update { own, table, row });
+        self.change_row(rt, session, place, had, event)
+    }
+
+    /// Removes the row of a key that has one. A block that is imaged is thawed before.
+    pub fn delete<R: Wait>(
+        &self,
+        rt: &R,
+        session: &mut Session,
+        table: u32,
+        key: i64,
+    ) -> Result<(), StoreFault>
+        requires session { IsSession self.now session.old }
+        requires room { HasRoomFor 2 session.old }
+        requires busy { is_some (own_of session.old) ≡ true }
+        requires table { table < length (shape_in self.now).tables }
+        ensures session { IsSession self.now session.new }
+        ensures same { session.new.session ≡ session.old.session }
+        ensures answers { Answers self.now session.old session.new
+            (command.Delete table key) (written_told table result) }
+    {
+        let place = Place { table, key };
+        let own = session.own_key(place);
+        let had = own.written.is_some();
+        let event = KeyedEvent::new(Event::Delete { own, table, key });
+        self.change_row(rt, session, place, had, event)
+    }
+}

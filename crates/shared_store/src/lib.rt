@@ -1,0 +1,22 @@
+//! A store that many sessions use from any thread, with one latch for each part. Each call makes the
+//! events that its command names, takes no part but those that they touch, and tells what they reply.
+#![tactic(auto)]
+
+pub mod building;
+pub mod changing;
+pub mod faults;
+pub mod making;
+pub mod meeting;
+pub mod reading;
+pub mod scanning;
+pub mod session;
+pub mod store;
+pub mod transactions;
+mod writes;
+pub mod writing;
+
+pub use building::Built;
+pub use faults::{Busy, StoreFault};
+pub use reading::BlockRows;
+pub use session::Session;
+pub use store::Store;

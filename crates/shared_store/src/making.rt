@@ -1,0 +1,102 @@
+//! Making an event: its parts are taken, it is made on them, and they are given back.
+ghost use Rattle.std.specs.Prelude.{◌≡◌, ◌<◌};
+ghost use Rattle.shared_store.specs.Making.{GivesAny, MakesAny, MakesAnyHeld, MayMake};
+ghost use Rattle.shared_store.specs.Making.{MayMakeHeld, ReadsFew, TakesAny};
+ghost use Rattle.shared_store.specs.Store.{IsAnyAt, IsAnyWithin, shape_in};
+
+use crate::store::Store;
+use core_touches::KeyedEvent;
+use engine_core::{Core, CoreReply};
+use hall_rule::Steps;
+use hall_steps::Pass;
+use std::marker::Brand;
+use std::sync::Wait;
+use std::sync::ledger::{Blank, Ledger};
+
+impl Store {
+    /// Takes the parts that an event touches, for a pass that holds none.
+    pub(crate) fn take_for<R: Wait>(&self, rt: &R, pass: &mut Pass<Core>, event: &KeyedEvent)
+        requires { IsAnyAt self.now pass.old.seat pass.old.hands }
+        ensures { TakesAny self.now
+            pass.old.seat pass.old.hands pass.new.seat pass.new.hands event.now }
+    {
+        self.hall.take_all(rt, pass, event);
+    }
+
+    /// Makes an event on the parts that a pass holds.
+    pub(crate) fn make_held<L: Ledger>(
+        &self,
+        pass: &mut Pass<Core>,
+        event: KeyedEvent,
+        steps: &mut Steps<L>,
+    ) -> CoreReply
+        requires { MayMakeHeld self.now pass.old.seat pass.old.hands event }
+        ensures made { MakesAnyHeld self.now
+            pass.old.seat pass.old.hands pass.new.seat pass.new.hands event result }
+        ensures steps { ReadsFew (shape_in self.now) event result steps.old steps.new }
+    {
+        self.hall.event(pass, event, steps)
+    }
+
+    /// Gives back all parts that a pass holds.
+    pub(crate) fn give_back(&self, pass: &mut Pass<Core>)
+        requires { IsAnyWithin self.now pass.old.seat pass.old.hands }
+        ensures { GivesAny self.now pass.old.seat pass.old.hands pass.new.seat pass.new.hands }
+    {
+        self.hall.give_all(pass);
+    }
+
+    /// Makes an event of a pass that holds no part: takes the parts that it touches, makes it, and
+    /// gives them back.
+    pub(crate) fn make_counted<R: Wait, L: Ledger>(
+        &self,
+        rt: &R,
+        pass: &mut Pass<Core>,
+        event: KeyedEvent,
+        steps: &mut Steps<L>,
+    ) -> CoreReply
+        requires { MayMake self.now pass.old.seat pass.old.hands event }
+        ensures made { MakesAny self.now
+            pass.old.seat pass.old.hands pass.new.seat pass.new.hands event result }
+        ensures steps { ReadsFew (shape_in self.now) event result steps.old steps.new }
+    {
+        let _ = &self.hall;
+        self.take_for(rt, pass, &event);
+        let reply = self.make_held(pass, event, steps);
+        self.give_back(pass);
+        reply
+    }
+
+    // The same with a count of steps of its own.
+    fn make_by<R: Wait, L: Ledger>(
+        &self,
+        rt: &R,
+        pass: &mut Pass<Core>,
+        event: KeyedEvent,
+        blank: Blank,
+    ) -> CoreReply
+        requires may { MayMake self.now pass.old.seat pass.old.hands event }
+        requires name { blank.name ≡ L.name }
+        requires parts { blank.parts ≡ L.parts }
+        requires some { 0 < L.parts }
+        ensures { MakesAny self.now
+            pass.old.seat pass.old.hands pass.new.seat pass.new.hands event result }
+    {
+        let mut steps = Steps::<L>::new(blank);
+        self.make_counted(rt, pass, event, &mut steps)
+    }
+
+    /// Makes an event whose steps nobody counts.
+    pub(crate) fn make<R: Wait>(
+        &self,
+        rt: &R,
+        pass: &mut Pass<Core>,
+        event: KeyedEvent,
+    ) -> CoreReply
+        requires { MayMake self.now pass.old.seat pass.old.hands event }
+        ensures { MakesAny self.now
+            pass.old.seat pass.old.hands pass.new.seat pass.new.hands event result }
+    {
+        self.make_by::<R, Brand>(rt, pass, event, Blank::new(1))
+    }
+}

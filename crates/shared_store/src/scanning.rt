@@ -1,0 +1,181 @@
+//! Scanning a table.
+ghost use Rattle.std.specs.Prelude.{◌≡◌, ◌<◌, ◌^◌, Some, true, is_some, length, All, IfOk, OnOk};
+ghost use Rattle.std.specs.BTreeMap.{insert_entry};
+ghost use Rattle.cell_model.specs.Rows.{Fits};
+ghost use Rattle.event_spec.specs.Lawful.{HasBlock};
+ghost use Rattle.event_spec.specs.declared.own.OwnTransaction.{OwnTransaction as Own};
+ghost use Rattle.isolation_spec.specs.Contents.{contents_of, place_cmp};
+ghost use Rattle.workload_spec.specs.declared.command.Command.TheVariants as command;
+ghost use Rattle.shared_store.specs.Reading.{rows_in};
+ghost use Rattle.shared_store.specs.Scanning.{ReadsInto, laid};
+ghost use Rattle.shared_store.specs.Store.{Answers, HasRoomFor, IsSession, own_of, shape_in};
+ghost use Rattle.shared_store.specs.Told.{scanned_told};
+
+use crate::reading::BlockRows;
+use crate::session::Session;
+use crate::store::Store;
+use crate::writing::place_of;
+use cell_model::{Row, Rows, Schema};
+use core_images::SharedRows;
+use hall_rule::Steps;
+use isolation_spec::Place;
+use std::alloc::{AllocError, Global};
+use std::collections::BTreeMap;
+use std::marker::Brand;
+use std::sync::Wait;
+use std::sync::ledger::{Blank, Ledger};
+
+/// The rows of a shared image.
+fn rows_of_image<L: Ledger>(
+    alloc: Global,
+    shared: &SharedRows,
+    steps: &mut Steps<L>,
+) -> Result<Vec<Row>, AllocError>
+    ensures { IfOk result (λ rows. rows.items ≡ shared.now) }
+{
+    let image = shared.image();
+    let mut rows = Vec::new(alloc);
+    for slot in 0..image.rows() {
+        let Some(row) = image.columns().row(slot, steps)? else {
+            unreachable!()
+        };
+        rows.push(row)?;
+    }
+    Ok(rows)
+}
+
+/// The rows that a read told.
+fn rows_of_read<L: Ledger>(
+    alloc: Global,
+    read: BlockRows,
+    steps: &mut Steps<L>,
+) -> Result<Vec<Row>, AllocError>
+    ensures { IfOk result (λ rows. rows.items ≡ rows_in read) }
+{
+    match read {
+        BlockRows::Rows(rows) => Ok(rows.into_vec()),
+        BlockRows::Shared(shared) => rows_of_image(alloc, &shared, steps),
+    }
+}
+
+/// Lays a row in its place.
+fn lay_row(by_place: &mut BTreeMap<Place, Row>, place: Place, row: Row) -> Result<(), AllocError>
+    ensures { OnOk result
+        (by_place.new.entries ≡ insert_entry place_cmp by_place.old.entries place row) }
+{
+    match by_place.insert(place, row) {
+        Ok(_) => Ok(()),
+        Err(_) => Err(AllocError),
+    }
+}
+
+/// Lays rows of a table in their places.
+fn lay_rows(
+    schema: &Schema,
+    table: u32,
+    rows: Vec<Row>,
+    by_place: &mut BTreeMap<Place, Row>,
+) -> Result<(), AllocError>
+    requires { All (Fits schema.now) rows.items }
+    ensures { OnOk result (by_place.new.entries ≡ laid table by_place.old.entries rows.items) }
+{
+    for row in rows {
+        let _columns = schema.columns();
+        lay_row(by_place, place_of(table, &row), row)?;
+    }
+    Ok(())
+}
+
+/// The rows of a table, in the order of their places.
+fn rows_in_order(
+    alloc: Global,
+    table: u32,
+    by_place: BTreeMap<Place, Row>,
+) -> Result<Rows, AllocError>
+    ensures { IfOk result (λ rows. rows ≡ contents_of table by_place.entries) }
+{
+    let mut rows = Vec::new(alloc);
+    for (place, row) in by_place {
+        if place.table == table {
+            rows.push(row)?;
+        }
+    }
+    Ok(Rows::from(rows))
+}
+
+impl Store {
+    // Reads a block, and lays its rows in their places.
+    fn read_into<R: Wait, L: Ledger>(
+        &self,
+        rt: &R,
+        session: &mut Session,
+        table: u32,
+        block: u32,
+        by_place: &mut BTreeMap<Place, Row>,
+        steps: &mut Steps<L>,
+    ) -> Result<(), AllocError>
+        requires session { IsSession self.now session.old }
+        requires room { HasRoomFor 1 session.old }
+        requires busy { is_some (own_of session.old) ≡ true }
+        requires block { HasBlock (shape_in self.now) table block }
+        ensures { (own : Own) → own_of session.old ≡ Some own → ReadsInto self.now
+            session.old session.new own table block by_place.old.entries by_place.new.entries result }
+    {
+        let shape = self.hall.shape();
+        let read = self.read(rt, session, table, block, steps)?;
+        let rows = rows_of_read(shape.alloc(), read, steps)?;
+        lay_rows(shape.schema(table), table, rows, by_place)
+    }
+
+    // The same as a scan, with a count of steps of its own.
+    fn scan_by<R: Wait, L: Ledger>(
+        &self,
+        rt: &R,
+        session: &mut Session,
+        table: u32,
+        blank: Blank,
+    ) -> Result<Rows, AllocError>
+        requires session { IsSession self.now session.old }
+        requires room { HasRoomFor (2 ^ 10) session.old }
+        requires busy { is_some (own_of session.old) ≡ true }
+        requires table { table < length (shape_in self.now).tables }
+        requires name { blank.name ≡ L.name }
+        requires parts { blank.parts ≡ L.parts }
+        requires some { 0 < L.parts }
+        ensures session { IsSession self.now session.new }
+        ensures same { session.new.session ≡ session.old.session }
+        ensures answers { Answers self.now
+            session.old session.new (command.Scan table) (scanned_told result) }
+    {
+        let shape = self.hall.shape();
+        let mut steps = Steps::<L>::new(blank);
+        let mut by_place = BTreeMap::new(shape.alloc());
+        for block in 0..shape.blocks(table) {
+            self.read_into(rt, session, table, block, &mut by_place, &mut steps)?;
+        }
+        rows_in_order(shape.alloc(), table, by_place)
+    }
+
+    /// All rows of a table that the session's transaction sees, in the order of their keys.
+    ///
+    /// # Errors
+    ///
+    /// There is no memory for them.
+    pub fn scan<R: Wait>(
+        &self,
+        rt: &R,
+        session: &mut Session,
+        table: u32,
+    ) -> Result<Rows, AllocError>
+        requires session { IsSession self.now session.old }
+        requires room { HasRoomFor (2 ^ 10) session.old }
+        requires busy { is_some (own_of session.old) ≡ true }
+        requires table { table < length (shape_in self.now).tables }
+        ensures session { IsSession self.now session.new }
+        ensures same { session.new.session ≡ session.old.session }
+        ensures answers { Answers self.now
+            session.old session.new (command.Scan table) (scanned_told result) }
+    {
+        self.scan_by::<R, Brand>(rt, session, table, Blank::new(1))
+    }
+}

@@ -1,0 +1,82 @@
+//! A session of a store.
+ghost use Rattle.std.specs.Prelude.{◌≡◌, true, Some, option_map, is_some};
+ghost use Rattle.run_spec.specs.Opened.{own_key};
+ghost use Rattle.shared_store.specs.Store.{own_of};
+
+use crate::writes::Writes;
+use engine_core::Core;
+use event_spec::{OwnKey, OwnTransaction};
+use hall_steps::Pass;
+use isolation_spec::Place;
+use std::sync::Wait;
+use txn_desk::Snapshot;
+
+/// A session: its pass of the hall, its number, counted from 1, the snapshot of its open transaction,
+/// and what that wrote.
+#[derive(Drop)]
+pub struct Session {
+    pub(crate) pass: Pass<Core>,
+    pub(crate) session: u32,
+    pub(crate) snapshot: Option<Snapshot>,
+    pub(crate) writes: Writes,
+}
+
+impl Session {
+    /// Whether the session has a transaction open.
+    pub fn busy(&self) -> bool
+        ensures { result ≡ is_some (own_of self.now) }
+    {
+        self.snapshot.is_some()
+    }
+
+    /// The session's number among those of its store, from 1 on.
+    pub fn session_number(&self) -> u32
+        ensures { result ≡ self.now.session }
+    {
+        self.session
+    }
+
+    /// How many transactions that wrote had committed before the open one began.
+    pub fn number(&self) -> u64
+        requires { is_some (own_of self.now) ≡ true }
+        ensures { option_map (λ own. own.snapshot.number) (own_of self.now) ≡ Some result }
+    {
+        let Some(snapshot) = self.snapshot else {
+            unreachable!()
+        };
+        snapshot.number
+    }
+}
+
+// What a session hands its events.
+impl Session {
+    /// What an event on the row of a place is handed of the open transaction.
+    pub(crate) fn own_key(&self, place: Place) -> OwnKey
+        requires { is_some (own_of self.now) ≡ true }
+        ensures { option_map (own_key place.table place.key) (own_of self.now) ≡ Some result }
+    {
+        let Some(snapshot) = self.snapshot else {
+            unreachable!()
+        };
+        OwnKey {
+            session: self.session,
+            snapshot,
+            written: self.writes.slot_of(place),
+        }
+    }
+
+    /// What an event on many rows is handed of it.
+    pub(crate) fn own_all<R: Wait>(&self, rt: &R) -> OwnTransaction
+        requires { is_some (own_of self.now) ≡ true }
+        ensures { own_of self.now ≡ Some result }
+    {
+        let Some(snapshot) = self.snapshot else {
+            unreachable!()
+        };
+        OwnTransaction {
+            session: self.session,
+            snapshot,
+            writes: self.writes.share(rt),
+        }
+    }
+}
