@@ -1,0 +1,153 @@
+-- What a session is answered: refused without a transaction, or by few events.
+use Rattle.std.proofs.Common.{◌≡◌, ℕ, ℤ, zero, suc, ◌+◌, ◌<◌, ◌≤◌, ◌^◌, ◌&&◌, Bool, true, false, List, [], ◌∷◌, ◌++◌, map, length, Option, None, Some, is_some, option_map, refl, sym, ap, ◌∙◌, subst, append-nil, arith, length-append, true≢false}
+use mathlib.Core.Logic.{inl, inr}
+use Rattle.std.specs.Prelude.{All, slice_get, unwrap_or}
+use Rattle.std.specs.Prelude.{option_to_list}
+use Rattle.std.proofs.lemmas.Bool.{and_parts}
+use Rattle.std.proofs.lemmas.List.{length-map}
+use Rattle.std.proofs.lemmas.List.Elements.{All-head, All-tail}
+use Rattle.std.proofs.lemmas.List.FromFn.{length-range_with_len}
+use Rattle.cell_model.specs.declared.table.TableDecl.{TableDecl}
+use Rattle.event_spec.specs.declared.own.OwnTransaction.{OwnTransaction}
+use Rattle.event_spec.specs.declared.event.Event.TheVariants as event
+use Rattle.event_spec.specs.Effects.{CoreEvent}
+use Rattle.event_spec.specs.Parts.{Shape, below, blocks_of}
+use Rattle.workload_spec.specs.Valid.{is_key_number, is_table_place}
+use Rattle.workload_spec.specs.declared.command.Command.{Command}
+use Rattle.workload_spec.specs.declared.command.Command.TheVariants as command
+use Rattle.workload_spec.specs.declared.reply.Said.{Said}
+use Rattle.workload_spec.specs.declared.reply.Said.TheVariants as said
+use Rattle.run_spec.specs.Asked.{at_blocks, events_of}
+use Rattle.run_spec.specs.Calls.{Call, IsCallBy}
+use Rattle.run_spec.specs.Handed.{own_in}
+use Rattle.run_spec.specs.Occurrences.{Occurrence, events_in}
+use Rattle.run_spec.specs.Opened.{own_after}
+use Rattle.run_spec.specs.Told.{refusal_of}
+use Rattle.shared_store.specs.Store.{Answers, IsSession, StoreView, events_made, own_of, seen, shape_in, taken_by}
+use Rattle.shared_store.specs.declared.session.Session.{Session}
+use Rattle.store_rounds.specs.Answered.{IsServed, is_of_transaction, most_events}
+
+-- ---- refused without a transaction
+
+refusal_is : (command : Command) → is_some (refusal_of command None) ≡ true → refusal_of command None ≡ Some said.NoTransaction
+refusal_is command.Begin some = absurd (true≢false (sym some))
+refusal_is (command.Get table key) some = refl
+refusal_is (command.Scan table) some = refl
+refusal_is (command.Insert table row) some = refl
+refusal_is (command.Update table row) some = refl
+refusal_is (command.Delete table key) some = refl
+refusal_is command.Commit some = refl
+refusal_is command.Abort some = refl
+refusal_is command.Observe some = absurd (true≢false (sym some))
+refusal_is command.Prune some = absurd (true≢false (sym some))
+refusal_is (command.Compact table) some = absurd (true≢false (sym some))
+refusal_is (command.Seal table block) some = absurd (true≢false (sym some))
+refusal_is (command.Gather table block) some = absurd (true≢false (sym some))
+refusal_is (command.Export table) some = refl
+
+none_open : {X : Type 0} (o : Option X) → is_some o ≡ false → o ≡ None
+none_open None none = refl
+none_open (Some x) none = absurd (true≢false none)
+
+pub refused : (store : StoreView) (s : Session) (command : Command) → IsSession store s
+    → is_some (refusal_of command None) ≡ true → is_some (own_of s) ≡ false → Answers store s s command said.NoTransaction
+refused store s command is needs closed =
+    let call : Call = record { command = command; made = []; told = Some said.NoTransaction } in
+    let nothing : own_after (own_in (shape_in store) s.session (seen s)) ≡ None = sym is.own ∙ none_open (own_of s) closed in
+    record {
+      made = [];
+      called = record {
+        goes_on = ([], sym (append-nil (seen s)));
+        made = sym (append-nil (own_in (shape_in store) s.session (seen s)));
+        is_call = subst (λ own. IsCallBy (shape_in store) false s.session own (refusal_of command own) call) (sym nothing)
+            (subst (λ told. IsCallBy (shape_in store) false s.session None told call) (sym (refusal_is command needs)) (refl, refl));
+      };
+      count = omega arith;
+      ends = tt;
+      took = record { parts = []; took = sym (append-nil (taken_by s)); touched = λ part has. absurd (true≢false (sym has)) };
+    }
+
+-- ---- tables
+
+table_there : (tables : List TableDecl) (table : ℕ) → is_some (slice_get tables table) ≡ true → table < length tables
+table_there [] table is = absurd (true≢false (sym is))
+table_there (t ∷ tables) zero is = omega arith
+table_there (t ∷ tables) (suc table) is = let low = table_there tables table is in omega (arith, low)
+
+-- a command names a table that there is
+pub table_of_key : (tables : List TableDecl) (table : ℕ) (key : ℤ) → (is_table_place tables table && is_key_number key) ≡ true → table < length tables
+table_of_key tables table key is = table_there tables table (and_parts (is_table_place tables table) (is_key_number key) is).0
+
+pub table_named : (tables : List TableDecl) (table : ℕ) → is_table_place tables table ≡ true → table < length tables
+table_named tables table is = table_there tables table is
+
+-- ---- by few events
+
+blocks_few : (tables : List TableDecl) (table : ℕ) → All (λ (t : TableDecl). t.blocks ≤ 2 ^ 10) tables
+    → unwrap_or (option_map (λ (t : TableDecl). t.blocks) (slice_get tables table)) 0 ≤ 2 ^ 10
+blocks_few [] table all = omega arith
+blocks_few (t ∷ tables) zero all = All-head (λ (t : TableDecl). t.blocks ≤ 2 ^ 10) t tables all
+blocks_few (t ∷ tables) (suc table) all = blocks_few tables table (All-tail (λ (t : TableDecl). t.blocks ≤ 2 ^ 10) t tables all)
+
+reads_few : (shape : Shape) (table : ℕ) (read : ℕ → CoreEvent) → blocks_of shape table ≤ 2 ^ 10 → length (at_blocks shape table read) ≤ 2 ^ 10
+reads_few shape table read few =
+    let each = length-map (below (blocks_of shape table)) read in
+    let all = length-range_with_len 0 (blocks_of shape table) in
+    omega (arith, each, all, few)
+
+thaw_and_write : (table : ℕ) (block : Option ℕ) (e : CoreEvent) → length (map (event.Thaw table) (option_to_list block) ++ e ∷ []) ≤ 2 ^ 10
+thaw_and_write table None e = omega arith
+thaw_and_write table (Some block) e = omega arith
+
+events_few : (shape : Shape) (own : Option OwnTransaction) (session : ℕ) (command : Command) (made : List Occurrence)
+    → ((table : ℕ) → blocks_of shape table ≤ 2 ^ 10) → is_of_transaction command ≡ true
+    → length (events_of shape own session command made) ≤ 2 ^ 10
+events_few shape own session command.Begin made few is = omega arith
+events_few shape None session (command.Get table key) made few is = omega arith
+events_few shape (Some t) session (command.Get table key) made few is = omega arith
+events_few shape None session (command.Scan table) made few is = omega arith
+events_few shape (Some t) session (command.Scan table) made few is = reads_few shape table (event.Read t table) (few table)
+events_few shape None session (command.Insert table row) made few is = omega arith
+events_few shape (Some t) session (command.Insert table row) made few is = omega arith
+events_few shape None session (command.Update table row) made few is = omega arith
+events_few shape (Some t) session (command.Update table row) made few is = thaw_and_write table _ _
+events_few shape None session (command.Delete table key) made few is = omega arith
+events_few shape (Some t) session (command.Delete table key) made few is = thaw_and_write table _ _
+events_few shape None session command.Commit made few is = omega arith
+events_few shape (Some t) session command.Commit made few is = omega arith
+events_few shape None session command.Abort made few is = omega arith
+events_few shape (Some t) session command.Abort made few is = omega arith
+events_few shape own session command.Observe made few is = absurd (true≢false (sym is))
+events_few shape own session command.Prune made few is = absurd (true≢false (sym is))
+events_few shape own session (command.Compact table) made few is = absurd (true≢false (sym is))
+events_few shape own session (command.Seal table block) made few is = absurd (true≢false (sym is))
+events_few shape own session (command.Gather table block) made few is = absurd (true≢false (sym is))
+events_few shape own session (command.Export table) made few is = absurd (true≢false (sym is))
+
+made_few : (shape : Shape) (worker : Bool) (session : ℕ) (own : Option OwnTransaction) (refusal : Option Said) (call : Call)
+    → ((table : ℕ) → blocks_of shape table ≤ 2 ^ 10) → is_of_transaction call.command ≡ true
+    → IsCallBy shape worker session own refusal call → length call.made ≤ 2 ^ 10
+made_few shape worker session own (Some line) call few is (none, told) = let e = ap length none in omega (arith, e)
+made_few shape worker session own None call few is (inl whole) =
+    let all = events_few shape own session call.command call.made few is in
+    let same = ap length whole.events in
+    let each = length-map call.made (λ (occurrence : Occurrence). occurrence.event) in
+    omega (arith, all, same, each)
+made_few shape worker session own None call few is (inr part) =
+    let all = events_few shape own session call.command call.made few is in
+    let same = ap length part.events in
+    let parted = length-append (events_in call.made) part.missed in
+    let each = length-map call.made (λ (occurrence : Occurrence). occurrence.event) in
+    omega (arith, all, same, parted, each)
+
+-- a command of a transaction makes few events
+pub few_events : (store : StoreView) (old new : Session) (command : Command) (told : Said)
+    → All (λ (t : TableDecl). t.blocks ≤ 2 ^ 10) (shape_in store).tables → IsServed (shape_in store).tables command
+    → Answers store old new command told → events_made new ≤ events_made old + most_events
+few_events store old new command told blocks served answers =
+    let few : (table : ℕ) → blocks_of (shape_in store) table ≤ 2 ^ 10 =
+    λ (table : ℕ). blocks_few (shape_in store).tables table blocks in
+    let made = made_few (shape_in store) false old.session (own_after (own_in (shape_in store) old.session (seen old)))
+    (refusal_of command (own_after (own_in (shape_in store) old.session (seen old))))
+    (record { command = command; made = answers.made; told = Some told }) few served.kind answers.called.is_call in
+    omega (arith, made, answers.count)

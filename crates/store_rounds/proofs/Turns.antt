@@ -1,0 +1,144 @@
+-- A session's turn, command by command.
+use Rattle.std.proofs.Common.{◌≡◌, ℕ, ◌+◌, ◌*◌, ◌≤◌, false, List, [], ◌∷◌, ◌++◌, length, Some, refl, sym, ap, ◌∙◌, subst, append-nil, append_assoc, arith, length-append}
+use Rattle.std.specs.Prelude.{All}
+use Rattle.std.proofs.lemmas.List.{length-map, length_push, map-append}
+use Rattle.std.proofs.lemmas.List.Elements.{All-append, All-cons, All-head, All-nil, All-tail, filter_map-append}
+use Rattle.workload_spec.specs.ReplyText.{reply_text}
+use Rattle.workload_spec.specs.declared.command.Command.{Command}
+use Rattle.workload_spec.specs.declared.reply.Said.{Said}
+use Rattle.workload_spec.specs.declared.reply.Who.TheVariants.{Session as TheSession}
+use Rattle.run_spec.specs.Calls.{Call}
+use Rattle.run_spec.specs.Handed.{Called}
+use Rattle.round_laws.proofs.Lines.{shares_grow}
+use Rattle.round_laws.proofs.Working.{nothing_done, work_goes_on}
+use Rattle.round_laws.specs.Lines.{line_behind, line_of, share_text, told_by}
+use Rattle.round_laws.specs.Texts.{IsCounted}
+use Rattle.shared_store.specs.Store.{Answers, HasRoomFor, IsSession, StoreView, events_made, seen, shape_in}
+use Rattle.shared_store.specs.declared.session.Session.{Session}
+use Rattle.store_rounds.specs.Answered.{Counts, most_events}
+use Rattle.store_rounds.specs.Worked.{Worked, WorkedInPart, WorkedWhole, asked_in, share_of}
+
+-- A session within its turn: these commands were carried out, and told so many lines.
+pub record Turn (store : StoreView) (round : ℕ) (old now : Session) (commands : List Command) (before after : List ℕ) (index : ℕ) : Type 0 where
+  pub calls : List Call
+  pub worked : Worked store old now calls
+  pub asked : asked_in calls ≡ commands
+  pub text : after ≡ before ++ share_text (shape_in store).tables round (share_of old.session calls)
+  pub told : index ≡ length (told_by calls)
+  pub count : index ≡ length commands
+
+pub turn_begins : (store : StoreView) (round : ℕ) (session : Session) (text : List ℕ)
+    → IsSession store session → Turn store round session session [] text text 0
+turn_begins store round session text is = record {
+  calls = [];
+  worked = record { is_session = is; same = refl; works = nothing_done (shape_in store) false session.session (seen session); counted = All-nil IsCounted; few = omega arith };
+  asked = refl;
+  text = sym (append-nil text);
+  told = refl;
+  count = refl;
+}
+
+-- one call more
+pub worked_more : (store : StoreView) (old now new : Session) (calls : List Call) (command : Command) (told : Said)
+    → Worked store old now calls → IsSession store new → new.session ≡ now.session
+    → (answers : Answers store now new command told) → Counts told → events_made new ≤ events_made now + most_events
+    → Worked store old new (calls ++ record { command = command; made = answers.made; told = Some told } ∷ [])
+worked_more store old now new calls command told worked is same answers counts few =
+    let call : Call = record { command = command; made = answers.made; told = Some told } in
+    record {
+      is_session = is;
+      same = same ∙ worked.same;
+      works = work_goes_on (shape_in store) false old.session (seen old) (seen now) (seen new) calls call worked.works
+          (subst (λ n. Called (shape_in store) false n (seen now) (seen new) call) worked.same answers.called);
+      counted = All-append IsCounted calls (call ∷ []) worked.counted
+          (All-cons IsCounted call [] (λ count e. counts count (told_is count e)) (All-nil IsCounted));
+      few = let more = length_push calls call in let before = worked.few in omega (arith, few, before, more);
+    }
+  where
+    told_is : (count : ℕ) → Some told ≡ Some (Rattle.workload_spec.specs.declared.reply.Said.TheVariants.Pruned count) → told ≡ Rattle.workload_spec.specs.declared.reply.Said.TheVariants.Pruned count
+    told_is count e = cc
+
+pub turn_goes_on : (store : StoreView) (round : ℕ) (old now new : Session) (commands : List Command) (before after later : List ℕ) (index : ℕ) (command : Command) (told : Said)
+    → Turn store round old now commands before after index
+    → IsSession store new → new.session ≡ now.session → Answers store now new command told → Counts told → events_made new ≤ events_made now + most_events
+    → later ≡ after ++ reply_text (shape_in store).tables (line_of round (TheSession new.session) (index + 1) told)
+    → Turn store round old new (commands ++ command ∷ []) before later (index + 1)
+turn_goes_on store round old now new commands before after later index command told turn is same answers counts few grown =
+    let call : Call = record { command = command; made = answers.made; told = Some told } in
+    let next : index + 1 ≡ 1 + length (told_by turn.calls) = omega (arith, turn.told) in
+    let whose : new.session ≡ old.session = same ∙ turn.worked.same in
+    record {
+      calls = turn.calls ++ call ∷ [];
+      worked = worked_more store old now new turn.calls command told turn.worked is same answers counts few;
+      asked = map-append (λ (call : Call). call.command) turn.calls (call ∷ []) ∙ ap (λ (cs : List Command). cs ++ command ∷ []) turn.asked;
+      text = grown
+          ∙ ap (λ (n : ℕ). after ++ reply_text (shape_in store).tables (line_of round (TheSession n) (index + 1) told)) whose
+          ∙ ap (λ (n : ℕ). after ++ reply_text (shape_in store).tables (line_of round (TheSession old.session) n told)) next
+          ∙ ap (λ (text : List ℕ). text ++ line_behind (shape_in store).tables round (TheSession old.session) turn.calls (Some told)) turn.text
+          ∙ append_assoc before (share_text (shape_in store).tables round (share_of old.session turn.calls)) (line_behind (shape_in store).tables round (TheSession old.session) turn.calls (Some told))
+          ∙ ap (λ (text : List ℕ). before ++ text) (sym (shares_grow (shape_in store).tables round (TheSession old.session) turn.calls call));
+      told = next ∙ (let e : 1 + length (told_by turn.calls) ≡ length (told_by turn.calls) + 1 = omega arith in e)
+          ∙ sym (length_push (told_by turn.calls) told)
+          ∙ ap length (sym (filter_map-append (λ (call : Call). call.told) turn.calls (call ∷ [])));
+      count = ap (λ n. n + 1) turn.count ∙ sym (length_push commands command);
+    }
+
+-- the commands of a turn that is over
+pub turn_ends : (store : StoreView) (round : ℕ) (old now : Session) (commands all : List Command) (before after : List ℕ) (index : ℕ)
+    → Turn store round old now commands before after index → commands ≡ all
+    → WorkedWhole store round old now all before after
+turn_ends store round old now commands all before after index turn same = record {
+  calls = turn.calls;
+  worked = turn.worked;
+  asked = turn.asked ∙ same;
+  text = turn.text;
+}
+
+-- a turn that stops before a command, or behind one
+pub turn_stops : (store : StoreView) (round : ℕ) (old now : Session) (commands rest all : List Command) (before after : List ℕ) (index : ℕ)
+    → Turn store round old now commands before after index → commands ++ rest ≡ all
+    → WorkedInPart store old now all
+turn_stops store round old now commands rest all before after index turn split = record {
+  calls = turn.calls;
+  worked = turn.worked;
+  rest = rest;
+  asked = sym split ∙ ap (λ (cs : List Command). cs ++ rest) (sym turn.asked);
+}
+
+pub turn_stops_behind : (store : StoreView) (round : ℕ) (old now new : Session) (commands rest all : List Command) (before after : List ℕ) (index : ℕ) (command : Command) (told : Said)
+    → Turn store round old now commands before after index → commands ++ command ∷ rest ≡ all
+    → IsSession store new → new.session ≡ now.session → Answers store now new command told → Counts told → events_made new ≤ events_made now + most_events
+    → WorkedInPart store old new all
+turn_stops_behind store round old now new commands rest all before after index command told turn split is same answers counts few = record {
+  calls = turn.calls ++ record { command = command; made = answers.made; told = Some told } ∷ [];
+  worked = worked_more store old now new turn.calls command told turn.worked is same answers counts few;
+  rest = rest;
+  asked = sym split
+      ∙ sym (append_assoc commands (command ∷ []) rest)
+      ∙ ap (λ (cs : List Command). cs ++ rest)
+      (ap (λ (cs : List Command). cs ++ command ∷ []) (sym turn.asked)
+      ∙ sym (map-append (λ (call : Call). call.command) turn.calls (record { command = command; made = answers.made; told = Some told } ∷ [])));
+}
+
+-- a session that may make the events of all its commands may make those of the next one
+pub turn_has_room : (store : StoreView) (round : ℕ) (old now : Session) (commands rest all : List Command) (before after : List ℕ) (index : ℕ) (command : Command)
+    → Turn store round old now commands before after index → commands ++ command ∷ rest ≡ all
+    → HasRoomFor (most_events * length all) old → HasRoomFor most_events now
+turn_has_room store round old now commands rest all before after index command turn split room =
+    let made = turn.worked.few in
+    let each = length-map turn.calls (λ (call : Call). call.command) in
+    let asked = ap length turn.asked in
+    let whole = ap length split in
+    let parted = length-append commands (command ∷ rest) in
+    omega (arith, made, each, asked, whole, parted, room)
+
+-- what all of a list have, one of them has
+pub all_at : {X : Type 0} (P : X → Type 0) (front rest all : List X) (x : X) → front ++ x ∷ rest ≡ all → All P all → P x
+all_at P [] rest all x split each = All-head P x rest (subst (All P) (sym split) each)
+all_at P (y ∷ front) rest all x split each =
+    all_at P front rest (front ++ x ∷ rest) x refl (All-tail P y (front ++ x ∷ rest) (subst (All P) (sym split) each))
+
+-- nothing is left
+pub none_left : {X : Type 0} (front rest all : List X) → length rest ≡ 0 → front ++ rest ≡ all → front ≡ all
+none_left front [] all e split = sym (append-nil front) ∙ split
+none_left front (x ∷ rest) all e split = absurd (omega (arith, e))

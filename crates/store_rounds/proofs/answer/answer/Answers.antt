@@ -1,0 +1,25 @@
+use Rattle.std.proofs.Common.{ap, sym, ◌∙◌}
+use Rattle.workload_spec.specs.Valid.{is_command}
+use Rattle.shared_store.specs.Store.{shape_in}
+use Rattle.store_rounds.proofs.Answering.{refused, table_named, table_of_key}
+use Rattle.store_rounds.proofs.answer.answer.Goals as goal
+
+pub returns-then-not-busy-clause-answers : goal.returns-then-not-busy-clause-answers
+returns-then-not-busy-clause-answers g c =
+    refused c.args.store.now c.args.session.now c.args.command c.requires.session
+    (sym c.needs_transaction.ensures ∙ c.if-needs_transaction.true) (sym c.busy.ensures ∙ c.if-not-busy.true)
+
+pub get-requires-clause-table : goal.get-requires-clause-table
+get-requires-clause-table g c =
+    table_of_key (shape_in c.args.store.now).tables c.in-Get.table c.in-Get.key
+    (ap (is_command (shape_in c.args.store.now).tables) (sym c.in-Get.is) ∙ c.requires.command.fits)
+
+pub scan-requires-clause-table : goal.scan-requires-clause-table
+scan-requires-clause-table g c =
+    table_named (shape_in c.args.store.now).tables c.in-Scan.table
+    (ap (is_command (shape_in c.args.store.now).tables) (sym c.in-Scan.is) ∙ c.requires.command.fits)
+
+pub delete-requires-clause-table : goal.delete-requires-clause-table
+delete-requires-clause-table g c =
+    table_of_key (shape_in c.args.store.now).tables c.in-Delete.table c.in-Delete.key
+    (ap (is_command (shape_in c.args.store.now).tables) (sym c.in-Delete.is) ∙ c.requires.command.fits)

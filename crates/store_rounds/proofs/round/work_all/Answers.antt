@@ -1,0 +1,61 @@
+use Rattle.std.proofs.Common.{◌≡◌, ◌+◌, List, ◌∷◌, ◌++◌, [], arith, ap, ◌∙◌, refl, sym, append_assoc}
+use Rattle.std.specs.Vec.Iter.{into_iter_items}
+use Rattle.std.proofs.lemmas.List.{length_push}
+use Rattle.store_rounds.specs.declared.agenda.Agenda.{Agenda}
+use Rattle.store_rounds.proofs.RowWork.{agenda_at, is_inside, row_begins, row_goes_on, room_at, row_stops, set_length, where_err}
+use Rattle.store_rounds.proofs.round.work_all.Goals as goal
+
+pub loop-agenda-init : goal.loop-agenda-init
+loop-agenda-init g c = record {
+  turn = row_begins c.args.store.now c.args.lines.now.round c.args.row.now c.args.agendas.items c.args.lines.now.text.items c.requires.sessions;
+  round = refl;
+  split = c.into_iter-agenda-iterator.ensures.into_iter_gives.0;
+  count = refl;
+  size = refl;
+  few = omega (arith, c.args.agendas.ok.0, c.args.agendas.ok.1, c.args.agendas.small);
+}
+
+pub loop-agenda-preserved : goal.loop-agenda-preserved
+loop-agenda-preserved g c =
+    let inv = c.loop-agenda.invariant in
+    let rest : List Agenda = into_iter_items c.next.new.self in
+    let split : c.loop-agenda.yielded ++ c.in-Some.agenda ∷ rest ≡ c.args.agendas.items =
+    ap (λ (agendas : List Agenda). c.loop-agenda.yielded ++ agendas) (sym c.in-Some.ensures.steps.0) ∙ inv.split in
+    let inside = is_inside c.loop-agenda.yielded rest c.args.agendas.items c.in-Some.agenda c.loop-agenda.«at» split inv.count in
+    record {
+      turn = row_goes_on c.args.store.now c.args.lines.now.round c.args.row.now c.loop-agenda.row c.args.agendas.items
+          c.args.lines.now.text.items c.loop-agenda.lines.text.items c.work.new.lines.text.items c.loop-agenda.«at» _ c.work.new.session c.in-Some.agenda.commands.items
+          c.loop-agenda.lines.round
+          inv.turn (omega (arith, inside, c.requires.size)) c.requires.numbers inv.round c.in_ok-work.ensures.whole
+          (agenda_at c.loop-agenda.yielded rest c.args.agendas.items c.in-Some.agenda c.loop-agenda.«at» split inv.count);
+      round = c.work.ensures.round ∙ inv.round;
+      split = append_assoc c.loop-agenda.yielded (c.in-Some.agenda ∷ []) rest ∙ split;
+      count = length_push c.loop-agenda.yielded c.in-Some.agenda ∙ ap (λ n. n + 1) inv.count;
+      size = set_length c.loop-agenda.row c.work.new.session c.loop-agenda.«at» ∙ inv.size;
+      few = inv.few;
+    }
+
+pub work-requires-clause-room : goal.work-requires-clause-room
+work-requires-clause-room g c =
+    let inv = c.loop-agenda.invariant in
+    let rest : List Agenda = into_iter_items c.next.new.self in
+    let split : c.loop-agenda.yielded ++ c.in-Some.agenda ∷ rest ≡ c.args.agendas.items =
+    ap (λ (agendas : List Agenda). c.loop-agenda.yielded ++ agendas) (sym c.in-Some.ensures.steps.0) ∙ inv.split in
+    let inside = is_inside c.loop-agenda.yielded rest c.args.agendas.items c.in-Some.agenda c.loop-agenda.«at» split inv.count in
+    room_at c.args.store.now c.args.lines.now.round c.args.row.now c.loop-agenda.row c.args.agendas.items
+    c.args.lines.now.text.items c.loop-agenda.lines.text.items c.loop-agenda.«at» _ c.in-Some.agenda c.in-Some.agenda.commands.items
+    inv.turn (omega (arith, inside, c.requires.size)) c.requires.room
+    (agenda_at c.loop-agenda.yielded rest c.args.agendas.items c.in-Some.agenda c.loop-agenda.«at» split inv.count)
+
+pub returns-in_err-work-clause-part : goal.returns-in_err-work-clause-part
+returns-in_err-work-clause-part g c =
+    let inv = c.loop-agenda.invariant in
+    let rest : List Agenda = into_iter_items c.next.new.self in
+    let split : c.loop-agenda.yielded ++ c.in-Some.agenda ∷ rest ≡ c.args.agendas.items =
+    ap (λ (agendas : List Agenda). c.loop-agenda.yielded ++ agendas) (sym c.in-Some.ensures.steps.0) ∙ inv.split in
+    let inside = is_inside c.loop-agenda.yielded rest c.args.agendas.items c.in-Some.agenda c.loop-agenda.«at» split inv.count in
+    where_err c.from_residual.result
+    (row_stops c.args.store.now c.args.lines.now.round c.args.row.now c.loop-agenda.row c.args.agendas.items
+    c.args.lines.now.text.items c.loop-agenda.lines.text.items c.loop-agenda.«at» _ c.work.new.session c.in-Some.agenda.commands.items
+    inv.turn (omega (arith, inside, c.requires.size)) c.in_err-work.ensures.part
+    (agenda_at c.loop-agenda.yielded rest c.args.agendas.items c.in-Some.agenda c.loop-agenda.«at» split inv.count))

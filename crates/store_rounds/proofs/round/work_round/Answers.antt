@@ -1,0 +1,25 @@
+use Rattle.std.proofs.Common.{length}
+use Rattle.shared_store.specs.Store.{shape_in}
+use Rattle.store_rounds.specs.Answered.{IsServed}
+use Rattle.store_rounds.proofs.RowWork.{agendas_have, room_to_work, round_stopped, round_worked, stopped_at_once}
+use Rattle.store_rounds.proofs.round.work_round.Goals as goal
+
+pub returns-in_default-clause-part : goal.returns-in_default-clause-part
+returns-in_default-clause-part g c = stopped_at_once c.args.store.now c.args.row.now c.args.round c.requires.sessions
+
+pub work_all-requires-clause-commands : goal.work_all-requires-clause-commands
+work_all-requires-clause-commands g c =
+    agendas_have (IsServed (shape_in c.args.store.now).tables) (length c.args.row.now) c.args.round c.in-Ok.agendas.items c.in-Ok.ensures c.requires.commands
+
+pub work_all-requires-clause-room : goal.work_all-requires-clause-room
+work_all-requires-clause-room g c =
+    room_to_work c.args.row.now c.args.round c.in-Ok.agendas.items c.in-Ok.ensures c.requires.room
+
+pub returns-in-Ok-work_all-clause-whole : goal.returns-in-Ok-work_all-clause-whole
+returns-in-Ok-work_all-clause-whole g c =
+    round_worked c.args.store.now c.args.number c.args.row.now c.work_all.new.row c.in-Ok.agendas.items c.args.round _ _
+    c.new.ensures.items c.in-Ok.ensures c.in-Ok-work_all.ensures.whole
+
+pub returns-in-Err-clause-part : goal.returns-in-Err-clause-part
+returns-in-Err-clause-part g c =
+    round_stopped c.args.store.now c.args.row.now c.work_all.new.row c.in-Ok.agendas.items c.args.round c.in-Ok.ensures c.in-Err.ensures.part

@@ -1,0 +1,12 @@
+use Rattle.std.proofs.Common.{◌≡◌, ◌<◌, ◌^◌, ◌++◌, length}
+use Rattle.std.specs.Vec.Iter.{into_iter_items}
+use Rattle.store_rounds.proofs.Turns.{Turn}
+use Rattle.store_rounds.proofs.work.work.Given as goal
+
+abbrev pub invariant-loop-command : goal.invariant-loop-command
+invariant-loop-command g l = record {
+  turn : Turn l.store l.fn.lines.round l.fn.session l.session l.yielded l.fn.lines.text.items l.lines.text.items l.index;
+  round : l.lines.round ≡ l.fn.lines.round;
+  split : l.yielded ++ into_iter_items l.command-iterator ≡ l.fn.commands.items;
+  few : length l.fn.commands.items < 2 ^ 63;
+}

@@ -1,0 +1,6 @@
+pub mod Answered
+pub mod Worked
+pub mod Row
+pub mod Agendas
+pub mod Rounds
+pub mod Runs

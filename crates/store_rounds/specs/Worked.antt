@@ -1,0 +1,45 @@
+-- What a session did in a round, and the text of its lines.
+use Rattle.std.specs.Prelude.{◌≡◌, ℕ, ◌+◌, ◌*◌, ◌≤◌, false, List, ◌++◌, map, All, length}
+use Rattle.workload_spec.specs.declared.command.Command.{Command}
+use Rattle.workload_spec.specs.declared.reply.Who.TheVariants.{Session as TheSession}
+use Rattle.run_spec.specs.Calls.{Call}
+use Rattle.run_spec.specs.Handed.{Works}
+use Rattle.run_spec.specs.Ran.{Share}
+use Rattle.round_laws.specs.Lines.{share_text}
+use Rattle.round_laws.specs.Texts.{IsCounted}
+use Rattle.shared_store.specs.Store.{IsSession, StoreView, events_made, seen, shape_in}
+use Rattle.shared_store.specs.declared.session.Session.{Session}
+use Rattle.store_rounds.specs.Answered.{most_events}
+
+-- A session of the store carried out these calls, one behind the other.
+pub record Worked (store : StoreView) (old new : Session) (calls : List Call) : Type 0 where
+  pub is_session : IsSession store new
+  pub same : new.session ≡ old.session
+  pub works : Works (shape_in store) false old.session (seen old) calls (seen new)
+  pub counted : All IsCounted calls
+  pub few : events_made new ≤ events_made old + most_events * length calls
+
+abbrev pub asked_in : List Call → List Command
+asked_in calls = map (λ call. call.command) calls
+
+abbrev pub share_of : ℕ → List Call → Share
+share_of session calls = record { who = TheSession session; calls = calls }
+
+-- It carried out all of these commands, and the text grew by their lines.
+pub record WorkedWhole
+    (store : StoreView) (round : ℕ) (old new : Session) (commands : List Command)
+    (before after : List ℕ)
+    : Type 0 where
+  pub calls : List Call
+  pub worked : Worked store old new calls
+  pub asked : asked_in calls ≡ commands
+  pub text
+      : after
+      ≡ before ++ share_text (shape_in store).tables round (share_of old.session calls)
+
+-- It carried out the first of these commands.
+pub record WorkedInPart (store : StoreView) (old new : Session) (commands : List Command) : Type 0 where
+  pub calls : List Call
+  pub worked : Worked store old new calls
+  pub rest : List Command
+  pub asked : commands ≡ asked_in calls ++ rest

@@ -1,0 +1,73 @@
+//! A session's command, carried out by its store call.
+ghost use Rattle.std.specs.Prelude.{◌≡◌, None, is_some};
+ghost use Rattle.run_spec.specs.Told.{refusal_of};
+ghost use Rattle.shared_store.specs.Store.{Answers, HasRoomFor, IsSession, shape_in};
+ghost use Rattle.store_rounds.specs.Answered.{Counts, IsServed, most_events};
+
+use crate::told::{begun, found, scanned, written};
+use shared_store::{Session, Store};
+use std::sync::Wait;
+use workload_spec::{Command, Said};
+
+/// Carries out a session's command, and gives the line that it is told.
+///
+/// Without a transaction a command that needs one makes no event, and is told so.
+pub(crate) fn answer<R: Wait>(
+    rt: &R,
+    store: &Store,
+    session: &mut Session,
+    command: Command,
+) -> Said
+    requires session { IsSession store.now session.old }
+    requires room { HasRoomFor most_events session.old }
+    requires command { IsServed (shape_in store.now).tables command }
+    ensures session { IsSession store.now session.new }
+    ensures same { session.new.session ≡ session.old.session }
+    ensures answers { Answers store.now session.old session.new command result }
+    ensures counts { Counts result }
+{
+    if needs_transaction(&command) && !session.busy() {
+        return Said::NoTransaction;
+    }
+    match command {
+        Command::Begin => begun(store.begin(rt, session)),
+        Command::Get { table, key } => found(store.get(rt, session, table, key)),
+        Command::Scan { table } => scanned(store.scan(rt, session, table)),
+        Command::Insert { table, row } => written(table, store.insert(rt, session, table, row)),
+        Command::Update { table, row } => written(table, store.update(rt, session, table, row)),
+        Command::Delete { table, key } => written(table, store.delete(rt, session, table, key)),
+        Command::Commit => Said::Committed(store.commit(rt, session)),
+        Command::Abort => {
+            store.abort(rt, session);
+            Said::Aborted
+        }
+        Command::Observe
+        | Command::Prune
+        | Command::Compact { .. }
+        | Command::Seal { .. }
+        | Command::Gather { .. }
+        | Command::Export { .. } => unreachable!(),
+    }
+}
+
+/// Whether the command is refused without a transaction.
+fn needs_transaction(command: &Command) -> bool
+    ensures { result ≡ is_some (refusal_of command.now None) }
+{
+    match command {
+        Command::Begin
+        | Command::Observe
+        | Command::Prune
+        | Command::Compact { .. }
+        | Command::Seal { .. }
+        | Command::Gather { .. } => false,
+        Command::Get { .. }
+        | Command::Scan { .. }
+        | Command::Insert { .. }
+        | Command::Update { .. }
+        | Command::Delete { .. }
+        | Command::Commit
+        | Command::Abort
+        | Command::Export { .. } => true,
+    }
+}

@@ -1,0 +1,10 @@
+//! Why a run ends before its last round.
+
+/// Why a run ends before its last round.
+#[derive(Clone, Copy, Debug, PartialEq, Eq)]
+pub enum RunFault {
+    /// The output took no more bytes.
+    Out,
+    /// There was no memory for the commands or the lines of a round.
+    Memory,
+}
