@@ -64,6 +64,28 @@ pub took_none : (shape : Shape) (events : List CoreEvent) (log : List Logged) (t
 took_none shape events log taken = record { parts = []; took = sym (append-nil taken); touched = λ k is. absurd (true≢false (sym is)) }
 
 -- A call of one event: the session behind it, and what it answers.
+pub one_event_at : (store : StoreView) (old new : Session) (command : Command) (e : CoreEvent) (told : CoreReply) (line : Said)
+    → IsSession store old
+    → (m : Makes store old.session old.pass.seat new.pass.seat new.pass.hands (own_of old) e told)
+    → new.session ≡ old.session
+    → own_of new ≡ own_behind (own_of old) e told
+    → refusal_of command (own_of old) ≡ None
+    → events_of (shape_in store) (own_of old) old.session command (occurrence_at old.session (parts_after (shape_in store) m.makes.before) e told ∷ []) ≡ e ∷ []
+    → TellsLine (own_of old) command told line
+    → IsSession store new × Answers store old new command line
+one_event_at store old new command e told line is m same own_now granted events tells = (
+  session_is store new (subst (λ q. IsAt store q new.pass.seat new.pass.hands (own_of new)) (sym same)
+      (subst (IsAt store old.session new.pass.seat new.pass.hands) (sym own_now) m.stands)),
+  record {
+    made = occurrence_at old.session (parts_after (shape_in store) m.makes.before) e told ∷ [];
+    called = single_events_are_calls (shape_in store) old.session (seen old) (seen new) (own_of old) command e told line is.own granted m.makes events tells;
+    count = m.count;
+    ends = (m.makes.before, m.makes.log);
+    took = subst (λ es. TookPartsOf (shape_in store) es (seen old) (seen new) (taken_by old) (taken_by new)) (sym events) m.took;
+  },
+)
+
+-- The same of a command whose events hang on nothing that was made.
 pub one_event : (store : StoreView) (old new : Session) (command : Command) (e : CoreEvent) (told : CoreReply) (line : Said)
     → IsSession store old
     → Makes store old.session old.pass.seat new.pass.seat new.pass.hands (own_of old) e told
@@ -73,19 +95,9 @@ pub one_event : (store : StoreView) (old new : Session) (command : Command) (e :
     → ((events : List Occurrence) → events_of (shape_in store) (own_of old) old.session command events ≡ e ∷ [])
     → TellsLine (own_of old) command told line
     → IsSession store new × Answers store old new command line
-one_event store old new command e told line is m same own_now granted events tells = (
-  session_is store new (subst (λ q. IsAt store q new.pass.seat new.pass.hands (own_of new)) (sym same)
-      (subst (IsAt store old.session new.pass.seat new.pass.hands) (sym own_now) m.stands)),
-  record {
-    made = occurrence_at old.session (parts_after (shape_in store) m.makes.before) e told ∷ [];
-    called = single_events_are_calls (shape_in store) old.session (seen old) (seen new) (own_of old) command e told line is.own granted m.makes
-        (events (occurrence_at old.session (parts_after (shape_in store) m.makes.before) e told ∷ [])) tells;
-    count = m.count;
-    ends = (m.makes.before, m.makes.log);
-    took = subst (λ es. TookPartsOf (shape_in store) es (seen old) (seen new) (taken_by old) (taken_by new))
-        (sym (events (occurrence_at old.session (parts_after (shape_in store) m.makes.before) e told ∷ []))) m.took;
-  },
-)
+one_event store old new command e told line is m same own_now granted events tells =
+    one_event_at store old new command e told line is m same own_now granted
+    (events (occurrence_at old.session (parts_after (shape_in store) m.makes.before) e told ∷ [])) tells
 
 -- A call without an event leaves the session as it was.
 pub no_event : (store : StoreView) (s : Session) (command : Command) (line : Said) → IsSession store s → refusal_of command (own_of s) ≡ Some line → Answers store s s command line

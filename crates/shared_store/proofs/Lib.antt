@@ -1,10 +1,13 @@
 pub mod BlockReads
 pub mod Calls
 pub mod Changed
+pub mod Freezes
 pub mod Hands
+pub mod Imagings
 pub mod Laid
 pub mod Made
 pub mod Maps
+pub mod Observed
 pub mod Rows
 pub mod Scanned
 pub mod Sessions

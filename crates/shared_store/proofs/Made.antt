@@ -200,7 +200,7 @@ module _ (store : StoreView) (s t : SeatView) (held hands : HandsView) (e : Core
 -- ---- the event
 
 -- lists that each end with one item more are the same before it, where they are one
-fronts : {X : Type 0} (xs ys : List X) (x y : X) → xs ++ x ∷ [] ≡ ys ++ y ∷ [] → xs ≡ ys
+pub fronts : {X : Type 0} (xs ys : List X) (x y : X) → xs ++ x ∷ [] ≡ ys ++ y ∷ [] → xs ≡ ys
 fronts [] [] x y e = refl
 fronts [] (b ∷ ys) x y e = let l : 1 ≡ suc (length (ys ++ y ∷ [])) = ap length e in let m = length-append ys (y ∷ []) in absurd (omega (arith, l, m))
 fronts (a ∷ xs) [] x y e = let l : suc (length (xs ++ x ∷ [])) ≡ 1 = ap length e in let m = length-append xs (x ∷ []) in absurd (omega (arith, l, m))

@@ -20,7 +20,7 @@ use Rattle.run_spec.specs.Handed.{GoesOn, own_in}
 use Rattle.run_spec.specs.Occurrences.{Logged, Occurrence, events_in, replies_in}
 use Rattle.run_spec.specs.Told.{refusal_of, rows_told}
 use Rattle.store_laws.proofs.Calling.{goes_far, made_on}
-use Rattle.store_laws.specs.Own.{entry_of, occurrence_at, parts_after}
+use Rattle.store_laws.specs.Own.{MakesOne, entry_of, occurrence_at, parts_after}
 use Rattle.workload_spec.specs.declared.command.Command.{Command}
 use Rattle.workload_spec.specs.declared.command.Command.TheVariants.{Scan}
 use Rattle.workload_spec.specs.declared.reply.Said.{Said}
@@ -30,7 +30,7 @@ use Rattle.shared_store.specs.declared.reading.BlockRows.{BlockRows}
 use Rattle.shared_store.specs.declared.reading.BlockRows.TheVariants as block
 use Rattle.shared_store.specs.Told.{scanned_told}
 use Rattle.shared_store.specs.Scanning.{ArePlain, Scans, laid}
-use Rattle.shared_store.specs.Store.{Answers, IsSession, IsTouched, StoreView, TookPartsOf, own_of, seen, shape_in, taken_by}
+use Rattle.shared_store.specs.Store.{Answers, IsSession, IsTouched, StoreView, TookPartsOf, own_of, seen, shape_in, taken_by, events_made}
 use Rattle.shared_store.specs.declared.session.Session.{Session}
 use Rattle.shared_store.proofs.Calls.{took_none}
 use Rattle.shared_store.proofs.Laid.{laid_all}
@@ -89,31 +89,42 @@ went_nowhere store s events is = record {
 abbrev read_at : (store : StoreView) (old mid new : Session) (own : OwnTransaction) (t b : ℕ) (told : CoreReply) → ReadsBlock store mid new own t b told → Occurrence
 read_at store old mid new own t b told r = occurrence_at old.session (parts_after (shape_in store) r.makes.before) (event.Read own t b) told
 
+-- one event more, of those that the command makes
+pub went_more : (store : StoreView) (old mid new : Session) (e : CoreEvent) (told : CoreReply) (events : List CoreEvent) (made : List Occurrence)
+    → Went store old mid events made → IsSession store new → new.session ≡ mid.session → own_of new ≡ own_of mid
+    → (m : MakesOne (shape_in store) mid.session (seen mid) (seen new) e told) → events_made new ≡ events_made mid + 1
+    → TookPartsOf (shape_in store) (e ∷ []) (seen mid) (seen new) (taken_by mid) (taken_by new) → Among e events
+    → Went store old new events (made ++ occurrence_at old.session (parts_after (shape_in store) m.before) e told ∷ [])
+went_more store old mid new e told events made w is same opened m one took among = record {
+  session = is;
+  same = same ∙ w.same;
+  opened = opened ∙ w.opened;
+  goes_on = goes_far (seen old) (seen mid) (seen new) w.goes_on on;
+  own = subst (λ q. own_in (shape_in store) q (seen new) ≡ own_in (shape_in store) q (seen mid) ++ occurrence_at q (parts_after (shape_in store) m.before) e told ∷ []) w.same m.own
+      ∙ ap (λ os. os ++ last ∷ []) w.own
+      ∙ append_assoc (own_in (shape_in store) old.session (seen old)) made (last ∷ []);
+  count =
+      let a = w.count in
+      let c : length (made ++ last ∷ []) ≡ length made + 1 = length-append made (last ∷ []) in
+      omega (arith, a, one, c);
+  ends = subst (λ o. IfSome o (λ last. (before : List Logged) × (seen new ≡ before ++ entry_of last.session last.event last.reply ∷ [])))
+      (sym (last_added None made last))
+      (m.before, subst (λ q. seen new ≡ m.before ++ entry_of q e told ∷ []) w.same m.log);
+  took = took_more (shape_in store) events e (seen old) (seen mid) (seen new) (taken_by old) (taken_by mid) (taken_by new) among w.goes_on on w.took took;
+}
+  where
+    last : Occurrence
+    last = occurrence_at old.session (parts_after (shape_in store) m.before) e told
+
+    on : GoesOn (seen mid) (seen new)
+    on = made_on (shape_in store) mid.session (seen mid) (seen new) e told m
+
 -- one read more
 went_on : (store : StoreView) (old mid new : Session) (own : OwnTransaction) (t b : ℕ) (told : CoreReply) (events : List CoreEvent) (made : List Occurrence)
     → Went store old mid events made → (r : ReadsBlock store mid new own t b told) → Among (event.Read own t b) events
     → Went store old new events (made ++ read_at store old mid new own t b told r ∷ [])
-went_on store old mid new own t b told events made w r one = record {
-  session = r.session;
-  same = r.same ∙ w.same;
-  opened = r.opened ∙ w.opened;
-  goes_on = goes_far (seen old) (seen mid) (seen new) w.goes_on on;
-  own = subst (λ q. own_in (shape_in store) q (seen new) ≡ own_in (shape_in store) q (seen mid) ++ occurrence_at q (parts_after (shape_in store) r.makes.before) (event.Read own t b) told ∷ []) w.same r.makes.own
-      ∙ ap (λ os. os ++ read_at store old mid new own t b told r ∷ []) w.own
-      ∙ append_assoc (own_in (shape_in store) old.session (seen old)) made (read_at store old mid new own t b told r ∷ []);
-  count =
-      let a = w.count in
-      let b' = r.count in
-      let c : length (made ++ read_at store old mid new own t b told r ∷ []) ≡ length made + 1 = length-append made (read_at store old mid new own t b told r ∷ []) in
-      omega (arith, a, b', c);
-  ends = subst (λ o. IfSome o (λ last. (before : List Logged) × (seen new ≡ before ++ entry_of last.session last.event last.reply ∷ [])))
-      (sym (last_added None made (read_at store old mid new own t b told r)))
-      (r.makes.before, subst (λ q. seen new ≡ r.makes.before ++ entry_of q (event.Read own t b) told ∷ []) w.same r.makes.log);
-  took = took_more (shape_in store) events (event.Read own t b) (seen old) (seen mid) (seen new) (taken_by old) (taken_by mid) (taken_by new) one w.goes_on on w.took r.took;
-}
-  where
-    on : GoesOn (seen mid) (seen new)
-    on = made_on (shape_in store) mid.session (seen mid) (seen new) (event.Read own t b) told r.makes
+went_on store old mid new own t b told events made w r one =
+    went_more store old mid new (event.Read own t b) told events made w r.session r.same r.opened r.makes r.count r.took one
 
 -- ---- calls
 
@@ -138,11 +149,11 @@ went_call store old new c events made line is w same granted either = record {
 
 -- ---- a scan
 
-plain_added : (xs : List Occurrence) (x : Occurrence) → ArePlain xs → is_refused x ≡ false → is_final x.event ≡ false → ArePlain (xs ++ x ∷ [])
+pub plain_added : (xs : List Occurrence) (x : Occurrence) → ArePlain xs → is_refused x ≡ false → is_final x.event ≡ false → ArePlain (xs ++ x ∷ [])
 plain_added [] x plain granted open' = (granted, open', tt)
 plain_added (y ∷ ys) x plain granted open' = (plain.0, plain.1, plain_added ys x plain.2 granted open')
 
-plain_granted : (xs : List Occurrence) → ArePlain xs → list_any is_refused xs ≡ false
+pub plain_granted : (xs : List Occurrence) → ArePlain xs → list_any is_refused xs ≡ false
 plain_granted [] plain = refl
 plain_granted (x ∷ xs) plain = ap (λ b. b || list_any is_refused xs) plain.0 ∙ plain_granted xs plain.2
 
@@ -177,7 +188,7 @@ range_more : (a n : ℕ) → range_with_len a (suc n) ≡ range_with_len a n ++ 
 range_more a zero = ap (λ x. x ∷ []) (omega arith)
 range_more a (suc n) = ap (λ xs. a ∷ xs) (range_more (a + 1) n ∙ ap (λ x. range_with_len (a + 1) n ++ x ∷ []) (omega arith))
 
-below_more : (n : ℕ) → below (n + 1) ≡ below n ++ n ∷ []
+pub below_more : (n : ℕ) → below (n + 1) ≡ below n ++ n ∷ []
 below_more n =
     let next : n + 1 ≡ suc n = omega arith in
     let last : 0 + n ≡ n = omega arith in

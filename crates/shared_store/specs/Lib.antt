@@ -1,7 +1,9 @@
 pub mod Building
 pub mod Changing
+pub mod Freezing
 pub mod Making
 pub mod Meeting
+pub mod Observing
 pub mod Reading
 pub mod Scanning
 pub mod Store

@@ -11,7 +11,6 @@ ghost use Rattle.workload_spec.specs.declared.command.Command.{Command};
 ghost use Rattle.workload_spec.specs.declared.command.Command.TheVariants as command;
 ghost use Rattle.shared_store.specs.Changing.{ChangesAny, ChangesAnyHeld, IsChangeBy, IsChangeOf};
 ghost use Rattle.shared_store.specs.Changing.{MayChange, MayChangeHeld};
-ghost use Rattle.shared_store.specs.Making.{MakesAnyHeld, MayMakeHeld};
 ghost use Rattle.shared_store.specs.Store.{Answers, HasRoomFor, IsSession, own_of, shape_in};
 ghost use Rattle.shared_store.specs.Told.{written_told};
 
@@ -22,41 +21,11 @@ use cell_model::Row;
 use core_touches::KeyedEvent;
 use engine_core::{Core, CoreReply, imaged};
 use event_spec::{Event, Reply};
-use hall_rule::Steps;
 use hall_steps::Pass;
 use isolation_spec::Place;
-use std::marker::Brand;
 use std::sync::Wait;
-use std::sync::ledger::{Blank, Ledger};
 
 impl Store {
-    // Makes an event on parts that a pass holds, with a count of steps of its own.
-    fn make_held_by<L: Ledger>(
-        &self,
-        pass: &mut Pass<Core>,
-        event: KeyedEvent,
-        blank: Blank,
-    ) -> CoreReply
-        requires may { MayMakeHeld self.now pass.old.seat pass.old.hands event }
-        requires name { blank.name ≡ L.name }
-        requires parts { blank.parts ≡ L.parts }
-        requires some { 0 < L.parts }
-        ensures { MakesAnyHeld self.now
-            pass.old.seat pass.old.hands pass.new.seat pass.new.hands event result }
-    {
-        let mut steps = Steps::<L>::new(blank);
-        self.make_held(pass, event, &mut steps)
-    }
-
-    // Makes an event on parts that a pass holds, whose steps nobody counts.
-    fn make_on(&self, pass: &mut Pass<Core>, event: KeyedEvent) -> CoreReply
-        requires { MayMakeHeld self.now pass.old.seat pass.old.hands event }
-        ensures { MakesAnyHeld self.now
-            pass.old.seat pass.old.hands pass.new.seat pass.new.hands event result }
-    {
-        self.make_held_by::<Brand>(pass, event, Blank::new(1))
-    }
-
     // The imaged block that a change of a row would change, as the parts that a pass holds tell.
     fn imaged_at(&self, pass: &Pass<Core>, place: Place) -> Option<u32>
         requires hand { 0 < length pass.now.hands }

@@ -5,8 +5,10 @@
 pub mod building;
 pub mod changing;
 pub mod faults;
+pub mod freezing;
 pub mod making;
 pub mod meeting;
+pub mod observing;
 pub mod reading;
 pub mod scanning;
 pub mod session;

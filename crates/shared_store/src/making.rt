@@ -38,6 +38,33 @@ impl Store {
         self.hall.event(pass, event, steps)
     }
 
+    // Makes an event on parts that a pass holds, with a count of steps of its own.
+    fn make_held_by<L: Ledger>(
+        &self,
+        pass: &mut Pass<Core>,
+        event: KeyedEvent,
+        blank: Blank,
+    ) -> CoreReply
+        requires may { MayMakeHeld self.now pass.old.seat pass.old.hands event }
+        requires name { blank.name ≡ L.name }
+        requires parts { blank.parts ≡ L.parts }
+        requires some { 0 < L.parts }
+        ensures { MakesAnyHeld self.now
+            pass.old.seat pass.old.hands pass.new.seat pass.new.hands event result }
+    {
+        let mut steps = Steps::<L>::new(blank);
+        self.make_held(pass, event, &mut steps)
+    }
+
+    /// Makes an event on parts that a pass holds, whose steps nobody counts.
+    pub(crate) fn make_on(&self, pass: &mut Pass<Core>, event: KeyedEvent) -> CoreReply
+        requires { MayMakeHeld self.now pass.old.seat pass.old.hands event }
+        ensures { MakesAnyHeld self.now
+            pass.old.seat pass.old.hands pass.new.seat pass.new.hands event result }
+    {
+        self.make_held_by::<Brand>(pass, event, Blank::new(1))
+    }
+
     /// Gives back all parts that a pass holds.
     pub(crate) fn give_back(&self, pass: &mut Pass<Core>)
         requires { IsAnyWithin self.now pass.old.seat pass.old.hands }

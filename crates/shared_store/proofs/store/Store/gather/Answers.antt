@@ -1,0 +1,102 @@
+use Rattle.std.proofs.Common.{◌≡◌, Option, None, Some, refl, sym, subst}
+use Rattle.event_spec.specs.Parts.{body_at}
+use Rattle.event_spec.specs.Replies.{CoreReply}
+use Rattle.run_spec.specs.Calls.{is_memory}
+use Rattle.store_laws.specs.Laws.{TellsLine}
+use Rattle.store_laws.specs.Own.{parts_after}
+use Rattle.workload_spec.specs.declared.command.Command.TheVariants.{Gather}
+use Rattle.workload_spec.specs.declared.reply.Said.TheVariants as said
+use Rattle.shared_store.specs.Freezing.{Imaged, imaging}
+use Rattle.shared_store.specs.Store.{own_of, shape_in}
+use Rattle.shared_store.specs.declared.session.Session.{Session}
+use Rattle.shared_store.proofs.Calls.{told_or_memory}
+use Rattle.shared_store.proofs.Imagings.{gathered_none, gathered_whole, images_tell, none_is}
+use Rattle.shared_store.proofs.store.Store.gather.Goals as goal
+
+pub unreachable-requires : goal.unreachable-requires
+unreachable-requires g c =
+    let st = c.args.self.now in
+    let s = c.args.session.now in
+    let new : Session = record { pass = c.image.new.pass; session = s.session; snapshot = s.snapshot; writes = s.writes } in
+    let all = subst (λ (o : Option CoreReply). Imaged st s.session s.pass.seat new.pass.seat new.pass.hands (own_of s) c.args.table c.args.block o) c.in-Some.is (c.image.ensures s.session (own_of s) c.requires.session.stands) in
+    let told = told_or_memory st s.session s.pass.seat new.pass.seat new.pass.hands (own_of s) (imaging c.args.table c.args.block all.image) c.in-Some.told all.makes in
+    let body = body_at (shape_in st) (parts_after (shape_in st) all.makes.makes.before) c.args.table c.args.block in
+    images_tell body.phase body c.in-Some.told told c.in_default-told.not-Imaged c.in_default-told.not-NoSeal c.in_default-told.not-Memory
+
+pub returns-in_default-clause-session : goal.returns-in_default-clause-session
+returns-in_default-clause-session g c =
+    let st = c.args.self.now in
+    let s = c.args.session.now in
+    let new : Session = record { pass = c.image.new.pass; session = s.session; snapshot = s.snapshot; writes = s.writes } in
+    let none = none_is c.image.result c.in_default.not-Some in
+    let all = subst (λ (o : Option CoreReply). Imaged st s.session s.pass.seat new.pass.seat new.pass.hands (own_of s) c.args.table c.args.block o) none (c.image.ensures s.session (own_of s) c.requires.session.stands) in
+    (gathered_none st s new c.args.table c.args.block c.requires.session all refl refl).0
+
+pub returns-in-Imaged-clause-session : goal.returns-in-Imaged-clause-session
+returns-in-Imaged-clause-session g c =
+    let st = c.args.self.now in
+    let s = c.args.session.now in
+    let new : Session = record { pass = c.image.new.pass; session = s.session; snapshot = s.snapshot; writes = s.writes } in
+    let all = subst (λ (o : Option CoreReply). Imaged st s.session s.pass.seat new.pass.seat new.pass.hands (own_of s) c.args.table c.args.block o) c.in-Some.is (c.image.ensures s.session (own_of s) c.requires.session.stands) in
+    let line = said.Frozen c.args.table c.args.block c.in-Imaged.rows in
+    (gathered_whole st s new c.args.table c.args.block c.in-Some.told line c.requires.session all refl refl
+    (subst (λ (r : CoreReply). TellsLine (own_of s) (Gather c.args.table c.args.block) r line) (sym c.in-Imaged.is) refl)).0
+
+pub returns-in-NoSeal-clause-session : goal.returns-in-NoSeal-clause-session
+returns-in-NoSeal-clause-session g c =
+    let st = c.args.self.now in
+    let s = c.args.session.now in
+    let new : Session = record { pass = c.image.new.pass; session = s.session; snapshot = s.snapshot; writes = s.writes } in
+    let all = subst (λ (o : Option CoreReply). Imaged st s.session s.pass.seat new.pass.seat new.pass.hands (own_of s) c.args.table c.args.block o) c.in-Some.is (c.image.ensures s.session (own_of s) c.requires.session.stands) in
+    let line = said.NotFrozen in
+    (gathered_whole st s new c.args.table c.args.block c.in-Some.told line c.requires.session all refl refl
+    (subst (λ (r : CoreReply). TellsLine (own_of s) (Gather c.args.table c.args.block) r line) (sym c.in-NoSeal.is) refl)).0
+
+pub returns-in-Memory-clause-session : goal.returns-in-Memory-clause-session
+returns-in-Memory-clause-session g c =
+    let st = c.args.self.now in
+    let s = c.args.session.now in
+    let new : Session = record { pass = c.image.new.pass; session = s.session; snapshot = s.snapshot; writes = s.writes } in
+    let all = subst (λ (o : Option CoreReply). Imaged st s.session s.pass.seat new.pass.seat new.pass.hands (own_of s) c.args.table c.args.block o) c.in-Some.is (c.image.ensures s.session (own_of s) c.requires.session.stands) in
+    let line = said.Memory in
+    (gathered_whole st s new c.args.table c.args.block c.in-Some.told line c.requires.session all refl refl
+    (subst (λ (r : CoreReply). TellsLine (own_of s) (Gather c.args.table c.args.block) r line) (sym c.in-Memory.is) (refl, refl))).0
+
+pub returns-in_default-clause-answers : goal.returns-in_default-clause-answers
+returns-in_default-clause-answers g c =
+    let st = c.args.self.now in
+    let s = c.args.session.now in
+    let new : Session = record { pass = c.image.new.pass; session = s.session; snapshot = s.snapshot; writes = s.writes } in
+    let none = none_is c.image.result c.in_default.not-Some in
+    let all = subst (λ (o : Option CoreReply). Imaged st s.session s.pass.seat new.pass.seat new.pass.hands (own_of s) c.args.table c.args.block o) none (c.image.ensures s.session (own_of s) c.requires.session.stands) in
+    (gathered_none st s new c.args.table c.args.block c.requires.session all refl refl).1
+
+pub returns-in-Imaged-clause-answers : goal.returns-in-Imaged-clause-answers
+returns-in-Imaged-clause-answers g c =
+    let st = c.args.self.now in
+    let s = c.args.session.now in
+    let new : Session = record { pass = c.image.new.pass; session = s.session; snapshot = s.snapshot; writes = s.writes } in
+    let all = subst (λ (o : Option CoreReply). Imaged st s.session s.pass.seat new.pass.seat new.pass.hands (own_of s) c.args.table c.args.block o) c.in-Some.is (c.image.ensures s.session (own_of s) c.requires.session.stands) in
+    let line = said.Frozen c.args.table c.args.block c.in-Imaged.rows in
+    (gathered_whole st s new c.args.table c.args.block c.in-Some.told line c.requires.session all refl refl
+    (subst (λ (r : CoreReply). TellsLine (own_of s) (Gather c.args.table c.args.block) r line) (sym c.in-Imaged.is) refl)).1
+
+pub returns-in-NoSeal-clause-answers : goal.returns-in-NoSeal-clause-answers
+returns-in-NoSeal-clause-answers g c =
+    let st = c.args.self.now in
+    let s = c.args.session.now in
+    let new : Session = record { pass = c.image.new.pass; session = s.session; snapshot = s.snapshot; writes = s.writes } in
+    let all = subst (λ (o : Option CoreReply). Imaged st s.session s.pass.seat new.pass.seat new.pass.hands (own_of s) c.args.table c.args.block o) c.in-Some.is (c.image.ensures s.session (own_of s) c.requires.session.stands) in
+    let line = said.NotFrozen in
+    (gathered_whole st s new c.args.table c.args.block c.in-Some.told line c.requires.session all refl refl
+    (subst (λ (r : CoreReply). TellsLine (own_of s) (Gather c.args.table c.args.block) r line) (sym c.in-NoSeal.is) refl)).1
+
+pub returns-in-Memory-clause-answers : goal.returns-in-Memory-clause-answers
+returns-in-Memory-clause-answers g c =
+    let st = c.args.self.now in
+    let s = c.args.session.now in
+    let new : Session = record { pass = c.image.new.pass; session = s.session; snapshot = s.snapshot; writes = s.writes } in
+    let all = subst (λ (o : Option CoreReply). Imaged st s.session s.pass.seat new.pass.seat new.pass.hands (own_of s) c.args.table c.args.block o) c.in-Some.is (c.image.ensures s.session (own_of s) c.requires.session.stands) in
+    let line = said.Memory in
+    (gathered_whole st s new c.args.table c.args.block c.in-Some.told line c.requires.session all refl refl
+    (subst (λ (r : CoreReply). TellsLine (own_of s) (Gather c.args.table c.args.block) r line) (sym c.in-Memory.is) (refl, refl))).1

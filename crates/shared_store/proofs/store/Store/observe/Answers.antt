@@ -1,0 +1,41 @@
+use Rattle.std.proofs.Common.{◌≡◌, ◌+◌, ◌*◌, ◌≤◌, ◌^◌, ℕ, List, ◌++◌, length, sym, ap, subst, ◌∙◌, arith}
+use Rattle.std.specs.List.{flat_map}
+use Rattle.cell_model.specs.declared.table.TableDecl.{TableDecl}
+use Rattle.event_spec.specs.Effects.{CoreEvent}
+use Rattle.event_spec.specs.Parts.{Shape, below}
+use Rattle.run_spec.specs.Asked.{at_blocks}
+use Rattle.shared_store.specs.Observing.{Observes, observing}
+use Rattle.shared_store.specs.Store.{shape_in}
+use Rattle.shared_store.proofs.Observed.{observes_nothing, observes_whole, table_more}
+use Rattle.shared_store.proofs.store.Store.observe.Goals as goal
+
+pub loop-table-init : goal.loop-table-init
+loop-table-init g c = (omega arith, omega arith, observes_nothing c.args.self.now c.args.session.now c.requires.session)
+
+pub loop-table-preserved : goal.loop-table-preserved
+loop-table-preserved g c =
+    let st = c.args.self.now in
+    let t = c.loop-table.table in
+    let inv = c.loop-table.invariant in
+    let few = inv.0 in
+    let made = inv.1 in
+    let more = c.observe_table-turned.ensures.few in
+    let made_more = c.observe_table-turned.ensures.made in
+    (
+      omega (arith, few, more),
+      omega (arith, made, made_more),
+      subst (λ (es : List CoreEvent). Observes st c.args.session.now c.observe_table-turned.new.session es (c.loop-table.turned + c.observe_table-turned.result)) (table_more st t)
+      (c.observe_table-turned.ensures.observes c.args.session.now (flat_map (λ table. at_blocks (shape_in st) table (observing table)) (below t)) c.loop-table.turned inv.2),
+    )
+
+pub returns-clause-answers : goal.returns-clause-answers
+returns-clause-answers g c =
+    let st = c.args.self.now in
+    let inv = c.loop-table.invariant in
+    let tables : length c.tables.result.now ≡ length (shape_in st).tables =
+    ap (λ (ts : List TableDecl). length ts) (c.tables.ensures.tables ∙ ap (λ (sh : Shape). sh.tables) (c.shape.ensures ∙ c.self.invariant.shape ∙ ap shape_in c.self.view_is)) in
+    let done = c.loop-table-test.false in
+    let end' = c.loop-table.auto.table-end in
+    let all : c.loop-table.table ≡ length (shape_in st).tables = omega (arith, tables, done, end') in
+    observes_whole st c.args.session.now c.loop-table.session c.loop-table.turned c.requires.session
+    (subst (λ n. Observes st c.args.session.now c.loop-table.session (flat_map (λ table. at_blocks (shape_in st) table (observing table)) (below n)) c.loop-table.turned) all inv.2)

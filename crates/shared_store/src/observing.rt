@@ -1,0 +1,62 @@
+//! Observing all blocks.
+ghost use Rattle.std.specs.Prelude.{◌≡◌, ◌<◌, ◌+◌, ◌^◌, ◌≤◌};
+ghost use Rattle.event_spec.specs.Lawful.{HasBlock, HasTable};
+ghost use Rattle.workload_spec.specs.declared.command.Command.TheVariants as command;
+ghost use Rattle.workload_spec.specs.declared.reply.Said.TheVariants as said;
+ghost use Rattle.shared_store.specs.Observing.{ObservesBlock, ObservesTable};
+ghost use Rattle.shared_store.specs.Store.{Answers, HasRoomFor, IsSession, events_made, shape_in};
+
+use crate::session::Session;
+use crate::store::Store;
+use core_touches::KeyedEvent;
+use event_spec::{Event, Reply};
+use std::sync::Wait;
+
+impl Store {
+    // Observes a block, and tells whether it turned cooling.
+    fn observe_block<R: Wait>(&self, rt: &R, session: &mut Session, table: u32, block: u32) -> bool
+        requires session { IsSession self.now session.old }
+        requires room { HasRoomFor 1 session.old }
+        requires block { HasBlock (shape_in self.now) table block }
+        ensures { ObservesBlock self.now session.old session.new table block result }
+    {
+        let event = KeyedEvent::new(Event::Observe { table, block });
+        let Reply::Turned(turned) = self.make(rt, &mut session.pass, event) else {
+            unreachable!()
+        };
+        turned
+    }
+
+    // Observes the blocks of a table, and tells how many turned cooling.
+    fn observe_table<R: Wait>(&self, rt: &R, session: &mut Session, table: u32) -> u64
+        requires session { IsSession self.now session.old }
+        requires room { HasRoomFor (2 ^ 10) session.old }
+        requires table { HasTable (shape_in self.now) table }
+        ensures observes { ObservesTable self.now session.old session.new table result }
+        ensures few { result ≤ 2 ^ 10 }
+        ensures made { events_made session.new ≤ events_made session.old + 2 ^ 10 }
+    {
+        let mut turned = 0;
+        for block in 0..self.hall.shape().blocks(table) {
+            turned += u64::from(self.observe_block(rt, session, table, block));
+        }
+        turned
+    }
+
+    /// Tells each block that a round has passed, and how many turned cooling by it: those that were
+    /// not modified for two rounds.
+    pub fn observe<R: Wait>(&self, rt: &R, session: &mut Session) -> u64
+        requires session { IsSession self.now session.old }
+        requires room { HasRoomFor (2 ^ 14) session.old }
+        ensures session { IsSession self.now session.new }
+        ensures same { session.new.session ≡ session.old.session }
+        ensures answers { Answers self.now session.old session.new
+            command.Observe (said.Cooling result) }
+    {
+        let mut turned = 0;
+        for table in 0..self.hall.shape().tables().len() as u32 {
+            turned += self.observe_table(rt, session, table);
+        }
+        turned
+    }
+}
