@@ -1,8 +1,10 @@
 -- A row's entry that was laid beforehand, and is then settled or taken away.
-use Rattle.std.proofs.Common.{◌≡◌, ℕ, Bool, true, false, cond, [], ◌∷◌, Option, None, Some, is_some, Ordering, Less, Equal, Greater, refl, sym, ap, ◌∙◌, true≢false}
+use Rattle.std.proofs.Common.{◌≡◌, ℕ, Bool, true, false, cond, [], ◌∷◌, Option, None, Some, is_some, Ordering, Less, Equal, Greater, refl, sym, ap, ◌∙◌, true≢false, ℤ, ◌==◌, option_map, List, ◌++◌}
+use Rattle.std.specs.Prelude.{find}
 use Rattle.std.specs.BTreeMap.{insert_entry}
 use Rattle.std.specs.Map.{remove_entry}
 use Rattle.std.specs.Ordering.{is_eq, match_ordering, ordering_reverse}
+use Rattle.event_laws.proofs.Slots.{num, num_refl}
 use Rattle.isolation_laws.proofs.Rows.{place_cmp-total}
 use Rattle.isolation_spec.specs.Contents.{PlaceMap, at_place, is_place, place_cmp}
 use Rattle.isolation_spec.specs.declared.place.Place.{Place}
@@ -82,3 +84,37 @@ roomed_away m now later p false is room some' none' = none' refl ∙ ap (remove_
     go None h = refl
     go (Some x) h = absurd (true≢false h)
 roomed_away m now later p true is room some' none' = some' refl ∙ room
+
+-- ---- the least key of a table
+
+-- the first that is found behind those of which none is
+pub found_behind : {X : Type 0} (p : X → Bool) (xs ys : List X) → find p xs ≡ None → find p (xs ++ ys) ≡ find p ys
+found_behind p [] ys none' = refl
+found_behind {X} p (x ∷ xs) ys none' = go (p x) none' (found_behind p xs ys)
+  where
+    no : Some x ≡ None → ⊥
+    no h = cc
+
+    go : (b : Bool) → cond b (Some x) (find p xs) ≡ None → (find p xs ≡ None → find p (xs ++ ys) ≡ find p ys) → cond b (Some x) (find p (xs ++ ys)) ≡ find p ys
+    go true h rest = absurd (no h)
+    go false h rest = rest h
+
+abbrev pub is_of : ℕ → Place × ℕ → Bool
+is_of table write = write.0.table == table
+
+abbrev pub key_written : Place × ℕ → ℤ
+key_written write = write.0.key
+
+-- the next is the first, if it is of the table
+pub least_next : (table : ℕ) (xs ys : PlaceMap ℕ) (e : Place × ℕ) → find (is_of table) xs ≡ None → e.0.table ≡ table
+    → option_map key_written (find (is_of table) (xs ++ e ∷ ys)) ≡ Some e.0.key
+least_next table xs ys e none' is =
+    ap (option_map key_written) (found_behind (is_of table) xs (e ∷ ys) none' ∙ ap (λ b. cond b (Some e) (find (is_of table) ys)) (ap (λ t. t == table) is ∙ num_refl table))
+
+-- and none is, if it is of another
+pub none_next : (table : ℕ) (xs : PlaceMap ℕ) (e : Place × ℕ) → find (is_of table) xs ≡ None → (e.0.table ≡ table → ⊥) → find (is_of table) (xs ++ e ∷ []) ≡ None
+none_next table xs e none' other = found_behind (is_of table) xs (e ∷ []) none' ∙ ap (λ b. cond b (Some e) None) (go (e.0.table == table) refl)
+  where
+    go : (b : Bool) → (e.0.table == table) ≡ b → (e.0.table == table) ≡ false
+    go true is = absurd (other (num e.0.table table is))
+    go false is = is

@@ -86,7 +86,7 @@ went_nowhere store s events is = record {
   took = took_none (shape_in store) events (seen s) (taken_by s);
 }
 
-abbrev read_at : (store : StoreView) (old mid new : Session) (own : OwnTransaction) (t b : ℕ) (told : CoreReply) → ReadsBlock store mid new own t b told → Occurrence
+abbrev pub read_at : (store : StoreView) (old mid new : Session) (own : OwnTransaction) (t b : ℕ) (told : CoreReply) → ReadsBlock store mid new own t b told → Occurrence
 read_at store old mid new own t b told r = occurrence_at old.session (parts_after (shape_in store) r.makes.before) (event.Read own t b) told
 
 -- one event more, of those that the command makes
@@ -120,7 +120,7 @@ went_more store old mid new e told events made w is same opened m one took among
     on = made_on (shape_in store) mid.session (seen mid) (seen new) e told m
 
 -- one read more
-went_on : (store : StoreView) (old mid new : Session) (own : OwnTransaction) (t b : ℕ) (told : CoreReply) (events : List CoreEvent) (made : List Occurrence)
+pub went_on : (store : StoreView) (old mid new : Session) (own : OwnTransaction) (t b : ℕ) (told : CoreReply) (events : List CoreEvent) (made : List Occurrence)
     → Went store old mid events made → (r : ReadsBlock store mid new own t b told) → Among (event.Read own t b) events
     → Went store old new events (made ++ read_at store old mid new own t b told r ∷ [])
 went_on store old mid new own t b told events made w r one =
@@ -158,7 +158,7 @@ plain_granted [] plain = refl
 plain_granted (x ∷ xs) plain = ap (λ b. b || list_any is_refused xs) plain.0 ∙ plain_granted xs plain.2
 
 -- plain events, and behind them one that ends no call, are cut short
-plain_cut_behind : (xs : List Occurrence) (x : Occurrence) → ArePlain xs → is_final x.event ≡ false → is_cut_short (xs ++ x ∷ []) ≡ true
+pub plain_cut_behind : (xs : List Occurrence) (x : Occurrence) → ArePlain xs → is_final x.event ≡ false → is_cut_short (xs ++ x ∷ []) ≡ true
 plain_cut_behind [] x plain open' = ap (λ f. is_refused x || not f) open' ∙ either (is_refused x)
   where
     either : (b : Bool) → (b || true) ≡ true
@@ -171,7 +171,7 @@ plain_cut_behind (y ∷ z ∷ zs) x plain open' =
     ∙ ap (λ f. not f && is_cut_short (z ∷ zs ++ x ∷ [])) plain.1
     ∙ plain_cut_behind (z ∷ zs) x plain.2 open'
 
-plain_cut : (xs : List Occurrence) → ArePlain xs → is_cut_short xs ≡ true
+pub plain_cut : (xs : List Occurrence) → ArePlain xs → is_cut_short xs ≡ true
 plain_cut [] plain = refl
 plain_cut (y ∷ []) plain = ap (λ f. is_refused y || not f) plain.1 ∙ either (is_refused y)
   where
@@ -206,10 +206,10 @@ member_map f [] ys x = inl refl
 member_map f (z ∷ zs) ys x = inr (member_map f zs ys x)
 
 module _ (store : StoreView) (own : OwnTransaction) (t : ℕ) where
-  abbrev sh : Shape
+  abbrev pub sh : Shape
   sh = shape_in store
 
-  abbrev asked : List CoreEvent
+  abbrev pub asked : List CoreEvent
   asked = at_blocks sh t (event.Read own t)
 
   pub scan_begins : (s : Session) → IsSession store s → Scans store s s own t 0 []
@@ -222,12 +222,12 @@ module _ (store : StoreView) (own : OwnTransaction) (t : ℕ) where
   }
 
   -- the events of the first reads, and the others
-  rest_of : (k : ℕ) → k ≤ blocks_of sh t → (rest : List ℕ) × (below (blocks_of sh t) ≡ below k ++ rest)
+  pub rest_of : (k : ℕ) → k ≤ blocks_of sh t → (rest : List ℕ) × (below (blocks_of sh t) ≡ below k ++ rest)
   rest_of k le =
       let r = below_rest k (blocks_of sh t - k) in
       (r.0, ap below (omega (arith, le)) ∙ r.1)
 
-  is_asked : (k : ℕ) → k < blocks_of sh t → Among {X = CoreEvent} (event.Read own t k) asked
+  pub is_asked : (k : ℕ) → k < blocks_of sh t → Among {X = CoreEvent} (event.Read own t k) asked
   is_asked k lt =
       let r = rest_of (k + 1) (omega (arith, lt)) in
       subst (λ bs. Among {X = CoreEvent} (event.Read own t k) (map (event.Read own t) bs)) (sym (r.1 ∙ ap (λ xs. xs ++ r.0) (below_more k) ∙ append_assoc (below k) (k ∷ []) r.0))

@@ -1,6 +1,6 @@
 //! A session of a store.
 ghost use Rattle.std.specs.Prelude.{◌≡◌, true, Some, option_map, is_some};
-ghost use Rattle.run_spec.specs.Opened.{own_key};
+ghost use Rattle.run_spec.specs.Opened.{least_written, own_key};
 ghost use Rattle.shared_store.specs.Store.{own_of};
 
 use crate::writes::Writes;
@@ -45,6 +45,14 @@ impl Session {
             unreachable!()
         };
         snapshot.number
+    }
+
+    /// The least key of a table that the open transaction wrote, if it wrote the table.
+    pub fn dirty(&self, table: u32) -> Option<i64>
+        requires { is_some (own_of self.now) ≡ true }
+        ensures { option_map (least_written table) (own_of self.now) ≡ Some result }
+    {
+        self.writes.least_key(table)
     }
 }
 

@@ -3,6 +3,7 @@ ghost use Rattle.std.specs.Prelude.{◌≡◌, ◌≤◌, ◌^◌, All};
 ghost use Rattle.shared_store.specs.Store.{shape_in};
 
 use cell_model::TableDecl;
+use core_parts::Shape;
 use engine_core::Core;
 use hall_steps::Hall;
 use std::marker::Model;
@@ -30,6 +31,13 @@ impl Model for Store {
 }
 
 impl Store {
+    /// What the store's parts are: its tables, with their columns and their blocks.
+    pub fn shape(&self) -> &Shape
+        ensures { result.now ≡ shape_in self.now }
+    {
+        self.hall.shape()
+    }
+
     /// The tables of the store.
     pub fn tables(&self) -> &[TableDecl]
         ensures tables { result.now ≡ (shape_in self.now).tables }

@@ -1,6 +1,6 @@
 //! The rows that a transaction wrote.
 ghost use Rattle.std.specs.Prelude.{◌≡◌, ◌≢◌, ℕ, true, false, [], None, Some};
-ghost use Rattle.std.specs.Prelude.{IfOk, OnErr, OnOk, is_some};
+ghost use Rattle.std.specs.Prelude.{◌==◌, IfOk, OnErr, OnOk, find, is_some, option_map};
 ghost use Rattle.std.specs.BTreeMap.{insert_entry};
 ghost use Rattle.std.specs.Map.{remove_entry};
 ghost use Rattle.isolation_spec.specs.Contents.{PlaceMap, at_place, is_place, place_cmp};
@@ -65,6 +65,19 @@ impl Writes {
         ensures { result ≡ at_place self.now place }
     {
         self.by_row.get(&place).copied()
+    }
+
+    /// The least key of a table of which a row was written.
+    pub(crate) fn least_key(&self, table: u32) -> Option<i64>
+        ensures { result ≡ option_map (λ write. write.0.key)
+            (find (λ write. write.0.table == table) self.now) }
+    {
+        for (place, _) in self.by_row.iter() {
+            if place.table == table {
+                return Some(place.key);
+            }
+        }
+        None
     }
 
     /// All rows, shared with an event. It waits while they are shared too often to count.
