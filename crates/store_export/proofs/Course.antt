@@ -1,0 +1,425 @@
+-- An export's reads and what it sent, block after block, and how it ends.
+use Rattle.std.proofs.Common.{◌≡◌, ◌⊎◌, ℕ, ℤ, ◌+◌, ◌*◌, ◌-◌, ◌<◌, ◌≤◌, ◌^◌, Bool, true, false, cond, List, [], ◌∷◌, ◌++◌, Option, None, Some, Ok, Err, length, map, refl, sym, ap, subst, ◌∙◌, append-nil, length-append, arith}
+use mathlib.Core.Logic.{inl, inr}
+use native.Mathlib.Nat.{mul-add}
+use Rattle.std.specs.Prelude.{count_by, flat_map, option_map}
+use Rattle.std.specs.Io.KnownBytes.{Appends}
+use Rattle.std.proofs.KnownBytes.{Appends-nil}
+use Rattle.std.proofs.lemmas.Grind.{flat_map-append}
+use Rattle.std.proofs.lemmas.List.{map-append, length-map}
+use Rattle.std.proofs.lemmas.List.FromFn.{length-range_with_len}
+use Rattle.std.proofs.lemmas.List.Sums.{count_by-le-length, sum_by-append}
+use Rattle.arrow_spec.specs.Streams.{end_word, schema_message, stream_of}
+use Rattle.block_spec.specs.Slots.{Row}
+use Rattle.byte_ports.specs.Calls.{AppendsFront, Rose}
+use Rattle.cell_model.specs.declared.column.Column.{Column}
+use Rattle.event_spec.specs.declared.event.Event.TheVariants as event
+use Rattle.event_spec.specs.declared.own.OwnTransaction.{OwnTransaction}
+use Rattle.event_spec.specs.Effects.{CoreEvent}
+use Rattle.event_spec.specs.Parts.{Shape, below, blocks_of, slots_of}
+use Rattle.event_spec.specs.Replay.{columns_in}
+use Rattle.event_spec.specs.Replies.{CoreReply}
+use Rattle.export_spec.specs.Calls.{AreAllRead, BreaksOff, groups_told}
+use Rattle.ipc_write.specs.Calls.{MakesPiece, SinkFailed, WritesPiece}
+use Rattle.ipc_write.specs.declared.faults.PieceFault.{PieceFault}
+use Rattle.ipc_write.specs.declared.faults.PieceFault.TheVariants.{Sink, Memory}
+use Rattle.ipc_write.specs.declared.faults.SinkFault.{SinkFault}
+use Rattle.run_spec.specs.Asked.{at_blocks, events_of}
+use Rattle.run_spec.specs.Calls.{Call, IsCallBy, IsPart, IsWhole, is_cut_short, is_memory}
+use Rattle.run_spec.specs.Occurrences.{Occurrence, events_in, replies_in}
+use Rattle.run_spec.specs.Opened.{least_written}
+use Rattle.run_spec.specs.Told.{is_shared, is_some_row, refusal_of, rows_told, summary_of}
+use Rattle.shared_store.specs.Reading.{ReadsBlock, Went}
+use Rattle.shared_store.specs.Scanning.{ArePlain}
+use Rattle.shared_store.specs.Store.{Answers, IsSession, StoreView, TookPartsOf, own_of, seen, shape_in, taken_by}
+use Rattle.shared_store.specs.declared.session.Session.{Session}
+use Rattle.shared_store.proofs.Calls.{refused_call, took_none}
+use Rattle.shared_store.proofs.Scanned.{below_more, is_asked, plain_added, plain_cut, plain_cut_behind, plain_granted, read_at, rest_of, went_nowhere, went_on}
+use Rattle.workload_spec.specs.declared.command.Command.TheVariants as command
+use Rattle.workload_spec.specs.declared.reply.Said.{Said}
+use Rattle.workload_spec.specs.declared.reply.Said.TheVariants as said
+use Rattle.store_export.specs.Exports.{CountsPiece, Exports, SendsBlock, counted}
+use Rattle.store_export.specs.Groups.{group_message}
+use Rattle.store_export.specs.declared.sent.Sent.{Sent}
+use Rattle.store_export.proofs.Breaking.{HasBroken, HasSent, breaks_before, breaks_first, breaks_last, breaks_nowhere, breaks_within, sending_begins, sending_ends, sending_goes_on}
+
+-- ---- what replies count
+
+abbrev rows_all : List CoreReply → ℕ
+rows_all replies = length (flat_map rows_told replies)
+
+abbrev with_row : CoreReply → Bool
+with_row told = is_some_row (rows_told told)
+
+count_more : (p : CoreReply → Bool) (xs ys : List CoreReply) → count_by p (xs ++ ys) ≡ count_by p xs + count_by p ys
+count_more p xs ys = sum_by-append (λ told. cond {A = ℕ} (p told) 1 0) xs ys
+
+count_one : (p : CoreReply → Bool) (told : CoreReply) → count_by p (told ∷ []) ≤ 1
+count_one p told = count_by-le-length p (told ∷ [])
+
+rows_more : (xs : List CoreReply) (told : CoreReply) → rows_all (xs ++ told ∷ []) ≡ rows_all xs + rows_all (told ∷ [])
+rows_more xs told =
+    ap (λ (rows : List Row). length rows) (flat_map-append rows_told xs (told ∷ [])) ∙ length-append (flat_map rows_told xs) (flat_map rows_told (told ∷ []))
+
+rows_one : (told : CoreReply) → rows_all (told ∷ []) ≡ length (rows_told told)
+rows_one told = ap (λ (rows : List Row). length rows) (append-nil (rows_told told))
+
+-- ---- steps
+
+le_more : (a b : ℕ) → a ≤ a + b
+le_more a b = omega arith
+
+times_most : (a b c : ℕ) → b ≤ c → a * b ≤ a * c
+times_most a b c le =
+    let apart : c ≡ b + (c - b) = omega (arith, le) in
+    subst (λ n. a * b ≤ n) (sym (ap (λ n. a * n) apart ∙ mul-add a b (c - b))) (le_more (a * b) (a * (c - b)))
+
+sum_steps : (spent a b steps later : ℕ) → steps ≤ spent + a → later ≤ steps + b → later ≤ spent + (a + b)
+sum_steps spent a b steps later first then = omega (arith, first, then)
+
+sum_most : (spent a b later : ℕ) → later ≤ spent + a → a ≤ b → later ≤ spent + b
+sum_most spent a b later first then = omega (arith, first, then)
+
+-- one block more, of which no slot is looked at where it is frozen
+steps_more : (slots spent steps later k frozen more : ℕ) → frozen ≤ k → more ≤ 1 → steps ≤ spent + slots * (k - frozen) → later ≤ steps + slots * (1 - more)
+    → later ≤ spent + slots * ((k + 1) - (frozen + more))
+steps_more slots spent steps later k frozen more le one first then =
+    let apart : (k + 1) - (frozen + more) ≡ (k - frozen) + (1 - more) = omega (arith, le, one) in
+    subst (λ n. later ≤ spent + n) (sym (ap (λ n. slots * n) apart ∙ mul-add slots (k - frozen) (1 - more)))
+    (sum_steps spent (slots * (k - frozen)) (slots * (1 - more)) steps later first then)
+
+-- of all blocks there are no fewer
+steps_rest : (slots spent later k blocks frozen : ℕ) → k ≤ blocks → later ≤ spent + slots * (k - frozen) → later ≤ spent + slots * (blocks - frozen)
+steps_rest slots spent later k blocks frozen le first =
+    sum_most spent (slots * (k - frozen)) (slots * (blocks - frozen)) later first (times_most slots (k - frozen) (blocks - frozen) (omega (arith, le)))
+
+-- ---- a sink that fails
+
+rose_since : (before between now : ℕ) → between ≡ before → Rose between now → Rose before now
+rose_since before between now same rose = subst (λ n. Rose n now) same rose
+
+-- a call of the sink failed, of a writer that had not failed
+sink_fails : {W : Type 0} (written : W → Option (List ℕ)) (faults : W → ℕ) (old new : W × Bool) (piece : List ℕ) (earlier : Bool)
+    → old.1 ≡ false → SinkFailed written faults old new piece earlier
+    → Rose (faults old.0) (faults new.0) × AppendsFront (written old.0) (written new.0) piece
+sink_fails written faults old new piece true fresh failed = absurd (let both : true ≡ false = sym failed.0 ∙ fresh in let never : ⊥ = cc in never)
+sink_fails written faults old new piece false fresh failed = (failed.3, failed.2)
+
+-- the fault is counted, and want of memory is none
+pub piece_counts : {W : Type 0} (T S : Type 0) (written : W → Option (List ℕ)) (faults : W → ℕ) (start old new : W × Bool) (piece : List ℕ) (fault : PieceFault)
+    → old.1 ≡ false → faults old.0 ≡ faults start.0 → MakesPiece {T = T} written faults old new piece (Err fault) → CountsPiece {T = S} (Err fault) (faults start.0) (faults new.0)
+piece_counts T S written faults start old new piece (Sink fault) fresh kept failed =
+    rose_since (faults start.0) (faults old.0) (faults new.0) kept (sink_fails written faults old new piece fault.earlier fresh failed).0
+piece_counts {W} T S written faults start old new piece (Memory refused) fresh kept failed = ap (λ (now : W × Bool). faults now.0) failed.1 ∙ kept
+
+-- ---- reads and messages
+
+-- So many blocks of the table were read, and their messages were sent.
+pub record Sending
+    (store : StoreView) (old new : Session) (own : OwnTransaction) (table count : ℕ)
+    (before now : Option (List ℕ)) (sent : Sent) (spent steps : ℕ)
+    : Type 0 where
+  pub made : List Occurrence
+  pub went : Went store old new (at_blocks (shape_in store) table (event.Read own table)) made
+  pub events : events_in made ≡ map (event.Read own table) (below count)
+  pub plain : ArePlain made
+  pub gone : HasSent (columns_in (shape_in store) table) made before now
+  pub rows_are : sent.rows ≡ length (flat_map rows_told (replies_in made))
+  pub batches_are : sent.batches ≡ count_by (λ told. is_some_row (rows_told told)) (replies_in made)
+  pub frozen_are : sent.frozen ≡ count_by is_shared (replies_in made)
+  pub rows_few : sent.rows ≤ 2 ^ 15 * count
+  pub batches_few : sent.batches ≤ count
+  pub frozen_few : sent.frozen ≤ count
+  pub steps_few : steps ≤ spent + slots_of (shape_in store) table * (count - sent.frozen)
+
+module _ (store : StoreView) (own : OwnTransaction) (t : ℕ) where
+  abbrev sh : Shape
+  sh = shape_in store
+
+  abbrev columns : List Column
+  columns = columns_in sh t
+
+  abbrev asked : List CoreEvent
+  asked = at_blocks sh t (event.Read own t)
+
+  -- the schema has gone
+  pub sending_starts : (s : Session) (before now : Option (List ℕ)) (nothing : Sent) (spent : ℕ) → IsSession store s → nothing.rows ≡ 0 → nothing.batches ≡ 0 → nothing.frozen ≡ 0
+      → Appends before now (schema_message columns) → Sending store s s own t 0 before now nothing spent spent
+  sending_starts s before now nothing spent is rows batches frozen gone = record {
+    made = [];
+    went = went_nowhere store s asked is;
+    events = refl;
+    plain = tt;
+    gone = sending_begins columns before now gone;
+    rows_are = rows;
+    batches_are = batches;
+    frozen_are = frozen;
+    rows_few = omega (arith, rows);
+    batches_few = omega (arith, batches);
+    frozen_few = omega (arith, frozen);
+    steps_few = le_more spent (slots_of sh t * (0 - nothing.frozen));
+  }
+
+  -- each read is an event
+  pub sending_count : (old new : Session) (k : ℕ) (before now : Option (List ℕ)) (sent : Sent) (spent steps : ℕ) → (s : Sending store old new own t k before now sent spent steps) → length s.made ≡ k
+  sending_count old new k before now sent spent steps s =
+      let a : length (events_in s.made) ≡ length s.made = length-map s.made (λ (o : Occurrence). o.event) in
+      let b : length {A = CoreEvent} (map (event.Read own t) (below k)) ≡ length (below k) = length-map (below k) (event.Read own t) in
+      let c : length (below k) ≡ k = length-range_with_len 0 k in
+      sym a ∙ ap (λ (es : List CoreEvent). length es) s.events ∙ b ∙ c
+
+  -- a block has few rows, and is one batch at most
+  pub more_few : {W : Type 0} (written : W → Option (List ℕ)) (faults : W → ℕ) (old new : Session) (at : ℕ) (before now : W × Bool) (spent steps : ℕ) (more : Sent)
+      → SendsBlock store old new own t at written faults before now spent steps (Ok more) → (more.rows ≤ 2 ^ 15) × (more.batches ≤ 1) × (more.frozen ≤ 1)
+  more_few written faults old new at before now spent steps more b =
+      let rows_now : more.rows ≡ rows_all (b.told ∷ []) = ap (λ (x : Sent). x.rows) b.counts in
+      let batch_now : more.batches ≡ count_by with_row (b.told ∷ []) = ap (λ (x : Sent). x.batches) b.counts in
+      let frozen_now : more.frozen ≡ count_by is_shared (b.told ∷ []) = ap (λ (x : Sent). x.frozen) b.counts in
+      let one = rows_one b.told in
+      let most = b.reads.few in
+      let slots = b.slots in
+      let batch = count_one with_row b.told in
+      let frozen = count_one is_shared b.told in
+      (omega (arith, rows_now, one, most, slots), omega (arith, batch_now, batch), omega (arith, frozen_now, frozen))
+
+  -- one read more
+  module _ (old mid new : Session) (k : ℕ) (before between : Option (List ℕ)) (sent : Sent) (spent steps : ℕ) (told : CoreReply)
+      (s : Sending store old mid own t k before between sent spent steps) (r : ReadsBlock store mid new own t k told) (lt : k < blocks_of sh t) where
+    abbrev next : Occurrence
+    next = read_at store old mid new own t k told r
+
+    abbrev further : List Occurrence
+    further = s.made ++ next ∷ []
+
+    went_further : Went store old new asked further
+    went_further = went_on store old mid new own t k told asked s.made s.went r (is_asked store own t k lt)
+
+    events_further : events_in further ≡ map (event.Read own t) (below (k + 1))
+    events_further =
+        map-append (λ (o : Occurrence). o.event) s.made (next ∷ [])
+        ∙ ap (λ es. es ++ event.Read own t k ∷ []) s.events
+        ∙ sym (ap (map (event.Read own t)) (below_more k) ∙ map-append (event.Read own t) (below k) (k ∷ []))
+
+    replies_further : replies_in further ≡ replies_in s.made ++ told ∷ []
+    replies_further = map-append (λ (o : Occurrence). o.reply) s.made (next ∷ [])
+
+    counted_further : (p : CoreReply → Bool) → count_by p (replies_in further) ≡ count_by p (replies_in s.made) + count_by p (told ∷ [])
+    counted_further p = ap (count_by p) replies_further ∙ count_more p (replies_in s.made) (told ∷ [])
+
+    rows_further : rows_all (replies_in further) ≡ rows_all (replies_in s.made) + rows_all (told ∷ [])
+    rows_further = ap rows_all replies_further ∙ rows_more (replies_in s.made) told
+
+    pub sending_more : (now : Option (List ℕ)) (more later : Sent) (steps_later : ℕ) → is_memory told ≡ false → slots_of sh t ≤ 2 ^ 15
+        → Appends between now (group_message columns (rows_told told)) → more ≡ counted (told ∷ []) → steps_later ≤ steps + slots_of sh t * (1 - count_by is_shared (told ∷ []))
+        → later.rows ≡ sent.rows + more.rows → later.batches ≡ sent.batches + more.batches → later.frozen ≡ sent.frozen + more.frozen
+        → Sending store old new own t (k + 1) before now later spent steps_later
+    sending_more now more later steps_later granted slots gone counts few rows batches frozen =
+        let rows_told_now : more.rows ≡ rows_all (told ∷ []) = ap (λ (x : Sent). x.rows) counts in
+        let batch_now : more.batches ≡ count_by with_row (told ∷ []) = ap (λ (x : Sent). x.batches) counts in
+        let frozen_now : more.frozen ≡ count_by is_shared (told ∷ []) = ap (λ (x : Sent). x.frozen) counts in
+        let rows_most : length (rows_told told) ≤ slots_of sh t = r.few in
+        let row_count = rows_one told in
+        let batch_count = count_one with_row told in
+        let frozen_count = count_one is_shared told in
+        let rows_were = s.rows_few in
+        let batches_were = s.batches_few in
+        let frozen_were = s.frozen_few in
+        let rows_are_few : more.rows ≤ 2 ^ 15 = omega (arith, rows_told_now, row_count, rows_most, slots) in
+        let batch_few : more.batches ≤ 1 = omega (arith, batch_now, batch_count) in
+        let frozen_few : more.frozen ≤ 1 = omega (arith, frozen_now, frozen_count) in
+        let few_by_more : steps_later ≤ steps + slots_of sh t * (1 - more.frozen) = subst (λ n. steps_later ≤ steps + slots_of sh t * (1 - n)) (sym frozen_now) few in
+        record {
+          made = further;
+          went = went_further;
+          events = events_further;
+          plain = plain_added s.made next s.plain granted refl;
+          gone = sending_goes_on columns s.made next before between now s.gone gone;
+          rows_are = rows ∙ ap (λ n. n + more.rows) s.rows_are ∙ ap (λ n. rows_all (replies_in s.made) + n) rows_told_now ∙ sym rows_further;
+          batches_are = batches ∙ ap (λ n. n + more.batches) s.batches_are ∙ ap (λ n. count_by with_row (replies_in s.made) + n) batch_now ∙ sym (counted_further with_row);
+          frozen_are = frozen ∙ ap (λ n. n + more.frozen) s.frozen_are ∙ ap (λ n. count_by is_shared (replies_in s.made) + n) frozen_now ∙ sym (counted_further is_shared);
+          rows_few = omega (arith, rows, rows_are_few, rows_were);
+          batches_few = omega (arith, batches, batch_few, batches_were);
+          frozen_few = omega (arith, frozen, frozen_few, frozen_were);
+          steps_few = subst (λ n. steps_later ≤ spent + slots_of sh t * ((k + 1) - n)) (sym frozen)
+              (steps_more (slots_of sh t) spent steps steps_later k sent.frozen more.frozen s.frozen_few frozen_few s.steps_few few_by_more);
+        }
+
+  -- ---- how it ends
+
+  -- an export with these events and this line
+  abbrev export_call : List Occurrence → Said → Call
+  export_call made line = record { command = command.Export t; made = made; told = Some line }
+
+  module _ (old : Session) (is : IsSession store old) (open' : own_of old ≡ Some own) (clean : least_written t own ≡ None) where
+    asks : (made : List Occurrence) → events_of sh (own_of old) old.session (command.Export t) made ≡ asked
+    asks made = ap (λ o. events_of sh o old.session (command.Export t) made) open'
+
+    granted_here : refusal_of (command.Export t) (own_of old) ≡ None
+    granted_here = ap (refusal_of (command.Export t)) open' ∙ ap (option_map said.Dirty) clean
+
+    -- what the events made is the call of an export, told as it is
+    answered : (new : Session) (made : List Occurrence) (line : Said) → Went store old new asked made
+        → IsWhole sh false old.session (own_of old) (export_call made line) ⊎ IsPart sh old.session (own_of old) (export_call made line)
+        → (a : Answers store old new (command.Export t) line) × (a.made ≡ made)
+    answered new made line w either = (
+      record {
+        made = made;
+        called = record {
+          goes_on = w.goes_on;
+          made = w.own;
+          is_call = subst (λ o. IsCallBy sh false old.session o (refusal_of (command.Export t) o) (export_call made line)) is.own
+              (subst (λ r. IsCallBy sh false old.session (own_of old) r (export_call made line)) (sym granted_here) either);
+        };
+        count = w.count;
+        ends = w.ends;
+        took = subst (λ es. TookPartsOf sh es (seen old) (seen new) (taken_by old) (taken_by new)) (sym (asks made)) w.took;
+      },
+      refl,
+    )
+
+    -- memory was wanting behind some reads
+    part_call : (new : Session) (n : ℕ) (made : List Occurrence) → n ≤ blocks_of sh t → Went store old new asked made → events_in made ≡ map (event.Read own t) (below n)
+        → is_cut_short made ≡ true → (a : Answers store old new (command.Export t) said.Memory) × (a.made ≡ made)
+    part_call new n made le w events cut = answered new made said.Memory w (inr (record {
+      may = refl;
+      missed = map (event.Read own t) (rest_of store own t n le).0;
+      events = asks made ∙ ap (map (event.Read own t)) (rest_of store own t n le).1 ∙ map-append (event.Read own t) (below n) (rest_of store own t n le).0
+          ∙ ap (λ es. es ++ map (event.Read own t) (rest_of store own t n le).0) (sym events);
+      cut = cut;
+      line = refl;
+    }))
+
+    broke : (new : Session) (n : ℕ) (made : List Occurrence) (before now : Option (List ℕ)) (spent steps : ℕ) → n ≤ blocks_of sh t → Went store old new asked made
+        → events_in made ≡ map (event.Read own t) (below n) → is_cut_short made ≡ true → HasBroken columns (blocks_of sh t) made before now
+        → steps ≤ spent + slots_of sh t * (n - count_by is_shared (replies_in made)) → Exports store old new t said.Memory before now spent steps
+    broke new n made before now spent steps le w events cut broken few =
+        let a = part_call new n made le w events cut in
+        record {
+          session = w.session;
+          same = w.same;
+          opened = w.opened;
+          answers = a.0;
+          bytes = broken.bytes;
+          sent = broken.sent;
+          sends = subst (λ (os : List Occurrence). BreaksOff columns (blocks_of sh t) os broken.bytes) (sym a.1) broken.breaks;
+          few = subst (λ (os : List Occurrence). steps ≤ spent + slots_of sh t * (blocks_of sh t - count_by is_shared (replies_in os))) (sym a.1)
+              (steps_rest (slots_of sh t) spent steps n (blocks_of sh t) (count_by is_shared (replies_in made)) le few);
+        }
+
+    -- the schema's message failed
+    pub schema_broke : {W : Type 0} (T : Type 0) (written : W → Option (List ℕ)) (faults : W → ℕ) (start now : W × Bool) (spent : ℕ) (fault : PieceFault)
+        → start.1 ≡ false → MakesPiece {T = T} written faults start now (schema_message columns) (Err fault)
+        → Exports store old old t said.Memory (written start.0) (written now.0) spent spent
+    schema_broke {W} T written faults start now spent fault fresh failed =
+        broke old 0 [] (written start.0) (written now.0) spent spent (omega arith) (went_nowhere store old asked is) refl refl (go fault failed) (le_more spent (slots_of sh t * (0 - 0)))
+      where
+        go : (fault : PieceFault) → MakesPiece {T = T} written faults start now (schema_message columns) (Err fault) → HasBroken columns (blocks_of sh t) [] (written start.0) (written now.0)
+        go (Sink sink) failed = breaks_first columns (blocks_of sh t) (written start.0) (written now.0) (sink_fails written faults start now (schema_message columns) sink.earlier fresh failed).1
+        go (Memory refused) failed = subst (λ (w : W × Bool). HasBroken columns (blocks_of sh t) [] (written start.0) (written w.0)) (sym failed.1) (breaks_nowhere columns (blocks_of sh t) (written start.0))
+
+    -- a read found no memory, or a block's message failed
+    pub block_broke : {W : Type 0} (written : W → Option (List ℕ)) (faults : W → ℕ) (mid new : Session) (k : ℕ) (before : Option (List ℕ)) (between now : W × Bool) (sent : Sent) (spent steps later : ℕ)
+        (fault : PieceFault) → Sending store old mid own t k before (written between.0) sent spent steps → between.1 ≡ false → k < blocks_of sh t
+        → SendsBlock store mid new own t k written faults between now steps later (Err fault) → Exports store old new t said.Memory before (written now.0) spent later
+    block_broke {W} written faults mid new k before between now sent spent steps later fault s fresh lt b =
+        let last = read_at store old mid new own t k b.told b.reads in
+        let few = steps_more (slots_of sh t) spent steps later k sent.frozen (count_by is_shared (b.told ∷ [])) s.frozen_few (count_one is_shared b.told) s.steps_few b.few in
+        broke new (k + 1) (s.made ++ last ∷ []) before (written now.0) spent later (omega (arith, lt))
+        (went_further old mid new k before (written between.0) sent spent steps b.told s b.reads lt)
+        (events_further old mid new k before (written between.0) sent spent steps b.told s b.reads lt)
+        (plain_cut_behind s.made last s.plain refl)
+        (go fault b.writes)
+        (subst (λ n. later ≤ spent + slots_of sh t * ((k + 1) - n)) (ap (λ n. n + count_by is_shared (b.told ∷ [])) s.frozen_are ∙ sym (counted_further old mid new k before (written between.0) sent spent steps b.told s b.reads lt is_shared)) few)
+      where
+        go : (fault : PieceFault) → MakesPiece {T = Sent} written faults between now (group_message columns (rows_told b.told)) (Err fault)
+            → HasBroken columns (blocks_of sh t) (s.made ++ read_at store old mid new own t k b.told b.reads ∷ []) before (written now.0)
+        go (Sink sink) failed = breaks_within columns (blocks_of sh t) s.made (read_at store old mid new own t k b.told b.reads) before (written between.0) (written now.0) s.gone
+            (sink_fails written faults between now (group_message columns (rows_told b.told)) sink.earlier fresh failed).1
+        go (Memory refused) failed = subst (λ (w : W × Bool). HasBroken columns (blocks_of sh t) (s.made ++ read_at store old mid new own t k b.told b.reads ∷ []) before (written w.0)) (sym failed.1)
+            (breaks_before columns (blocks_of sh t) s.made (read_at store old mid new own t k b.told b.reads) before (written between.0) s.gone)
+
+    -- all blocks were read
+    all_read : (new : Session) (before now : Option (List ℕ)) (sent : Sent) (spent steps : ℕ) → (s : Sending store old new own t (blocks_of sh t) before now sent spent steps) → AreAllRead (blocks_of sh t) s.made
+    all_read new before now sent spent steps s =
+        (sending_count old new (blocks_of sh t) before now sent spent steps s, plain_granted s.made s.plain)
+
+    -- the word that ends the stream failed
+    pub end_broke : {W : Type 0} (T : Type 0) (written : W → Option (List ℕ)) (faults : W → ℕ) (new : Session) (before : Option (List ℕ)) (between now : W × Bool) (sent : Sent) (spent steps : ℕ) (fault : SinkFault)
+        → Sending store old new own t (blocks_of sh t) before (written between.0) sent spent steps → between.1 ≡ false
+        → WritesPiece {T = T} written faults between now end_word (Err fault) → Exports store old new t said.Memory before (written now.0) spent steps
+    end_broke T written faults new before between now sent spent steps fault s fresh failed =
+        broke new (blocks_of sh t) s.made before (written now.0) spent steps (omega arith) s.went s.events (plain_cut s.made s.plain)
+        (breaks_last columns (blocks_of sh t) s.made before (written between.0) (written now.0) (all_read new before (written between.0) sent spent steps s) s.gone
+        (sink_fails written faults between now end_word fault.earlier fresh failed).1)
+        (subst (λ n. steps ≤ spent + slots_of sh t * (blocks_of sh t - n)) s.frozen_are s.steps_few)
+
+    -- the stream has ended
+    whole_call : (new : Session) (before now : Option (List ℕ)) (sent : Sent) (spent steps : ℕ) → (s : Sending store old new own t (blocks_of sh t) before now sent spent steps)
+        → (a : Answers store old new (command.Export t) (said.Exported own.snapshot.number sent.rows sent.batches sent.frozen)) × (a.made ≡ s.made)
+    whole_call new before now sent spent steps s = answered new s.made (said.Exported own.snapshot.number sent.rows sent.batches sent.frozen) s.went (inl (record {
+      events = s.events ∙ sym (asks s.made);
+      granted = plain_granted s.made s.plain;
+      line = ap (λ n. Some (said.Exported own.snapshot.number n sent.batches sent.frozen)) s.rows_are
+          ∙ ap (λ n. Some (said.Exported own.snapshot.number (rows_all (replies_in s.made)) n sent.frozen)) s.batches_are
+          ∙ ap (λ n. Some (said.Exported own.snapshot.number (rows_all (replies_in s.made)) (count_by with_row (replies_in s.made)) n)) s.frozen_are
+          ∙ sym (ap (option_map (λ (x : OwnTransaction). summary_of x (replies_in s.made))) open');
+    }))
+
+    pub ended : (new : Session) (before between now : Option (List ℕ)) (sent : Sent) (spent steps : ℕ) → Sending store old new own t (blocks_of sh t) before between sent spent steps
+        → Appends between now end_word → Exports store old new t (said.Exported own.snapshot.number sent.rows sent.batches sent.frozen) before now spent steps
+    ended new before between now sent spent steps s last =
+        let a = whole_call new before between sent spent steps s in
+        record {
+          session = s.went.session;
+          same = s.went.same;
+          opened = s.went.opened;
+          answers = a.0;
+          bytes = stream_of columns (groups_told s.made);
+          sent = sending_ends columns s.made before between now s.gone last;
+          sends = ap (λ (os : List Occurrence). stream_of columns (groups_told os)) (sym a.1);
+          few = subst (λ (os : List Occurrence). steps ≤ spent + slots_of sh t * (blocks_of sh t - count_by is_shared (replies_in os))) (sym a.1)
+              (subst (λ n. steps ≤ spent + slots_of sh t * (blocks_of sh t - n)) s.frozen_are s.steps_few);
+        }
+
+-- ---- an export that is refused
+
+-- The transaction wrote the table: nothing was read and nothing sent.
+pub refused : (store : StoreView) (old : Session) (t : ℕ) (key : ℤ) (before : Option (List ℕ)) (spent : ℕ) → IsSession store old
+    → option_map (least_written t) (own_of old) ≡ Some (Some key) → Exports store old old t (said.Dirty key) before before spent spent
+refused store old t key before spent is written = record {
+  session = is;
+  same = refl;
+  opened = refl;
+  answers = a.0;
+  bytes = [];
+  sent = Appends-nil before;
+  sends = refl;
+  few = le_more spent (slots_of (shape_in store) t * (blocks_of (shape_in store) t - count_by is_shared (replies_in a.0.made)));
+}
+  where
+    go : (o : Option OwnTransaction) → option_map (least_written t) o ≡ Some (Some key) → refusal_of (command.Export t) o ≡ Some (said.Dirty key)
+    go None h = absurd (let never : ⊥ = cc in never)
+    go (Some own) h = ap (option_map said.Dirty) (let same : least_written t own ≡ Some key = cc in same)
+
+    a : (a : Answers store old old (command.Export t) (said.Dirty key)) × (a.made ≡ [])
+    a = (
+      record {
+        made = [];
+        called = refused_call (shape_in store) old.session (seen old) (own_of old) is.own (command.Export t) (said.Dirty key) (go (own_of old) written);
+        count = omega arith;
+        ends = tt;
+        took = took_none (shape_in store) (events_of (shape_in store) (own_of old) old.session (command.Export t) []) (seen old) (taken_by old);
+      },
+      refl,
+    )
+
+-- ---- what the transaction wrote
+
+some_is : {X : Type 0} (a b : X) → Some a ≡ Some b → a ≡ b
+some_is a b h = cc
+
+pub clean_here : (s : Session) (own : OwnTransaction) (t : ℕ) (found : Option ℤ) → option_map (least_written t) (own_of s) ≡ Some found → own_of s ≡ Some own → found ≡ None → least_written t own ≡ None
+clean_here s own t found told is none' = some_is (least_written t own) found (sym (ap (option_map (least_written t)) is) ∙ told) ∙ none'
+
+pub number_here : (s : Session) (own : OwnTransaction) (number : ℕ) → option_map (λ (own : OwnTransaction). own.snapshot.number) (own_of s) ≡ Some number → own_of s ≡ Some own → own.snapshot.number ≡ number
+number_here s own number told is = some_is own.snapshot.number number (sym (ap (option_map (λ (own : OwnTransaction). own.snapshot.number)) is) ∙ told)

@@ -1,0 +1,4 @@
+pub mod Blocks
+pub mod Breaking
+pub mod Course
+pub mod Messages

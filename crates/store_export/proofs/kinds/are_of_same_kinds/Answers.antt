@@ -1,0 +1,38 @@
+use Rattle.std.proofs.Common.{◌≡◌, ◌∙◌, true, false, get_or, length, refl, sym, ap, arith}
+use denote.Enum.Bare.{differs_false, differs_true}
+use Rattle.std.proofs.lemmas.List.{length-map, take_more_same}
+use Rattle.std.proofs.lemmas.Option.{slice_get_read}
+use Rattle.cell_model.specs.contracts.kind.Kind.{the_type}
+use Rattle.cell_model.specs.declared.column.Column.{Column}
+use Rattle.core_images.proofs.SameKinds.{kind_at}
+use Rattle.core_images.specs.Kinds.{kinds_of}
+use Rattle.store_export.proofs.kinds.are_of_same_kinds.Goals as goal
+
+pub returns-then-ne : goal.returns-then-ne
+returns-then-ne c = (
+  λ never. absurd (true_is never),
+  λ same. absurd (differs_true the_type c.kind.result (get_or c.args.other.now c.loop-at.at c.index-other-at.result).kind (sym c.if-ne.ensures)
+      (c.kind.ensures
+      ∙ sym (kind_at c.args.one.now.columns c.loop-at.at c.column.result.now.column c.kind.result c.column.ensures.column)
+      ∙ ap (λ kinds. get_or kinds c.loop-at.at c.kind.result) same
+      ∙ kind_at c.args.other.now c.loop-at.at c.index-other-at.result c.kind.result
+      (slice_get_read c.args.other.now (length c.args.other.now) c.loop-at.at c.index-other-at.result refl c.loop-at-test.true c.index-other-at.is)
+      ∙ ap (λ (column : Column). column.kind) c.index-other-at.is)),
+)
+  where
+    true_is : false ≡ true → ⊥
+    true_is e = cc
+
+pub loop-at-preserved : goal.loop-at-preserved
+loop-at-preserved c =
+    let alike = differs_false the_type tt c.kind.result (get_or c.args.other.now c.loop-at.at c.index-other-at.result).kind (sym c.if-ne.ensures) in
+    let one = length-map c.args.one.now.columns (λ (column : Column). column.kind) in
+    let other = length-map c.args.other.now (λ (column : Column). column.kind) in
+    take_more_same (kinds_of c.args.one.now.columns) (kinds_of c.args.other.now) c.loop-at.at c.kind.result
+    (omega (arith, c.loop-at-test.true, one, c.if-width-other.false, c.width.ensures))
+    (omega (arith, c.loop-at-test.true, other))
+    c.loop-at.invariant
+    (kind_at c.args.one.now.columns c.loop-at.at c.column.result.now.column c.kind.result c.column.ensures.column
+    ∙ sym c.kind.ensures ∙ alike ∙ ap (λ (column : Column). column.kind) (sym c.index-other-at.is)
+    ∙ sym (kind_at c.args.other.now c.loop-at.at c.index-other-at.result c.kind.result
+    (slice_get_read c.args.other.now (length c.args.other.now) c.loop-at.at c.index-other-at.result refl c.loop-at-test.true c.index-other-at.is)))

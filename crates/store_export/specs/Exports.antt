@@ -1,0 +1,110 @@
+-- What the export of a table tells and sends, and what it costs.
+use Rattle.std.specs.Prelude.{◌≡◌, ℕ, ◌+◌, ◌*◌, ◌-◌, ◌≤◌, ◌^◌, List, [], ◌∷◌, Bool, false, count_by, flat_map, length, Option, Result, Ok, Err, IfOk}
+use Rattle.std.specs.Io.KnownBytes.{Appends}
+use Rattle.byte_ports.specs.Calls.{Rose}
+use Rattle.event_spec.specs.declared.own.OwnTransaction.{OwnTransaction}
+use Rattle.event_spec.specs.declared.reply.Reply.TheVariants as reply
+use Rattle.event_spec.specs.Parts.{blocks_of, slots_of}
+use Rattle.event_spec.specs.Replay.{columns_in}
+use Rattle.event_spec.specs.Replies.{CoreReply}
+use Rattle.export_spec.specs.Calls.{SendsAs}
+use Rattle.ipc_write.specs.Calls.{MakesPiece}
+use Rattle.ipc_write.specs.declared.faults.PieceFault.{PieceFault}
+use Rattle.ipc_write.specs.declared.faults.PieceFault.TheVariants as piece
+use Rattle.run_spec.specs.Calls.{is_memory}
+use Rattle.run_spec.specs.Occurrences.{replies_in}
+use Rattle.run_spec.specs.Told.{is_shared, is_some_row, rows_told}
+use Rattle.shared_store.specs.Reading.{ReadsBlock}
+use Rattle.shared_store.specs.Store.{Answers, IsSession, StoreView, own_of, shape_in}
+use Rattle.shared_store.specs.declared.reading.BlockRows.{BlockRows}
+use Rattle.shared_store.specs.declared.reading.BlockRows.TheVariants as block
+use Rattle.shared_store.specs.declared.session.Session.{Session}
+use Rattle.workload_spec.specs.declared.command.Command.TheVariants as command
+use Rattle.workload_spec.specs.declared.reply.Said.{Said}
+use Rattle.workload_spec.specs.declared.reply.Said.TheVariants as said
+use Rattle.store_export.specs.Groups.{group_message}
+use Rattle.store_export.specs.declared.exporting.ExportFault.{ExportFault}
+use Rattle.store_export.specs.declared.exporting.ExportFault.TheVariants as fault
+use Rattle.store_export.specs.declared.exporting.Summary.{Summary}
+use Rattle.store_export.specs.declared.sent.Sent.{Sent}
+
+-- ---- what is told
+
+-- The line of an export. A sink's fault is told as want of memory.
+abbrev pub exported_told : Result Summary ExportFault → Said
+exported_told (Ok summary) =
+    said.Exported summary.number summary.rows summary.batches summary.frozen
+exported_told (Err (fault.Dirty key)) = said.Dirty key
+exported_told (Err (fault.Sink failed)) = said.Memory
+exported_told (Err fault.Memory) = said.Memory
+
+-- The sink's count of faults rose just where the export tells its fault.
+abbrev pub CountsFaults : {T : Type 0} → Result T ExportFault → ℕ → ℕ → Type 0
+CountsFaults (Ok summary) before now = now ≡ before
+CountsFaults (Err (fault.Dirty key)) before now = now ≡ before
+CountsFaults (Err (fault.Sink failed)) before now = Rose before now
+CountsFaults (Err fault.Memory) before now = now ≡ before
+
+-- the same of a part of it
+abbrev pub CountsPiece : {T : Type 0} → Result T PieceFault → ℕ → ℕ → Type 0
+CountsPiece (Ok sent) before now = now ≡ before
+CountsPiece (Err (piece.Sink failed)) before now = Rose before now
+CountsPiece (Err (piece.Memory refused)) before now = now ≡ before
+
+-- ---- what is sent
+
+-- the reply that a read told
+abbrev pub reply_in : BlockRows → CoreReply
+reply_in (block.Rows rows) = reply.Rows rows
+reply_in (block.Shared rows) = reply.Shared rows
+
+-- the rows of some reads, the blocks with a row, and the blocks frozen when they were read
+abbrev pub counted : List CoreReply → Sent
+counted replies = record {
+  rows = length (flat_map rows_told replies);
+  batches = count_by (λ told. is_some_row (rows_told told)) replies;
+  frozen = count_by is_shared replies;
+}
+
+-- A block was read, and the message of its rows was written. No row of a frozen one was looked at.
+pub record SendsBlock
+    {W : Type 0} (store : StoreView) (old new : Session) (own : OwnTransaction) (table at : ℕ)
+    (written : W → Option (List ℕ)) (faults : W → ℕ) (before now : W × Bool)
+    (spent steps : ℕ) (result : Result Sent PieceFault)
+    : Type 0 where
+  pub told : CoreReply
+  pub reads : ReadsBlock store old new own table at told
+  pub writes : MakesPiece written faults before now
+      (group_message (columns_in (shape_in store) table) (rows_told told))
+      result
+  pub granted : IfOk result (λ sent. is_memory told ≡ false)
+  pub counts : IfOk result (λ sent. sent ≡ counted (told ∷ []))
+  pub few : steps ≤ spent + slots_of (shape_in store) table * (1 - count_by is_shared (told ∷ []))
+  pub slots : slots_of (shape_in store) table ≤ 2 ^ 15
+
+-- The session carried out an export that tells this line, and sent what it says. It looked at no
+-- row of a block that was frozen when it was read.
+pub record Exports
+    (store : StoreView) (old new : Session) (table : ℕ) (told : Said)
+    (before now : Option (List ℕ)) (spent steps : ℕ)
+    : Type 0 where
+  pub session : IsSession store new
+  pub same : new.session ≡ old.session
+  pub opened : own_of new ≡ own_of old
+  pub answers : Answers store old new (command.Export table) told
+  pub bytes : List ℕ
+  pub sent : Appends before now bytes
+  pub sends : SendsAs
+      (columns_in (shape_in store) table)
+      (blocks_of (shape_in store) table)
+      answers.made
+      told
+      bytes
+  pub few : steps ≤ spent
+      + slots_of (shape_in store) table
+      * (blocks_of (shape_in store) table - count_by is_shared (replies_in answers.made))
+
+-- the line of an export that was not refused
+abbrev pub sent_told : OwnTransaction → Result Sent PieceFault → Said
+sent_told own (Ok sent) = said.Exported own.snapshot.number sent.rows sent.batches sent.frozen
+sent_told own (Err failed) = said.Memory

@@ -1,0 +1,85 @@
+//! The export of a table.
+ghost use Rattle.std.specs.Prelude.{◌≡◌, ◌<◌, ◌^◌, true, false, is_some, length};
+ghost use Rattle.shared_store.specs.Store.{HasRoomFor, IsSession, own_of, shape_in};
+ghost use Rattle.store_export.specs.Exports.{CountsFaults, Exports, exported_told};
+
+use crate::table::send_table;
+use byte_ports::Sink;
+use hall_rule::Steps;
+use ipc_write::{PieceFault, SinkFault, Writer};
+use shared_store::{Session, Store};
+use std::alloc::AllocError;
+use std::sync::Wait;
+use std::sync::ledger::Ledger;
+use thiserror::Error;
+
+/// What an export sent.
+#[derive(Clone, Copy, PartialEq, Eq, Debug)]
+pub struct Summary {
+    /// How many transactions that wrote had committed at the snapshot.
+    pub number: u64,
+    /// How many rows.
+    pub rows: u64,
+    /// In how many batches, one for each block that has a row.
+    pub batches: u32,
+    /// How many of the table's blocks were frozen when they were read.
+    pub frozen: u32,
+}
+
+/// Why an export is refused, or broke off.
+#[derive(Clone, Copy, PartialEq, Eq, Debug, Error)]
+pub enum ExportFault {
+    /// The transaction wrote the table, and this is the least key that it wrote. Nothing was sent.
+    #[error("the transaction wrote the key {0} of the table")]
+    Dirty(i64),
+    /// The sink failed. A front of the stream was sent.
+    #[error("the sink failed")]
+    Sink(SinkFault),
+    /// There was no memory. A front of the stream was sent.
+    #[error("no memory")]
+    Memory,
+}
+
+/// Exports a table as the session's transaction sees it, as an Arrow stream: its schema, a batch
+/// for each block that has a row, and its end. The batch of a frozen block is written from the
+/// image that it shares, of which no row is read; of any other block each row that is looked at is
+/// a step.
+///
+/// # Errors
+///
+/// The transaction wrote the table, the sink failed, or there is no memory.
+pub fn export<R: Wait, L: Ledger, W: Sink>(
+    store: &Store,
+    rt: &R,
+    session: &mut Session,
+    table: u32,
+    writer: &mut Writer<W>,
+    steps: &mut Steps<L>,
+) -> Result<Summary, ExportFault>
+    requires session { IsSession store.now session.old }
+    requires room { HasRoomFor (2 ^ 10) session.old }
+    requires busy { is_some (own_of session.old) ≡ true }
+    requires table { table < length (shape_in store.now).tables }
+    requires fresh { writer.old.1 ≡ false }
+    ensures exports { Exports store.now
+        session.old session.new table (exported_told result)
+        (W.written writer.old.0) (W.written writer.new.0) steps.old steps.new }
+    ensures faults { CountsFaults result (W.faults writer.old.0) (W.faults writer.new.0) }
+    ensures started { W.started writer.new.0 ≡ W.started writer.old.0 }
+    ensures loan { W.loan writer.new.0 ≡ W.loan writer.old.0 }
+{
+    if let Some(key) = session.dirty(table) {
+        return Err(ExportFault::Dirty(key));
+    }
+    let number = session.number();
+    match send_table(store, rt, session, table, writer, steps) {
+        Ok(sent) => Ok(Summary {
+            number,
+            rows: sent.rows,
+            batches: sent.batches,
+            frozen: sent.frozen,
+        }),
+        Err(PieceFault::Sink(fault)) => Err(ExportFault::Sink(fault)),
+        Err(PieceFault::Memory(AllocError)) => Err(ExportFault::Memory),
+    }
+}

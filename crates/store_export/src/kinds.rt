@@ -1,0 +1,22 @@
+//! The kinds of columns, by which their buffers are laid out.
+ghost use Rattle.std.specs.Prelude.{◌≡◌, ◌↔◌, IsTrue};
+ghost use Rattle.core_images.specs.Kinds.{kinds_of};
+
+use block_columns::Columns;
+use cell_model::Column;
+
+/// Whether there are as many of the one columns as of the others, each of the kind of that in its
+/// place.
+pub(crate) fn are_of_same_kinds(one: &Columns, other: &[Column]) -> bool
+    ensures { IsTrue result ↔ kinds_of one.now.columns ≡ kinds_of other.now }
+{
+    if one.width() != other.len() {
+        return false;
+    }
+    for at in 0..other.len() {
+        if one.column(at).kind() != other[at].kind {
+            return false;
+        }
+    }
+    true
+}

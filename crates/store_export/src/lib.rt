@@ -1,0 +1,11 @@
+//! The export of a table of a store as an Arrow stream: a batch for a block that has a row at the
+//! snapshot, and of a frozen block its shared image, of which no row is read.
+#![tactic(auto)]
+
+mod exporting;
+mod kinds;
+mod sending;
+mod sent;
+mod table;
+
+pub use exporting::{ExportFault, Summary, export};

@@ -1,0 +1,130 @@
+//! Sending a table, block after block.
+ghost use Rattle.std.specs.Prelude.{◌≡◌, ◌<◌, ◌≤◌, ◌^◌, ◌∷◌, [], true, false, None, Some};
+ghost use Rattle.std.specs.Prelude.{All, IfOk, is_some, length};
+ghost use Rattle.cell_model.specs.Rows.{Fits};
+ghost use Rattle.event_spec.specs.Lawful.{HasBlock};
+ghost use Rattle.event_spec.specs.declared.own.OwnTransaction.{OwnTransaction as Own};
+ghost use Rattle.ipc_write.specs.Calls.{MakesPiece};
+ghost use Rattle.run_spec.specs.Opened.{least_written};
+ghost use Rattle.shared_store.specs.Reading.{rows_in};
+ghost use Rattle.shared_store.specs.Store.{HasRoomFor, IsSession, own_of, shape_in};
+ghost use Rattle.store_export.specs.Exports.{CountsPiece, Exports, SendsBlock};
+ghost use Rattle.store_export.specs.Exports.{counted, reply_in, sent_told};
+ghost use Rattle.store_export.specs.Groups.{group_message};
+
+use crate::sending::{write_image, write_rows};
+use crate::sent::Sent;
+use byte_ports::Sink;
+use cell_model::Schema;
+use hall_rule::Steps;
+use ipc_write::{PieceFault, Writer};
+use shared_store::{BlockRows, Session, Store};
+use std::alloc::{AllocError, Global};
+use std::sync::Wait;
+use std::sync::ledger::Ledger;
+
+/// Writes the batch of what a read told, if it told a row.
+fn write_read<W: Sink>(
+    alloc: Global,
+    schema: &Schema,
+    read: BlockRows,
+    writer: &mut Writer<W>,
+) -> Result<Sent, PieceFault>
+    requires fresh { writer.old.1 ≡ false }
+    requires fits { All (λ row. Fits schema.now row) (rows_in read) }
+    requires few { length (rows_in read) ≤ 2 ^ 15 }
+    ensures answer { MakesPiece
+        W.written
+        W.faults
+        writer.old
+        writer.new
+        (group_message schema.now (rows_in read))
+        result }
+    ensures sent { IfOk result (λ sent. sent ≡ counted (reply_in read ∷ [])) }
+    ensures started { W.started writer.new.0 ≡ W.started writer.old.0 }
+    ensures loan { W.loan writer.new.0 ≡ W.loan writer.old.0 }
+{
+    match read {
+        BlockRows::Rows(rows) => match write_rows(alloc, schema, rows.as_slice(), writer) {
+            Ok(count) => Ok(Sent::of_block(count, 0)),
+            Err(fault) => Err(fault),
+        },
+        BlockRows::Shared(shared) => match write_image(alloc, schema, &shared, writer) {
+            Ok(count) => Ok(Sent::of_block(count, 1)),
+            Err(fault) => Err(fault),
+        },
+    }
+}
+
+/// Reads a block, and writes its batch.
+fn send_block<R: Wait, L: Ledger, W: Sink>(
+    store: &Store,
+    rt: &R,
+    session: &mut Session,
+    table: u32,
+    block: u32,
+    writer: &mut Writer<W>,
+    steps: &mut Steps<L>,
+) -> Result<Sent, PieceFault>
+    requires session { IsSession store.now session.old }
+    requires room { HasRoomFor 1 session.old }
+    requires busy { is_some (own_of session.old) ≡ true }
+    requires block { HasBlock (shape_in store.now) table block }
+    requires fresh { writer.old.1 ≡ false }
+    ensures sends { (own : Own) → own_of session.old ≡ Some own → SendsBlock store.now
+        session.old session.new own table block
+        W.written W.faults writer.old writer.new steps.old steps.new result }
+    ensures started { W.started writer.new.0 ≡ W.started writer.old.0 }
+    ensures loan { W.loan writer.new.0 ≡ W.loan writer.old.0 }
+{
+    let shape = store.shape();
+    // A block has at most 2^15 slots, so that its batch can be written.
+    let _slots = shape.slots(table);
+    match store.read(rt, session, table, block, steps) {
+        Ok(read) => write_read(shape.alloc(), shape.schema(table), read, writer),
+        Err(AllocError) => Err(PieceFault::Memory(AllocError)),
+    }
+}
+
+/// Sends a table that the session's transaction did not write, as a stream.
+pub(crate) fn send_table<R: Wait, L: Ledger, W: Sink>(
+    store: &Store,
+    rt: &R,
+    session: &mut Session,
+    table: u32,
+    writer: &mut Writer<W>,
+    steps: &mut Steps<L>,
+) -> Result<Sent, PieceFault>
+    requires session { IsSession store.now session.old }
+    requires room { HasRoomFor (2 ^ 10) session.old }
+    requires busy { is_some (own_of session.old) ≡ true }
+    requires table { table < length (shape_in store.now).tables }
+    requires fresh { writer.old.1 ≡ false }
+    ensures exports { (own : Own) → own_of session.old ≡ Some own
+        → least_written table own ≡ None
+        → Exports store.now session.old session.new table (sent_told own result)
+        (W.written writer.old.0) (W.written writer.new.0) steps.old steps.new }
+    ensures faults { CountsPiece result (W.faults writer.old.0) (W.faults writer.new.0) }
+    ensures started { W.started writer.new.0 ≡ W.started writer.old.0 }
+    ensures loan { W.loan writer.new.0 ≡ W.loan writer.old.0 }
+{
+    let shape = store.shape();
+    if let Err(fault) = writer.schema(shape.alloc(), shape.schema(table)) {
+        return Err(fault);
+    }
+    let mut sent = Sent {
+        rows: 0,
+        batches: 0,
+        frozen: 0,
+    };
+    for block in 0..shape.blocks(table) {
+        match send_block(store, rt, session, table, block, writer, steps) {
+            Ok(more) => sent.add(more),
+            Err(fault) => return Err(fault),
+        }
+    }
+    match writer.finish() {
+        Ok(()) => Ok(sent),
+        Err(fault) => Err(PieceFault::Sink(fault)),
+    }
+}
