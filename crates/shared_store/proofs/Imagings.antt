@@ -1,5 +1,5 @@
 -- The image of a block, made of the parts that a pass holds and laid into the block.
-use Rattle.std.proofs.Common.{◌≡◌, ◌⊎◌, ℕ, ◌+◌, true, false, cond, List, [], ◌∷◌, Option, None, Some, length, map, refl, sym, ap, subst, ◌∙◌, append-nil, arith}
+use Rattle.std.proofs.Common.{◌≡◌, ◌⊎◌, ℕ, true, cond, List, [], ◌∷◌, Option, None, Some, length, map, refl, sym, ap, subst, ◌∙◌, append-nil, arith}
 use mathlib.Core.Logic.{inl, inr}
 use Rattle.block_spec.specs.declared.phase.Phase.{Phase}
 use Rattle.block_spec.specs.declared.phase.Phase.TheVariants.{Loose, Sealed, Imaged}
@@ -21,12 +21,11 @@ use Rattle.frame_laws.specs.Shards.{CoreHolds}
 use Rattle.hall_rule.specs.Hands.{Agrees, Covers}
 use Rattle.hall_steps.specs.Hall.{first_of}
 use Rattle.run_spec.specs.Asked.{rows_sealed}
-use Rattle.run_spec.specs.Opened.{own_behind}
 use Rattle.shared_store.specs.Freezing.{Imaged as ImagedAny, ImagedHeld, Images, ImagesHeld, IsImageThere, MakesNone, MayImageHeld, imaging}
-use Rattle.shared_store.specs.Making.{Gives, Makes, MayMakeHeld, MakesHeld, Takes, parts_seen}
+use Rattle.shared_store.specs.Making.{Gives, Makes, MayMakeHeld, Takes, parts_seen}
 use Rattle.shared_store.specs.Store.{Answers, HandsView, IsAt, IsSession, IsTouched, IsWithin, SeatView, StoreView, TookPartsOf, own_of, seen, shape_in}
 use Rattle.shared_store.proofs.Hands.{agrees_with}
-use Rattle.shared_store.proofs.Made.{fronts, made_whole, one_hand, took_further}
+use Rattle.shared_store.proofs.Made.{fronts, made_whole, one_hand}
 use Rattle.run_spec.specs.Handed.{GoesOn, own_in}
 use Rattle.shared_store.proofs.Calls.{one_event_at, unmade_call}
 use Rattle.shared_store.proofs.Sessions.{session_is}

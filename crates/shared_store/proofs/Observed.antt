@@ -1,6 +1,6 @@
 -- Observes of blocks one after another.
-use Rattle.std.proofs.Common.{◌≡◌, ℕ, ◌+◌, ◌*◌, ◌<◌, ◌≤◌, ◌^◌, Bool, true, false, cond, List, [], ◌∷◌, ◌++◌, Option, None, Some, length, map, refl, sym, ap, subst, ◌∙◌, append-nil, arith}
-use mathlib.Core.Logic.{inl, inr}
+use Rattle.std.proofs.Common.{◌≡◌, ℕ, ◌+◌, ◌≤◌, Bool, true, false, cond, List, [], ◌∷◌, ◌++◌, Some, length, map, refl, sym, ap, ◌∙◌, append-nil, arith}
+use mathlib.Core.Logic.{inl}
 use mir.Val.{bool_byte}
 use Rattle.std.specs.Prelude.{count_by, flat_map, fold}
 use Rattle.std.proofs.lemmas.List.{append_assoc, map-append}
@@ -10,14 +10,14 @@ use Rattle.event_spec.specs.Lawful.{Among, HasBlock}
 use Rattle.event_spec.specs.declared.reply.Reply.TheVariants as reply
 use Rattle.event_spec.specs.Parts.{Shape, below, blocks_of}
 use Rattle.event_spec.specs.Replies.{CoreReply}
-use Rattle.run_spec.specs.Asked.{at_all_blocks, at_blocks, events_of}
-use Rattle.run_spec.specs.Occurrences.{Occurrence, events_in, replies_in}
+use Rattle.run_spec.specs.Asked.{at_all_blocks, at_blocks}
+use Rattle.run_spec.specs.Occurrences.{Occurrence, replies_in}
 use Rattle.run_spec.specs.Told.{is_turned}
 use Rattle.store_laws.specs.Own.{occurrence_at, parts_after}
 use Rattle.workload_spec.specs.declared.command.Command.TheVariants.{Observe}
 use Rattle.workload_spec.specs.declared.reply.Said.TheVariants as said
 use Rattle.shared_store.specs.Observing.{Observes, ObservesBlock, observing}
-use Rattle.shared_store.specs.Store.{Answers, IsSession, StoreView, own_of, shape_in}
+use Rattle.shared_store.specs.Store.{Answers, IsSession, StoreView, shape_in}
 use Rattle.shared_store.specs.declared.session.Session.{Session}
 use Rattle.shared_store.proofs.Scanned.{below_more, plain_added, plain_granted, went_call, went_more, went_nowhere}
 

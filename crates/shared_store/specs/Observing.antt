@@ -1,9 +1,8 @@
 -- What observing blocks makes, one after another.
-use Rattle.std.specs.Prelude.{◌≡◌, ℕ, ◌+◌, Bool, true, false, List, [], ◌∷◌, ◌++◌, count_by, flat_map, if◌then◌else◌, length, map}
+use Rattle.std.specs.Prelude.{◌≡◌, ℕ, ◌+◌, Bool, List, ◌++◌, count_by}
 use Rattle.event_spec.specs.declared.event.Event.TheVariants as event
 use Rattle.event_spec.specs.declared.reply.Reply.TheVariants as reply
 use Rattle.event_spec.specs.Effects.{CoreEvent}
-use Rattle.event_spec.specs.Parts.{Shape, below, blocks_of}
 use Rattle.run_spec.specs.Asked.{at_all_blocks, at_blocks}
 use Rattle.run_spec.specs.Occurrences.{Occurrence, events_in, replies_in}
 use Rattle.run_spec.specs.Told.{is_turned}

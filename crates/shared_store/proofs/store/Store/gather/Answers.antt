@@ -1,7 +1,6 @@
-use Rattle.std.proofs.Common.{◌≡◌, Option, None, Some, refl, sym, subst}
+use Rattle.std.proofs.Common.{Option, refl, sym, subst}
 use Rattle.event_spec.specs.Parts.{body_at}
 use Rattle.event_spec.specs.Replies.{CoreReply}
-use Rattle.run_spec.specs.Calls.{is_memory}
 use Rattle.store_laws.specs.Laws.{TellsLine}
 use Rattle.store_laws.specs.Own.{parts_after}
 use Rattle.workload_spec.specs.declared.command.Command.TheVariants.{Gather}

@@ -1,4 +1,4 @@
-use Rattle.std.proofs.Common.{◌≡◌, ◌+◌, ◌<◌, ◌^◌, ℕ, List, None, length, ap, subst, arith}
+use Rattle.std.proofs.Common.{List, length, ap, subst, arith}
 use Rattle.event_spec.specs.Effects.{CoreEvent}
 use Rattle.hall_rule.specs.declared.view.Entry.{Entry}
 use Rattle.shared_store.specs.Making.{IsFew, Takes}

@@ -1,4 +1,4 @@
-use Rattle.std.proofs.Common.{◌≡◌, ◌+◌, ◌*◌, ◌≤◌, ◌^◌, ℕ, List, ◌++◌, length, sym, ap, subst, ◌∙◌, arith}
+use Rattle.std.proofs.Common.{◌≡◌, ◌+◌, List, length, ap, subst, ◌∙◌, arith}
 use Rattle.std.specs.List.{flat_map}
 use Rattle.cell_model.specs.declared.table.TableDecl.{TableDecl}
 use Rattle.event_spec.specs.Effects.{CoreEvent}
@@ -20,12 +20,11 @@ loop-table-preserved g c =
     let few = inv.0 in
     let made = inv.1 in
     let more = c.observe_table-turned.ensures.few in
-    let made_more = c.observe_table-turned.ensures.made in
-    (
+    let made_more = c.observe_table-turned.ensures.made in (
       omega (arith, few, more),
       omega (arith, made, made_more),
       subst (λ (es : List CoreEvent). Observes st c.args.session.now c.observe_table-turned.new.session es (c.loop-table.turned + c.observe_table-turned.result)) (table_more st t)
-      (c.observe_table-turned.ensures.observes c.args.session.now (flat_map (λ table. at_blocks (shape_in st) table (observing table)) (below t)) c.loop-table.turned inv.2),
+          (c.observe_table-turned.ensures.observes c.args.session.now (flat_map (λ table. at_blocks (shape_in st) table (observing table)) (below t)) c.loop-table.turned inv.2),
     )
 
 pub returns-clause-answers : goal.returns-clause-answers

@@ -1,4 +1,4 @@
-use Rattle.std.proofs.Common.{◌≡◌, ◌≤◌, ◌+◌, ◌*◌, ◌^◌, ℕ}
+use Rattle.std.proofs.Common.{◌≤◌, ◌+◌, ◌*◌, ◌^◌}
 use Rattle.std.specs.List.{flat_map}
 use Rattle.event_spec.specs.Parts.{below}
 use Rattle.run_spec.specs.Asked.{at_blocks}

@@ -1,14 +1,11 @@
-use Rattle.std.proofs.Common.{◌≡◌, ℕ, Bool, Option, refl, sym, ap, subst, ◌∙◌}
+use Rattle.std.proofs.Common.{refl, sym, subst}
 use mathlib.Core.Logic.{inr}
-use Rattle.block_spec.specs.Bodies.{turns}
 use Rattle.event_spec.specs.Effects.{CoreEvent}
-use Rattle.event_spec.specs.Parts.{body_at, is_head}
 use Rattle.event_spec.specs.Replies.{CoreReply}
 use Rattle.store_laws.specs.Laws.{IsOfSession}
-use Rattle.store_laws.specs.Own.{parts_after}
-use Rattle.shared_store.specs.Making.{Makes, MayMake}
+use Rattle.shared_store.specs.Making.{Makes}
 use Rattle.shared_store.specs.Observing.{observing}
-use Rattle.shared_store.specs.Store.{own_of, shape_in}
+use Rattle.shared_store.specs.Store.{own_of}
 use Rattle.shared_store.specs.declared.session.Session.{Session}
 use Rattle.shared_store.proofs.Calls.{told_always}
 use Rattle.shared_store.proofs.Sessions.{session_is}

@@ -1,4 +1,4 @@
-use Rattle.std.proofs.Common.{◌≡◌, ◌+◌, ◌<◌, ◌≤◌, ℕ, Bool, true, false, cond, List, ◌++◌, map, sym, ap, subst, ◌∙◌, arith}
+use Rattle.std.proofs.Common.{◌≡◌, ◌+◌, cond, List, ◌++◌, map, ap, subst, ◌∙◌, arith}
 use Rattle.event_spec.specs.Effects.{CoreEvent}
 use Rattle.event_spec.specs.Lawful.{HasBlock}
 use Rattle.event_spec.specs.Parts.{Shape, below, blocks_of}
@@ -22,14 +22,13 @@ loop-block-preserved g c =
     let end' = c.loop-block.auto.block-end in
     let has : HasBlock (shape_in st) t k = (c.requires.table, omega (arith, blocks, below', end')) in
     let told : c.from-turned.result ≡ cond c.observe_block.result 1 0 = c.from-turned.ensures ∙ byte_is c.observe_block.result in
-    let at_most = turned_few c.observe_block.result in
-    (
+    let at_most = turned_few c.observe_block.result in (
       m.session,
       omega (arith, count, one),
       omega (arith, few, told, at_most),
       λ first events before o.
-      let sum : (before + c.loop-block.turned) + cond c.observe_block.result 1 0 ≡ before + (c.loop-block.turned + c.from-turned.result) = omega (arith, told) in
-      subst (λ n. Observes st first c.observe_block.new.session (events ++ map (observing t) (below (k + 1))) n) sum
-      (subst (λ (es : List CoreEvent). Observes st first c.observe_block.new.session es ((before + c.loop-block.turned) + cond c.observe_block.result 1 0)) (block_more st events t k)
-      (observes_on st first c.loop-block.session c.observe_block.new.session (events ++ map (observing t) (below k)) (before + c.loop-block.turned) t k c.observe_block.result (inv.3 first events before o) m has)),
+          let sum : (before + c.loop-block.turned) + cond c.observe_block.result 1 0 ≡ before + (c.loop-block.turned + c.from-turned.result) = omega (arith, told) in
+          subst (λ n. Observes st first c.observe_block.new.session (events ++ map (observing t) (below (k + 1))) n) sum
+          (subst (λ (es : List CoreEvent). Observes st first c.observe_block.new.session es ((before + c.loop-block.turned) + cond c.observe_block.result 1 0)) (block_more st events t k)
+          (observes_on st first c.loop-block.session c.observe_block.new.session (events ++ map (observing t) (below k)) (before + c.loop-block.turned) t k c.observe_block.result (inv.3 first events before o) m has)),
     )
