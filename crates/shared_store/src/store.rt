@@ -1,5 +1,5 @@
 //! The store.
-ghost use Rattle.std.specs.Prelude.{◌≡◌, ◌≤◌, ◌^◌, All};
+ghost use Rattle.std.specs.Prelude.{◌≡◌, ◌≤◌, ◌^◌, All, length};
 ghost use Rattle.shared_store.specs.Store.{shape_in};
 
 use cell_model::TableDecl;
@@ -42,6 +42,7 @@ impl Store {
     pub fn tables(&self) -> &[TableDecl]
         ensures tables { result.now ≡ (shape_in self.now).tables }
         ensures few { All (λ table. table.blocks ≤ 2 ^ 10) (shape_in self.now).tables }
+        ensures many { length (shape_in self.now).tables ≤ 16 }
     {
         self.hall.shape().tables()
     }

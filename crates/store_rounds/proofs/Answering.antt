@@ -1,8 +1,9 @@
 -- What a session is answered: refused without a transaction, or by few events.
-use Rattle.std.proofs.Common.{◌≡◌, ℕ, ℤ, zero, suc, ◌+◌, ◌<◌, ◌≤◌, ◌^◌, ◌&&◌, Bool, true, false, List, [], ◌∷◌, ◌++◌, map, length, Option, None, Some, is_some, option_map, refl, sym, ap, ◌∙◌, subst, append-nil, arith, length-append, true≢false}
+use Rattle.std.proofs.Common.{◌≡◌, ℕ, ℤ, zero, suc, ◌+◌, ◌*◌, ◌<◌, ◌≤◌, ◌^◌, ◌&&◌, Bool, true, false, List, [], ◌∷◌, ◌++◌, map, length, Option, None, Some, is_some, option_map, refl, sym, ap, ◌∙◌, subst, append-nil, arith, length-append, true≢false}
 use mathlib.Core.Logic.{inl, inr}
 use Rattle.std.specs.Prelude.{All, slice_get, unwrap_or}
-use Rattle.std.specs.Prelude.{option_to_list}
+use Rattle.std.specs.Prelude.{flat_map, option_to_list}
+use Rattle.std.specs.List.{range_with_len}
 use Rattle.std.proofs.lemmas.Bool.{and_parts}
 use Rattle.std.proofs.lemmas.List.{length-map}
 use Rattle.std.proofs.lemmas.List.Elements.{All-head, All-tail}
@@ -17,7 +18,7 @@ use Rattle.workload_spec.specs.declared.command.Command.{Command}
 use Rattle.workload_spec.specs.declared.command.Command.TheVariants as command
 use Rattle.workload_spec.specs.declared.reply.Said.{Said}
 use Rattle.workload_spec.specs.declared.reply.Said.TheVariants as said
-use Rattle.run_spec.specs.Asked.{at_blocks, events_of}
+use Rattle.run_spec.specs.Asked.{at_all_blocks, at_blocks, events_of}
 use Rattle.run_spec.specs.Calls.{Call, IsCallBy}
 use Rattle.run_spec.specs.Handed.{own_in}
 use Rattle.run_spec.specs.Occurrences.{Occurrence, events_in}
@@ -25,7 +26,7 @@ use Rattle.run_spec.specs.Opened.{own_after}
 use Rattle.run_spec.specs.Told.{refusal_of}
 use Rattle.shared_store.specs.Store.{Answers, IsSession, StoreView, events_made, own_of, seen, shape_in, taken_by}
 use Rattle.shared_store.specs.declared.session.Session.{Session}
-use Rattle.store_rounds.specs.Answered.{IsServed, is_of_transaction, most_events}
+use Rattle.store_rounds.specs.Answered.{IsServed, is_carried_out, most_events}
 
 -- ---- refused without a transaction
 
@@ -95,59 +96,73 @@ reads_few shape table read few =
     let all = length-range_with_len 0 (blocks_of shape table) in
     omega (arith, each, all, few)
 
-thaw_and_write : (table : ℕ) (block : Option ℕ) (e : CoreEvent) → length (map (event.Thaw table) (option_to_list block) ++ e ∷ []) ≤ 2 ^ 10
+-- and so do events for each block of each table
+sweeps_few : (shape : Shape) (event : ℕ → ℕ → CoreEvent) → ((table : ℕ) → blocks_of shape table ≤ 2 ^ 10) → length shape.tables ≤ 16 → length (at_all_blocks shape event) ≤ 2 ^ 14
+sweeps_few shape event few many =
+    let all = go 0 (length shape.tables) in
+    omega (arith, all, many)
+  where
+    go : (a n : ℕ) → length (flat_map (λ table. at_blocks shape table (event table)) (range_with_len a n)) ≤ 2 ^ 10 * n
+    go a zero = omega arith
+    go a (suc n) =
+        let rest = go (a + 1) n in
+        let first = reads_few shape a (event a) (few a) in
+        let both = length-append (at_blocks shape a (event a)) (flat_map (λ table. at_blocks shape table (event table)) (range_with_len (a + 1) n)) in
+        omega (arith, rest, first, both)
+
+thaw_and_write : (table : ℕ) (block : Option ℕ) (e : CoreEvent) → length (map (event.Thaw table) (option_to_list block) ++ e ∷ []) ≤ 2 ^ 14
 thaw_and_write table None e = omega arith
 thaw_and_write table (Some block) e = omega arith
 
 events_few : (shape : Shape) (own : Option OwnTransaction) (session : ℕ) (command : Command) (made : List Occurrence)
-    → ((table : ℕ) → blocks_of shape table ≤ 2 ^ 10) → is_of_transaction command ≡ true
-    → length (events_of shape own session command made) ≤ 2 ^ 10
-events_few shape own session command.Begin made few is = omega arith
-events_few shape None session (command.Get table key) made few is = omega arith
-events_few shape (Some t) session (command.Get table key) made few is = omega arith
-events_few shape None session (command.Scan table) made few is = omega arith
-events_few shape (Some t) session (command.Scan table) made few is = reads_few shape table (event.Read t table) (few table)
-events_few shape None session (command.Insert table row) made few is = omega arith
-events_few shape (Some t) session (command.Insert table row) made few is = omega arith
-events_few shape None session (command.Update table row) made few is = omega arith
-events_few shape (Some t) session (command.Update table row) made few is = thaw_and_write table _ _
-events_few shape None session (command.Delete table key) made few is = omega arith
-events_few shape (Some t) session (command.Delete table key) made few is = thaw_and_write table _ _
-events_few shape None session command.Commit made few is = omega arith
-events_few shape (Some t) session command.Commit made few is = omega arith
-events_few shape None session command.Abort made few is = omega arith
-events_few shape (Some t) session command.Abort made few is = omega arith
-events_few shape own session command.Observe made few is = absurd (true≢false (sym is))
-events_few shape own session command.Prune made few is = absurd (true≢false (sym is))
-events_few shape own session (command.Compact table) made few is = absurd (true≢false (sym is))
-events_few shape own session (command.Seal table block) made few is = absurd (true≢false (sym is))
-events_few shape own session (command.Gather table block) made few is = absurd (true≢false (sym is))
-events_few shape own session (command.Export table) made few is = absurd (true≢false (sym is))
+    → ((table : ℕ) → blocks_of shape table ≤ 2 ^ 10) → length shape.tables ≤ 16 → is_carried_out command ≡ true
+    → length (events_of shape own session command made) ≤ 2 ^ 14
+events_few shape own session command.Begin made few many is = omega arith
+events_few shape None session (command.Get table key) made few many is = omega arith
+events_few shape (Some t) session (command.Get table key) made few many is = omega arith
+events_few shape None session (command.Scan table) made few many is = omega arith
+events_few shape (Some t) session (command.Scan table) made few many is = let reads = reads_few shape table (event.Read t table) (few table) in omega (arith, reads)
+events_few shape None session (command.Insert table row) made few many is = omega arith
+events_few shape (Some t) session (command.Insert table row) made few many is = omega arith
+events_few shape None session (command.Update table row) made few many is = omega arith
+events_few shape (Some t) session (command.Update table row) made few many is = thaw_and_write table _ _
+events_few shape None session (command.Delete table key) made few many is = omega arith
+events_few shape (Some t) session (command.Delete table key) made few many is = thaw_and_write table _ _
+events_few shape None session command.Commit made few many is = omega arith
+events_few shape (Some t) session command.Commit made few many is = omega arith
+events_few shape None session command.Abort made few many is = omega arith
+events_few shape (Some t) session command.Abort made few many is = omega arith
+events_few shape own session command.Observe made few many is = sweeps_few shape event.Observe few many
+events_few shape own session command.Prune made few many is = absurd (true≢false (sym is))
+events_few shape own session (command.Compact table) made few many is = absurd (true≢false (sym is))
+events_few shape own session (command.Seal table block) made few many is = omega arith
+events_few shape own session (command.Gather table block) made few many is = omega arith
+events_few shape own session (command.Export table) made few many is = absurd (true≢false (sym is))
 
 made_few : (shape : Shape) (worker : Bool) (session : ℕ) (own : Option OwnTransaction) (refusal : Option Said) (call : Call)
-    → ((table : ℕ) → blocks_of shape table ≤ 2 ^ 10) → is_of_transaction call.command ≡ true
-    → IsCallBy shape worker session own refusal call → length call.made ≤ 2 ^ 10
-made_few shape worker session own (Some line) call few is (none, told) = let e = ap length none in omega (arith, e)
-made_few shape worker session own None call few is (inl whole) =
-    let all = events_few shape own session call.command call.made few is in
+    → ((table : ℕ) → blocks_of shape table ≤ 2 ^ 10) → length shape.tables ≤ 16 → is_carried_out call.command ≡ true
+    → IsCallBy shape worker session own refusal call → length call.made ≤ 2 ^ 14
+made_few shape worker session own (Some line) call few many is (none, told) = let e = ap length none in omega (arith, e)
+made_few shape worker session own None call few many is (inl whole) =
+    let all = events_few shape own session call.command call.made few many is in
     let same = ap length whole.events in
     let each = length-map call.made (λ (occurrence : Occurrence). occurrence.event) in
     omega (arith, all, same, each)
-made_few shape worker session own None call few is (inr part) =
-    let all = events_few shape own session call.command call.made few is in
+made_few shape worker session own None call few many is (inr part) =
+    let all = events_few shape own session call.command call.made few many is in
     let same = ap length part.events in
     let parted = length-append (events_in call.made) part.missed in
     let each = length-map call.made (λ (occurrence : Occurrence). occurrence.event) in
     omega (arith, all, same, parted, each)
 
--- a command of a transaction makes few events
+-- a command that is carried out makes few events
 pub few_events : (store : StoreView) (old new : Session) (command : Command) (told : Said)
-    → All (λ (t : TableDecl). t.blocks ≤ 2 ^ 10) (shape_in store).tables → IsServed (shape_in store).tables command
-    → Answers store old new command told → events_made new ≤ events_made old + most_events
-few_events store old new command told blocks served answers =
+    → All (λ (t : TableDecl). t.blocks ≤ 2 ^ 10) (shape_in store).tables → length (shape_in store).tables ≤ 16
+    → IsServed (shape_in store).tables command → Answers store old new command told → events_made new ≤ events_made old + most_events
+few_events store old new command told blocks many served answers =
     let few : (table : ℕ) → blocks_of (shape_in store) table ≤ 2 ^ 10 =
     λ (table : ℕ). blocks_few (shape_in store).tables table blocks in
     let made = made_few (shape_in store) false old.session (own_after (own_in (shape_in store) old.session (seen old)))
     (refusal_of command (own_after (own_in (shape_in store) old.session (seen old))))
-    (record { command = command; made = answers.made; told = Some told }) few served.kind answers.called.is_call in
+    (record { command = command; made = answers.made; told = Some told }) few many served.kind answers.called.is_call in
     omega (arith, made, answers.count)

@@ -4,15 +4,16 @@ ghost use Rattle.run_spec.specs.Told.{refusal_of};
 ghost use Rattle.shared_store.specs.Store.{Answers, HasRoomFor, IsSession, shape_in};
 ghost use Rattle.store_rounds.specs.Answered.{Counts, IsServed, most_events};
 
-use crate::told::{begun, found, scanned, written};
+use crate::told::{begun, found, gathered, scanned, sealed, written};
 use shared_store::{Session, Store};
 use std::sync::Wait;
+use std::thread::Threads;
 use workload_spec::{Command, Said};
 
 /// Carries out a session's command, and gives the line that it is told.
 ///
 /// Without a transaction a command that needs one makes no event, and is told so.
-pub(crate) fn answer<R: Wait>(
+pub(crate) fn answer<R: Wait + Threads + Sync>(
     rt: &R,
     store: &Store,
     session: &mut Session,
@@ -41,12 +42,14 @@ pub(crate) fn answer<R: Wait>(
             store.abort(rt, session);
             Said::Aborted
         }
-        Command::Observe
-        | Command::Prune
-        | Command::Compact { .. }
-        | Command::Seal { .. }
-        | Command::Gather { .. }
-        | Command::Export { .. } => unreachable!(),
+        Command::Observe => Said::Cooling(store.observe(rt, session)),
+        Command::Seal { table, block } => {
+            sealed(table, block, store.seal(rt, session, table, block))
+        }
+        Command::Gather { table, block } => {
+            gathered(table, block, store.gather(rt, session, table, block))
+        }
+        Command::Prune | Command::Compact { .. } | Command::Export { .. } => unreachable!(),
     }
 }
 

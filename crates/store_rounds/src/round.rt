@@ -18,6 +18,7 @@ use byte_ports::Gate;
 use shared_store::{Session, Store};
 use std::alloc::Global;
 use std::sync::Wait;
+use std::thread::Threads;
 use workload_spec::Round;
 
 /// Runs a round: the sessions of a row carry out their commands, one session after another, and
@@ -27,7 +28,7 @@ use workload_spec::Round;
 ///
 /// [`RunFault::Memory`] where there is no memory for the round's commands or lines. Each session
 /// carried out the first of its commands, and all met.
-pub(crate) fn run_round<R: Wait, G: Gate>(
+pub(crate) fn run_round<R: Wait + Threads + Sync, G: Gate>(
     rt: &R,
     alloc: Global,
     gate: &G,
@@ -53,7 +54,7 @@ pub(crate) fn run_round<R: Wait, G: Gate>(
 }
 
 /// The work of a round, before all meet.
-fn work_round<R: Wait, G: Gate>(
+fn work_round<R: Wait + Threads + Sync, G: Gate>(
     rt: &R,
     alloc: Global,
     gate: &G,
@@ -94,7 +95,7 @@ fn work_round<R: Wait, G: Gate>(
 /// # Errors
 ///
 /// Those of [`work`]: each session carried out the first of its commands.
-pub(crate) fn work_all<R: Wait, G: Gate>(
+pub(crate) fn work_all<R: Wait + Threads + Sync, G: Gate>(
     rt: &R,
     gate: &G,
     store: &Store,

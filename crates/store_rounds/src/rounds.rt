@@ -14,6 +14,7 @@ use byte_ports::{Failed, Gate, Sink, write_all};
 use shared_store::{Session, Store};
 use std::alloc::Global;
 use std::sync::Wait;
+use std::thread::Threads;
 use workload_spec::Script;
 
 /// Runs the rounds of a workload over a store that was just built for it, with the row of all its
@@ -25,7 +26,7 @@ use workload_spec::Script;
 /// [`RunFault::Out`] where the lines of a round could not be printed: the rounds up to it ran.
 /// [`RunFault::Memory`] where there was no memory for the commands or the lines of a round: the
 /// rounds before it were printed. In either case the sessions met after what they did last.
-pub fn run_rounds<R: Wait, O: Sink, G: Gate>(
+pub fn run_rounds<R: Wait + Threads + Sync, O: Sink, G: Gate>(
     rt: &R,
     alloc: Global,
     gate: &G,

@@ -10,6 +10,7 @@ use crate::lines::Lines;
 use byte_ports::Gate;
 use shared_store::{Session, Store};
 use std::sync::Wait;
+use std::thread::Threads;
 use workload_spec::Command;
 
 /// Carries out a session's commands of a round one after another, and puts their lines behind those
@@ -19,7 +20,7 @@ use workload_spec::Command;
 ///
 /// [`RunFault::Memory`] where there is no memory for a line. The commands up to its own were
 /// carried out; the text of the lines is not to be used.
-pub(crate) fn work<R: Wait, G: Gate>(
+pub(crate) fn work<R: Wait + Threads + Sync, G: Gate>(
     rt: &R,
     gate: &G,
     store: &Store,

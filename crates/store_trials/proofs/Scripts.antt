@@ -1,4 +1,4 @@
--- What a workload of transactions is made of.
+-- What a workload that is tried is made of.
 use Rattle.std.proofs.Common.{◌≡◌, ℕ, ◌+◌, ◌≤◌, ◌^◌, ◌/◌, ◌*◌, ◌%◌, ◌==◌, min, Bool, true, ◌&&◌, nat_le, nat_lt, Option, None, Some, List, [], ◌∷◌, length, count_by, refl, ap, sym, subst, ◌++◌, ◌∙◌, arith, Ok, Err}
 use Rattle.std.specs.Prelude.{All, IfOk, Result, is_none}
 use Rattle.std.specs.List.{list_all}
@@ -13,7 +13,7 @@ use Rattle.script_text.proofs.Schemas.{all_named}
 use Rattle.run_spec.specs.Ran.{shape_of}
 use Rattle.shared_store.specs.Store.{StoreView}
 use Rattle.shared_store.specs.declared.session.Session.{Session}
-use Rattle.store_rounds.specs.Answered.{IsServed, is_of_transaction}
+use Rattle.store_rounds.specs.Answered.{IsServed, is_carried_out}
 use Rattle.store_rounds.specs.Runs.{RunsWhole}
 use Rattle.workload_laws.proofs.NarrowScripts.{read_within}
 use Rattle.workload_laws.proofs.OneGrammar.{read_is_text}
@@ -30,7 +30,7 @@ use Rattle.script_text.specs.Answers.{LineFails}
 use Rattle.script_text.specs.declared.fault.ScriptFault.{ScriptFault}
 use Rattle.script_text.specs.declared.fault.ScriptFault.TheVariants as refused
 use Rattle.store_trials.specs.Faults.{IsFaultOf, fault_of}
-use Rattle.store_trials.specs.Trials.{IsRunOf, Prints, transactions}
+use Rattle.store_trials.specs.Trials.{IsRunOf, Prints, tried}
 
 -- the parts of a conjunction
 parts_of_four : (a b c d : Bool) → (a && b && c && d) ≡ true → (a ≡ true) × (b ≡ true) × (c ≡ true) × (d ≡ true)
@@ -142,43 +142,43 @@ may_open script valid =
       slots = each (λ table. 1 ≤ table.slots) (λ table has. has.some_slots);
     }
 
--- ---- transactions
+-- ---- what is tried
 
--- what is taken is of a transaction
-of_transaction : (asked : Command) → is_taken transactions.commands asked ≡ true → is_of_transaction asked ≡ true
-of_transaction command.Begin taken = refl
-of_transaction (command.Get table key) taken = refl
-of_transaction (command.Scan table) taken = refl
-of_transaction (command.Insert table row) taken = refl
-of_transaction (command.Update table row) taken = refl
-of_transaction (command.Delete table key) taken = refl
-of_transaction command.Commit taken = refl
-of_transaction command.Abort taken = refl
-of_transaction command.Observe taken = absurd cc
-of_transaction command.Prune taken = absurd cc
-of_transaction (command.Compact table) taken = absurd cc
-of_transaction (command.Seal table block) taken = absurd cc
-of_transaction (command.Gather table block) taken = absurd cc
-of_transaction (command.Export table) taken = absurd cc
+-- what is taken is carried out
+carried_out : (asked : Command) → is_taken tried.commands asked ≡ true → is_carried_out asked ≡ true
+carried_out command.Begin taken = refl
+carried_out (command.Get table key) taken = refl
+carried_out (command.Scan table) taken = refl
+carried_out (command.Insert table row) taken = refl
+carried_out (command.Update table row) taken = refl
+carried_out (command.Delete table key) taken = refl
+carried_out command.Commit taken = refl
+carried_out command.Abort taken = refl
+carried_out command.Observe taken = refl
+carried_out command.Prune taken = absurd cc
+carried_out (command.Compact table) taken = absurd cc
+carried_out (command.Seal table block) taken = refl
+carried_out (command.Gather table block) taken = refl
+carried_out (command.Export table) taken = absurd cc
 
 -- what the conjunctions of a script that runs within the extent are
-within_parts : (script : Script) → RunsWithin transactions script
-    → (script.workers ≡ 0) × (list_all (λ (line : Line). is_taken transactions.commands line.command) (all_lines script) ≡ true)
+within_parts : (script : Script) → RunsWithin tried script
+    → (script.workers ≡ 0) × (list_all (λ (line : Line). is_taken tried.commands line.command) (all_lines script) ≡ true)
 within_parts script within =
     let parts = parts_of_seven (nat_le (length script.tables) most_tables) (list_all (λ (table : TableDecl). nat_le (length table.schema) most_columns) script.tables)
     (nat_le script.sessions most_sessions) (nat_le script.workers 0) (nat_le script.turns most_turns) true
-    (list_all (λ (line : Line). is_taken transactions.commands line.command) (all_lines script)) within in
+    (list_all (λ (line : Line). is_taken tried.commands line.command) (all_lines script)) within in
     let none = leb-true script.workers 0 parts.3 in
     (omega (arith, none), parts.6)
 
-pub without_workers : (script : Script) → RunsWithin transactions script → script.workers ≡ 0
+pub without_workers : (script : Script) → RunsWithin tried script → script.workers ≡ 0
 without_workers script within = (within_parts script within).0
 
 abbrev shape_by : List TableDecl → ℕ → Shape
 shape_by tables passes = record { tables = tables; passes = passes }
 
 -- a core of its tables and sessions alone is its core
-pub shape_is : (script : Script) (tables : List TableDecl) → RunsWithin transactions script → tables ≡ script.tables
+pub shape_is : (script : Script) (tables : List TableDecl) → RunsWithin tried script → tables ≡ script.tables
     → shape_by tables script.sessions ≡ shape_of script
 shape_is script tables within same =
     let none = without_workers script within in
@@ -186,19 +186,19 @@ shape_is script tables within same =
     ap (λ (tables : List TableDecl). shape_by tables script.sessions) same ∙ ap (shape_by script.tables) all
 
 lines_served : (script : Script) (lines : List Line) → list_all (is_line script) lines ≡ true
-    → list_all (λ (line : Line). is_taken transactions.commands line.command) lines ≡ true
+    → list_all (λ (line : Line). is_taken tried.commands line.command) lines ≡ true
     → All (λ line. IsServed script.tables line.command) lines
 lines_served script [] valid taken = All-nil (λ line. IsServed script.tables line.command)
 lines_served script (line ∷ lines) valid taken =
     let own = and_parts (is_line script line) (list_all (is_line script) lines) valid in
-    let runs = and_parts (is_taken transactions.commands line.command) (list_all (λ (line : Line). is_taken transactions.commands line.command) lines) taken in
+    let runs = and_parts (is_taken tried.commands line.command) (list_all (λ (line : Line). is_taken tried.commands line.command) lines) taken in
     let fits = (and_parts (is_within 1 script.sessions line.session) (is_command script.tables line.command) own.0).1 in
     All-cons (λ line. IsServed script.tables line.command) line lines
-    (record { fits = fits; kind = of_transaction line.command runs.0 })
+    (record { fits = fits; kind = carried_out line.command runs.0 })
     (lines_served script lines own.1 runs.1)
 
 -- each of its commands is one that a session may be asked
-pub served : (script : Script) → IsWorkloadWithin transactions script
+pub served : (script : Script) → IsWorkloadWithin tried script
     → All (λ line. IsServed script.tables line.command) (all_lines script)
 served script workload =
     lines_served script (all_lines script) (parts_of script workload.valid).lines (within_parts script workload.within).1
@@ -214,20 +214,20 @@ run_is script store row before now printed empty same whole =
 
 -- ---- reading
 
--- what was read is a workload of transactions
-pub is_workload : (text : List ℕ) (script : Script) → read_with transactions text ≡ Ok script → IsWorkloadWithin transactions script
-is_workload text script read = (read_is_text transactions text script refl read).1
+-- what was read is a workload that is tried
+pub is_workload : (text : List ℕ) (script : Script) → read_with tried text ≡ Ok script → IsWorkloadWithin tried script
+is_workload text script read = (read_is_text tried text script refl read).1
 
 -- and this is its text
-pub text_is : (text : List ℕ) (script : Script) → read_with transactions text ≡ Ok script → script_text script ≡ text
-text_is text script read = (read_is_text transactions text script refl read).0
+pub text_is : (text : List ℕ) (script : Script) → read_with tried text ≡ Ok script → script_text script ≡ text
+text_is text script read = (read_is_text tried text script refl read).0
 
 -- the whole format reads it too
-pub is_read : (text : List ℕ) (script : Script) → read_with transactions text ≡ Ok script → script_of text ≡ Ok script
-is_read text script read = ((read_within transactions text script refl).0 read).0
+pub is_read : (text : List ℕ) (script : Script) → read_with tried text ≡ Ok script → script_of text ≡ Ok script
+is_read text script read = ((read_within tried text script refl).0 read).0
 
 -- where its run prints something, the text prints it
-pub prints : {X E : Type 0} (items : X → List ℕ) (text : List ℕ) (script : Script) → read_with transactions text ≡ Ok script
+pub prints : {X E : Type 0} (items : X → List ℕ) (text : List ℕ) (script : Script) → read_with tried text ≡ Ok script
     → (ended : Result X E) → IfOk ended (λ printed. IsRunOf script (items printed)) → IfOk ended (λ printed. Prints text (items printed))
 prints items text script read (Ok printed) run = record {
   script = script;
@@ -238,6 +238,6 @@ prints items text script read (Ok printed) run = record {
 prints items text script read (Err bad) run = tt
 
 -- a reader's fault is the text's
-pub is_fault : (text : List ℕ) (bad : ScriptFault) → LineFails bad (read_with transactions text) → IsFaultOf text (fault_of bad)
+pub is_fault : (text : List ℕ) (bad : ScriptFault) → LineFails bad (read_with tried text) → IsFaultOf text (fault_of bad)
 is_fault text (refused.Bad line cause) fails = fails
 is_fault text (refused.Memory out) fails = tt

@@ -3,7 +3,7 @@ use Rattle.std.specs.Prelude.{◌≡◌, ℕ, ◌≤◌, ◌^◌, List, length, 
 use Rattle.script_text.specs.declared.fault.ScriptFault.{ScriptFault}
 use Rattle.script_text.specs.declared.fault.ScriptFault.TheVariants as script
 use Rattle.workload_spec.specs.Grammar.{read_with}
-use Rattle.store_trials.specs.Trials.{transactions}
+use Rattle.store_trials.specs.Trials.{tried}
 use Rattle.store_trials.specs.declared.fault.TrialFault.{TrialFault}
 use Rattle.store_trials.specs.declared.fault.TrialFault.TheVariants as fault
 
@@ -12,10 +12,10 @@ abbrev pub fault_of : ScriptFault → TrialFault
 fault_of (script.Bad line cause) = fault.Refused line cause
 fault_of (script.Memory refused) = fault.Memory
 
--- The text is not run for this reason. A refusal names its first line that is none of a workload of
--- transactions, and why.
+-- The text is not run for this reason. A refusal names its first line that is none of a workload that
+-- is tried, and why.
 abbrev pub IsFaultOf : List ℕ → TrialFault → Type 0
 IsFaultOf text fault.TooLong = 2 ^ 32 ≤ length text
 IsFaultOf text (fault.Refused line cause) =
-    read_with transactions text ≡ Err (record { line = line; cause = cause })
+    read_with tried text ≡ Err (record { line = line; cause = cause })
 IsFaultOf text fault.Memory = Unit {0}

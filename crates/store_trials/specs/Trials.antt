@@ -8,16 +8,13 @@ use Rattle.outcome_spec.specs.Explained.{Explained}
 use Rattle.run_spec.specs.Occurrences.{Logged}
 use Rattle.run_spec.specs.Ran.{Ran}
 
--- all of the format but workers and the commands of no transaction
-abbrev pub transactions : Extent
-transactions = record whole {
+-- all of the format but workers, prunings, compactions and exports
+abbrev pub tried : Extent
+tried = record whole {
   workers = 0;
   commands = record whole.commands {
-    observe = false;
     prune = false;
     compact = false;
-    seal = false;
-    gather = false;
     export = false;
   };
 }
@@ -28,9 +25,9 @@ pub record IsRunOf (script : Script) (printed : List ℕ) : Type 0 where
   pub ran : Ran script log printed
   pub explained : Explained script printed
 
--- The text is a workload of transactions, and this is the text of a run of it.
+-- The text is a workload of tried, and this is the text of a run of it.
 pub record Prints (text printed : List ℕ) : Type 0 where
   pub script : Script
   pub read : script_of text ≡ Ok script
-  pub within : RunsWithin transactions script
+  pub within : RunsWithin tried script
   pub run : IsRunOf script printed

@@ -1,12 +1,12 @@
 //! How much of the workload format is tried.
 ghost use Rattle.std.specs.Prelude.{◌≡◌};
-ghost use Rattle.store_trials.specs.Trials.{transactions};
+ghost use Rattle.store_trials.specs.Trials.{tried};
 
 use workload_spec::{Commands, Extent};
 
-/// What is tried: workloads without workers, whose commands are all of transactions.
-pub(crate) const fn transactions() -> Extent
-    ensures { result ≡ transactions }
+/// What is tried: workloads without workers, prunings, compactions and exports.
+pub(crate) const fn tried() -> Extent
+    ensures { result ≡ tried }
 {
     Extent {
         tables: 16,
@@ -24,11 +24,11 @@ pub(crate) const fn transactions() -> Extent
             delete: true,
             commit: true,
             abort: true,
-            observe: false,
+            observe: true,
             prune: false,
             compact: false,
-            seal: false,
-            gather: false,
+            seal: true,
+            gather: true,
             export: false,
         },
     }

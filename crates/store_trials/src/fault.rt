@@ -8,8 +8,7 @@ use workload_spec::Cause;
 pub enum TrialFault {
     /// It has 2^32 bytes or more.
     TooLong,
-    /// It is no workload of transactions: the first line that is none of one, counted from 1, and
-    /// why.
+    /// It is no workload that is tried: the first line that is none of one, counted from 1, and why.
     Refused { line: u64, cause: Cause },
     /// There was no memory.
     Memory,

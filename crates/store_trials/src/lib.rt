@@ -1,5 +1,5 @@
-//! Trials of a store as a whole: a workload of transactions is run over a store that is built for
-//! it, and its replies are kept.
+//! Trials of a store as a whole: a workload is run over a store that is built for it, and its replies
+//! are kept.
 #![tactic(auto)]
 
 mod extent;

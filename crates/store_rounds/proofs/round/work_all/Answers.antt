@@ -36,7 +36,7 @@ loop-agenda-preserved g c =
     }
 
 pub work-requires-clause-room : goal.work-requires-clause-room
-work-requires-clause-room g c =
+work-requires-clause-room g c κs within =
     let inv = c.loop-agenda.invariant in
     let rest : List Agenda = into_iter_items c.next.new.self in
     let split : c.loop-agenda.yielded ++ c.in-Some.agenda ∷ rest ≡ c.args.agendas.items =

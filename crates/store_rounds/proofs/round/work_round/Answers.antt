@@ -8,11 +8,11 @@ pub returns-in_default-clause-part : goal.returns-in_default-clause-part
 returns-in_default-clause-part g c = stopped_at_once c.args.store.now c.args.row.now c.args.round c.requires.sessions
 
 pub work_all-requires-clause-commands : goal.work_all-requires-clause-commands
-work_all-requires-clause-commands g c =
+work_all-requires-clause-commands g c κs within =
     agendas_have (IsServed (shape_in c.args.store.now).tables) (length c.args.row.now) c.args.round c.in-Ok.agendas.items c.in-Ok.ensures c.requires.commands
 
 pub work_all-requires-clause-room : goal.work_all-requires-clause-room
-work_all-requires-clause-room g c =
+work_all-requires-clause-room g c κs within =
     room_to_work c.args.row.now c.args.round c.in-Ok.agendas.items c.in-Ok.ensures c.requires.room
 
 pub returns-in-Ok-work_all-clause-whole : goal.returns-in-Ok-work_all-clause-whole

@@ -15,30 +15,30 @@ loop-round-init g c = record {
 }
 
 pub run_round-requires-clause-sessions : goal.run_round-requires-clause-sessions
-run_round-requires-clause-sessions g c = c.loop-round.invariant.running.stands.sessions
+run_round-requires-clause-sessions g c κs within = c.loop-round.invariant.running.stands.sessions
 
 pub run_round-requires-clause-some : goal.run_round-requires-clause-some
-run_round-requires-clause-some g c = c.loop-round.invariant.running.some
+run_round-requires-clause-some g c κs within = c.loop-round.invariant.running.some
 
 pub run_round-requires-clause-numbers : goal.run_round-requires-clause-numbers
-run_round-requires-clause-numbers g c = c.loop-round.invariant.running.stands.numbers
+run_round-requires-clause-numbers g c κs within = c.loop-round.invariant.running.stands.numbers
 
 pub run_round-requires-clause-lines : goal.run_round-requires-clause-lines
-run_round-requires-clause-lines g c =
+run_round-requires-clause-lines g c κs within =
     round_within c.args.script c.args.store.now c.loop-round.row c.loop-round.yielded (into_iter_items c.next.new.self) c.in-Some.round
     c.loop-round.invariant.running.is
     (ap (λ (rounds : List (List Line)). c.loop-round.yielded ++ rounds) (sym c.in-Some.ensures.steps.0) ∙ c.loop-round.invariant.split)
     c.requires.valid
 
 pub run_round-requires-clause-commands : goal.run_round-requires-clause-commands
-run_round-requires-clause-commands g c =
+run_round-requires-clause-commands g c κs within =
     round_served c.args.script c.args.store.now c.loop-round.row c.loop-round.yielded (into_iter_items c.next.new.self) c.in-Some.round
     c.loop-round.invariant.running.is
     (ap (λ (rounds : List (List Line)). c.loop-round.yielded ++ rounds) (sym c.in-Some.ensures.steps.0) ∙ c.loop-round.invariant.split)
     c.requires.served
 
 pub run_round-requires-clause-room : goal.run_round-requires-clause-room
-run_round-requires-clause-room g c =
+run_round-requires-clause-room g c κs within =
     round_has_room c.args.script c.args.store.now c.loop-round.row c.loop-round.yielded (into_iter_items c.next.new.self)
     (g.O.Sink.written c.args.out.now) (g.O.Sink.written c.loop-round.out) c.loop-round.number c.in-Some.round
     c.loop-round.invariant.running

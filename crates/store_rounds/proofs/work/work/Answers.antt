@@ -21,7 +21,7 @@ loop-command-init g c = record {
 }
 
 pub answer-said-requires-clause-room : goal.answer-said-requires-clause-room
-answer-said-requires-clause-room g c =
+answer-said-requires-clause-room g c κs within =
     let inv = c.loop-command.invariant in
     let split : c.loop-command.yielded ++ c.in-Some.command ∷ into_iter_items c.next.new.self ≡ c.args.commands.items =
     ap (λ (cs : List Command). c.loop-command.yielded ++ cs) (sym c.in-Some.ensures.steps.0) ∙ inv.split in
@@ -34,7 +34,7 @@ loop-command-preserved g c =
     let split : c.loop-command.yielded ++ c.in-Some.command ∷ into_iter_items c.next.new.self ≡ c.args.commands.items =
     ap (λ (cs : List Command). c.loop-command.yielded ++ cs) (sym c.in-Some.ensures.steps.0) ∙ inv.split in
     let few = few_events c.args.store.now c.loop-command.session c.answer-said.new.session c.in-Some.command c.answer-said.result
-    c.tables.ensures.few (all_at (IsServed (shape_in c.args.store.now).tables) c.loop-command.yielded (into_iter_items c.next.new.self) c.args.commands.items c.in-Some.command split c.requires.commands)
+    c.tables.ensures.few c.tables.ensures.many (all_at (IsServed (shape_in c.args.store.now).tables) c.loop-command.yielded (into_iter_items c.next.new.self) c.args.commands.items c.in-Some.command split c.requires.commands)
     c.answer-said.ensures.answers in
     let line : ℕ → ℕ → List ℕ = λ (round session : ℕ).
     c.loop-command.lines.text.items ++ reply_text (shape_in c.args.store.now).tables (line_of round (TheSession session) (c.loop-command.index + 1) c.answer-said.result) in
@@ -60,7 +60,7 @@ returns-in_err-put-clause-part g c =
     let split : c.loop-command.yielded ++ c.in-Some.command ∷ into_iter_items c.next.new.self ≡ c.args.commands.items =
     ap (λ (cs : List Command). c.loop-command.yielded ++ cs) (sym c.in-Some.ensures.steps.0) ∙ inv.split in
     let few = few_events c.args.store.now c.loop-command.session c.answer-said.new.session c.in-Some.command c.answer-said.result
-    c.tables.ensures.few (all_at (IsServed (shape_in c.args.store.now).tables) c.loop-command.yielded (into_iter_items c.next.new.self) c.args.commands.items c.in-Some.command split c.requires.commands)
+    c.tables.ensures.few c.tables.ensures.many (all_at (IsServed (shape_in c.args.store.now).tables) c.loop-command.yielded (into_iter_items c.next.new.self) c.args.commands.items c.in-Some.command split c.requires.commands)
     c.answer-said.ensures.answers in
     where_err c.from_residual.result
     (turn_stops_behind c.args.store.now c.args.lines.now.round c.args.session.now c.loop-command.session c.answer-said.new.session

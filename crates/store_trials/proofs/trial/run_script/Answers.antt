@@ -13,13 +13,13 @@ pub build-requires-clause-some : goal.build-requires-clause-some
 build-requires-clause-some g c = has_sessions c.args.script c.requires.tried.valid
 
 pub run_rounds-requires-clause-served : goal.run_rounds-requires-clause-served
-run_rounds-requires-clause-served g c = served c.args.script c.requires.tried
+run_rounds-requires-clause-served g c κs within = served c.args.script c.requires.tried
 
 pub run_rounds-requires-clause-workers : goal.run_rounds-requires-clause-workers
-run_rounds-requires-clause-workers g c = without_workers c.args.script c.requires.tried.within
+run_rounds-requires-clause-workers g c κs within = without_workers c.args.script c.requires.tried.within
 
 pub run_rounds-requires-clause-shape : goal.run_rounds-requires-clause-shape
-run_rounds-requires-clause-shape g c =
+run_rounds-requires-clause-shape g c κs within =
     c.in-Ok.ensures.shape ∙ shape_is c.args.script c.args.tables.items c.requires.tried.within c.requires.tables
 
 pub returns-in-Ok-from_slice-clause-printed : goal.returns-in-Ok-from_slice-clause-printed
