@@ -184,6 +184,9 @@ module _ (sh : Shape) (t b oldest : ℕ) (old mid : Held) (d : AreDropped sh t b
   pub room_mid : length mid ≡ length (names sh)
   room_mid = room_now sh t b oldest d.from old mid d.dropped
 
+  pub slots_mid : length (body_in sh mid t b).slots ≤ 2 ^ 15
+  slots_mid = let same = ap (λ (x : Body). length x.slots) (body_now sh t b oldest d.from old mid d.dropped) in let most = slots_small sh t b oldest d.from old mid d.dropped in omega (arith, same, most)
+
   pub ends : (pruned new : Held) (count : ℕ) → pruned ≡ after sh (body_changed t b (pruned_in oldest)) mid → count ≡ dropped_from oldest (body_in sh mid t b)
       → new ≡ after sh (head_changed t (with_gain (is_empty (body_in sh pruned t b)) b)) pruned → Makes sh (event.Prune t b oldest) old new (reply.Dropped count)
   ends pruned new count made counted told = from_one sh (event.Prune t b oldest) old new (reply.Dropped count) d.dropped.may

@@ -1,5 +1,5 @@
 //! A pruning of a block.
-ghost use Rattle.std.specs.Prelude.{◌≡◌, ◌<◌, ◌^◌, ℕ, IfSome, length};
+ghost use Rattle.std.specs.Prelude.{◌≡◌, ◌<◌, ◌≤◌, ◌^◌, ℕ, IfSome, length};
 ghost use Rattle.block_spec.specs.Bodies.{dropped_from, pruned_in, slot_in};
 ghost use Rattle.block_body.specs.Changes.{key_left};
 ghost use Rattle.block_body.specs.Keys.{HasKey};
@@ -13,18 +13,25 @@ ghost use Rattle.event_spec.specs.Parts.{ShardOf, BodyOf, names};
 use crate::sweeping::{drop_candidate, tell_empty};
 use block_layout::SlotId;
 use core_parts::{CorePart, Shape, body, lay_body, take_body};
+use event_spec::VersionCount;
 use hall_rule::Hand;
 
 /// Drops the versions of a block that no snapshot from `oldest` on needs, and tells how many these
 /// were. A slot that is left bare is no candidate any more.
-pub fn prune(shape: &Shape, held: &mut Hand<CorePart>, table: u32, block: u32, oldest: u64) -> u64
+pub fn prune(
+    shape: &Shape,
+    held: &mut Hand<CorePart>,
+    table: u32,
+    block: u32,
+    oldest: u64,
+) -> VersionCount
     requires { MayRun shape.now (event.Prune table block oldest) held.old }
     ensures { Makes shape.now (event.Prune table block oldest) held.old held.new (reply.Dropped result) }
 {
     drop_left(shape, held, table, block, oldest);
     let dropped = prune_body(shape, held, table, block, oldest);
     tell_empty(shape, held, table, block);
-    dropped
+    VersionCount::of(dropped)
 }
 
 // Drops the candidates of the slots that the pruning will leave bare.
@@ -65,9 +72,11 @@ fn drop_slot(
 // Drops the versions, and tells how many these were.
 fn prune_body(shape: &Shape, held: &mut Hand<CorePart>, table: u32, block: u32, oldest: u64) -> u64
     requires body { Has shape.now held.old (BodyOf table block) }
+    requires slots { length (body_in shape.now held.old table block).slots ≤ 2 ^ 15 }
     requires room { length held.old ≡ length (names shape.now) }
     ensures pruned { held.new ≡ after shape.now (body_changed table block (pruned_in oldest)) held.old }
     ensures count { result ≡ dropped_from oldest (body_in shape.now held.old table block) }
+    ensures few { result ≤ 2 ^ 46 }
 {
     let mut body = take_body(shape, held, table, block);
     let dropped = body.prune(oldest);

@@ -14,4 +14,4 @@ pub use event::{Event, MovePair};
 pub use lists::{Blocks, Moves};
 pub use own::{OwnKey, OwnTransaction, OwnWrites};
 pub use part::{Head, Part};
-pub use reply::{Reply, WriteFault};
+pub use reply::{Reply, VersionCount, WriteFault};

@@ -1,8 +1,10 @@
 //! What the core replies to its events.
+ghost use Rattle.std.specs.Prelude.{◌≡◌, ◌≤◌, ◌^◌};
 
 use block_layout::SlotId;
 use block_spec::SealFault;
 use cell_model::{Row, Rows};
+use std::marker::Model;
 use thiserror::Error;
 use txn_desk::Snapshot;
 
@@ -29,6 +31,43 @@ pub enum WriteFault {
     Full { inserts: u64 },
 }
 
+/// How many versions of one block were dropped: no more than 2^31 in each of its at most 2^15 slots. Contracts see the
+/// number.
+#[derive(Clone, Copy, PartialEq, Eq, Debug)]
+pub struct VersionCount {
+    count: u64,
+}
+
+impl Model for VersionCount {
+    ghost use Rattle.std.specs.Prelude.{◌≤◌, ◌^◌, ℕ};
+
+    ghost Value = { ℕ };
+
+    ghost view = { λ versions. versions.count };
+
+    ghost invariant = { λ versions. versions.count ≤ 2 ^ 46 };
+
+    ghost inverse = { λ count. record { count = count } };
+}
+
+impl VersionCount {
+    /// So many versions.
+    pub fn of(count: u64) -> VersionCount
+        requires { count ≤ 2 ^ 46 }
+        ensures { result ≡ count }
+    {
+        VersionCount { count }
+    }
+
+    /// The number.
+    pub fn get(self) -> u64
+        ensures number { result ≡ self }
+        ensures few { result ≤ 2 ^ 46 }
+    {
+        self.count
+    }
+}
+
 /// A reply of a core whose images are an `I` and whose looks at a block are an `L`.
 #[derive(Drop)]
 pub enum Reply<I, L> {
@@ -53,7 +92,7 @@ pub enum Reply<I, L> {
     /// Whether the block turned cooling in this round.
     Turned(bool),
     /// So many versions were dropped.
-    Dropped(u64),
+    Dropped(VersionCount),
     /// What a compaction reads of the block.
     Looked(L),
     /// So many rows moved.

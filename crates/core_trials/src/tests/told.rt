@@ -78,7 +78,7 @@ pub(super) fn text_of(alloc: Global, reply: &CoreReply) -> Result<String, Fail> 
         Reply::Oldest(stamp) => format!(in alloc; "oldest {stamp}")?,
         Reply::Turned(true) => format!(in alloc; "cooling")?,
         Reply::Turned(false) => format!(in alloc; "as it was")?,
-        Reply::Dropped(count) => format!(in alloc; "pruned {count}")?,
+        Reply::Dropped(versions) => format!(in alloc; "pruned {}", versions.get())?,
         Reply::Looked(look) => text_of_look(alloc, look)?,
         Reply::Moved(count) => format!(in alloc; "moved {count}")?,
         Reply::Sealed(stamp) => format!(in alloc; "sealed {stamp}")?,

@@ -1,12 +1,16 @@
+use Rattle.std.proofs.Common.{◌∙◌}
 use Rattle.block_spec.specs.Bodies.{pruned_in}
 use Rattle.core_sweeps.proofs.Handing.{has_still, room_still}
-use Rattle.core_sweeps.proofs.Prunes.{ends, has_body_mid, has_head_mid, room_mid}
+use Rattle.core_sweeps.proofs.Prunes.{ends, has_body_mid, has_head_mid, room_mid, slots_mid}
 use Rattle.core_sweeps.specs.Steps.{body_changed}
 use Rattle.event_spec.specs.Parts.{BodyOf, HeadOf}
 use Rattle.core_sweeps.proofs.pruning.prune.Goals as goal
 
 pub prune_body-dropped-requires-clause-body : goal.prune_body-dropped-requires-clause-body
 prune_body-dropped-requires-clause-body c = has_body_mid c.args.shape.now c.args.table c.args.block c.args.oldest c.args.held.now c.drop_left.new.held c.drop_left.ensures
+
+pub prune_body-dropped-requires-clause-slots : goal.prune_body-dropped-requires-clause-slots
+prune_body-dropped-requires-clause-slots c = slots_mid c.args.shape.now c.args.table c.args.block c.args.oldest c.args.held.now c.drop_left.new.held c.drop_left.ensures
 
 pub prune_body-dropped-requires-clause-room : goal.prune_body-dropped-requires-clause-room
 prune_body-dropped-requires-clause-room c = room_mid c.args.shape.now c.args.table c.args.block c.args.oldest c.args.held.now c.drop_left.new.held c.drop_left.ensures
@@ -28,5 +32,5 @@ tell_empty-requires-clause-room c =
 
 pub returns : goal.returns
 returns c =
-    ends c.args.shape.now c.args.table c.args.block c.args.oldest c.args.held.now c.drop_left.new.held c.drop_left.ensures c.prune_body-dropped.new.held c.tell_empty.new.held c.prune_body-dropped.result
-    c.prune_body-dropped.ensures.pruned c.prune_body-dropped.ensures.count c.tell_empty.ensures
+    ends c.args.shape.now c.args.table c.args.block c.args.oldest c.args.held.now c.drop_left.new.held c.drop_left.ensures c.prune_body-dropped.new.held c.tell_empty.new.held c.of.result
+    c.prune_body-dropped.ensures.pruned (c.of.ensures ∙ c.prune_body-dropped.ensures.count) c.tell_empty.ensures

@@ -7,6 +7,7 @@ use Rattle.block_spec.specs.declared.change.Before.{Before}
 use Rattle.block_spec.specs.Slots.{Slot}
 use Rattle.block_body.specs.Chains.{entries_at, stamped_below}
 use Rattle.block_body.specs.Bodies.{body_value}
+use Rattle.block_body.proofs.Slots.{slots-length}
 use Rattle.block_body.proofs.After.{body_after, lawful_at, kept_pruned, filtered_fewer, pruned_slots, pruned_count}
 use Rattle.block_body.proofs.body.Body.prune.Goals as goal
 
@@ -37,3 +38,11 @@ returns-clause-count c =
     let zero_first : 0 + length i.rows.rows ≡ length i.rows.rows = omega arith in
     rw (← c.self.view_is)
     (c.prune.ensures.count ∙ ap (stamped_below (entries_at i.chains.entries) c.args.oldest) (n ∙ sym zero_first) ∙ sym all ∙ omega arith)
+
+pub returns-clause-few : goal.returns-clause-few
+returns-clause-few c =
+    let i = c.self.inside in
+    let n : c.slots-slots.result ≡ length i.rows.rows = c.slots-slots.ensures ∙ ap length c.columns.ensures.rows in
+    let long = slots-length (entries_at i.chains.entries) 0 i.rows.rows in
+    let few = c.prune.ensures.few in
+    rw (← c.self.view_is) (omega (arith, n, long, few))
