@@ -1,7 +1,9 @@
 //! Laws of exports: each function does nothing, and its contract is one of them.
 ghost use Rattle.export_laws.specs.Calls.{AllReadsAreAnExport, RefusedExportsReadNothing};
 ghost use Rattle.export_laws.specs.Calls.{SomeReadsAreAnExport};
-ghost use Rattle.export_laws.specs.Laws.{ExportsAreSaid, OrderedRowsAreTheRows};
+ghost use Rattle.export_laws.specs.Laws.{ExportsAreSaid, NothingSaysNothing};
+ghost use Rattle.export_laws.specs.Laws.{OrderedRowsAreTheRows, RunsSayAllSent};
+ghost use Rattle.export_laws.specs.Laws.{SendingGoesOn, SendingsJoin};
 ghost use Rattle.export_laws.specs.Laws.{WithoutAnExportNothingIsSent};
 
 /// Rows that are as many as they are in the order of their keys are the same rows.
@@ -17,6 +19,18 @@ pub fn exports_are_said()
 /// Where no line of a script is an export, its run sent nothing.
 pub fn without_an_export_nothing_is_sent()
     ensures { WithoutAnExportNothingIsSent }
+{}
+
+/// What calls sent grows call by call, and as whole lists of calls.
+pub fn sendings_go_on()
+    ensures next { SendingGoesOn }
+    ensures join { SendingsJoin }
+{}
+
+/// The printed lines of a run say all that its calls sent, one behind the other.
+pub fn runs_say_all_sent()
+    ensures some { RunsSayAllSent }
+    ensures none { NothingSaysNothing }
 {}
 
 /// Reads of all blocks of a table, none of which was refused memory, are the events of an export.

@@ -1,5 +1,5 @@
 -- What the call of an export sends, by its reads and its line.
-use Rattle.std.specs.Prelude.{◌≡◌, ◌⊎◌, ℕ, false, List, [], ◌++◌, length, filter, map, flat_map, All, IfSome}
+use Rattle.std.specs.Prelude.{◌≡◌, ◌⊎◌, ℕ, false, List, [], ◌∷◌, ◌++◌, length, filter, map, flat_map, All, IfSome}
 use Rattle.std.specs.List.{list_any}
 use Rattle.arrow_spec.specs.Streams.{batch_message, schema_message, stream_of}
 use Rattle.block_spec.specs.Slots.{Row}
@@ -76,6 +76,21 @@ SendsBy tables call bytes = IfSome
     (λ table. IfSome
     call.told
     (λ told. SendsAs (columns_at tables table) (blocks_at tables table) call.made told bytes))
+
+-- What one call sent: an export what its line says, any other call nothing.
+pub record CallSends (tables : List TableDecl) (call : Call) (bytes : List ℕ) : Type 0 where
+  pub by_line : SendsBy tables call bytes
+  pub quiet : is_export call.command ≡ false → bytes ≡ []
+
+-- What calls sent, one behind the other.
+abbrev pub CallsSend : List TableDecl → List Call → List ℕ → Type 0
+CallsSend tables [] bytes = bytes ≡ []
+CallsSend tables (call ∷ calls) bytes =
+    (first : List ℕ)
+    × (rest : List ℕ)
+    × (bytes ≡ first ++ rest)
+    × CallSends tables call first
+    × CallsSend tables calls rest
 
 -- all calls of some rounds, in the order of the lines
 abbrev pub calls_in : List RoundRun → List Call

@@ -1,5 +1,6 @@
 -- What an export sends, and what the reply to it says of the bytes.
-use Rattle.std.specs.Prelude.{◌≡◌, ◌<◌, ◌≤◌, ℕ, List, [], ◌∷◌, ◌++◌, length, All, Some}
+use Rattle.std.specs.Prelude.{◌≡◌, ◌<◌, ◌≤◌, ℕ, Bool, false, List, [], ◌∷◌, ◌++◌, length, All, Some}
+use Rattle.std.specs.List.{list_any}
 use Rattle.std.specs.List.Sorted.{IsPermutation}
 use Rattle.cell_model.specs.declared.cell.Cell.{Cell}
 use Rattle.cell_model.specs.declared.column.Column.{Column}
@@ -11,7 +12,10 @@ use Rattle.workload_spec.specs.declared.command.Command.{Command}
 use Rattle.workload_spec.specs.declared.command.Command.TheVariants as command
 use Rattle.workload_spec.specs.declared.reply.Said.{Said}
 use Rattle.workload_spec.specs.declared.reply.Said.TheVariants as said
+use Rattle.workload_spec.specs.declared.script.Script.{Script}
+use Rattle.workload_spec.specs.Valid.{all_lines, is_export}
 use Rattle.outcome_spec.specs.Entries.{Entry}
+use Rattle.outcome_spec.specs.Explained.{run_in}
 use Rattle.outcome_spec.specs.Runs.{Run, Span, transaction_of}
 use Rattle.outcome_spec.specs.Tables.{columns_at, slots_at}
 
@@ -97,3 +101,13 @@ SaysOfBytes run entry (command.Gather table block) bytes = Unit {0}
 abbrev pub EachSays : Run → List ℕ → List Entry → Type 0
 EachSays run bytes [] = Unit {0}
 EachSays run bytes (entry ∷ entries) = SaysOfBytes run entry entry.command bytes × EachSays run bytes entries
+
+-- a line of the workload exports a table
+abbrev pub has_export : Script → Bool
+has_export script = list_any (λ line. is_export line.command) (all_lines script)
+
+-- The lines of this output say what was sent, which is nothing where no line of the workload exports
+-- a table.
+pub record SaysAllSent (script : Script) (output bytes : List ℕ) : Type 0 where
+  pub says : EachSays (run_in script output) bytes (run_in script output).entries
+  pub quiet : has_export script ≡ false → bytes ≡ []

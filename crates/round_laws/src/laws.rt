@@ -3,7 +3,7 @@ ghost use Rattle.round_laws.specs.Fronts.{FirstLinesAreSo, FirstLinesAsk};
 ghost use Rattle.round_laws.specs.Fronts.{FirstRoundsAreValid, FrontsAreValid};
 ghost use Rattle.round_laws.specs.Lines.{RoundsGrow, SharesGrow};
 ghost use Rattle.round_laws.specs.Rounds.{NothingRan, RoundsGoOn};
-ghost use Rattle.round_laws.specs.Texts.{NothingIsExplained, RoundsAreExplained};
+ghost use Rattle.round_laws.specs.Texts.{CountsFit, NothingIsExplained, RoundsAreExplained};
 ghost use Rattle.round_laws.specs.Texts.{RoundsRan, TextsAreLines};
 ghost use Rattle.round_laws.specs.Working.{GoesOnFurther, NothingDone, WorkEnds, WorkGoesOn};
 
@@ -49,6 +49,7 @@ pub fn rounds_are_runs()
 
 /// The text of the rounds that ran is explained, where no count of a pruning is beyond 64 bits.
 pub fn rounds_are_explained()
+    ensures counts { CountsFit }
     ensures some { RoundsAreExplained }
     ensures none { NothingIsExplained }
 {}
