@@ -28,7 +28,7 @@ pub fn opening_hand(shape: &Shape) -> Result<Hand<CorePart>, AllocError>
     add_shards(shape, &mut places)?;
     add_bodies(shape, &mut places)?;
     add_desk(shape, &mut places)?;
-    Ok(Hand::of(places))
+    Hand::of(shape.alloc(), places)
 }
 
 // Adds the heads, table by table.

@@ -3,25 +3,13 @@ use Rattle.std.proofs.Common.{◌≡◌, ◌≢◌, ℕ, zero, suc, ◌+◌, ◌
 use Rattle.std.specs.Prelude.{slice_get, slice_index}
 use Rattle.hall_cells.specs.Laws.{index_of_get}
 use Rattle.hall_rule.specs.Hands.{Agrees, Holds, SameRoom}
-use Rattle.hall_rule.proofs.Lists.{by_cases}
+use Rattle.hall_rule.proofs.Lists.{by_cases, get_set_else, get_set_here}
 
 module _ {A : Type 0} where
   get_below : (l : List A) (k : ℕ) (a : A) → slice_get l k ≡ Some a → k < length l
   get_below [] k a e = absurd (cc)
   get_below (x ∷ xs) zero a e = omega arith
   get_below (x ∷ xs) (suc k) a e = let h : k < length xs = get_below xs k a e in omega (arith, h)
-
-  get_set_here : (l : List A) (k : ℕ) (a : A) → k < length l → slice_get (set l k a) k ≡ Some a
-  get_set_here [] k a lt = absurd (omega (arith, lt))
-  get_set_here (x ∷ xs) zero a lt = refl
-  get_set_here (x ∷ xs) (suc k) a lt = get_set_here xs k a (omega (arith, lt))
-
-  get_set_else : (l : List A) (k i : ℕ) (a : A) → i ≢ k → slice_get (set l k a) i ≡ slice_get l i
-  get_set_else [] k i a ne = refl
-  get_set_else (x ∷ xs) zero zero a ne = absurd (ne refl)
-  get_set_else (x ∷ xs) zero (suc i) a ne = refl
-  get_set_else (x ∷ xs) (suc k) zero a ne = refl
-  get_set_else (x ∷ xs) (suc k) (suc i) a ne = get_set_else xs k i a (λ e. ne (ap suc e))
 
 pub raise_room : (h h' : List (Option ℕ)) (p x y : ℕ) → slice_get h p ≡ Some (Some y) → h' ≡ set h p (Some x) → SameRoom h h'
 raise_room h h' p x y there is =

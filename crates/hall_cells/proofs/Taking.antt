@@ -9,7 +9,8 @@ use Rattle.hall_rule.specs.Opening.{first_view}
 use Rattle.hall_rule.proofs.Opens.{zeros}
 use Rattle.hall_rule.specs.Meaning.{Meaning}
 use Rattle.hall_rule.specs.declared.view.View.{View}
-use Rattle.hall_steps.proofs.Knowing.{get_set_else, get_set_here, not_none, some_is}
+use Rattle.hall_rule.proofs.Lists.{get_set_else, get_set_here}
+use Rattle.hall_steps.proofs.Knowing.{not_none, some_is}
 use Rattle.hall_steps.specs.Hall.{EachHand, IsPass, first_of}
 
 module _ {P : Type 0} where

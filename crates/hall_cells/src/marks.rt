@@ -86,7 +86,7 @@ impl Parts for Marks {
     fn into_parts(self) -> Result<(u32, Hand<u64>), AllocError> {
         let parts = self.marks.len() as u32;
         let places = places_of(self.alloc, self.marks.as_slice())?;
-        Ok((parts, Hand::of(places)))
+        Ok((parts, Hand::of(self.alloc, places)?))
     }
 
     fn touches(_shape: &u32, event: &Deed, _held: &Hand<u64>, part: u32) -> bool {

@@ -4,6 +4,7 @@ pub mod Joins
 pub mod Latches
 pub mod Lists
 pub mod Logs
+pub mod Marking
 pub mod Moved
 pub mod Named
 pub mod Numbers

@@ -67,6 +67,20 @@ module _ {E : Type 0} where
   each_set views id w A B each others here j u at live =
       ⊎_elim (λ t. subst (λ i. B i u) (sym t.0) (subst (λ x. B id x) t.1 (here (subst (λ x. x.spent ≡ false) (sym t.1) live)))) (λ t. others j u t.0 t.1 live (each j u t.1 live)) (at_set views id j w u at)
 
+-- the place of one number
+module _ {A : Type 0} where
+  pub get_set_here : (l : List A) (k : ℕ) (a : A) → k < length l → slice_get (set l k a) k ≡ Some a
+  get_set_here [] k a lt = absurd (omega (arith, lt))
+  get_set_here (x ∷ xs) zero a lt = refl
+  get_set_here (x ∷ xs) (suc k) a lt = get_set_here xs k a (omega (arith, lt))
+
+  pub get_set_else : (l : List A) (k i : ℕ) (a : A) → i ≢ k → slice_get (set l k a) i ≡ slice_get l i
+  get_set_else [] k i a ne = refl
+  get_set_else (x ∷ xs) zero zero a ne = absurd (ne refl)
+  get_set_else (x ∷ xs) zero (suc i) a ne = refl
+  get_set_else (x ∷ xs) (suc k) zero a ne = refl
+  get_set_else (x ∷ xs) (suc k) (suc i) a ne = get_set_else xs k i a (λ e. ne (ap suc e))
+
 module _ {P : Type 0} where
   pub no_place : (h : List (Option P)) (k : ℕ) → length h ≤ k → ¬ Holds h k
   no_place [] k le held = absurd (let e : None ≡ Some (Some held.0) = held.1 in cc)

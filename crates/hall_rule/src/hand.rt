@@ -1,7 +1,9 @@
 //! The parts that a pass has in hand.
 ghost use Rattle.std.specs.Prelude.{◌≡◌, ◌^◌, ◌<◌, ℕ, List, Option, None, Some, IfOk, length, map, replicate, slice_get, slice_set, vec_capacity, vec_len};
 ghost use Rattle.hall_rule.specs.Hands.{Holds, IsNextHeld};
+ghost use Rattle.hall_rule.specs.Marks.{MarksHeld};
 
+use crate::marks::Marks;
 use std::alloc::{AllocError, AllocFailed, Global};
 use std::marker::Model;
 
@@ -9,6 +11,9 @@ use std::marker::Model;
 #[derive(Drop)]
 pub struct Hand<P> {
     places: Vec<Option<P>>,
+    // Marks the places that hold a part. Few of many do, and a search passes over the others
+    // word by word.
+    marks: Marks,
 }
 
 impl<P> Model for Hand<P> {
@@ -17,21 +22,39 @@ impl<P> Model for Hand<P> {
     ghost Value = { List (Option P) };
 
     ghost view = { λ hand. hand.places.items };
+
+    ghost use Rattle.hall_rule.specs.Marks.{MarksHeld};
+
+    ghost invariant = { λ hand. MarksHeld hand.places.items hand.marks.words.items };
+}
+
+// The marks of the places that hold a part.
+fn marks_of<P>(alloc: Global, places: &[Option<P>]) -> Result<Marks, AllocError>
+    ensures { IfOk result (λ marks. MarksHeld places.now marks.words.items) }
+{
+    let mut marks = Marks::none(alloc, places.len())?;
+    for (part, place) in places.iter().enumerate() {
+        marks.set(part, place.is_some());
+    }
+    Ok(marks)
+}
+
+impl<P: Drop> Hand<P> {
+    /// A hand with these places.
+    pub fn of(alloc: Global, places: Vec<Option<P>>) -> Result<Hand<P>, AllocError>
+        ensures { IfOk result (λ hand. hand ≡ places.items) }
+    {
+        let marks = marks_of(alloc, places.as_slice())?;
+        Ok(Hand { places, marks })
+    }
 }
 
 impl<P> Hand<P> {
-    /// A hand with these places.
-    pub fn of(places: Vec<Option<P>>) -> Hand<P>
-        ensures { result ≡ places.items }
-    {
-        Hand { places }
-    }
-
     /// The places, as they lie in the hand.
     pub fn into_places(self) -> Vec<Option<P>>
         ensures { result.items ≡ self }
     {
-        let Hand { places } = self;
+        let Hand { places, .. } = self;
         places
     }
 
@@ -66,14 +89,8 @@ impl<P> Hand<P> {
         requires { length self.now < 2 ^ 32 }
         ensures { IsNextHeld self.now from result }
     {
-        let mut part = from;
-        while (part as usize) < self.len() {
-            if self.get(part).is_some() {
-                return Some(part);
-            }
-            part += 1;
-        }
-        None
+        let part = self.marks.next(from as usize)?;
+        Some(part as u32)
     }
 
     /// Lays something into the place of a part, and returns what lay there.
@@ -82,6 +99,7 @@ impl<P> Hand<P> {
         ensures place { slice_get self.old part ≡ Some result }
         ensures others { self.new ≡ slice_set self.old part new }
     {
+        self.marks.set(part as usize, new.is_some());
         std::mem::replace(&mut self.places[part as usize], new)
     }
 }

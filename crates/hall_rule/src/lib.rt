@@ -2,6 +2,7 @@
 #![tactic(auto)]
 
 mod hand;
+mod marks;
 mod parts;
 mod rule;
 mod view;

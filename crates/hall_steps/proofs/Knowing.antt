@@ -12,7 +12,7 @@ use Rattle.hall_rule.specs.declared.view.Entry.{Entry}
 use Rattle.hall_rule.specs.declared.view.View.{View}
 use Rattle.hall_rule.proofs.Events.{Asks, stays_lawful}
 use Rattle.hall_rule.proofs.Latches.{stage_else, stage_here}
-use Rattle.hall_rule.proofs.Lists.{by_cases}
+use Rattle.hall_rule.proofs.Lists.{by_cases, get_set_else, get_set_here}
 use Rattle.hall_rule.proofs.Named.{least_there, named_append, only_append, only_mine}
 use Rattle.hall_rule.proofs.Logs.{after_is, has_head, lawful_append, own_all, own_append, replay_append}
 use Rattle.atomic_table.specs.Seated.{TableId}
@@ -24,18 +24,6 @@ module _ {A : Type 0} where
   get_below [] k a e = absurd (cc)
   get_below (x ∷ xs) zero a e = omega arith
   get_below (x ∷ xs) (suc k) a e = let h : k < length xs = get_below xs k a e in omega (arith, h)
-
-  pub get_set_here : (l : List A) (k : ℕ) (a : A) → k < length l → slice_get (set l k a) k ≡ Some a
-  get_set_here [] k a lt = absurd (omega (arith, lt))
-  get_set_here (x ∷ xs) zero a lt = refl
-  get_set_here (x ∷ xs) (suc k) a lt = get_set_here xs k a (omega (arith, lt))
-
-  pub get_set_else : (l : List A) (k i : ℕ) (a : A) → i ≢ k → slice_get (set l k a) i ≡ slice_get l i
-  get_set_else [] k i a ne = refl
-  get_set_else (x ∷ xs) zero zero a ne = absurd (ne refl)
-  get_set_else (x ∷ xs) zero (suc i) a ne = refl
-  get_set_else (x ∷ xs) (suc k) zero a ne = refl
-  get_set_else (x ∷ xs) (suc k) (suc i) a ne = get_set_else xs k i a (λ e. ne (ap suc e))
 
   pub some_is : (a b : A) → Some a ≡ Some b → a ≡ b
   some_is a b e = cc

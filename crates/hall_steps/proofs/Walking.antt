@@ -10,11 +10,11 @@ use Rattle.hall_rule.specs.Meaning.{Meaning}
 use Rattle.hall_rule.specs.Views.{Stays, given, with_hand_of}
 use Rattle.hall_rule.specs.declared.view.Entry.{Entry}
 use Rattle.hall_rule.specs.declared.view.View.{View}
-use Rattle.hall_rule.proofs.Lists.{bool_cases, by_cases}
+use Rattle.hall_rule.proofs.Lists.{bool_cases, by_cases, get_set_else, get_set_here}
 use Rattle.hall_rule.proofs.Logs.{begins_more, rest_is, spares_append}
 use Rattle.hall_rule.proofs.Numbers.{has_append, has_cons}
 use Rattle.hall_steps.specs.Hall.{EachHand, IsPass, LooksOn, SeesMore, TookParts, first_of}
-use Rattle.hall_steps.proofs.Knowing.{get_below, get_set_else, get_set_here}
+use Rattle.hall_steps.proofs.Knowing.{get_below}
 
 below_or : (n m : ℕ) (Q : Type 0) → (n < m → Q) → (m ≤ n → Q) → Q
 below_or n m Q lt ge = bool_cases (ltb n m) Q (λ e. lt (ltb-true n m e)) (λ e. ge (ltb-false n m e))

@@ -41,7 +41,7 @@ fn empty_hand<P: Drop>(alloc: Global, places: usize) -> Result<Hand<P>, AllocErr
     for _at in 0..places {
         hand.push(None)?;
     }
-    Ok(Hand::of(hand))
+    Hand::of(alloc, hand)
 }
 
 // So many empty hands.
