@@ -14,8 +14,8 @@ returns c =
     let sh = c.args.shape.now in
     IfOk-weaker c.of.result (λ hand. hand ≡ c.add_desk.new.places.items) (λ hand. hand ≡ all_in (opening sh))
     (λ hand is.
-        is
-        ∙ opened sh c.add_heads.new.places.items c.add_shards.new.places.items c.add_bodies.new.places.items c.add_desk.new.places.items
-        (c.in_ok-add_heads.ensures ∙ ap (λ (front : Held). front ++ placed sh (map HeadOf (tables_of sh))) c.in_ok-places.ensures.items)
-        c.in_ok-add_shards.ensures c.in_ok-add_bodies.ensures c.in_ok-add_desk.ensures)
+    is
+    ∙ opened sh c.add_heads.new.places.items c.add_shards.new.places.items c.add_bodies.new.places.items c.add_desk.new.places.items
+    (c.in_ok-add_heads.ensures ∙ ap (λ (front : Held). front ++ placed sh (map HeadOf (tables_of sh))) c.in_ok-places.ensures.items)
+    c.in_ok-add_shards.ensures c.in_ok-add_bodies.ensures c.in_ok-add_desk.ensures)
     c.of.ensures
