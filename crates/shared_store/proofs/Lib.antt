@@ -8,9 +8,11 @@ pub mod Laid
 pub mod Made
 pub mod Maps
 pub mod Observed
+pub mod Pruned
 pub mod Rows
 pub mod Scanned
 pub mod Sessions
 pub mod Shown
+pub mod Swept
 pub mod Thaws
 pub mod Wrote

@@ -4,8 +4,10 @@ pub mod Freezing
 pub mod Making
 pub mod Meeting
 pub mod Observing
+pub mod Pruning
 pub mod Reading
 pub mod Scanning
 pub mod Store
+pub mod Sweeping
 pub mod Told
 pub mod Writing

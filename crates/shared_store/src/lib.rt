@@ -9,6 +9,7 @@ pub mod freezing;
 pub mod making;
 pub mod meeting;
 pub mod observing;
+pub mod pruning;
 pub mod reading;
 pub mod scanning;
 pub mod session;

@@ -1,16 +1,17 @@
-use Rattle.std.proofs.Common.{◌≡◌, ◌+◌, List, length, ap, subst, ◌∙◌, arith}
-use Rattle.std.specs.List.{flat_map}
+use Rattle.std.proofs.Common.{◌≡◌, List, [], length, refl, ap, subst, ◌∙◌, arith}
 use Rattle.cell_model.specs.declared.table.TableDecl.{TableDecl}
-use Rattle.event_spec.specs.Effects.{CoreEvent}
-use Rattle.event_spec.specs.Parts.{Shape, below}
-use Rattle.run_spec.specs.Asked.{at_blocks}
-use Rattle.shared_store.specs.Observing.{Observes, observing}
+use Rattle.event_spec.specs.Parts.{Shape}
+use Rattle.run_spec.specs.Asked.{at_all_blocks}
+use Rattle.shared_store.specs.Observing.{HaveTurned, Observes, observing}
 use Rattle.shared_store.specs.Store.{shape_in}
-use Rattle.shared_store.proofs.Observed.{observes_nothing, observes_whole, table_more}
+use Rattle.shared_store.proofs.Observed.{observes_whole}
+use Rattle.shared_store.proofs.Swept.{at_tables, sweeps_nothing, sweeps_table}
 use Rattle.shared_store.proofs.store.Store.observe.Goals as goal
 
 pub loop-table-init : goal.loop-table-init
-loop-table-init g c = (omega arith, omega arith, observes_nothing c.args.self.now c.args.session.now c.requires.session)
+loop-table-init g c =
+    let st = c.args.self.now in
+    (omega arith, omega arith, sweeps_nothing st (at_all_blocks (shape_in st) observing) (HaveTurned 0) c.args.session.now c.requires.session refl)
 
 pub loop-table-preserved : goal.loop-table-preserved
 loop-table-preserved g c =
@@ -23,8 +24,8 @@ loop-table-preserved g c =
     let made_more = c.observe_table-turned.ensures.made in (
       omega (arith, few, more),
       omega (arith, made, made_more),
-      subst (λ (es : List CoreEvent). Observes st c.args.session.now c.observe_table-turned.new.session es (c.loop-table.turned + c.observe_table-turned.result)) (table_more st t)
-          (c.observe_table-turned.ensures.observes c.args.session.now (flat_map (λ table. at_blocks (shape_in st) table (observing table)) (below t)) c.loop-table.turned inv.2),
+      sweeps_table st (at_all_blocks (shape_in st) observing) HaveTurned observing c.args.session.now c.loop-table.session c.observe_table-turned.new.session [] t
+          c.loop-table.turned c.observe_table-turned.result inv.2 c.observe_table-turned.ensures.observes,
     )
 
 pub returns-clause-answers : goal.returns-clause-answers
@@ -37,4 +38,4 @@ returns-clause-answers g c =
     let end' = c.loop-table.auto.table-end in
     let all : c.loop-table.table ≡ length (shape_in st).tables = omega (arith, tables, done, end') in
     observes_whole st c.args.session.now c.loop-table.session c.loop-table.turned c.requires.session
-    (subst (λ n. Observes st c.args.session.now c.loop-table.session (flat_map (λ table. at_blocks (shape_in st) table (observing table)) (below n)) c.loop-table.turned) all inv.2)
+    (subst (λ n. Observes st c.args.session.now c.loop-table.session (at_tables (shape_in st) observing n) c.loop-table.turned) all inv.2)

@@ -1,10 +1,8 @@
-use Rattle.std.proofs.Common.{◌≡◌, ◌+◌, cond, List, ◌++◌, map, ap, subst, ◌∙◌, arith}
-use Rattle.event_spec.specs.Effects.{CoreEvent}
+use Rattle.std.proofs.Common.{◌≡◌, cond, ap, ◌∙◌, arith}
 use Rattle.event_spec.specs.Lawful.{HasBlock}
-use Rattle.event_spec.specs.Parts.{Shape, below, blocks_of}
-use Rattle.shared_store.specs.Observing.{Observes, observing}
+use Rattle.event_spec.specs.Parts.{Shape, blocks_of}
 use Rattle.shared_store.specs.Store.{shape_in}
-use Rattle.shared_store.proofs.Observed.{block_more, byte_is, observes_on, turned_few}
+use Rattle.shared_store.proofs.Observed.{byte_is, observes_on, turned_few}
 use Rattle.shared_store.proofs.store.Store.observe_table.Goals as goal
 
 pub loop-block-preserved : goal.loop-block-preserved
@@ -26,9 +24,5 @@ loop-block-preserved g c =
       m.session,
       omega (arith, count, one),
       omega (arith, few, told, at_most),
-      λ first events before o.
-          let sum : (before + c.loop-block.turned) + cond c.observe_block.result 1 0 ≡ before + (c.loop-block.turned + c.from-turned.result) = omega (arith, told) in
-          subst (λ n. Observes st first c.observe_block.new.session (events ++ map (observing t) (below (k + 1))) n) sum
-          (subst (λ (es : List CoreEvent). Observes st first c.observe_block.new.session es ((before + c.loop-block.turned) + cond c.observe_block.result 1 0)) (block_more st events t k)
-          (observes_on st first c.loop-block.session c.observe_block.new.session (events ++ map (observing t) (below k)) (before + c.loop-block.turned) t k c.observe_block.result (inv.3 first events before o) m has)),
+      observes_on st c.args.session.now c.loop-block.session c.observe_block.new.session t k c.loop-block.turned c.from-turned.result c.observe_block.result inv.3 m has told,
     )
