@@ -14,12 +14,11 @@ use Rattle.workload_spec.specs.Grammar.{checked_in, checked_of, place_of_parting
 use Rattle.workload_spec.specs.Reading.{onto_first, parted, parts}
 use Rattle.workload_spec.specs.Valid.{is_valid}
 use Rattle.workload_spec.specs.Words.{line_feed}
-use Rattle.outcome_spec.specs.Explained.{failing_line}
 use Rattle.script_text.specs.Answers.{LineFails, LineGives}
 use Rattle.script_text.specs.declared.fault.ScriptFault.{ScriptFault}
 use Rattle.script_text.specs.declared.fault.ScriptFault.TheVariants as fault
 use Rattle.mainline.specs.Outcome.{CheckEnds, IsNoneToCheck, outside}
-use Rattle.mainline.specs.Sent.{RefusalEnds, TellsFault}
+use Rattle.mainline.specs.Played.{RefusalEnds, TellsFault}
 use Rattle.mainline.specs.Verdict.{VerdictEnds}
 use Rattle.mainline.specs.declared.status.Status.{Status}
 use Rattle.mainline.specs.declared.status.Status.TheVariants as status

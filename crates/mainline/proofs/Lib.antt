@@ -1,9 +1,5 @@
 pub mod Asking
-pub mod Sending
-pub mod Exported
-pub mod Running
-pub mod Asked
+pub mod Exports
 pub mod Scripts
-pub mod Said
-pub mod Stopped
+pub mod Played
 pub mod Judged

@@ -32,7 +32,12 @@ TellsFault Prints (script_fault.Memory refused) before now = ⊥
 
 -- How the line of a refusal ends.
 abbrev pub RefusalEnds : ScriptFault → Status → Option (List ℕ) → Option (List ℕ) → Type 0
+RefusalEnds told status.Done before now = ⊥
+RefusalEnds told status.Usage before now = ⊥
 RefusalEnds told status.Refused before now = TellsFault Appends told before now
+RefusalEnds told status.ReadFault before now = ⊥
 RefusalEnds told status.OutFault before now = TellsFault AppendsFront told before now
+RefusalEnds told status.ExportFault before now = ⊥
 RefusalEnds told status.Memory before now = now ≡ before
-RefusalEnds told _ before now = ⊥
+RefusalEnds told status.NotAStream before now = ⊥
+RefusalEnds told status.TooLong before now = ⊥

@@ -1,4 +1,5 @@
 -- How much of the workload format runs today.
+use Rattle.std.specs.Prelude.{false}
 use Rattle.workload_spec.specs.declared.extent.Extent.{Extent}
 use Rattle.workload_spec.specs.Extents.{whole}
 

@@ -2,7 +2,7 @@ use Rattle.std.proofs.Common.{◌∙◌, ap, List}
 use Rattle.std.specs.List.{list_any}
 use Rattle.workload_spec.specs.Valid.{is_export}
 use Rattle.workload_spec.specs.declared.script.Line.{Line}
-use Rattle.mainline.proofs.Scripts.{rounds_export}
+use Rattle.mainline.proofs.Exports.{rounds_export}
 use Rattle.mainline.proofs.perform.has_export.Goals as goal
 
 pub returns : goal.returns

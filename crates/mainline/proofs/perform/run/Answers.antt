@@ -1,8 +1,14 @@
-use Rattle.std.proofs.Common.{ℕ, List, option_map, subst, arith}
+use Rattle.std.proofs.Common.{ℕ, ◌<◌, ◌^◌, List, length, option_map, subst, sym, arith}
 use Rattle.mainline.specs.Outcome.{IsWorkload, Outside, ScriptEnds, outside}
 use Rattle.mainline.specs.declared.status.Status.{Status}
-use Rattle.mainline.proofs.Scripts.{refusal_ends, run_ends}
+use Rattle.mainline.proofs.Scripts.{refusal_ends, run_ends, text_is}
 use Rattle.mainline.proofs.perform.run.Goals as goal
+
+pub run_script-requires-clause-short : goal.run_script-requires-clause-short
+run_script-requires-clause-short g c κs within =
+    let read = subst (λ (bytes : List ℕ). IsWorkload bytes c.in-Ok-parsed.script) c.deref.ensures.value c.in-Ok-parsed.ensures.read in
+    subst (λ (text : List ℕ). length text < 2 ^ 32) (sym (text_is c.in-Ok.bytes.items c.in-Ok-parsed.script read))
+    (omega (arith, c.in-Ok.ensures.short, c.in-Ok.bytes.ok.0))
 
 pub returns-in-Ok-parsed-clause-ends : goal.returns-in-Ok-parsed-clause-ends
 returns-in-Ok-parsed-clause-ends g c =
