@@ -3,4 +3,4 @@ pub mod Verdict
 pub mod Words
 pub mod Codes
 pub mod Outcome
-pub mod Sent
+pub mod Played

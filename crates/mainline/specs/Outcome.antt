@@ -1,31 +1,20 @@
 -- How a run of the program ends: what each status says of what was read, printed and sent.
-use Rattle.std.specs.Prelude.{◌≡◌, ◌≢◌, ◌<◌, ◌≤◌, ◌^◌, ◌⊎◌, ◌==◌, ℕ, Bool, true, length, false, List, [], ◌∷◌, ◌++◌, All, Option, None, Some, option_map, filter, codes, decimal, Ok, Err, IsSome, if◌then◌else◌}
-use Rattle.std.specs.List.{list_any}
-use Rattle.std.specs.List.Sorted.{IsPermutation}
+use Rattle.std.specs.Prelude.{◌≡◌, ◌≢◌, ◌<◌, ◌^◌, ◌⊎◌, ℕ, true, length, List, [], ◌∷◌, ◌++◌, Option, None, Some, option_map, codes, decimal, Ok, Err, IsSome, if◌then◌else◌}
 use Rattle.std.specs.Io.KnownBytes.{Appends, Consumes, IsAtEnd}
 use Rattle.byte_ports.specs.Calls.{AppendsFront, ConsumesAtLeast, Rose}
-use Rattle.cell_model.specs.declared.cell.Cell.{Cell}
-use Rattle.cell_model.specs.declared.column.Column.{Column}
-use Rattle.arrow_spec.specs.Streams.{stream_of}
 use Rattle.stream_spec.specs.Streams.{reading_of}
-use Rattle.stream_spec.specs.Streams.{Reads as ReadsAs}
 use Rattle.stream_spec.specs.declared.fault.StreamFault.{StreamFault}
 use Rattle.stream_text.specs.Shown.{shown_text}
-use Rattle.isolation_laws.specs.Inserts.{all_rows}
-use Rattle.isolation_spec.specs.Contents.{contents_of, state_at}
-use Rattle.workload_spec.specs.declared.command.Command.{Command}
-use Rattle.workload_spec.specs.declared.command.Command.TheVariants as command
-use Rattle.workload_spec.specs.declared.reply.Said.{Said}
-use Rattle.workload_spec.specs.declared.reply.Said.TheVariants as said
+use Rattle.export_spec.specs.Sent.{SaysAllSent, has_export}
 use Rattle.workload_spec.specs.declared.script.Line.{Line}
 use Rattle.workload_spec.specs.declared.script.Script.{Script}
 use Rattle.workload_spec.specs.Grammar.{Fault, checked_of, read_with, refused_text}
 use Rattle.workload_spec.specs.Words.{line_feed}
-use Rattle.workload_spec.specs.Valid.{is_export, all_lines}
-use Rattle.outcome_spec.specs.Entries.{Entry}
-use Rattle.outcome_spec.specs.Explained.{Explained, failing_line, run_in}
-use Rattle.outcome_spec.specs.Runs.{Run, Span, transaction_of}
-use Rattle.outcome_spec.specs.Tables.{columns_at, slots_at}
+use Rattle.outcome_spec.specs.Explained.{Explained, failing_line}
+use Rattle.run_spec.specs.Occurrences.{Logged}
+use Rattle.run_spec.specs.Ran.{Ran}
+use Rattle.round_laws.specs.Fronts.{with_rounds}
+use Rattle.store_rounds.specs.Workloads.{GoesCutOff, GoesStopped, GoesToExport, GoesWhole}
 use Rattle.mainline.specs.Today.{today}
 use Rattle.mainline.specs.Words.{Asked, ToRun, ToShow, ToCheck, ToBench, usage_line}
 use Rattle.mainline.specs.declared.status.Status.{Status}
@@ -33,66 +22,12 @@ use Rattle.mainline.specs.declared.status.Status.TheVariants as status
 
 -- ---- what an export sends
 
--- Rows in groups: none is empty, none has more rows than a block has slots, and put together they
--- are these contents, each row once.
-pub record AreBatchesOf (slots : ℕ) (contents : List (List Cell)) (groups : List (List (List Cell))) : Type 0 where
-  pub filled : All (λ (group : List (List Cell)). 0 < length group) groups
-  pub within : All (λ (group : List (List Cell)). length group ≤ slots) groups
-  pub each_once : IsPermutation (all_rows groups) contents
-
--- The bytes are the canonical stream of these rows of a table, so many rows in so many batches, and read as just these.
-pub record IsStreamOf (columns : List Column) (slots : ℕ) (contents : List (List Cell)) (rows batches : ℕ) (bytes : List ℕ) : Type 0 where
-  pub groups : List (List (List Cell))
-  pub stream : bytes ≡ stream_of columns groups
-  pub read_back : ReadsAs bytes columns groups
-  pub grouped : AreBatchesOf slots contents groups
-  pub count : length groups ≡ batches
-  pub total : length (all_rows groups) ≡ rows
-
--- The bytes are a front of a canonical stream of these rows of a table.
-pub record IsFrontOf (columns : List Column) (slots : ℕ) (contents : List (List Cell)) (bytes : List ℕ) : Type 0 where
-  pub groups : List (List (List Cell))
-  pub rest : List ℕ
-  pub front : bytes ++ rest ≡ stream_of columns groups
-  pub grouped : AreBatchesOf slots contents groups
-
--- The bytes are a front of a canonical stream of the table's rows at the snapshot of the reply's
--- transaction.
-pub record IsFrontAt (run : Run) (entry : Entry) (table : ℕ) (bytes : List ℕ) : Type 0 where
-  pub transaction : Span
-  pub within : transaction_of run entry ≡ Some transaction
-  pub front : IsFrontOf (columns_at run.tables table) (slots_at run.tables table) (contents_of table (state_at run.history transaction.snapshot)) bytes
-
--- What the reply to an export says of the bytes that went out. `export n rows R batches B frozen
--- F`: the canonical stream of the rows of the table after n commits, each once, R in all, in B
--- batches of which none is empty. With refused memory a front of one. With any other reply nothing.
-abbrev pub SaysOfExport : Run → Entry → ℕ → Said → List ℕ → Type 0
-SaysOfExport run entry table (said.Exported number rows batches frozen) bytes =
-    IsStreamOf (columns_at run.tables table) (slots_at run.tables table) (contents_of table (state_at run.history number)) rows batches bytes
-SaysOfExport run entry table said.Memory bytes = IsFrontAt run entry table bytes
-SaysOfExport run entry table _ bytes = bytes ≡ []
-
--- what a reply says of them: none but the reply to an export says anything
-abbrev pub SaysOfBytes : Run → Entry → Command → List ℕ → Type 0
-SaysOfBytes run entry (command.Export table) bytes = SaysOfExport run entry table entry.reply.said bytes
-SaysOfBytes run entry _ bytes = Unit {0}
-
--- each of these replies says what went out
-abbrev pub EachSays : Run → List ℕ → List Entry → Type 0
-EachSays run bytes [] = Unit {0}
-EachSays run bytes (entry ∷ entries) = SaysOfBytes run entry entry.command bytes × EachSays run bytes entries
-
--- a line of the workload exports a table
-abbrev pub has_export : Script → Bool
-has_export script = list_any (λ line. is_export line.command) (all_lines script)
-
 -- An outlet grew by what the replies of this output say; by nothing where the workload has no
 -- export.
 pub record Sends (script : Script) (output : List ℕ) (before now : Option (List ℕ)) : Type 0 where
   pub sent : List ℕ
   pub grown : Appends before now sent
-  pub says : EachSays (run_in script output) sent (run_in script output).entries
-  pub quiet : has_export script ≡ false → sent ≡ []
+  pub says : SaysAllSent script output sent
 
 -- ---- the outside
 
@@ -169,71 +104,36 @@ pub record IsRefused (Prints : Option (List ℕ) → Option (List ℕ) → List 
   pub printed : Prints before.printed now.printed (refused_text fault)
   pub outlet : LeavesOutlet before now
 
--- the workload with these rounds in place of its own
-abbrev pub with_rounds : List (List Line) → Script → Script
-with_rounds rounds script = record script { rounds = rounds }
+-- Rounds of these lines of the workload ran with some log of events and had this text, which
+-- snapshot isolation explains; the outlet has what the text's lines say.
+pub record RanRounds
+    (path : Option (List ℕ)) (script : Script) (before now : Outside) (asked : List (List Line))
+    (text : List ℕ)
+    : Type 0 where
+  pub log : List Logged
+  pub ran : Ran (with_rounds asked script) log text
+  pub explained : Explained (with_rounds asked script) text
+  pub outlet : Delivers path script (with_rounds asked script) text before now
 
--- The workload was run: its output is explained by snapshot isolation and was printed, and the
--- outlet has what its replies say.
-pub record IsRun (path : Option (List ℕ)) (script : Script) (before now : Outside) : Type 0 where
-  pub output : List ℕ
-  pub explained : Explained script output
-  pub printed : Appends before.printed now.printed output
-  pub outlet : Delivers path script script output before now
+-- All rounds ran, and their text was printed.
+abbrev pub IsRun : Option (List ℕ) → Script → Outside → Outside → Type 0
+IsRun path script before now =
+    GoesWhole (RanRounds path script before now) script before.printed now.printed
 
--- The output failed behind some first rounds of the workload: these were run, and only a front of
--- their text was printed.
-pub record IsCutOff (path : Option (List ℕ)) (script : Script) (before now : Outside) : Type 0 where
-  pub whole : List (List Line)
-  pub rest : List (List Line)
-  pub rounds : script.rounds ≡ whole ++ rest
-  pub output : List ℕ
-  pub explained : Explained (with_rounds whole script) output
-  pub printed : AppendsFront before.printed now.printed output
-  pub outlet : Delivers path script (with_rounds whole script) output before now
+-- Some first rounds ran, and only a front of their text was printed, since the output failed.
+abbrev pub IsCutOff : Option (List ℕ) → Script → Outside → Outside → Type 0
+IsCutOff path script before now =
+    GoesCutOff (RanRounds path script before now) script before.printed now.printed
 
--- the lines of a session in a round
-abbrev pub lines_of : ℕ → List Line → List Line
-lines_of session lines = filter (λ line. line.session == session) lines
-
--- the lines are the first ones of each session in a round
-abbrev pub AreFirstLines : List Line → List Line → Type 0
-AreFirstLines lines round =
-    (session : ℕ) → (rest : List Line) × (lines_of session round ≡ lines_of session lines ++ rest)
-
--- The run stopped within a round: the rounds before it were run and their text was printed, and of
--- this round these first lines of each session were run and their text was not printed.
-pub record Stops (path : Option (List ℕ)) (script : Script) (lines : List Line) (before now : Outside) : Type 0 where
-  pub whole : List (List Line)
-  pub round : List Line
-  pub rest : List (List Line)
-  pub rounds : script.rounds ≡ whole ++ round ∷ rest
-  pub first : AreFirstLines lines round
-  pub shown : List ℕ
-  pub hidden : List ℕ
-  pub explained_shown : Explained (with_rounds whole script) shown
-  pub explained : Explained (with_rounds (whole ++ lines ∷ []) script) (shown ++ hidden)
-  pub printed : Appends before.printed now.printed shown
-  pub outlet : Delivers path script (with_rounds (whole ++ lines ∷ []) script) (shown ++ hidden) before now
-
--- The run stopped, for want of memory.
-pub record IsStopped (path : Option (List ℕ)) (script : Script) (before now : Outside) : Type 0 where
-  pub lines : List Line
-  pub stop : Stops path script lines before now
-
--- A session's lines end at an export.
-pub record EndAtExport (lines : List Line) : Type 0 where
-  pub session : ℕ
-  pub front : List Line
-  pub last : Line
-  pub lines_are : lines_of session lines ≡ front ++ last ∷ []
-  pub asked : is_export last.command ≡ true
+-- The run stopped within a round, for want of memory.
+abbrev pub IsStopped : Option (List ℕ) → Script → Outside → Outside → Type 0
+IsStopped path script before now =
+    GoesStopped (RanRounds path script before now) script before.printed now.printed
 
 -- The run stopped at an export, which counts as answered `memory`: a front of its stream was sent.
-pub record StopsAtExport (path : Option (List ℕ)) (script : Script) (before now : Outside) : Type 0 where
-  pub lines : List Line
-  pub last : EndAtExport lines
-  pub stop : Stops path script lines before now
+abbrev pub StopsAtExport : Option (List ℕ) → Script → Outside → Outside → Type 0
+StopsAtExport path script before now =
+    GoesToExport (RanRounds path script before now) script before.printed now.printed
 
 -- The workload has an export and the outlet failed: at its start, and then nothing was run, or at
 -- the export.

@@ -4,32 +4,31 @@ ghost use Rattle.mainline.specs.Today.{today};
 
 use workload_spec::{Commands, Extent};
 
-/// What runs today: up to 16 tables of up to 32 columns, one session, no worker and one round, with
-/// the commands begin, get, insert, commit and export.
+/// What runs today: all of the format but workers, prunings and compactions.
 pub const fn today() -> Extent
     ensures { result ≡ today }
 {
     Extent {
         tables: 16,
         columns: 32,
-        sessions: 1,
+        sessions: 64,
         workers: 0,
-        turns: 0,
-        parts_rounds: false,
+        turns: 100,
+        parts_rounds: true,
         commands: Commands {
             begin: true,
             get: true,
-            scan: false,
+            scan: true,
             insert: true,
-            update: false,
-            delete: false,
+            update: true,
+            delete: true,
             commit: true,
-            abort: false,
-            observe: false,
+            abort: true,
+            observe: true,
             prune: false,
             compact: false,
-            seal: false,
-            gather: false,
+            seal: true,
+            gather: true,
             export: true,
         },
     }

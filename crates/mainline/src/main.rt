@@ -3,11 +3,8 @@
 #![tactic(auto)]
 
 mod checking;
-mod export;
 mod extent;
-mod fault;
 mod perform;
-mod round;
 mod status;
 #[cfg(test)]
 mod tests;

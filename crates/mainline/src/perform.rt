@@ -1,20 +1,21 @@
 //! What the program does with its words, its input, its output and its outlet.
-ghost use Rattle.std.specs.Prelude.{◌≡◌, ◌≢◌, ℕ, List, Option, None, IsSome, map, true, string_bytes, option_map, IfOk, OnOk, OnErr, if◌then◌else◌, ◌++◌, ◌∷◌, []};
+ghost use Rattle.std.specs.Prelude.{◌≡◌, ◌≢◌, ◌<◌, ◌^◌, ℕ, List, Option, None, IsSome, length, map, true, string_bytes, option_map, IfOk, OnOk, OnErr, if◌then◌else◌, ◌++◌, ◌∷◌, []};
 ghost use Rattle.std.specs.List.{list_any};
 ghost use Rattle.byte_ports.specs.Calls.{Rose};
 ghost use Rattle.workload_spec.specs.Valid.{is_valid, is_export};
 ghost use Rattle.workload_spec.specs.Extents.{RunsWithin};
 ghost use Rattle.workload_spec.specs.Grammar.{read_with};
 ghost use Rattle.script_text.specs.Answers.{LineGives};
-ghost use Rattle.mainline.specs.Outcome.{Ends, RunEnds, ScriptEnds, ShowEnds, UsageEnds, TellsFaults, has_export, outside, started_by};
-ghost use Rattle.mainline.specs.Sent.{RefusalEnds, PlayEnds};
+ghost use Rattle.export_spec.specs.Sent.{has_export};
+ghost use Rattle.workload_spec.specs.ScriptText.{script_text};
+ghost use Rattle.store_rounds.specs.Workloads.{WentBy};
+ghost use Rattle.mainline.specs.Outcome.{Ends, RunEnds, ScriptEnds, ShowEnds, UsageEnds, TellsFaults, outside, started_by};
+ghost use Rattle.mainline.specs.Played.{RefusalEnds, PlayEnds};
 ghost use Rattle.mainline.specs.Today.{today};
 ghost use Rattle.mainline.specs.Words.{asked_by};
 
 use crate::checking::check;
 use crate::extent::today;
-use crate::fault::RunFault;
-use crate::round::run_round;
 use crate::status::Status;
 use crate::words::{WordsFault, Work, work_of};
 use byte_ports::{
@@ -25,6 +26,7 @@ use script_text::{ScriptFault, parse};
 use std::alloc::{AllocError, Global};
 use std::sync::Wait;
 use std::thread::Threads;
+use store_rounds::{RunFault, run_workload};
 use stream_spec::StreamFault;
 use workload_spec::{Command, Round, Script};
 
@@ -189,6 +191,7 @@ fn run_script<R: Wait + Threads + Sync, O: Sink, X: Outlet, G: Gate>(
 ) -> Status
     requires valid { is_valid script ≡ true }
     requires within { RunsWithin today script }
+    requires short { length (script_text script) < 2 ^ 32 }
     ensures ends { (left_old left_new : Option (List ℕ)) → ScriptEnds (option_map (λ p. p.now) path.entry) script result
         (outside left_old (O.written out.old) (X.written export.old) (X.started export.old))
         (outside left_new (O.written out.new) (X.written export.new) (X.started export.new)) }
@@ -216,27 +219,16 @@ fn play<R: Wait + Threads + Sync, O: Sink, X: Outlet, G: Gate>(
 ) -> Status
     requires valid { is_valid script ≡ true }
     requires within { RunsWithin today script }
-    ensures ends { PlayEnds script result (O.written out.old) (O.written out.new) (X.written export.old) (X.written export.new) }
+    requires short { length (script_text script) < 2 ^ 32 }
+    ensures ends { PlayEnds (WentBy script (X.written export.old) (X.written export.new))
+        script result (O.written out.old) (O.written out.new) }
     ensures started { X.started export.new ≡ X.started export.old }
     ensures out_faults { TellsFaults Status.OutFault result (O.faults out.old) (O.faults out.new) }
     ensures export_faults { TellsFaults Status.ExportFault result (X.faults export.old) (X.faults export.new) }
 {
-    let Script {
-        version: _,
-        tables,
-        sessions: _,
-        workers: _,
-        turns: _,
-        rounds,
-    } = script;
-    let Some(round) = rounds.into_vec().pop() else {
-        unreachable!();
-    };
-    match run_round(rt, alloc, tables.as_slice(), round, export, gate) {
-        Ok(text) => match write_all(out, text.as_slice()) {
-            Ok(()) => Status::Done,
-            Err(Failed) => Status::OutFault,
-        },
+    match run_workload(rt, alloc, gate, script, out, export) {
+        Ok(()) => Status::Done,
+        Err(RunFault::Out) => Status::OutFault,
         Err(RunFault::Export) => Status::ExportFault,
         Err(RunFault::Memory) => Status::Memory,
     }

@@ -3,4 +3,5 @@ pub mod Worked
 pub mod Row
 pub mod Agendas
 pub mod Rounds
+pub mod Workloads
 pub mod Runs

@@ -1,6 +1,6 @@
 -- What the sessions of a row did in a round.
-use Rattle.std.specs.Prelude.{◌≡◌, ℕ, ◌+◌, ◌*◌, ◌<◌, List, ◌++◌, All, map, get_or, length}
-use Rattle.std.specs.List.{range_with_len}
+use Rattle.std.specs.Prelude.{◌≡◌, ℕ, ◌+◌, ◌*◌, ◌<◌, List, ◌++◌, All, Option, map, get_or, length}
+use Rattle.std.specs.List.{flat_map, range_with_len}
 use Rattle.event_spec.specs.Replay.{IsLawfulLog}
 use Rattle.outcome_spec.specs.Forms.{commands_of}
 use Rattle.workload_spec.specs.declared.command.Command.{Command}
@@ -13,9 +13,11 @@ use Rattle.round_laws.specs.Rounds.{made_in}
 use Rattle.shared_store.specs.Store.{HasRoomFor, IsNamed, StoreView, shape_in}
 use Rattle.shared_store.specs.declared.session.Session.{Session}
 use Rattle.store_rounds.specs.declared.agenda.Agenda.{Agenda}
-use Rattle.store_rounds.specs.Answered.{most_events}
+use Rattle.store_rounds.specs.declared.fault.RunFault.{RunFault}
+use Rattle.store_rounds.specs.declared.fault.RunFault.TheVariants as fault
+use Rattle.store_rounds.specs.Answered.{SentBy, most_events}
 use Rattle.store_rounds.specs.Row.{MetIn}
-use Rattle.store_rounds.specs.Worked.{Worked, asked_in, share_of}
+use Rattle.store_rounds.specs.Worked.{EndsAtExport, Worked, asked_in, share_of}
 
 -- the sessions of a row have the numbers from 1 on
 abbrev pub AreNumbered : List Session → Type 0
@@ -36,16 +38,25 @@ abbrev pub shares_of : ℕ → (ℕ → List Call) → List Share
 shares_of sessions calls =
     map (λ session. share_of session (calls session)) (range_with_len 1 sessions)
 
+-- the calls of so many sessions, session by session
+abbrev pub calls_of : ℕ → (ℕ → List Call) → List Call
+calls_of sessions calls = flat_map calls (range_with_len 1 sessions)
+
+-- The calls of one of so many sessions end at an export.
+abbrev pub OneEndsAtExport : ℕ → (ℕ → List Call) → Type 0
+OneEndsAtExport sessions calls = (k : ℕ) × (k < sessions) × EndsAtExport (calls (k + 1))
+
 -- Each of a row carried out its calls.
 pub record RowWorked (store : StoreView) (old new : List Session) (calls : ℕ → List Call) : Type 0 where
   pub size : length new ≡ length old
   pub each : (k : ℕ) (d : Session) → k < length old
       → Worked store (get_or old k d) (get_or new k d) (calls (k + 1))
 
--- Each carried out all that it was asked, and the text grew by their lines, session by session.
+-- Each carried out all that it was asked, the text grew by their lines, session by session, and the
+-- outlet by what they sent.
 pub record RowWorkedWhole
     (store : StoreView) (round : ℕ) (old new : List Session) (agendas : List Agenda)
-    (before after : List ℕ)
+    (before after : List ℕ) (exported exported_now : Option (List ℕ))
     : Type 0 where
   pub calls : ℕ → List Call
   pub worked : RowWorked store old new calls
@@ -54,15 +65,20 @@ pub record RowWorkedWhole
   pub text
       : after
       ≡ before ++ round_text (shape_in store).tables round (shares_of (length old) calls)
+  pub sent : SentBy (shape_in store).tables (calls_of (length old) calls) exported exported_now
 
--- Each carried out the first of what it was asked.
+-- Each carried out the first of what it was asked, one of them up to an export where the outlet
+-- failed.
 pub record RowWorkedInPart
-    (store : StoreView) (old new : List Session) (agendas : List Agenda)
+    (store : StoreView) (old new : List Session) (agendas : List Agenda) (failed : RunFault)
+    (exported exported_now : Option (List ℕ))
     : Type 0 where
   pub calls : ℕ → List Call
   pub worked : RowWorked store old new calls
   pub asked : (k : ℕ) (d : Agenda) → k < length old
       → (rest : List Command) × ((get_or agendas k d).commands.items ≡ asked_in (calls (k + 1)) ++ rest)
+  pub sent : SentBy (shape_in store).tables (calls_of (length old) calls) exported exported_now
+  pub last : failed ≡ fault.Export → OneEndsAtExport (length old) calls
 
 -- A session carried out its calls, and then met the others in this log.
 pub record SessionRan
@@ -91,35 +107,50 @@ abbrev pub AskedSome : ℕ → List Line → (ℕ → List Call) → Type 0
 AskedSome sessions lines calls = (k : ℕ) → k < sessions
     → (rest : List Command) × (commands_of (k + 1) lines ≡ asked_in (calls (k + 1)) ++ rest)
 
--- Each of a row carried out all its commands of a round, and this is the text of their lines.
+-- Each of a row carried out all its commands of a round, this is the text of their lines, and the
+-- outlet grew by what they sent.
 pub record WorkedRound
     (store : StoreView) (round : ℕ) (old new : List Session) (lines : List Line)
-    (text : List ℕ)
+    (text : List ℕ) (exported exported_now : Option (List ℕ))
     : Type 0 where
   pub calls : ℕ → List Call
   pub worked : RowWorked store old new calls
   pub asked : AskedAll (length old) lines calls
   pub text_is : text ≡ round_text (shape_in store).tables round (shares_of (length old) calls)
+  pub sent : SentBy (shape_in store).tables (calls_of (length old) calls) exported exported_now
 
--- Each carried out the first of its commands of a round.
-pub record StoppedRound (store : StoreView) (old new : List Session) (lines : List Line) : Type 0 where
+-- Each carried out the first of its commands of a round, one of them up to an export where the
+-- outlet failed.
+pub record StoppedRound
+    (store : StoreView) (old new : List Session) (lines : List Line) (failed : RunFault)
+    (exported exported_now : Option (List ℕ))
+    : Type 0 where
   pub calls : ℕ → List Call
   pub worked : RowWorked store old new calls
   pub asked : AskedSome (length old) lines calls
+  pub sent : SentBy (shape_in store).tables (calls_of (length old) calls) exported exported_now
+  pub last : failed ≡ fault.Export → OneEndsAtExport (length old) calls
 
--- Each of a row carried out all its commands of a round, this is the text of their lines, and then
--- all met.
+-- Each of a row carried out all its commands of a round, this is the text of their lines, the outlet
+-- grew by what they sent, and then all met.
 pub record RanRound
     (store : StoreView) (round : ℕ) (old new : List Session) (lines : List Line)
-    (text : List ℕ)
+    (text : List ℕ) (exported exported_now : Option (List ℕ))
     : Type 0 where
   pub calls : ℕ → List Call
   pub ran : RowRan store old new calls
   pub asked : AskedAll (length old) lines calls
   pub text_is : text ≡ round_text (shape_in store).tables round (shares_of (length old) calls)
+  pub sent : SentBy (shape_in store).tables (calls_of (length old) calls) exported exported_now
 
--- Each carried out the first of its commands of a round, and then all met.
-pub record RanInPart (store : StoreView) (old new : List Session) (lines : List Line) : Type 0 where
+-- Each carried out the first of its commands of a round, one of them up to an export where the
+-- outlet failed, and then all met.
+pub record RanInPart
+    (store : StoreView) (old new : List Session) (lines : List Line) (failed : RunFault)
+    (exported exported_now : Option (List ℕ))
+    : Type 0 where
   pub calls : ℕ → List Call
   pub ran : RowRan store old new calls
   pub asked : AskedSome (length old) lines calls
+  pub sent : SentBy (shape_in store).tables (calls_of (length old) calls) exported exported_now
+  pub last : failed ≡ fault.Export → OneEndsAtExport (length old) calls

@@ -1,6 +1,7 @@
 -- What a session did in a round, and the text of its lines.
-use Rattle.std.specs.Prelude.{◌≡◌, ℕ, ◌+◌, ◌*◌, ◌≤◌, false, List, ◌++◌, map, All, length}
+use Rattle.std.specs.Prelude.{◌≡◌, ℕ, ◌+◌, ◌*◌, ◌≤◌, true, false, List, [], ◌∷◌, ◌++◌, Option, map, All, length}
 use Rattle.workload_spec.specs.declared.command.Command.{Command}
+use Rattle.workload_spec.specs.Valid.{is_export}
 use Rattle.workload_spec.specs.declared.reply.Who.TheVariants.{Session as TheSession}
 use Rattle.run_spec.specs.Calls.{Call}
 use Rattle.run_spec.specs.Handed.{Works}
@@ -9,7 +10,9 @@ use Rattle.round_laws.specs.Lines.{share_text}
 use Rattle.round_laws.specs.Texts.{IsCounted}
 use Rattle.shared_store.specs.Store.{IsSession, StoreView, events_made, seen, shape_in}
 use Rattle.shared_store.specs.declared.session.Session.{Session}
-use Rattle.store_rounds.specs.Answered.{most_events}
+use Rattle.store_rounds.specs.Answered.{SentBy, most_events}
+use Rattle.store_rounds.specs.declared.fault.RunFault.{RunFault}
+use Rattle.store_rounds.specs.declared.fault.RunFault.TheVariants as fault
 
 -- A session of the store carried out these calls, one behind the other.
 pub record Worked (store : StoreView) (old new : Session) (calls : List Call) : Type 0 where
@@ -25,10 +28,16 @@ asked_in calls = map (λ call. call.command) calls
 abbrev pub share_of : ℕ → List Call → Share
 share_of session calls = record { who = TheSession session; calls = calls }
 
--- It carried out all of these commands, and the text grew by their lines.
+-- The last of the calls is an export.
+abbrev pub EndsAtExport : List Call → Type 0
+EndsAtExport calls =
+    (front : List Call) × (last : Call) × (calls ≡ front ++ last ∷ []) × (is_export last.command ≡ true)
+
+-- It carried out all of these commands, the text grew by their lines, and the outlet by what they
+-- sent.
 pub record WorkedWhole
     (store : StoreView) (round : ℕ) (old new : Session) (commands : List Command)
-    (before after : List ℕ)
+    (before after : List ℕ) (exported exported_now : Option (List ℕ))
     : Type 0 where
   pub calls : List Call
   pub worked : Worked store old new calls
@@ -36,10 +45,16 @@ pub record WorkedWhole
   pub text
       : after
       ≡ before ++ share_text (shape_in store).tables round (share_of old.session calls)
+  pub sent : SentBy (shape_in store).tables calls exported exported_now
 
--- It carried out the first of these commands.
-pub record WorkedInPart (store : StoreView) (old new : Session) (commands : List Command) : Type 0 where
+-- It carried out the first of these commands, the last of them an export where the outlet failed.
+pub record WorkedInPart
+    (store : StoreView) (old new : Session) (commands : List Command) (failed : RunFault)
+    (exported exported_now : Option (List ℕ))
+    : Type 0 where
   pub calls : List Call
   pub worked : Worked store old new calls
   pub rest : List Command
   pub asked : commands ≡ asked_in calls ++ rest
+  pub sent : SentBy (shape_in store).tables calls exported exported_now
+  pub last : failed ≡ fault.Export → EndsAtExport calls

@@ -1,19 +1,52 @@
 //! A session's command, carried out by its store call.
-ghost use Rattle.std.specs.Prelude.{◌≡◌, None, is_some};
+ghost use Rattle.std.specs.Prelude.{◌≡◌, None, OnErr, OnOk, false, is_some, true};
+ghost use Rattle.byte_ports.specs.Calls.{Rose};
 ghost use Rattle.run_spec.specs.Told.{refusal_of};
 ghost use Rattle.shared_store.specs.Store.{Answers, HasRoomFor, IsSession, shape_in};
-ghost use Rattle.store_rounds.specs.Answered.{Counts, IsServed, most_events};
+ghost use Rattle.store_rounds.specs.Answered.{Answered, Counts, IsServed, most_events, told_in};
+ghost use Rattle.workload_spec.specs.Valid.{is_export};
 
+use crate::sending::send;
 use crate::told::{begun, found, gathered, scanned, sealed, written};
+use byte_ports::{Failed, Sink};
 use shared_store::{Session, Store};
 use std::sync::Wait;
 use std::thread::Threads;
 use workload_spec::{Command, Said};
 
-/// Carries out a session's command, and gives the line that it is told.
+/// Carries out a session's command, and gives the line that it is told. An export goes to the
+/// outlet.
+///
+/// # Errors
+///
+/// The outlet failed at an export, which counts as answered `memory`.
+pub(crate) fn carry_out<R: Wait + Threads + Sync, X: Sink>(
+    rt: &R,
+    store: &Store,
+    session: &mut Session,
+    command: Command,
+    outlet: &mut X,
+) -> Result<Said, Failed>
+    requires session { IsSession store.now session.old }
+    requires room { HasRoomFor most_events session.old }
+    requires command { IsServed (shape_in store.now).tables command }
+    ensures answered { Answered store.now session.old session.new command
+        (told_in result) (X.written outlet.old) (X.written outlet.new) }
+    ensures asked { OnErr result (is_export command ≡ true) }
+    ensures failed { OnErr result (Rose (X.faults outlet.old) (X.faults outlet.new)) }
+    ensures kept { OnOk result (X.faults outlet.new ≡ X.faults outlet.old) }
+    ensures started { X.started outlet.new ≡ X.started outlet.old }
+{
+    match command {
+        Command::Export { table } => send(rt, store, session, table, outlet),
+        other => Ok(answer(rt, store, session, other)),
+    }
+}
+
+/// Carries out a command other than an export.
 ///
 /// Without a transaction a command that needs one makes no event, and is told so.
-pub(crate) fn answer<R: Wait + Threads + Sync>(
+fn answer<R: Wait + Threads + Sync>(
     rt: &R,
     store: &Store,
     session: &mut Session,
@@ -22,6 +55,7 @@ pub(crate) fn answer<R: Wait + Threads + Sync>(
     requires session { IsSession store.now session.old }
     requires room { HasRoomFor most_events session.old }
     requires command { IsServed (shape_in store.now).tables command }
+    requires other { is_export command ≡ false }
     ensures session { IsSession store.now session.new }
     ensures same { session.new.session ≡ session.old.session }
     ensures answers { Answers store.now session.old session.new command result }

@@ -5,6 +5,8 @@
 pub enum RunFault {
     /// The output took no more bytes.
     Out,
+    /// The outlet of the export took no more bytes.
+    Export,
     /// There was no memory for the commands or the lines of a round.
     Memory,
 }

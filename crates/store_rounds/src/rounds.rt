@@ -6,53 +6,63 @@ ghost use Rattle.workload_spec.specs.Valid.{all_lines, is_valid};
 ghost use Rattle.shared_store.specs.Building.{IsNewRow};
 ghost use Rattle.shared_store.specs.Store.{shape_in};
 ghost use Rattle.store_rounds.specs.Answered.{IsServed};
-ghost use Rattle.store_rounds.specs.Runs.{CountsFault, RunStops, RunsWhole};
+ghost use Rattle.store_rounds.specs.Runs.{RunsIn};
+ghost use Rattle.store_rounds.specs.Workloads.{CountsExportFault, CountsOutFault};
+ghost use Rattle.store_rounds.specs.Workloads.{GoesPart, GoesWhole};
 
 use crate::fault::RunFault;
 use crate::round::run_round;
 use byte_ports::{Failed, Gate, Sink, write_all};
 use shared_store::{Session, Store};
 use std::alloc::Global;
+use std::snapshot::Snapshot;
 use std::sync::Wait;
 use std::thread::Threads;
-use workload_spec::Script;
+use workload_spec::{Rounds, Script};
 
 /// Runs the rounds of a workload over a store that was just built for it, with the row of all its
-/// sessions. The lines of a round are printed when it has ended, session by session. The gate is
-/// passed before each command.
+/// sessions. The lines of a round are printed when it has ended, session by session, and an export
+/// goes to the outlet. The gate is passed before each command. `script` is the workload, which costs
+/// nothing.
 ///
 /// # Errors
 ///
 /// [`RunFault::Out`] where the lines of a round could not be printed: the rounds up to it ran.
-/// [`RunFault::Memory`] where there was no memory for the commands or the lines of a round: the
-/// rounds before it were printed. In either case the sessions met after what they did last.
-pub fn run_rounds<R: Wait + Threads + Sync, O: Sink, G: Gate>(
+/// [`RunFault::Memory`] where there was no memory for the commands or the lines of a round, and
+/// [`RunFault::Export`] where the outlet failed at the export: the rounds before it were printed. In
+/// each case the sessions met after what they did last.
+pub fn run_rounds<R: Wait + Threads + Sync, O: Sink, X: Sink, G: Gate>(
     rt: &R,
     alloc: Global,
     gate: &G,
     store: &Store,
-    script: Script,
     row: &mut [Session],
+    script: &Snapshot<Script>,
+    rounds: Rounds,
     out: &mut O,
+    outlet: &mut X,
 ) -> Result<(), RunFault>
-    requires valid { is_valid script ≡ true }
-    requires short { length (script_text script) < 2 ^ 32 }
-    requires served { All (λ line. IsServed script.tables line.command) (all_lines script) }
-    requires workers { script.workers ≡ 0 }
-    requires shape { shape_in store.now ≡ shape_of script }
-    requires row { IsNewRow store.now script.sessions row.old }
-    ensures whole { OnOk result
-        (RunsWhole script store.now row.new (O.written out.old) (O.written out.new)) }
-    ensures stops { IfErr result (λ fault.
-        RunStops script store.now row.new fault (O.written out.old) (O.written out.new)) }
-    ensures faults { CountsFault (O.faults out.old) (O.faults out.new) result }
+    requires rounds { rounds ≡ script.now.value.rounds }
+    requires valid { is_valid script.now.value ≡ true }
+    requires short { length (script_text script.now.value) < 2 ^ 32 }
+    requires served { All (λ line. IsServed script.now.value.tables line.command) (all_lines script.now.value) }
+    requires workers { script.now.value.workers ≡ 0 }
+    requires shape { shape_in store.now ≡ shape_of script.now.value }
+    requires row { IsNewRow store.now script.now.value.sessions row.old }
+    ensures whole { OnOk result (GoesWhole
+        (RunsIn script.now.value store.now row.new (X.written outlet.old) (X.written outlet.new))
+        script.now.value (O.written out.old) (O.written out.new)) }
+    ensures part { IfErr result (λ fault. GoesPart
+        (RunsIn script.now.value store.now row.new (X.written outlet.old) (X.written outlet.new))
+        script.now.value fault (O.written out.old) (O.written out.new)) }
+    ensures out_faults { CountsOutFault (O.faults out.old) (O.faults out.new) result }
+    ensures export_faults { CountsExportFault (X.faults outlet.old) (X.faults outlet.new) result }
+    ensures started { X.started outlet.new ≡ X.started outlet.old }
 {
     let mut number = 0;
-    for round in script.rounds.into_vec() {
+    for round in rounds.into_vec() {
         number += 1;
-        let Ok(text) = run_round(rt, alloc, gate, store, number, row, round) else {
-            return Err(RunFault::Memory);
-        };
+        let text = run_round(rt, alloc, gate, store, number, row, round, outlet)?;
         if let Err(Failed) = write_all(out, text.as_slice()) {
             return Err(RunFault::Out);
         }

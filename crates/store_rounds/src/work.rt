@@ -1,41 +1,48 @@
 //! A session's commands of a round.
-ghost use Rattle.std.specs.Prelude.{◌≡◌, ◌*◌, All, IfErr, OnErr, OnOk, length};
+ghost use Rattle.std.specs.Prelude.{◌≡◌, ◌≢◌, ◌*◌, All, IfErr, OnOk, length};
 ghost use Rattle.shared_store.specs.Store.{HasRoomFor, IsSession, shape_in};
 ghost use Rattle.store_rounds.specs.Answered.{IsServed, most_events};
 ghost use Rattle.store_rounds.specs.Worked.{WorkedInPart, WorkedWhole};
+ghost use Rattle.store_rounds.specs.Workloads.{CountsExportFault};
 
-use crate::answer::answer;
+use crate::answer::carry_out;
 use crate::fault::RunFault;
 use crate::lines::Lines;
-use byte_ports::Gate;
+use byte_ports::{Gate, Sink};
 use shared_store::{Session, Store};
 use std::sync::Wait;
 use std::thread::Threads;
 use workload_spec::Command;
 
 /// Carries out a session's commands of a round one after another, and puts their lines behind those
-/// of the round. The gate is passed before each command.
+/// of the round. An export goes to the outlet. The gate is passed before each command.
 ///
 /// # Errors
 ///
-/// [`RunFault::Memory`] where there is no memory for a line. The commands up to its own were
-/// carried out; the text of the lines is not to be used.
-pub(crate) fn work<R: Wait + Threads + Sync, G: Gate>(
+/// [`RunFault::Memory`] where there is no memory for a line, and [`RunFault::Export`] where the
+/// outlet failed at an export. The commands up to this one were carried out; the text of the lines
+/// is not to be used.
+pub(crate) fn work<R: Wait + Threads + Sync, G: Gate, X: Sink>(
     rt: &R,
     gate: &G,
     store: &Store,
     session: &mut Session,
     commands: Vec<Command>,
     lines: &mut Lines,
+    outlet: &mut X,
 ) -> Result<(), RunFault>
     requires session { IsSession store.now session.old }
     requires room { HasRoomFor (most_events * length commands.items) session.old }
     requires commands { All (IsServed (shape_in store.now).tables) commands.items }
     ensures round { lines.new.round ≡ lines.old.round }
     ensures whole { OnOk result (WorkedWhole store.now lines.old.round
-        session.old session.new commands.items lines.old.text.items lines.new.text.items) }
-    ensures part { OnErr result (WorkedInPart store.now session.old session.new commands.items) }
-    ensures err { IfErr result (λ fault. fault ≡ RunFault.Memory) }
+        session.old session.new commands.items lines.old.text.items lines.new.text.items
+        (X.written outlet.old) (X.written outlet.new)) }
+    ensures part { IfErr result (λ fault. WorkedInPart store.now session.old session.new
+        commands.items fault (X.written outlet.old) (X.written outlet.new)) }
+    ensures printed { IfErr result (λ fault. fault ≢ RunFault.Out) }
+    ensures faults { CountsExportFault (X.faults outlet.old) (X.faults outlet.new) result }
+    ensures started { X.started outlet.new ≡ X.started outlet.old }
 {
     let mut index = 0;
     for command in commands {
@@ -45,7 +52,9 @@ pub(crate) fn work<R: Wait + Threads + Sync, G: Gate>(
             session.session_number(),
             u32::try_from(index).unwrap_or(u32::MAX),
         );
-        let said = answer(rt, store, session, command);
+        let Ok(said) = carry_out(rt, store, session, command, outlet) else {
+            return Err(RunFault::Export);
+        };
         lines.put(store.tables(), session.session_number(), index, said)?;
     }
     Ok(())

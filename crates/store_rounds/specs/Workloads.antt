@@ -1,0 +1,112 @@
+-- How the run of a workload ends: which rounds ran, what was printed, and what was sent.
+use Rattle.std.specs.Prelude.{◌≡◌, ℕ, true, List, [], ◌∷◌, ◌++◌, Option, Result, Ok, Err}
+use Rattle.std.specs.Io.KnownBytes.{Appends}
+use Rattle.byte_ports.specs.Calls.{AppendsFront, Rose}
+use Rattle.export_spec.specs.Sent.{SaysAllSent}
+use Rattle.outcome_spec.specs.Explained.{Explained}
+use Rattle.workload_spec.specs.Valid.{is_export}
+use Rattle.workload_spec.specs.declared.script.Line.{Line}
+use Rattle.workload_spec.specs.declared.script.Script.{Script}
+use Rattle.run_spec.specs.Occurrences.{Logged}
+use Rattle.run_spec.specs.Ran.{Ran}
+use Rattle.round_laws.specs.Fronts.{AreFirstLines, lines_of, with_rounds}
+use Rattle.store_rounds.specs.declared.fault.RunFault.{RunFault}
+use Rattle.store_rounds.specs.declared.fault.RunFault.TheVariants as fault
+
+-- The script ran with some log of events and had this text, which snapshot isolation explains; the
+-- outlet grew by what the text's lines say.
+pub record Went (script : Script) (text : List ℕ) (exported exported_now : Option (List ℕ)) : Type 0 where
+  pub log : List Logged
+  pub ran : Ran script log text
+  pub explained : Explained script text
+  pub bytes : List ℕ
+  pub sent : Appends exported exported_now bytes
+  pub says : SaysAllSent script text bytes
+
+-- Below `Goes asked text` says that rounds of these lines ran and had this text.
+
+-- All rounds ran, and their text was printed.
+pub record GoesWhole
+    (Goes : List (List Line) → List ℕ → Type 0) (script : Script) (before now : Option (List ℕ))
+    : Type 0 where
+  pub text : List ℕ
+  pub went : Goes script.rounds text
+  pub printed : Appends before now text
+
+-- The output failed within the lines of a round, the last of those that ran. These are some first
+-- rounds of the script, and only a front of their text was printed.
+pub record GoesCutOff
+    (Goes : List (List Line) → List ℕ → Type 0) (script : Script) (before now : Option (List ℕ))
+    : Type 0 where
+  pub whole : List (List Line)
+  pub rest : List (List Line)
+  pub rounds : script.rounds ≡ whole ++ rest
+  pub text : List ℕ
+  pub went : Goes whole text
+  pub printed : AppendsFront before now text
+
+-- The run stopped within a round: the rounds before it ran, and their text alone was printed. Of the
+-- round these first lines of each session ran, and their text was not printed.
+pub record GoesTo
+    (Goes : List (List Line) → List ℕ → Type 0) (script : Script) (lines : List Line)
+    (before now : Option (List ℕ))
+    : Type 0 where
+  pub whole : List (List Line)
+  pub round : List Line
+  pub rest : List (List Line)
+  pub rounds : script.rounds ≡ whole ++ round ∷ rest
+  pub first : AreFirstLines lines round
+  pub shown : List ℕ
+  pub hidden : List ℕ
+  pub explained_shown : Explained (with_rounds whole script) shown
+  pub went : Goes (whole ++ lines ∷ []) (shown ++ hidden)
+  pub printed : Appends before now shown
+
+-- A session's lines end at an export.
+pub record EndAtExport (lines : List Line) : Type 0 where
+  pub session : ℕ
+  pub front : List Line
+  pub last : Line
+  pub lines_are : lines_of session lines ≡ front ++ last ∷ []
+  pub asked : is_export last.command ≡ true
+
+-- It stopped for want of memory.
+pub record GoesStopped
+    (Goes : List (List Line) → List ℕ → Type 0) (script : Script) (before now : Option (List ℕ))
+    : Type 0 where
+  pub lines : List Line
+  pub to : GoesTo Goes script lines before now
+
+-- It stopped at an export, where the outlet failed; the export counts as answered `memory`.
+pub record GoesToExport
+    (Goes : List (List Line) → List ℕ → Type 0) (script : Script) (before now : Option (List ℕ))
+    : Type 0 where
+  pub lines : List Line
+  pub last : EndAtExport lines
+  pub to : GoesTo Goes script lines before now
+
+-- how a run ends that does not come to its last round
+abbrev pub GoesPart
+    : (List (List Line) → List ℕ → Type 0) → Script → RunFault → Option (List ℕ) → Option (List ℕ) → Type 0
+GoesPart Goes script fault.Out before now = GoesCutOff Goes script before now
+GoesPart Goes script fault.Export before now = GoesToExport Goes script before now
+GoesPart Goes script fault.Memory before now = GoesStopped Goes script before now
+
+-- Rounds of these lines of the script went so, for an outlet that had and now has these bytes.
+abbrev pub WentBy : Script → Option (List ℕ) → Option (List ℕ) → List (List Line) → List ℕ → Type 0
+WentBy script exported exported_now asked text =
+    Went (with_rounds asked script) text exported exported_now
+
+-- a count of the output's faults: it rises where the output failed
+abbrev pub CountsOutFault : {T : Type 0} → ℕ → ℕ → Result T RunFault → Type 0
+CountsOutFault before now (Ok done) = now ≡ before
+CountsOutFault before now (Err fault.Out) = Rose before now
+CountsOutFault before now (Err fault.Export) = now ≡ before
+CountsOutFault before now (Err fault.Memory) = now ≡ before
+
+-- a count of the outlet's faults: it rises where the outlet failed
+abbrev pub CountsExportFault : {T : Type 0} → ℕ → ℕ → Result T RunFault → Type 0
+CountsExportFault before now (Ok done) = now ≡ before
+CountsExportFault before now (Err fault.Out) = now ≡ before
+CountsExportFault before now (Err fault.Export) = Rose before now
+CountsExportFault before now (Err fault.Memory) = now ≡ before

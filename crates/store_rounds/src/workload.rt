@@ -1,0 +1,68 @@
+//! A workload, run over a store that is built for it.
+ghost use Rattle.std.specs.Prelude.{◌≡◌, ◌<◌, ◌^◌, All, IfErr, OnOk, length, true};
+ghost use Rattle.workload_spec.specs.ScriptText.{script_text};
+ghost use Rattle.workload_spec.specs.Valid.{all_lines, is_valid};
+ghost use Rattle.store_rounds.specs.Answered.{IsServed};
+ghost use Rattle.store_rounds.specs.Workloads.{CountsExportFault, CountsOutFault};
+ghost use Rattle.store_rounds.specs.Workloads.{GoesPart, GoesWhole, WentBy};
+
+use crate::fault::RunFault;
+use crate::rounds::run_rounds;
+use byte_ports::{Gate, Sink};
+use shared_store::{Built, Store};
+use std::alloc::Global;
+use std::snapshot::Snapshot;
+use std::sync::Wait;
+use std::thread::Threads;
+use workload_spec::Script;
+
+/// Runs a workload over a store that is built for it. The lines of a round are printed when it has
+/// ended, session by session, and an export goes to the outlet. The gate is passed before each
+/// command.
+///
+/// # Errors
+///
+/// Those of [`run_rounds`]; where there is no memory for the store, nothing ran.
+pub fn run_workload<R: Wait + Threads + Sync, O: Sink, X: Sink, G: Gate>(
+    rt: &R,
+    alloc: Global,
+    gate: &G,
+    script: Script,
+    out: &mut O,
+    outlet: &mut X,
+) -> Result<(), RunFault>
+    requires valid { is_valid script ≡ true }
+    requires short { length (script_text script) < 2 ^ 32 }
+    requires served { All (λ line. IsServed script.tables line.command) (all_lines script) }
+    requires workers { script.workers ≡ 0 }
+    ensures whole { OnOk result (GoesWhole
+        (WentBy script (X.written outlet.old) (X.written outlet.new))
+        script (O.written out.old) (O.written out.new)) }
+    ensures part { IfErr result (λ fault. GoesPart
+        (WentBy script (X.written outlet.old) (X.written outlet.new))
+        script fault (O.written out.old) (O.written out.new)) }
+    ensures out_faults { CountsOutFault (O.faults out.old) (O.faults out.new) result }
+    ensures export_faults { CountsExportFault (X.faults outlet.old) (X.faults outlet.new) result }
+    ensures started { X.started outlet.new ≡ X.started outlet.old }
+{
+    let whole = Snapshot::of(&script);
+    let Script {
+        version: _,
+        tables,
+        sessions,
+        workers: _,
+        turns: _,
+        rounds,
+    } = script;
+    let Ok(
+        Built {
+            store,
+            sessions: mut row,
+        },
+    ) = Store::build(alloc, tables.into_vec(), sessions)
+    else {
+        return Err(RunFault::Memory);
+    };
+    let row = row.as_mut_slice();
+    run_rounds(rt, alloc, gate, &store, row, &whole, rounds, out, outlet)
+}
