@@ -13,3 +13,4 @@ pub mod Walking
 pub mod Exported
 pub mod Calling
 pub mod Quiet
+pub mod Sending

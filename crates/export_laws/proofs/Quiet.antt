@@ -35,7 +35,7 @@ none_member p (y ∷ xs) x none among = go (p y) refl (list_any p xs) none among
     go false is b e (inl same) rest = ap p same ∙ is
     go false is b e (inr a) rest = rest e a
 
-upkeep_no_export : (asked : Command) → is_upkeep asked ≡ true → is_export asked ≡ false
+pub upkeep_no_export : (asked : Command) → is_upkeep asked ≡ true → is_export asked ≡ false
 upkeep_no_export (command.Export table) e = absurd (let never : false ≡ true = e in let no : ⊥ = cc in no)
 upkeep_no_export _ e = refl
 
@@ -72,7 +72,7 @@ module _ (script : Script) (quiet : list_any (λ (line : Line). is_export line.c
 
 -- ---- all calls
 
-abbrev is_one : Call → Bool
+abbrev pub is_one : Call → Bool
 is_one call = is_export call.command
 
 neither : (a b : Bool) → a ≡ false → b ≡ false → (a || b) ≡ false

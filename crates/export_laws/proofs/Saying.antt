@@ -52,7 +52,7 @@ use Rattle.workload_spec.specs.Valid.{is_command, is_valid}
 use Rattle.export_laws.proofs.Groups.{groups_are, groups_fit, groups_read}
 use Rattle.export_laws.proofs.Streams.{front_is, groups_counted, rows_counted}
 use Rattle.export_laws.proofs.Tables.{are_told, columns_same}
-use Rattle.export_laws.proofs.Told.{tells_first}
+use Rattle.export_laws.proofs.Told.{or_false, tells_first}
 
 -- ---- what a line says, by the machine
 
@@ -81,10 +81,6 @@ same_number a b e = cc
 
 true_false : true ≡ false → ⊥
 true_false e = cc
-
-or_false : (a b : Bool) → (a || b) ≡ false → (a ≡ false) × (b ≡ false)
-or_false true b e = absurd (true_false e)
-or_false false b e = (refl, e)
 
 -- reads are not cut short where none was refused
 reads_cut : (own : OwnTransaction) (t : ℕ) (made : List Occurrence) (blocks : List ℕ) → events_in made ≡ map (event.Read own t) blocks

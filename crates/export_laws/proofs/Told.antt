@@ -20,7 +20,7 @@ use Rattle.told_laws.proofs.Splits.{heads, none_some, tails}
 true_false : true ≡ false → ⊥
 true_false e = cc
 
-or_false : (a b : Bool) → (a || b) ≡ false → (a ≡ false) × (b ≡ false)
+pub or_false : (a b : Bool) → (a || b) ≡ false → (a ≡ false) × (b ≡ false)
 or_false true b e = absurd (true_false e)
 or_false false b e = (refl, e)
 

@@ -1,5 +1,5 @@
 -- The text of a run is that of its lines, and is explained.
-use Rattle.std.proofs.Common.{◌≡◌, ◌⊎◌, ℕ, zero, suc, ◌+◌, ◌<◌, ◌≤◌, ◌^◌, Bool, true, false, cond, ◌&&◌, ◌==◌, List, [], ◌∷◌, ◌++◌, map, Option, None, Some, refl, sym, ap, ◌∙◌, arith}
+use Rattle.std.proofs.Common.{◌≡◌, ◌⊎◌, ℕ, zero, suc, ◌+◌, ◌<◌, ◌≤◌, ◌^◌, Bool, true, false, cond, ◌&&◌, ◌==◌, List, [], ◌∷◌, ◌++◌, map, Option, None, Some, refl, sym, ap, ◌∙◌, subst, arith}
 use mathlib.Core.Logic.{inl, inr}
 use Rattle.std.specs.Prelude.{All}
 use Rattle.std.specs.List.{cons_option, count_by, enumerate_from, flat_map}
@@ -30,7 +30,7 @@ use Rattle.run_spec.specs.Occurrences.{Occurrence}
 use Rattle.run_spec.specs.Ran.{Agenda, AreRounds, IsDone, RoundRun, Share, agenda_of, agendas_in, told_in}
 use Rattle.round_laws.specs.Fronts.{with_rounds}
 use Rattle.round_laws.specs.Lines.{line_of, round_text, rounds_text, share_text, told_by}
-use Rattle.round_laws.specs.Texts.{AreCounted, IsCounted, NothingIsExplained, RoundsAreExplained, RoundsRan, TextsAreLines}
+use Rattle.round_laws.specs.Texts.{AreCounted, CountsFit, IsCounted, NothingIsExplained, RoundsAreExplained, RoundsRan, TextsAreLines}
 
 -- ---- indexes
 
@@ -223,12 +223,15 @@ module _ (script : Script) (asked : List (List Line)) where
 
 pub rounds_ran : RoundsRan
 rounds_ran script asked rounds finished ran = record {
-  lawful = ran.lawful;
-  rounds = rounds;
-  asked = ran.agendas;
-  parted = ran.parted;
-  done = rounds_done script asked [] rounds ran.done;
-  printed = sym (texts_are_lines script asked rounds ran.agendas);
+  ran = record {
+    lawful = ran.lawful;
+    rounds = rounds;
+    asked = ran.agendas;
+    parted = ran.parted;
+    done = rounds_done script asked [] rounds ran.done;
+    printed = sym (texts_are_lines script asked rounds ran.agendas);
+  };
+  rounds_are = refl;
 }
 
 -- ---- counts of prunings
@@ -266,17 +269,17 @@ shares_fit (share ∷ shares) all = fit_append (share_told share) (flat_map shar
     (calls_fit share.calls (All-head EachCounted share shares all))
     (shares_fit shares (All-tail EachCounted share shares all))
 
-rounds_fit : (rounds : List RoundRun) → All AreCounted rounds → PruningsFit (told_in rounds)
-rounds_fit [] all = λ count a. absurd a
-rounds_fit (round ∷ rounds) all = fit_append (flat_map share_told round.shares) (told_in rounds)
+pub counts_fit : CountsFit
+counts_fit [] all = λ count a. absurd a
+counts_fit (round ∷ rounds) all = fit_append (flat_map share_told round.shares) (told_in rounds)
     (shares_fit round.shares (All-head AreCounted round rounds all))
-    (rounds_fit rounds (All-tail AreCounted round rounds all))
+    (counts_fit rounds (All-tail AreCounted round rounds all))
 
 pub rounds_are_explained : RoundsAreExplained
-unfolding rounds_ran
 rounds_are_explained script asked rounds finished valid ran counted =
+    let run = rounds_ran script asked rounds finished ran in
     runs_are_explained (with_rounds asked script) finished (rounds_text script.tables 1 rounds) valid
-    (rounds_ran script asked rounds finished ran) (rounds_fit rounds counted)
+    run.ran (subst (λ rounds. PruningsFit (told_in rounds)) (sym run.rounds_are) (counts_fit rounds counted))
 
 pub nothing_is_explained : NothingIsExplained
 nothing_is_explained script = record { forms = refl; replies = refl }

@@ -1,5 +1,8 @@
-use Rattle.round_laws.proofs.Texts.{rounds_are_explained, nothing_is_explained}
+use Rattle.round_laws.proofs.Texts.{counts_fit, rounds_are_explained, nothing_is_explained}
 use Rattle.round_laws.proofs.laws.rounds_are_explained.Goals as goal
+
+pub returns-clause-counts : goal.returns-clause-counts
+returns-clause-counts c = counts_fit
 
 pub returns-clause-some : goal.returns-clause-some
 returns-clause-some c = rounds_are_explained
