@@ -137,7 +137,8 @@ events_few shape own session command.Prune made few many is = absurd (true≢fal
 events_few shape own session (command.Compact table) made few many is = absurd (true≢false (sym is))
 events_few shape own session (command.Seal table block) made few many is = omega arith
 events_few shape own session (command.Gather table block) made few many is = omega arith
-events_few shape own session (command.Export table) made few many is = absurd (true≢false (sym is))
+events_few shape None session (command.Export table) made few many is = omega arith
+events_few shape (Some t) session (command.Export table) made few many is = let reads = reads_few shape table (event.Read t table) (few table) in omega (arith, reads)
 
 made_few : (shape : Shape) (worker : Bool) (session : ℕ) (own : Option OwnTransaction) (refusal : Option Said) (call : Call)
     → ((table : ℕ) → blocks_of shape table ≤ 2 ^ 10) → length shape.tables ≤ 16 → is_carried_out call.command ≡ true

@@ -1,8 +1,14 @@
 mod Answering
 mod Short
+mod Faults
+mod Scripts
+mod Sends
 mod Turns
 mod Rows
 mod Agendas
 mod RowWork
 mod Runs
+mod Went
 mod Running
+mod Nothing
+mod Going

@@ -1,12 +1,13 @@
 -- A row at work, session by session.
-use Rattle.std.proofs.Common.{◌≡◌, ℕ, zero, suc, ◌+◌, ◌*◌, ◌<◌, ◌≤◌, nat_lt, Bool, true, false, cond, ◌==◌, List, [], ◌∷◌, ◌++◌, map, length, get_or, slice_set, refl, sym, ap, ◌∙◌, subst, append-nil, append_assoc, arith, length-append, None, Some, Result, Ok, Err}
-use Rattle.std.specs.Prelude.{All, IfOk, OnErr}
-use Rattle.std.specs.List.{cons_option, range_with_len}
+use Rattle.std.proofs.Common.{◌≡◌, ℕ, zero, suc, ◌+◌, ◌-◌, ◌*◌, ◌<◌, ◌≤◌, nat_lt, Bool, true, false, cond, ◌==◌, List, [], ◌∷◌, ◌++◌, map, length, get_or, slice_set, refl, sym, ap, ◌∙◌, subst, append-nil, append_assoc, arith, length-append, Option, None, Some, Result, Ok, Err}
+use Rattle.std.specs.Prelude.{All, IfErr, IfOk}
+use Rattle.std.specs.List.{cons_option, flat_map, range_with_len}
 use Rattle.std.proofs.lemmas.Bool.Decides.{nat_tests}
 use Rattle.std.proofs.lemmas.Grind.{elements, flat_map-append}
 use Rattle.std.proofs.lemmas.List.{get_or_at}
 use Rattle.std.proofs.lemmas.List.Elements.{All-cons, All-head, All-nil, All-tail}
 use Rattle.std.proofs.lemmas.List.FromFn.{map-range_with_len_more}
+use Rattle.cell_model.specs.declared.table.TableDecl.{TableDecl}
 use Rattle.outcome_spec.specs.Forms.{commands_of}
 use Rattle.workload_spec.specs.declared.command.Command.{Command}
 use Rattle.workload_spec.specs.declared.script.Line.{Line}
@@ -19,19 +20,23 @@ use Rattle.shared_store.specs.Store.{HasRoomFor, IsSession, StoreView, seen, sha
 use Rattle.shared_store.specs.declared.session.Session.{Session}
 use Rattle.store_rounds.specs.declared.agenda.Agenda.{Agenda}
 use Rattle.store_rounds.specs.Agendas.{AreAgendas}
-use Rattle.store_rounds.specs.Answered.{most_events}
+use Rattle.store_rounds.specs.Answered.{SentBy, most_events}
 use Rattle.store_rounds.specs.Row.{AreSessions, Met}
-use Rattle.store_rounds.specs.Rounds.{AreNumbered, HaveRoomFor, HaveRoomToWork, RanInPart, RanRound, RowRan, RowWorked, RowWorkedInPart, RowWorkedWhole, StoppedRound, WorkedRound, shares_of}
-use Rattle.store_rounds.specs.Worked.{Worked, WorkedInPart, WorkedWhole, asked_in, share_of}
+use Rattle.store_rounds.specs.Rounds.{AreNumbered, HaveRoomFor, HaveRoomToWork, RanInPart, RanRound, RowRan, RowWorked, RowWorkedInPart, RowWorkedWhole, StoppedRound, WorkedRound, calls_of, shares_of}
+use Rattle.store_rounds.specs.Worked.{EndsAtExport, Worked, WorkedInPart, WorkedWhole, asked_in, share_of}
+use Rattle.store_rounds.specs.declared.fault.RunFault.{RunFault}
+use Rattle.store_rounds.specs.declared.fault.RunFault.TheVariants as fault
+use Rattle.store_rounds.proofs.Sends.{calls_sent, nothing_sent}
 
 -- A row within a round: the first so many sessions carried out all that they were asked, and the
 -- others nothing yet.
-pub record RowTurn (store : StoreView) (round : ℕ) (old now : List Session) (agendas : List Agenda) (before after : List ℕ) (at' : ℕ) : Type 0 where
+pub record RowTurn (store : StoreView) (round : ℕ) (old now : List Session) (agendas : List Agenda) (before after : List ℕ) (exported exported_now : Option (List ℕ)) (at' : ℕ) : Type 0 where
   pub calls : ℕ → List Call
   pub worked : RowWorked store old now calls
   pub ahead : (k : ℕ) → at' ≤ k → calls (k + 1) ≡ []
   pub asked : (k : ℕ) (d : Agenda) → k < at' → asked_in (calls (k + 1)) ≡ (get_or agendas k d).commands.items
   pub text : after ≡ before ++ round_text (shape_in store).tables round (shares_of at' calls)
+  pub sent : SentBy (shape_in store).tables (calls_of at' calls) exported exported_now
   pub unmoved : (k : ℕ) (d : Session) → at' ≤ k → k < length old → get_or now k d ≡ get_or old k d
 
 nothing_worked : (store : StoreView) (session : Session) → IsSession store session → Worked store session session []
@@ -43,14 +48,15 @@ nothing_worked store session is = record {
   few = omega arith;
 }
 
-pub row_begins : (store : StoreView) (round : ℕ) (row : List Session) (agendas : List Agenda) (text : List ℕ)
-    → AreSessions store row → RowTurn store round row row agendas text text 0
-row_begins store round row agendas text are = record {
+pub row_begins : (store : StoreView) (round : ℕ) (row : List Session) (agendas : List Agenda) (text : List ℕ) (exported : Option (List ℕ))
+    → AreSessions store row → RowTurn store round row row agendas text text exported exported 0
+row_begins store round row agendas text exported are = record {
   calls = λ n. [];
   worked = record { size = refl; each = λ k d within. nothing_worked store (get_or row k d) (are k d within) };
   ahead = λ k low. refl;
   asked = λ k d low. absurd (omega (arith, low));
   text = sym (append-nil text);
+  sent = nothing_sent (shape_in store).tables exported;
   unmoved = λ k d low within. refl;
 }
 
@@ -130,14 +136,59 @@ shares_more at' own calls =
     (λ k low high. ap (share_of k) (other_calls at' k own calls (λ same. omega (arith, same, high)))))
     ∙ ap (λ (cs : List Call). shares_of at' calls ++ share_of (at' + 1) cs ∷ []) (own_calls at' at' own calls refl)
 
+-- ---- the calls of all
+
+same_calls : (f g : ℕ → List Call) (a n : ℕ) → ((k : ℕ) → a ≤ k → k < a + n → f k ≡ g k) → flat_map f (range_with_len a n) ≡ flat_map g (range_with_len a n)
+same_calls f g a zero same = refl
+same_calls f g a (suc n) same =
+    ap (λ (cs : List Call). cs ++ flat_map f (range_with_len (a + 1) n)) (same a (omega arith) (omega arith))
+    ∙ ap (λ (cs : List Call). g a ++ cs) (same_calls f g (a + 1) n (λ k low high. same k (omega (arith, low)) (omega (arith, high))))
+
+one_behind : (calls : ℕ → List Call) (a n j : ℕ) → a + n ≡ j → flat_map calls (range_with_len a (suc n)) ≡ flat_map calls (range_with_len a n) ++ calls j
+one_behind calls a zero j at' = append-nil (calls a) ∙ ap calls (let e : a ≡ j = omega (arith, at') in e)
+one_behind calls a (suc n) j at' =
+    ap (λ (cs : List Call). calls a ++ cs) (one_behind calls (a + 1) n j (omega (arith, at')))
+    ∙ sym (append_assoc (calls a) (flat_map calls (range_with_len (a + 1) n)) (calls j))
+
+-- those of sessions without a call are none
+none_behind : (calls : ℕ → List Call) (a m n : ℕ) → m ≤ n → ((k : ℕ) → a + m ≤ k → calls k ≡ []) → flat_map calls (range_with_len a n) ≡ flat_map calls (range_with_len a m)
+none_behind calls a zero zero few none = refl
+none_behind calls a zero (suc n) few none =
+    ap (λ (cs : List Call). cs ++ flat_map calls (range_with_len (a + 1) n)) (none a (omega arith))
+    ∙ none_behind calls (a + 1) zero n (omega arith) (λ k low. none k (omega (arith, low)))
+none_behind calls a (suc m) zero few none = absurd (omega (arith, few))
+none_behind calls a (suc m) (suc n) few none =
+    ap (λ (cs : List Call). calls a ++ cs) (none_behind calls (a + 1) m n (omega (arith, few)) (λ k low. none k (omega (arith, low))))
+
+pub no_calls : (sessions : ℕ) → calls_of sessions (λ n. []) ≡ []
+no_calls sessions = none_behind (λ n. []) 1 0 sessions (omega arith) (λ k low. refl)
+
+calls_more : (at' : ℕ) (own : List Call) (calls : ℕ → List Call)
+    → calls_of (at' + 1) (with_calls (at' + 1) own calls) ≡ calls_of at' calls ++ own
+calls_more at' own calls =
+    let all : ℕ → List Call = λ (n : ℕ). with_calls (at' + 1) own calls n in
+    ap (λ n. calls_of n all) (let e : at' + 1 ≡ suc at' = omega arith in e)
+    ∙ one_behind all 1 at' (at' + 1) (omega arith)
+    ∙ ap (λ (cs : List Call). cs ++ all (at' + 1))
+    (same_calls all calls 1 at' (λ k low high. other_calls at' k own calls (λ same. omega (arith, same, high))))
+    ∙ ap (λ (cs : List Call). calls_of at' calls ++ cs) (own_calls at' at' own calls refl)
+
+-- what all sent, where one more carried out its calls
+sent_further : (tables : List TableDecl) (at' : ℕ) (own : List Call) (calls : ℕ → List Call) (exported now later : Option (List ℕ))
+    → SentBy tables (calls_of at' calls) exported now → SentBy tables own now later
+    → SentBy tables (calls_of (at' + 1) (with_calls (at' + 1) own calls)) exported later
+sent_further tables at' own calls exported now later before behind =
+    subst (λ (cs : List Call). SentBy tables cs exported later) (sym (calls_more at' own calls))
+    (calls_sent tables (calls_of at' calls) own exported now later before behind)
+
 -- ---- steps
 
-pub row_goes_on : (store : StoreView) (round : ℕ) (old now : List Session) (agendas : List Agenda) (before after later : List ℕ) (at' : ℕ) (x new : Session) (commands : List Command) (number : ℕ)
-    → RowTurn store round old now agendas before after at' → at' < length old → AreNumbered old → number ≡ round
-    → WorkedWhole store number (get_or now at' x) new commands after later
+pub row_goes_on : (store : StoreView) (round : ℕ) (old now : List Session) (agendas : List Agenda) (before after later : List ℕ) (exported exported_now exported_later : Option (List ℕ)) (at' : ℕ) (x new : Session) (commands : List Command) (number : ℕ)
+    → RowTurn store round old now agendas before after exported exported_now at' → at' < length old → AreNumbered old → number ≡ round
+    → WorkedWhole store number (get_or now at' x) new commands after later exported_now exported_later
     → ((d : Agenda) → (get_or agendas at' d).commands.items ≡ commands)
-    → RowTurn store round old (slice_set now at' new) agendas before later (at' + 1)
-row_goes_on store round old now agendas before after later at' x new commands number turn high numbers same_round did asked = record {
+    → RowTurn store round old (slice_set now at' new) agendas before later exported exported_later (at' + 1)
+row_goes_on store round old now agendas before after later exported exported_now exported_later at' x new commands number turn high numbers same_round did asked = record {
   calls = with_calls (at' + 1) did.calls turn.calls;
   worked = row_more store old now turn.calls at' x new did.calls turn.worked high (λ d. turn.unmoved at' d (omega arith) high) did.worked;
   ahead = λ k low. other_calls at' (k + 1) did.calls turn.calls (λ same. omega (arith, same, low)) ∙ turn.ahead k (omega (arith, low));
@@ -151,6 +202,7 @@ row_goes_on store round old now agendas before after later at' x new commands nu
       (ap (λ (text : List ℕ). round_text (shape_in store).tables round (shares_of at' turn.calls) ++ text) (sym (append-nil (share_text (shape_in store).tables round (share_of (at' + 1) did.calls))))
       ∙ sym (flat_map-append (share_text (shape_in store).tables round) (shares_of at' turn.calls) (share_of (at' + 1) did.calls ∷ []))
       ∙ ap (round_text (shape_in store).tables round) (sym (shares_more at' did.calls turn.calls)));
+  sent = sent_further (shape_in store).tables at' did.calls turn.calls exported exported_now exported_later turn.sent did.sent;
   unmoved = λ k d low within. set_other now new at' k d (λ same. omega (arith, same, low)) ∙ turn.unmoved k d (omega (arith, low)) within;
 }
   where
@@ -162,26 +214,37 @@ row_goes_on store round old now agendas before after later at' x new commands nu
         let under : k < at' = grind (arith, nat_tests, e, low) in
         ap asked_in (other_calls at' (k + 1) did.calls turn.calls (λ same. omega (arith, same, under))) ∙ turn.asked k d under
 
-pub row_ends : (store : StoreView) (round : ℕ) (old now : List Session) (agendas : List Agenda) (before after : List ℕ) (at' : ℕ)
-    → RowTurn store round old now agendas before after at' → at' ≡ length old → RowWorkedWhole store round old now agendas before after
-row_ends store round old now agendas before after at' turn all = record {
+pub row_ends : (store : StoreView) (round : ℕ) (old now : List Session) (agendas : List Agenda) (before after : List ℕ) (exported exported_now : Option (List ℕ)) (at' : ℕ)
+    → RowTurn store round old now agendas before after exported exported_now at' → at' ≡ length old
+    → RowWorkedWhole store round old now agendas before after exported exported_now
+row_ends store round old now agendas before after exported exported_now at' turn all = record {
   calls = turn.calls;
   worked = turn.worked;
   asked = λ k d within. turn.asked k d (omega (arith, within, all));
   text = turn.text ∙ ap (λ n. before ++ round_text (shape_in store).tables round (shares_of n turn.calls)) all;
+  sent = subst (λ n. SentBy (shape_in store).tables (calls_of n turn.calls) exported exported_now) all turn.sent;
 }
 
-pub row_stops : (store : StoreView) (round : ℕ) (old now : List Session) (agendas : List Agenda) (before after : List ℕ) (at' : ℕ) (x new : Session) (commands : List Command)
-    → RowTurn store round old now agendas before after at' → at' < length old
-    → WorkedInPart store (get_or now at' x) new commands
+pub row_stops : (store : StoreView) (round : ℕ) (old now : List Session) (agendas : List Agenda) (before after : List ℕ) (exported exported_now exported_later : Option (List ℕ)) (at' : ℕ) (x new : Session) (commands : List Command) (failed : RunFault)
+    → RowTurn store round old now agendas before after exported exported_now at' → at' < length old
+    → WorkedInPart store (get_or now at' x) new commands failed exported_now exported_later
     → ((d : Agenda) → (get_or agendas at' d).commands.items ≡ commands)
-    → RowWorkedInPart store old (slice_set now at' new) agendas
-row_stops store round old now agendas before after at' x new commands turn high did asked = record {
+    → RowWorkedInPart store old (slice_set now at' new) agendas failed exported exported_later
+row_stops store round old now agendas before after exported exported_now exported_later at' x new commands failed turn high did asked = record {
   calls = with_calls (at' + 1) did.calls turn.calls;
   worked = row_more store old now turn.calls at' x new did.calls turn.worked high (λ d. turn.unmoved at' d (omega arith) high) did.worked;
   asked = λ k d within. go k d (k == at') (nat_lt k at') refl refl;
+  sent = subst (λ (cs : List Call). SentBy (shape_in store).tables cs exported exported_later)
+      (sym (none_behind (with_calls (at' + 1) did.calls turn.calls) 1 (at' + 1) (length old) (omega (arith, high)) later_calls))
+      (sent_further (shape_in store).tables at' did.calls turn.calls exported exported_now exported_later turn.sent did.sent);
+  last = λ e. (at', high, subst EndsAtExport (sym (own_calls at' at' did.calls turn.calls refl)) (did.last e));
 }
   where
+    later_calls : (k : ℕ) → 1 + (at' + 1) ≤ k → with_calls (at' + 1) did.calls turn.calls k ≡ []
+    later_calls k low =
+        other_calls at' k did.calls turn.calls (λ same. omega (arith, same, low))
+        ∙ subst (λ n. turn.calls n ≡ []) (let e : k - 1 + 1 ≡ k = omega (arith, low) in e) (turn.ahead (k - 1) (omega (arith, low)))
+
     abbrev-free : (k : ℕ) → (k ≡ at' → ⊥) → with_calls (at' + 1) did.calls turn.calls (k + 1) ≡ turn.calls (k + 1)
     abbrev-free k other = other_calls at' (k + 1) did.calls turn.calls (λ same. other (omega (arith, same)))
 
@@ -208,11 +271,11 @@ row_stops store round old now agendas before after at' x new commands turn high 
         )
 
 -- one of a row may make the events of the commands that it is asked
-pub room_at : (store : StoreView) (round : ℕ) (old now : List Session) (agendas : List Agenda) (before after : List ℕ) (at' : ℕ) (x : Session) (e : Agenda) (commands : List Command)
-    → RowTurn store round old now agendas before after at' → at' < length old → HaveRoomToWork agendas old
+pub room_at : (store : StoreView) (round : ℕ) (old now : List Session) (agendas : List Agenda) (before after : List ℕ) (exported exported_now : Option (List ℕ)) (at' : ℕ) (x : Session) (e : Agenda) (commands : List Command)
+    → RowTurn store round old now agendas before after exported exported_now at' → at' < length old → HaveRoomToWork agendas old
     → ((d : Agenda) → (get_or agendas at' d).commands.items ≡ commands)
     → HasRoomFor (most_events * length commands) (get_or now at' x)
-room_at store round old now agendas before after at' x e commands turn high room asked =
+room_at store round old now agendas before after exported exported_now at' x e commands turn high room asked =
     subst (HasRoomFor (most_events * length commands)) (sym (turn.unmoved at' x (omega arith) high))
     (subst (λ (cs : List Command). HasRoomFor (most_events * length cs) (get_or old at' x)) (asked e) (room at' x e high))
 
@@ -227,53 +290,57 @@ agenda_at front rest all agenda at' split size d =
 pub is_inside : (front rest all : List Agenda) (agenda : Agenda) (at' : ℕ) → front ++ agenda ∷ rest ≡ all → length front ≡ at' → at' < length all
 is_inside front rest all agenda at' split size = omega (arith, size, ap length split, length-append front (agenda ∷ rest))
 
--- what holds, holds where there is an error
-pub where_err : {T E : Type 0} {P : Type 0} (r : Result T E) → P → OnErr r P
-where_err (Ok value) holds = tt
-where_err (Err fault) holds = holds
-
 -- ---- a round
 
 nothing_done_by : (store : StoreView) (row : List Session) → AreSessions store row → RowWorked store row row (λ n. [])
 nothing_done_by store row are = record { size = refl; each = λ k d within. nothing_worked store (get_or row k d) (are k d within) }
 
 -- there was no memory to begin the round
-pub stopped_at_once : (store : StoreView) (row : List Session) (lines : List Line) → AreSessions store row → StoppedRound store row row lines
-stopped_at_once store row lines are = record {
+pub stopped_at_once : (store : StoreView) (row : List Session) (lines : List Line) (exported : Option (List ℕ))
+    → AreSessions store row → StoppedRound store row row lines fault.Memory exported exported
+stopped_at_once store row lines exported are = record {
   calls = λ n. [];
   worked = nothing_done_by store row are;
   asked = λ k within. (commands_of (k + 1) lines, refl);
+  sent = subst (λ (cs : List Call). SentBy (shape_in store).tables cs exported exported) (sym (no_calls (length row)))
+      (nothing_sent (shape_in store).tables exported);
+  last = λ e. absurd (let never : ⊥ = cc e in never);
 }
 
-pub round_worked : (store : StoreView) (round : ℕ) (old new : List Session) (agendas : List Agenda) (lines : List Line) (before text : List ℕ)
+pub round_worked : (store : StoreView) (round : ℕ) (old new : List Session) (agendas : List Agenda) (lines : List Line) (before text : List ℕ) (exported now : Option (List ℕ))
     → before ≡ [] → AreAgendas (length old) lines agendas
-    → RowWorkedWhole store round old new agendas before text
-    → WorkedRound store round old new lines text
-round_worked store round old new [] lines before text none are worked = record {
+    → RowWorkedWhole store round old new agendas before text exported now
+    → WorkedRound store round old new lines text exported now
+round_worked store round old new agendas lines before text exported now none are worked = record {
   calls = worked.calls;
   worked = worked.worked;
-  asked = λ k within. absurd (omega (arith, within, are.size));
+  asked = λ k within. asked agendas are worked.asked k within;
   text_is = worked.text ∙ ap (λ (front : List ℕ). front ++ round_text (shape_in store).tables round (shares_of (length old) worked.calls)) none;
+  sent = worked.sent;
 }
-round_worked store round old new (d ∷ agendas) lines before text none are worked = record {
-  calls = worked.calls;
-  worked = worked.worked;
-  asked = λ k within. worked.asked k d within ∙ are.each k d within;
-  text_is = worked.text ∙ ap (λ (front : List ℕ). front ++ round_text (shape_in store).tables round (shares_of (length old) worked.calls)) none;
-}
+  where
+    asked : (agendas : List Agenda) → AreAgendas (length old) lines agendas
+        → ((k : ℕ) (d : Agenda) → k < length old → asked_in (worked.calls (k + 1)) ≡ (get_or agendas k d).commands.items)
+        → (k : ℕ) → k < length old → asked_in (worked.calls (k + 1)) ≡ commands_of (k + 1) lines
+    asked [] are each k within = absurd (omega (arith, within, are.size))
+    asked (d ∷ agendas) are each k within = each k d within ∙ are.each k d within
 
-pub round_stopped : (store : StoreView) (old new : List Session) (agendas : List Agenda) (lines : List Line)
-    → AreAgendas (length old) lines agendas → RowWorkedInPart store old new agendas → StoppedRound store old new lines
-round_stopped store old new [] lines are worked = record {
+pub round_stopped : (store : StoreView) (old new : List Session) (agendas : List Agenda) (lines : List Line) (failed : RunFault) (exported now : Option (List ℕ))
+    → AreAgendas (length old) lines agendas → RowWorkedInPart store old new agendas failed exported now
+    → StoppedRound store old new lines failed exported now
+round_stopped store old new agendas lines failed exported now are worked = record {
   calls = worked.calls;
   worked = worked.worked;
-  asked = λ k within. absurd (omega (arith, within, are.size));
+  asked = λ k within. asked agendas are worked.asked k within;
+  sent = worked.sent;
+  last = worked.last;
 }
-round_stopped store old new (d ∷ agendas) lines are worked = record {
-  calls = worked.calls;
-  worked = worked.worked;
-  asked = λ k within. let part = worked.asked k d within in (part.0, sym (are.each k d within) ∙ part.1);
-}
+  where
+    asked : (agendas : List Agenda) → AreAgendas (length old) lines agendas
+        → ((k : ℕ) (d : Agenda) → k < length old → (rest : List Command) × ((get_or agendas k d).commands.items ≡ asked_in (worked.calls (k + 1)) ++ rest))
+        → (k : ℕ) → k < length old → (rest : List Command) × (commands_of (k + 1) lines ≡ asked_in (worked.calls (k + 1)) ++ rest)
+    asked [] are each k within = absurd (omega (arith, within, are.size))
+    asked (d ∷ agendas) are each k within = let part = each k d within in (part.0, sym (are.each k d within) ∙ part.1)
 
 pub still_sessions_behind : (store : StoreView) (old new : List Session) (calls : ℕ → List Call) → RowWorked store old new calls → AreSessions store new
 still_sessions_behind store old new calls worked k d within = (worked.each k d (omega (arith, within, worked.size))).is_session
@@ -292,31 +359,37 @@ row_ran store old ended new calls worked met = record {
 }
 
 -- the sessions of a row whose work ended in any way
-pub ended_sessions : {T E : Type 0} (store : StoreView) (round : ℕ) (old new : List Session) (lines : List Line) (text : T → List ℕ) (r : Result T E)
-    → IfOk r (λ value. WorkedRound store round old new lines (text value)) → OnErr r (StoppedRound store old new lines)
-    → AreSessions store new × (length new ≡ length old)
-ended_sessions store round old new lines text (Ok value) whole part = (still_sessions_behind store old new whole.calls whole.worked, whole.worked.size)
-ended_sessions store round old new lines text (Err fault) whole part = (still_sessions_behind store old new part.calls part.worked, part.worked.size)
+module _ {T : Type 0} (store : StoreView) (round : ℕ) (old ended : List Session) (lines : List Line) (text : T → List ℕ) (exported now : Option (List ℕ)) where
+  pub ended_sessions : (r : Result T RunFault)
+      → IfOk r (λ value. WorkedRound store round old ended lines (text value) exported now)
+      → IfErr r (λ failed. StoppedRound store old ended lines failed exported now)
+      → AreSessions store ended × (length ended ≡ length old)
+  ended_sessions (Ok value) whole part = (still_sessions_behind store old ended whole.calls whole.worked, whole.worked.size)
+  ended_sessions (Err failed) whole part = (still_sessions_behind store old ended part.calls part.worked, part.worked.size)
 
-pub ran_whole : {T E : Type 0} (store : StoreView) (round : ℕ) (old ended new : List Session) (lines : List Line) (text : T → List ℕ) (r : Result T E)
-    → IfOk r (λ value. WorkedRound store round old ended lines (text value)) → Met store ended new
-    → IfOk r (λ value. RanRound store round old new lines (text value))
-ran_whole store round old ended new lines text (Ok value) whole met = record {
-  calls = whole.calls;
-  ran = row_ran store old ended new whole.calls whole.worked met;
-  asked = whole.asked;
-  text_is = whole.text_is;
-}
-ran_whole store round old ended new lines text (Err fault) whole met = tt
+  pub ran_whole : (new : List Session) (r : Result T RunFault)
+      → IfOk r (λ value. WorkedRound store round old ended lines (text value) exported now) → Met store ended new
+      → IfOk r (λ value. RanRound store round old new lines (text value) exported now)
+  ran_whole new (Ok value) whole met = record {
+    calls = whole.calls;
+    ran = row_ran store old ended new whole.calls whole.worked met;
+    asked = whole.asked;
+    text_is = whole.text_is;
+    sent = whole.sent;
+  }
+  ran_whole new (Err failed) whole met = tt
 
-pub ran_in_part : {T E : Type 0} (store : StoreView) (old ended new : List Session) (lines : List Line) (r : Result T E)
-    → OnErr r (StoppedRound store old ended lines) → Met store ended new → OnErr r (RanInPart store old new lines)
-ran_in_part store old ended new lines (Ok value) part met = tt
-ran_in_part store old ended new lines (Err fault) part met = record {
-  calls = part.calls;
-  ran = row_ran store old ended new part.calls part.worked met;
-  asked = part.asked;
-}
+  pub ran_in_part : (new : List Session) (r : Result T RunFault)
+      → IfErr r (λ failed. StoppedRound store old ended lines failed exported now) → Met store ended new
+      → IfErr r (λ failed. RanInPart store old new lines failed exported now)
+  ran_in_part new (Ok value) part met = tt
+  ran_in_part new (Err failed) part met = record {
+    calls = part.calls;
+    ran = row_ran store old ended new part.calls part.worked met;
+    asked = part.asked;
+    sent = part.sent;
+    last = part.last;
+  }
 
 -- ---- what may be asked
 

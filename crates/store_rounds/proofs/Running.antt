@@ -1,57 +1,50 @@
 -- A run, round by round.
-use Rattle.std.proofs.Common.{◌≡◌, ℕ, zero, suc, ◌+◌, ◌-◌, ◌*◌, ◌<◌, ◌≤◌, ◌^◌, ◌&&◌, ◌==◌, nat_le, Bool, true, List, [], ◌∷◌, ◌++◌, map, length, get_or, take, Option, None, Some, refl, sym, ap, ◌∙◌, subst, append-nil, append_assoc, arith, length-append}
-use Rattle.std.specs.Prelude.{All}
-use Rattle.std.specs.List.{flat_map, list_all}
+use Rattle.std.proofs.Common.{◌≡◌, ℕ, suc, ◌+◌, ◌*◌, ◌<◌, ◌≤◌, ◌^◌, ◌==◌, Bool, true, false, cond, List, [], ◌∷◌, ◌++◌, map, length, get_or, take, Option, None, Some, refl, sym, ap, ◌∙◌, subst, append-nil, append_assoc, arith, length-append}
+use Rattle.std.specs.Prelude.{◌≢◌, All}
+use Rattle.std.specs.List.{cons_option, flat_map, list_all, range_with_len}
 use Rattle.std.specs.Io.KnownBytes.{Appends}
+use Rattle.std.proofs.KnownBytes.{Appends-nil, Appends-trans}
 use Rattle.std.proofs.lemmas.Bool.{and_from, and_parts}
 use Rattle.std.proofs.lemmas.Grind.{flat_map-append}
-use Rattle.std.proofs.lemmas.Bool.Decides.{nat_tests}
 use Rattle.std.proofs.lemmas.Grind.{elements}
-use Rattle.std.proofs.lemmas.List.{length-map, length_push}
+use Rattle.std.proofs.lemmas.List.{length-map, length_push, map-append}
 use Rattle.std.proofs.lemmas.List.Elements.{All-append, All-cons, All-head, All-nil, All-tail}
 use Rattle.std.proofs.lemmas.List.Folds.{list_all-append}
 use Rattle.byte_ports.specs.Calls.{AppendsFront}
-use Rattle.explained_laws.proofs.Scripts.{head}
-use Rattle.outcome_spec.specs.Explained.{Explained}
+use Rattle.export_spec.specs.Calls.{calls_in}
 use Rattle.outcome_spec.specs.Forms.{commands_of}
-use Rattle.workload_spec.specs.Valid.{all_lines, has_head, have_own_names, is_command, is_line, is_table, is_valid, is_within, most_sessions, most_tables, most_turns, most_workers}
+use Rattle.workload_spec.specs.Valid.{all_lines, is_command, is_export, is_line, is_valid, is_within}
 use Rattle.workload_spec.specs.declared.command.Command.{Command}
 use Rattle.workload_spec.specs.declared.script.Line.{Line}
 use Rattle.workload_spec.specs.declared.script.Script.{Script}
 use Rattle.event_spec.specs.Parts.{Shape}
 use Rattle.run_spec.specs.Calls.{Call}
 use Rattle.run_spec.specs.Occurrences.{Logged}
-use Rattle.run_spec.specs.Ran.{RoundRun, agenda_of, agendas_in, shape_of}
-use Rattle.round_laws.proofs.Fronts.{first_lines_are_so, first_lines_ask, first_rounds_are_valid, fronts_are_valid}
+use Rattle.run_spec.specs.Ran.{RoundRun, Share, shape_of}
+use Rattle.round_laws.proofs.Fronts.{first_lines_are_so, first_lines_ask, fronts_are_valid}
 use Rattle.round_laws.proofs.Lines.{rounds_grow}
 use Rattle.round_laws.proofs.Rounds.{nothing_ran, rounds_go_on}
-use Rattle.round_laws.proofs.Texts.{nothing_is_explained, rounds_are_explained, rounds_ran}
-use Rattle.round_laws.specs.Fronts.{first_lines, with_rounds}
+use Rattle.round_laws.specs.Fronts.{first_lines, lines_of}
 use Rattle.round_laws.specs.Lines.{round_text, rounds_text}
 use Rattle.round_laws.specs.Rounds.{RanSoFar, round_behind}
 use Rattle.round_laws.specs.Texts.{AreCounted}
 use Rattle.shared_store.specs.Building.{IsNewRow, IsNewSession}
 use Rattle.shared_store.specs.Store.{StoreView, events_made, seen, shape_in}
 use Rattle.shared_store.specs.declared.session.Session.{Session}
-use Rattle.store_rounds.specs.Answered.{IsServed, most_events}
-use Rattle.store_rounds.specs.Rounds.{HaveRoomFor, RanInPart, RanRound, RowRan, shares_of}
-use Rattle.store_rounds.specs.Runs.{IsRowOf, RunsCutOff, RunsIn, RunsStopped, RunsWhole, Standing}
-use Rattle.store_rounds.specs.Worked.{asked_in}
+use Rattle.store_rounds.specs.Answered.{IsServed, SentBy, most_events}
+use Rattle.store_rounds.specs.Rounds.{HaveRoomFor, OneEndsAtExport, RanInPart, RanRound, RowRan, calls_of, shares_of}
+use Rattle.store_rounds.specs.Runs.{IsRowOf, RunsIn, Standing}
+use Rattle.store_rounds.specs.Worked.{asked_in, share_of}
+use Rattle.store_rounds.specs.Workloads.{EndAtExport, GoesCutOff, GoesPart, GoesTo, GoesWhole}
+use Rattle.store_rounds.specs.declared.fault.RunFault.{RunFault}
+use Rattle.store_rounds.specs.declared.fault.RunFault.TheVariants as fault
 use Rattle.store_rounds.proofs.RowWork.{commands_few}
 use Rattle.store_rounds.proofs.Runs.{gone_on, is_row, row_met, shares_counted, stand_behind}
+use Rattle.store_rounds.proofs.Scripts.{has_sessions, lines_are_valid}
+use Rattle.store_rounds.proofs.Sends.{calls_sent, nothing_sent}
+use Rattle.store_rounds.proofs.Went.{explained_so_far, went, went_so_far}
 
 -- ---- what is printed
-
-pub prints_further : (a b c : Option (List ℕ)) (x y : List ℕ) → Appends a b x → Appends b c y → Appends a c (x ++ y)
-prints_further None b c x y first second = tt
-prints_further (Some a) None c x y first second = absurd first
-prints_further (Some a) (Some b) None x y first second = absurd second
-prints_further (Some a) (Some b) (Some c) x y first second =
-    second ∙ ap (λ (text : List ℕ). text ++ y) first ∙ append_assoc a x y
-
-pub prints_nothing : (a : Option (List ℕ)) → Appends a a []
-prints_nothing None = tt
-prints_nothing (Some a) = sym (append-nil a)
 
 take_behind : (x y : List ℕ) (count : ℕ) → take (length x + count) (x ++ y) ≡ x ++ take count y
 take_behind [] y count = ap (λ n. take n y) (let e : 0 + count ≡ count = omega arith in e)
@@ -63,7 +56,7 @@ prints_front : (a b c : Option (List ℕ)) (x y : List ℕ) → Appends a b x �
 prints_front a b c x y first front = (
   length x + front.0,
   omega (arith, front.1, length-append x y),
-  subst (Appends a c) (sym (take_behind x y front.0)) (prints_further a b c x (take front.0 y) first front.2),
+  subst (Appends a c) (sym (take_behind x y front.0)) (Appends-trans a b c x (take front.0 y) first front.2),
 )
 
 -- ---- lines
@@ -84,7 +77,7 @@ count_lines asked rest lines =
 
 -- ---- a run so far
 
-pub record Running (script : Script) (store : StoreView) (row : List Session) (asked : List (List Line)) (before now : Option (List ℕ)) (number : ℕ) : Type 0 where
+pub record Running (script : Script) (store : StoreView) (row : List Session) (asked : List (List Line)) (before now exported exported_now : Option (List ℕ)) (number : ℕ) : Type 0 where
   pub rounds : List RoundRun
   pub finished : List Logged
   pub ran : RanSoFar script asked rounds finished
@@ -94,19 +87,9 @@ pub record Running (script : Script) (store : StoreView) (row : List Session) (a
   pub some : 0 < length row
   pub few : (k : ℕ) (d : Session) → k < length row → events_made (get_or row k d) ≤ most_events * length (lines_in asked)
   pub printed : Appends before now (rounds_text script.tables 1 rounds)
+  pub sent : SentBy script.tables (calls_in rounds) exported exported_now
   pub count : number ≡ length rounds
   pub asked_count : number ≡ length asked
-
-has_session : (script : Script) → is_valid script ≡ true → 1 ≤ script.sessions
-has_session script valid =
-    let front : Bool = script.version == 1 && is_within 1 most_tables (length script.tables) && list_all is_table script.tables && have_own_names script.tables in
-    let some : Bool = is_within 1 most_sessions script.sessions in
-    let workers : Bool = nat_le script.workers most_workers in
-    let turns : Bool = nat_le script.turns most_turns in
-    let within = and_parts (nat_le 1 script.sessions) (nat_le script.sessions most_sessions)
-    (and_parts front some (and_parts (front && some) workers (and_parts (front && some && workers) turns (head script valid)).0).0).1 in
-    let low = within.0 in
-    grind (arith, nat_tests, low)
 
 new_at : (store : StoreView) (count : ℕ) (row : List Session) (k : ℕ) (d : Session) → IsNewRow store count row → k < length row
     → IsNewSession store (k + 1) (get_or row k d)
@@ -119,29 +102,45 @@ new_row_stands store count row new = record {
   behind = λ k d within. record { saw = (seen (get_or row k d), refl); nothing_yet = (new_at store count row k d new within).none };
 }
 
-pub running_begins : (script : Script) (store : StoreView) (row : List Session) (before : Option (List ℕ))
+pub running_begins : (script : Script) (store : StoreView) (row : List Session) (before exported : Option (List ℕ))
     → is_valid script ≡ true → script.workers ≡ 0 → shape_in store ≡ shape_of script → IsNewRow store script.sessions row
-    → Running script store row [] before before 0
-running_begins script store row before valid workers shape new = record {
+    → Running script store row [] before before exported exported 0
+running_begins script store row before exported valid workers shape new = record {
   rounds = [];
   finished = [];
   ran = nothing_ran script;
   counted = All-nil AreCounted;
   stands = new_row_stands store script.sessions row new;
   is = record { shape = shape; size = new.many; workers = workers };
-  some = let one = has_session script valid in omega (arith, one, new.many);
+  some = let one = has_sessions script valid in omega (arith, one, new.many);
   few = λ k d within. let none = (new_at store script.sessions row k d new within).made in omega (arith, none);
-  printed = prints_nothing before;
+  printed = Appends-nil before;
+  sent = nothing_sent script.tables exported;
   count = refl;
   asked_count = refl;
 }
 
+-- the calls of a row's shares
+pub calls_in_shares : (calls : ℕ → List Call) (numbers : List ℕ)
+    → flat_map (λ (share : Share). share.calls) (map (λ n. share_of n (calls n)) numbers) ≡ flat_map calls numbers
+calls_in_shares calls [] = refl
+calls_in_shares calls (n ∷ numbers) = ap (λ (cs : List Call). calls n ++ cs) (calls_in_shares calls numbers)
+
+-- one of a row that has one
+one_of : (row : List Session) → 0 < length row → Session
+one_of [] some = absurd (omega (arith, some))
+one_of (d ∷ row) some = d
+
 -- the round that ran, and the log in which all met
-module _ (script : Script) (store : StoreView) (old new : List Session) (asked : List (List Line)) (before now : Option (List ℕ)) (number : ℕ)
-    (running : Running script store old asked before now number) (calls : ℕ → List Call) (did : RowRan store old new calls) (d : Session)
+module _ (script : Script) (store : StoreView) (old new : List Session) (asked : List (List Line)) (before now exported exported_now exported_later : Option (List ℕ)) (number : ℕ)
+    (running : Running script store old asked before now exported exported_now number) (calls : ℕ → List Call) (did : RowRan store old new calls)
+    (grown : SentBy (shape_in store).tables (calls_of (length old) calls) exported_now exported_later)
     (lines : List Line) (all : (k : ℕ) → k < length old → asked_in (calls (k + 1)) ≡ commands_of (k + 1) lines) where
+  abbrev first_of_row : Session
+  first_of_row = one_of old running.some
+
   abbrev more : List Logged
-  more = (gone_on script store running.finished old new running.is running.some running.stands calls did d).0
+  more = (gone_on script store running.finished old new running.is running.some running.stands calls did first_of_row).0
 
   abbrev round : RoundRun
   round = round_behind script running.finished more (shares_of (length old) calls)
@@ -151,11 +150,11 @@ module _ (script : Script) (store : StoreView) (old new : List Session) (asked :
 
   ran_further : RanSoFar script (asked ++ lines ∷ []) both (running.finished ++ more)
   ran_further = rounds_go_on script asked running.rounds running.finished more lines (shares_of (length old) calls) running.ran
-      (row_met script store running.finished old new running.is running.some running.stands calls did d lines all)
+      (row_met script store running.finished old new running.is running.some running.stands calls did first_of_row lines all)
 
   counted_further : All AreCounted both
   counted_further = All-append AreCounted running.rounds (round ∷ []) running.counted
-      (All-cons AreCounted round [] (shares_counted script store running.finished old new running.is running.some running.stands calls did d) (All-nil AreCounted))
+      (All-cons AreCounted round [] (shares_counted script store running.finished old new running.is running.some running.stands calls did first_of_row) (All-nil AreCounted))
 
   text_further : rounds_text script.tables 1 both
       ≡ rounds_text script.tables 1 running.rounds ++ round_text script.tables (number + 1) (shares_of (length old) calls)
@@ -165,7 +164,7 @@ module _ (script : Script) (store : StoreView) (old new : List Session) (asked :
 
   stands_further : Standing store (running.finished ++ more) new
   stands_further = subst (λ log. Standing store log new)
-      (gone_on script store running.finished old new running.is running.some running.stands calls did d).1
+      (gone_on script store running.finished old new running.is running.some running.stands calls did first_of_row).1
       (stand_behind script store running.finished old new running.is running.some running.stands calls did)
 
   -- the text of the round's lines, told of the script's tables
@@ -175,6 +174,17 @@ module _ (script : Script) (store : StoreView) (old new : List Session) (asked :
       ap (λ (more : List ℕ). rounds_text script.tables 1 running.rounds ++ more)
       (is ∙ ap (λ (shape : Shape). round_text shape.tables (number + 1) (shares_of (length old) calls)) running.is.shape)
       ∙ sym text_further
+
+  calls_further : calls_in both ≡ calls_in running.rounds ++ calls_of (length old) calls
+  calls_further =
+      flat_map-append (λ (round : RoundRun). flat_map (λ (share : Share). share.calls) round.shares) running.rounds (round ∷ [])
+      ∙ ap (λ (cs : List Call). calls_in running.rounds ++ cs)
+      (append-nil (flat_map (λ (share : Share). share.calls) (shares_of (length old) calls)) ∙ calls_in_shares calls (range_with_len 1 (length old)))
+
+  sent_further : SentBy script.tables (calls_in both) exported exported_later
+  sent_further = subst (λ (cs : List Call). SentBy script.tables cs exported exported_later) (sym calls_further)
+      (calls_sent script.tables (calls_in running.rounds) (calls_of (length old) calls) exported exported_now exported_later running.sent
+      (subst (λ (shape : Shape). SentBy shape.tables (calls_of (length old) calls) exported_now exported_later) running.is.shape grown))
 
   few_further : (k : ℕ) (d : Session) → k < length new → events_made (get_or new k d) ≤ most_events * length (lines_in (asked ++ lines ∷ []))
   few_further k d within =
@@ -189,91 +199,71 @@ module _ (script : Script) (store : StoreView) (old new : List Session) (asked :
       let counted = count_lines asked [] lines in
       omega (arith, before, worked, met, each, own, some, counted)
 
--- one of a row that has one
-one_of : (row : List Session) → 0 < length row → Session
-one_of [] some = absurd (omega (arith, some))
-one_of (d ∷ row) some = d
+-- ---- a round that ran
 
-pub running_goes_on : (script : Script) (store : StoreView) (old new : List Session) (asked : List (List Line)) (before now later : Option (List ℕ)) (number : ℕ) (lines : List Line) (text : List ℕ)
-    → Running script store old asked before now number
-    → RanRound store (number + 1) old new lines text
-    → Appends now later text
-    → Running script store new (asked ++ lines ∷ []) before later (number + 1)
-running_goes_on script store old new asked before now later number lines text running did grown =
-    let d : Session = one_of old running.some in record {
-      rounds = both script store old new asked before now number running did.calls did.ran d lines did.asked;
-      finished = running.finished ++ more script store old new asked before now number running did.calls did.ran d lines did.asked;
-      ran = ran_further script store old new asked before now number running did.calls did.ran d lines did.asked;
-      counted = counted_further script store old new asked before now number running did.calls did.ran d lines did.asked;
-      stands = stands_further script store old new asked before now number running did.calls did.ran d lines did.asked;
-      is = is_row script store running.finished old new running.is running.some running.stands did.calls did.ran;
-      some = omega (arith, running.some, did.ran.size);
-      few = few_further script store old new asked before now number running did.calls did.ran d lines did.asked;
-      printed = subst (Appends before later)
-          (told_further script store old new asked before now number running did.calls did.ran d lines did.asked text did.text_is)
-          (prints_further before now later (rounds_text script.tables 1 running.rounds) text running.printed grown);
-      count = ap (λ n. n + 1) running.count ∙ sym (length_push running.rounds (round script store old new asked before now number running did.calls did.ran d lines did.asked));
-      asked_count = ap (λ n. n + 1) running.asked_count ∙ sym (length_push asked lines);
-    }
+module _ (script : Script) (store : StoreView) (old new : List Session) (asked : List (List Line)) (before now exported exported_now exported_later : Option (List ℕ)) (number : ℕ) (lines : List Line) (text : List ℕ)
+    (running : Running script store old asked before now exported exported_now number)
+    (did : RanRound store (number + 1) old new lines text exported_now exported_later) where
+  pub running_goes_on : (later : Option (List ℕ)) → Appends now later text
+      → Running script store new (asked ++ lines ∷ []) before later exported exported_later (number + 1)
+  running_goes_on later grown = record {
+    rounds = both script store old new asked before now exported exported_now exported_later number running did.calls did.ran did.sent lines did.asked;
+    finished = running.finished ++ more script store old new asked before now exported exported_now exported_later number running did.calls did.ran did.sent lines did.asked;
+    ran = ran_further script store old new asked before now exported exported_now exported_later number running did.calls did.ran did.sent lines did.asked;
+    counted = counted_further script store old new asked before now exported exported_now exported_later number running did.calls did.ran did.sent lines did.asked;
+    stands = stands_further script store old new asked before now exported exported_now exported_later number running did.calls did.ran did.sent lines did.asked;
+    is = is_row script store running.finished old new running.is running.some running.stands did.calls did.ran;
+    some = omega (arith, running.some, did.ran.size);
+    few = few_further script store old new asked before now exported exported_now exported_later number running did.calls did.ran did.sent lines did.asked;
+    printed = subst (Appends before later)
+        (told_further script store old new asked before now exported exported_now exported_later number running did.calls did.ran did.sent lines did.asked text did.text_is)
+        (Appends-trans before now later (rounds_text script.tables 1 running.rounds) text running.printed grown);
+    sent = sent_further script store old new asked before now exported exported_now exported_later number running did.calls did.ran did.sent lines did.asked;
+    count = ap (λ n. n + 1) running.count
+        ∙ sym (length_push running.rounds (round script store old new asked before now exported exported_now exported_later number running did.calls did.ran did.sent lines did.asked));
+    asked_count = ap (λ n. n + 1) running.asked_count ∙ sym (length_push asked lines);
+  }
 
--- ---- what ran is a run
+  -- its lines were not printed
+  pub running_is_cut_off : (rest : List (List Line)) (later : Option (List ℕ)) → is_valid script ≡ true → asked ++ lines ∷ rest ≡ script.rounds
+      → AppendsFront now later text
+      → GoesCutOff (RunsIn script store new exported exported_later) script before later
+  running_is_cut_off rest later valid split front =
+      let parted : script.rounds ≡ (asked ++ lines ∷ []) ++ rest = sym split ∙ sym (append_assoc asked (lines ∷ []) rest) in record {
+        whole = asked ++ lines ∷ [];
+        rest = rest;
+        rounds = parted;
+        text = rounds_text script.tables 1 (both script store old new asked before now exported exported_now exported_later number running did.calls did.ran did.sent lines did.asked);
+        went = record {
+          went = went_so_far script
+              (both script store old new asked before now exported exported_now exported_later number running did.calls did.ran did.sent lines did.asked)
+              (running.finished ++ more script store old new asked before now exported exported_now exported_later number running did.calls did.ran did.sent lines did.asked)
+              exported exported_later
+              (counted_further script store old new asked before now exported exported_now exported_later number running did.calls did.ran did.sent lines did.asked)
+              (sent_further script store old new asked before now exported exported_now exported_later number running did.calls did.ran did.sent lines did.asked)
+              (asked ++ lines ∷ []) rest parted valid
+              (ran_further script store old new asked before now exported exported_now exported_later number running did.calls did.ran did.sent lines did.asked);
+          stands = stands_further script store old new asked before now exported exported_now exported_later number running did.calls did.ran did.sent lines did.asked;
+        };
+        printed = subst (AppendsFront before later)
+            (told_further script store old new asked before now exported exported_now exported_later number running did.calls did.ran did.sent lines did.asked text did.text_is)
+            (prints_front before now later (rounds_text script.tables 1 running.rounds) text running.printed front);
+      }
 
--- no round was asked and none ran
-none_ran : (script : Script) (rounds : List RoundRun) → map (λ (round : RoundRun). map agenda_of round.shares) rounds ≡ map (agendas_in script) [] → rounds ≡ []
-none_ran script [] e = refl
-none_ran script (round ∷ rounds) e = absurd (let never : ⊥ = cc e in never)
-
-explained_so_far : (script : Script) (asked rest : List (List Line)) (rounds : List RoundRun) (finished : List Logged)
-    → script.rounds ≡ asked ++ rest → is_valid script ≡ true → RanSoFar script asked rounds finished → All AreCounted rounds
-    → Explained (with_rounds asked script) (rounds_text script.tables 1 rounds)
-explained_so_far script [] rest rounds finished split valid ran counted =
-    subst (λ rounds. Explained (with_rounds [] script) (rounds_text script.tables 1 rounds)) (sym (none_ran script rounds ran.agendas)) (nothing_is_explained script)
-explained_so_far script (first ∷ asked) rest rounds finished split valid ran counted =
-    rounds_are_explained script (first ∷ asked) rounds finished (first_rounds_are_valid script first asked rest split valid) ran counted
-
-runs_in : (script : Script) (store : StoreView) (row : List Session) (asked rest : List (List Line)) (rounds : List RoundRun) (finished : List Logged)
-    → script.rounds ≡ asked ++ rest → is_valid script ≡ true → RanSoFar script asked rounds finished → All AreCounted rounds
-    → Standing store finished row
-    → RunsIn script store row asked (rounds_text script.tables 1 rounds)
-runs_in script store row asked rest rounds finished split valid ran counted stands = record {
-  log = finished;
-  ran = rounds_ran script asked rounds finished ran;
-  explained = explained_so_far script asked rest rounds finished split valid ran counted;
-  stands = stands;
-}
-
-pub running_ends : (script : Script) (store : StoreView) (row : List Session) (asked : List (List Line)) (before now : Option (List ℕ)) (number : ℕ)
-    → is_valid script ≡ true → Running script store row asked before now number → asked ≡ script.rounds → RunsWhole script store row before now
-running_ends script store row asked before now number valid running all = record {
+-- all rounds ran
+pub running_ends : (script : Script) (store : StoreView) (row : List Session) (asked : List (List Line)) (before now exported exported_now : Option (List ℕ)) (number : ℕ)
+    → is_valid script ≡ true → Running script store row asked before now exported exported_now number → asked ≡ script.rounds
+    → GoesWhole (RunsIn script store row exported exported_now) script before now
+running_ends script store row asked before now exported exported_now number valid running all = record {
   text = rounds_text script.tables 1 running.rounds;
-  runs = subst (λ rounds. RunsIn script store row rounds (rounds_text script.tables 1 running.rounds)) all
-      (runs_in script store row asked [] running.rounds running.finished (sym all ∙ sym (append-nil asked)) valid running.ran running.counted running.stands);
+  went = subst (λ (rounds : List (List Line)). RunsIn script store row exported exported_now rounds (rounds_text script.tables 1 running.rounds)) all
+      (record {
+        went = went_so_far script running.rounds running.finished exported exported_now running.counted running.sent asked []
+            (sym all ∙ sym (append-nil asked)) valid running.ran;
+        stands = running.stands;
+      });
   printed = running.printed;
 }
-
--- the lines of a round were not printed
-pub running_is_cut_off : (script : Script) (store : StoreView) (old new : List Session) (asked rest : List (List Line)) (before now later : Option (List ℕ)) (number : ℕ) (lines : List Line) (text : List ℕ)
-    → is_valid script ≡ true → asked ++ lines ∷ rest ≡ script.rounds
-    → Running script store old asked before now number
-    → RanRound store (number + 1) old new lines text
-    → AppendsFront now later text
-    → RunsCutOff script store new before later
-running_is_cut_off script store old new asked rest before now later number lines text valid split running did front =
-    let d : Session = one_of old running.some in
-    let parted : script.rounds ≡ (asked ++ lines ∷ []) ++ rest = sym split ∙ sym (append_assoc asked (lines ∷ []) rest) in record {
-      whole = asked ++ lines ∷ [];
-      rest = rest;
-      rounds = parted;
-      text = rounds_text script.tables 1 (both script store old new asked before now number running did.calls did.ran d lines did.asked);
-      runs = runs_in script store new (asked ++ lines ∷ []) rest (both script store old new asked before now number running did.calls did.ran d lines did.asked)
-          (running.finished ++ more script store old new asked before now number running did.calls did.ran d lines did.asked) parted valid
-          (ran_further script store old new asked before now number running did.calls did.ran d lines did.asked)
-          (counted_further script store old new asked before now number running did.calls did.ran d lines did.asked)
-          (stands_further script store old new asked before now number running did.calls did.ran d lines did.asked);
-      printed = subst (AppendsFront before later)
-          (told_further script store old new asked before now number running did.calls did.ran d lines did.asked text did.text_is)
-          (prints_front before now later (rounds_text script.tables 1 running.rounds) text running.printed front);
-    }
 
 -- ---- a run that stops within a round
 
@@ -295,39 +285,101 @@ asked_first sessions lines calls some k within =
     ∙ ap (take (counts_of calls (k + 1))) part.1
     ∙ taken_all (asked_in (calls (k + 1))) part.0)
 
-pub running_stops : (script : Script) (store : StoreView) (old new : List Session) (asked rest : List (List Line)) (before now : Option (List ℕ)) (number : ℕ) (lines : List Line)
-    → is_valid script ≡ true → asked ++ lines ∷ rest ≡ script.rounds
-    → Running script store old asked before now number
-    → RanInPart store old new lines
-    → RunsStopped script store new before now
-running_stops script store old new asked rest before now number lines valid split running did =
-    let d : Session = one_of old running.some in
-    let first : List Line = first_lines (counts_of did.calls) lines in
-    let all : (k : ℕ) → k < length old → asked_in (did.calls (k + 1)) ≡ commands_of (k + 1) first =
-    asked_first (length old) lines did.calls did.asked in
-    let ran = ran_further script store old new asked before now number running did.calls did.ran d first all in record {
-      whole = asked;
-      round = lines;
-      rest = rest;
-      rounds = sym split;
-      lines = first;
-      first = first_lines_are_so (counts_of did.calls) lines;
-      shown = rounds_text script.tables 1 running.rounds;
-      hidden = round_text script.tables (number + 1) (shares_of (length old) did.calls);
-      explained_shown = explained_so_far script asked (lines ∷ rest) running.rounds running.finished (sym split) valid running.ran running.counted;
-      runs = subst (RunsIn script store new (asked ++ first ∷ [])) (text_further script store old new asked before now number running did.calls did.ran d first all)
-          (record {
-            log = running.finished ++ more script store old new asked before now number running did.calls did.ran d first all;
-            ran = rounds_ran script (asked ++ first ∷ []) (both script store old new asked before now number running did.calls did.ran d first all)
-                (running.finished ++ more script store old new asked before now number running did.calls did.ran d first all) ran;
-            explained = rounds_are_explained script (asked ++ first ∷ []) (both script store old new asked before now number running did.calls did.ran d first all)
-                (running.finished ++ more script store old new asked before now number running did.calls did.ran d first all)
-                (fronts_are_valid script (counts_of did.calls) lines asked rest (sym split) valid) ran
-                (counted_further script store old new asked before now number running did.calls did.ran d first all);
-            stands = stands_further script store old new asked before now number running did.calls did.ran d first all;
-          });
-      printed = running.printed;
+-- a session's commands are those of its lines
+commands_in_lines : (session : ℕ) (lines : List Line) → commands_of session lines ≡ map (λ (line : Line). line.command) (lines_of session lines)
+commands_in_lines session [] = refl
+commands_in_lines session (line ∷ lines) = go (line.session == session) (commands_in_lines session lines)
+  where
+    go : (own : Bool) → commands_of session lines ≡ map (λ (line : Line). line.command) (lines_of session lines)
+        → cons_option (cond own (Some line.command) None) (commands_of session lines)
+        ≡ map (λ (line : Line). line.command) (cond own (line ∷ lines_of session lines) (lines_of session lines))
+    go true rest = ap (λ (cs : List Command). line.command ∷ cs) rest
+    go false rest = rest
+
+-- the last of some lines asks the last command
+last_asks : (lines : List Line) (front : List Command) (last : Command) → map (λ (line : Line). line.command) lines ≡ front ++ last ∷ []
+    → (others : List Line) × (line : Line) × (lines ≡ others ++ line ∷ []) × (line.command ≡ last)
+last_asks [] [] last e = absurd (let never : ⊥ = cc e in never)
+last_asks [] (c ∷ front) last e = absurd (let never : ⊥ = cc e in never)
+last_asks (line ∷ []) [] last e = ([], line, refl, cc e)
+last_asks (line ∷ next ∷ lines) [] last e = absurd (let never : ⊥ = cc e in never)
+last_asks (line ∷ lines) (c ∷ front) last e =
+    let behind = last_asks lines front last (cc e) in
+    (line ∷ behind.0, behind.1, ap (λ (ls : List Line). line ∷ ls) behind.2, behind.3)
+
+ends_at_export : (sessions : ℕ) (calls : ℕ → List Call) (lines : List Line)
+    → ((k : ℕ) → k < sessions → asked_in (calls (k + 1)) ≡ commands_of (k + 1) lines)
+    → OneEndsAtExport sessions calls → EndAtExport lines
+ends_at_export sessions calls lines asked one =
+    let session : ℕ = one.0 + 1 in
+    let export = one.2 in
+    let last = last_asks (lines_of session lines) (asked_in export.0) export.1.command
+    (sym (commands_in_lines session lines) ∙ sym (asked one.0 one.1) ∙ ap asked_in export.2
+    ∙ map-append (λ (call : Call). call.command) export.0 (export.1 ∷ [])) in
+    record {
+      session = session;
+      front = last.0;
+      last = last.1;
+      lines_are = last.2;
+      asked = ap is_export last.3 ∙ export.3;
     }
+
+module _ (script : Script) (store : StoreView) (old new : List Session) (asked rest : List (List Line)) (before now exported exported_now exported_later : Option (List ℕ)) (number : ℕ) (lines : List Line)
+    (valid : is_valid script ≡ true) (split : asked ++ lines ∷ rest ≡ script.rounds)
+    (running : Running script store old asked before now exported exported_now number) (failed : RunFault)
+    (did : RanInPart store old new lines failed exported_now exported_later) where
+  abbrev first : List Line
+  first = first_lines (counts_of did.calls) lines
+
+  asked_of_first : (k : ℕ) → k < length old → asked_in (did.calls (k + 1)) ≡ commands_of (k + 1) first
+  asked_of_first = asked_first (length old) lines did.calls did.asked
+
+  goes_to : GoesTo (RunsIn script store new exported exported_later) script first before now
+  goes_to = record {
+    whole = asked;
+    round = lines;
+    rest = rest;
+    rounds = sym split;
+    first = first_lines_are_so (counts_of did.calls) lines;
+    shown = rounds_text script.tables 1 running.rounds;
+    hidden = round_text script.tables (number + 1) (shares_of (length old) did.calls);
+    explained_shown = explained_so_far script running.rounds running.finished exported exported_now running.counted running.sent
+        asked (lines ∷ rest) (sym split) valid running.ran;
+    went = subst (RunsIn script store new exported exported_later (asked ++ first ∷ []))
+        (text_further script store old new asked before now exported exported_now exported_later number running did.calls did.ran did.sent first asked_of_first)
+        (record {
+          went = went script
+              (both script store old new asked before now exported exported_now exported_later number running did.calls did.ran did.sent first asked_of_first)
+              (running.finished ++ more script store old new asked before now exported exported_now exported_later number running did.calls did.ran did.sent first asked_of_first)
+              exported exported_later
+              (counted_further script store old new asked before now exported exported_now exported_later number running did.calls did.ran did.sent first asked_of_first)
+              (sent_further script store old new asked before now exported exported_now exported_later number running did.calls did.ran did.sent first asked_of_first)
+              (asked ++ first ∷ []) (fronts_are_valid script (counts_of did.calls) lines asked rest (sym split) valid)
+              (ran_further script store old new asked before now exported exported_now exported_later number running did.calls did.ran did.sent first asked_of_first);
+          stands = stands_further script store old new asked before now exported exported_now exported_later number running did.calls did.ran did.sent first asked_of_first;
+        });
+    printed = running.printed;
+  }
+
+  ends_at : failed ≡ fault.Export → EndAtExport first
+  ends_at e = ends_at_export (length old) did.calls first asked_of_first (did.last e)
+
+pub running_stops : (script : Script) (store : StoreView) (old new : List Session) (asked rest : List (List Line)) (before now exported exported_now exported_later : Option (List ℕ)) (number : ℕ) (lines : List Line)
+    → is_valid script ≡ true → asked ++ lines ∷ rest ≡ script.rounds
+    → Running script store old asked before now exported exported_now number
+    → (failed : RunFault) → failed ≢ fault.Out
+    → RanInPart store old new lines failed exported_now exported_later
+    → GoesPart (RunsIn script store new exported exported_later) script failed before now
+running_stops script store old new asked rest before now exported exported_now exported_later number lines valid split running fault.Out other did = absurd (other refl)
+running_stops script store old new asked rest before now exported exported_now exported_later number lines valid split running fault.Export other did = record {
+  lines = first script store old new asked rest before now exported exported_now exported_later number lines valid split running fault.Export did;
+  last = ends_at script store old new asked rest before now exported exported_now exported_later number lines valid split running fault.Export did refl;
+  to = goes_to script store old new asked rest before now exported exported_now exported_later number lines valid split running fault.Export did;
+}
+running_stops script store old new asked rest before now exported exported_now exported_later number lines valid split running fault.Memory other did = record {
+  lines = first script store old new asked rest before now exported exported_now exported_later number lines valid split running fault.Memory did;
+  to = goes_to script store old new asked rest before now exported exported_now exported_later number lines valid split running fault.Memory did;
+}
 
 -- ---- what a round asks
 
@@ -361,10 +413,7 @@ pub round_within : (script : Script) (store : StoreView) (row : List Session) (a
     → IsRowOf script store row → asked ++ lines ∷ rest ≡ script.rounds → is_valid script ≡ true
     → list_all (λ (line : Line). is_within 1 (length row) line.session) lines ≡ true
 round_within script store row asked rest lines is split valid =
-    let front : Bool = has_head script && Rattle.std.proofs.Common.nat_lt 0 (length script.rounds) && list_all (is_line script) (all_lines script) in
-    let checked : list_all (is_line script) (all_lines script) ≡ true =
-    (and_parts (has_head script && Rattle.std.proofs.Common.nat_lt 0 (length script.rounds)) (list_all (is_line script) (all_lines script))
-    (and_parts front (Rattle.std.proofs.Common.nat_le (Rattle.std.specs.List.count_by (λ (line : Line). Rattle.workload_spec.specs.Valid.is_export line.command) (all_lines script)) 1) valid).0).1 in
+    let checked = lines_are_valid script valid in
     let cut : list_all (is_line script) (lines_in asked ++ (lines ++ lines_in rest)) ≡ true =
     ap (list_all (is_line script)) (sym (ap lines_in (sym split) ∙ parted_lines asked rest lines)) ∙ checked in
     let behind = (and_parts (list_all (is_line script) (lines_in asked)) (list_all (is_line script) (lines ++ lines_in rest))
@@ -374,10 +423,10 @@ round_within script store row asked rest lines is split valid =
     subst (λ n. list_all (λ (line : Line). is_within 1 n line.session) lines ≡ true) (sym is.size) (each_within script lines own)
 
 -- each session may make the events of a further round
-pub round_has_room : (script : Script) (store : StoreView) (row : List Session) (asked rest : List (List Line)) (before now : Option (List ℕ)) (number : ℕ) (lines : List Line)
-    → Running script store row asked before now number → asked ++ lines ∷ rest ≡ script.rounds → length (all_lines script) < 2 ^ 32
+pub round_has_room : (script : Script) (store : StoreView) (row : List Session) (asked rest : List (List Line)) (before now exported exported_now : Option (List ℕ)) (number : ℕ) (lines : List Line)
+    → Running script store row asked before now exported exported_now number → asked ++ lines ∷ rest ≡ script.rounds → length (all_lines script) < 2 ^ 32
     → HaveRoomFor (length lines) row
-round_has_room script store row asked rest before now number lines running split few k d within =
+round_has_room script store row asked rest before now exported exported_now number lines running split few k d within =
     let made = running.few k d within in
     let counted = count_lines asked rest lines in
     let all = ap (λ (rounds : List (List Line)). length (lines_in rounds)) split in

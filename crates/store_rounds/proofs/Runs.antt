@@ -25,7 +25,7 @@ use Rattle.store_rounds.specs.Runs.{IsRowOf, Standing}
 use Rattle.store_rounds.specs.Worked.{asked_in, share_of}
 
 -- what each place of a range gives
-all_on_range : {X : Type 0} (P : X → Type 0) (f : ℕ → X) (a n : ℕ) → ((k : ℕ) → a ≤ k → k < a + n → P (f k)) → All P (map f (range_with_len a n))
+pub all_on_range : {X : Type 0} (P : X → Type 0) (f : ℕ → X) (a n : ℕ) → ((k : ℕ) → a ≤ k → k < a + n → P (f k)) → All P (map f (range_with_len a n))
 all_on_range P f a zero each = All-nil P
 all_on_range P f a (suc n) each = All-cons P (f a) (map f (range_with_len (a + 1) n)) (each a (omega arith) (omega arith))
     (all_on_range P f (a + 1) n (λ k low high. each k (omega (arith, low)) (omega (arith, high))))
@@ -36,7 +36,7 @@ same_on_range f g a (suc n) same =
     ap (λ x. x ∷ map f (range_with_len (a + 1) n)) (same a (omega arith) (omega arith))
     ∙ ap (λ xs. g a ∷ xs) (same_on_range f g (a + 1) n (λ k low high. same k (omega (arith, low)) (omega (arith, high))))
 
-map_of_map : {X Y Z : Type 0} (f : Y → Z) (g : X → Y) (xs : List X) → map f (map g xs) ≡ map (λ x. f (g x)) xs
+pub map_of_map : {X Y Z : Type 0} (f : Y → Z) (g : X → Y) (xs : List X) → map f (map g xs) ≡ map (λ x. f (g x)) xs
 map_of_map f g [] = refl
 map_of_map f g (x ∷ xs) = ap (λ zs. f (g x) ∷ zs) (map_of_map f g xs)
 

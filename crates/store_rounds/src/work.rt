@@ -44,6 +44,7 @@ pub(crate) fn work<R: Wait + Threads + Sync, G: Gate, X: Sink>(
     ensures faults { CountsExportFault (X.faults outlet.old) (X.faults outlet.new) result }
     ensures started { X.started outlet.new ≡ X.started outlet.old }
 {
+    let tables = store.tables();
     let mut index = 0;
     for command in commands {
         index += 1;
@@ -55,7 +56,7 @@ pub(crate) fn work<R: Wait + Threads + Sync, G: Gate, X: Sink>(
         let Ok(said) = carry_out(rt, store, session, command, outlet) else {
             return Err(RunFault::Export);
         };
-        lines.put(store.tables(), session.session_number(), index, said)?;
+        lines.put(tables, session.session_number(), index, said)?;
     }
     Ok(())
 }

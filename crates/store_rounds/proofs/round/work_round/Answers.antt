@@ -5,7 +5,7 @@ use Rattle.store_rounds.proofs.RowWork.{agendas_have, room_to_work, round_stoppe
 use Rattle.store_rounds.proofs.round.work_round.Goals as goal
 
 pub returns-in_default-clause-part : goal.returns-in_default-clause-part
-returns-in_default-clause-part g c = stopped_at_once c.args.store.now c.args.row.now c.args.round c.requires.sessions
+returns-in_default-clause-part g c = stopped_at_once c.args.store.now c.args.row.now c.args.round (g.X.Sink.written c.args.outlet.now) c.requires.sessions
 
 pub work_all-requires-clause-commands : goal.work_all-requires-clause-commands
 work_all-requires-clause-commands g c κs within =
@@ -17,9 +17,9 @@ work_all-requires-clause-room g c κs within =
 
 pub returns-in-Ok-work_all-clause-whole : goal.returns-in-Ok-work_all-clause-whole
 returns-in-Ok-work_all-clause-whole g c =
-    round_worked c.args.store.now c.args.number c.args.row.now c.work_all.new.row c.in-Ok.agendas.items c.args.round _ _
+    round_worked c.args.store.now c.args.number c.args.row.now c.work_all.new.row c.in-Ok.agendas.items c.args.round _ _ _ _
     c.new.ensures.items c.in-Ok.ensures c.in-Ok-work_all.ensures.whole
 
 pub returns-in-Err-clause-part : goal.returns-in-Err-clause-part
 returns-in-Err-clause-part g c =
-    round_stopped c.args.store.now c.args.row.now c.work_all.new.row c.in-Ok.agendas.items c.args.round c.in-Ok.ensures c.in-Err.ensures.part
+    round_stopped c.args.store.now c.args.row.now c.work_all.new.row c.in-Ok.agendas.items c.args.round c.in-Err.fault _ _ c.in-Ok.ensures c.in-Err.ensures.part

@@ -5,7 +5,10 @@ use Rattle.store_rounds.proofs.rounds.run_rounds.Given as goal
 
 abbrev pub invariant-loop-round : goal.invariant-loop-round
 invariant-loop-round g l = record {
-  running : Running l.fn.script l.store l.row l.yielded (g.O.Sink.written l.fn.out) (g.O.Sink.written l.out) l.number;
-  split : l.yielded ++ into_iter_items l.round-iterator ≡ l.fn.script.rounds;
-  kept : g.O.Sink.faults l.out ≡ g.O.Sink.faults l.fn.out;
+  running : Running l.fn.script.value l.store l.row l.yielded (g.O.Sink.written l.fn.out) (g.O.Sink.written l.out)
+      (g.X.Sink.written l.fn.outlet) (g.X.Sink.written l.outlet) l.number;
+  split : l.yielded ++ into_iter_items l.round-iterator ≡ l.fn.script.value.rounds;
+  kept_out : g.O.Sink.faults l.out ≡ g.O.Sink.faults l.fn.out;
+  kept_export : g.X.Sink.faults l.outlet ≡ g.X.Sink.faults l.fn.outlet;
+  started : g.X.Sink.started l.outlet ≡ g.X.Sink.started l.fn.outlet;
 }

@@ -5,8 +5,11 @@ use Rattle.store_rounds.proofs.work.work.Given as goal
 
 abbrev pub invariant-loop-command : goal.invariant-loop-command
 invariant-loop-command g l = record {
-  turn : Turn l.store l.fn.lines.round l.fn.session l.session l.yielded l.fn.lines.text.items l.lines.text.items l.index;
+  turn : Turn l.store l.fn.lines.round l.fn.session l.session l.yielded l.fn.lines.text.items l.lines.text.items
+      (g.X.Sink.written l.fn.outlet) (g.X.Sink.written l.outlet) l.index;
   round : l.lines.round ≡ l.fn.lines.round;
   split : l.yielded ++ into_iter_items l.command-iterator ≡ l.fn.commands.items;
   few : length l.fn.commands.items < 2 ^ 63;
+  kept : g.X.Sink.faults l.outlet ≡ g.X.Sink.faults l.fn.outlet;
+  started : g.X.Sink.started l.outlet ≡ g.X.Sink.started l.fn.outlet;
 }

@@ -1,0 +1,40 @@
+-- How a run goes, told without the store.
+use Rattle.std.proofs.Common.{ℕ, List, Option, Ok, Err}
+use Rattle.std.specs.Prelude.{IfErr, Result}
+use Rattle.workload_spec.specs.declared.script.Line.{Line}
+use Rattle.workload_spec.specs.declared.script.Script.{Script}
+use Rattle.store_rounds.specs.Workloads.{GoesPart, GoesTo}
+use Rattle.store_rounds.specs.declared.fault.RunFault.{RunFault}
+use Rattle.store_rounds.specs.declared.fault.RunFault.TheVariants as fault
+
+module _ (Goes Other : List (List Line) → List ℕ → Type 0) (told : (asked : List (List Line)) (text : List ℕ) → Goes asked text → Other asked text)
+    (script : Script) (before now : Option (List ℕ)) where
+  to_told : (lines : List Line) → GoesTo Goes script lines before now → GoesTo Other script lines before now
+  to_told lines to = record {
+    whole = to.whole;
+    round = to.round;
+    rest = to.rest;
+    rounds = to.rounds;
+    first = to.first;
+    shown = to.shown;
+    hidden = to.hidden;
+    explained_shown = to.explained_shown;
+    went = told _ _ to.went;
+    printed = to.printed;
+  }
+
+  part_told : (failed : RunFault) → GoesPart Goes script failed before now → GoesPart Other script failed before now
+  part_told fault.Out goes = record {
+    whole = goes.whole;
+    rest = goes.rest;
+    rounds = goes.rounds;
+    text = goes.text;
+    went = told goes.whole goes.text goes.went;
+    printed = goes.printed;
+  }
+  part_told fault.Export goes = record { lines = goes.lines; last = goes.last; to = to_told goes.lines goes.to }
+  part_told fault.Memory goes = record { lines = goes.lines; to = to_told goes.lines goes.to }
+
+  pub on_part : {T : Type 0} (r : Result T RunFault) → IfErr r (λ failed. GoesPart Goes script failed before now) → IfErr r (λ failed. GoesPart Other script failed before now)
+  on_part (Ok value) goes = tt
+  on_part (Err failed) goes = part_told failed goes

@@ -1,0 +1,126 @@
+-- What calls sent to an outlet.
+use Rattle.std.proofs.Common.{◌≡◌, ℕ, false, List, [], ◌∷◌, ◌++◌, Option, Some, Ok, Err, refl, sym, subst, true≢false}
+use Rattle.std.specs.Prelude.{IfSome, Result}
+use Rattle.std.specs.Io.KnownBytes.{Appends}
+use Rattle.std.proofs.KnownBytes.{Appends-nil, Appends-trans}
+use Rattle.cell_model.specs.declared.column.Column.{Column}
+use Rattle.cell_model.specs.declared.table.TableDecl.{TableDecl}
+use Rattle.event_spec.specs.Parts.{Shape, blocks_of}
+use Rattle.event_spec.specs.Replay.{columns_in}
+use Rattle.explained_laws.proofs.Counting.{blocks_same}
+use Rattle.export_laws.proofs.Sending.{sending_goes_on, sendings_join}
+use Rattle.export_laws.proofs.Tables.{columns_same}
+use Rattle.export_spec.specs.Calls.{CallSends, SendsAs}
+use Rattle.outcome_spec.specs.Tables.{blocks_at, columns_at}
+use Rattle.outcome_spec.specs.Upkeep.{exported_table}
+use Rattle.run_spec.specs.Calls.{Call}
+use Rattle.run_spec.specs.Occurrences.{Occurrence}
+use Rattle.shared_store.specs.Store.{Answers, IsSession, StoreView, shape_in}
+use Rattle.shared_store.specs.declared.session.Session.{Session}
+use Rattle.store_export.specs.Exports.{Exports, exported_told}
+use Rattle.store_export.specs.declared.exporting.ExportFault.{ExportFault}
+use Rattle.store_export.specs.declared.exporting.ExportFault.TheVariants as fault
+use Rattle.store_export.specs.declared.exporting.Summary.{Summary}
+use Rattle.store_rounds.specs.Answered.{Answered, Counts, SentBy}
+use Rattle.workload_spec.specs.Valid.{is_export}
+use Rattle.workload_spec.specs.declared.command.Command.{Command}
+use Rattle.workload_spec.specs.declared.command.Command.TheVariants as command
+use Rattle.workload_spec.specs.declared.reply.Said.{Said}
+use Rattle.workload_spec.specs.declared.reply.Said.TheVariants as said
+
+-- ---- call by call
+
+pub nothing_sent : (tables : List TableDecl) (exported : Option (List ℕ)) → SentBy tables [] exported exported
+nothing_sent tables exported = record { bytes = []; sent = Appends-nil exported; by_calls = refl }
+
+pub call_sent : (tables : List TableDecl) (calls : List Call) (call : Call) (exported now later : Option (List ℕ)) (bytes : List ℕ)
+    → SentBy tables calls exported now → Appends now later bytes → CallSends tables call bytes
+    → SentBy tables (calls ++ call ∷ []) exported later
+call_sent tables calls call exported now later bytes before grown by_call = record {
+  bytes = before.bytes ++ bytes;
+  sent = Appends-trans exported now later before.bytes bytes before.sent grown;
+  by_calls = sending_goes_on tables calls call before.bytes bytes before.by_calls by_call;
+}
+
+pub calls_sent : (tables : List TableDecl) (calls more : List Call) (exported now later : Option (List ℕ))
+    → SentBy tables calls exported now → SentBy tables more now later → SentBy tables (calls ++ more) exported later
+calls_sent tables calls more exported now later before behind = record {
+  bytes = before.bytes ++ behind.bytes;
+  sent = Appends-trans exported now later before.bytes behind.bytes before.sent behind.sent;
+  by_calls = sendings_join tables calls more before.bytes behind.bytes before.by_calls behind.by_calls;
+}
+
+-- ---- other commands
+
+-- of a command that is no export nothing is said
+nothing_said : (asked : Command) (P : ℕ → Type 0) → is_export asked ≡ false → IfSome (exported_table asked) P
+nothing_said (command.Export table) P is = absurd (true≢false is)
+nothing_said _ P is = tt
+
+pub no_export : (asked : Command) → ((table : ℕ) → asked ≡ command.Export table → ⊥) → is_export asked ≡ false
+no_export (command.Export table) other = absurd (other table refl)
+no_export _ other = refl
+
+-- they send nothing
+pub other_answered : (store : StoreView) (old new : Session) (asked : Command) (told : Said) (exported : Option (List ℕ))
+    → IsSession store new → new.session ≡ old.session → Answers store old new asked told → Counts told → is_export asked ≡ false
+    → Answered store old new asked told exported exported
+other_answered store old new asked told exported is same answers counts other = record {
+  session = is;
+  same = same;
+  answers = answers;
+  counts = counts;
+  bytes = [];
+  sent = Appends-nil exported;
+  by_call = record {
+    by_line = nothing_said asked
+        (λ table. IfSome (Some told) (λ told. SendsAs (columns_at (shape_in store).tables table) (blocks_at (shape_in store).tables table) answers.made told [])) other;
+    quiet = λ no. refl;
+  };
+}
+
+-- ---- exports
+
+-- refused without a transaction
+pub export_refused : (store : StoreView) (s : Session) (table : ℕ) (exported : Option (List ℕ))
+    → IsSession store s → Answers store s s (command.Export table) said.NoTransaction
+    → Answered store s s (command.Export table) said.NoTransaction exported exported
+export_refused store s table exported is answers = record {
+  session = is;
+  same = refl;
+  answers = answers;
+  counts = λ count e. absurd (let never : ⊥ = cc e in never);
+  bytes = [];
+  sent = Appends-nil exported;
+  by_call = record { by_line = refl; quiet = λ no. refl };
+}
+
+no_count : (told : Result Summary ExportFault) → Counts (exported_told told)
+no_count (Ok summary) count e = absurd (let never : ⊥ = cc e in never)
+no_count (Err (fault.Dirty key)) count e = absurd (let never : ⊥ = cc e in never)
+no_count (Err (fault.Sink failed)) count e = absurd (let never : ⊥ = cc e in never)
+no_count (Err fault.Memory) count e = absurd (let never : ⊥ = cc e in never)
+
+-- a table's columns and blocks are those of its declaration
+sends_by_tables : (shape : Shape) (table : ℕ) (made : List Occurrence) (told : Said) (bytes : List ℕ)
+    → SendsAs (columns_in shape table) (blocks_of shape table) made told bytes
+    → SendsAs (columns_at shape.tables table) (blocks_at shape.tables table) made told bytes
+sends_by_tables shape table made told bytes sends =
+    subst (λ (columns : List Column). SendsAs columns (blocks_at shape.tables table) made told bytes) (sym (columns_same shape.tables shape.passes table))
+    (subst (λ (blocks : ℕ). SendsAs (columns_in shape table) blocks made told bytes) (sym (blocks_same shape.tables shape.passes table)) sends)
+
+pub export_answered : (store : StoreView) (old new : Session) (table : ℕ) (told : Result Summary ExportFault) (exported now : Option (List ℕ)) (steps : ℕ)
+    → Exports store old new table (exported_told told) exported now 0 steps
+    → Answered store old new (command.Export table) (exported_told told) exported now
+export_answered store old new table told exported now steps exports = record {
+  session = exports.session;
+  same = exports.same;
+  answers = exports.answers;
+  counts = no_count told;
+  bytes = exports.bytes;
+  sent = exports.sent;
+  by_call = record {
+    by_line = sends_by_tables (shape_in store) table exports.answers.made (exported_told told) exports.bytes exports.sends;
+    quiet = λ no. absurd (true≢false no);
+  };
+}

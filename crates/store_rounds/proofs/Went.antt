@@ -1,0 +1,80 @@
+-- What ran is a run, and its lines say all that was sent.
+use Rattle.std.proofs.Common.{◌≡◌, ℕ, true, List, [], ◌∷◌, ◌++◌, map, Option, refl, sym, subst}
+use Rattle.std.specs.Prelude.{All}
+use Rattle.explained_laws.specs.Timelines.{PruningsFit}
+use Rattle.export_laws.proofs.Sending.{nothing_says_nothing, runs_say_all_sent}
+use Rattle.export_spec.specs.Calls.{CallsSend, calls_in}
+use Rattle.export_spec.specs.Sent.{SaysAllSent}
+use Rattle.outcome_spec.specs.Explained.{Explained}
+use Rattle.round_laws.proofs.Fronts.{first_rounds_are_valid}
+use Rattle.round_laws.proofs.Texts.{counts_fit, nothing_is_explained, rounds_are_explained, rounds_ran}
+use Rattle.round_laws.specs.Fronts.{with_rounds}
+use Rattle.round_laws.specs.Lines.{rounds_text}
+use Rattle.round_laws.specs.Rounds.{RanSoFar}
+use Rattle.round_laws.specs.Texts.{AreCounted}
+use Rattle.run_spec.specs.Occurrences.{Logged}
+use Rattle.run_spec.specs.Ran.{RoundRun, agenda_of, agendas_in, told_in}
+use Rattle.store_rounds.specs.Answered.{SentBy}
+use Rattle.store_rounds.specs.Workloads.{Went}
+use Rattle.workload_spec.specs.Valid.{is_valid}
+use Rattle.workload_spec.specs.declared.script.Line.{Line}
+use Rattle.workload_spec.specs.declared.script.Script.{Script}
+
+module _ (script : Script) (rounds : List RoundRun) (finished : List Logged) (exported now : Option (List ℕ)) (counted : All AreCounted rounds)
+    (sent : SentBy script.tables (calls_in rounds) exported now) where
+  -- rounds of a workload
+  module _ (asked : List (List Line)) (valid : is_valid (with_rounds asked script) ≡ true) (ran : RanSoFar script asked rounds finished) where
+    pub says : SaysAllSent (with_rounds asked script) (rounds_text script.tables 1 rounds) sent.bytes
+    says =
+        let run = rounds_ran script asked rounds finished ran in
+        runs_say_all_sent (with_rounds asked script) finished (rounds_text script.tables 1 rounds) sent.bytes valid run.ran
+        (subst (λ (rounds : List RoundRun). PruningsFit (told_in rounds)) (sym run.rounds_are) (counts_fit rounds counted))
+        (subst (λ (rounds : List RoundRun). CallsSend script.tables (calls_in rounds) sent.bytes) (sym run.rounds_are) sent.by_calls)
+
+    abbrev pub went : Went (with_rounds asked script) (rounds_text script.tables 1 rounds) exported now
+    went = record {
+      log = finished;
+      ran = (rounds_ran script asked rounds finished ran).ran;
+      explained = rounds_are_explained script asked rounds finished valid ran counted;
+      bytes = sent.bytes;
+      sent = sent.sent;
+      says = says;
+    }
+
+-- ---- some first rounds, which may be none
+
+-- no round was asked and none ran
+none_ran : (script : Script) (rounds : List RoundRun) → map (λ (round : RoundRun). map agenda_of round.shares) rounds ≡ map (agendas_in script) [] → rounds ≡ []
+none_ran script [] e = refl
+none_ran script (round ∷ rounds) e = absurd (let never : ⊥ = cc e in never)
+
+module _ (script : Script) (rounds : List RoundRun) (finished : List Logged) (exported now : Option (List ℕ)) (counted : All AreCounted rounds)
+    (sent : SentBy script.tables (calls_in rounds) exported now) where
+  pub explained_so_far : (asked rest : List (List Line)) → script.rounds ≡ asked ++ rest → is_valid script ≡ true → RanSoFar script asked rounds finished
+      → Explained (with_rounds asked script) (rounds_text script.tables 1 rounds)
+  explained_so_far [] rest split valid ran =
+      subst (λ rounds. Explained (with_rounds [] script) (rounds_text script.tables 1 rounds)) (sym (none_ran script rounds ran.agendas)) (nothing_is_explained script)
+  explained_so_far (first ∷ asked) rest split valid ran =
+      rounds_are_explained script (first ∷ asked) rounds finished (first_rounds_are_valid script first asked rest split valid) ran counted
+
+  pub says_so_far : (asked rest : List (List Line)) → script.rounds ≡ asked ++ rest → is_valid script ≡ true → RanSoFar script asked rounds finished
+      → SaysAllSent (with_rounds asked script) (rounds_text script.tables 1 rounds) sent.bytes
+  says_so_far [] rest split valid ran =
+      let none : rounds ≡ [] = none_ran script rounds ran.agendas in
+      subst (λ (rounds : List RoundRun). SaysAllSent (with_rounds [] script) (rounds_text script.tables 1 rounds) sent.bytes) (sym none)
+      (subst (SaysAllSent (with_rounds [] script) [])
+      (sym (subst (λ (rounds : List RoundRun). CallsSend script.tables (calls_in rounds) sent.bytes) none sent.by_calls))
+      (nothing_says_nothing script))
+  says_so_far (first ∷ asked) rest split valid ran =
+      says script rounds finished exported now counted sent (first ∷ asked) (first_rounds_are_valid script first asked rest split valid) ran
+
+  abbrev pub went_so_far : (asked rest : List (List Line)) → script.rounds ≡ asked ++ rest → is_valid script ≡ true → RanSoFar script asked rounds finished
+      → Went (with_rounds asked script) (rounds_text script.tables 1 rounds) exported now
+  went_so_far asked rest split valid ran = record {
+    log = finished;
+    ran = (rounds_ran script asked rounds finished ran).ran;
+    explained = explained_so_far asked rest split valid ran;
+    bytes = sent.bytes;
+    sent = sent.sent;
+    says = says_so_far asked rest split valid ran;
+  }

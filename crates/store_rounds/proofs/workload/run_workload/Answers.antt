@@ -1,0 +1,30 @@
+use Rattle.std.proofs.Common.{List, sym, subst}
+use Rattle.std.specs.Prelude.{IfErr}
+use Rattle.cell_model.specs.declared.table.TableDecl.{TableDecl}
+use Rattle.engine_core.specs.Core.{MayOpen}
+use Rattle.store_rounds.specs.Runs.{RunsIn}
+use Rattle.store_rounds.specs.Workloads.{GoesPart, WentBy}
+use Rattle.store_rounds.proofs.Going.{on_part}
+use Rattle.store_rounds.proofs.Nothing.{nothing_goes}
+use Rattle.store_rounds.proofs.Scripts.{may_open}
+use Rattle.workload_spec.specs.declared.script.Script.{Script}
+use Rattle.store_rounds.proofs.workload.run_workload.Goals as goal
+
+pub build-requires-clause-size : goal.build-requires-clause-size
+build-requires-clause-size g c =
+    subst (λ (tables : List TableDecl). MayOpen tables c.args.script.sessions) (sym c.into_vec.ensures) (may_open c.args.script c.requires.valid)
+
+pub returns-in_default-clause-part : goal.returns-in_default-clause-part
+returns-in_default-clause-part g c =
+    nothing_goes c.args.script c.requires.workers (g.O.Sink.written c.args.out.now) (g.X.Sink.written c.args.outlet.now) c.requires.valid
+
+pub returns-clause-part : goal.returns-clause-part
+returns-clause-part g c =
+    let whole : Script = c.of-whole.result.value in
+    subst (λ (script : Script). IfErr c.run_rounds.result (λ failed. GoesPart
+    (WentBy script (g.X.Sink.written c.args.outlet.now) (g.X.Sink.written c.run_rounds.new.outlet)) script failed
+    (g.O.Sink.written c.args.out.now) (g.O.Sink.written c.run_rounds.new.out)))
+    c.of-whole.ensures
+    (on_part (RunsIn whole c.in-Ok.field-0.store c.run_rounds.new.row (g.X.Sink.written c.args.outlet.now) (g.X.Sink.written c.run_rounds.new.outlet))
+    (WentBy whole (g.X.Sink.written c.args.outlet.now) (g.X.Sink.written c.run_rounds.new.outlet))
+    (λ asked text runs. runs.went) whole (g.O.Sink.written c.args.out.now) (g.O.Sink.written c.run_rounds.new.out) c.run_rounds.result c.run_rounds.ensures.part)
