@@ -2,8 +2,8 @@
 ghost use Rattle.compact_plan.specs.Laws.{LooksHavePlaces, PlansFit};
 
 /// What is planned over looks at blocks of a table, the blocks ascending, is a move that fits the
-/// table: it names slots of the table alone, none of them twice, and at most 64 pairs. Such looks can
-/// be planned over.
+/// table: it names slots of the table alone, none of them twice, and has at most 64 pairs. Such
+/// looks can be planned over.
 pub fn plans_fit()
     ensures fits { PlansFit }
     ensures places { LooksHavePlaces }

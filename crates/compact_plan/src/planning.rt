@@ -11,9 +11,10 @@ use cold_plan::plan_moves;
 use event_spec::{MovePair, Moves};
 use std::alloc::{AllocError, Global};
 
-/// Plans what a compaction moves that looked at these blocks of a table, handed in with their numbers
-/// rising: the rows of the cold ones, from the last on, go into their gaps, from the first on, while
-/// the gap lies below the row, and at most 64 rows move. A block that is not cold is passed over.
+/// Plans what a compaction moves that looked at these blocks of a table, which are handed in
+/// ascending: the rows of the cold ones, from the last on, go into their gaps, from the first on,
+/// while the gap lies below the row, and at most 64 rows move. A block that is not cold is passed
+/// over.
 pub fn plan(alloc: Global, looks: &[BlockLook]) -> Result<Moves, AllocError>
     requires { All HasPlaces looks.now }
     ensures { IfOk result (λ moves. moves ≡ plan_of looks.now) }
@@ -28,7 +29,8 @@ pub fn plan(alloc: Global, looks: &[BlockLook]) -> Result<Moves, AllocError>
 // The movable rows of the blocks in the group, each behind its place.
 fn group_rows(alloc: Global, looks: &[BlockLook]) -> Result<Vec<(SlotId, MovableRow)>, AllocError>
     requires { All HasPlaces looks.now }
-    ensures { IfOk result (λ rows. rows.items ≡ flat_map row_places (filter is_in_group looks.now)) }
+    ensures { IfOk result (λ rows.
+        rows.items ≡ flat_map row_places (filter is_in_group looks.now)) }
 {
     let mut rows = Vec::new(alloc);
     for seen in looks {
@@ -42,7 +44,8 @@ fn group_rows(alloc: Global, looks: &[BlockLook]) -> Result<Vec<(SlotId, Movable
 // The places of the gaps of the blocks in the group.
 fn group_gaps(alloc: Global, looks: &[BlockLook]) -> Result<Vec<SlotId>, AllocError>
     requires { All HasPlaces looks.now }
-    ensures { IfOk result (λ gaps. gaps.items ≡ flat_map gap_places (filter is_in_group looks.now)) }
+    ensures { IfOk result (λ gaps.
+        gaps.items ≡ flat_map gap_places (filter is_in_group looks.now)) }
 {
     let mut gaps = Vec::new(alloc);
     for seen in looks {

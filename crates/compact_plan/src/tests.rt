@@ -82,7 +82,8 @@ fn two_keys(alloc: Global, schema: &Schema) -> Result<Body, Fail>
     settled(alloc, schema, first, second)
 }
 
-// Looks at such bodies: of each block its number, and whether it was left alone for two observe rounds.
+// Looks at such bodies. Each block is its number, and whether it was left alone for two observe
+// rounds.
 fn looks_at(alloc: Global, schema: &Schema, blocks: &[(u32, bool)]) -> Result<Vec<BlockLook>, Fail>
     requires { 0 < length schema.now }
     ensures { IfOk result (λ looks. All HasPlaces looks.items) }
@@ -104,7 +105,7 @@ fn rows_of_cold_blocks_fill_the_lowest_gaps(rt: HostRuntime) -> Result<(), Fail>
         target,
     };
     let cases: [(&[(u32, bool)], &[MovePair]); 5] = [
-        // From the highest row on, each to the lowest gap that is left, until the gap is above the row.
+        // From the highest row on, each to the lowest gap that is left, until that is above the row.
         (
             &[(0, true), (1, true), (2, true)],
             &[
@@ -118,7 +119,7 @@ fn rows_of_cold_blocks_fill_the_lowest_gaps(rt: HostRuntime) -> Result<(), Fail>
             &[(0, true), (1, false), (2, true)],
             &[moved(3, at(2, 3), at(0, 0)), moved(1, at(2, 1), at(0, 2))],
         ),
-        // Within one block rows move down too. The row in slot 1 stays, since the next gap is slot 2.
+        // Within one block rows move down too. The row in slot 1 stays: the next gap is slot 2.
         (&[(4, false), (7, true)], &[moved(3, at(7, 3), at(7, 0))]),
         (&[(0, false), (1, false)], &[]),
         (&[], &[]),
