@@ -32,7 +32,7 @@ pub fn rounds_of(
     let mut rest = bytes;
     while let Some((line, behind)) = split_line(rest) {
         if is_parting(extent, line) {
-            rounds.push(Round::from(lines))?;
+            rounds.push(round_of(lines))?;
             lines = Vec::new(alloc);
         } else {
             let read = match line_of(alloc, extent, tables, sessions, exported, line) {
@@ -51,8 +51,17 @@ pub fn rounds_of(
             cause: Cause::Line,
         });
     }
-    rounds.push(Round::from(lines))?;
+    rounds.push(round_of(lines))?;
     Ok(rounds)
+}
+
+/// The round of the lines, which takes no more room than they do.
+fn round_of(lines: Vec<Line>) -> Round
+    ensures { result ≡ lines.items }
+{
+    let mut lines = lines;
+    lines.shrink_to_fit();
+    Round::from(lines)
 }
 
 /// Whether the line parts two rounds.

@@ -26,7 +26,7 @@ loop-line-preserved c =
       read = elim c.if-is_parting.branch [
         | then-is_parting+in_ok-push w ↦
             let is : (c.args.extent.now.parts_rounds && bytes_eq c.in-Some.line.now (codes "--")) ≡ true = sym c.is_parting.ensures ∙ w.if-is_parting.true in
-            rw (w.rounds-is, w.lines-is, w.exported-is, w.in_ok-push.ensures.items, w.new-lines-then-is_parting.ensures.items, w.from.ensures)
+            rw (w.rounds-is, w.lines-is, w.exported-is, w.in_ok-push.ensures.items, w.new-lines-then-is_parting.ensures.items, w.round_of.ensures)
             (c.loop-line.invariant.read ∙ first
             ∙ round_read c.args.extent.now c.args.tables.now c.args.sessions c.loop-line.at c.loop-line.exported c.in-Some.line.now c.in-Some.behind.now c.loop-line.rounds.items c.loop-line.lines.items is)
         | else-is_parting+in-Ok+in_ok-push-2 w ↦
