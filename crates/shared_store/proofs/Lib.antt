@@ -1,6 +1,7 @@
 pub mod BlockReads
 pub mod Calls
 pub mod Changed
+pub mod Compacted
 pub mod Freezes
 pub mod Hands
 pub mod Imagings

@@ -157,19 +157,23 @@ pub plain_granted : (xs : List Occurrence) → ArePlain xs → list_any is_refus
 plain_granted [] plain = refl
 plain_granted (x ∷ xs) plain = ap (λ b. b || list_any is_refused xs) plain.0 ∙ plain_granted xs plain.2
 
--- plain events, and behind them one that ends no call, are cut short
+-- plain events are cut short where the one behind them may stand last
+pub plain_cut_ending : (xs : List Occurrence) (x : Occurrence) → ArePlain xs → (is_refused x || not (is_final x.event)) ≡ true → is_cut_short (xs ++ x ∷ []) ≡ true
+plain_cut_ending [] x plain ends = ends
+plain_cut_ending (y ∷ []) x plain ends =
+    ap (λ r. not (r || is_final y.event) && is_cut_short (x ∷ [])) plain.0 ∙ ap (λ f. not f && is_cut_short (x ∷ [])) plain.1 ∙ ends
+plain_cut_ending (y ∷ z ∷ zs) x plain ends =
+    ap (λ r. not (r || is_final y.event) && is_cut_short (z ∷ zs ++ x ∷ [])) plain.0
+    ∙ ap (λ f. not f && is_cut_short (z ∷ zs ++ x ∷ [])) plain.1
+    ∙ plain_cut_ending (z ∷ zs) x plain.2 ends
+
+-- as one that ends no call
 pub plain_cut_behind : (xs : List Occurrence) (x : Occurrence) → ArePlain xs → is_final x.event ≡ false → is_cut_short (xs ++ x ∷ []) ≡ true
-plain_cut_behind [] x plain open' = ap (λ f. is_refused x || not f) open' ∙ either (is_refused x)
+plain_cut_behind xs x plain open' = plain_cut_ending xs x plain (ap (λ f. is_refused x || not f) open' ∙ either (is_refused x))
   where
     either : (b : Bool) → (b || true) ≡ true
     either true = refl
     either false = refl
-plain_cut_behind (y ∷ []) x plain open' =
-    ap (λ r. not (r || is_final y.event) && is_cut_short (x ∷ [])) plain.0 ∙ ap (λ f. not f && is_cut_short (x ∷ [])) plain.1 ∙ plain_cut_behind [] x tt open'
-plain_cut_behind (y ∷ z ∷ zs) x plain open' =
-    ap (λ r. not (r || is_final y.event) && is_cut_short (z ∷ zs ++ x ∷ [])) plain.0
-    ∙ ap (λ f. not f && is_cut_short (z ∷ zs ++ x ∷ [])) plain.1
-    ∙ plain_cut_behind (z ∷ zs) x plain.2 open'
 
 pub plain_cut : (xs : List Occurrence) → ArePlain xs → is_cut_short xs ≡ true
 plain_cut [] plain = refl
@@ -201,6 +205,12 @@ below_rest n (suc more) =
     let r = below_rest n more in
     (r.0 ++ (n + more) ∷ [], ap below (omega arith) ∙ below_more (n + more) ∙ ap (λ xs. xs ++ (n + more) ∷ []) r.1 ∙ append_assoc (below n) r.0 ((n + more) ∷ []))
 
+-- the first of some numbers, and the others
+pub rest_of : (n k : ℕ) → k ≤ n → (rest : List ℕ) × (below n ≡ below k ++ rest)
+rest_of n k le =
+    let r = below_rest k (n - k) in
+    (r.0, ap below (omega (arith, le)) ∙ r.1)
+
 member_map : {X Y : Type 0} (f : X → Y) (xs ys : List X) (x : X) → Among (f x) (map f (xs ++ x ∷ ys))
 member_map f [] ys x = inl refl
 member_map f (z ∷ zs) ys x = inr (member_map f zs ys x)
@@ -221,15 +231,9 @@ module _ (store : StoreView) (own : OwnTransaction) (t : ℕ) where
     rows = refl;
   }
 
-  -- the events of the first reads, and the others
-  pub rest_of : (k : ℕ) → k ≤ blocks_of sh t → (rest : List ℕ) × (below (blocks_of sh t) ≡ below k ++ rest)
-  rest_of k le =
-      let r = below_rest k (blocks_of sh t - k) in
-      (r.0, ap below (omega (arith, le)) ∙ r.1)
-
   pub is_asked : (k : ℕ) → k < blocks_of sh t → Among {X = CoreEvent} (event.Read own t k) asked
   is_asked k lt =
-      let r = rest_of (k + 1) (omega (arith, lt)) in
+      let r = rest_of (blocks_of sh t) (k + 1) (omega (arith, lt)) in
       subst (λ bs. Among {X = CoreEvent} (event.Read own t k) (map (event.Read own t) bs)) (sym (r.1 ∙ ap (λ xs. xs ++ r.0) (below_more k) ∙ append_assoc (below k) (k ∷ []) r.0))
       (member_map (event.Read own t) (below k) r.0 k)
 
@@ -276,9 +280,9 @@ module _ (store : StoreView) (own : OwnTransaction) (t : ℕ) where
     pub scan_unlaid : (new : Session) (k : ℕ) (state : State) → k ≤ blocks_of sh t → Scans store old new own t k state → Answers store old new (Scan t) said.Memory
     scan_unlaid new k state le s = went_call store old new (Scan t) asked s.made said.Memory is s.went (asks s.made) granted_here (inr (record {
       may = refl;
-      missed = map (event.Read own t) (rest_of k le).0;
-      events = asks s.made ∙ ap (map (event.Read own t)) (rest_of k le).1 ∙ map-append (event.Read own t) (below k) (rest_of k le).0
-          ∙ ap (λ es. es ++ map (event.Read own t) (rest_of k le).0) (sym s.events);
+      missed = map (event.Read own t) (rest_of (blocks_of sh t) k le).0;
+      events = asks s.made ∙ ap (map (event.Read own t)) (rest_of (blocks_of sh t) k le).1 ∙ map-append (event.Read own t) (below k) (rest_of (blocks_of sh t) k le).0
+          ∙ ap (λ es. es ++ map (event.Read own t) (rest_of (blocks_of sh t) k le).0) (sym s.events);
       cut = plain_cut s.made s.plain;
       line = refl;
     }))
@@ -291,16 +295,16 @@ module _ (store : StoreView) (own : OwnTransaction) (t : ℕ) where
         let made = s.made ++ read_at store old mid new own t k told r ∷ [] in
         went_call store old new (Scan t) asked made said.Memory is (went_on store old mid new own t k told asked s.made s.went r (is_asked k lt)) (asks made) granted_here (inr (record {
           may = refl;
-          missed = map (event.Read own t) (rest_of (k + 1) le).0;
-          events = asks made ∙ ap (map (event.Read own t)) (rest_of (k + 1) le).1 ∙ map-append (event.Read own t) (below (k + 1)) (rest_of (k + 1) le).0
-              ∙ ap (λ es. es ++ map (event.Read own t) (rest_of (k + 1) le).0) (sym (next_made old mid new k state told s r));
+          missed = map (event.Read own t) (rest_of (blocks_of sh t) (k + 1) le).0;
+          events = asks made ∙ ap (map (event.Read own t)) (rest_of (blocks_of sh t) (k + 1) le).1 ∙ map-append (event.Read own t) (below (k + 1)) (rest_of (blocks_of sh t) (k + 1) le).0
+              ∙ ap (λ es. es ++ map (event.Read own t) (rest_of (blocks_of sh t) (k + 1) le).0) (sym (next_made old mid new k state told s r));
           cut = plain_cut_behind s.made (read_at store old mid new own t k told r) s.plain refl;
           line = refl;
         }))
 
 -- ---- how a scan's calls end
 
-never : false ≡ true → ⊥
+pub never : false ≡ true → ⊥
 never e = cc
 
 -- of an answer without memory nothing is said

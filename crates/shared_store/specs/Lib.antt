@@ -1,5 +1,6 @@
 pub mod Building
 pub mod Changing
+pub mod Compacting
 pub mod Freezing
 pub mod Making
 pub mod Meeting

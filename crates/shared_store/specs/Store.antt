@@ -108,6 +108,17 @@ pub record IsSession (store : StoreView) (s : Session) : Type 0 where
 abbrev pub HasRoomFor : ℕ → Session → Type 0
 HasRoomFor count s = events_made s + count < 2 ^ 56
 
+-- It made at most so many events since.
+abbrev pub MakesAtMost : ℕ → Session → Session → Type 0
+MakesAtMost count old new = events_made new ≤ events_made old + count
+
+-- A store has at most so many blocks, and a table at most so many of them.
+abbrev pub most_blocks : ℕ
+most_blocks = 2 ^ 14
+
+abbrev pub most_blocks_in_table : ℕ
+most_blocks_in_table = 2 ^ 10
+
 -- ---- a call
 
 -- One of these events touches the part, as the parts tell that the log left as far as it was seen

@@ -28,9 +28,9 @@ abbrev pub written_told : {X : Type 0} → ℕ → Result X StoreFault → Said
 written_told table (Ok done) = said.Accepted
 written_told table (Err refused) = store_fault_told table refused
 
-abbrev pub moved_told : {E : Type 0} → Result ℕ E → Said
-moved_told (Ok count) = said.Moved count
-moved_told (Err memory) = said.Memory
+abbrev pub compacted_told : {E : Type 0} → Result ℕ E → Said
+compacted_told (Ok count) = said.Moved count
+compacted_told (Err memory) = said.Memory
 
 abbrev pub sealed_told : ℕ → ℕ → Result ℕ SealFault → Said
 sealed_told table block (Ok stamp) = said.Sealed table block stamp

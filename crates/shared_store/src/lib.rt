@@ -4,6 +4,7 @@
 
 pub mod building;
 pub mod changing;
+pub mod compacting;
 pub mod faults;
 pub mod freezing;
 pub mod making;

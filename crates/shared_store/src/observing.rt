@@ -1,10 +1,12 @@
 //! Observing all blocks.
-ghost use Rattle.std.specs.Prelude.{◌≡◌, ◌<◌, ◌+◌, ◌^◌, ◌≤◌};
+ghost use Rattle.std.specs.Prelude.{◌≡◌, ◌≤◌};
 ghost use Rattle.event_spec.specs.Lawful.{HasBlock, HasTable};
 ghost use Rattle.workload_spec.specs.declared.command.Command.TheVariants as command;
 ghost use Rattle.workload_spec.specs.declared.reply.Said.TheVariants as said;
 ghost use Rattle.shared_store.specs.Observing.{ObservesBlock, ObservesTable};
-ghost use Rattle.shared_store.specs.Store.{Answers, HasRoomFor, IsSession, events_made, shape_in};
+ghost use Rattle.shared_store.specs.Store.{
+    Answers, HasRoomFor, IsSession, MakesAtMost, most_blocks, most_blocks_in_table, shape_in,
+};
 
 use crate::session::Session;
 use crate::store::Store;
@@ -30,11 +32,11 @@ impl Store {
     // Observes the blocks of a table, and tells how many turned cooling.
     fn observe_table<R: Wait>(&self, rt: &R, session: &mut Session, table: u32) -> u64
         requires session { IsSession self.now session.old }
-        requires room { HasRoomFor (2 ^ 10) session.old }
+        requires room { HasRoomFor most_blocks_in_table session.old }
         requires table { HasTable (shape_in self.now) table }
         ensures observes { ObservesTable self.now session.old session.new table result }
-        ensures few { result ≤ 2 ^ 10 }
-        ensures made { events_made session.new ≤ events_made session.old + 2 ^ 10 }
+        ensures few { result ≤ most_blocks_in_table }
+        ensures made { MakesAtMost most_blocks_in_table session.old session.new }
     {
         let mut turned = 0;
         for block in 0..self.hall.shape().blocks(table) {
@@ -47,7 +49,7 @@ impl Store {
     /// not modified for two rounds.
     pub fn observe<R: Wait>(&self, rt: &R, session: &mut Session) -> u64
         requires session { IsSession self.now session.old }
-        requires room { HasRoomFor (2 ^ 14) session.old }
+        requires room { HasRoomFor most_blocks session.old }
         ensures session { IsSession self.now session.new }
         ensures same { session.new.session ≡ session.old.session }
         ensures answers { Answers self.now session.old session.new

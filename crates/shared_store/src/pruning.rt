@@ -4,7 +4,9 @@ ghost use Rattle.event_spec.specs.Lawful.{HasBlock, HasTable};
 ghost use Rattle.workload_spec.specs.declared.command.Command.TheVariants as command;
 ghost use Rattle.workload_spec.specs.declared.reply.Said.TheVariants as said;
 ghost use Rattle.shared_store.specs.Pruning.{AsksOldest, KnowsOldest, PrunesBlock, PrunesTable};
-ghost use Rattle.shared_store.specs.Store.{Answers, HasRoomFor, IsSession, events_made, shape_in};
+ghost use Rattle.shared_store.specs.Store.{
+    Answers, HasRoomFor, IsSession, MakesAtMost, most_blocks, most_blocks_in_table, shape_in,
+};
 
 use crate::session::Session;
 use crate::store::Store;
@@ -57,13 +59,13 @@ impl Store {
     // Drops these versions of each block of a table, and tells how many.
     fn prune_table<R: Wait>(&self, rt: &R, session: &mut Session, table: u32, oldest: u64) -> u64
         requires session { IsSession self.now session.old }
-        requires room { HasRoomFor (2 ^ 10) session.old }
+        requires room { HasRoomFor most_blocks_in_table session.old }
         requires table { HasTable (shape_in self.now) table }
         requires oldest { KnowsOldest self.now session.old oldest }
         ensures prunes { PrunesTable self.now oldest session.old session.new table result }
         ensures oldest { KnowsOldest self.now session.new oldest }
         ensures few { result ≤ 2 ^ 56 }
-        ensures made { events_made session.new ≤ events_made session.old + 2 ^ 10 }
+        ensures made { MakesAtMost most_blocks_in_table session.old session.new }
     {
         let mut dropped = 0;
         for block in 0..self.hall.shape().blocks(table) {
@@ -75,11 +77,12 @@ impl Store {
     /// Drops the versions that no live snapshot needs, and tells how many.
     pub fn prune<R: Wait>(&self, rt: &R, session: &mut Session) -> u64
         requires session { IsSession self.now session.old }
-        requires room { HasRoomFor (2 ^ 14 + 1) session.old }
+        requires room { HasRoomFor (most_blocks + 1) session.old }
         ensures session { IsSession self.now session.new }
         ensures same { session.new.session ≡ session.old.session }
         ensures answers { Answers self.now session.old session.new
             command.Prune (said.Pruned result) }
+        ensures few { MakesAtMost (most_blocks + 1) session.old session.new }
     {
         let oldest = self.oldest(rt, session);
         let mut dropped = 0;

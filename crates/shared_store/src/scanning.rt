@@ -1,5 +1,5 @@
 //! Scanning a table.
-ghost use Rattle.std.specs.Prelude.{◌≡◌, ◌<◌, ◌^◌, Some, true, is_some, length, All, IfOk, OnOk};
+ghost use Rattle.std.specs.Prelude.{◌≡◌, ◌<◌, Some, true, is_some, length, All, IfOk, OnOk};
 ghost use Rattle.std.specs.BTreeMap.{insert_entry};
 ghost use Rattle.cell_model.specs.Rows.{Fits};
 ghost use Rattle.event_spec.specs.Lawful.{HasBlock};
@@ -8,7 +8,9 @@ ghost use Rattle.isolation_spec.specs.Contents.{contents_of, place_cmp};
 ghost use Rattle.workload_spec.specs.declared.command.Command.TheVariants as command;
 ghost use Rattle.shared_store.specs.Reading.{rows_in};
 ghost use Rattle.shared_store.specs.Scanning.{ReadsInto, laid};
-ghost use Rattle.shared_store.specs.Store.{Answers, HasRoomFor, IsSession, own_of, shape_in};
+ghost use Rattle.shared_store.specs.Store.{
+    Answers, HasRoomFor, IsSession, most_blocks_in_table, own_of, shape_in,
+};
 ghost use Rattle.shared_store.specs.Told.{scanned_told};
 
 use crate::reading::BlockRows;
@@ -136,7 +138,7 @@ impl Store {
         blank: Blank,
     ) -> Result<Rows, AllocError>
         requires session { IsSession self.now session.old }
-        requires room { HasRoomFor (2 ^ 10) session.old }
+        requires room { HasRoomFor most_blocks_in_table session.old }
         requires busy { is_some (own_of session.old) ≡ true }
         requires table { table < length (shape_in self.now).tables }
         requires name { blank.name ≡ L.name }
@@ -168,7 +170,7 @@ impl Store {
         table: u32,
     ) -> Result<Rows, AllocError>
         requires session { IsSession self.now session.old }
-        requires room { HasRoomFor (2 ^ 10) session.old }
+        requires room { HasRoomFor most_blocks_in_table session.old }
         requires busy { is_some (own_of session.old) ≡ true }
         requires table { table < length (shape_in self.now).tables }
         ensures session { IsSession self.now session.new }

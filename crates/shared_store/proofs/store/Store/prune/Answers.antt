@@ -48,3 +48,11 @@ returns-clause-answers g c =
     let all : c.loop-table.table ≡ length (shape_in st).tables = omega (arith, tables, done, end') in
     prunes_whole st oldest c.args.session.now c.loop-table.session c.loop-table.dropped c.requires.session
     (subst (λ n. Prunes st oldest c.args.session.now c.loop-table.session (event.Oldest ∷ at_tables (shape_in st) (pruning oldest) n) c.loop-table.dropped) all inv.prunes)
+
+pub returns-clause-few : goal.returns-clause-few
+returns-clause-few g c =
+    let made = c.loop-table.invariant.made in
+    let few = c.tables.ensures.few.tables_few in
+    let tables = ap (λ (ts : List TableDecl). length ts) c.tables.ensures.tables in
+    let end' = c.loop-table.auto.table-end in
+    omega (arith, made, few, tables, end')
