@@ -1,9 +1,8 @@
 -- A compaction: looks at the blocks of a table one after another, and the move that they give.
-use Rattle.std.proofs.Common.{◌≡◌, ◌⊎◌, ℕ, ◌+◌, ◌<◌, ◌≤◌, ◌^◌, ◌==◌, Bool, true, false, ◌||◌, List, [], ◌∷◌, ◌++◌, Some, Result, Ok, Err, length, map, refl, sym, ap, subst, ◌∙◌, append-nil, arith}
+use Rattle.std.proofs.Common.{◌≡◌, ◌⊎◌, ℕ, ◌+◌, ◌<◌, ◌≤◌, ◌^◌, ◌==◌, Bool, true, false, ◌||◌, List, [], ◌∷◌, ◌++◌, Some, Result, Ok, Err, length, map, refl, sym, ap, subst, ◌∙◌, append-nil, eq-eqb, eqb-true, true≢false, arith}
 use mathlib.Core.Logic.{inl, inr}
 use Rattle.std.specs.Prelude.{All, AllPairs, IfOk, IsErr, filter_map, sum_by}
 use Rattle.std.specs.List.{list_any}
-use Rattle.std.proofs.lemmas.Bool.Decides.{nat_tests}
 use Rattle.std.proofs.lemmas.List.{append_assoc, length-map, map-append}
 use Rattle.std.proofs.lemmas.List.Elements.{All-cons, All-head, All-tail, filter_map-append}
 use Rattle.std.proofs.lemmas.List.Folds.{list_any-append}
@@ -44,6 +43,15 @@ use Rattle.shared_store.proofs.Swept.{block_more, sweeps_nothing, sweeps_on}
 
 -- ---- a look
 
+abbrev looked_reply : Look → CoreReply
+looked_reply look = reply.Looked look
+
+same_look : (one other : Look) → looked_reply one ≡ looked_reply other → one ≡ other
+same_look one other e = cc
+
+never_memory : (look : Look) → looked_reply look ≡ reply.Memory → ⊥
+never_memory look e = cc
+
 -- what is seen of a block of the table
 pub look_seen : (store : StoreView) (s new : Session) (t b : ℕ) (look : Look) → HasBlock (shape_in store) t b → MakesAlone store s new (looking t b) (reply.Looked look)
     → IsLookAt (shape_in store) t (look_of b look)
@@ -63,9 +71,9 @@ look_seen store s new t b look has m = record {
     holds : CoreHolds sh parts
     holds = holds_before sh m.makes.makes.before (entry_of s.session (looking t b) (reply.Looked look)) (seen new) m.makes.stands.within.pass.of.1.begins m.makes.makes.log m.session.lawful
 
-    same : (reply.Looked look ≡ reply.Memory) ⊎ (reply.Looked look ≡ reply.Looked (looked (body_at sh parts t b))) → look ≡ looked (body_at sh parts t b)
-    same (inl e) = cc
-    same (inr e) = cc
+    same : (looked_reply look ≡ reply.Memory) ⊎ (looked_reply look ≡ looked_reply (looked (body_at sh parts t b))) → look ≡ looked (body_at sh parts t b)
+    same (inl e) = absurd (never_memory look e)
+    same (inr e) = same_look look (looked (body_at sh parts t b)) e
 
 -- a look replies nothing but what it saw or that there is no memory
 pub looks_tell : (told : CoreReply) (seen : Look) → (told ≡ reply.Memory) ⊎ (told ≡ reply.Looked seen)
@@ -205,11 +213,11 @@ module _ (store : StoreView) (t : ℕ) where
       went = went_more store old mid new move told (asked ++ move ∷ []) s.made (went_wider store old mid asked (move ∷ []) s.made s.went) m.session m.same m.opened m.makes.makes m.makes.count m.makes.took
           (among_last asked move)
 
-      planned : plan_of (looks_in made) ≡ pair ∷ pairs
-      planned = ap plan_of (filter_map-append (λ (o : Occurrence). look_told o.event o.reply) s.made (last ∷ []) ∙ append-nil (looks_in s.made) ∙ sym s.told.looks_are) ∙ plan
+      planned_same : plan_of (looks_in made) ≡ pair ∷ pairs
+      planned_same = ap plan_of (filter_map-append (λ (o : Occurrence). look_told o.event o.reply) s.made (last ∷ []) ∙ append-nil (looks_in s.made) ∙ sym s.told.looks_are) ∙ plan
 
       asks : events_of sh (own_of old) old.session (Compact t) made ≡ asked ++ move ∷ []
-      asks = ap (λ (pairs : List MovePair). asked ++ moves t pairs) planned
+      asks = ap (λ (pairs : List MovePair). asked ++ moves t pairs) planned_same
 
       events : events_in made ≡ asked ++ move ∷ []
       events = map-append (λ (o : Occurrence). o.event) s.made (last ∷ []) ∙ ap (λ (es : List CoreEvent). es ++ move ∷ []) s.events_are
@@ -297,10 +305,10 @@ uncompacted (Err memory) is = refl
 -- ---- what moves
 
 pub no_pairs : (pairs : List MovePair) (none' : Bool) → none' ≡ (length pairs == 0) → none' ≡ true → length pairs ≡ 0
-no_pairs pairs none' is yes = grind (arith, nat_tests)
+no_pairs pairs none' is tells = eqb-true (length pairs) 0 (sym is ∙ tells)
 
 pub some_pairs : (pairs : List MovePair) (none' : Bool) → none' ≡ (length pairs == 0) → none' ≡ false → length pairs ≡ 0 → ⊥
-some_pairs pairs none' is no empty = grind (arith, nat_tests)
+some_pairs pairs none' is tells empty = true≢false (sym (eq-eqb (length pairs) 0 empty) ∙ sym is ∙ tells)
 
 pub moves_none : (store : StoreView) (s : Session) (t : ℕ) (E : Type 0) (pairs : List MovePair) → length pairs ≡ 0 → MovesRows {E = E} store s s t pairs (Ok 0)
 moves_none store s t E [] none' = (refl, refl)

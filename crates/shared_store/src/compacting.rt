@@ -5,7 +5,12 @@ ghost use Rattle.event_spec.specs.Lawful.{HasBlock, HasTable};
 ghost use Rattle.workload_spec.specs.declared.command.Command.TheVariants as command;
 ghost use Rattle.shared_store.specs.Compacting.{LooksAtBlock, LooksInto, MovesRows, PlansTable};
 ghost use Rattle.shared_store.specs.Store.{
-    Answers, HasRoomFor, IsSession, MakesAtMost, most_blocks_in_table, shape_in,
+  Answers,
+  HasRoomFor,
+  IsSession,
+  MakesAtMost,
+  most_blocks_in_table,
+  shape_in,
 };
 ghost use Rattle.shared_store.specs.Told.{compacted_told};
 

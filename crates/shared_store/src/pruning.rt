@@ -5,7 +5,13 @@ ghost use Rattle.workload_spec.specs.declared.command.Command.TheVariants as com
 ghost use Rattle.workload_spec.specs.declared.reply.Said.TheVariants as said;
 ghost use Rattle.shared_store.specs.Pruning.{AsksOldest, KnowsOldest, PrunesBlock, PrunesTable};
 ghost use Rattle.shared_store.specs.Store.{
-    Answers, HasRoomFor, IsSession, MakesAtMost, most_blocks, most_blocks_in_table, shape_in,
+  Answers,
+  HasRoomFor,
+  IsSession,
+  MakesAtMost,
+  most_blocks,
+  most_blocks_in_table,
+  shape_in,
 };
 
 use crate::session::Session;

@@ -9,7 +9,12 @@ ghost use Rattle.workload_spec.specs.declared.command.Command.TheVariants as com
 ghost use Rattle.shared_store.specs.Reading.{rows_in};
 ghost use Rattle.shared_store.specs.Scanning.{ReadsInto, laid};
 ghost use Rattle.shared_store.specs.Store.{
-    Answers, HasRoomFor, IsSession, most_blocks_in_table, own_of, shape_in,
+  Answers,
+  HasRoomFor,
+  IsSession,
+  most_blocks_in_table,
+  own_of,
+  shape_in,
 };
 ghost use Rattle.shared_store.specs.Told.{scanned_told};
 

@@ -7,25 +7,25 @@ use Rattle.shared_store.proofs.store.Store.compact.Goals as goal
 
 pub returns-in_err-moves-clause-answers : goal.returns-in_err-moves-clause-answers
 returns-in_err-moves-clause-answers g c =
-    subst (λ (line : Said). Answers c.args.self.now c.args.session.now c.plan_table-moves.new.session (Compact c.args.table) line) (sym (uncompacted c.from_residual.result c.from_residual.ensures.0))
+    subst (λ (line : Said). Answers c.args.self.now c.args.session.now c.plan_table.new.session (Compact c.args.table) line) (sym (uncompacted c.from_residual.result c.from_residual.ensures.0))
     c.in_err-moves.ensures.plans
 
 pub returns-clause-session : goal.returns-clause-session
 returns-clause-session g c =
-    (moves_session c.args.self.now c.plan_table-moves.new.session c.move_rows.new.session c.args.table c.in_ok-moves.moves c.move_rows.result c.in_ok-moves.ensures.session c.move_rows.ensures).0
+    (moves_session c.args.self.now c.plan_table.new.session c.move_rows.new.session c.args.table c.in_ok-moves.moves c.move_rows.result c.in_ok-moves.ensures.session c.move_rows.ensures).0
 
 pub returns-clause-same : goal.returns-clause-same
 returns-clause-same g c =
-    (moves_session c.args.self.now c.plan_table-moves.new.session c.move_rows.new.session c.args.table c.in_ok-moves.moves c.move_rows.result c.in_ok-moves.ensures.session c.move_rows.ensures).1
+    (moves_session c.args.self.now c.plan_table.new.session c.move_rows.new.session c.args.table c.in_ok-moves.moves c.move_rows.result c.in_ok-moves.ensures.session c.move_rows.ensures).1
     ∙ c.in_ok-moves.ensures.same
 
 pub returns-clause-answers : goal.returns-clause-answers
 returns-clause-answers g c =
-    compacted c.args.self.now c.args.table c.args.session.now c.plan_table-moves.new.session c.move_rows.new.session c.in_ok-moves.moves c.move_rows.result c.requires.session
+    compacted c.args.self.now c.args.table c.args.session.now c.plan_table.new.session c.move_rows.new.session c.in_ok-moves.moves c.move_rows.result c.requires.session
     c.in_ok-moves.ensures.plans c.move_rows.ensures
 
 pub returns-clause-few : goal.returns-clause-few
 returns-clause-few g c =
     let made = c.in_ok-moves.ensures.made in
-    let one = moves_few c.args.self.now c.plan_table-moves.new.session c.move_rows.new.session c.args.table c.in_ok-moves.moves c.move_rows.result c.move_rows.ensures in
+    let one = moves_few c.args.self.now c.plan_table.new.session c.move_rows.new.session c.args.table c.in_ok-moves.moves c.move_rows.result c.move_rows.ensures in
     omega (arith, made, one)
