@@ -60,6 +60,7 @@ impl Store {
         ensures same { session.new.session ≡ session.old.session }
         ensures answers { Answers self.now session.old session.new
             command.Observe (said.Cooling result) }
+        ensures few { MakesAtMost most_blocks session.old session.new }
     {
         let mut turned = 0;
         for table in 0..self.hall.shape().tables().len() as u32 {

@@ -39,3 +39,11 @@ returns-clause-answers g c =
     let all : c.loop-table.table ≡ length (shape_in st).tables = omega (arith, tables, done, end') in
     observes_whole st c.args.session.now c.loop-table.session c.loop-table.turned c.requires.session
     (subst (λ n. Observes st c.args.session.now c.loop-table.session (at_tables (shape_in st) observing n) c.loop-table.turned) all inv.2)
+
+pub returns-clause-few : goal.returns-clause-few
+returns-clause-few g c =
+    let made = c.loop-table.invariant.1 in
+    let few = c.tables.ensures.few.tables_few in
+    let tables = ap (λ (ts : List TableDecl). length ts) c.tables.ensures.tables in
+    let end' = c.loop-table.auto.table-end in
+    omega (arith, made, few, tables, end')
