@@ -282,9 +282,9 @@ module _ (store : StoreView) (own : OwnTransaction) (t : ℕ) where
         → is_cut_short made ≡ true → (a : Answers store old new (command.Export t) said.Memory) × (a.made ≡ made)
     part_call new n made le w events cut = answered new made said.Memory w (inr (record {
       may = refl;
-      missed = map (event.Read own t) (rest_of store own t n le).0;
-      events = asks made ∙ ap (map (event.Read own t)) (rest_of store own t n le).1 ∙ map-append (event.Read own t) (below n) (rest_of store own t n le).0
-          ∙ ap (λ es. es ++ map (event.Read own t) (rest_of store own t n le).0) (sym events);
+      missed = map (event.Read own t) (rest_of (blocks_of sh t) n le).0;
+      events = asks made ∙ ap (map (event.Read own t)) (rest_of (blocks_of sh t) n le).1 ∙ map-append (event.Read own t) (below n) (rest_of (blocks_of sh t) n le).0
+          ∙ ap (λ es. es ++ map (event.Read own t) (rest_of (blocks_of sh t) n le).0) (sym events);
       cut = cut;
       line = refl;
     }))
