@@ -1,7 +1,7 @@
 -- A compaction: looks at the blocks of a table one after another, and the move that they give.
 use Rattle.std.proofs.Common.{◌≡◌, ◌⊎◌, ℕ, ◌+◌, ◌<◌, ◌≤◌, ◌^◌, ◌==◌, Bool, true, false, ◌||◌, List, [], ◌∷◌, ◌++◌, Some, Result, Ok, Err, length, map, refl, sym, ap, subst, ◌∙◌, append-nil, eq-eqb, eqb-true, true≢false, arith}
 use mathlib.Core.Logic.{inl, inr}
-use Rattle.std.specs.Prelude.{All, AllPairs, IfOk, IsErr, filter_map, sum_by}
+use Rattle.std.specs.Prelude.{All, AllPairs, IfOk, IsErr, sum_by}
 use Rattle.std.specs.List.{list_any}
 use Rattle.std.proofs.lemmas.List.{append_assoc, length-map, map-append}
 use Rattle.std.proofs.lemmas.List.Elements.{All-cons, All-head, All-tail, filter_map-append}
@@ -28,7 +28,6 @@ use Rattle.run_spec.specs.Occurrences.{Occurrence, events_in, replies_in}
 use Rattle.run_spec.specs.Told.{moved_told}
 use Rattle.store_laws.specs.Own.{entry_of, occurrence_at, parts_after}
 use Rattle.workload_spec.specs.declared.command.Command.TheVariants.{Compact}
-use Rattle.workload_spec.specs.declared.reply.Said.{Said}
 use Rattle.workload_spec.specs.declared.reply.Said.TheVariants as said
 use Rattle.shared_store.specs.Compacting.{AddsLook, HaveLooked, Looks, MovesRows, PlansMoves, PlansTable, look_of, looking, move_reply}
 use Rattle.shared_store.specs.Reading.{Went}

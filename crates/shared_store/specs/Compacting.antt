@@ -14,7 +14,7 @@ use Rattle.run_spec.specs.Occurrences.{Occurrence, replies_in}
 use Rattle.run_spec.specs.Told.{moved_told}
 use Rattle.workload_spec.specs.declared.command.Command.TheVariants as command
 use Rattle.workload_spec.specs.declared.reply.Said.TheVariants as said
-use Rattle.shared_store.specs.Store.{Answers, IsSession, StoreView, shape_in}
+use Rattle.shared_store.specs.Store.{Answers, StoreView, shape_in}
 use Rattle.shared_store.specs.Sweeping.{MakesAlone, Sweeps}
 use Rattle.shared_store.specs.declared.session.Session.{Session}
 

@@ -1,5 +1,4 @@
 use Rattle.std.proofs.Common.{refl}
-use mathlib.Core.Logic.{inl, inr}
 use Rattle.event_spec.specs.declared.reply.Reply.TheVariants as reply
 use Rattle.event_spec.specs.Effects.{CoreEvent}
 use Rattle.shared_store.specs.Compacting.{looking}

@@ -1,4 +1,4 @@
-use Rattle.std.proofs.Common.{List, refl, ap, ◌∙◌, ◌++◌, ◌∷◌, []}
+use Rattle.std.proofs.Common.{refl, ap, ◌∙◌, ◌++◌, ◌∷◌, []}
 use Rattle.event_spec.specs.Plans.{BlockLook}
 use Rattle.shared_store.proofs.Scanned.{on_ok}
 use Rattle.shared_store.proofs.store.Store.look_into.Goals as goal
