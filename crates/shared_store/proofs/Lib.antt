@@ -6,6 +6,7 @@ pub mod Freezes
 pub mod Hands
 pub mod Imagings
 pub mod Laid
+pub mod Latched
 pub mod Made
 pub mod Maps
 pub mod Observed

@@ -24,3 +24,6 @@ pub use faults::{Busy, StoreFault};
 pub use reading::BlockRows;
 pub use session::Session;
 pub use store::Store;
+
+#[cfg(test)]
+mod tests;
