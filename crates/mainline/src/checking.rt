@@ -31,8 +31,8 @@ pub(crate) fn check<S: Source, O: Sink>(alloc: Global, source: &mut S, out: &mut
         Err(InputFault::TooLong) => return Status::TooLong,
         Err(InputFault::Memory) => return Status::Memory,
     };
-    match parse_whole(alloc, &bytes) {
-        Ok((script, output)) => tell_verdict(alloc, &script, output, out),
+    match parse_apart(alloc, bytes) {
+        Ok((script, output)) => tell_verdict(alloc, &script, &output, out),
         Err(fault) => refuse(alloc, fault, out),
     }
 }
@@ -43,6 +43,21 @@ fn parse_whole(alloc: Global, bytes: &[u8]) -> Result<(Script, &[u8]), ScriptFau
     ensures valid { IfOk result (λ x. is_valid x.0 ≡ true) }
 {
     parse_checked(alloc, &Extent::whole(), bytes)
+}
+
+/// The same with the output copied and the bytes let go: the judgement asks no more of those of the
+/// workload.
+fn parse_apart(alloc: Global, bytes: Vec<u8>) -> Result<(Script, Vec<u8>), ScriptFault>
+    ensures read { LineGives (λ x. (x.0, x.1.items)) result (checked_of bytes.items) }
+    ensures valid { IfOk result (λ x. is_valid x.0 ≡ true) }
+{
+    match parse_whole(alloc, bytes.as_slice()) {
+        Ok((script, output)) => {
+            let output = Vec::from_slice(alloc, output)?;
+            Ok((script, output))
+        }
+        Err(fault) => Err(fault),
+    }
 }
 
 /// Prints whether the output is explained.

@@ -20,10 +20,9 @@ use Rattle.outcome_counts.proofs.Counts.{InOrder, in-order}
 use Rattle.outcome_counts.proofs.Starts.{KeptAt, kept-at}
 use Rattle.outcome_conflicts.specs.Held.{Held, held_in}
 use Rattle.outcome_conflicts.specs.Leads.{but_of, lead_below, but_own}
-use Rattle.outcome_conflicts.specs.Rivals.{AreRivals, holds_until, writer_cmp}
+use Rattle.outcome_conflicts.specs.Rivals.{AreRivals, holds_until, writer_at, writer_cmp}
 use Rattle.outcome_history.specs.Kept.{key_cmp, place_in}
 use Rattle.outcome_conflicts.specs.declared.rivals.Rivals.{Rivals}
-use Rattle.outcome_conflicts.specs.declared.rivals.Writer.{Writer}
 use Rattle.outcome_history.specs.declared.keys.RowKey.{RowKey}
 use Rattle.outcome_conflicts.proofs.Tops.{names-by, passes-by}
 
@@ -51,10 +50,10 @@ module _ (replies : List KeptReply) (at : ℕ) (stretch : Stretch) (asked : IsAs
   round = let s = small in omega (arith, s)
 
   pub names-judged : (of : RowKey) (session : ℕ) → is_same reply.who (Session session) ≡ false → (none : KeptReply) (tables : List TableDecl) (t : Span) → t.who ≡ (asked_at replies at none).reply.who
-      → nat_lt reply.round (most_below stretch.round_end (marks_at writer_cmp rivals.writers (record { of = of; session = session })))
+      → nat_lt reply.round (most_below stretch.round_end (marks_at writer_cmp rivals.writers (writer_at of session)))
       ≡ names_session (run_of tables es) t (place_in of) (asked_at replies at none) session
   names-judged of session apart none tables t who =
-      let writer : Writer = record { of = of; session = session } in
+      let writer = writer_at of session in
       let high : round_end es e ≤ length replies = let w = order.within in let l = long in omega (arith, w, l) in
       let end : stretch.round_end ≡ round_end es e = ap (λ (s : Stretch). s.round_end) (asked.places none) ∙ ap (round_end es) (same none) in
       ap (λ (n : ℕ). nat_lt reply.round (most_below n (marks_at writer_cmp rivals.writers writer))) end

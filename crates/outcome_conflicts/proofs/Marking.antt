@@ -17,7 +17,7 @@ use Rattle.mark_index.proofs.Noted.{peaks-next, peaks-nil}
 use Rattle.outcome_counts.specs.Keys.{is_keyed}
 use Rattle.outcome_counts.proofs.Keyed.{nat-same}
 use Rattle.outcome_conflicts.specs.Held.{Held, held_in}
-use Rattle.outcome_conflicts.specs.Rivals.{AreRivals, IsMarked, is_writer, writer_cmp, writer_until, holds_until}
+use Rattle.outcome_conflicts.specs.Rivals.{AreRivals, holds_until, is_writer, IsMarked, row_of, writer_cmp, writer_until}
 use Rattle.outcome_conflicts.specs.Written.{writes_to}
 use Rattle.outcome_history.specs.Kept.{key_cmp, place_in}
 use Rattle.outcome_conflicts.specs.declared.rivals.Rivals.{Rivals}
@@ -35,19 +35,21 @@ writes-keyed of None (Some write) h = absurd (let never : ⊥ = cc in never)
 writes-keyed of (Some key) None h = absurd (let never : ⊥ = cc in never)
 writes-keyed of (Some key) (Some write) h = let e : place_in key ≡ write.0 = cc in ap (λ (p : Place). is_place p (place_in of)) e
 
-then-swapped : (a b : Ordering) → is_eq (ordering_then a b) ≡ (is_eq b && is_eq a)
-then-swapped Less Less = refl
-then-swapped Less Equal = refl
-then-swapped Less Greater = refl
-then-swapped Equal Less = refl
-then-swapped Equal Equal = refl
-then-swapped Equal Greater = refl
-then-swapped Greater Less = refl
-then-swapped Greater Equal = refl
-then-swapped Greater Greater = refl
+then-swapped : (a b c : Ordering) → is_eq (ordering_then a (ordering_then b c)) ≡ (is_eq b && is_eq (ordering_then a c))
+then-swapped Less Less c = refl
+then-swapped Less Equal c = refl
+then-swapped Less Greater c = refl
+then-swapped Equal Less c = refl
+then-swapped Equal Equal c = refl
+then-swapped Equal Greater c = refl
+then-swapped Greater Less c = refl
+then-swapped Greater Equal c = refl
+then-swapped Greater Greater c = refl
 
-pub writer-same : (a b : Writer) → is_eq (writer_cmp a b) ≡ (is_same (Session a.session) (Session b.session) && is_eq (key_cmp a.of b.of))
-writer-same a b = then-swapped (key_cmp a.of b.of) (nat_cmp a.session b.session) ∙ ap (λ (t : Bool). t && is_eq (key_cmp a.of b.of)) (nat-same a.session b.session)
+pub writer-same : (a b : Writer) → is_eq (writer_cmp a b) ≡ (is_same (Session a.session) (Session b.session) && is_eq (key_cmp (row_of a) (row_of b)))
+writer-same a b =
+    then-swapped (nat_cmp a.table b.table) (nat_cmp a.session b.session) (int_cmp a.key b.key)
+    ∙ ap (λ (t : Bool). t && is_eq (key_cmp (row_of a) (row_of b))) (nat-same a.session b.session)
 
 -- ---- a reply more
 
@@ -100,10 +102,14 @@ key-one a b h =
 
 pub writer-one : (a b : Writer) → is_eq (writer_cmp a b) ≡ true → a ≡ b
 writer-one a b h =
-    let parts = then-equal (key_cmp a.of b.of) (nat_cmp a.session b.session) h in
-    let of : a.of ≡ b.of = key-one a.of b.of (equal-eq (key_cmp a.of b.of) parts.0) in
-    let session : a.session ≡ b.session = nat_cmp-IsAntisymmetric a.session b.session parts.1 in
-    ap (λ (k : RowKey). record a { of = k }) of ∙ ap (λ (n : ℕ). record b { session = n }) session
+    let parts = then-equal (nat_cmp a.table b.table) (ordering_then (nat_cmp a.session b.session) (int_cmp a.key b.key)) h in
+    let others = then-equal (nat_cmp a.session b.session) (int_cmp a.key b.key) (equal-eq _ parts.1) in
+    let table : a.table ≡ b.table = nat_cmp-IsAntisymmetric a.table b.table parts.0 in
+    let session : a.session ≡ b.session = nat_cmp-IsAntisymmetric a.session b.session others.0 in
+    let key : a.key ≡ b.key = int_cmp-IsAntisymmetric a.key b.key others.1 in
+    ap (λ (n : ℕ). record { table = n; session = a.session; key = a.key }) table
+    ∙ ap (λ (n : ℕ). record { table = b.table; session = n; key = a.key }) session
+    ∙ ap (λ (k : ℤ). record { table = b.table; session = b.session; key = k }) key
 
 -- a mark that is made of those of its own key
 pub pushed-own : {K M : Type 0} (key other : K) (one : Bool) → (one ≡ true → key ≡ other) → (marks : K → List M) (mark : List M → M)

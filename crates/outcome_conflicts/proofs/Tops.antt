@@ -21,7 +21,7 @@ use Rattle.outcome_counts.proofs.Peaks.{highest-agree}
 use Rattle.mark_index.specs.Marks.{highest}
 use Rattle.outcome_conflicts.specs.Held.{Held, held_in, never, stop_in}
 use Rattle.outcome_conflicts.specs.Leads.{but_own}
-use Rattle.outcome_conflicts.specs.Rivals.{holds_until, writer_until}
+use Rattle.outcome_conflicts.specs.Rivals.{holds_until, writer_at, writer_until}
 use Rattle.outcome_conflicts.specs.Written.{writes_to}
 use Rattle.outcome_history.specs.Kept.{place_in}
 use Rattle.outcome_history.specs.declared.keys.RowKey.{RowKey}
@@ -217,7 +217,7 @@ module _ (entries : List Entry) (entry : Entry) (rises : Rises entries) (round :
 
   pub names-by : (tables : List TableDecl) (t : Span) (of : RowKey) (session : ℕ) → t.who ≡ entry.reply.who → is_same entry.reply.who (Session session) ≡ false
       → names_session (run_of tables entries) t (place_in of) entry session
-      ≡ nat_lt r (highest (writer_until (record { of = of; session = session })) (take (round_end entries entry) (held_in entries)))
+      ≡ nat_lt r (highest (writer_until (writer_at of session)) (take (round_end entries entry) (held_in entries)))
   names-by tables t of session its apart =
       any-agree (λ rival. ((is_same rival.who (Session session) && not (is_same rival.who t.who)) && has_write (place_in of) (not_after rival.replies entry)) && option_map_or (λ ending. not (is_before ending entry)) (ending_of rival) true)
       (λ rival. is_same rival.who (Session session) && (has_write (place_in of) (not_after rival.replies entry) && option_map_or (λ ending. not (is_before ending entry)) (ending_of rival) true))
@@ -229,7 +229,7 @@ module _ (entries : List Entry) (entry : Entry) (rises : Rises entries) (round :
       (λ x. not (is_before x entry)) r
       (λ x other. ap not (before-by-round x entry other) ∙ not-earlier x.reply.round r)
       (let l = round in grind (arith, nat_tests, l)) entries
-      ∙ ap (λ (hs : List Held). nat_lt r (highest (writer_until (record { of = of; session = session })) hs)) (held-front (λ (x : Entry). nat_le x.reply.round r) entries (round-parts entry entries rises))
+      ∙ ap (λ (hs : List Held). nat_lt r (highest (writer_until (writer_at of session)) hs)) (held-front (λ (x : Entry). nat_le x.reply.round r) entries (round-parts entry entries rises))
     where
       others : (who : Who) → is_same who (Session session) ≡ true → is_same who entry.reply.who ≡ false
       others who is = ap (λ (w : Who). is_same w entry.reply.who) (same-is who (Session session) is) ∙ apart-turned entry.reply.who (Session session) apart

@@ -1,6 +1,6 @@
 -- Who writes a place, and for how long: what tells whether another session's transaction is in the way.
 use Rattle.std.specs.Prelude.{◌≡◌, ℕ, Bool, ◌&&◌, List, if◌then◌else◌}
-use Rattle.std.specs.Ordering.{nat_cmp, ordering_then}
+use Rattle.std.specs.Ordering.{int_cmp, nat_cmp, ordering_then}
 use Rattle.std.specs.declared.cmp.Ordering.{Ordering}
 use Rattle.isolation_spec.specs.declared.place.Place.{Place}
 use Rattle.workload_spec.specs.declared.reply.Who.TheVariants.{Session}
@@ -15,13 +15,20 @@ use Rattle.outcome_conflicts.specs.declared.rivals.Rivals.{Rivals}
 use Rattle.outcome_conflicts.specs.declared.rivals.Writer.{Writer}
 use Rattle.outcome_history.specs.declared.keys.RowKey.{RowKey}
 
--- writers go by place and then by session
+-- writers go by table, by session, and then by key
 abbrev pub writer_cmp : Writer → Writer → Ordering
-writer_cmp a b = ordering_then (key_cmp a.of b.of) (nat_cmp a.session b.session)
+writer_cmp a b = ordering_then (nat_cmp a.table b.table) (ordering_then (nat_cmp a.session b.session) (int_cmp a.key b.key))
+
+-- the row that one writes, and the writer of a session
+abbrev pub row_of : Writer → RowKey
+row_of writer = record { table = writer.table; key = writer.key }
+
+abbrev pub writer_at : RowKey → ℕ → Writer
+writer_at of session = record { table = of.table; session = session; key = of.key }
 
 -- the writer accepts a write of its place in the reply
 abbrev pub is_writer : Writer → Entry → Bool
-is_writer writer entry = is_same entry.reply.who (Session writer.session) && writes_to (place_in writer.of) entry
+is_writer writer entry = is_same entry.reply.who (Session writer.session) && writes_to (place_in (row_of writer)) entry
 
 -- up to when the reply holds the place, and as one session's
 abbrev pub holds_until : Place → Held → ℕ

@@ -17,8 +17,9 @@ use Rattle.mark_index.specs.declared.marks.Peak.{Peak}
 use Rattle.outcome_counts.specs.BlockMarks.{starts_in}
 use Rattle.outcome_history.specs.Kept.{key_cmp, place_in}
 use Rattle.outcome_conflicts.specs.declared.commits.Transaction.{Transaction}
-use Rattle.outcome_conflicts.specs.declared.commits.Writers.{Writers}
-use Rattle.outcome_history.specs.Commits.{first_of, places_of}
+use Rattle.outcome_conflicts.specs.declared.commits.Heights.{Heights}
+use Rattle.outcome_conflicts.specs.declared.commits.Numbers.{Numbers}
+use Rattle.outcome_history.specs.Commits.{first_of}
 use Rattle.outcome_history.specs.Own.{AreChanges}
 use Rattle.outcome_history.specs.Seen.{IsOutput}
 use Rattle.outcome_history.specs.declared.changes.Change.{Change}
@@ -50,12 +51,15 @@ number_told entries numbers entry =
 abbrev pub count_up_to : ℕ → List ℕ → ℕ
 count_up_to bound numbers = count_by (λ number. nat_le number bound) numbers
 
--- What is kept is what the commits of the replies wrote.
-pub record AreWriters (entries : List Entry) (writers : Writers) : Type 0 where
-  pub rise : (of : RowKey) → IsNonDecreasing (marks_at key_cmp writers.numbers of)
-  pub numbers : (of : RowKey) → marks_at key_cmp writers.numbers of ≡ numbers_of entries (place_in of)
-  pub peaks : (of : RowKey) → ArePeaks (number_told entries (numbers_of entries (place_in of))) (starts_in entries) entries (length entries) (marks_at key_cmp writers.peaks of)
-  pub lines : (number : ℕ) → option_and_then (slice_get entries) (get nat_cmp writers.lines number) ≡ commit_line entries number
+-- What is kept are the numbers of the commits that wrote each place, and the line of each number.
+pub record AreNumbered (entries : List Entry) (kept : Numbers) : Type 0 where
+  pub rise : (of : RowKey) → IsNonDecreasing (marks_at key_cmp kept.numbers of)
+  pub numbers : (of : RowKey) → marks_at key_cmp kept.numbers of ≡ numbers_of entries (place_in of)
+  pub lines : (number : ℕ) → option_and_then (slice_get entries) (get nat_cmp kept.lines number) ≡ commit_line entries number
+
+-- What is kept is how high they are.
+pub record AreHeights (entries : List Entry) (heights : Heights) : Type 0 where
+  pub peaks : (of : RowKey) → ArePeaks (number_told entries (numbers_of entries (place_in of))) (starts_in entries) entries (length entries) (marks_at key_cmp heights.peaks of)
 
 -- of a transaction its snapshot, and the number with which it commits, if it does
 abbrev pub transaction_told : Span → Transaction
@@ -100,4 +104,4 @@ ArePeaksUpTo entries taken peaks = (of : RowKey) → ArePeaks (value_at entries 
 pub record IsWritten (entries : List Entry) (written : Written) : Type 0 where
   pub output : IsOutput written.openings.now entries
   pub changes : AreChanges written.openings.now entries (length entries) written.changes.now
-  pub places : (number : ℕ) → marks_at nat_cmp written.places.now.places number ≡ places_of (commits_as number) 0 entries
+  pub places : (number : ℕ) → get nat_cmp written.places.now.places number ≡ first_of (commits_as number) entries

@@ -1,15 +1,16 @@
 //! Whether a commit is in the way of a write.
-ghost use Rattle.std.specs.Prelude.{◌≡◌, ◌<◌, ◌&&◌, List, length, nat_le, nat_lt};
+ghost use Rattle.std.specs.Prelude.{◌≡◌, ◌<◌, ◌&&◌, List, length, nat_lt};
 ghost use Rattle.std.specs.List.Sorted.{IsNonDecreasing};
 ghost use Rattle.cell_model.specs.declared.table.TableDecl.{TableDecl};
 ghost use Rattle.mark_index.specs.Marks.{count_below, highest};
 ghost use Rattle.output_read.specs.Kept.{entries_of, entry_of};
 ghost use Rattle.output_read.specs.declared.kept.KeptReply.{KeptReply as Kept};
 ghost use Rattle.outcome_counts.specs.Asked.{IsAsked, asked_at};
-ghost use Rattle.outcome_spec.specs.Conflicts.{is_committed_not_after, is_first_updater, names_commit, passes_no_commit};
+ghost use Rattle.outcome_spec.specs.Conflicts.{is_committed_not_after, is_first_updater, passes_no_commit};
 ghost use Rattle.outcome_spec.specs.Entries.{before, is_before};
 ghost use Rattle.outcome_spec.specs.Runs.{Span, commit_line, run_of};
-ghost use Rattle.outcome_conflicts.specs.Writers.{AreWriters, count_up_to, is_number_in, number_told, numbers_of, transaction_told};
+ghost use Rattle.outcome_conflicts.specs.Conflicts.{is_highest, is_named};
+ghost use Rattle.outcome_conflicts.specs.Writers.{AreHeights, AreNumbered, count_up_to, is_number_in, number_told, numbers_of, transaction_told};
 ghost use Rattle.outcome_history.specs.Kept.{place_in};
 
 use mark_index::MarkIndex;
@@ -26,13 +27,19 @@ pub struct Transaction {
     pub committed: Option<u64>,
 }
 
-/// For each place the numbers of the commits that wrote it, rising, and the highest of those whose
-/// lines stand up to a place of the output; and for each number where its line stands.
+/// For each place the numbers of the commits that wrote it, rising; and for each number where its
+/// line stands.
 #[derive(Drop)]
-pub struct Writers {
+pub struct Numbers {
     pub(crate) numbers: MarkIndex<RowKey, u64>,
-    pub(crate) peaks: MarkIndex<RowKey, Peak>,
     pub(crate) lines: BTreeMap<u64, usize>,
+}
+
+/// For each place the highest of the numbers of the commits that wrote it, of those whose lines stand
+/// up to a place of the output.
+#[derive(Drop)]
+pub struct Heights {
+    pub(crate) peaks: MarkIndex<RowKey, Peak>,
 }
 
 /// Whether a reply is before another.
@@ -58,14 +65,14 @@ fn count_up_to(numbers: &[u64], bound: u64) -> usize
     numbers.partition_point(|number| *number <= bound)
 }
 
-/// Whether a commit number is above the snapshot, with what is told of it and the highest before.
-fn is_named_by(snapshot: u64, number: u64, wrote: bool, is_not_after: bool, highest: u128) -> bool
-    ensures { result ≡ (nat_lt snapshot number && wrote && is_not_after && nat_le highest number) }
+/// Whether a commit number is above the snapshot, with what is told of it.
+fn is_named_by(snapshot: u64, number: u64, wrote: bool, is_not_after: bool) -> bool
+    ensures { result ≡ (nat_lt snapshot number && wrote && is_not_after) }
 {
-    snapshot < number && wrote && is_not_after && highest <= u128::from(number)
+    snapshot < number && wrote && is_not_after
 }
 
-impl Writers {
+impl Heights {
     /// The highest number of a commit before the reply that wrote the place, 0 where there is none.
     fn highest_before(
         &self,
@@ -74,7 +81,7 @@ impl Writers {
         stretch: &Stretch,
         of: RowKey,
     ) -> u128
-        requires written { AreWriters (entries_of replies.now) self.now }
+        requires written { AreHeights (entries_of replies.now) self.now }
         requires asked { IsAsked replies.now at stretch.now }
         ensures { (none : Kept) → result ≡ highest (number_told (entries_of replies.now) (numbers_of (entries_of replies.now) (place_in of)))
             (before (entries_of replies.now) (asked_at replies.now at none)) }
@@ -92,7 +99,7 @@ impl Writers {
         of: RowKey,
         snapshot: u64,
     ) -> bool
-        requires written { AreWriters (entries_of replies.now) self.now }
+        requires written { AreHeights (entries_of replies.now) self.now }
         requires asked { IsAsked replies.now at stretch.now }
         ensures { (none : Kept) (tables : List TableDecl) (t : Span) → t.snapshot ≡ snapshot
             → result ≡ passes_no_commit (run_of tables (entries_of replies.now)) t (place_in of) (asked_at replies.now at none) }
@@ -100,9 +107,27 @@ impl Writers {
         self.highest_before(replies, at, stretch, of) <= u128::from(snapshot)
     }
 
+    /// Whether no commit with a number above this one that is before the reply wrote the place.
+    pub(crate) fn is_highest(
+        &self,
+        replies: &[KeptReply<'_>],
+        at: usize,
+        stretch: &Stretch,
+        of: RowKey,
+        number: u64,
+    ) -> bool
+        requires written { AreHeights (entries_of replies.now) self.now }
+        requires asked { IsAsked replies.now at stretch.now }
+        ensures { (none : Kept) → result ≡ is_highest (entries_of replies.now) (place_in of) (asked_at replies.now at none) number }
+    {
+        self.highest_before(replies, at, stretch, of) <= u128::from(number)
+    }
+}
+
+impl Numbers {
     /// Whether the line of a commit number is there, and not after the reply.
     fn is_not_after(&self, replies: &[KeptReply<'_>], at: usize, number: u64) -> bool
-        requires written { AreWriters (entries_of replies.now) self.now }
+        requires written { AreNumbered (entries_of replies.now) self.now }
         requires inside { at < length replies.now }
         ensures { (none : Kept) (tables : List TableDecl) → result
             ≡ is_committed_not_after (run_of tables (entries_of replies.now)) (asked_at replies.now at none) number }
@@ -118,7 +143,7 @@ impl Writers {
 
     /// Whether a commit of this number wrote the place.
     fn wrote(&self, replies: &[KeptReply<'_>], of: RowKey, number: u64) -> bool
-        requires { AreWriters (entries_of replies.now) self.now }
+        requires { AreNumbered (entries_of replies.now) self.now }
         ensures { result ≡ is_number_in (numbers_of (entries_of replies.now) (place_in of)) number }
     {
         let _ = replies;
@@ -126,31 +151,28 @@ impl Writers {
         count_below(numbers, number) < count_up_to(numbers, number)
     }
 
-    /// Whether the commit number is above the snapshot, wrote the place, and is not after the reply,
-    /// with none greater before it that wrote the place.
-    pub fn names_commit(
+    /// Whether the commit number is above the snapshot, wrote the place, and is not after the reply.
+    pub(crate) fn is_named(
         &self,
         replies: &[KeptReply<'_>],
         at: usize,
-        stretch: &Stretch,
         of: RowKey,
         snapshot: u64,
         number: u64,
     ) -> bool
-        requires written { AreWriters (entries_of replies.now) self.now }
-        requires asked { IsAsked replies.now at stretch.now }
+        requires written { AreNumbered (entries_of replies.now) self.now }
+        requires inside { at < length replies.now }
         ensures { (none : Kept) (tables : List TableDecl) (t : Span) → t.snapshot ≡ snapshot
-            → result ≡ names_commit (run_of tables (entries_of replies.now)) t (place_in of) (asked_at replies.now at none) number }
+            → result ≡ is_named (run_of tables (entries_of replies.now)) t (place_in of) (asked_at replies.now at none) number }
     {
         let wrote = self.wrote(replies, of, number);
         let is_not_after = self.is_not_after(replies, at, number);
-        let highest = self.highest_before(replies, at, stretch, of);
-        is_named_by(snapshot, number, wrote, is_not_after, highest)
+        is_named_by(snapshot, number, wrote, is_not_after)
     }
 
     /// Whether no commit number above the snapshot and below the transaction's own wrote the place.
     pub fn is_first_updater(&self, replies: &[KeptReply<'_>], of: RowKey, t: Transaction) -> bool
-        requires { AreWriters (entries_of replies.now) self.now }
+        requires { AreNumbered (entries_of replies.now) self.now }
         ensures { (tables : List TableDecl) (span : Span) → transaction_told span ≡ t
             → result ≡ is_first_updater (run_of tables (entries_of replies.now)) span (place_in of) }
     {

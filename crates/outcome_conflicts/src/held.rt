@@ -10,7 +10,6 @@ ghost use Rattle.outcome_conflicts.specs.Held.{held_in, never, stops_of};
 use crate::by_who::ByWho;
 use output_read::{KeptReply, Told};
 use std::alloc::{AllocError, Global};
-use workload_spec::Said;
 
 /// It is above each round and the one behind it.
 const NEVER: u64 = 1 << 33;
@@ -19,14 +18,14 @@ const NEVER: u64 = 1 << 33;
 fn is_end(reply: &KeptReply<'_>) -> bool
     ensures { result ≡ is_end (entry_of reply.now).reply.said }
 {
-    matches!(reply.told, Told::Plain(Said::Committed(_) | Said::Aborted))
+    matches!(reply.told, Told::Committed(_) | Told::Aborted)
 }
 
 /// Whether it opens one.
 fn is_opening(reply: &KeptReply<'_>) -> bool
     ensures { result ≡ is_some (snapshot_in (entry_of reply.now).reply.said) }
 {
-    matches!(reply.told, Told::Plain(Said::At(_)))
+    matches!(reply.told, Told::At(_))
 }
 
 /// Notes where the reply's session or worker next ends a transaction, seen from the reply on.

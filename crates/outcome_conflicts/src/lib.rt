@@ -13,8 +13,7 @@ mod transactions;
 mod writers;
 mod written;
 
-pub use commits::{Transaction, Writers};
-pub use conflicts::Conflicts;
+pub use commits::{Heights, Numbers, Transaction};
 pub use rivals::Rivals;
 pub use transactions::transaction_at;
 pub use writers::Written;

@@ -11,14 +11,13 @@ ghost use Rattle.output_read.specs.Kept.{entries_of, entry_of};
 use output_read::{KeptReply, Told};
 use std::alloc::{AllocError, Global};
 use std::collections::BTreeMap;
-use workload_spec::Said;
 
 /// The number that the reply shows as it commits writes.
 fn number_told(reply: &KeptReply<'_>) -> Option<u64>
     ensures { result ≡ commit_in (entry_of reply.now).reply.said }
 {
     match &reply.told {
-        Told::Plain(Said::Committed(number)) => *number,
+        Told::Committed(number) => *number,
         _ => None,
     }
 }

@@ -9,7 +9,7 @@ ghost use Rattle.outcome_spec.specs.Entries.{is_same};
 ghost use Rattle.output_read.specs.Kept.{entries_of, entry_of};
 ghost use Rattle.outcome_counts.specs.Keys.{is_keyed};
 ghost use Rattle.outcome_conflicts.specs.Leads.{AreFollowed, is_ordered};
-ghost use Rattle.outcome_conflicts.specs.Rivals.{AreRivals, IsMarked, is_writer, writer_cmp};
+ghost use Rattle.outcome_conflicts.specs.Rivals.{AreRivals, IsMarked, is_writer, row_of, writer_at, writer_cmp};
 ghost use Rattle.outcome_history.specs.Kept.{key_cmp};
 ghost use Rattle.outcome_conflicts.specs.declared.rivals.Writer.{Writer as Whom};
 ghost use Rattle.outcome_history.specs.declared.keys.RowKey.{RowKey as Where};
@@ -27,8 +27,9 @@ use workload_spec::Who;
 /// A session that writes a place.
 #[derive(Clone, Copy, Debug, PartialEq, Eq, PartialOrd, Ord)]
 pub(crate) struct Writer {
-    pub(crate) of: RowKey,
+    pub(crate) table: u32,
     pub(crate) session: u32,
+    pub(crate) key: i128,
 }
 
 /// For each place and session that writes it, and for each place among all, for how long it is held.
@@ -78,13 +79,24 @@ fn note_lead(
     Ok(())
 }
 
+/// The session as one that writes the row.
+pub(crate) fn writer_at(of: RowKey, session: u32) -> Writer
+    ensures { result ≡ writer_at of session }
+{
+    Writer {
+        table: of.table,
+        session,
+        key: of.key,
+    }
+}
+
 /// Who accepts a write, if a session does.
 fn writer_of(reply: &KeptReply<'_>, of: Option<RowKey>) -> Option<Writer>
     ensures { (other : Whom) → is_keyed writer_cmp other result
-        ≡ (is_same (entry_of reply.now).reply.who (Session other.session) && is_keyed key_cmp other.of of) }
+        ≡ (is_same (entry_of reply.now).reply.who (Session other.session) && is_keyed key_cmp (row_of other) of) }
 {
     match (reply.who, of) {
-        (Who::Session(session), Some(of)) => Some(Writer { of, session }),
+        (Who::Session(session), Some(of)) => Some(writer_at(of, session)),
         _ => None,
     }
 }

@@ -10,7 +10,7 @@ ghost use Rattle.outcome_conflicts.specs.Rivals.{AreRivals};
 ghost use Rattle.outcome_history.specs.Kept.{place_in};
 
 use crate::leads::{is_one, most_but};
-use crate::rivals::{Rivals, Writer};
+use crate::rivals::{Rivals, writer_at};
 use mark_index::marks::most_below;
 use outcome_counts::Stretch;
 use outcome_history::RowKey;
@@ -45,7 +45,8 @@ impl Rivals {
         if is_one(reply.who, Who::Session(session)) {
             return false;
         }
-        let until = most_below(self.writers.at(&Writer { of, session }), stretch.round_end);
+        let writer = writer_at(of, session);
+        let until = most_below(self.writers.at(&writer), stretch.round_end);
         u128::from(round_of(reply)) < until
     }
 

@@ -15,9 +15,9 @@ ghost use Rattle.outcome_counts.specs.BlockMarks.{starts_in};
 ghost use Rattle.outcome_spec.specs.Runs.{commit_count, committed_writes, transactions_of};
 ghost use Rattle.outcome_history.specs.Kept.{key_cmp, place_in};
 ghost use Rattle.outcome_history.specs.declared.keys.RowKey.{RowKey as Where};
-ghost use Rattle.outcome_conflicts.specs.Writers.{AreNumbers, ArePeaksUpTo, AreWriters, IsWritten, is_line_at, is_written, line_told, value_at};
+ghost use Rattle.outcome_conflicts.specs.Writers.{AreHeights, AreNumbered, AreNumbers, ArePeaksUpTo, IsWritten, is_line_at, is_written, line_told, value_at};
 
-use crate::commits::Writers;
+use crate::commits::{Heights, Numbers};
 use crate::lines::lines_of;
 use mark_index::MarkIndex;
 use mark_index::marks::Peak;
@@ -90,7 +90,7 @@ fn note_peaks(
 /// commit numbers stand.
 #[derive(Drop)]
 pub struct Written<'w, 'a> {
-    pub openings: &'w [Option<usize>],
+    pub openings: &'w [Option<u32>],
     pub changes: &'w Changes<'a>,
     pub places: &'w CommitPlaces,
 }
@@ -223,22 +223,39 @@ impl<'w, 'a> Written<'w, 'a> {
     }
 }
 
-impl Writers {
-    /// What the commits of an output wrote, of whose numbers there are so many.
+impl Numbers {
+    /// Those of the commits of an output, of which there are so many.
     pub fn of<'a>(
         alloc: Global,
         replies: &[KeptReply<'a>],
         written: &Written<'_, 'a>,
         count: usize,
-    ) -> Result<Writers, AllocError>
+    ) -> Result<Numbers, AllocError>
         requires written { IsWritten (entries_of replies.now) written.now }
         requires count { count ≡ commit_count (entries_of replies.now) }
-        ensures { IfOk result (λ writers. AreWriters (entries_of replies.now) writers) }
+        ensures { IfOk result (λ numbers. AreNumbered (entries_of replies.now) numbers) }
     {
-        Ok(Writers {
+        Ok(Numbers {
             numbers: written.numbers(alloc, replies, count)?,
-            peaks: written.peaks(alloc, replies, count)?,
             lines: lines_of(alloc, replies)?,
+        })
+    }
+}
+
+impl Heights {
+    /// Those of the commits of an output, of which there are so many.
+    pub fn of<'a>(
+        alloc: Global,
+        replies: &[KeptReply<'a>],
+        written: &Written<'_, 'a>,
+        count: usize,
+    ) -> Result<Heights, AllocError>
+        requires written { IsWritten (entries_of replies.now) written.now }
+        requires count { count ≡ commit_count (entries_of replies.now) }
+        ensures { IfOk result (λ heights. AreHeights (entries_of replies.now) heights) }
+    {
+        Ok(Heights {
+            peaks: written.peaks(alloc, replies, count)?,
         })
     }
 }

@@ -6,7 +6,7 @@ ghost use Rattle.outcome_history.specs.Kept.{place_in};
 
 use outcome_history::{RowKey, key_of};
 use output_read::{KeptReply, Told};
-use workload_spec::{Command, Said};
+use workload_spec::Command;
 
 /// The place that a command writes.
 pub(crate) fn place_written(command: &Command) -> Option<RowKey>
@@ -30,7 +30,7 @@ pub(crate) fn written_by(reply: &KeptReply<'_>) -> Option<RowKey>
     ensures { option_map place_in result ≡ written_by (entry_of reply.now) }
 {
     match (&reply.told, reply.command) {
-        (Told::Plain(Said::Accepted), Some(command)) => place_written(command),
+        (Told::Accepted, Some(command)) => place_written(command),
         _ => None,
     }
 }

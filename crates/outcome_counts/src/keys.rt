@@ -7,7 +7,7 @@ ghost use Rattle.output_read.specs.Kept.{entry_of};
 ghost use Rattle.outcome_counts.specs.Keys.{block_frozen, freeze_told, freezing_told, full_told, idle_told, inserted_into, stamp_told};
 
 use output_read::{KeptReply, Told};
-use workload_spec::{Command, Said};
+use workload_spec::Command;
 
 /// A block of a table.
 #[derive(Clone, Copy, Debug, PartialEq, Eq, PartialOrd, Ord)]
@@ -28,7 +28,7 @@ pub(crate) fn inserted_into(reply: &KeptReply<'_>) -> Option<u32>
     ensures { result ≡ inserted_into (entry_of reply.now) }
 {
     match (&reply.told, reply.command) {
-        (Told::Plain(Said::Accepted), Some(Command::Insert { table, .. })) => Some(*table),
+        (Told::Accepted, Some(Command::Insert { table, .. })) => Some(*table),
         _ => None,
     }
 }
@@ -38,13 +38,11 @@ pub(crate) fn stamp_told(reply: &KeptReply<'_>) -> Option<Stamp>
     ensures { result ≡ stamp_told (entry_of reply.now).reply.said }
 {
     match &reply.told {
-        Told::Plain(
-            Said::Sealed {
-                table,
-                block,
-                stamp,
-            },
-        ) => Some(Stamp {
+        Told::Sealed {
+            table,
+            block,
+            stamp,
+        } => Some(Stamp {
             of: Block {
                 table: *table,
                 block: *block,
@@ -60,7 +58,7 @@ pub(crate) fn block_frozen(reply: &KeptReply<'_>) -> Option<Block>
     ensures { result ≡ block_frozen (entry_of reply.now).reply.said }
 {
     match &reply.told {
-        Told::Plain(Said::Frozen { table, block, .. }) => Some(Block {
+        Told::Frozen { table, block, .. } => Some(Block {
             table: *table,
             block: *block,
         }),
@@ -87,13 +85,11 @@ pub(crate) fn freezing_told(reply: &KeptReply<'_>) -> Option<Stamp>
     ensures { result ≡ freezing_told (entry_of reply.now).reply.said }
 {
     match &reply.told {
-        Told::Plain(
-            Said::Freezing {
-                table,
-                block,
-                stamp,
-            },
-        ) => Some(Stamp {
+        Told::Freezing {
+            table,
+            block,
+            stamp,
+        } => Some(Stamp {
             of: Block {
                 table: *table,
                 block: *block,
@@ -109,7 +105,7 @@ pub(crate) fn full_told(reply: &KeptReply<'_>) -> Option<u32>
     ensures { let entry = entry_of reply.now in result ≡ full_told entry.command entry.reply.said }
 {
     match (&reply.told, reply.command) {
-        (Told::Plain(Said::Full), Some(Command::Insert { table, .. })) => Some(*table),
+        (Told::Full, Some(Command::Insert { table, .. })) => Some(*table),
         _ => None,
     }
 }
@@ -119,7 +115,7 @@ pub(crate) fn freeze_told(reply: &KeptReply<'_>) -> Option<Frozen>
     ensures { result ≡ freeze_told (entry_of reply.now).reply.said }
 {
     match &reply.told {
-        Told::Plain(Said::Frozen { table, block, rows }) => Some(Frozen {
+        Told::Frozen { table, block, rows } => Some(Frozen {
             of: Block {
                 table: *table,
                 block: *block,
@@ -135,7 +131,7 @@ pub(crate) fn idle_told(reply: &KeptReply<'_>) -> Option<Block>
     ensures { let entry = entry_of reply.now in result ≡ idle_told entry.command entry.reply.said }
 {
     match (&reply.told, reply.command) {
-        (Told::Plain(Said::NotFrozen), Some(Command::Gather { table, block })) => Some(Block {
+        (Told::NotFrozen, Some(Command::Gather { table, block })) => Some(Block {
             table: *table,
             block: *block,
         }),
@@ -148,7 +144,7 @@ pub(crate) fn moved_told(reply: &KeptReply<'_>) -> Option<u64>
     ensures { result ≡ moved_in (entry_of reply.now).reply.said }
 {
     match &reply.told {
-        Told::Plain(Said::Moved(count)) => Some(*count),
+        Told::Moved(count) => Some(*count),
         _ => None,
     }
 }
@@ -158,7 +154,7 @@ pub fn commit_told(reply: &KeptReply<'_>) -> Option<u64>
     ensures { result ≡ commit_in (entry_of reply.now).reply.said }
 {
     match &reply.told {
-        Told::Plain(Said::Committed(number)) => *number,
+        Told::Committed(number) => *number,
         _ => None,
     }
 }
@@ -168,9 +164,9 @@ pub(crate) fn shown_told(reply: &KeptReply<'_>) -> Option<u64>
     ensures { result ≡ number_shown (entry_of reply.now).reply.said }
 {
     match &reply.told {
-        Told::Plain(Said::At(number) | Said::ConflictCommit(number)) => Some(*number),
-        Told::Plain(Said::Committed(number)) => *number,
-        Told::Plain(Said::Exported { number, .. }) => Some(*number),
+        Told::At(number) | Told::ConflictCommit(number) => Some(*number),
+        Told::Committed(number) => *number,
+        Told::Exported(export) => Some(export.number),
         _ => None,
     }
 }
@@ -180,7 +176,7 @@ pub fn snapshot_told(reply: &KeptReply<'_>) -> Option<u64>
     ensures { result ≡ snapshot_in (entry_of reply.now).reply.said }
 {
     match &reply.told {
-        Told::Plain(Said::At(number)) => Some(*number),
+        Told::At(number) => Some(*number),
         _ => None,
     }
 }

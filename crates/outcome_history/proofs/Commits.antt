@@ -2,9 +2,9 @@
 use Rattle.std.proofs.Common.{◌≡◌, ℕ, ◌+◌, ◌<◌, ◌≤◌, nat_le, zero, suc, Bool, true, false, cond, List, [], ◌∷◌, ◌++◌, length, map, take, get_or, Option, None, Some, Result, Ok, Err, OnOk, refl, sym, ap, ◌∙◌, subst, arith, append_assoc}
 use Rattle.std.specs.List.{list_all}
 use Rattle.std.specs.List.Sorted.{IsNonDecreasing, IsNonDecreasingBy}
-use Rattle.std.specs.Option.{option_map_or}
+use Rattle.std.specs.Option.{option_map_or, option_or}
 use Rattle.std.specs.Ordering.{nat_cmp}
-use Rattle.std.specs.Prelude.{◌==◌, option_map, unwrap_or, is_some, if◌then◌else◌}
+use Rattle.std.specs.Prelude.{◌==◌, option_map, unwrap_or, is_some, slice_get, if◌then◌else◌}
 use Rattle.mark_index.specs.Lists.{marks_at, with_mark}
 use Rattle.mark_index.proofs.Noted.{all-weaker, take-next, take-front}
 use Rattle.outcome_counts.specs.Keys.{is_keyed}
@@ -19,6 +19,7 @@ use Rattle.si_machine.proofs.Parts.{map-push}
 use Rattle.outcome_spec.specs.Entries.{Entry, commit_in}
 use Rattle.outcome_spec.specs.Runs.{commits_as}
 use Rattle.outcome_spans.specs.Openings.{opening_of}
+use Rattle.outcome_history.specs.Spots.{row_at}
 use Rattle.outcome_history.specs.Timed.{TimedWrite, after_writes, timed, timed_one, rows_in, up_to}
 use Rattle.outcome_history.specs.Kept.{AreKept, IsNoted, spot_cmp, spot_of, shelf_cmp, shelf_of, count_up_to, place_in, row_up_to, with_one, write_noted}
 use Rattle.outcome_history.specs.Commits.{places_of, first_of, made_of, commit_writes, commits_from, CanLay, IsLaid, AreLater, made_at}
@@ -54,7 +55,7 @@ places-append test place (first ∷ front) entry =
     by true h = ap (λ (ps : List ℕ). place ∷ ps) h ∙ pushed (test entry) (place + suc (length front)) (places_of test (place + 1) front)
     by false h = h
 
-pub places-next : (test : Entry → Bool) (entries front : List Entry) (entry : Entry) (rest : List Entry) (n : ℕ) → entries ≡ front ++ entry ∷ rest → length front ≡ n
+places-next : (test : Entry → Bool) (entries front : List Entry) (entry : Entry) (rest : List Entry) (n : ℕ) → entries ≡ front ++ entry ∷ rest → length front ≡ n
     → (old : List ℕ) (b : Bool) → test entry ≡ b → old ≡ places_of test 0 (take n entries) → with_mark b n old ≡ places_of test 0 (take (n + 1) entries)
 places-next test entries front entry rest n whole far old b is are =
     let start : 0 + length front ≡ n = omega (arith, far) in
@@ -62,6 +63,20 @@ places-next test entries front entry rest n whole far old b is are =
     ∙ sym (ap (places_of test 0) (take-next entries front entry rest n whole far ∙ ap (λ (es : List Entry). es ++ entry ∷ []) (take-front entries front entry rest n whole far))
     ∙ places-append test 0 front entry ∙ ap (λ (k : ℕ). with_mark (test entry) k (places_of test 0 front)) start
     ∙ ap (λ (b : Bool). with_mark b n (places_of test 0 front)) is)
+
+-- the first of some places and a further one
+first-pushed : (b : Bool) (n : ℕ) (places : List ℕ) → option_or (slice_get places 0) (if b then Some n else None) ≡ slice_get (with_mark b n places) 0
+first-pushed true n [] = refl
+first-pushed true n (place ∷ places) = refl
+first-pushed false n [] = refl
+first-pushed false n (place ∷ places) = refl
+
+pub first-next : (test : Entry → Bool) (entries front : List Entry) (entry : Entry) (rest : List Entry) (n : ℕ) → entries ≡ front ++ entry ∷ rest → length front ≡ n
+    → (old : Option ℕ) (b : Bool) → test entry ≡ b → old ≡ first_of test (take n entries) → option_or old (if b then Some n else None) ≡ first_of test (take (n + 1) entries)
+first-next test entries front entry rest n whole far old b is are =
+    ap (λ (o : Option ℕ). option_or o (if b then Some n else None)) are
+    ∙ first-pushed b n (places_of test 0 (take n entries))
+    ∙ ap (λ (ps : List ℕ). slice_get ps 0) (places-next test entries front entry rest n whole far (places_of test 0 (take n entries)) b is refl)
 
 keyed-by : (number : ℕ) (told : Option ℕ) → is_keyed nat_cmp number told ≡ option_map_or (λ shown. shown == number) told false
 keyed-by number None = refl
@@ -85,20 +100,20 @@ lay-rise time writes can spot = can.laid.kept.left_rise spot
 
 -- the row that is found at a place is what the writes left there
 pub row-of : (front : List TimedWrite) (writes : Writes) → IsLaid front writes → (spot : Spot) → spot.owner ≡ 0 → (bound : ℕ)
-    → unwrap_or (row_up_to bound (marks_at spot_cmp writes.left spot)) None ≡ at_place (after_writes [] (up_to bound front)) (place_in spot.of)
+    → unwrap_or (row_up_to bound (marks_at spot_cmp writes.left spot)) None ≡ at_place (after_writes [] (up_to bound front)) (place_in (row_at spot))
 row-of front writes laid spot owner bound =
     ap (λ (n : ℕ). unwrap_or (row_up_to bound (marks_at spot_cmp writes.left (record spot { owner = n }))) None) owner
-    ∙ ap (λ (o : Option (Option (List Cell))). unwrap_or o None) (laid.kept.left 0 (place_in spot.of) bound)
-    ∙ sym (at-after [] (up_to bound (laid.written 0)) (place_in spot.of) tt)
-    ∙ ap (λ (ws : List TimedWrite). at_place (after_writes [] (up_to bound ws)) (place_in spot.of)) laid.own
+    ∙ ap (λ (o : Option (Option (List Cell))). unwrap_or o None) (laid.kept.left 0 (place_in (row_at spot)) bound)
+    ∙ sym (at-after [] (up_to bound (laid.written 0)) (place_in (row_at spot)) tt)
+    ∙ ap (λ (ws : List TimedWrite). at_place (after_writes [] (up_to bound ws)) (place_in (row_at spot))) laid.own
 
 pub laid-one : (front : List TimedWrite) (before now : Writes) (spot : Spot) (left : Left) (had : Bool) → spot.owner ≡ 0 → IsLaid front before → AreLater left.time front
     → had ≡ is_some (unwrap_or (row_up_to left.time (marks_at spot_cmp before.left spot)) None) → IsNoted spot left had before now → IsLaid (front ++ write_noted spot left ∷ []) now
 laid-one front before now spot left had owner laid later has noted =
     let own : laid.written spot.owner ≡ front = ap laid.written owner ∙ laid.own in
     let all : up_to left.time front ≡ front = filter-all (λ w. nat_le w.time left.time) front later in
-    let found : had ≡ is_some (at_place (after_writes [] (laid.written spot.owner)) (place_in spot.of)) =
-    has ∙ ap is_some (row-of front before laid spot owner left.time) ∙ ap (λ (ws : List TimedWrite). is_some (at_place (after_writes [] ws) (place_in spot.of))) (all ∙ sym own) in
+    let found : had ≡ is_some (at_place (after_writes [] (laid.written spot.owner)) (place_in (row_at spot))) =
+    has ∙ ap is_some (row-of front before laid spot owner left.time) ∙ ap (λ (ws : List TimedWrite). is_some (at_place (after_writes [] ws) (place_in (row_at spot)))) (all ∙ sym own) in
     let latest : list_all (λ write. nat_le write.time left.time) (laid.written spot.owner) ≡ true = ap (list_all (λ write. nat_le write.time left.time)) own ∙ later in
     record {
       written = with_one spot.owner (write_noted spot left) laid.written;

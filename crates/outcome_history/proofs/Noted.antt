@@ -3,7 +3,7 @@ use Rattle.std.proofs.Common.{◌≡◌, ℕ, ◌+◌, ◌-◌, ◌<◌, nat_le,
 use Rattle.std.specs.Cmp.{eq_by_cmp_equiv}
 use Rattle.std.specs.List.{filter, last_or, list_all}
 use Rattle.std.specs.List.Sorted.{IsNonDecreasing, IsNonDecreasingBy}
-use Rattle.std.specs.Ordering.{nat_cmp, is_eq, ordering_then}
+use Rattle.std.specs.Ordering.{int_cmp, nat_cmp, is_eq, ordering_then}
 use Rattle.std.specs.declared.cmp.Ordering.{Ordering}
 use Rattle.std.specs.declared.cmp.Ordering.TheVariants.{Less, Equal, Greater}
 use Rattle.std.specs.Prelude.{is_some, option_map, if◌then◌else◌}
@@ -19,6 +19,7 @@ use Rattle.mark_index.specs.Lists.{marks_at, with_mark}
 use Rattle.mark_index.proofs.Noted.{all-weaker, count-push}
 use Rattle.outcome_counts.proofs.Keyed.{nat-same}
 use Rattle.si_machine.specs.Kept.{Rises}
+use Rattle.outcome_history.specs.Spots.{row_at}
 use Rattle.outcome_history.specs.Timed.{TimedWrite, after_writes, left_at, up_to, rows_in, gains, loses}
 use Rattle.outcome_history.specs.Kept.{AreKept, IsNoted, spot_cmp, shelf_cmp, spot_of, shelf_of, place_in, key_cmp, count_up_to, with_time, row_left, row_up_to, with_one, write_noted}
 use Rattle.outcome_history.specs.declared.keys.Spot.{Spot}
@@ -69,8 +70,27 @@ then-same Less b = refl
 then-same Equal b = refl
 then-same Greater b = refl
 
-spot-same : (a b : Spot) → is_eq (spot_cmp a b) ≡ (eqb a.owner b.owner && is_place (place_in a.of) (place_in b.of))
-spot-same a b = then-same (nat_cmp a.owner b.owner) (key_cmp a.of b.of) ∙ ap (λ (t : Bool). t && is_place (place_in a.of) (place_in b.of)) (nat-same a.owner b.owner)
+turned : (a b c : Bool) → (a && (b && c)) ≡ (c && (b && a))
+turned false false false = refl
+turned false false true = refl
+turned false true false = refl
+turned false true true = refl
+turned true false false = refl
+turned true false true = refl
+turned true true false = refl
+turned true true true = refl
+
+then-turned : (a b c : Ordering) → is_eq (ordering_then a (ordering_then b c)) ≡ (is_eq c && is_eq (ordering_then b a))
+then-turned a b c =
+    then-same a (ordering_then b c)
+    ∙ ap (λ (t : Bool). is_eq a && t) (then-same b c)
+    ∙ turned (is_eq a) (is_eq b) (is_eq c)
+    ∙ ap (λ (t : Bool). is_eq c && t) (sym (then-same b a))
+
+spot-same : (a b : Spot) → is_eq (spot_cmp a b) ≡ (eqb a.owner b.owner && is_place (place_in (row_at a)) (place_in (row_at b)))
+spot-same a b =
+    then-turned (int_cmp a.key b.key) (nat_cmp a.table b.table) (nat_cmp a.owner b.owner)
+    ∙ ap (λ (t : Bool). t && is_place (place_in (row_at a)) (place_in (row_at b))) (nat-same a.owner b.owner)
 
 shelf-same : (a b : Shelf) → is_eq (shelf_cmp a b) ≡ (eqb a.owner b.owner && eqb a.table b.table)
 shelf-same a b =
@@ -85,12 +105,12 @@ module _ (bases : ℕ → State) (written : ℕ → List TimedWrite) (before now
     (kept : AreKept bases written before) (noted : IsNoted spot left had before now)
     (latest : list_all (λ write. nat_le write.time left.time) (written spot.owner) ≡ true)
     (rises : Rises (bases spot.owner))
-    (has : had ≡ is_some (at_place (after_writes (bases spot.owner) (written spot.owner)) (place_in spot.of))) where
+    (has : had ≡ is_some (at_place (after_writes (bases spot.owner) (written spot.owner)) (place_in (row_at spot)))) where
   abbrev more : TimedWrite
   more = write_noted spot left
 
   abbrev its : Place
-  its = place_in spot.of
+  its = place_in (row_at spot)
 
   abbrev now_written : ℕ → List TimedWrite
   now_written = with_one spot.owner more written
@@ -159,20 +179,20 @@ module _ (bases : ℕ → State) (written : ℕ → List TimedWrite) (before now
       (parts.0, (λ e. (and_parts (nat_le left.time bound) true parts.1).0))
 
   spot-own : (other : Spot) → is_eq (spot_cmp spot other) ≡ true → eqb spot.owner other.owner ≡ true
-  spot-own other h = (and_parts (eqb spot.owner other.owner) (is_place its (place_in other.of)) (sym (spot-same spot other) ∙ h)).0
+  spot-own other h = (and_parts (eqb spot.owner other.owner) (is_place its (place_in (row_at other))) (sym (spot-same spot other) ∙ h)).0
 
-  shelf-own : (put : Bool) (other : Shelf) → (put && is_eq (shelf_cmp (shelf_of spot.owner spot.of.table) other)) ≡ true → eqb spot.owner other.owner ≡ true
+  shelf-own : (put : Bool) (other : Shelf) → (put && is_eq (shelf_cmp (shelf_of spot.owner spot.table) other)) ≡ true → eqb spot.owner other.owner ≡ true
   shelf-own put other h =
-      let eq = (and_parts put (is_eq (shelf_cmp (shelf_of spot.owner spot.of.table) other)) h).1 in
-      (and_parts (eqb spot.owner other.owner) (eqb spot.of.table other.table) (sym (shelf-same (shelf_of spot.owner spot.of.table) other) ∙ eq)).0
+      let eq = (and_parts put (is_eq (shelf_cmp (shelf_of spot.owner spot.table) other)) h).1 in
+      (and_parts (eqb spot.owner other.owner) (eqb spot.table other.table) (sym (shelf-same (shelf_of spot.owner spot.table) other) ∙ eq)).0
 
   -- how many rows a table has
 
   time-put : (put : Bool) (owner table : ℕ) (b : Bool) (times : List ℕ) → eqb spot.owner owner ≡ b
-      → with_time put (shelf_of spot.owner spot.of.table) (shelf_of owner table) left.time times ≡ with_mark (b && (eqb spot.of.table table && put)) left.time times
+      → with_time put (shelf_of spot.owner spot.table) (shelf_of owner table) left.time times ≡ with_mark (b && (eqb spot.table table && put)) left.time times
   time-put put owner table b times is =
-      ap (λ (t : Bool). with_mark (put && t) left.time times) (shelf-same (shelf_of spot.owner spot.of.table) (shelf_of owner table) ∙ ap (λ (t : Bool). t && eqb spot.of.table table) is)
-      ∙ ap (λ (t : Bool). with_mark t left.time times) (turn put b (eqb spot.of.table table))
+      ap (λ (t : Bool). with_mark (put && t) left.time times) (shelf-same (shelf_of spot.owner spot.table) (shelf_of owner table) ∙ ap (λ (t : Bool). t && eqb spot.table table) is)
+      ∙ ap (λ (t : Bool). with_mark t left.time times) (turn put b (eqb spot.table table))
     where
       turn : (a b c : Bool) → (a && (b && c)) ≡ (b && (c && a))
       turn true true true = refl
@@ -192,8 +212,8 @@ module _ (bases : ℕ → State) (written : ℕ → List TimedWrite) (before now
       same false = refl
 
   rows-next : (table bound : ℕ) (d : Bool) → nat_le left.time bound ≡ d
-      → rows_in table (after_writes (bases spot.owner) (up_to bound (written spot.owner) ++ cond d (more ∷ []) [])) + cond (d && (eqb spot.of.table table && loses had (row_left left))) 1 0
-      ≡ rows_in table (after_writes (bases spot.owner) (up_to bound (written spot.owner))) + cond (d && (eqb spot.of.table table && gains had (row_left left))) 1 0
+      → rows_in table (after_writes (bases spot.owner) (up_to bound (written spot.owner) ++ cond d (more ∷ []) [])) + cond (d && (eqb spot.table table && loses had (row_left left))) 1 0
+      ≡ rows_in table (after_writes (bases spot.owner) (up_to bound (written spot.owner))) + cond (d && (eqb spot.table table && gains had (row_left left))) 1 0
   rows-next table bound false is = ap (λ (ws : List TimedWrite). rows_in table (after_writes (bases spot.owner) ws) + 0) (push-none (up_to bound (written spot.owner)))
   rows-next table bound true is =
       let whole : up_to bound (written spot.owner) ≡ written spot.owner =
@@ -201,10 +221,10 @@ module _ (bases : ℕ → State) (written : ℕ → List TimedWrite) (before now
       let found : had ≡ is_some (at_place (after_writes (bases spot.owner) (up_to bound (written spot.owner))) its) =
       has ∙ ap (λ (ws : List TimedWrite). is_some (at_place (after_writes (bases spot.owner) ws) its)) (sym whole) in
       let step = rows-write table (after_writes (bases spot.owner) (up_to bound (written spot.owner))) its (row_left left) (rises-after (bases spot.owner) (up_to bound (written spot.owner)) rises) in
-      ap (λ (s : State). rows_in table s + cond (eqb spot.of.table table && loses had (row_left left)) 1 0) (after-append (bases spot.owner) (up_to bound (written spot.owner)) (more ∷ []))
-      ∙ ap (λ (b : Bool). rows_in table (with_write (after_writes (bases spot.owner) (up_to bound (written spot.owner))) its (row_left left)) + cond (eqb spot.of.table table && loses b (row_left left)) 1 0) found
+      ap (λ (s : State). rows_in table s + cond (eqb spot.table table && loses had (row_left left)) 1 0) (after-append (bases spot.owner) (up_to bound (written spot.owner)) (more ∷ []))
+      ∙ ap (λ (b : Bool). rows_in table (with_write (after_writes (bases spot.owner) (up_to bound (written spot.owner))) its (row_left left)) + cond (eqb spot.table table && loses b (row_left left)) 1 0) found
       ∙ step
-      ∙ ap (λ (b : Bool). rows_in table (after_writes (bases spot.owner) (up_to bound (written spot.owner))) + cond (eqb spot.of.table table && gains b (row_left left)) 1 0) (sym found)
+      ∙ ap (λ (b : Bool). rows_in table (after_writes (bases spot.owner) (up_to bound (written spot.owner))) + cond (eqb spot.table table && gains b (row_left left)) 1 0) (sym found)
 
   now-rows-by : (owner table bound : ℕ) (b : Bool) → eqb spot.owner owner ≡ b
       → rows_in table (after_writes (bases owner) (up_to bound (now_written owner))) + count_up_to bound (marks_at shelf_cmp now.lost (shelf_of owner table))
@@ -228,8 +248,8 @@ module _ (bases : ℕ → State) (written : ℕ → List TimedWrite) (before now
       own-rows : rows_in table (after_writes (bases spot.owner) (up_to bound (now_written spot.owner))) + count_up_to bound (marks_at shelf_cmp now.lost (shelf_of spot.owner table))
           ≡ rows_in table (bases spot.owner) + count_up_to bound (marks_at shelf_cmp now.gained (shelf_of spot.owner table))
       own-rows =
-          let put_lost : Bool = eqb spot.of.table table && loses had (row_left left) in
-          let put_gained : Bool = eqb spot.of.table table && gains had (row_left left) in
+          let put_lost : Bool = eqb spot.table table && loses had (row_left left) in
+          let put_gained : Bool = eqb spot.table table && gains had (row_left left) in
           let lost = ap (count_up_to bound) (noted.lost (shelf_of spot.owner table) ∙ time-put (loses had (row_left left)) spot.owner table true (marks_at shelf_cmp before.lost (shelf_of spot.owner table)) self)
           ∙ counted bound put_lost (nat_le left.time bound) (marks_at shelf_cmp before.lost (shelf_of spot.owner table)) refl in
           let gained = ap (count_up_to bound) (noted.gained (shelf_of spot.owner table) ∙ time-put (gains had (row_left left)) spot.owner table true (marks_at shelf_cmp before.gained (shelf_of spot.owner table)) self)
@@ -249,10 +269,10 @@ module _ (bases : ℕ → State) (written : ℕ → List TimedWrite) (before now
         (rise-by (λ (l : Left). l.time) (is_eq (spot_cmp spot other)) left (marks_at spot_cmp before.left other)
         (λ same. kept.left_within other left.time (latest-of other.owner (owner-is other.owner (spot-own other same)))) (kept.left_rise other));
     gained_rise = λ other. subst IsNonDecreasing (sym (noted.gained other))
-        (rise-by (λ (n : ℕ). n) (gains had (row_left left) && is_eq (shelf_cmp (shelf_of spot.owner spot.of.table) other)) left.time (marks_at shelf_cmp before.gained other)
+        (rise-by (λ (n : ℕ). n) (gains had (row_left left) && is_eq (shelf_cmp (shelf_of spot.owner spot.table) other)) left.time (marks_at shelf_cmp before.gained other)
         (λ same. kept.gained_within other left.time (latest-of other.owner (owner-is other.owner (shelf-own (gains had (row_left left)) other same)))) (kept.gained_rise other));
     lost_rise = λ other. subst IsNonDecreasing (sym (noted.lost other))
-        (rise-by (λ (n : ℕ). n) (loses had (row_left left) && is_eq (shelf_cmp (shelf_of spot.owner spot.of.table) other)) left.time (marks_at shelf_cmp before.lost other)
+        (rise-by (λ (n : ℕ). n) (loses had (row_left left) && is_eq (shelf_cmp (shelf_of spot.owner spot.table) other)) left.time (marks_at shelf_cmp before.lost other)
         (λ same. kept.lost_within other left.time (latest-of other.owner (owner-is other.owner (shelf-own (loses had (row_left left)) other same)))) (kept.lost_rise other));
     left_within = λ other bound h.
         let rest = within-rest other.owner bound (eqb spot.owner other.owner) refl h in
@@ -261,12 +281,12 @@ module _ (bases : ℕ → State) (written : ℕ → List TimedWrite) (before now
     gained_within = λ other bound h.
         let rest = within-rest other.owner bound (eqb spot.owner other.owner) refl h in
         ap (list_all (λ time. nat_le time bound)) (noted.gained other)
-        ∙ within-by (λ (n : ℕ). nat_le n bound) (gains had (row_left left) && is_eq (shelf_cmp (shelf_of spot.owner spot.of.table) other)) left.time (marks_at shelf_cmp before.gained other)
+        ∙ within-by (λ (n : ℕ). nat_le n bound) (gains had (row_left left) && is_eq (shelf_cmp (shelf_of spot.owner spot.table) other)) left.time (marks_at shelf_cmp before.gained other)
         (kept.gained_within other bound rest.0) (λ same. rest.1 (shelf-own (gains had (row_left left)) other same));
     lost_within = λ other bound h.
         let rest = within-rest other.owner bound (eqb spot.owner other.owner) refl h in
         ap (list_all (λ time. nat_le time bound)) (noted.lost other)
-        ∙ within-by (λ (n : ℕ). nat_le n bound) (loses had (row_left left) && is_eq (shelf_cmp (shelf_of spot.owner spot.of.table) other)) left.time (marks_at shelf_cmp before.lost other)
+        ∙ within-by (λ (n : ℕ). nat_le n bound) (loses had (row_left left) && is_eq (shelf_cmp (shelf_of spot.owner spot.table) other)) left.time (marks_at shelf_cmp before.lost other)
         (kept.lost_within other bound rest.0) (λ same. rest.1 (shelf-own (loses had (row_left left)) other same));
     rows = λ owner table bound. now-rows-by owner table bound (eqb spot.owner owner) refl;
   }

@@ -19,6 +19,7 @@ use Rattle.output_read.specs.Kept.{entries_of, entry_of}
 use Rattle.output_read.specs.declared.kept.KeptReply.{KeptReply}
 use Rattle.outcome_counts.proofs.Starts.{At, at-place}
 use Rattle.outcome_spans.specs.Openings.{AreOpenings, opening_of, openings_in}
+use Rattle.outcome_history.specs.Spots.{spot_at}
 use Rattle.outcome_history.specs.Timed.{TimedWrite, after_writes, left_at, rows_in, timed_one, up_to}
 use Rattle.outcome_history.specs.Kept.{IsNoted, count_up_to, shelf_cmp, shelf_of, spot_cmp, place_in, row_up_to, with_one, write_noted}
 use Rattle.outcome_history.specs.Own.{is_opened, own_one, own_writes, written_by}
@@ -37,9 +38,9 @@ use Rattle.outcome_history.proofs.Spanned.{own-early}
 
 -- the row of a key after so many commits
 pub row-committed : (openings : List (Option ℕ)) (entries : List Entry) → IsOutput openings entries → (writes : Writes) → AreCommits openings entries (commit_count entries) writes → (number : ℕ) (of : RowKey)
-    → unwrap_or (row_up_to number (marks_at spot_cmp writes.left (record { owner = 0; of = of }))) None ≡ at_place (state_at (history_of entries) number) (place_in of)
+    → unwrap_or (row_up_to number (marks_at spot_cmp writes.left (spot_at 0 of))) None ≡ at_place (state_at (history_of entries) number) (place_in of)
 row-committed openings entries output writes commits number of =
-    row-of (commits_from openings entries 1 (commit_count entries)) writes commits (record { owner = 0; of = of }) refl number
+    row-of (commits_from openings entries 1 (commit_count entries)) writes commits (spot_at 0 of) refl number
     ∙ ap (λ (os : List (Option ℕ)). at_place (after_writes [] (up_to number (commits_from os entries 1 (commit_count entries)))) (place_in of)) output.each
     ∙ ap (λ (s : State). at_place s (place_in of)) (sym (state-is entries output.rises output.outside (subst (AreOpenings entries) output.each output.own) number))
 
@@ -49,7 +50,7 @@ base-rises entries owner = rises-fold [] (take (snapshot_at entries owner) (hist
 -- the row of a key that a transaction sees
 pub row-seen : (openings : List (Option ℕ)) (entries : List Entry) (taken : ℕ) (writes : Writes) → AreOwn openings entries taken writes → (owner at : ℕ) (of : RowKey)
     → at_place (seen_up_to openings entries taken owner at) (place_in of)
-    ≡ unwrap_or (row_up_to at (marks_at spot_cmp writes.left (record { owner = owner; of = of }))) (at_place (base_at entries owner) (place_in of))
+    ≡ unwrap_or (row_up_to at (marks_at spot_cmp writes.left (spot_at owner of))) (at_place (base_at entries owner) (place_in of))
 row-seen openings entries taken writes own owner at of =
     at-after (base_at entries owner) (up_to at (own_writes owner 0 (take taken openings) (take taken entries))) (place_in of) (base-rises entries owner)
     ∙ ap (λ (o : Option (Option (List Cell))). unwrap_or o (at_place (base_at entries owner) (place_in of)))
@@ -143,7 +144,7 @@ module _ (openings : List (Option ℕ)) (entries front : List Entry) (entry : En
 
   pub own-noted : (owner : ℕ) → opening ≡ Some owner → (change : Change) → option_map written_by (Some change) ≡ option_map (timed_one (n + 1)) (accepted_write entry) → (before now : Writes) (had : Bool)
       → AreOwn openings entries n before → had ≡ is_some (at_place (seen_up_to openings entries n owner n) (place_in change.of))
-      → IsNoted (record { owner = owner; of = change.of }) change.left had before now → AreOwn openings entries (n + 1) now
+      → IsNoted (spot_at owner change.of) change.left had before now → AreOwn openings entries (n + 1) now
   own-noted owner opened change told before now had own has noted =
       let short : length (take n entries) ≡ n = length-take-le n entries (let l = ap length whole in let m = length-of front entry rest in omega (arith, l, m, far)) in
       let time : change.left.time ≡ n + 1 = time-of (accepted_write entry) told in
@@ -153,8 +154,8 @@ module _ (openings : List (Option ℕ)) (entries front : List Entry) (entry : En
       let latest : list_all (λ write. nat_le write.time change.left.time) (own.written owner) ≡ true =
       ap (list_all (λ write. nat_le write.time change.left.time)) (own.own owner) ∙ own-times change.left.time owner 0 (take n openings) (take n entries) (omega (arith, short, time)) in
       record {
-        written = with_one owner (write_noted (record { owner = owner; of = change.of }) change.left) own.written;
-        kept = kept-next (base_at entries) own.written before now (record { owner = owner; of = change.of }) change.left had own.kept noted latest (base-rises entries owner) found;
+        written = with_one owner (write_noted (spot_at owner change.of) change.left) own.written;
+        kept = kept-next (base_at entries) own.written before now (spot_at owner change.of) change.left had own.kept noted latest (base-rises entries owner) found;
         own = λ other. by other (owner == other) refl;
       }
     where

@@ -4,13 +4,14 @@ use Rattle.std.specs.Option.{option_map_or}
 use Rattle.std.specs.Ordering.{int_eq}
 use Rattle.isolation_spec.specs.declared.place.Place.{Place}
 use Rattle.outcome_spec.specs.Entries.{Entry, before}
-use Rattle.outcome_spec.specs.Runs.{Run, Span, writes_in}
+use Rattle.outcome_spec.specs.Runs.{Run, Span, commit_count, writes_in}
 use Rattle.outcome_spec.specs.Upkeep.{least_key, summary_holds}
 use Rattle.outcome_counts.specs.BlockMarks.{AreBlockMarks}
+use Rattle.outcome_history.specs.Commits.{AreCommits}
 use Rattle.outcome_history.specs.Timed.{TimedWrite, up_to}
 use Rattle.outcome_history.specs.Kept.{place_in}
 use Rattle.outcome_history.specs.Own.{AreChanges, own_writes}
-use Rattle.outcome_history.specs.Seen.{AreSights, snapshot_at}
+use Rattle.outcome_history.specs.Seen.{snapshot_at}
 use Rattle.outcome_history.specs.declared.changes.Change.{Change}
 use Rattle.outcome_history.specs.declared.exports.Bounds.{Bounds}
 use Rattle.outcome_history.specs.declared.exports.Summary.{Summary}
@@ -62,6 +63,6 @@ pub record IsKnown (openings : List (Option ℕ)) (entries : List Entry) (openin
 
 -- What exports are judged by is what is kept of the replies.
 pub record AreExports (openings : List (Option ℕ)) (entries : List Entry) (exports : Exports) : Type 0 where
-  pub sights : AreSights openings entries (length entries) exports.sights.now
+  pub commits : AreCommits openings entries (commit_count entries) exports.committed.now.writes
   pub changes : AreChanges openings entries (length entries) exports.changes.now
   pub marks : AreBlockMarks entries (length entries) exports.marks.now

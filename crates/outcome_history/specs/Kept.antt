@@ -9,18 +9,19 @@ use Rattle.isolation_spec.specs.Contents.{State}
 use Rattle.isolation_spec.specs.declared.place.Place.{Place}
 use Rattle.mark_index.specs.Lists.{marks_at, with_mark}
 use Rattle.outcome_history.specs.Timed.{TimedWrite, after_writes, left_at, up_to, rows_in, gains, loses}
+use Rattle.outcome_history.specs.Spots.{row_at}
 use Rattle.outcome_history.specs.declared.keys.RowKey.{RowKey}
 use Rattle.outcome_history.specs.declared.keys.Spot.{Spot}
 use Rattle.outcome_history.specs.declared.keys.Shelf.{Shelf}
 use Rattle.outcome_history.specs.declared.writes.Left.{Left}
 use Rattle.outcome_history.specs.declared.writes.Writes.{Writes}
 
--- keys of rows go by table and then by key, places by owner and then by key, and tables by owner and then by table
+-- keys of rows go by table and then by key, places by key, by table and then by owner, and tables by owner and then by table
 abbrev pub key_cmp : RowKey → RowKey → Ordering
 key_cmp a b = ordering_then (nat_cmp a.table b.table) (int_cmp a.key b.key)
 
 abbrev pub spot_cmp : Spot → Spot → Ordering
-spot_cmp a b = ordering_then (nat_cmp a.owner b.owner) (key_cmp a.of b.of)
+spot_cmp a b = ordering_then (int_cmp a.key b.key) (ordering_then (nat_cmp a.table b.table) (nat_cmp a.owner b.owner))
 
 abbrev pub shelf_cmp : Shelf → Shelf → Ordering
 shelf_cmp a b = ordering_then (nat_cmp a.owner b.owner) (nat_cmp a.table b.table)
@@ -30,7 +31,7 @@ abbrev pub place_in : RowKey → Place
 place_in of = record { table = of.table; key = of.key }
 
 abbrev pub spot_of : ℕ → Place → Spot
-spot_of owner place = record { owner = owner; of = record { table = place.table; key = place.key } }
+spot_of owner place = record { key = place.key; table = place.table; owner = owner }
 
 abbrev pub shelf_of : ℕ → ℕ → Shelf
 shelf_of owner table = record { owner = owner; table = table }
@@ -58,9 +59,9 @@ row_up_to bound lefts = option_map row_left (last_up_to bound lefts)
 pub record IsNoted (spot : Spot) (left : Left) (had : Bool) (before now : Writes) : Type 0 where
   pub rows : (other : Spot) → marks_at spot_cmp now.left other ≡ with_mark (is_eq (spot_cmp spot other)) left (marks_at spot_cmp before.left other)
   pub gained : (other : Shelf) → marks_at shelf_cmp now.gained other
-      ≡ with_time (gains had (row_left left)) (shelf_of spot.owner spot.of.table) other left.time (marks_at shelf_cmp before.gained other)
+      ≡ with_time (gains had (row_left left)) (shelf_of spot.owner spot.table) other left.time (marks_at shelf_cmp before.gained other)
   pub lost : (other : Shelf) → marks_at shelf_cmp now.lost other
-      ≡ with_time (loses had (row_left left)) (shelf_of spot.owner spot.of.table) other left.time (marks_at shelf_cmp before.lost other)
+      ≡ with_time (loses had (row_left left)) (shelf_of spot.owner spot.table) other left.time (marks_at shelf_cmp before.lost other)
 
 -- What is kept are the writes of each owner, in order, laid over the rows that its first write finds.
 pub record AreKept (bases : ℕ → State) (written : ℕ → List TimedWrite) (writes : Writes) : Type 0 where
@@ -84,4 +85,4 @@ with_one owner write written other = if owner == other then written other ++ wri
 
 -- the write that is noted
 abbrev pub write_noted : Spot → Left → TimedWrite
-write_noted spot left = record { time = left.time; place = place_in spot.of; row = row_left left }
+write_noted spot left = record { time = left.time; place = place_in (row_at spot); row = row_left left }

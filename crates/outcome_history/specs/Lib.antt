@@ -1,3 +1,4 @@
+pub mod Spots
 pub mod Timed
 pub mod Kept
 pub mod Own

@@ -15,7 +15,7 @@ use cell_model::{Cell, Row};
 use mark_index::MarkIndex;
 use output_read::{KeptReply, Told};
 use std::alloc::{AllocError, Global};
-use workload_spec::{Command, Said};
+use workload_spec::Command;
 
 /// A change of a place, when it was made, and the row that it leaves, if any.
 #[derive(Clone, Copy, Drop)]
@@ -71,18 +71,18 @@ pub(crate) fn change_told<'a>(reply: &KeptReply<'a>, time: u64) -> Option<Change
     ensures { option_map written_by result ≡ option_map (timed_one time) (accepted_write (entry_of reply.now)) }
 {
     match (&reply.told, reply.command) {
-        (Told::Plain(Said::Accepted), Some(command)) => change_of(command, time),
+        (Told::Accepted, Some(command)) => change_of(command, time),
         _ => None,
     }
 }
 
 /// Where the transaction of the reply at a place is opened, if it is in one.
-pub fn opening_at(openings: &[Option<usize>], place: usize) -> Option<usize>
+pub fn opening_at(openings: &[Option<u32>], place: usize) -> Option<usize>
     ensures { result ≡ opening_of openings.now place }
 {
     match openings.get(place) {
-        Some(opening) => *opening,
-        None => None,
+        Some(Some(opening)) => Some(*opening as usize),
+        _ => None,
     }
 }
 
@@ -114,7 +114,7 @@ impl<'a> Changes<'a> {
     pub fn of(
         alloc: Global,
         replies: &[KeptReply<'a>],
-        openings: &[Option<usize>],
+        openings: &[Option<u32>],
     ) -> Result<Changes<'a>, AllocError>
         requires { length openings.now ≡ length replies.now }
         ensures { IfOk result (λ changes. AreChanges openings.now (entries_of replies.now) (length replies.now) changes) }

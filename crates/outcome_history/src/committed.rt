@@ -1,59 +1,64 @@
 //! What the commits wrote, by their numbers.
-ghost use Rattle.std.specs.Prelude.{◌≡◌, ◌++◌, ◌∷◌, [], ℕ, List, IfOk, OnOk, length, map, slice_get};
+ghost use Rattle.std.specs.Prelude.{◌≡◌, ◌++◌, ◌∷◌, [], ℕ, List, IfOk, None, OnOk, Some, length, map, if◌then◌else◌};
+ghost use Rattle.std.specs.BTreeMap.{get};
+ghost use Rattle.std.specs.Option.{option_or};
 ghost use Rattle.std.specs.Ordering.{nat_cmp};
-ghost use Rattle.mark_index.specs.Lists.{marks_at, with_mark};
 ghost use Rattle.output_read.specs.Kept.{entries_of};
 ghost use Rattle.outcome_counts.specs.Keys.{is_keyed};
 ghost use Rattle.outcome_spec.specs.Runs.{commits_as};
-ghost use Rattle.outcome_history.specs.Commits.{AreCommits, AreLater, CanLay, IsLaid, commit_writes, made_at, places_of};
+ghost use Rattle.outcome_history.specs.Commits.{AreCommits, AreLater, CanLay, IsLaid, commit_writes, first_of, made_at};
 ghost use Rattle.outcome_history.specs.Own.{AreChanges, changes_of, written_by};
 ghost use Rattle.outcome_history.specs.Timed.{TimedWrite as Timed, timed, up_to};
 
 use crate::changes::{Change, Changes, opening_at};
-use crate::keys::Spot;
+use crate::keys::spot_at;
 use crate::writes::{Left, Writes};
-use mark_index::MarkIndex;
 use outcome_counts::commit_told;
 use output_read::KeptReply;
 use std::alloc::{AllocError, Global};
+use std::collections::BTreeMap;
 
-/// For each commit number the places of the replies that show it.
+/// For each commit number the place of the first reply that shows it.
 #[derive(Drop)]
 pub struct CommitPlaces {
-    pub(crate) places: MarkIndex<u64, usize>,
+    pub(crate) places: BTreeMap<u64, usize>,
 }
 
 impl CommitPlaces {
-    /// Puts a place behind those of a number, if there is one.
-    fn note(&mut self, alloc: Global, number: Option<u64>, place: usize) -> Result<(), AllocError>
-        ensures { OnOk result ((other : ℕ) → marks_at nat_cmp self.new.places other
-            ≡ with_mark (is_keyed nat_cmp other number) place (marks_at nat_cmp self.old.places other)) }
+    /// Notes where a number is shown, if there is one and it isn't noted yet.
+    fn note(&mut self, number: Option<u64>, place: usize) -> Result<(), AllocError>
+        ensures { OnOk result ((other : ℕ) → get nat_cmp self.new.places other
+            ≡ option_or (get nat_cmp self.old.places other) (if is_keyed nat_cmp other number then Some place else None)) }
     {
-        if let Some(number) = number {
-            self.places.push(alloc, number, place)?;
+        let Some(number) = number else {
+            return Ok(());
+        };
+        if self.places.contains_key(&number) {
+            return Ok(());
         }
+        self.places.insert(number, place)?;
         Ok(())
     }
 
-    /// The places of all commit numbers.
+    /// The first places of all commit numbers.
     pub fn of(alloc: Global, replies: &[KeptReply<'_>]) -> Result<CommitPlaces, AllocError>
-        ensures { IfOk result (λ commits. (number : ℕ) → marks_at nat_cmp commits.places number
-            ≡ places_of (commits_as number) 0 (entries_of replies.now)) }
+        ensures { IfOk result (λ commits. (number : ℕ) → get nat_cmp commits.places number
+            ≡ first_of (commits_as number) (entries_of replies.now)) }
     {
         let mut commits = CommitPlaces {
-            places: MarkIndex::new(alloc),
+            places: BTreeMap::new(alloc),
         };
         for (place, reply) in replies.iter().enumerate() {
-            commits.note(alloc, commit_told(reply), place)?;
+            commits.note(commit_told(reply), place)?;
         }
         Ok(commits)
     }
 
     /// The first place that shows a number.
     pub fn first(&self, number: u64) -> Option<usize>
-        ensures { result ≡ slice_get (marks_at nat_cmp self.now.places number) 0 }
+        ensures { result ≡ get nat_cmp self.now.places number }
     {
-        self.places.at(&number).first().copied()
+        self.places.get(&number).copied()
     }
 }
 
@@ -68,10 +73,7 @@ fn lay_one<'a>(
     ensures { (front : List Timed) → IsLaid front writes.old → AreLater number front
         → OnOk result (IsLaid (front ++ made_at number (written_by change.now) ∷ []) writes.new) }
 {
-    let spot = Spot {
-        owner: 0,
-        of: change.of,
-    };
+    let spot = spot_at(0, change.of);
     let left = Left {
         time: number,
         row: change.left.row,
@@ -113,13 +115,13 @@ impl<'a> Committed<'a> {
         &mut self,
         alloc: Global,
         replies: &[KeptReply<'a>],
-        openings: &[Option<usize>],
+        openings: &[Option<u32>],
         changes: &Changes<'a>,
         places: &CommitPlaces,
         number: u64,
     ) -> Result<(), AllocError>
         requires changed { AreChanges openings.now (entries_of replies.now) (length replies.now) changes.now }
-        requires placed { marks_at nat_cmp places.now.places number ≡ places_of (commits_as number) 0 (entries_of replies.now) }
+        requires placed { get nat_cmp places.now.places number ≡ first_of (commits_as number) (entries_of replies.now) }
         requires can { CanLay number self.old.writes }
         requires long { length openings.now ≡ length replies.now }
         ensures { (front : List Timed) → IsLaid front self.old.writes → AreLater number front
@@ -145,13 +147,13 @@ impl<'a> Committed<'a> {
     pub fn of(
         alloc: Global,
         replies: &[KeptReply<'a>],
-        openings: &[Option<usize>],
+        openings: &[Option<u32>],
         changes: &Changes<'a>,
         places: &CommitPlaces,
         count: usize,
     ) -> Result<Committed<'a>, AllocError>
         requires changed { AreChanges openings.now (entries_of replies.now) (length replies.now) changes.now }
-        requires placed { (number : ℕ) → marks_at nat_cmp places.now.places number ≡ places_of (commits_as number) 0 (entries_of replies.now) }
+        requires placed { (number : ℕ) → get nat_cmp places.now.places number ≡ first_of (commits_as number) (entries_of replies.now) }
         requires long { length openings.now ≡ length replies.now }
         ensures { IfOk result (λ committed. AreCommits openings.now (entries_of replies.now) count committed.writes) }
     {

@@ -13,12 +13,13 @@ ghost use Rattle.outcome_history.specs.Seen.{IsOutput, snapshot_at};
 ghost use Rattle.outcome_history.specs.Timed.{up_to};
 
 use crate::changes::{Change, Changes, opening_at};
+use crate::committed::Committed;
 use crate::keys::RowKey;
-use crate::sights::{Sights, snapshot_at};
+use crate::sights::snapshot_at;
 use cell_model::TableDecl;
 use outcome_counts::{BlockMarks, Stretch, blocks_at, slots_at};
 use output_read::{KeptReply, Told};
-use workload_spec::{Command, Said};
+use workload_spec::Command;
 
 /// What an export tells: the snapshot, the rows, the batches, and how many of these are images of
 /// frozen blocks.
@@ -44,26 +45,16 @@ fn export_told(reply: &KeptReply<'_>) -> Export
         option_map_or (λ table. export_reply_holds run t entry table entry.reply.said) (exported_table entry.command) true ≡ export_by run t entry result }
 {
     match (&reply.told, reply.command) {
-        (
-            Told::Plain(
-                Said::Exported {
-                    number,
-                    rows,
-                    batches,
-                    frozen,
-                },
-            ),
-            Some(Command::Export { table }),
-        ) => Export::Done(
+        (Told::Exported(told), Some(Command::Export { table })) => Export::Done(
             *table,
             Summary {
-                number: *number,
-                rows: *rows,
-                batches: *batches,
-                frozen: *frozen,
+                number: told.number,
+                rows: told.rows,
+                batches: told.batches,
+                frozen: told.frozen,
             },
         ),
-        (Told::Plain(Said::Dirty(key)), Some(Command::Export { table })) => Export::Dirty(RowKey {
+        (Told::Dirty(key), Some(Command::Export { table })) => Export::Dirty(RowKey {
             table: *table,
             key: i128::from(*key),
         }),
@@ -139,10 +130,10 @@ impl Summary {
     }
 }
 
-/// By what exports are judged: what transactions see and wrote, and what is said of blocks.
+/// By what exports are judged: what commits and transactions wrote, and what is said of blocks.
 #[derive(Drop)]
 pub struct Exports<'e, 'a> {
-    pub sights: &'e Sights<'a>,
+    pub committed: &'e Committed<'a>,
     pub changes: &'e Changes<'a>,
     pub marks: &'e BlockMarks,
     pub tables: &'e [TableDecl],
@@ -153,7 +144,7 @@ impl<'e, 'a> Exports<'e, 'a> {
     fn is_summary(
         &self,
         replies: &[KeptReply<'a>],
-        openings: &[Option<usize>],
+        openings: &[Option<u32>],
         opening: usize,
         at: usize,
         stretch: &Stretch,
@@ -166,7 +157,7 @@ impl<'e, 'a> Exports<'e, 'a> {
         ensures { (none : Kept) (t : Span) → snapshot_at (entries_of replies.now) opening ≡ t.snapshot → let told = summary.now in result
             ≡ summary_holds (run_of self.now.tables.now (entries_of replies.now)) t (asked_at replies.now at none) table told.number told.rows told.batches told.frozen }
     {
-        let committed = &self.sights.committed;
+        let committed = self.committed;
         summary.is_within(&Bounds {
             number: snapshot_at(replies, opening),
             rows: committed.rows_at(replies, openings, table, summary.number),
@@ -182,7 +173,7 @@ impl<'e, 'a> Exports<'e, 'a> {
     fn least_key(
         &self,
         replies: &[KeptReply<'a>],
-        openings: &[Option<usize>],
+        openings: &[Option<u32>],
         opening: usize,
         at: usize,
         table: u32,
@@ -200,7 +191,7 @@ impl<'e, 'a> Exports<'e, 'a> {
     fn export_holds(
         &self,
         replies: &[KeptReply<'a>],
-        openings: &[Option<usize>],
+        openings: &[Option<u32>],
         opening: usize,
         at: usize,
         stretch: &Stretch,
@@ -233,7 +224,7 @@ impl<'e, 'a> Exports<'e, 'a> {
     pub fn exports_hold(
         &self,
         replies: &[KeptReply<'a>],
-        openings: &[Option<usize>],
+        openings: &[Option<u32>],
         at: usize,
         stretch: &Stretch,
     ) -> bool

@@ -21,7 +21,7 @@ use cell_model::{Row, Rows};
 use output_read::{KeptReply, Told};
 use reply_text::{row_in, rows_in};
 use std::alloc::{AllocError, Global};
-use workload_spec::{Command, Said};
+use workload_spec::Command;
 
 /// What a write needs at its place: a row, or none.
 #[derive(Clone, Copy, Debug, Drop)]
@@ -67,8 +67,8 @@ fn acceptance_told(reply: &KeptReply<'_>) -> Option<bool>
         ≡ option_map_or (λ wanted. as_wanted wanted acceptable) result true }
 {
     match &reply.told {
-        Told::Plain(Said::Accepted | Said::Freezing { .. } | Said::Full) => Some(true),
-        Told::Plain(Said::Exists | Said::Missing) => Some(false),
+        Told::Accepted | Told::Freezing { .. } | Told::Full => Some(true),
+        Told::Exists | Told::Missing => Some(false),
         _ => None,
     }
 }
@@ -95,7 +95,7 @@ fn read_told<'a>(reply: &KeptReply<'a>) -> Read<'a>
             },
             *words,
         ),
-        (Told::Plain(Said::Absent), Some(Command::Get { table, key })) => Read::NoRow(RowKey {
+        (Told::Absent, Some(Command::Get { table, key })) => Read::NoRow(RowKey {
             table: *table,
             key: i128::from(*key),
         }),
@@ -119,7 +119,7 @@ impl<'a> Sights<'a> {
     fn is_acceptable(
         &self,
         replies: &[KeptReply<'a>],
-        openings: &[Option<usize>],
+        openings: &[Option<u32>],
         opening: usize,
         at: usize,
     ) -> bool
@@ -149,7 +149,7 @@ impl<'a> Sights<'a> {
     fn write_holds(
         &self,
         replies: &[KeptReply<'a>],
-        openings: &[Option<usize>],
+        openings: &[Option<u32>],
         opening: usize,
         at: usize,
     ) -> bool
@@ -172,7 +172,7 @@ impl<'a> Sights<'a> {
     pub fn writes_hold(
         &self,
         replies: &[KeptReply<'a>],
-        openings: &[Option<usize>],
+        openings: &[Option<u32>],
         at: usize,
     ) -> bool
         requires output { IsOutput openings.now (entries_of replies.now) }
@@ -190,7 +190,7 @@ impl<'a> Sights<'a> {
     fn has_row(
         &self,
         replies: &[KeptReply<'a>],
-        openings: &[Option<usize>],
+        openings: &[Option<u32>],
         opening: usize,
         at: usize,
         of: RowKey,
@@ -211,7 +211,7 @@ impl<'a> Sights<'a> {
     fn are_found(
         &self,
         replies: &[KeptReply<'a>],
-        openings: &[Option<usize>],
+        openings: &[Option<u32>],
         opening: usize,
         at: usize,
         table: u32,
@@ -241,7 +241,7 @@ impl<'a> Sights<'a> {
     fn are_rows(
         &self,
         replies: &[KeptReply<'a>],
-        openings: &[Option<usize>],
+        openings: &[Option<u32>],
         opening: usize,
         at: usize,
         table: u32,
@@ -262,7 +262,7 @@ impl<'a> Sights<'a> {
         &self,
         alloc: Global,
         replies: &[KeptReply<'a>],
-        openings: &[Option<usize>],
+        openings: &[Option<u32>],
         opening: usize,
         at: usize,
     ) -> Result<bool, AllocError>
@@ -292,7 +292,7 @@ impl<'a> Sights<'a> {
         &self,
         alloc: Global,
         replies: &[KeptReply<'a>],
-        openings: &[Option<usize>],
+        openings: &[Option<u32>],
         at: usize,
     ) -> Result<bool, AllocError>
         requires output { IsOutput openings.now (entries_of replies.now) }

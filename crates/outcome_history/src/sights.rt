@@ -11,7 +11,7 @@ ghost use Rattle.outcome_history.specs.Seen.{AreOwn, AreSights, IsOutput, AreSom
 
 use crate::changes::{change_told, opening_at};
 use crate::committed::Committed;
-use crate::keys::{RowKey, Shelf, Spot};
+use crate::keys::{RowKey, Shelf, spot_at};
 use crate::writes::Writes;
 use cell_model::Row;
 use outcome_counts::snapshot_told;
@@ -40,7 +40,7 @@ impl<'a> Committed<'a> {
     fn row_at(
         &self,
         replies: &[KeptReply<'a>],
-        openings: &[Option<usize>],
+        openings: &[Option<u32>],
         of: RowKey,
         number: u64,
     ) -> Option<&'a Row>
@@ -50,7 +50,8 @@ impl<'a> Committed<'a> {
     {
         let _ = replies;
         let _ = openings;
-        self.writes.row_at(&Spot { owner: 0, of }, number)
+        let spot = spot_at(0, of);
+        self.writes.row_at(&spot, number)
     }
 }
 
@@ -59,7 +60,7 @@ impl<'a> Committed<'a> {
     pub(crate) fn rows_at(
         &self,
         replies: &[KeptReply<'a>],
-        openings: &[Option<usize>],
+        openings: &[Option<u32>],
         table: u32,
         number: u64,
     ) -> usize
@@ -80,7 +81,7 @@ impl<'a> Sights<'a> {
     pub(crate) fn seen(
         &self,
         replies: &[KeptReply<'a>],
-        openings: &[Option<usize>],
+        openings: &[Option<u32>],
         opening: usize,
         at: usize,
         of: RowKey,
@@ -90,7 +91,7 @@ impl<'a> Sights<'a> {
         ensures { (taken : ℕ) → AreOwn openings.now (entries_of replies.now) taken self.now.own
             → option_map (λ its. its.now) result ≡ at_place (seen_up_to openings.now (entries_of replies.now) taken opening at) (place_in of) }
     {
-        let spot = Spot { owner: opening, of };
+        let spot = spot_at(opening, of);
         match self.own.left_at(&spot, at as u64) {
             Some(row) => row,
             None => self
@@ -103,7 +104,7 @@ impl<'a> Sights<'a> {
     pub(crate) fn rows_seen(
         &self,
         replies: &[KeptReply<'a>],
-        openings: &[Option<usize>],
+        openings: &[Option<u32>],
         opening: usize,
         at: usize,
         table: u32,
@@ -128,7 +129,7 @@ impl<'a> Sights<'a> {
         &mut self,
         alloc: Global,
         replies: &[KeptReply<'a>],
-        openings: &[Option<usize>],
+        openings: &[Option<u32>],
         place: usize,
         opening: usize,
     ) -> Result<(), AllocError>
@@ -144,10 +145,7 @@ impl<'a> Sights<'a> {
             None => Ok(()),
             Some(change) => {
                 let row = self.seen(replies, openings, opening, place, change.of);
-                let spot = Spot {
-                    owner: opening,
-                    of: change.of,
-                };
+                let spot = spot_at(opening, change.of);
                 let had = row.is_some();
                 self.own.note(alloc, spot, &change.left, had)
             }
@@ -159,7 +157,7 @@ impl<'a> Sights<'a> {
         &mut self,
         alloc: Global,
         replies: &[KeptReply<'a>],
-        openings: &[Option<usize>],
+        openings: &[Option<u32>],
         place: usize,
     ) -> Result<(), AllocError>
         requires output { IsOutput openings.now (entries_of replies.now) }
@@ -178,7 +176,7 @@ impl<'a> Sights<'a> {
     pub fn of(
         alloc: Global,
         replies: &[KeptReply<'a>],
-        openings: &[Option<usize>],
+        openings: &[Option<u32>],
         committed: Committed<'a>,
     ) -> Result<Sights<'a>, AllocError>
         requires output { IsOutput openings.now (entries_of replies.now) }

@@ -88,7 +88,7 @@ impl<'a> Writes<'a> {
     {
         let shelf = Shelf {
             owner: spot.owner,
-            table: spot.of.table,
+            table: spot.table,
         };
         let gains = !had && left.row.is_some();
         let loses = had && left.row.is_none();

@@ -7,7 +7,7 @@ use Rattle.outcome_spec.specs.Explained.{is_sound}
 use Rattle.outcome_spec.specs.Numbers.{commit_numbers_hold, snapshot_numbers_hold}
 use Rattle.outcome_spec.specs.Runs.{Run}
 use Rattle.outcome_spec.specs.Upkeep.{exports_hold, freezing_holds, full_holds, upkeep_holds}
-use Rattle.outcome_judge.specs.Judged.{conflicts_and_views_hold, counts_hold}
+use Rattle.outcome_judge.specs.Judged.{accesses_hold, conflicts_and_views_hold, counts_hold, views_hold}
 
 pub never : false ≡ true → ⊥
 never h = let n : ⊥ = cc in n
@@ -43,21 +43,32 @@ last-is true true false d e v j k f g h = absurd (never (sym f))
 last-is true false c d e v j k f g h = absurd (never (sym k))
 last-is false b c d e v j k f g h = absurd (never (sym j))
 
--- ---- the conditions by views, one after the other
+-- ---- the conditions by views, in two parts
 
-pub fails-first : (a b c : Bool) → false ≡ a → false ≡ (a && b && c)
-fails-first false b c h = refl
-fails-first true b c h = absurd (never h)
+exports-first : (r w x : Bool) → (x && (r && w)) ≡ (r && w && x)
+exports-first false w false = refl
+exports-first false w true = refl
+exports-first true false false = refl
+exports-first true false true = refl
+exports-first true true false = refl
+exports-first true true true = refl
 
-pub fails-second : (a b c : Bool) → true ≡ a → false ≡ b → false ≡ (a && b && c)
-fails-second true false c g h = refl
-fails-second true true c g h = absurd (never h)
-fails-second false b c g h = absurd (never (sym g))
+pub views-in-parts : (run : Run) (entry : Entry) → (exports_hold run entry && accesses_hold run entry) ≡ views_hold run entry
+views-in-parts run entry = exports-first (reads_hold run entry) (writes_hold run entry) (exports_hold run entry)
 
-pub is-last : (a b c v : Bool) → true ≡ a → true ≡ b → v ≡ c → v ≡ (a && b && c)
-is-last true true c v f g h = h
-is-last true false c v f g h = absurd (never (sym g))
-is-last false b c v f g h = absurd (never (sym f))
+pub fails-first : (a b : Bool) → false ≡ a → false ≡ (a && b)
+fails-first false b h = refl
+fails-first true b h = absurd (never h)
+
+pub is-last : (a b v : Bool) → true ≡ a → v ≡ b → v ≡ (a && b)
+is-last true b v g h = h
+is-last false b v g h = absurd (never (sym g))
+
+-- ---- three in turn
+
+pub in-turn : (a b c : Bool) → (a && (b && c)) ≡ ((a && b) && c)
+in-turn false b c = refl
+in-turn true b c = refl
 
 -- ---- all of them, in the order of the three parts and in that of the definition
 

@@ -8,6 +8,7 @@ use Rattle.outcome_spec.specs.Entries.{Entry}
 use Rattle.outcome_spec.specs.Numbers.{commit_numbers_hold, snapshot_numbers_hold}
 use Rattle.outcome_spec.specs.Runs.{Run}
 use Rattle.outcome_spec.specs.Upkeep.{exports_hold, freezing_holds, full_holds, upkeep_holds}
+use Rattle.outcome_conflicts.specs.Conflicts.{heights_hold, numbers_hold}
 use Rattle.outcome_counts.specs.Asked.{asked_at}
 use Rattle.output_read.specs.Kept.{entries_of}
 use Rattle.output_read.specs.declared.kept.KeptReply.{KeptReply}
@@ -21,7 +22,15 @@ counts_hold run entry =
 abbrev pub views_hold : Run → Entry → Bool
 views_hold run entry = reads_hold run entry && writes_hold run entry && exports_hold run entry
 
--- these, and that which asks who else writes
+-- of that which asks who else writes the parts that ask of commits
+abbrev pub commits_hold : Run → Entry → Bool
+commits_hold run entry = heights_hold run entry && numbers_hold run entry
+
+-- those of the former for reads and writes
+abbrev pub accesses_hold : Run → Entry → Bool
+accesses_hold run entry = reads_hold run entry && writes_hold run entry
+
+-- all of them, and that which asks who else writes
 abbrev pub conflicts_and_views_hold : Run → Entry → Bool
 conflicts_and_views_hold run entry = conflicts_hold run entry && views_hold run entry
 

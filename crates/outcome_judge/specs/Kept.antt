@@ -6,11 +6,8 @@ use Rattle.outcome_counts.specs.LaterCommits.{AreLater}
 use Rattle.outcome_counts.specs.NumberMarks.{AreNumberMarks}
 use Rattle.outcome_spans.specs.Prunes.{ArePrunes}
 use Rattle.outcome_spans.specs.Written.{AreSpans}
-use Rattle.outcome_history.specs.Own.{AreChanges}
-use Rattle.outcome_history.specs.Seen.{AreSights, IsOutput}
 use Rattle.outcome_judge.specs.declared.counts.Counts.{Counts}
 use Rattle.outcome_judge.specs.declared.shared.Shared.{Shared}
-use Rattle.outcome_judge.specs.declared.views.Views.{Views}
 
 -- What every judgement asks is of the first so many replies.
 pub record AreShared (entries : List Entry) (taken : ℕ) (shared : Shared) : Type 0 where
@@ -23,9 +20,3 @@ pub record AreCounts (entries : List Entry) (taken : ℕ) (counts : Counts) : Ty
   pub numbers : AreNumberMarks entries taken counts.numbers
   pub later : AreLater entries taken counts.later.peaks.items
   pub prunes : ArePrunes entries taken counts.prunes
-
--- What is seen is that of the first so many replies.
-pub record AreViews (entries : List Entry) (taken : ℕ) (views : Views) : Type 0 where
-  pub output : IsOutput views.openings.now entries
-  pub changes : AreChanges views.openings.now entries taken views.changes.now
-  pub sights : AreSights views.openings.now entries taken views.sights

@@ -1,35 +1,119 @@
 //! Which reply is the first that is not sound.
-ghost use Rattle.std.specs.Prelude.{◌≡◌, ◌≤◌, IfOk, length, true};
+ghost use Rattle.std.specs.Prelude.{◌≡◌, ◌≤◌, IfOk, List, length, true};
+ghost use Rattle.cell_model.specs.declared.table.TableDecl.{TableDecl as TableValue};
 ghost use Rattle.outcome_check.specs.Opened.{OpensOutside};
 ghost use Rattle.outcome_check.specs.Places.{Rises};
+ghost use Rattle.outcome_conflicts.specs.Conflicts.{sessions_hold};
+ghost use Rattle.outcome_conflicts.specs.Writers.{IsWritten};
+ghost use Rattle.outcome_history.specs.Commits.{AreCommits};
+ghost use Rattle.outcome_history.specs.Own.{AreChanges};
+ghost use Rattle.outcome_spans.specs.Openings.{openings_in};
 ghost use Rattle.outcome_spec.specs.Explained.{is_sound, unsound_line};
 ghost use Rattle.outcome_spec.specs.Runs.{commit_count, run_of};
 ghost use Rattle.output_read.specs.Kept.{are_told, entries_of};
-ghost use Rattle.outcome_judge.specs.Judged.{EndsAt, conflicts_and_views_hold};
+ghost use Rattle.outcome_judge.specs.Judged.{EndsAt, commits_hold, conflicts_and_views_hold, views_hold};
 ghost use Rattle.outcome_judge.specs.Kept.{AreShared};
 
-use crate::clashes::{conflicts_end, conflicts_of};
+use crate::clashes::{heights_end, numbers_end, sessions_end};
 use crate::counts::Counts;
 use crate::shared::Shared;
-use crate::views::Views;
+use crate::views::{accesses_end, exports_end};
 use cell_model::TableDecl;
-use outcome_conflicts::Written;
+use outcome_conflicts::{Heights, Numbers, Rivals, Written};
 use outcome_counts::NumberMarks;
-use outcome_history::{Changes, CommitPlaces, Committed, Sights};
+use outcome_history::{Changes, CommitPlaces, Committed, Exports, Sights};
 use output_read::KeptReply;
 use std::alloc::{AllocError, Global};
 
-/// Where the first reply stands, in front of a place, that conflicts or what its transaction sees do
-/// not allow, or else that place. What conflicts are judged by is let go before the other is made.
-fn written_end<'a>(
+/// Where the first reply stands, in front of a place, that sessions do not allow, or else that place.
+fn free_end(
     alloc: Global,
     shared: &Shared,
+    replies: &[KeptReply<'_>],
+    until: usize,
+) -> Result<usize, AllocError>
+    requires shared { AreShared (entries_of replies.now) (length replies.now) shared.now }
+    requires rises { Rises (entries_of replies.now) }
+    requires outside { OpensOutside (entries_of replies.now) }
+    requires within { until ≤ length replies.now }
+    ensures { (tables : List TableValue) → IfOk result (EndsAt (sessions_hold (run_of tables (entries_of replies.now))) replies.now until) }
+{
+    let rivals = Rivals::of(alloc, replies)?;
+    Ok(sessions_end(&rivals, &shared.spans, replies, until))
+}
+
+/// Where the first reply stands, in front of a place, that commits do not allow, or else that place.
+fn clear_end<'a>(
+    alloc: Global,
+    shared: &Shared,
+    replies: &[KeptReply<'a>],
+    written: &Written<'_, 'a>,
+    count: usize,
+    until: usize,
+) -> Result<usize, AllocError>
+    requires shared { AreShared (entries_of replies.now) (length replies.now) shared.now }
+    requires written { IsWritten (entries_of replies.now) written.now }
+    requires count { count ≡ commit_count (entries_of replies.now) }
+    requires rises { Rises (entries_of replies.now) }
+    requires outside { OpensOutside (entries_of replies.now) }
+    requires within { until ≤ length replies.now }
+    ensures { (tables : List TableValue) → IfOk result (EndsAt (commits_hold (run_of tables (entries_of replies.now))) replies.now until) }
+{
+    let heights = Heights::of(alloc, replies, written, count)?;
+    let low = heights_end(&heights, &shared.spans, replies, until);
+    drop(heights);
+    let numbers = Numbers::of(alloc, replies, written, count)?;
+    Ok(numbers_end(&numbers, &shared.spans, replies, low))
+}
+
+/// Where the first reply stands, in front of a place, that what its transaction sees does not allow,
+/// or else that place. What reads and writes are judged by is made once exports are.
+fn seen_end<'a>(
+    alloc: Global,
+    shared: Shared,
+    tables: &[TableDecl],
+    replies: &[KeptReply<'a>],
+    changes: Changes<'a>,
+    committed: Committed<'a>,
+    until: usize,
+) -> Result<usize, AllocError>
+    requires shared { AreShared (entries_of replies.now) (length replies.now) shared }
+    requires changes { AreChanges (openings_in (entries_of replies.now)) (entries_of replies.now) (length replies.now) changes }
+    requires committed { AreCommits (openings_in (entries_of replies.now)) (entries_of replies.now) (commit_count (entries_of replies.now)) committed.writes }
+    requires rises { Rises (entries_of replies.now) }
+    requires outside { OpensOutside (entries_of replies.now) }
+    requires told { are_told replies.now ≡ true }
+    requires within { until ≤ length replies.now }
+    ensures { IfOk result (EndsAt (views_hold (run_of tables.now (entries_of replies.now))) replies.now until) }
+{
+    let Shared { blocks, spans } = shared;
+    let openings = spans.into_openings(replies);
+    let openings = openings.as_slice();
+    let exports = Exports {
+        committed: &committed,
+        changes: &changes,
+        marks: &blocks,
+        tables,
+    };
+    let told = exports_end(&exports, replies, openings, until);
+    drop(blocks);
+    drop(changes);
+    let sights = Sights::of(alloc, replies, openings, committed)?;
+    accesses_end(alloc, &sights, replies, openings, told)
+}
+
+/// Where the first reply stands, in front of a place, that conflicts or what its transaction sees do
+/// not allow, or else that place. What one condition is judged by is let go before that of the next
+/// is made.
+fn written_end<'a>(
+    alloc: Global,
+    shared: Shared,
     tables: &[TableDecl],
     replies: &[KeptReply<'a>],
     count: usize,
     until: usize,
 ) -> Result<usize, AllocError>
-    requires shared { AreShared (entries_of replies.now) (length replies.now) shared.now }
+    requires shared { AreShared (entries_of replies.now) (length replies.now) shared }
     requires rises { Rises (entries_of replies.now) }
     requires outside { OpensOutside (entries_of replies.now) }
     requires told { are_told replies.now ≡ true }
@@ -37,6 +121,7 @@ fn written_end<'a>(
     requires within { until ≤ length replies.now }
     ensures { IfOk result (EndsAt (conflicts_and_views_hold (run_of tables.now (entries_of replies.now))) replies.now until) }
 {
+    let free = free_end(alloc, &shared, replies, until)?;
     let openings = shared.spans.openings(replies);
     let places = CommitPlaces::of(alloc, replies)?;
     let changes = Changes::of(alloc, replies, openings)?;
@@ -45,17 +130,10 @@ fn written_end<'a>(
         changes: &changes,
         places: &places,
     };
-    let conflicts = conflicts_of(alloc, replies, &written, count)?;
-    let clear = conflicts_end(&conflicts, &shared.spans, replies, until);
-    drop(conflicts);
+    let clear = clear_end(alloc, &shared, replies, &written, count, free)?;
     let committed = Committed::of(alloc, replies, openings, &changes, &places, count)?;
-    let sights = Sights::of(alloc, replies, openings, committed)?;
-    let views = Views {
-        openings,
-        changes: &changes,
-        sights,
-    };
-    views.end(alloc, &shared.blocks, tables, replies, clear)
+    drop(places);
+    seen_end(alloc, shared, tables, replies, changes, committed, clear)
 }
 
 /// Where the first reply stands that is not sound, or else the count of the replies.
@@ -75,7 +153,7 @@ fn sound_end(
     let counts = Counts::of(alloc, &shared, numbers, replies)?;
     let until = counts.end(tables, replies);
     drop(counts);
-    written_end(alloc, &shared, tables, replies, count, until)
+    written_end(alloc, shared, tables, replies, count, until)
 }
 
 /// The line of the first reply that is not sound. What each condition is judged by is made in its turn
@@ -92,7 +170,7 @@ pub(crate) fn unsound_line(
 {
     let end = sound_end(alloc, tables, replies)?;
     if end < replies.len() {
-        Ok(Some(replies[end].number))
+        Ok(Some(u64::from(replies[end].number)))
     } else {
         Ok(None)
     }

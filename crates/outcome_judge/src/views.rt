@@ -1,86 +1,83 @@
 //! What transactions see.
-ghost use Rattle.std.specs.Prelude.{◌≡◌, ◌≤◌, IfOk, length, true};
-ghost use Rattle.outcome_check.specs.Places.{Rises};
-ghost use Rattle.outcome_counts.specs.Asked.{IsAsked, IsJudgedBy};
-ghost use Rattle.outcome_counts.specs.BlockMarks.{AreBlockMarks};
+ghost use Rattle.std.specs.Prelude.{◌≡◌, ◌<◌, ◌≤◌, IfOk, List, length, true};
+ghost use Rattle.cell_model.specs.declared.table.TableDecl.{TableDecl};
+ghost use Rattle.outcome_counts.specs.Asked.{IsJudgedBy};
+ghost use Rattle.outcome_history.specs.Exports.{AreExports};
+ghost use Rattle.outcome_history.specs.Seen.{AreSights, IsOutput};
 ghost use Rattle.outcome_spec.specs.Runs.{run_of};
+ghost use Rattle.outcome_spec.specs.Upkeep.{exports_hold};
 ghost use Rattle.output_read.specs.Kept.{are_told, entries_of};
-ghost use Rattle.outcome_judge.specs.Judged.{EndsAt, views_hold};
-ghost use Rattle.outcome_judge.specs.Kept.{AreViews};
+ghost use Rattle.outcome_judge.specs.Judged.{EndsAt, accesses_hold};
 
-use cell_model::TableDecl;
-use outcome_counts::{BlockMarks, Stretch, stretch_behind};
-use outcome_history::{Changes, Exports, Sights};
+use outcome_counts::stretch_behind;
+use outcome_history::{Exports, Sights};
 use output_read::KeptReply;
 use std::alloc::{AllocError, Global};
 
-/// For each reply where its transaction is opened, and what each transaction wrote and sees.
-#[derive(Drop)]
-pub(crate) struct Views<'v, 'a> {
-    pub(crate) openings: &'v [Option<usize>],
-    pub(crate) changes: &'v Changes<'a>,
-    pub(crate) sights: Sights<'a>,
+/// Where the first reply stands, in front of a place, that is one to an export which its transaction
+/// does not see so, or else that place.
+pub(crate) fn exports_end<'a>(
+    exports: &Exports<'_, 'a>,
+    replies: &[KeptReply<'a>],
+    openings: &[Option<u32>],
+    until: usize,
+) -> usize
+    requires output { IsOutput openings.now (entries_of replies.now) }
+    requires kept { AreExports openings.now (entries_of replies.now) exports.now }
+    requires within { until ≤ length replies.now }
+    ensures { EndsAt (exports_hold (run_of exports.now.tables.now (entries_of replies.now))) replies.now until result }
+{
+    let mut known = None;
+    for at in 0..until {
+        let stretch = stretch_behind(replies, at, known);
+        if !exports.exports_hold(replies, openings, at, &stretch) {
+            return at;
+        }
+        known = Some(stretch);
+    }
+    until
 }
 
-impl<'v, 'a> Views<'v, 'a> {
-    /// Whether what the reply's transaction sees allows it.
-    fn views_hold(
-        &self,
-        alloc: Global,
-        blocks: &BlockMarks,
-        tables: &[TableDecl],
-        replies: &[KeptReply<'a>],
-        at: usize,
-        stretch: &Stretch,
-    ) -> Result<bool, AllocError>
-        requires views { AreViews (entries_of replies.now) (length replies.now) self.now }
-        requires blocks { AreBlockMarks (entries_of replies.now) (length replies.now) blocks.now }
-        requires asked { IsAsked replies.now at stretch.now }
-        requires told { are_told replies.now ≡ true }
-        ensures { IfOk result (λ answer. IsJudgedBy (views_hold (run_of tables.now (entries_of replies.now))) replies.now at answer) }
-    {
-        let openings = self.openings;
-        let reads = self.sights.reads_hold(alloc, replies, openings, at)?;
-        if !reads {
-            return Ok(false);
-        }
-        if !self.sights.writes_hold(replies, openings, at) {
-            return Ok(false);
-        }
-        let exports = Exports {
-            sights: &self.sights,
-            changes: self.changes,
-            marks: blocks,
-            tables,
-        };
-        Ok(exports.exports_hold(replies, openings, at, stretch))
+/// Whether the reply at a place, if it is one to a read or a write, is as its transaction sees.
+fn accesses_hold<'a>(
+    alloc: Global,
+    sights: &Sights<'a>,
+    replies: &[KeptReply<'a>],
+    openings: &[Option<u32>],
+    at: usize,
+) -> Result<bool, AllocError>
+    requires output { IsOutput openings.now (entries_of replies.now) }
+    requires sights { AreSights openings.now (entries_of replies.now) (length replies.now) sights.now }
+    requires inside { at < length replies.now }
+    requires told { are_told replies.now ≡ true }
+    ensures { (tables : List TableDecl) → IfOk result (λ answer. IsJudgedBy (accesses_hold (run_of tables (entries_of replies.now))) replies.now at answer) }
+{
+    let reads = sights.reads_hold(alloc, replies, openings, at)?;
+    if !reads {
+        return Ok(false);
     }
+    Ok(sights.writes_hold(replies, openings, at))
+}
 
-    /// Where the first reply stands, in front of a place, that what its transaction sees does not
-    /// allow, or else that place.
-    pub(crate) fn end(
-        &self,
-        alloc: Global,
-        blocks: &BlockMarks,
-        tables: &[TableDecl],
-        replies: &[KeptReply<'a>],
-        until: usize,
-    ) -> Result<usize, AllocError>
-        requires views { AreViews (entries_of replies.now) (length replies.now) self.now }
-        requires blocks { AreBlockMarks (entries_of replies.now) (length replies.now) blocks.now }
-        requires rises { Rises (entries_of replies.now) }
-        requires told { are_told replies.now ≡ true }
-        requires within { until ≤ length replies.now }
-        ensures { IfOk result (EndsAt (views_hold (run_of tables.now (entries_of replies.now))) replies.now until) }
-    {
-        let mut known = None;
-        for at in 0..until {
-            let stretch = stretch_behind(replies, at, known);
-            if !self.views_hold(alloc, blocks, tables, replies, at, &stretch)? {
-                return Ok(at);
-            }
-            known = Some(stretch);
+/// Where the first reply stands, in front of a place, that is one to a read or a write which its
+/// transaction does not see so, or else that place.
+pub(crate) fn accesses_end<'a>(
+    alloc: Global,
+    sights: &Sights<'a>,
+    replies: &[KeptReply<'a>],
+    openings: &[Option<u32>],
+    until: usize,
+) -> Result<usize, AllocError>
+    requires output { IsOutput openings.now (entries_of replies.now) }
+    requires sights { AreSights openings.now (entries_of replies.now) (length replies.now) sights.now }
+    requires told { are_told replies.now ≡ true }
+    requires within { until ≤ length replies.now }
+    ensures { (tables : List TableDecl) → IfOk result (EndsAt (accesses_hold (run_of tables (entries_of replies.now))) replies.now until) }
+{
+    for at in 0..until {
+        if !accesses_hold(alloc, sights, replies, openings, at)? {
+            return Ok(at);
         }
-        Ok(until)
     }
+    Ok(until)
 }

@@ -3,7 +3,7 @@ use Rattle.std.proofs.Common.{◌≡◌, ℕ, ◌+◌, ◌-◌, ◌<◌, ◌≤�
 use Rattle.std.specs.List.{count_by, filter, list_any}
 use Rattle.std.specs.Option.{option_map_or}
 use Rattle.std.specs.Ordering.{nat_cmp}
-use Rattle.std.specs.Prelude.{is_some, option_map, option_and_then, IfSome, if◌then◌else◌, ◌==◌, slice_index_or, slice_get, unwrap_or}
+use Rattle.std.specs.Prelude.{is_some, option_map, option_and_then, if◌then◌else◌, ◌==◌, slice_index_or, slice_get, unwrap_or}
 use Rattle.std.proofs.lemmas.Bool.{cases_lt}
 use Rattle.std.proofs.lemmas.Bool.Decides.{nat_tests}
 use Rattle.std.proofs.lemmas.List.{take_min, drop_all, length-append, get_or_default}
@@ -123,10 +123,6 @@ module _ (entries front : List Entry) (entry : Entry) (rest : List Entry) (whole
       omega (arith, split, its, here)
 
 -- ---- what is there
-
-pub if-some : {A : Type 0} (P : A → Type 0) (o : Option A) → ((a : A) → o ≡ Some a → P a) → IfSome o P
-if-some P None h = tt
-if-some P (Some a) h = h a refl
 
 pub opened-inside : (entries : List Entry) (place : ℕ) → is_some (opened_at place entries) ≡ true → place < length entries
 opened-inside entries place h = by (cases_lt place (length entries))

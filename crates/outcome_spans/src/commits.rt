@@ -13,14 +13,13 @@ ghost use Rattle.outcome_spans.specs.Written.{AreSpans};
 use crate::spans::Spans;
 use outcome_counts::{NumberMarks, Stretch};
 use output_read::{KeptReply, Told};
-use workload_spec::Said;
 
 /// What a commit shows, a number or none.
 fn committed(reply: &KeptReply<'_>) -> Option<Option<u64>>
     ensures { result ≡ committed (entry_of reply.now).reply.said }
 {
     match &reply.told {
-        Told::Plain(Said::Committed(number)) => Some(*number),
+        Told::Committed(number) => Some(*number),
         _ => None,
     }
 }

@@ -7,7 +7,7 @@ ghost use Rattle.outcome_spans.specs.Ends.{AreEnds, ended_next, ended_of, next_e
 ghost use Rattle.workload_spec.specs.declared.reply.Who.{Who as Whom};
 
 use crate::openings::is_end;
-use output_read::KeptReply;
+use output_read::{KeptReply, narrow};
 use std::alloc::{AllocError, Global};
 use std::collections::BTreeMap;
 use workload_spec::Who;
@@ -15,12 +15,12 @@ use workload_spec::Who;
 /// For each session the place of the next reply that ends its transaction.
 #[derive(Drop)]
 pub(crate) struct Ended {
-    pub(crate) sessions: BTreeMap<u32, usize>,
+    pub(crate) sessions: BTreeMap<u32, u32>,
 }
 
 impl Ended {
     /// Where the next end of one's transaction is.
-    fn next_of(&self, who: Who) -> Option<usize>
+    fn next_of(&self, who: Who) -> Option<u32>
         ensures { result ≡ ended_of self.now who }
     {
         match who {
@@ -38,7 +38,7 @@ impl Ended {
             return Ok(());
         };
         if is_end(reply) {
-            self.sessions.insert(session, place)?;
+            self.sessions.insert(session, narrow(place as u64)?)?;
         }
         Ok(())
     }
@@ -48,7 +48,7 @@ impl Ended {
 /// ends a transaction of its own; where none does, the count of the replies.
 #[derive(Drop)]
 pub struct Ends {
-    pub(crate) backs: Vec<usize>,
+    pub(crate) backs: Vec<u32>,
 }
 
 impl Ends {
@@ -56,6 +56,7 @@ impl Ends {
     pub fn of(alloc: Global, replies: &[KeptReply<'_>]) -> Result<Ends, AllocError>
         ensures { IfOk result (λ ends. AreEnds (entries_of replies.now) (length replies.now) ends.backs.items) }
     {
+        let count = narrow(replies.len() as u64)?;
         let mut ended = Ended {
             sessions: BTreeMap::new(alloc),
         };
@@ -64,7 +65,7 @@ impl Ends {
             let place = replies.len() - 1 - back;
             let reply = &replies[place];
             ended.enter(reply, place)?;
-            backs.push(ended.next_of(reply.who).unwrap_or(replies.len()))?;
+            backs.push(ended.next_of(reply.who).unwrap_or(count))?;
         }
         Ok(Ends { backs })
     }
@@ -76,6 +77,6 @@ impl Ends {
         ensures { (front : List Reply) (entry : Reply) (rest : List Reply) → entries_of replies.now ≡ front ++ entry ∷ rest
             → length front ≡ place → is_worker entry.reply.who ≡ false → result ≡ length front + next_end entry.reply.who (entry ∷ rest) }
     {
-        self.backs[replies.len() - 1 - place]
+        self.backs[replies.len() - 1 - place] as usize
     }
 }

@@ -8,35 +8,35 @@ ghost use Rattle.outcome_spans.specs.Openings.{AreOpenings, open_next, open_of, 
 ghost use Rattle.workload_spec.specs.declared.reply.Who.{Who as Whom};
 
 use outcome_counts::snapshot_told;
-use output_read::{KeptReply, Told};
+use output_read::{KeptReply, Told, narrow};
 use std::alloc::{AllocError, Global};
 use std::collections::BTreeMap;
-use workload_spec::{Said, Who};
+use workload_spec::Who;
 
 /// Whether the reply ends a transaction.
 pub(crate) fn is_end(reply: &KeptReply<'_>) -> bool
     ensures { result ≡ is_end (entry_of reply.now).reply.said }
 {
-    matches!(&reply.told, Told::Plain(Said::Committed(_) | Said::Aborted))
+    matches!(&reply.told, Told::Committed(_) | Told::Aborted)
 }
 
 /// For each session where its open transaction was opened.
 #[derive(Drop)]
 pub(crate) struct Opened {
-    pub(crate) sessions: BTreeMap<u32, usize>,
+    pub(crate) sessions: BTreeMap<u32, u32>,
 }
 
 impl Opened {
     /// Where the transaction of a reply at a place is opened.
-    fn opening_at(&self, reply: &KeptReply<'_>, place: usize) -> Option<usize>
-        ensures { result ≡ opening_next (entry_of reply.now) place (open_of self.now) }
+    fn opening_at(&self, reply: &KeptReply<'_>, place: usize) -> Result<Option<u32>, AllocError>
+        ensures { IfOk result (λ opening. opening ≡ opening_next (entry_of reply.now) place (open_of self.now)) }
     {
         if snapshot_told(reply).is_some() {
-            return Some(place);
+            return Ok(Some(narrow(place as u64)?));
         }
         match reply.who {
-            Who::Session(session) => self.sessions.get(&session).copied(),
-            Who::Worker(_) => None,
+            Who::Session(session) => Ok(self.sessions.get(&session).copied()),
+            Who::Worker(_) => Ok(None),
         }
     }
 
@@ -49,7 +49,7 @@ impl Opened {
             return Ok(());
         };
         if snapshot_told(reply).is_some() {
-            self.sessions.insert(session, place)?;
+            self.sessions.insert(session, narrow(place as u64)?)?;
         } else if is_end(reply) {
             self.sessions.remove(&session);
         }
@@ -58,10 +58,7 @@ impl Opened {
 }
 
 /// For each reply where its transaction is opened, if it is in one.
-pub fn openings_of(
-    alloc: Global,
-    replies: &[KeptReply<'_>],
-) -> Result<Vec<Option<usize>>, AllocError>
+pub fn openings_of(alloc: Global, replies: &[KeptReply<'_>]) -> Result<Vec<Option<u32>>, AllocError>
     requires rises { Rises (entries_of replies.now) }
     requires outside { OpensOutside (entries_of replies.now) }
     ensures own { IfOk result (λ openings. AreOpenings (entries_of replies.now) openings.items) }
@@ -72,7 +69,8 @@ pub fn openings_of(
     };
     let mut openings = Vec::new(alloc);
     for (place, reply) in replies.iter().enumerate() {
-        openings.push(opened.opening_at(reply, place))?;
+        let opening = opened.opening_at(reply, place)?;
+        openings.push(opening)?;
         opened.enter(reply, place)?;
     }
     Ok(openings)

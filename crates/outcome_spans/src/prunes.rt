@@ -23,7 +23,6 @@ use mark_index::marks::{Sum, next_sum, total_below};
 use outcome_counts::{BlockMarks, Stretch};
 use output_read::{KeptReply, Told};
 use std::alloc::{AllocError, Global};
-use workload_spec::Said;
 
 /// Sums up to each place of what was pruned, of what was moved, and of the writes that were committed.
 #[derive(Drop)]
@@ -38,7 +37,7 @@ fn pruned_by(reply: &KeptReply<'_>) -> u64
     ensures { result ≡ pruned_by (entry_of reply.now) }
 {
     match &reply.told {
-        Told::Plain(Said::Pruned(count)) => *count,
+        Told::Pruned(count) => *count,
         _ => 0,
     }
 }
@@ -48,7 +47,7 @@ fn moved_by(reply: &KeptReply<'_>) -> u64
     ensures { result ≡ moved_by (entry_of reply.now) }
 {
     match &reply.told {
-        Told::Plain(Said::Moved(count)) => *count,
+        Told::Moved(count) => *count,
         _ => 0,
     }
 }
@@ -102,7 +101,7 @@ fn is_prune_by(count: u64, pruned: u128, committed: u128, moved: u128) -> bool
 fn is_commit(reply: &KeptReply<'_>) -> bool
     ensures { result ≡ is_commit (entry_of reply.now).reply.said }
 {
-    matches!(&reply.told, Told::Plain(Said::Committed(_)))
+    matches!(&reply.told, Told::Committed(_))
 }
 
 impl Spans {
@@ -203,7 +202,7 @@ fn pruned_told(reply: &KeptReply<'_>) -> Option<u64>
     ensures { result ≡ pruned_in (entry_of reply.now).reply.said }
 {
     match &reply.told {
-        Told::Plain(Said::Pruned(count)) => Some(*count),
+        Told::Pruned(count) => Some(*count),
         _ => None,
     }
 }

@@ -22,13 +22,13 @@ use mark_index::marks::count_below;
 use outcome_counts::{commit_told, note_key, snapshot_told};
 use output_read::{KeptReply, Told};
 use std::alloc::{AllocError, Global};
-use workload_spec::{Command, Said, Who};
+use workload_spec::{Command, Who};
 
 /// For each reply where its transaction is opened and ends, and for each session where its writes are
 /// that were accepted.
 #[derive(Drop)]
 pub struct Spans {
-    pub(crate) openings: Vec<Option<usize>>,
+    pub(crate) openings: Vec<Option<u32>>,
     pub(crate) ends: Ends,
     pub(crate) writes: MarkIndex<u32, usize>,
 }
@@ -39,7 +39,7 @@ fn writer_of(reply: &KeptReply<'_>) -> Option<u32>
 {
     match (&reply.told, reply.command, reply.who) {
         (
-            Told::Plain(Said::Accepted),
+            Told::Accepted,
             Some(Command::Insert { .. } | Command::Update { .. } | Command::Delete { .. }),
             Who::Session(session),
         ) => Some(session),
@@ -80,13 +80,24 @@ impl Spans {
     }
 
     /// For each reply where its transaction is opened, if it is in one.
-    pub fn openings(&self, replies: &[KeptReply<'_>]) -> &[Option<usize>]
+    pub fn openings(&self, replies: &[KeptReply<'_>]) -> &[Option<u32>]
         requires { AreSpans (entries_of replies.now) (length replies.now) self.now }
         ensures own { AreOpenings (entries_of replies.now) result.now }
         ensures each { result.now ≡ openings_in (entries_of replies.now) }
     {
         let _ = replies;
         self.openings.as_slice()
+    }
+
+    /// For each reply where its transaction is opened, with the rest let go.
+    pub fn into_openings(self, replies: &[KeptReply<'_>]) -> Vec<Option<u32>>
+        requires { AreSpans (entries_of replies.now) (length replies.now) self }
+        ensures own { AreOpenings (entries_of replies.now) result.items }
+        ensures each { result.items ≡ openings_in (entries_of replies.now) }
+    {
+        let _ = replies;
+        let Spans { openings, .. } = self;
+        openings
     }
 
     /// How many accepted writes the transaction has that is opened at a place.
@@ -112,7 +123,10 @@ impl Spans {
         ensures opening { result ≡ opening_of self.now.openings.items at }
         ensures inside { IfSome result (λ opening. opening < length replies.now) }
     {
-        self.openings[at]
+        match self.openings[at] {
+            None => None,
+            Some(opening) => Some(opening as usize),
+        }
     }
 
     /// Whether the transaction of the reply at a place has an accepted write.

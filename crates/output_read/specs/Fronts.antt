@@ -51,3 +51,17 @@ IsSaidBy words _ = Unit {0}
 abbrev pub is_single : Said → Bool
 is_single (said.Scanned rows) = false
 is_single _ = true
+
+-- what it says has no row, and tells of no export
+abbrev pub is_plain : Said → Bool
+is_plain (said.Found row) = false
+is_plain (said.Scanned rows) = false
+is_plain (said.Exported number rows batches frozen) = false
+is_plain _ = true
+
+-- it says something of a block
+abbrev pub is_of_block : Said → Bool
+is_of_block (said.Freezing table block stamp) = true
+is_of_block (said.Sealed table block stamp) = true
+is_of_block (said.Frozen table block rows) = true
+is_of_block _ = false

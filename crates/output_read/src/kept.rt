@@ -1,26 +1,71 @@
 //! Replies that were read, compact: their rows stay in the text.
+ghost use Rattle.std.specs.Prelude.{◌≡◌, IfOk};
 
-use workload_spec::{Command, Said, Who};
+use std::alloc::AllocError;
+use workload_spec::{Command, SealCause, Who};
 
-/// What a reply says.
+/// What is told of an export: the snapshot, the rows, the batches, and how many of these are images
+/// of frozen blocks.
+#[derive(Clone, Copy, Debug, Drop)]
+pub struct Exported {
+    pub number: u64,
+    pub rows: u64,
+    pub batches: u32,
+    pub frozen: u32,
+}
+
+/// What a reply says. The variants that a reply of a workload has too say the same; what would make
+/// all of them large is elsewhere.
 #[derive(Debug, Drop)]
 pub enum Told<'a> {
+    At(u64),
+    InTransaction,
+    NoTransaction,
     /// The row of the key: the words of its cells, one space between each two.
     Found(&'a [u8]),
+    Absent,
     /// The rows of a table: how many, and the lines behind the first, each with its end.
-    Scanned { count: u64, lines: &'a [u8] },
-    /// Any other reply, none with rows.
-    Plain(Said),
+    Scanned { count: u32, lines: &'a [u8] },
+    Accepted,
+    ConflictSession(u32),
+    ConflictCommit(u64),
+    Exists,
+    Missing,
+    Full,
+    Freezing { table: u32, block: u32, stamp: u32 },
+    Committed(Option<u64>),
+    Aborted,
+    Cooling(u64),
+    Pruned(u64),
+    Moved(u64),
+    Sealed { table: u32, block: u32, stamp: u32 },
+    NotSealed(SealCause),
+    Frozen { table: u32, block: u32, rows: u32 },
+    NotFrozen,
+    Exported(Box<Exported>),
+    Dirty(i64),
+    Memory,
 }
 
 /// A reply that was read: the number of its first line, counted from 1, the command that it answers
 /// (none for a worker's, whose line names none), whom it answers, and what it says.
 #[derive(Debug, Drop)]
 pub struct KeptReply<'a> {
-    pub number: u64,
+    pub number: u32,
     pub command: Option<&'a Command>,
     pub round: u32,
     pub who: Who,
-    pub index: u64,
+    pub index: u32,
     pub told: Told<'a>,
+}
+
+/// A count of lines or of what stands on them, in half its width: an output that has 2^32 of them is
+/// answered as refused memory.
+pub fn narrow(count: u64) -> Result<u32, AllocError>
+    ensures { IfOk result (λ narrow. narrow ≡ count) }
+{
+    match u32::try_from(count) {
+        Ok(narrow) => Ok(narrow),
+        Err(_) => Err(AllocError),
+    }
 }

@@ -12,5 +12,5 @@ mod turns;
 mod workers;
 
 pub use fault::ReadFault;
-pub use kept::{KeptReply, Told};
+pub use kept::{Exported, KeptReply, Told, narrow};
 pub use rounds::read_output;

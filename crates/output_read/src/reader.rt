@@ -4,11 +4,11 @@ ghost use Rattle.workload_spec.specs.Words.{line_feed};
 ghost use Rattle.reply_text.specs.Shown.{are_tables};
 ghost use Rattle.outcome_spec.specs.Entries.{is_same};
 ghost use Rattle.outcome_spec.specs.Lines.{lines_of};
-ghost use Rattle.output_read.specs.Fronts.{IsSaidBy, count_first, is_single, said_first, words_behind, words_first};
+ghost use Rattle.output_read.specs.Fronts.{IsSaidBy, count_first, is_of_block, is_plain, is_single, said_first, words_behind, words_first};
 ghost use Rattle.output_read.specs.Kept.{is_told, said_of};
 ghost use Rattle.output_read.specs.Readers.{lines_left};
 
-use crate::kept::{KeptReply, Told};
+use crate::kept::{Exported, KeptReply, Told, narrow};
 use cell_model::TableDecl;
 use reply_text::{behind, head_in, told_in};
 use std::alloc::{AllocError, Global};
@@ -121,16 +121,94 @@ pub fn count_first<'a>(heading: Heading, text: &'a [u8]) -> Option<(u64, &'a [u8
     }
 }
 
-/// What is kept of a reply of one line.
-pub fn told_of<'a>(said: Said, words: &'a [u8]) -> Told<'a>
-    requires single { is_single said ≡ true }
-    requires words { IsSaidBy words.now said }
-    ensures said { said_of result ≡ said }
+/// What is kept of a reply that says something of a block.
+fn block_told<'a>(said: &Said) -> Told<'a>
+    requires { is_of_block said.now ≡ true }
+    ensures said { said_of result ≡ said.now }
     ensures told { is_told result ≡ true }
 {
     match said {
-        Said::Found(_) => Told::Found(behind(words, b"row ").unwrap_or(words)),
-        plain => Told::Plain(plain),
+        Said::Freezing {
+            table,
+            block,
+            stamp,
+        } => Told::Freezing {
+            table: *table,
+            block: *block,
+            stamp: *stamp,
+        },
+        Said::Sealed {
+            table,
+            block,
+            stamp,
+        } => Told::Sealed {
+            table: *table,
+            block: *block,
+            stamp: *stamp,
+        },
+        Said::Frozen { table, block, rows } => Told::Frozen {
+            table: *table,
+            block: *block,
+            rows: *rows,
+        },
+        _ => Told::Memory,
+    }
+}
+
+/// What is kept of a reply that has no row, and tells of no export.
+fn plain_told<'a>(said: &Said) -> Told<'a>
+    requires { is_plain said.now ≡ true }
+    ensures said { said_of result ≡ said.now }
+    ensures told { is_told result ≡ true }
+{
+    match said {
+        Said::At(number) => Told::At(*number),
+        Said::InTransaction => Told::InTransaction,
+        Said::NoTransaction => Told::NoTransaction,
+        Said::Absent => Told::Absent,
+        Said::Accepted => Told::Accepted,
+        Said::ConflictSession(session) => Told::ConflictSession(*session),
+        Said::ConflictCommit(number) => Told::ConflictCommit(*number),
+        Said::Exists => Told::Exists,
+        Said::Missing => Told::Missing,
+        Said::Full => Told::Full,
+        Said::Committed(number) => Told::Committed(*number),
+        Said::Aborted => Told::Aborted,
+        Said::Cooling(count) => Told::Cooling(*count),
+        Said::Pruned(count) => Told::Pruned(*count),
+        Said::Moved(count) => Told::Moved(*count),
+        Said::NotSealed(cause) => Told::NotSealed(*cause),
+        Said::NotFrozen => Told::NotFrozen,
+        Said::Dirty(key) => Told::Dirty(*key),
+        Said::Memory => Told::Memory,
+        _ => block_told(said),
+    }
+}
+
+/// What is kept of a reply of one line.
+pub fn told_of<'a>(alloc: Global, said: &Said, words: &'a [u8]) -> Result<Told<'a>, AllocError>
+    requires single { is_single said.now ≡ true }
+    requires words { IsSaidBy words.now said.now }
+    ensures said { IfOk result (λ told. said_of told ≡ said.now) }
+    ensures told { IfOk result (λ told. is_told told ≡ true) }
+{
+    match said {
+        Said::Found(_) => Ok(Told::Found(behind(words, b"row ").unwrap_or(words))),
+        Said::Exported {
+            number,
+            rows,
+            batches,
+            frozen,
+        } => {
+            let told = Exported {
+                number: *number,
+                rows: *rows,
+                batches: *batches,
+                frozen: *frozen,
+            };
+            Ok(Told::Exported(Box::new(alloc, told)?))
+        }
+        _ => Ok(plain_told(said)),
     }
 }
 
@@ -151,11 +229,11 @@ impl<'a> Reader<'a> {
         ensures kept { OnOk result (self.new.replies.items ≡ self.old.replies.items ++ record { number = self.old.line; command = command.entry; round = heading.round; who = heading.who; index = heading.index; told = told.entry } ∷ []) }
     {
         self.replies.push(KeptReply {
-            number: self.line,
+            number: narrow(self.line)?,
             command,
             round: heading.round,
             who: heading.who,
-            index: heading.index,
+            index: narrow(heading.index)?,
             told,
         })?;
         self.line += lines;

@@ -12,8 +12,8 @@ ghost use Rattle.std.specs.List.{list_all};
 
 use crate::answers::answers;
 use crate::fault::ReadFault;
-use crate::kept::Told;
-use crate::reader::{Front, Heading, Reader, count_first, said_first, told_of};
+use crate::kept::{Told, narrow};
+use crate::reader::{Heading, Reader, count_first, said_first, told_of};
 use crate::rows::rows_above;
 use std::alloc::Global;
 use workload_spec::{Command, Line, Said, Who};
@@ -155,7 +155,8 @@ impl<'a> Reader<'a> {
             return Err(ReadFault::Line(self.line + 1 + rows));
         }
         let (lines, _) = lines.split_at(lines.len() - behind.len());
-        let told = Told::Scanned { count, lines };
+        let many = narrow(count)?;
+        let told = Told::Scanned { count: many, lines };
         self.keep(heading, Some(command), told, 1 + count, behind)?;
         Ok(Thread {
             index: heading.index,
@@ -188,12 +189,8 @@ impl<'a> Reader<'a> {
             return Err(ReadFault::Line(self.line));
         }
         let within = within_behind(thread.within, &front.said);
-        let Front {
-            said,
-            words,
-            behind,
-        } = front;
-        self.keep(heading, Some(command), told_of(said, words), 1, behind)?;
+        let told = told_of(alloc, &front.said, front.words)?;
+        self.keep(heading, Some(command), told, 1, front.behind)?;
         Ok(Thread {
             index: heading.index,
             within,

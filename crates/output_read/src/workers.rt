@@ -10,7 +10,7 @@ ghost use Rattle.output_read.specs.Work.{IsFew, IsShift, IsSpoken, Never, ShiftG
 
 use crate::answers::answers;
 use crate::fault::ReadFault;
-use crate::reader::{Front, Heading, Reader, said_first, told_of};
+use crate::reader::{Heading, Reader, said_first, told_of};
 use crate::turns::{NextSteps, next_steps};
 use std::alloc::Global;
 use workload_spec::{Command, Who};
@@ -91,12 +91,8 @@ impl<'a> Reader<'a> {
         if !answers(self.tables, true, command, &front.said) {
             return Err(ReadFault::Line(self.line));
         }
-        let Front {
-            said,
-            words,
-            behind,
-        } = front;
-        self.keep(heading, None, told_of(said, words), 1, behind)?;
+        let told = told_of(alloc, &front.said, front.words)?;
+        self.keep(heading, None, told, 1, front.behind)?;
         Ok(Shift {
             index: heading.index,
             ..shift
@@ -155,12 +151,8 @@ impl<'a> Reader<'a> {
         let Some(after) = next_steps(self.tables, steps, &front.said) else {
             return Ok(None);
         };
-        let Front {
-            said,
-            words,
-            behind,
-        } = front;
-        self.keep(heading, None, told_of(said, words), 1, behind)?;
+        let told = told_of(alloc, &front.said, front.words)?;
+        self.keep(heading, None, told, 1, front.behind)?;
         Ok(Some(after))
     }
 }

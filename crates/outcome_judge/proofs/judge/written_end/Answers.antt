@@ -1,18 +1,31 @@
-use Rattle.std.proofs.Common.{arith}
+use Rattle.std.proofs.Common.{◌≡◌, ◌∙◌, ◌&&◌, Bool, arith}
+use Rattle.outcome_conflicts.specs.Conflicts.{heights_hold, numbers_hold, sessions_hold}
+use Rattle.outcome_conflicts.proofs.Whole.{in-parts}
 use Rattle.outcome_spec.specs.Conflicts.{conflicts_hold}
+use Rattle.outcome_spec.specs.Entries.{Entry}
 use Rattle.outcome_spec.specs.Runs.{run_of}
 use Rattle.output_read.specs.Kept.{entries_of}
-use Rattle.outcome_judge.specs.Judged.{views_hold}
+use Rattle.outcome_judge.specs.Judged.{commits_hold, views_hold}
 use Rattle.outcome_judge.proofs.Answered.{ok-map}
-use Rattle.outcome_judge.proofs.Ends.{both-end}
+use Rattle.outcome_judge.proofs.Both.{in-turn}
+use Rattle.outcome_judge.proofs.Ends.{both-end, same-end}
 use Rattle.outcome_judge.proofs.judge.written_end.Goals as goal
 
-pub end-requires-clause-within : goal.end-requires-clause-within
-end-requires-clause-within c = omega (arith, (c.conflicts_end-clear.ensures c.args.tables.now).within, c.requires.within)
+pub clear_end-requires-clause-within : goal.clear_end-requires-clause-within
+clear_end-requires-clause-within c = omega (arith, (c.in_ok-free.ensures c.args.tables.now).within, c.requires.within)
+
+pub seen_end-requires-clause-within : goal.seen_end-requires-clause-within
+seen_end-requires-clause-within c = omega (arith, (c.in_ok-free.ensures c.args.tables.now).within, (c.in_ok-clear.ensures c.args.tables.now).within, c.requires.within)
 
 pub returns : goal.returns
 returns c =
-    ok-map _ _ c.end.result _ _
-    (λ place views. both-end (conflicts_hold (run_of c.args.tables.now (entries_of c.args.replies.now))) (views_hold (run_of c.args.tables.now (entries_of c.args.replies.now)))
-    c.args.replies.now c.args.until c.conflicts_end-clear.result place (c.conflicts_end-clear.ensures c.args.tables.now) views)
-    c.end.ensures
+    let tables = c.args.tables.now in
+    let replies = c.args.replies.now in
+    let run = run_of tables (entries_of replies) in
+    let parts : (entry : Entry) → (sessions_hold run entry && commits_hold run entry) ≡ conflicts_hold run entry =
+    λ entry. in-turn (sessions_hold run entry) (heights_hold run entry) (numbers_hold run entry) ∙ in-parts tables (entries_of replies) entry in
+    let conflicts = same-end (λ entry. sessions_hold run entry && commits_hold run entry) (conflicts_hold run) replies c.args.until c.in_ok-clear.clear parts
+    (both-end (sessions_hold run) (commits_hold run) replies c.args.until c.in_ok-free.free c.in_ok-clear.clear (c.in_ok-free.ensures tables) (c.in_ok-clear.ensures tables)) in
+    ok-map _ _ c.seen_end.result _ _
+    (λ place views. both-end (conflicts_hold run) (views_hold run) replies c.args.until c.in_ok-clear.clear place conflicts views)
+    c.seen_end.ensures

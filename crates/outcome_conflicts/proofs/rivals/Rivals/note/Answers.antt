@@ -7,7 +7,7 @@ use Rattle.mark_index.specs.Marks.{next_peak}
 use Rattle.output_read.specs.Kept.{entry_of}
 use Rattle.outcome_counts.specs.Keys.{is_keyed}
 use Rattle.outcome_conflicts.specs.Leads.{AreFollowed}
-use Rattle.outcome_conflicts.specs.Rivals.{writer_cmp}
+use Rattle.outcome_conflicts.specs.Rivals.{row_of, writer_cmp}
 use Rattle.outcome_conflicts.specs.Written.{writes_to}
 use Rattle.outcome_history.specs.Kept.{key_cmp, place_in}
 use Rattle.outcome_history.specs.declared.keys.RowKey.{RowKey}
@@ -28,6 +28,6 @@ returns c =
     on-ok _ _ c.note_lead.result (λ leads. record {
       writers = λ writer. c.in_ok-note_writer.ensures writer
           ∙ ap (λ (b : Bool). with_mark b (next_peak (marks_at writer_cmp before.writers writer) place place until) (marks_at writer_cmp before.writers writer))
-          (c.writer_of.ensures writer ∙ ap (λ (b : Bool). is_same entry.reply.who (Session writer.session) && b) (keyed writer.of));
+          (c.writer_of.ensures writer ∙ ap (λ (b : Bool). is_same entry.reply.who (Session writer.session) && b) (keyed (row_of writer)));
       leads = λ of. subst (λ (b : Bool). AreFollowed b place entry.reply.who until (marks_at key_cmp before.leads of) (marks_at key_cmp c.note_lead.new.leads of)) (keyed of) (leads of);
     }) c.note_lead.ensures

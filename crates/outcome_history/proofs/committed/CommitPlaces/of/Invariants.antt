@@ -1,10 +1,10 @@
 use Rattle.std.proofs.Common.{◌≡◌, ℕ, take}
+use Rattle.std.specs.BTreeMap.{get}
 use Rattle.std.specs.Ordering.{nat_cmp}
-use Rattle.mark_index.specs.Lists.{marks_at}
 use Rattle.outcome_spec.specs.Runs.{commits_as}
 use Rattle.output_read.specs.Kept.{entries_of}
-use Rattle.outcome_history.specs.Commits.{places_of}
+use Rattle.outcome_history.specs.Commits.{first_of}
 use Rattle.outcome_history.proofs.committed.CommitPlaces.of.Given as goal
 
 abbrev pub invariant-loop-place : goal.invariant-loop-place
-invariant-loop-place l = (number : ℕ) → marks_at nat_cmp l.commits.places number ≡ places_of (commits_as number) 0 (take l.place (entries_of l.replies))
+invariant-loop-place l = (number : ℕ) → get nat_cmp l.commits.places number ≡ first_of (commits_as number) (take l.place (entries_of l.replies))

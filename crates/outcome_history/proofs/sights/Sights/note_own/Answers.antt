@@ -1,7 +1,9 @@
-use Rattle.std.proofs.Common.{◌≡◌, ◌∙◌, ◌<◌, ap, Some, length, arith}
+use Rattle.std.proofs.Common.{◌≡◌, ◌∙◌, ◌<◌, ap, subst, Some, length, arith}
 use Rattle.std.specs.Prelude.{is_some}
 use Rattle.output_read.specs.Kept.{entries_of, entry_of}
 use Rattle.outcome_counts.proofs.Starts.{kept-at, at-place}
+use Rattle.outcome_history.specs.Kept.{IsNoted}
+use Rattle.outcome_history.specs.declared.keys.Spot.{Spot}
 use Rattle.outcome_history.proofs.Commits.{on-ok, some-mapped}
 use Rattle.outcome_history.proofs.Seen.{own-same, own-noted, opening-cut}
 use Rattle.outcome_history.proofs.sights.Sights.note_own.Goals as goal
@@ -28,4 +30,5 @@ returns-in-Some-clause-own c =
     on-ok _ _ c.note.result (λ noted.
     own-noted c.args.openings.now (entries_of c.args.replies.now) at.front (entry_of c.index-replies-place.result) at.rest cut.front cut.item cut.rest c.args.place at.whole at.far cut.whole cut.far
     c.args.opening opening c.in-Some.change c.in-Some.ensures c.args.self.now.own c.note.new.self c.is_some-had.result c.requires.sights.own
-    (c.is_some-had.ensures ∙ some-mapped _ c.seen-row.result ∙ ap is_some (c.seen-row.ensures c.args.place c.requires.sights.own)) noted) c.note.ensures
+    (c.is_some-had.ensures ∙ some-mapped _ c.seen-row.result ∙ ap is_some (c.seen-row.ensures c.args.place c.requires.sights.own))
+    (subst (λ (spot : Spot). IsNoted spot c.in-Some.change.left c.is_some-had.result c.args.self.now.own c.note.new.self) c.spot_at-spot.ensures noted)) c.note.ensures

@@ -1,9 +1,10 @@
-use Rattle.std.proofs.Common.{◌≡◌, refl, sym, ap, ◌∙◌, Some, List, ℕ, drop, subst, arith}
+use Rattle.std.proofs.Common.{◌≡◌, true, refl, sym, ap, ◌∙◌, Some, List, ℕ, drop, subst, arith}
 use Rattle.workload_spec.specs.declared.reply.Who.TheVariants.{Session}
 use Rattle.outcome_spec.specs.Tables.{columns_at}
 use Rattle.output_read.specs.declared.reader.Heading.{Heading}
 use Rattle.output_read.specs.declared.kept.Told.TheVariants as told
 use Rattle.output_read.specs.Fronts.{count_first}
+use Rattle.output_read.specs.Kept.{is_told}
 use Rattle.output_read.specs.Readers.{lines_left}
 use Rattle.output_read.specs.Threads.{ThreadGoes}
 use Rattle.output_read.proofs.RowLines.{above-short}
@@ -70,5 +71,6 @@ returns-clause-read c =
     let goes = scan-goes old c.args.thread c.args.command.now c.requires.tables c.requires.reading c.requires.thread c.requires.command c.args.table c.requires.scan _ columns_are
     c.in-Some.count l.line l.behind l.is l.counts c.in-Some.lines.now c.in_ok-rows.behind.now c.in_ok-rows.rows c.in_ok-rows.ensures lines_is full
     c.keep.new.self _ _ c.keep.ensures.tables c.in_ok-keep.ensures.kept c.in_ok-keep.ensures.line c.in_ok-keep.ensures.rest c.in-Some.ensures.shorter
-    (ap (λ (x : Heading). record { number = old.line; command = Some c.args.command; round = x.round; who = x.who; index = x.index; told = told.Scanned c.in-Some.count c.split_at.result.0 }) h) refl said_is told_is in
+    (ap (λ (x : Heading). record { number = old.line; command = Some c.args.command; round = x.round; who = x.who; index = x.index; told = told.Scanned c.in_ok-many.many c.split_at.result.0 }) h) refl said_is
+    (subst (λ (n : ℕ). is_told (told.Scanned n c.split_at.result.0) ≡ true) (sym c.in_ok-many.ensures) told_is) in
     subst (λ (x : Heading). ThreadGoes old c.keep.new.self c.args.thread (record { round = c.args.thread.round; session = c.args.thread.session; index = x.index; within = c.args.thread.within }) c.args.command.now) (sym h) goes

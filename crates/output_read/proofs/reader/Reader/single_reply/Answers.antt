@@ -38,6 +38,6 @@ returns-clause-read c =
       shorter = let e = ap (λ (xs : List ℕ). length xs) rest_is in omega (arith, e, shorter_is);
       some = omega arith;
     })
-    (ap (λ (x : Heading). record { number = c.args.self.now.line; command = Some c.args.command; round = x.round; who = x.who; index = x.index; told = c.told_of.result }) h)
-    refl c.told_of.ensures.said c.told_of.ensures.told c.within_behind-within.ensures said_is (sym c.if-not-answers.ensures) in
+    (ap (λ (x : Heading). record { number = c.args.self.now.line; command = Some c.args.command; round = x.round; who = x.who; index = x.index; told = c.in_ok-told.told }) h)
+    refl c.in_ok-told.ensures.said c.in_ok-told.ensures.told c.within_behind-within.ensures said_is (sym c.if-not-answers.ensures) in
     subst (λ (x : Heading). ThreadGoes c.args.self.now c.keep.new.self c.args.thread (record { round = c.args.thread.round; session = c.args.thread.session; index = x.index; within = c.within_behind-within.result }) c.args.command.now) (sym h) goes

@@ -37,6 +37,6 @@ returns-clause-read c =
       shorter = let e = ap (λ (xs : List ℕ). length xs) rest_is in omega (arith, e, shorter_is);
       some = omega arith;
     })
-    (ap (λ (x : Heading). record { number = c.args.self.now.line; command = None; round = x.round; who = x.who; index = x.index; told = c.told_of.result }) h)
-    c.told_of.ensures.said c.told_of.ensures.told said_is (sym c.if-not-answers.ensures) in
+    (ap (λ (x : Heading). record { number = c.args.self.now.line; command = None; round = x.round; who = x.who; index = x.index; told = c.in_ok-told.told }) h)
+    c.in_ok-told.ensures.said c.in_ok-told.ensures.told said_is (sym c.if-not-answers.ensures) in
     subst (λ (x : Heading). StepRead c.args.self.now c.keep.new.self c.args.shift (record { round = c.args.shift.round; worker = c.args.shift.worker; index = x.index }) c.args.command.now) (sym h) goes
