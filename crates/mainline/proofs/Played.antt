@@ -1,5 +1,5 @@
 -- How a run ends, by how its rounds ended.
-use Rattle.std.proofs.Common.{◌≡◌, ℕ, List, [], ◌∷◌, ◌++◌, Option, None, Some, refl, sym, subst, inr, arith}
+use Rattle.std.proofs.Common.{◌≡◌, ℕ, List, [], ◌∷◌, ◌++◌, Option, None, Some, refl, sym, subst, inl, inr, arith}
 use Rattle.std.specs.Prelude.{IsSome}
 use Rattle.store_rounds.specs.Workloads.{GoesCutOff, GoesStopped, GoesTo, GoesToExport, GoesWhole, WentBy}
 use Rattle.round_laws.specs.Fronts.{with_rounds}
@@ -51,10 +51,19 @@ to_told Goes Told script lines before now told goes = record {
 }
 
 stopped_told : (Goes Told : OfRounds) (script : Script) (before now : Option (List ℕ)) → TellsBy Goes Told → GoesStopped Goes script before now → GoesStopped Told script before now
-stopped_told Goes Told script before now told goes = record {
+stopped_told Goes Told script before now told (inl goes) = inl (record {
+  whole = goes.whole;
+  round = goes.round;
+  rest = goes.rest;
+  rounds = goes.rounds;
+  text = goes.text;
+  went = told goes.whole goes.text goes.went;
+  printed = goes.printed;
+})
+stopped_told Goes Told script before now told (inr goes) = inr (record {
   lines = goes.lines;
   to = to_told Goes Told script goes.lines before now told goes.to;
-}
+})
 
 export_told : (Goes Told : OfRounds) (script : Script) (before now : Option (List ℕ)) → TellsBy Goes Told → GoesToExport Goes script before now → GoesToExport Told script before now
 export_told Goes Told script before now told goes = record {

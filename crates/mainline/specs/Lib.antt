@@ -1,4 +1,3 @@
-pub mod Today
 pub mod Verdict
 pub mod Words
 pub mod Codes

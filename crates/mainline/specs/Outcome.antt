@@ -8,6 +8,7 @@ use Rattle.stream_text.specs.Shown.{shown_text}
 use Rattle.export_spec.specs.Sent.{SaysAllSent, has_export}
 use Rattle.workload_spec.specs.declared.script.Line.{Line}
 use Rattle.workload_spec.specs.declared.script.Script.{Script}
+use Rattle.workload_spec.specs.Extents.{whole}
 use Rattle.workload_spec.specs.Grammar.{Fault, checked_of, read_with, refused_text}
 use Rattle.workload_spec.specs.Words.{line_feed}
 use Rattle.outcome_spec.specs.Explained.{Explained, failing_line}
@@ -15,7 +16,6 @@ use Rattle.run_spec.specs.Occurrences.{Logged}
 use Rattle.run_spec.specs.Ran.{Ran}
 use Rattle.round_laws.specs.Fronts.{with_rounds}
 use Rattle.store_rounds.specs.Workloads.{GoesCutOff, GoesStopped, GoesToExport, GoesWhole}
-use Rattle.mainline.specs.Today.{today}
 use Rattle.mainline.specs.Words.{Asked, ToRun, ToShow, ToCheck, ToBench, usage_line}
 use Rattle.mainline.specs.declared.status.Status.{Status}
 use Rattle.mainline.specs.declared.status.Status.TheVariants as status
@@ -67,9 +67,9 @@ Delivers (Some path) script ran output before now =
 
 -- ---- the input
 
--- The bytes are read as this workload, in the part of the format that runs today.
+-- The bytes are read as this workload.
 abbrev pub IsWorkload : List ℕ → Script → Type 0
-IsWorkload bytes script = read_with today bytes ≡ Ok script
+IsWorkload bytes script = read_with whole bytes ≡ Ok script
 
 -- The bytes were read, to the end of the input, and are fewer than 2^32.
 pub record IsRead (bytes : List ℕ) (before now : Outside) : Type 0 where
@@ -95,12 +95,12 @@ pub record IsUsage (Prints : Option (List ℕ) → Option (List ℕ) → List �
   pub printed : Prints before.printed now.printed usage_line
   pub outlet : LeavesOutlet before now
 
--- The input is no workload that runs, and the line of its first fault is printed.
+-- The input is no workload, and the line of its first fault is printed.
 pub record IsRefused (Prints : Option (List ℕ) → Option (List ℕ) → List ℕ → Type 0) (before now : Outside) : Type 0 where
   pub bytes : List ℕ
   pub input : IsRead bytes before now
   pub fault : Fault
-  pub first : read_with today bytes ≡ Err fault
+  pub first : read_with whole bytes ≡ Err fault
   pub printed : Prints before.printed now.printed (refused_text fault)
   pub outlet : LeavesOutlet before now
 
@@ -125,7 +125,7 @@ abbrev pub IsCutOff : Option (List ℕ) → Script → Outside → Outside → T
 IsCutOff path script before now =
     GoesCutOff (RanRounds path script before now) script before.printed now.printed
 
--- The run stopped within a round, for want of memory.
+-- The run stopped before a round or within one, for want of memory.
 abbrev pub IsStopped : Option (List ℕ) → Script → Outside → Outside → Type 0
 IsStopped path script before now =
     GoesStopped (RanRounds path script before now) script before.printed now.printed

@@ -3,7 +3,6 @@
 #![tactic(auto)]
 
 mod checking;
-mod extent;
 mod perform;
 mod status;
 #[cfg(test)]

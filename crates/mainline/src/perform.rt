@@ -3,7 +3,7 @@ ghost use Rattle.std.specs.Prelude.{◌≡◌, ◌≢◌, ◌<◌, ◌^◌, ℕ,
 ghost use Rattle.std.specs.List.{list_any};
 ghost use Rattle.byte_ports.specs.Calls.{Rose};
 ghost use Rattle.workload_spec.specs.Valid.{is_valid, is_export};
-ghost use Rattle.workload_spec.specs.Extents.{RunsWithin};
+ghost use Rattle.workload_spec.specs.Extents.{whole};
 ghost use Rattle.workload_spec.specs.Grammar.{read_with};
 ghost use Rattle.script_text.specs.Answers.{LineGives};
 ghost use Rattle.export_spec.specs.Sent.{has_export};
@@ -11,11 +11,9 @@ ghost use Rattle.workload_spec.specs.ScriptText.{script_text};
 ghost use Rattle.store_rounds.specs.Workloads.{WentBy};
 ghost use Rattle.mainline.specs.Outcome.{Ends, RunEnds, ScriptEnds, ShowEnds, UsageEnds, TellsFaults, outside, started_by};
 ghost use Rattle.mainline.specs.Played.{RefusalEnds, PlayEnds};
-ghost use Rattle.mainline.specs.Today.{today};
 ghost use Rattle.mainline.specs.Words.{asked_by};
 
 use crate::checking::check;
-use crate::extent::today;
 use crate::status::Status;
 use crate::words::{WordsFault, Work, work_of};
 use byte_ports::{
@@ -28,7 +26,7 @@ use std::sync::Wait;
 use std::thread::Threads;
 use store_rounds::{RunFault, run_workload};
 use stream_spec::StreamFault;
-use workload_spec::{Command, Round, Script};
+use workload_spec::{Command, Extent, Round, Script};
 
 /// As many bytes of input, or more, are too long.
 pub(crate) const MOST_BYTES: usize = 1 << 32;
@@ -141,7 +139,7 @@ fn run<R: Wait + Threads + Sync, S: Source, O: Sink, X: Outlet, G: Gate>(
         Err(InputFault::TooLong) => return Status::TooLong,
         Err(InputFault::Memory) => return Status::Memory,
     };
-    let parsed = parse_today(alloc, &bytes);
+    let parsed = parse_script(alloc, &bytes);
     // The run needs the memory of the text more than the text.
     drop(bytes);
     match parsed {
@@ -150,13 +148,12 @@ fn run<R: Wait + Threads + Sync, S: Source, O: Sink, X: Outlet, G: Gate>(
     }
 }
 
-/// The workload that the bytes are, in the part of the format that runs today.
-fn parse_today(alloc: Global, bytes: &[u8]) -> Result<Script, ScriptFault>
-    ensures read { LineGives (λ script. script) result (read_with today bytes.now) }
+/// The workload that the bytes are.
+fn parse_script(alloc: Global, bytes: &[u8]) -> Result<Script, ScriptFault>
+    ensures read { LineGives (λ script. script) result (read_with whole bytes.now) }
     ensures valid { IfOk result (λ script. is_valid script ≡ true) }
-    ensures within { IfOk result (λ script. RunsWithin today script) }
 {
-    parse(alloc, &today(), bytes)
+    parse(alloc, &Extent::whole(), bytes)
 }
 
 /// Prints at which line and for which cause the input is refused.
@@ -177,7 +174,7 @@ pub(crate) fn refuse<O: Sink>(alloc: Global, fault: ScriptFault, out: &mut O) ->
     }
 }
 
-/// Runs a workload of those that run today: its replies go to `out`, its export to the outlet,
+/// Runs a workload: its replies go to `out`, its export to the outlet,
 /// which is started with the path where the workload has an export. Without a path the export is
 /// dropped, and the outlet left alone.
 fn run_script<R: Wait + Threads + Sync, O: Sink, X: Outlet, G: Gate>(
@@ -190,7 +187,6 @@ fn run_script<R: Wait + Threads + Sync, O: Sink, X: Outlet, G: Gate>(
     gate: &G,
 ) -> Status
     requires valid { is_valid script ≡ true }
-    requires within { RunsWithin today script }
     requires short { length (script_text script) < 2 ^ 32 }
     ensures ends { (left_old left_new : Option (List ℕ)) → ScriptEnds (option_map (λ p. p.now) path.entry) script result
         (outside left_old (O.written out.old) (X.written export.old) (X.started export.old))
@@ -207,8 +203,7 @@ fn run_script<R: Wait + Threads + Sync, O: Sink, X: Outlet, G: Gate>(
     play(rt, alloc, script, out, export, gate)
 }
 
-/// Runs the rounds of a workload of those that run today, and prints their text. The export goes to
-/// the sink.
+/// Runs the rounds of a workload, and prints their text. The export goes to the sink.
 fn play<R: Wait + Threads + Sync, O: Sink, X: Outlet, G: Gate>(
     rt: &R,
     alloc: Global,
@@ -218,7 +213,6 @@ fn play<R: Wait + Threads + Sync, O: Sink, X: Outlet, G: Gate>(
     gate: &G,
 ) -> Status
     requires valid { is_valid script ≡ true }
-    requires within { RunsWithin today script }
     requires short { length (script_text script) < 2 ^ 32 }
     ensures ends { PlayEnds (WentBy script (X.written export.old) (X.written export.new))
         script result (O.written out.old) (O.written out.new) }

@@ -1,5 +1,6 @@
 //! Whole runs: what the words and the input give.
 mod checked;
+mod kept;
 mod ran;
 mod shown;
 
@@ -116,11 +117,11 @@ const REFUSALS: [(&str, &str); 14] = [
         "refused 3 sessions\n",
     ),
     (
-        "store 1\ntable b key:i64 slots 8 blocks 1\nsessions 1\nworkers 1 1\n",
+        "store 1\ntable b key:i64 slots 8 blocks 1\nsessions 1\nworkers 17 1\n",
         "refused 4 workers\n",
     ),
     (
-        "store 1\ntable b key:i64 slots 8 blocks 1\nsessions 1\nworkers 1 0\n",
+        "store 1\ntable b key:i64 slots 8 blocks 1\nsessions 1\nworkers 1 101\n",
         "refused 4 workers\n",
     ),
     (
@@ -140,9 +141,6 @@ const REFUSALS: [(&str, &str); 14] = [
         "refused 6 line\n",
     ),
 ];
-
-// The commands that do not run yet.
-const LATER: [&str; 2] = ["prune", "compact b"];
 
 const EXPORT: &str = "1 begin\n1 export b\n";
 
@@ -427,23 +425,6 @@ fn inputs_are_refused(rt: HostRuntime) -> Result<(), Fail> {
         assert_eq!(rt; ended.status, Status::Refused, "{input}");
         assert_eq!(rt; ended.out.written(), refusal.as_bytes(), "{input}");
         assert_eq!(rt; ended.outlet.started().len(), 0, "{input}");
-    }
-    Ok(())
-}
-
-#[test]
-fn commands_that_do_not_run_yet_are_refused(rt: HostRuntime) -> Result<(), Fail> {
-    for command in &LATER {
-        let mut input = workload(rt.alloc(), "1 begin\n1 ")?;
-        input.push_str(command)?;
-        input.push_str("\n")?;
-        let ended = run(&rt, rt.alloc(), &RUN, input.as_str(), NOTHING_FAILS)?;
-        assert_eq!(rt; ended.status, Status::Refused, "{command}");
-        assert_eq!(rt;
-            ended.out.written(),
-            b"refused 7 command\n".as_slice(),
-            "{command}"
-        );
     }
     Ok(())
 }

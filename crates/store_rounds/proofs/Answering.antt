@@ -11,22 +11,24 @@ use Rattle.std.proofs.lemmas.List.FromFn.{length-range_with_len}
 use Rattle.cell_model.specs.declared.table.TableDecl.{TableDecl}
 use Rattle.event_spec.specs.declared.own.OwnTransaction.{OwnTransaction}
 use Rattle.event_spec.specs.declared.event.Event.TheVariants as event
+use Rattle.event_spec.specs.declared.event.MovePair.{MovePair}
 use Rattle.event_spec.specs.Effects.{CoreEvent}
 use Rattle.event_spec.specs.Parts.{Shape, below, blocks_of}
+use Rattle.event_spec.specs.Plans.{plan_of}
 use Rattle.workload_spec.specs.Valid.{is_key_number, is_table_place}
 use Rattle.workload_spec.specs.declared.command.Command.{Command}
 use Rattle.workload_spec.specs.declared.command.Command.TheVariants as command
 use Rattle.workload_spec.specs.declared.reply.Said.{Said}
 use Rattle.workload_spec.specs.declared.reply.Said.TheVariants as said
-use Rattle.run_spec.specs.Asked.{at_all_blocks, at_blocks, events_of}
+use Rattle.run_spec.specs.Asked.{at_all_blocks, at_blocks, events_of, looks_in, moves}
 use Rattle.run_spec.specs.Calls.{Call, IsCallBy}
 use Rattle.run_spec.specs.Handed.{own_in}
 use Rattle.run_spec.specs.Occurrences.{Occurrence, events_in}
 use Rattle.run_spec.specs.Opened.{own_after}
 use Rattle.run_spec.specs.Told.{refusal_of}
-use Rattle.shared_store.specs.Store.{Answers, IsSession, StoreView, events_made, own_of, seen, shape_in, taken_by}
+use Rattle.shared_store.specs.Store.{Answers, IsSession, MakesAtMost, StoreView, own_of, seen, shape_in, taken_by}
 use Rattle.shared_store.specs.declared.session.Session.{Session}
-use Rattle.store_rounds.specs.Answered.{IsServed, is_carried_out, most_events}
+use Rattle.store_rounds.specs.Answered.{Answered, most_events}
 
 -- ---- refused without a transaction
 
@@ -110,60 +112,86 @@ sweeps_few shape event few many =
         let both = length-append (at_blocks shape a (event a)) (flat_map (λ table. at_blocks shape table (event table)) (range_with_len (a + 1) n)) in
         omega (arith, rest, first, both)
 
-thaw_and_write : (table : ℕ) (block : Option ℕ) (e : CoreEvent) → length (map (event.Thaw table) (option_to_list block) ++ e ∷ []) ≤ 2 ^ 14
+thaw_and_write : (table : ℕ) (block : Option ℕ) (e : CoreEvent) → length (map (event.Thaw table) (option_to_list block) ++ e ∷ []) ≤ most_events
 thaw_and_write table None e = omega arith
 thaw_and_write table (Some block) e = omega arith
 
-events_few : (shape : Shape) (own : Option OwnTransaction) (session : ℕ) (command : Command) (made : List Occurrence)
-    → ((table : ℕ) → blocks_of shape table ≤ 2 ^ 10) → length shape.tables ≤ 16 → is_carried_out command ≡ true
-    → length (events_of shape own session command made) ≤ 2 ^ 14
-events_few shape own session command.Begin made few many is = omega arith
-events_few shape None session (command.Get table key) made few many is = omega arith
-events_few shape (Some t) session (command.Get table key) made few many is = omega arith
-events_few shape None session (command.Scan table) made few many is = omega arith
-events_few shape (Some t) session (command.Scan table) made few many is = let reads = reads_few shape table (event.Read t table) (few table) in omega (arith, reads)
-events_few shape None session (command.Insert table row) made few many is = omega arith
-events_few shape (Some t) session (command.Insert table row) made few many is = omega arith
-events_few shape None session (command.Update table row) made few many is = omega arith
-events_few shape (Some t) session (command.Update table row) made few many is = thaw_and_write table _ _
-events_few shape None session (command.Delete table key) made few many is = omega arith
-events_few shape (Some t) session (command.Delete table key) made few many is = thaw_and_write table _ _
-events_few shape None session command.Commit made few many is = omega arith
-events_few shape (Some t) session command.Commit made few many is = omega arith
-events_few shape None session command.Abort made few many is = omega arith
-events_few shape (Some t) session command.Abort made few many is = omega arith
-events_few shape own session command.Observe made few many is = sweeps_few shape event.Observe few many
-events_few shape own session command.Prune made few many is = absurd (true≢false (sym is))
-events_few shape own session (command.Compact table) made few many is = absurd (true≢false (sym is))
-events_few shape own session (command.Seal table block) made few many is = omega arith
-events_few shape own session (command.Gather table block) made few many is = omega arith
-events_few shape None session (command.Export table) made few many is = omega arith
-events_few shape (Some t) session (command.Export table) made few many is = let reads = reads_few shape table (event.Read t table) (few table) in omega (arith, reads)
+look_and_move : (shape : Shape) (table : ℕ) (pairs : List MovePair) → blocks_of shape table ≤ 2 ^ 10
+    → length (at_blocks shape table (event.Look table) ++ moves table pairs) ≤ most_events
+look_and_move shape table pairs few =
+    let looks = reads_few shape table (event.Look table) few in
+    let parted = length-append (at_blocks shape table (event.Look table)) (moves table pairs) in
+    let one = move_at_most pairs in
+    omega (arith, looks, parted, one)
+  where
+    move_at_most : (pairs : List MovePair) → length (moves table pairs) ≤ 1
+    move_at_most [] = omega arith
+    move_at_most (pair ∷ pairs) = omega arith
+
+-- the events of any command but a pruning
+events_few : (shape : Shape) (own : Option OwnTransaction) (session : ℕ) (asked : Command) (made : List Occurrence)
+    → ((table : ℕ) → blocks_of shape table ≤ 2 ^ 10) → length shape.tables ≤ 16 → (asked ≡ command.Prune → ⊥)
+    → length (events_of shape own session asked made) ≤ most_events
+events_few shape own session command.Begin made few many other = omega arith
+events_few shape None session (command.Get table key) made few many other = omega arith
+events_few shape (Some t) session (command.Get table key) made few many other = omega arith
+events_few shape None session (command.Scan table) made few many other = omega arith
+events_few shape (Some t) session (command.Scan table) made few many other = let reads = reads_few shape table (event.Read t table) (few table) in omega (arith, reads)
+events_few shape None session (command.Insert table row) made few many other = omega arith
+events_few shape (Some t) session (command.Insert table row) made few many other = omega arith
+events_few shape None session (command.Update table row) made few many other = omega arith
+events_few shape (Some t) session (command.Update table row) made few many other = thaw_and_write table _ _
+events_few shape None session (command.Delete table key) made few many other = omega arith
+events_few shape (Some t) session (command.Delete table key) made few many other = thaw_and_write table _ _
+events_few shape None session command.Commit made few many other = omega arith
+events_few shape (Some t) session command.Commit made few many other = omega arith
+events_few shape None session command.Abort made few many other = omega arith
+events_few shape (Some t) session command.Abort made few many other = omega arith
+events_few shape own session command.Observe made few many other = let sweeps = sweeps_few shape event.Observe few many in omega (arith, sweeps)
+events_few shape own session command.Prune made few many other = absurd (other refl)
+events_few shape own session (command.Compact table) made few many other = look_and_move shape table (plan_of (looks_in made)) (few table)
+events_few shape own session (command.Seal table block) made few many other = omega arith
+events_few shape own session (command.Gather table block) made few many other = omega arith
+events_few shape None session (command.Export table) made few many other = omega arith
+events_few shape (Some t) session (command.Export table) made few many other = let reads = reads_few shape table (event.Read t table) (few table) in omega (arith, reads)
 
 made_few : (shape : Shape) (worker : Bool) (session : ℕ) (own : Option OwnTransaction) (refusal : Option Said) (call : Call)
-    → ((table : ℕ) → blocks_of shape table ≤ 2 ^ 10) → length shape.tables ≤ 16 → is_carried_out call.command ≡ true
-    → IsCallBy shape worker session own refusal call → length call.made ≤ 2 ^ 14
-made_few shape worker session own (Some line) call few many is (none, told) = let e = ap length none in omega (arith, e)
-made_few shape worker session own None call few many is (inl whole) =
-    let all = events_few shape own session call.command call.made few many is in
+    → ((table : ℕ) → blocks_of shape table ≤ 2 ^ 10) → length shape.tables ≤ 16 → (call.command ≡ command.Prune → ⊥)
+    → IsCallBy shape worker session own refusal call → length call.made ≤ most_events
+made_few shape worker session own (Some line) call few many other (none, told) = let e = ap length none in omega (arith, e)
+made_few shape worker session own None call few many other (inl whole) =
+    let all = events_few shape own session call.command call.made few many other in
     let same = ap length whole.events in
     let each = length-map call.made (λ (occurrence : Occurrence). occurrence.event) in
     omega (arith, all, same, each)
-made_few shape worker session own None call few many is (inr part) =
-    let all = events_few shape own session call.command call.made few many is in
+made_few shape worker session own None call few many other (inr part) =
+    let all = events_few shape own session call.command call.made few many other in
     let same = ap length part.events in
     let parted = length-append (events_in call.made) part.missed in
     let each = length-map call.made (λ (occurrence : Occurrence). occurrence.event) in
     omega (arith, all, same, parted, each)
 
--- a command that is carried out makes few events
-pub few_events : (store : StoreView) (old new : Session) (command : Command) (told : Said)
+-- whether the command prunes
+data IsPruning (asked : Command) : Type 0 where
+  prunes : asked ≡ command.Prune → IsPruning asked
+  other : (asked ≡ command.Prune → ⊥) → IsPruning asked
+
+is_pruning : (asked : Command) → IsPruning asked
+is_pruning command.Prune = prunes refl
+is_pruning _ = other (λ e. let never : ⊥ = cc e in never)
+
+-- an answered command made few events
+pub few_events : (store : StoreView) (old new : Session) (asked : Command) (told : Said) (exported now : Option (List ℕ))
     → All (λ (t : TableDecl). t.blocks ≤ 2 ^ 10) (shape_in store).tables → length (shape_in store).tables ≤ 16
-    → IsServed (shape_in store).tables command → Answers store old new command told → events_made new ≤ events_made old + most_events
-few_events store old new command told blocks many served answers =
-    let few : (table : ℕ) → blocks_of (shape_in store) table ≤ 2 ^ 10 =
-    λ (table : ℕ). blocks_few (shape_in store).tables table blocks in
-    let made = made_few (shape_in store) false old.session (own_after (own_in (shape_in store) old.session (seen old)))
-    (refusal_of command (own_after (own_in (shape_in store) old.session (seen old))))
-    (record { command = command; made = answers.made; told = Some told }) few many served.kind answers.called.is_call in
-    omega (arith, made, answers.count)
+    → Answered store old new asked told exported now → MakesAtMost most_events old new
+few_events store old new asked told exported now blocks many answered = go (is_pruning asked)
+  where
+    go : IsPruning asked → MakesAtMost most_events old new
+    go (prunes is) = answered.pruned is
+    go (other not) =
+        let few : (table : ℕ) → blocks_of (shape_in store) table ≤ 2 ^ 10 =
+        λ (table : ℕ). blocks_few (shape_in store).tables table blocks in
+        let made = made_few (shape_in store) false old.session (own_after (own_in (shape_in store) old.session (seen old)))
+        (refusal_of asked (own_after (own_in (shape_in store) old.session (seen old))))
+        (record { command = asked; made = answered.answers.made; told = Some told }) few many not answered.answers.called.is_call in
+        omega (arith, made, answered.answers.count)

@@ -1,7 +1,7 @@
 -- A fault that is handed on.
 use Rattle.std.proofs.Common.{◌≡◌, ℕ, Ok, Err, refl, sym, subst, true≢false}
-use Rattle.std.specs.Prelude.{◌≢◌, Result}
-use Rattle.std.specs.Result.{IsErr, IsErrAnd}
+use Rattle.std.specs.Prelude.{◌≢◌, IfErr, Result}
+use Rattle.std.specs.Result.{IsErr, IsErrAnd, result_and}
 use Rattle.store_rounds.specs.declared.fault.RunFault.{RunFault}
 use Rattle.store_rounds.specs.declared.fault.RunFault.TheVariants as fault
 use Rattle.store_rounds.specs.Workloads.{CountsExportFault, CountsOutFault}
@@ -25,3 +25,8 @@ pub not_of_output : (T : Type 0) (before now : ℕ) (failed : RunFault)
 not_of_output T before now fault.Out other same = absurd (other refl)
 not_of_output T before now fault.Export other same = same
 not_of_output T before now fault.Memory other same = same
+
+-- what both faults have, has the first of them
+pub either_fault : {T U : Type 0} (P : RunFault → Type 0) (r : Result T RunFault) (s : Result U RunFault) → IfErr r P → IfErr s P → IfErr (result_and r s) P
+either_fault P (Ok value) s first second = second
+either_fault P (Err failed) s first second = first

@@ -1,5 +1,6 @@
 -- How a run goes, told without the store.
 use Rattle.std.proofs.Common.{ℕ, List, Option, Ok, Err}
+use mathlib.Core.Logic.{inl, inr}
 use Rattle.std.specs.Prelude.{IfErr, Result}
 use Rattle.workload_spec.specs.declared.script.Line.{Line}
 use Rattle.workload_spec.specs.declared.script.Script.{Script}
@@ -33,7 +34,16 @@ module _ (Goes Other : List (List Line) → List ℕ → Type 0) (told : (asked 
     printed = goes.printed;
   }
   part_told fault.Export goes = record { lines = goes.lines; last = goes.last; to = to_told goes.lines goes.to }
-  part_told fault.Memory goes = record { lines = goes.lines; to = to_told goes.lines goes.to }
+  part_told fault.Memory (inl goes) = inl (record {
+    whole = goes.whole;
+    round = goes.round;
+    rest = goes.rest;
+    rounds = goes.rounds;
+    text = goes.text;
+    went = told goes.whole goes.text goes.went;
+    printed = goes.printed;
+  })
+  part_told fault.Memory (inr goes) = inr (record { lines = goes.lines; to = to_told goes.lines goes.to })
 
   pub on_part : {T : Type 0} (r : Result T RunFault) → IfErr r (λ failed. GoesPart Goes script failed before now) → IfErr r (λ failed. GoesPart Other script failed before now)
   on_part (Ok value) goes = tt

@@ -6,7 +6,11 @@ mod Sends
 mod Turns
 mod Rows
 mod Agendas
+mod RowCalls
 mod RowWork
+mod WorkerTurns
+mod RowTurns
+mod WholeRounds
 mod Runs
 mod Went
 mod Running

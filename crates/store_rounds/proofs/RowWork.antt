@@ -1,18 +1,15 @@
 -- A row at work, session by session.
-use Rattle.std.proofs.Common.{◌≡◌, ℕ, zero, suc, ◌+◌, ◌-◌, ◌*◌, ◌<◌, ◌≤◌, nat_lt, Bool, true, false, cond, ◌==◌, List, [], ◌∷◌, ◌++◌, map, length, get_or, slice_set, refl, sym, ap, ◌∙◌, subst, append-nil, append_assoc, arith, length-append, Option, None, Some, Result, Ok, Err}
-use Rattle.std.specs.Prelude.{All, IfErr, IfOk}
-use Rattle.std.specs.List.{cons_option, flat_map, range_with_len}
+use Rattle.std.proofs.Common.{◌≡◌, ℕ, suc, ◌+◌, ◌-◌, ◌*◌, ◌<◌, ◌≤◌, nat_lt, Bool, true, false, cond, ◌==◌, List, [], ◌∷◌, ◌++◌, length, get_or, slice_set, refl, sym, ap, ◌∙◌, subst, append-nil, arith, length-append, Option, None, Some, Result, Ok, Err}
+use Rattle.std.specs.Prelude.{All, IfErr, OnOk}
+use Rattle.std.specs.List.{cons_option}
 use Rattle.std.proofs.lemmas.Bool.Decides.{nat_tests}
-use Rattle.std.proofs.lemmas.Grind.{elements, flat_map-append}
 use Rattle.std.proofs.lemmas.List.{get_or_at}
 use Rattle.std.proofs.lemmas.List.Elements.{All-cons, All-head, All-nil, All-tail}
-use Rattle.std.proofs.lemmas.List.FromFn.{map-range_with_len_more}
 use Rattle.cell_model.specs.declared.table.TableDecl.{TableDecl}
 use Rattle.outcome_spec.specs.Forms.{commands_of}
 use Rattle.workload_spec.specs.declared.command.Command.{Command}
 use Rattle.workload_spec.specs.declared.script.Line.{Line}
 use Rattle.run_spec.specs.Calls.{Call}
-use Rattle.run_spec.specs.Ran.{Share}
 use Rattle.round_laws.proofs.Working.{nothing_done}
 use Rattle.round_laws.specs.Lines.{round_text, share_text}
 use Rattle.round_laws.specs.Texts.{IsCounted}
@@ -21,12 +18,15 @@ use Rattle.shared_store.specs.declared.session.Session.{Session}
 use Rattle.store_rounds.specs.declared.agenda.Agenda.{Agenda}
 use Rattle.store_rounds.specs.Agendas.{AreAgendas}
 use Rattle.store_rounds.specs.Answered.{SentBy, most_events}
-use Rattle.store_rounds.specs.Row.{AreSessions, Met}
-use Rattle.store_rounds.specs.Rounds.{AreNumbered, HaveRoomFor, HaveRoomToWork, RanInPart, RanRound, RowRan, RowWorked, RowWorkedInPart, RowWorkedWhole, StoppedRound, WorkedRound, calls_of, shares_of}
-use Rattle.store_rounds.specs.Worked.{EndsAtExport, Worked, WorkedInPart, WorkedWhole, asked_in, share_of}
+use Rattle.store_rounds.specs.Crews.{calls_of, shares_of}
+use Rattle.store_rounds.specs.Row.{AreSessions}
+use Rattle.store_rounds.specs.Rounds.{AreNumbered, HaveRoomFor, HaveRoomToWork, RowWorked, RowWorkedInPart, RowWorkedWhole, StoppedRound, WorkedRound}
+use Rattle.store_rounds.specs.Worked.{EndsAtExport, SessionWorked, Worked, WorkedInPart, WorkedWhole, asked_in, share_of}
 use Rattle.store_rounds.specs.declared.fault.RunFault.{RunFault}
 use Rattle.store_rounds.specs.declared.fault.RunFault.TheVariants as fault
+use Rattle.store_rounds.proofs.RowCalls.{calls_more, no_calls, none_behind, other_calls, own_calls, row_more, set_other, shares_text_more, with_calls}
 use Rattle.store_rounds.proofs.Sends.{calls_sent, nothing_sent}
+use Rattle.workload_spec.specs.declared.reply.Who.TheVariants.{Session as TheSession}
 
 -- A row within a round: the first so many sessions carried out all that they were asked, and the
 -- others nothing yet.
@@ -35,15 +35,16 @@ pub record RowTurn (store : StoreView) (round : ℕ) (old now : List Session) (a
   pub worked : RowWorked store old now calls
   pub ahead : (k : ℕ) → at' ≤ k → calls (k + 1) ≡ []
   pub asked : (k : ℕ) (d : Agenda) → k < at' → asked_in (calls (k + 1)) ≡ (get_or agendas k d).commands.items
-  pub text : after ≡ before ++ round_text (shape_in store).tables round (shares_of at' calls)
+  pub text : after ≡ before ++ round_text (shape_in store).tables round (shares_of TheSession at' calls)
   pub sent : SentBy (shape_in store).tables (calls_of at' calls) exported exported_now
   pub unmoved : (k : ℕ) (d : Session) → at' ≤ k → k < length old → get_or now k d ≡ get_or old k d
 
-nothing_worked : (store : StoreView) (session : Session) → IsSession store session → Worked store session session []
-nothing_worked store session is = record {
+-- one who carried out nothing
+pub nothing_worked : (store : StoreView) (worker : Bool) (most : ℕ) (session : Session) → IsSession store session → Worked store worker most session session []
+nothing_worked store worker most session is = record {
   is_session = is;
   same = refl;
-  works = nothing_done (shape_in store) false session.session (seen session);
+  works = nothing_done (shape_in store) worker session.session (seen session);
   counted = All-nil IsCounted;
   few = omega arith;
 }
@@ -52,7 +53,7 @@ pub row_begins : (store : StoreView) (round : ℕ) (row : List Session) (agendas
     → AreSessions store row → RowTurn store round row row agendas text text exported exported 0
 row_begins store round row agendas text exported are = record {
   calls = λ n. [];
-  worked = record { size = refl; each = λ k d within. nothing_worked store (get_or row k d) (are k d within) };
+  worked = record { size = refl; each = λ k d within. nothing_worked store false (most_events * 0) (get_or row k d) (are k d within) };
   ahead = λ k low. refl;
   asked = λ k d low. absurd (omega (arith, low));
   text = sym (append-nil text);
@@ -60,118 +61,7 @@ row_begins store round row agendas text exported are = record {
   unmoved = λ k d low within. refl;
 }
 
--- ---- reading a row in which one was set
-
-set_own : (row : List Session) (new : Session) (at' k : ℕ) (d : Session) → k ≡ at' → k < length row → get_or (slice_set row at' new) k d ≡ new
-set_own row new at' k d same within = grind (arith, elements)
-
-set_other : (row : List Session) (new : Session) (at' k : ℕ) (d : Session) → (k ≡ at' → ⊥) → get_or (slice_set row at' new) k d ≡ get_or row k d
-set_other row new at' k d other = grind (arith, elements)
-
-pub set_length : (row : List Session) (new : Session) (at' : ℕ) → length (slice_set row at' new) ≡ length row
-set_length row new at' = grind (arith, elements)
-
-any_default : (row : List Session) (k : ℕ) (d e : Session) → k < length row → get_or row k d ≡ get_or row k e
-any_default row k d e within = grind (arith, elements)
-
--- the calls of each session, with those of one set
-abbrev with_calls : ℕ → List Call → (ℕ → List Call) → ℕ → List Call
-with_calls session own calls other = cond (other == session) own (calls other)
-
-own_calls : (at' k : ℕ) (own : List Call) (calls : ℕ → List Call) → k ≡ at' → with_calls (at' + 1) own calls (k + 1) ≡ own
-own_calls at' k own calls same =
-    let is : (k + 1 == at' + 1) ≡ true = grind (arith, nat_tests, same) in
-    ap (λ b. cond b own (calls (k + 1))) is
-
-other_calls : (at' n : ℕ) (own : List Call) (calls : ℕ → List Call) → (n ≡ at' + 1 → ⊥) → with_calls (at' + 1) own calls n ≡ calls n
-other_calls at' n own calls other = go (n == at' + 1) refl
-  where
-    go : (b : Bool) → (n == at' + 1) ≡ b → with_calls (at' + 1) own calls n ≡ calls n
-    go true e = absurd (other (grind (arith, nat_tests, e)))
-    go false e = ap (λ b. cond b own (calls n)) e
-
-worked_as : (store : StoreView) (o p n m : Session) (c e : List Call) → o ≡ p → n ≡ m → c ≡ e → Worked store p m e → Worked store o n c
-worked_as store o p n m c e old new calls worked =
-    subst (λ q. Worked store q n c) (sym old) (subst (λ q. Worked store p q c) (sym new) (subst (λ q. Worked store p m q) (sym calls) worked))
-
--- one of a row carried out its calls
-row_more : (store : StoreView) (old now : List Session) (calls : ℕ → List Call) (at' : ℕ) (x new : Session) (own : List Call)
-    → RowWorked store old now calls → at' < length old
-    → ((d : Session) → get_or now at' d ≡ get_or old at' d)
-    → Worked store (get_or now at' x) new own
-    → RowWorked store old (slice_set now at' new) (with_calls (at' + 1) own calls)
-row_more store old now calls at' x new own worked high unmoved did = record {
-  size = set_length now new at' ∙ worked.size;
-  each = λ k d within. go k d within (k == at') refl;
-}
-  where
-    go : (k : ℕ) (d : Session) → k < length old → (b : Bool) → (k == at') ≡ b
-        → Worked store (get_or old k d) (get_or (slice_set now at' new) k d) (with_calls (at' + 1) own calls (k + 1))
-    go k d within true e =
-        let same : k ≡ at' = grind (arith, nat_tests, e) in
-        worked_as store (get_or old k d) (get_or now at' x) (get_or (slice_set now at' new) k d) new (with_calls (at' + 1) own calls (k + 1)) own
-        (any_default old k d x within ∙ ap (λ n. get_or old n x) same ∙ sym (unmoved x))
-        (set_own now new at' k d same (omega (arith, within, worked.size)))
-        (own_calls at' k own calls same) did
-    go k d within false e =
-        let other : k ≡ at' → ⊥ = λ (same : k ≡ at'). absurd (grind (arith, nat_tests, e, same)) in
-        worked_as store (get_or old k d) (get_or old k d) (get_or (slice_set now at' new) k d) (get_or now k d) (with_calls (at' + 1) own calls (k + 1)) (calls (k + 1))
-        refl (set_other now new at' k d other) (other_calls at' (k + 1) own calls (λ same. other (omega (arith, same)))) (worked.each k d within)
-
--- ---- shares
-
-same_on_range : {X : Type 0} (f g : ℕ → X) (a n : ℕ) → ((k : ℕ) → a ≤ k → k < a + n → f k ≡ g k) → map f (range_with_len a n) ≡ map g (range_with_len a n)
-same_on_range f g a zero same = refl
-same_on_range f g a (suc n) same =
-    ap (λ x. x ∷ map f (range_with_len (a + 1) n)) (same a (omega arith) (omega arith))
-    ∙ ap (λ xs. g a ∷ xs) (same_on_range f g (a + 1) n (λ k low high. same k (omega (arith, low)) (omega (arith, high))))
-
-shares_more : (at' : ℕ) (own : List Call) (calls : ℕ → List Call)
-    → shares_of (at' + 1) (with_calls (at' + 1) own calls) ≡ shares_of at' calls ++ share_of (at' + 1) own ∷ []
-shares_more at' own calls =
-    let share : ℕ → Share = λ (n : ℕ). share_of n (with_calls (at' + 1) own calls n) in
-    map-range_with_len_more share 1 at' (at' + 1) (omega arith)
-    ∙ ap (λ (shares : List Share). shares ++ share (at' + 1) ∷ [])
-    (same_on_range share (λ (n : ℕ). share_of n (calls n)) 1 at'
-    (λ k low high. ap (share_of k) (other_calls at' k own calls (λ same. omega (arith, same, high)))))
-    ∙ ap (λ (cs : List Call). shares_of at' calls ++ share_of (at' + 1) cs ∷ []) (own_calls at' at' own calls refl)
-
--- ---- the calls of all
-
-same_calls : (f g : ℕ → List Call) (a n : ℕ) → ((k : ℕ) → a ≤ k → k < a + n → f k ≡ g k) → flat_map f (range_with_len a n) ≡ flat_map g (range_with_len a n)
-same_calls f g a zero same = refl
-same_calls f g a (suc n) same =
-    ap (λ (cs : List Call). cs ++ flat_map f (range_with_len (a + 1) n)) (same a (omega arith) (omega arith))
-    ∙ ap (λ (cs : List Call). g a ++ cs) (same_calls f g (a + 1) n (λ k low high. same k (omega (arith, low)) (omega (arith, high))))
-
-one_behind : (calls : ℕ → List Call) (a n j : ℕ) → a + n ≡ j → flat_map calls (range_with_len a (suc n)) ≡ flat_map calls (range_with_len a n) ++ calls j
-one_behind calls a zero j at' = append-nil (calls a) ∙ ap calls (let e : a ≡ j = omega (arith, at') in e)
-one_behind calls a (suc n) j at' =
-    ap (λ (cs : List Call). calls a ++ cs) (one_behind calls (a + 1) n j (omega (arith, at')))
-    ∙ sym (append_assoc (calls a) (flat_map calls (range_with_len (a + 1) n)) (calls j))
-
--- those of sessions without a call are none
-none_behind : (calls : ℕ → List Call) (a m n : ℕ) → m ≤ n → ((k : ℕ) → a + m ≤ k → calls k ≡ []) → flat_map calls (range_with_len a n) ≡ flat_map calls (range_with_len a m)
-none_behind calls a zero zero few none = refl
-none_behind calls a zero (suc n) few none =
-    ap (λ (cs : List Call). cs ++ flat_map calls (range_with_len (a + 1) n)) (none a (omega arith))
-    ∙ none_behind calls (a + 1) zero n (omega arith) (λ k low. none k (omega (arith, low)))
-none_behind calls a (suc m) zero few none = absurd (omega (arith, few))
-none_behind calls a (suc m) (suc n) few none =
-    ap (λ (cs : List Call). calls a ++ cs) (none_behind calls (a + 1) m n (omega (arith, few)) (λ k low. none k (omega (arith, low))))
-
-pub no_calls : (sessions : ℕ) → calls_of sessions (λ n. []) ≡ []
-no_calls sessions = none_behind (λ n. []) 1 0 sessions (omega arith) (λ k low. refl)
-
-calls_more : (at' : ℕ) (own : List Call) (calls : ℕ → List Call)
-    → calls_of (at' + 1) (with_calls (at' + 1) own calls) ≡ calls_of at' calls ++ own
-calls_more at' own calls =
-    let all : ℕ → List Call = λ (n : ℕ). with_calls (at' + 1) own calls n in
-    ap (λ n. calls_of n all) (let e : at' + 1 ≡ suc at' = omega arith in e)
-    ∙ one_behind all 1 at' (at' + 1) (omega arith)
-    ∙ ap (λ (cs : List Call). cs ++ all (at' + 1))
-    (same_calls all calls 1 at' (λ k low high. other_calls at' k own calls (λ same. omega (arith, same, high))))
-    ∙ ap (λ (cs : List Call). calls_of at' calls ++ cs) (own_calls at' at' own calls refl)
+-- ---- steps
 
 -- what all sent, where one more carried out its calls
 sent_further : (tables : List TableDecl) (at' : ℕ) (own : List Call) (calls : ℕ → List Call) (exported now later : Option (List ℕ))
@@ -181,8 +71,6 @@ sent_further tables at' own calls exported now later before behind =
     subst (λ (cs : List Call). SentBy tables cs exported later) (sym (calls_more at' own calls))
     (calls_sent tables (calls_of at' calls) own exported now later before behind)
 
--- ---- steps
-
 pub row_goes_on : (store : StoreView) (round : ℕ) (old now : List Session) (agendas : List Agenda) (before after later : List ℕ) (exported exported_now exported_later : Option (List ℕ)) (at' : ℕ) (x new : Session) (commands : List Command) (number : ℕ)
     → RowTurn store round old now agendas before after exported exported_now at' → at' < length old → AreNumbered old → number ≡ round
     → WorkedWhole store number (get_or now at' x) new commands after later exported_now exported_later
@@ -190,18 +78,14 @@ pub row_goes_on : (store : StoreView) (round : ℕ) (old now : List Session) (ag
     → RowTurn store round old (slice_set now at' new) agendas before later exported exported_later (at' + 1)
 row_goes_on store round old now agendas before after later exported exported_now exported_later at' x new commands number turn high numbers same_round did asked = record {
   calls = with_calls (at' + 1) did.calls turn.calls;
-  worked = row_more store old now turn.calls at' x new did.calls turn.worked high (λ d. turn.unmoved at' d (omega arith) high) did.worked;
+  worked = row_more (SessionWorked store) old now turn.calls at' x new did.calls turn.worked high (λ d. turn.unmoved at' d (omega arith) high) did.worked;
   ahead = λ k low. other_calls at' (k + 1) did.calls turn.calls (λ same. omega (arith, same, low)) ∙ turn.ahead k (omega (arith, low));
   asked = λ k d low. go k d low (k == at') refl;
   text = did.text
-      ∙ ap (λ (n : ℕ). after ++ share_text (shape_in store).tables n (share_of (get_or now at' x).session did.calls)) same_round
-      ∙ ap (λ (n : ℕ). after ++ share_text (shape_in store).tables round (share_of n did.calls)) (ap (λ (s : Session). s.session) (turn.unmoved at' x (omega arith) high) ∙ numbers at' x high)
-      ∙ ap (λ (text : List ℕ). text ++ share_text (shape_in store).tables round (share_of (at' + 1) did.calls)) turn.text
-      ∙ append_assoc before (round_text (shape_in store).tables round (shares_of at' turn.calls)) (share_text (shape_in store).tables round (share_of (at' + 1) did.calls))
-      ∙ ap (λ (text : List ℕ). before ++ text)
-      (ap (λ (text : List ℕ). round_text (shape_in store).tables round (shares_of at' turn.calls) ++ text) (sym (append-nil (share_text (shape_in store).tables round (share_of (at' + 1) did.calls))))
-      ∙ sym (flat_map-append (share_text (shape_in store).tables round) (shares_of at' turn.calls) (share_of (at' + 1) did.calls ∷ []))
-      ∙ ap (round_text (shape_in store).tables round) (sym (shares_more at' did.calls turn.calls)));
+      ∙ ap (λ (n : ℕ). after ++ share_text (shape_in store).tables n (share_of (TheSession (get_or now at' x).session) did.calls)) same_round
+      ∙ ap (λ (n : ℕ). after ++ share_text (shape_in store).tables round (share_of (TheSession n) did.calls)) (ap (λ (s : Session). s.session) (turn.unmoved at' x (omega arith) high) ∙ numbers at' x high)
+      ∙ ap (λ (text : List ℕ). text ++ share_text (shape_in store).tables round (share_of (TheSession (at' + 1)) did.calls)) turn.text
+      ∙ shares_text_more (shape_in store).tables round (λ n. TheSession n) at' did.calls turn.calls before;
   sent = sent_further (shape_in store).tables at' did.calls turn.calls exported exported_now exported_later turn.sent did.sent;
   unmoved = λ k d low within. set_other now new at' k d (λ same. omega (arith, same, low)) ∙ turn.unmoved k d (omega (arith, low)) within;
 }
@@ -221,7 +105,7 @@ row_ends store round old now agendas before after exported exported_now at' turn
   calls = turn.calls;
   worked = turn.worked;
   asked = λ k d within. turn.asked k d (omega (arith, within, all));
-  text = turn.text ∙ ap (λ n. before ++ round_text (shape_in store).tables round (shares_of n turn.calls)) all;
+  text = turn.text ∙ ap (λ n. before ++ round_text (shape_in store).tables round (shares_of TheSession n turn.calls)) all;
   sent = subst (λ n. SentBy (shape_in store).tables (calls_of n turn.calls) exported exported_now) all turn.sent;
 }
 
@@ -232,7 +116,7 @@ pub row_stops : (store : StoreView) (round : ℕ) (old now : List Session) (agen
     → RowWorkedInPart store old (slice_set now at' new) agendas failed exported exported_later
 row_stops store round old now agendas before after exported exported_now exported_later at' x new commands failed turn high did asked = record {
   calls = with_calls (at' + 1) did.calls turn.calls;
-  worked = row_more store old now turn.calls at' x new did.calls turn.worked high (λ d. turn.unmoved at' d (omega arith) high) did.worked;
+  worked = row_more (SessionWorked store) old now turn.calls at' x new did.calls turn.worked high (λ d. turn.unmoved at' d (omega arith) high) did.worked;
   asked = λ k d within. go k d (k == at') (nat_lt k at') refl refl;
   sent = subst (λ (cs : List Call). SentBy (shape_in store).tables cs exported exported_later)
       (sym (none_behind (with_calls (at' + 1) did.calls turn.calls) 1 (at' + 1) (length old) (omega (arith, high)) later_calls))
@@ -293,7 +177,7 @@ is_inside front rest all agenda at' split size = omega (arith, size, ap length s
 -- ---- a round
 
 nothing_done_by : (store : StoreView) (row : List Session) → AreSessions store row → RowWorked store row row (λ n. [])
-nothing_done_by store row are = record { size = refl; each = λ k d within. nothing_worked store (get_or row k d) (are k d within) }
+nothing_done_by store row are = record { size = refl; each = λ k d within. nothing_worked store false (most_events * 0) (get_or row k d) (are k d within) }
 
 -- there was no memory to begin the round
 pub stopped_at_once : (store : StoreView) (row : List Session) (lines : List Line) (exported : Option (List ℕ))
@@ -307,15 +191,15 @@ stopped_at_once store row lines exported are = record {
   last = λ e. absurd (let never : ⊥ = cc e in never);
 }
 
-pub round_worked : (store : StoreView) (round : ℕ) (old new : List Session) (agendas : List Agenda) (lines : List Line) (before text : List ℕ) (exported now : Option (List ℕ))
-    → before ≡ [] → AreAgendas (length old) lines agendas
-    → RowWorkedWhole store round old new agendas before text exported now
-    → WorkedRound store round old new lines text exported now
-round_worked store round old new agendas lines before text exported now none are worked = record {
+round_worked : (store : StoreView) (round : ℕ) (old new : List Session) (agendas : List Agenda) (lines : List Line) (before after : List ℕ) (exported now : Option (List ℕ))
+    → AreAgendas (length old) lines agendas
+    → RowWorkedWhole store round old new agendas before after exported now
+    → WorkedRound store round old new lines before after exported now
+round_worked store round old new agendas lines before after exported now are worked = record {
   calls = worked.calls;
   worked = worked.worked;
   asked = λ k within. asked agendas are worked.asked k within;
-  text_is = worked.text ∙ ap (λ (front : List ℕ). front ++ round_text (shape_in store).tables round (shares_of (length old) worked.calls)) none;
+  text = worked.text;
   sent = worked.sent;
 }
   where
@@ -325,7 +209,7 @@ round_worked store round old new agendas lines before text exported now none are
     asked [] are each k within = absurd (omega (arith, within, are.size))
     asked (d ∷ agendas) are each k within = each k d within ∙ are.each k d within
 
-pub round_stopped : (store : StoreView) (old new : List Session) (agendas : List Agenda) (lines : List Line) (failed : RunFault) (exported now : Option (List ℕ))
+round_stopped : (store : StoreView) (old new : List Session) (agendas : List Agenda) (lines : List Line) (failed : RunFault) (exported now : Option (List ℕ))
     → AreAgendas (length old) lines agendas → RowWorkedInPart store old new agendas failed exported now
     → StoppedRound store old new lines failed exported now
 round_stopped store old new agendas lines failed exported now are worked = record {
@@ -342,54 +226,19 @@ round_stopped store old new agendas lines failed exported now are worked = recor
     asked [] are each k within = absurd (omega (arith, within, are.size))
     asked (d ∷ agendas) are each k within = let part = each k d within in (part.0, sym (are.each k d within) ∙ part.1)
 
-pub still_sessions_behind : (store : StoreView) (old new : List Session) (calls : ℕ → List Call) → RowWorked store old new calls → AreSessions store new
-still_sessions_behind store old new calls worked k d within = (worked.each k d (omega (arith, within, worked.size))).is_session
+-- the same of work that ended in any way
+module _ {T : Type 0} (store : StoreView) (old new : List Session) (agendas : List Agenda) (lines : List Line) (are : AreAgendas (length old) lines agendas) where
+  pub whole_worked : (round : ℕ) (before after : List ℕ) (exported now : Option (List ℕ)) (r : Result T RunFault)
+      → OnOk r (RowWorkedWhole store round old new agendas before after exported now)
+      → OnOk r (WorkedRound store round old new lines before after exported now)
+  whole_worked round before after exported now (Ok value) worked = round_worked store round old new agendas lines before after exported now are worked
+  whole_worked round before after exported now (Err failed) worked = tt
 
-pub row_ran : (store : StoreView) (old ended new : List Session) (calls : ℕ → List Call) → RowWorked store old ended calls → Met store ended new → RowRan store old new calls
-row_ran store old ended new calls worked met = record {
-  met = met.met;
-  lawful = met.lawful;
-  named = met.named;
-  size = met.size ∙ worked.size;
-  each = λ k d within. record {
-    ended = get_or ended k d;
-    worked = worked.each k d within;
-    met_in = met.each k d (omega (arith, within, worked.size));
-  };
-}
-
--- the sessions of a row whose work ended in any way
-module _ {T : Type 0} (store : StoreView) (round : ℕ) (old ended : List Session) (lines : List Line) (text : T → List ℕ) (exported now : Option (List ℕ)) where
-  pub ended_sessions : (r : Result T RunFault)
-      → IfOk r (λ value. WorkedRound store round old ended lines (text value) exported now)
-      → IfErr r (λ failed. StoppedRound store old ended lines failed exported now)
-      → AreSessions store ended × (length ended ≡ length old)
-  ended_sessions (Ok value) whole part = (still_sessions_behind store old ended whole.calls whole.worked, whole.worked.size)
-  ended_sessions (Err failed) whole part = (still_sessions_behind store old ended part.calls part.worked, part.worked.size)
-
-  pub ran_whole : (new : List Session) (r : Result T RunFault)
-      → IfOk r (λ value. WorkedRound store round old ended lines (text value) exported now) → Met store ended new
-      → IfOk r (λ value. RanRound store round old new lines (text value) exported now)
-  ran_whole new (Ok value) whole met = record {
-    calls = whole.calls;
-    ran = row_ran store old ended new whole.calls whole.worked met;
-    asked = whole.asked;
-    text_is = whole.text_is;
-    sent = whole.sent;
-  }
-  ran_whole new (Err failed) whole met = tt
-
-  pub ran_in_part : (new : List Session) (r : Result T RunFault)
-      → IfErr r (λ failed. StoppedRound store old ended lines failed exported now) → Met store ended new
-      → IfErr r (λ failed. RanInPart store old new lines failed exported now)
-  ran_in_part new (Ok value) part met = tt
-  ran_in_part new (Err failed) part met = record {
-    calls = part.calls;
-    ran = row_ran store old ended new part.calls part.worked met;
-    asked = part.asked;
-    sent = part.sent;
-    last = part.last;
-  }
+  pub part_stopped : (exported now : Option (List ℕ)) (r : Result T RunFault)
+      → IfErr r (λ failed. RowWorkedInPart store old new agendas failed exported now)
+      → IfErr r (λ failed. StoppedRound store old new lines failed exported now)
+  part_stopped exported now (Ok value) worked = tt
+  part_stopped exported now (Err failed) worked = round_stopped store old new agendas lines failed exported now are worked
 
 -- ---- what may be asked
 
@@ -404,7 +253,7 @@ commands_few session (line ∷ lines) = go (line.session == session) (commands_f
     go false few = omega (arith, few)
 
 pub room_to_work : (row : List Session) (lines : List Line) (agendas : List Agenda) → AreAgendas (length row) lines agendas
-    → HaveRoomFor (length lines) row → HaveRoomToWork agendas row
+    → HaveRoomFor (most_events * length lines) row → HaveRoomToWork agendas row
 room_to_work row lines agendas are room k d e within =
     let few : length (get_or agendas k e).commands.items ≤ length lines =
     subst (λ (cs : List Command). length cs ≤ length lines) (sym (are.each k e within)) (commands_few (k + 1) lines) in

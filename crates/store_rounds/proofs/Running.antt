@@ -1,5 +1,6 @@
 -- A run, round by round.
 use Rattle.std.proofs.Common.{◌≡◌, ℕ, suc, ◌+◌, ◌*◌, ◌<◌, ◌≤◌, ◌^◌, ◌==◌, Bool, true, false, cond, List, [], ◌∷◌, ◌++◌, map, length, get_or, take, Option, None, Some, refl, sym, ap, ◌∙◌, subst, append-nil, append_assoc, arith, length-append}
+use mathlib.Core.Logic.{inr}
 use Rattle.std.specs.Prelude.{◌≢◌, All}
 use Rattle.std.specs.List.{cons_option, flat_map, list_all, range_with_len}
 use Rattle.std.specs.Io.KnownBytes.{Appends}
@@ -8,13 +9,15 @@ use Rattle.std.proofs.lemmas.Bool.{and_from, and_parts}
 use Rattle.std.proofs.lemmas.Grind.{flat_map-append}
 use Rattle.std.proofs.lemmas.Grind.{elements}
 use Rattle.std.proofs.lemmas.List.{length-map, length_push, map-append}
-use Rattle.std.proofs.lemmas.List.Elements.{All-append, All-cons, All-head, All-nil, All-tail}
+use Rattle.std.proofs.lemmas.List.Elements.{All-append, All-cons, All-nil}
 use Rattle.std.proofs.lemmas.List.Folds.{list_all-append}
 use Rattle.byte_ports.specs.Calls.{AppendsFront}
 use Rattle.export_spec.specs.Calls.{calls_in}
 use Rattle.outcome_spec.specs.Forms.{commands_of}
 use Rattle.workload_spec.specs.Valid.{all_lines, is_command, is_export, is_line, is_valid, is_within}
 use Rattle.workload_spec.specs.declared.command.Command.{Command}
+use Rattle.workload_spec.specs.declared.reply.Who.{Who}
+use Rattle.workload_spec.specs.declared.reply.Who.TheVariants.{Session as TheSession, Worker as TheWorker}
 use Rattle.workload_spec.specs.declared.script.Line.{Line}
 use Rattle.workload_spec.specs.declared.script.Script.{Script}
 use Rattle.event_spec.specs.Parts.{Shape}
@@ -31,16 +34,19 @@ use Rattle.round_laws.specs.Texts.{AreCounted}
 use Rattle.shared_store.specs.Building.{IsNewRow, IsNewSession}
 use Rattle.shared_store.specs.Store.{StoreView, events_made, seen, shape_in}
 use Rattle.shared_store.specs.declared.session.Session.{Session}
+use Rattle.store_workers.specs.Turns.{most_of_turn}
 use Rattle.store_rounds.specs.Answered.{IsServed, SentBy, most_events}
-use Rattle.store_rounds.specs.Rounds.{HaveRoomFor, OneEndsAtExport, RanInPart, RanRound, RowRan, calls_of, shares_of}
+use Rattle.store_rounds.specs.Crews.{calls_of, crew_calls, crew_of, crew_shares, shares_of}
+use Rattle.store_rounds.specs.Rounds.{AllTurned, AskedAll, HaveRoomFor, OneEndsAtExport, RanInPart, RanRound, RowRan}
 use Rattle.store_rounds.specs.Runs.{IsRowOf, RunsIn, Standing}
 use Rattle.store_rounds.specs.Worked.{asked_in, share_of}
 use Rattle.store_rounds.specs.Workloads.{EndAtExport, GoesCutOff, GoesPart, GoesTo, GoesWhole}
+use Rattle.store_rounds.specs.declared.crew.Crew.{Crew}
 use Rattle.store_rounds.specs.declared.fault.RunFault.{RunFault}
 use Rattle.store_rounds.specs.declared.fault.RunFault.TheVariants as fault
 use Rattle.store_rounds.proofs.RowWork.{commands_few}
-use Rattle.store_rounds.proofs.Runs.{gone_on, is_row, row_met, shares_counted, stand_behind}
-use Rattle.store_rounds.proofs.Scripts.{has_sessions, lines_are_valid}
+use Rattle.store_rounds.proofs.Runs.{Place, gone_on, is_row, of_session, of_worker, place, row_met, shares_counted, stand_behind}
+use Rattle.store_rounds.proofs.Scripts.{few_turns, has_sessions, lines_are_valid}
 use Rattle.store_rounds.proofs.Sends.{calls_sent, nothing_sent}
 use Rattle.store_rounds.proofs.Went.{explained_so_far, went, went_so_far}
 
@@ -77,6 +83,11 @@ count_lines asked rest lines =
 
 -- ---- a run so far
 
+-- In rounds of these lines a session makes the events of its commands at most, and a worker those of
+-- its turns.
+abbrev most_so_far : List (List Line) → ℕ
+most_so_far asked = most_events * length (lines_in asked) + most_of_turn * 100 * length asked
+
 pub record Running (script : Script) (store : StoreView) (row : List Session) (asked : List (List Line)) (before now exported exported_now : Option (List ℕ)) (number : ℕ) : Type 0 where
   pub rounds : List RoundRun
   pub finished : List Logged
@@ -84,8 +95,9 @@ pub record Running (script : Script) (store : StoreView) (row : List Session) (a
   pub counted : All AreCounted rounds
   pub stands : Standing store finished row
   pub is : IsRowOf script store row
-  pub some : 0 < length row
-  pub few : (k : ℕ) (d : Session) → k < length row → events_made (get_or row k d) ≤ most_events * length (lines_in asked)
+  pub some : 0 < script.sessions
+  pub turns : script.turns ≤ 100
+  pub few : (k : ℕ) (d : Session) → k < length row → events_made (get_or row k d) ≤ most_so_far asked
   pub printed : Appends before now (rounds_text script.tables 1 rounds)
   pub sent : SentBy script.tables (calls_in rounds) exported exported_now
   pub count : number ≡ length rounds
@@ -103,124 +115,161 @@ new_row_stands store count row new = record {
 }
 
 pub running_begins : (script : Script) (store : StoreView) (row : List Session) (before exported : Option (List ℕ))
-    → is_valid script ≡ true → script.workers ≡ 0 → shape_in store ≡ shape_of script → IsNewRow store script.sessions row
+    → is_valid script ≡ true → shape_in store ≡ shape_of script → IsNewRow store (script.sessions + script.workers) row
     → Running script store row [] before before exported exported 0
-running_begins script store row before exported valid workers shape new = record {
+running_begins script store row before exported valid shape new = record {
   rounds = [];
   finished = [];
   ran = nothing_ran script;
   counted = All-nil AreCounted;
-  stands = new_row_stands store script.sessions row new;
-  is = record { shape = shape; size = new.many; workers = workers };
-  some = let one = has_sessions script valid in omega (arith, one, new.many);
-  few = λ k d within. let none = (new_at store script.sessions row k d new within).made in omega (arith, none);
+  stands = new_row_stands store (script.sessions + script.workers) row new;
+  is = record { shape = shape; size = new.many };
+  some = let one = has_sessions script valid in omega (arith, one);
+  turns = few_turns script valid;
+  few = λ k d within. let none = (new_at store (script.sessions + script.workers) row k d new within).made in omega (arith, none);
   printed = Appends-nil before;
   sent = nothing_sent script.tables exported;
   count = refl;
   asked_count = refl;
 }
 
--- the calls of a row's shares
-pub calls_in_shares : (calls : ℕ → List Call) (numbers : List ℕ)
-    → flat_map (λ (share : Share). share.calls) (map (λ n. share_of n (calls n)) numbers) ≡ flat_map calls numbers
-calls_in_shares calls [] = refl
-calls_in_shares calls (n ∷ numbers) = ap (λ (cs : List Call). calls n ++ cs) (calls_in_shares calls numbers)
+-- the calls of the shares of so many of a kind
+pub calls_in_shares : (who : ℕ → Who) (calls : ℕ → List Call) (numbers : List ℕ)
+    → flat_map (λ (share : Share). share.calls) (map (λ n. share_of (who n) (calls n)) numbers) ≡ flat_map calls numbers
+calls_in_shares who calls [] = refl
+calls_in_shares who calls (n ∷ numbers) = ap (λ (cs : List Call). calls n ++ cs) (calls_in_shares who calls numbers)
+
+calls_in_crew : (crew : Crew) (calls : Who → List Call) → flat_map (λ (share : Share). share.calls) (crew_shares crew calls) ≡ crew_calls crew calls
+calls_in_crew crew calls =
+    let workers : List Share = shares_of TheWorker crew.workers (λ n. calls (TheWorker n)) in
+    flat_map-append (λ (share : Share). share.calls) (shares_of TheSession crew.sessions (λ n. calls (TheSession n))) workers
+    ∙ ap (λ (cs : List Call). cs ++ flat_map (λ (share : Share). share.calls) workers)
+    (calls_in_shares (λ n. TheSession n) (λ n. calls (TheSession n)) (range_with_len 1 crew.sessions))
+    ∙ ap (λ (cs : List Call). calls_of crew.sessions (λ n. calls (TheSession n)) ++ cs)
+    (calls_in_shares (λ n. TheWorker n) (λ n. calls (TheWorker n)) (range_with_len 1 crew.workers))
 
 -- one of a row that has one
 one_of : (row : List Session) → 0 < length row → Session
 one_of [] some = absurd (omega (arith, some))
 one_of (d ∷ row) some = d
 
+-- A round of these lines ran on a row of the script's sessions and workers.
+pub record RoundDone (script : Script) (store : StoreView) (old new : List Session) (lines : List Line) (exported exported_now : Option (List ℕ)) : Type 0 where
+  pub calls : Who → List Call
+  pub ran : RowRan store (crew_of script) old new calls
+  pub asked : AskedAll script.sessions lines (λ n. calls (TheSession n))
+  pub turned : AllTurned (shape_in store).tables (crew_of script) calls
+  pub sent : SentBy (shape_in store).tables (crew_calls (crew_of script) calls) exported exported_now
+
 -- the round that ran, and the log in which all met
 module _ (script : Script) (store : StoreView) (old new : List Session) (asked : List (List Line)) (before now exported exported_now exported_later : Option (List ℕ)) (number : ℕ)
-    (running : Running script store old asked before now exported exported_now number) (calls : ℕ → List Call) (did : RowRan store old new calls)
-    (grown : SentBy (shape_in store).tables (calls_of (length old) calls) exported_now exported_later)
-    (lines : List Line) (all : (k : ℕ) → k < length old → asked_in (calls (k + 1)) ≡ commands_of (k + 1) lines) where
+    (running : Running script store old asked before now exported exported_now number) (lines : List Line)
+    (done : RoundDone script store old new lines exported_now exported_later) where
+  abbrev shares : List Share
+  shares = crew_shares (crew_of script) done.calls
+
   abbrev first_of_row : Session
-  first_of_row = one_of old running.some
+  first_of_row = one_of old (let size = running.is.size in let some = running.some in omega (arith, size, some))
 
   abbrev more : List Logged
-  more = (gone_on script store running.finished old new running.is running.some running.stands calls did first_of_row).0
+  more = (gone_on script store running.finished old new running.is running.stands done.calls done.ran first_of_row running.some).0
 
   abbrev round : RoundRun
-  round = round_behind script running.finished more (shares_of (length old) calls)
+  round = round_behind script running.finished more shares
 
   abbrev both : List RoundRun
   both = running.rounds ++ round ∷ []
 
   ran_further : RanSoFar script (asked ++ lines ∷ []) both (running.finished ++ more)
-  ran_further = rounds_go_on script asked running.rounds running.finished more lines (shares_of (length old) calls) running.ran
-      (row_met script store running.finished old new running.is running.some running.stands calls did first_of_row lines all)
+  ran_further = rounds_go_on script asked running.rounds running.finished more lines shares running.ran
+      (row_met script store running.finished old new running.is running.stands done.calls done.ran first_of_row running.some lines done.asked
+      (subst (λ (shape : Shape). AllTurned shape.tables (crew_of script) done.calls) running.is.shape done.turned))
 
   counted_further : All AreCounted both
   counted_further = All-append AreCounted running.rounds (round ∷ []) running.counted
-      (All-cons AreCounted round [] (shares_counted script store running.finished old new running.is running.some running.stands calls did first_of_row) (All-nil AreCounted))
+      (All-cons AreCounted round [] (shares_counted script store running.finished old new running.is running.stands done.calls done.ran first_of_row) (All-nil AreCounted))
 
   text_further : rounds_text script.tables 1 both
-      ≡ rounds_text script.tables 1 running.rounds ++ round_text script.tables (number + 1) (shares_of (length old) calls)
+      ≡ rounds_text script.tables 1 running.rounds ++ round_text script.tables (number + 1) shares
   text_further = rounds_grow script.tables 1 running.rounds round
-      ∙ ap (λ n. rounds_text script.tables 1 running.rounds ++ round_text script.tables n (shares_of (length old) calls))
+      ∙ ap (λ n. rounds_text script.tables 1 running.rounds ++ round_text script.tables n shares)
       (let e : 1 + length running.rounds ≡ number + 1 = omega (arith, running.count) in e)
 
   stands_further : Standing store (running.finished ++ more) new
   stands_further = subst (λ log. Standing store log new)
-      (gone_on script store running.finished old new running.is running.some running.stands calls did first_of_row).1
-      (stand_behind script store running.finished old new running.is running.some running.stands calls did)
+      (gone_on script store running.finished old new running.is running.stands done.calls done.ran first_of_row running.some).1
+      (stand_behind script store running.finished old new running.is running.stands done.calls done.ran)
 
   -- the text of the round's lines, told of the script's tables
-  told_further : (text : List ℕ) → text ≡ round_text (shape_in store).tables (number + 1) (shares_of (length old) calls)
+  told_further : (text : List ℕ) → text ≡ round_text (shape_in store).tables (number + 1) shares
       → rounds_text script.tables 1 running.rounds ++ text ≡ rounds_text script.tables 1 both
   told_further text is =
       ap (λ (more : List ℕ). rounds_text script.tables 1 running.rounds ++ more)
-      (is ∙ ap (λ (shape : Shape). round_text shape.tables (number + 1) (shares_of (length old) calls)) running.is.shape)
+      (is ∙ ap (λ (shape : Shape). round_text shape.tables (number + 1) shares) running.is.shape)
       ∙ sym text_further
 
-  calls_further : calls_in both ≡ calls_in running.rounds ++ calls_of (length old) calls
+  calls_further : calls_in both ≡ calls_in running.rounds ++ crew_calls (crew_of script) done.calls
   calls_further =
       flat_map-append (λ (round : RoundRun). flat_map (λ (share : Share). share.calls) round.shares) running.rounds (round ∷ [])
       ∙ ap (λ (cs : List Call). calls_in running.rounds ++ cs)
-      (append-nil (flat_map (λ (share : Share). share.calls) (shares_of (length old) calls)) ∙ calls_in_shares calls (range_with_len 1 (length old)))
+      (append-nil (flat_map (λ (share : Share). share.calls) shares) ∙ calls_in_crew (crew_of script) done.calls)
 
   sent_further : SentBy script.tables (calls_in both) exported exported_later
   sent_further = subst (λ (cs : List Call). SentBy script.tables cs exported exported_later) (sym calls_further)
-      (calls_sent script.tables (calls_in running.rounds) (calls_of (length old) calls) exported exported_now exported_later running.sent
-      (subst (λ (shape : Shape). SentBy shape.tables (calls_of (length old) calls) exported_now exported_later) running.is.shape grown))
+      (calls_sent script.tables (calls_in running.rounds) (crew_calls (crew_of script) done.calls) exported exported_now exported_later running.sent
+      (subst (λ (shape : Shape). SentBy shape.tables (crew_calls (crew_of script) done.calls) exported_now exported_later) running.is.shape done.sent))
 
-  few_further : (k : ℕ) (d : Session) → k < length new → events_made (get_or new k d) ≤ most_events * length (lines_in (asked ++ lines ∷ []))
-  few_further k d within =
-      let inside : k < length old = omega (arith, within, did.size) in
-      let ran = did.each k d inside in
-      let before = running.few k d inside in
-      let worked = ran.worked.few in
-      let met = ran.met_in.looks_on.made in
-      let each = length-map (calls (k + 1)) (λ (call : Call). call.command) in
-      let own = ap length (all k inside) in
-      let some = commands_few (k + 1) lines in
-      let counted = count_lines asked [] lines in
-      omega (arith, before, worked, met, each, own, some, counted)
+  few_further : (k : ℕ) (d : Session) → k < length new → events_made (get_or new k d) ≤ most_so_far (asked ++ lines ∷ [])
+  few_further k d within = go (place script.sessions script.workers k (omega (arith, within, done.ran.size, running.is.size)))
+    where
+      go : Place script.sessions script.workers k → events_made (get_or new k d) ≤ most_so_far (asked ++ lines ∷ [])
+      go (of_session inside) =
+          let ran = done.ran.sessions k d inside in
+          let before = running.few k d (omega (arith, within, done.ran.size)) in
+          let worked = ran.worked.few in
+          let met = ran.met_in.looks_on.made in
+          let each = length-map (done.calls (TheSession (k + 1))) (λ (call : Call). call.command) in
+          let own = ap length (done.asked k inside) in
+          let some = commands_few (k + 1) lines in
+          let counted = count_lines asked [] lines in
+          let rounds = length_push asked lines in
+          omega (arith, before, worked, met, each, own, some, counted, rounds)
+      go (of_worker n inside same) = subst (λ j. events_made (get_or new j d) ≤ most_so_far (asked ++ lines ∷ [])) same
+          (let ran = done.ran.workers n d inside in
+          let before = running.few (script.sessions + n) d (omega (arith, inside, running.is.size)) in
+          let worked = ran.worked.few in
+          let met = ran.met_in.looks_on.made in
+          let turns = running.turns in
+          let counted = count_lines asked [] lines in
+          let rounds = length_push asked lines in
+          omega (arith, before, worked, met, turns, counted, rounds))
 
 -- ---- a round that ran
 
 module _ (script : Script) (store : StoreView) (old new : List Session) (asked : List (List Line)) (before now exported exported_now exported_later : Option (List ℕ)) (number : ℕ) (lines : List Line) (text : List ℕ)
     (running : Running script store old asked before now exported exported_now number)
-    (did : RanRound store (number + 1) old new lines text exported_now exported_later) where
+    (did : RanRound store (number + 1) (crew_of script) old new lines text exported_now exported_later) where
+  abbrev done : RoundDone script store old new lines exported_now exported_later
+  done = record { calls = did.calls; ran = did.ran; asked = did.asked; turned = did.turned; sent = did.sent }
+
   pub running_goes_on : (later : Option (List ℕ)) → Appends now later text
       → Running script store new (asked ++ lines ∷ []) before later exported exported_later (number + 1)
   running_goes_on later grown = record {
-    rounds = both script store old new asked before now exported exported_now exported_later number running did.calls did.ran did.sent lines did.asked;
-    finished = running.finished ++ more script store old new asked before now exported exported_now exported_later number running did.calls did.ran did.sent lines did.asked;
-    ran = ran_further script store old new asked before now exported exported_now exported_later number running did.calls did.ran did.sent lines did.asked;
-    counted = counted_further script store old new asked before now exported exported_now exported_later number running did.calls did.ran did.sent lines did.asked;
-    stands = stands_further script store old new asked before now exported exported_now exported_later number running did.calls did.ran did.sent lines did.asked;
-    is = is_row script store running.finished old new running.is running.some running.stands did.calls did.ran;
-    some = omega (arith, running.some, did.ran.size);
-    few = few_further script store old new asked before now exported exported_now exported_later number running did.calls did.ran did.sent lines did.asked;
+    rounds = both script store old new asked before now exported exported_now exported_later number running lines done;
+    finished = running.finished ++ more script store old new asked before now exported exported_now exported_later number running lines done;
+    ran = ran_further script store old new asked before now exported exported_now exported_later number running lines done;
+    counted = counted_further script store old new asked before now exported exported_now exported_later number running lines done;
+    stands = stands_further script store old new asked before now exported exported_now exported_later number running lines done;
+    is = is_row script store running.finished old new running.is running.stands did.calls did.ran;
+    some = running.some;
+    turns = running.turns;
+    few = few_further script store old new asked before now exported exported_now exported_later number running lines done;
     printed = subst (Appends before later)
-        (told_further script store old new asked before now exported exported_now exported_later number running did.calls did.ran did.sent lines did.asked text did.text_is)
+        (told_further script store old new asked before now exported exported_now exported_later number running lines done text did.text_is)
         (Appends-trans before now later (rounds_text script.tables 1 running.rounds) text running.printed grown);
-    sent = sent_further script store old new asked before now exported exported_now exported_later number running did.calls did.ran did.sent lines did.asked;
+    sent = sent_further script store old new asked before now exported exported_now exported_later number running lines done;
     count = ap (λ n. n + 1) running.count
-        ∙ sym (length_push running.rounds (round script store old new asked before now exported exported_now exported_later number running did.calls did.ran did.sent lines did.asked));
+        ∙ sym (length_push running.rounds (round script store old new asked before now exported exported_now exported_later number running lines done));
     asked_count = ap (λ n. n + 1) running.asked_count ∙ sym (length_push asked lines);
   }
 
@@ -233,20 +282,20 @@ module _ (script : Script) (store : StoreView) (old new : List Session) (asked :
         whole = asked ++ lines ∷ [];
         rest = rest;
         rounds = parted;
-        text = rounds_text script.tables 1 (both script store old new asked before now exported exported_now exported_later number running did.calls did.ran did.sent lines did.asked);
+        text = rounds_text script.tables 1 (both script store old new asked before now exported exported_now exported_later number running lines done);
         went = record {
           went = went_so_far script
-              (both script store old new asked before now exported exported_now exported_later number running did.calls did.ran did.sent lines did.asked)
-              (running.finished ++ more script store old new asked before now exported exported_now exported_later number running did.calls did.ran did.sent lines did.asked)
+              (both script store old new asked before now exported exported_now exported_later number running lines done)
+              (running.finished ++ more script store old new asked before now exported exported_now exported_later number running lines done)
               exported exported_later
-              (counted_further script store old new asked before now exported exported_now exported_later number running did.calls did.ran did.sent lines did.asked)
-              (sent_further script store old new asked before now exported exported_now exported_later number running did.calls did.ran did.sent lines did.asked)
+              (counted_further script store old new asked before now exported exported_now exported_later number running lines done)
+              (sent_further script store old new asked before now exported exported_now exported_later number running lines done)
               (asked ++ lines ∷ []) rest parted valid
-              (ran_further script store old new asked before now exported exported_now exported_later number running did.calls did.ran did.sent lines did.asked);
-          stands = stands_further script store old new asked before now exported exported_now exported_later number running did.calls did.ran did.sent lines did.asked;
+              (ran_further script store old new asked before now exported exported_now exported_later number running lines done);
+          stands = stands_further script store old new asked before now exported exported_now exported_later number running lines done;
         };
         printed = subst (AppendsFront before later)
-            (told_further script store old new asked before now exported exported_now exported_later number running did.calls did.ran did.sent lines did.asked text did.text_is)
+            (told_further script store old new asked before now exported exported_now exported_later number running lines done text did.text_is)
             (prints_front before now later (rounds_text script.tables 1 running.rounds) text running.printed front);
       }
 
@@ -327,12 +376,18 @@ ends_at_export sessions calls lines asked one =
 module _ (script : Script) (store : StoreView) (old new : List Session) (asked rest : List (List Line)) (before now exported exported_now exported_later : Option (List ℕ)) (number : ℕ) (lines : List Line)
     (valid : is_valid script ≡ true) (split : asked ++ lines ∷ rest ≡ script.rounds)
     (running : Running script store old asked before now exported exported_now number) (failed : RunFault)
-    (did : RanInPart store old new lines failed exported_now exported_later) where
+    (did : RanInPart store (crew_of script) old new lines failed exported_now exported_later) where
   abbrev first : List Line
-  first = first_lines (counts_of did.calls) lines
+  first = first_lines (counts_of (λ n. did.calls (TheSession n))) lines
 
-  asked_of_first : (k : ℕ) → k < length old → asked_in (did.calls (k + 1)) ≡ commands_of (k + 1) first
-  asked_of_first = asked_first (length old) lines did.calls did.asked
+  abbrev first_done : RoundDone script store old new first exported_now exported_later
+  first_done = record {
+    calls = did.calls;
+    ran = did.ran;
+    asked = asked_first script.sessions lines (λ n. did.calls (TheSession n)) did.asked;
+    turned = did.turned;
+    sent = did.sent;
+  }
 
   goes_to : GoesTo (RunsIn script store new exported exported_later) script first before now
   goes_to = record {
@@ -340,35 +395,35 @@ module _ (script : Script) (store : StoreView) (old new : List Session) (asked r
     round = lines;
     rest = rest;
     rounds = sym split;
-    first = first_lines_are_so (counts_of did.calls) lines;
+    first = first_lines_are_so (counts_of (λ n. did.calls (TheSession n))) lines;
     shown = rounds_text script.tables 1 running.rounds;
-    hidden = round_text script.tables (number + 1) (shares_of (length old) did.calls);
+    hidden = round_text script.tables (number + 1) (crew_shares (crew_of script) did.calls);
     explained_shown = explained_so_far script running.rounds running.finished exported exported_now running.counted running.sent
         asked (lines ∷ rest) (sym split) valid running.ran;
     went = subst (RunsIn script store new exported exported_later (asked ++ first ∷ []))
-        (text_further script store old new asked before now exported exported_now exported_later number running did.calls did.ran did.sent first asked_of_first)
+        (text_further script store old new asked before now exported exported_now exported_later number running first first_done)
         (record {
           went = went script
-              (both script store old new asked before now exported exported_now exported_later number running did.calls did.ran did.sent first asked_of_first)
-              (running.finished ++ more script store old new asked before now exported exported_now exported_later number running did.calls did.ran did.sent first asked_of_first)
+              (both script store old new asked before now exported exported_now exported_later number running first first_done)
+              (running.finished ++ more script store old new asked before now exported exported_now exported_later number running first first_done)
               exported exported_later
-              (counted_further script store old new asked before now exported exported_now exported_later number running did.calls did.ran did.sent first asked_of_first)
-              (sent_further script store old new asked before now exported exported_now exported_later number running did.calls did.ran did.sent first asked_of_first)
-              (asked ++ first ∷ []) (fronts_are_valid script (counts_of did.calls) lines asked rest (sym split) valid)
-              (ran_further script store old new asked before now exported exported_now exported_later number running did.calls did.ran did.sent first asked_of_first);
-          stands = stands_further script store old new asked before now exported exported_now exported_later number running did.calls did.ran did.sent first asked_of_first;
+              (counted_further script store old new asked before now exported exported_now exported_later number running first first_done)
+              (sent_further script store old new asked before now exported exported_now exported_later number running first first_done)
+              (asked ++ first ∷ []) (fronts_are_valid script (counts_of (λ n. did.calls (TheSession n))) lines asked rest (sym split) valid)
+              (ran_further script store old new asked before now exported exported_now exported_later number running first first_done);
+          stands = stands_further script store old new asked before now exported exported_now exported_later number running first first_done;
         });
     printed = running.printed;
   }
 
   ends_at : failed ≡ fault.Export → EndAtExport first
-  ends_at e = ends_at_export (length old) did.calls first asked_of_first (did.last e)
+  ends_at e = ends_at_export script.sessions (λ n. did.calls (TheSession n)) first first_done.asked (did.last e)
 
 pub running_stops : (script : Script) (store : StoreView) (old new : List Session) (asked rest : List (List Line)) (before now exported exported_now exported_later : Option (List ℕ)) (number : ℕ) (lines : List Line)
     → is_valid script ≡ true → asked ++ lines ∷ rest ≡ script.rounds
     → Running script store old asked before now exported exported_now number
     → (failed : RunFault) → failed ≢ fault.Out
-    → RanInPart store old new lines failed exported_now exported_later
+    → RanInPart store (crew_of script) old new lines failed exported_now exported_later
     → GoesPart (RunsIn script store new exported exported_later) script failed before now
 running_stops script store old new asked rest before now exported exported_now exported_later number lines valid split running fault.Out other did = absurd (other refl)
 running_stops script store old new asked rest before now exported exported_now exported_later number lines valid split running fault.Export other did = record {
@@ -376,61 +431,64 @@ running_stops script store old new asked rest before now exported exported_now e
   last = ends_at script store old new asked rest before now exported exported_now exported_later number lines valid split running fault.Export did refl;
   to = goes_to script store old new asked rest before now exported exported_now exported_later number lines valid split running fault.Export did;
 }
-running_stops script store old new asked rest before now exported exported_now exported_later number lines valid split running fault.Memory other did = record {
+running_stops script store old new asked rest before now exported exported_now exported_later number lines valid split running fault.Memory other did = inr (record {
   lines = first script store old new asked rest before now exported exported_now exported_later number lines valid split running fault.Memory did;
   to = goes_to script store old new asked rest before now exported exported_now exported_later number lines valid split running fault.Memory did;
-}
+})
 
 -- ---- what a round asks
 
-all_behind : {X : Type 0} (P : X → Type 0) (front rest : List X) → All P (front ++ rest) → All P rest
-all_behind P [] rest all = all
-all_behind P (x ∷ front) rest all = all_behind P front rest (All-tail P x (front ++ rest) all)
-
-all_before : {X : Type 0} (P : X → Type 0) (front rest : List X) → All P (front ++ rest) → All P front
-all_before P [] rest all = All-nil P
-all_before P (x ∷ front) rest all = All-cons P x front (All-head P x (front ++ rest) all) (all_before P front rest (All-tail P x (front ++ rest) all))
-
-pub round_served : (script : Script) (store : StoreView) (row : List Session) (asked rest : List (List Line)) (lines : List Line)
-    → IsRowOf script store row → asked ++ lines ∷ rest ≡ script.rounds
-    → All (λ (line : Line). IsServed script.tables line.command) (all_lines script)
-    → All (λ (line : Line). IsServed (shape_in store).tables line.command) lines
-round_served script store row asked rest lines is split all =
-    subst (λ shape. All (λ (line : Line). IsServed (Rattle.event_spec.specs.Parts.Shape.tables shape) line.command) lines) (sym is.shape)
-    (all_before (λ (line : Line). IsServed script.tables line.command) lines (lines_in rest)
-    (all_behind (λ (line : Line). IsServed script.tables line.command) (lines_in asked) (lines ++ lines_in rest)
-    (subst (All (λ (line : Line). IsServed script.tables line.command)) (ap lines_in (sym split) ∙ parted_lines asked rest lines) all)))
-
-each_within : (script : Script) (lines : List Line) → list_all (is_line script) lines ≡ true → list_all (λ (line : Line). is_within 1 script.sessions line.session) lines ≡ true
-each_within script [] all = refl
-each_within script (line ∷ lines) all =
-    let parts = and_parts (is_line script line) (list_all (is_line script) lines) all in
-    and_from (is_within 1 script.sessions line.session) (list_all (λ (line : Line). is_within 1 script.sessions line.session) lines)
-    (and_parts (is_within 1 script.sessions line.session) (is_command script.tables line.command) parts.0).0
-    (each_within script lines parts.1)
-
-pub round_within : (script : Script) (store : StoreView) (row : List Session) (asked rest : List (List Line)) (lines : List Line)
-    → IsRowOf script store row → asked ++ lines ∷ rest ≡ script.rounds → is_valid script ≡ true
-    → list_all (λ (line : Line). is_within 1 (length row) line.session) lines ≡ true
-round_within script store row asked rest lines is split valid =
-    let checked = lines_are_valid script valid in
+-- each line of a round of a valid script is one
+round_valid : (script : Script) (asked rest : List (List Line)) (lines : List Line)
+    → asked ++ lines ∷ rest ≡ script.rounds → is_valid script ≡ true → list_all (is_line script) lines ≡ true
+round_valid script asked rest lines split valid =
     let cut : list_all (is_line script) (lines_in asked ++ (lines ++ lines_in rest)) ≡ true =
-    ap (list_all (is_line script)) (sym (ap lines_in (sym split) ∙ parted_lines asked rest lines)) ∙ checked in
+    ap (list_all (is_line script)) (sym (ap lines_in (sym split) ∙ parted_lines asked rest lines)) ∙ lines_are_valid script valid in
     let behind = (and_parts (list_all (is_line script) (lines_in asked)) (list_all (is_line script) (lines ++ lines_in rest))
     (sym (list_all-append (is_line script) (lines_in asked) (lines ++ lines_in rest)) ∙ cut)).1 in
-    let own = (and_parts (list_all (is_line script) lines) (list_all (is_line script) (lines_in rest))
-    (sym (list_all-append (is_line script) lines (lines_in rest)) ∙ behind)).0 in
-    subst (λ n. list_all (λ (line : Line). is_within 1 n line.session) lines ≡ true) (sym is.size) (each_within script lines own)
+    (and_parts (list_all (is_line script) lines) (list_all (is_line script) (lines_in rest))
+    (sym (list_all-append (is_line script) lines (lines_in rest)) ∙ behind)).0
 
--- each session may make the events of a further round
+-- so its session is one of the script's, and its command names what the tables have
+module _ (script : Script) where
+  each_within : (lines : List Line) → list_all (is_line script) lines ≡ true → list_all (λ (line : Line). is_within 1 script.sessions line.session) lines ≡ true
+  each_within [] all = refl
+  each_within (line ∷ lines) all =
+      let parts = and_parts (is_line script line) (list_all (is_line script) lines) all in
+      and_from (is_within 1 script.sessions line.session) (list_all (λ (line : Line). is_within 1 script.sessions line.session) lines)
+      (and_parts (is_within 1 script.sessions line.session) (is_command script.tables line.command) parts.0).0
+      (each_within lines parts.1)
+
+  each_served : (lines : List Line) → list_all (is_line script) lines ≡ true → All (λ (line : Line). IsServed script.tables line.command) lines
+  each_served [] all = All-nil (λ (line : Line). IsServed script.tables line.command)
+  each_served (line ∷ lines) all =
+      let parts = and_parts (is_line script line) (list_all (is_line script) lines) all in
+      All-cons (λ (line : Line). IsServed script.tables line.command) line lines
+      (and_parts (is_within 1 script.sessions line.session) (is_command script.tables line.command) parts.0).1
+      (each_served lines parts.1)
+
+module _ (script : Script) (store : StoreView) (row : List Session) (asked rest : List (List Line)) (lines : List Line)
+    (is : IsRowOf script store row) (split : asked ++ lines ∷ rest ≡ script.rounds) (valid : is_valid script ≡ true) where
+  pub round_within : list_all (λ (line : Line). is_within 1 script.sessions line.session) lines ≡ true
+  round_within = each_within script lines (round_valid script asked rest lines split valid)
+
+  pub round_served : All (λ (line : Line). IsServed (shape_in store).tables line.command) lines
+  round_served = subst (λ (shape : Shape). All (λ (line : Line). IsServed shape.tables line.command) lines) (sym is.shape)
+      (each_served script lines (round_valid script asked rest lines split valid))
+
+-- each of the row may make the events of a further round
 pub round_has_room : (script : Script) (store : StoreView) (row : List Session) (asked rest : List (List Line)) (before now exported exported_now : Option (List ℕ)) (number : ℕ) (lines : List Line)
-    → Running script store row asked before now exported exported_now number → asked ++ lines ∷ rest ≡ script.rounds → length (all_lines script) < 2 ^ 32
-    → HaveRoomFor (length lines) row
-round_has_room script store row asked rest before now exported exported_now number lines running split few k d within =
+    → Running script store row asked before now exported exported_now number → asked ++ lines ∷ rest ≡ script.rounds
+    → length (all_lines script) < 2 ^ 32 → length script.rounds < 2 ^ 32
+    → HaveRoomFor (most_events * length lines + most_of_turn * script.turns) row
+round_has_room script store row asked rest before now exported exported_now number lines running split few short k d within =
     let made = running.few k d within in
+    let turns = running.turns in
     let counted = count_lines asked rest lines in
     let all = ap (λ (rounds : List (List Line)). length (lines_in rounds)) split in
-    omega (arith, made, counted, all, few)
+    let rounds = length-append asked (lines ∷ rest) in
+    let rounds_all = ap length split in
+    omega (arith, made, turns, counted, all, few, rounds, rounds_all, short)
 
 -- a round's number has 32 bits, where there are fewer rounds
 pub number_fits : (asked rest all : List (List Line)) (lines : List Line) (number : ℕ) → number ≡ length asked → asked ++ lines ∷ rest ≡ all → length all < 2 ^ 32 → number + 1 < 2 ^ 32

@@ -1,5 +1,5 @@
 -- What a workload is made of, and that a store may be built of its tables.
-use Rattle.std.proofs.Common.{◌≡◌, ◌≤◌, ◌^◌, ◌/◌, ◌*◌, ◌%◌, ◌==◌, min, Bool, true, ◌&&◌, nat_le, nat_lt, Option, None, Some, List, [], ◌∷◌, length, count_by, refl, arith}
+use Rattle.std.proofs.Common.{◌≡◌, ◌+◌, ◌≤◌, ◌^◌, ◌/◌, ◌*◌, ◌%◌, ◌==◌, min, Bool, true, ◌&&◌, nat_le, nat_lt, Option, None, Some, List, [], ◌∷◌, length, count_by, refl, arith}
 use Rattle.std.specs.Prelude.{All, is_none}
 use Rattle.std.specs.List.{list_all}
 use Rattle.std.proofs.lemmas.Bool.{and_parts, leb-true}
@@ -83,6 +83,8 @@ record Parts (script : Script) : Type 0 where
   tables : list_all is_table script.tables ≡ true
   some_sessions : 1 ≤ script.sessions
   few_sessions : script.sessions ≤ 64
+  few_workers : script.workers ≤ 16
+  few_turns : script.turns ≤ 100
   some_rounds : nat_lt 0 (length script.rounds) ≡ true
   lines : list_all (is_line script) (all_lines script) ≡ true
 
@@ -99,12 +101,23 @@ parts_of script valid =
       tables = head.2;
       some_sessions = leb-true 1 script.sessions sessions.0;
       few_sessions = leb-true script.sessions most_sessions sessions.1;
+      few_workers = leb-true script.workers most_workers head.5;
+      few_turns = leb-true script.turns most_turns head.6;
       some_rounds = whole.1;
       lines = whole.2;
     }
 
 pub has_sessions : (script : Script) → is_valid script ≡ true → 1 ≤ script.sessions
 has_sessions script valid = (parts_of script valid).some_sessions
+
+pub few_sessions : (script : Script) → is_valid script ≡ true → script.sessions ≤ 64
+few_sessions script valid = (parts_of script valid).few_sessions
+
+pub few_workers : (script : Script) → is_valid script ≡ true → script.workers ≤ 16
+few_workers script valid = (parts_of script valid).few_workers
+
+pub few_turns : (script : Script) → is_valid script ≡ true → script.turns ≤ 100
+few_turns script valid = (parts_of script valid).few_turns
 
 pub has_rounds : (script : Script) → is_valid script ≡ true → nat_lt 0 (length script.rounds) ≡ true
 has_rounds script valid = (parts_of script valid).some_rounds
@@ -113,16 +126,17 @@ pub lines_are_valid : (script : Script) → is_valid script ≡ true → list_al
 lines_are_valid script valid = (parts_of script valid).lines
 
 -- a store may be built of its tables
-pub may_open : (script : Script) → is_valid script ≡ true → MayOpen script.tables script.sessions
+pub may_open : (script : Script) → is_valid script ≡ true → MayOpen script.tables (script.sessions + script.workers)
 may_open script valid =
     let parts = parts_of script valid in
-    let few : script.sessions ≤ 64 = parts.few_sessions in
+    let sessions : script.sessions ≤ 64 = parts.few_sessions in
+    let workers : script.workers ≤ 16 = parts.few_workers in
     let each = λ (P : TableDecl → Type 0) (has : (table : TableDecl) → Declared table → P table).
     each_of is_table P (λ table is. has table (declared table is)) script.tables parts.tables in
     record {
       size = record {
         tables_few = parts.few_tables;
-        passes_few = omega (arith, few);
+        passes_few = omega (arith, sessions, workers);
         blocks_few = each (λ table. table.blocks ≤ 2 ^ 10) (λ table has. has.few_blocks);
         slots_few = each (λ table. table.slots ≤ 2 ^ 15) (λ table has. has.few_slots);
         schemas = each (λ table. IsSchema table.schema) (λ table has. has.schema);

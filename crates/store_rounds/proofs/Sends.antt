@@ -15,13 +15,13 @@ use Rattle.outcome_spec.specs.Tables.{blocks_at, columns_at}
 use Rattle.outcome_spec.specs.Upkeep.{exported_table}
 use Rattle.run_spec.specs.Calls.{Call}
 use Rattle.run_spec.specs.Occurrences.{Occurrence}
-use Rattle.shared_store.specs.Store.{Answers, IsSession, StoreView, shape_in}
+use Rattle.shared_store.specs.Store.{Answers, IsSession, MakesAtMost, StoreView, shape_in}
 use Rattle.shared_store.specs.declared.session.Session.{Session}
 use Rattle.store_export.specs.Exports.{Exports, exported_told}
 use Rattle.store_export.specs.declared.exporting.ExportFault.{ExportFault}
 use Rattle.store_export.specs.declared.exporting.ExportFault.TheVariants as fault
 use Rattle.store_export.specs.declared.exporting.Summary.{Summary}
-use Rattle.store_rounds.specs.Answered.{Answered, Counts, SentBy}
+use Rattle.store_rounds.specs.Answered.{Answered, Counts, SentBy, most_events}
 use Rattle.workload_spec.specs.Valid.{is_export}
 use Rattle.workload_spec.specs.declared.command.Command.{Command}
 use Rattle.workload_spec.specs.declared.command.Command.TheVariants as command
@@ -53,7 +53,7 @@ calls_sent tables calls more exported now later before behind = record {
 -- ---- other commands
 
 -- of a command that is no export nothing is said
-nothing_said : (asked : Command) (P : ℕ → Type 0) → is_export asked ≡ false → IfSome (exported_table asked) P
+pub nothing_said : (asked : Command) (P : ℕ → Type 0) → is_export asked ≡ false → IfSome (exported_table asked) P
 nothing_said (command.Export table) P is = absurd (true≢false is)
 nothing_said _ P is = tt
 
@@ -63,13 +63,15 @@ no_export _ other = refl
 
 -- they send nothing
 pub other_answered : (store : StoreView) (old new : Session) (asked : Command) (told : Said) (exported : Option (List ℕ))
-    → IsSession store new → new.session ≡ old.session → Answers store old new asked told → Counts told → is_export asked ≡ false
+    → IsSession store new → new.session ≡ old.session → Answers store old new asked told → Counts told
+    → (asked ≡ command.Prune → MakesAtMost most_events old new) → is_export asked ≡ false
     → Answered store old new asked told exported exported
-other_answered store old new asked told exported is same answers counts other = record {
+other_answered store old new asked told exported is same answers counts pruned other = record {
   session = is;
   same = same;
   answers = answers;
   counts = counts;
+  pruned = pruned;
   bytes = [];
   sent = Appends-nil exported;
   by_call = record {
@@ -90,6 +92,7 @@ export_refused store s table exported is answers = record {
   same = refl;
   answers = answers;
   counts = λ count e. absurd (let never : ⊥ = cc e in never);
+  pruned = λ e. absurd (let never : ⊥ = cc e in never);
   bytes = [];
   sent = Appends-nil exported;
   by_call = record { by_line = refl; quiet = λ no. refl };
@@ -117,6 +120,7 @@ export_answered store old new table told exported now steps exports = record {
   same = exports.same;
   answers = exports.answers;
   counts = no_count told;
+  pruned = λ e. absurd (let never : ⊥ = cc e in never);
   bytes = exports.bytes;
   sent = exports.sent;
   by_call = record {

@@ -1,5 +1,5 @@
 -- A session's turn, command by command.
-use Rattle.std.proofs.Common.{◌≡◌, ℕ, ◌+◌, ◌*◌, ◌≤◌, true, false, List, [], ◌∷◌, ◌++◌, length, Option, Some, refl, sym, ap, ◌∙◌, subst, append-nil, append_assoc, arith, length-append}
+use Rattle.std.proofs.Common.{◌≡◌, ℕ, ◌+◌, ◌*◌, true, false, List, [], ◌∷◌, ◌++◌, length, Option, Some, refl, sym, ap, ◌∙◌, subst, append-nil, append_assoc, arith, length-append}
 use Rattle.std.specs.Prelude.{All}
 use Rattle.std.proofs.lemmas.List.{length-map, length_push, map-append}
 use Rattle.std.proofs.lemmas.List.Elements.{All-append, All-cons, All-head, All-nil, All-tail, filter_map-append}
@@ -15,10 +15,10 @@ use Rattle.round_laws.proofs.Lines.{shares_grow}
 use Rattle.round_laws.proofs.Working.{nothing_done, work_goes_on}
 use Rattle.round_laws.specs.Lines.{line_behind, line_of, share_text, told_by}
 use Rattle.round_laws.specs.Texts.{IsCounted}
-use Rattle.shared_store.specs.Store.{HasRoomFor, IsSession, StoreView, events_made, seen, shape_in}
+use Rattle.shared_store.specs.Store.{HasRoomFor, IsSession, MakesAtMost, StoreView, seen, shape_in}
 use Rattle.shared_store.specs.declared.session.Session.{Session}
 use Rattle.store_rounds.specs.Answered.{Answered, SentBy, most_events}
-use Rattle.store_rounds.specs.Worked.{Worked, WorkedInPart, asked_in, share_of}
+use Rattle.store_rounds.specs.Worked.{SessionWorked, WorkedInPart, asked_in, share_of}
 use Rattle.store_rounds.specs.declared.fault.RunFault.{RunFault}
 use Rattle.store_rounds.specs.declared.fault.RunFault.TheVariants as fault
 use Rattle.store_rounds.proofs.Sends.{call_sent, nothing_sent}
@@ -26,9 +26,9 @@ use Rattle.store_rounds.proofs.Sends.{call_sent, nothing_sent}
 -- A session within its turn: these commands were carried out, and told so many lines.
 pub record Turn (store : StoreView) (round : ℕ) (old now : Session) (commands : List Command) (before after : List ℕ) (exported exported_now : Option (List ℕ)) (index : ℕ) : Type 0 where
   pub calls : List Call
-  pub worked : Worked store old now calls
+  pub worked : SessionWorked store old now calls
   pub asked : asked_in calls ≡ commands
-  pub text : after ≡ before ++ share_text (shape_in store).tables round (share_of old.session calls)
+  pub text : after ≡ before ++ share_text (shape_in store).tables round (share_of (TheSession old.session) calls)
   pub sent : SentBy (shape_in store).tables calls exported exported_now
   pub told : index ≡ length (told_by calls)
   pub count : index ≡ length commands
@@ -51,7 +51,7 @@ module _ (store : StoreView) (old now new : Session) (calls : List Call) (comman
   abbrev call : Call
   call = record { command = command; made = answered.answers.made; told = Some told }
 
-  pub worked_more : Worked store old now calls → events_made new ≤ events_made now + most_events → Worked store old new (calls ++ call ∷ [])
+  pub worked_more : SessionWorked store old now calls → MakesAtMost most_events now new → SessionWorked store old new (calls ++ call ∷ [])
   worked_more worked few = record {
     is_session = answered.session;
     same = answered.same ∙ worked.same;
@@ -70,7 +70,7 @@ module _ (store : StoreView) (old now new : Session) (calls : List Call) (comman
 
 pub turn_goes_on : (store : StoreView) (round : ℕ) (old now new : Session) (commands : List Command) (before after later : List ℕ) (exported exported_now exported_later : Option (List ℕ)) (index : ℕ) (command : Command) (told : Said)
     → Turn store round old now commands before after exported exported_now index
-    → Answered store now new command told exported_now exported_later → events_made new ≤ events_made now + most_events
+    → Answered store now new command told exported_now exported_later → MakesAtMost most_events now new
     → later ≡ after ++ reply_text (shape_in store).tables (line_of round (TheSession new.session) (index + 1) told)
     → Turn store round old new (commands ++ command ∷ []) before later exported exported_later (index + 1)
 turn_goes_on store round old now new commands before after later exported exported_now exported_later index command told turn answered few grown =
@@ -85,7 +85,7 @@ turn_goes_on store round old now new commands before after later exported export
           ∙ ap (λ (n : ℕ). after ++ reply_text (shape_in store).tables (line_of round (TheSession n) (index + 1) told)) whose
           ∙ ap (λ (n : ℕ). after ++ reply_text (shape_in store).tables (line_of round (TheSession old.session) n told)) next
           ∙ ap (λ (text : List ℕ). text ++ line_behind (shape_in store).tables round (TheSession old.session) turn.calls (Some told)) turn.text
-          ∙ append_assoc before (share_text (shape_in store).tables round (share_of old.session turn.calls)) (line_behind (shape_in store).tables round (TheSession old.session) turn.calls (Some told))
+          ∙ append_assoc before (share_text (shape_in store).tables round (share_of (TheSession old.session) turn.calls)) (line_behind (shape_in store).tables round (TheSession old.session) turn.calls (Some told))
           ∙ ap (λ (text : List ℕ). before ++ text) (sym (shares_grow (shape_in store).tables round (TheSession old.session) turn.calls call));
       sent = sent_more store old now new turn.calls command told exported exported_now exported_later answered turn.sent;
       told = next ∙ (let e : 1 + length (told_by turn.calls) ≡ length (told_by turn.calls) + 1 = omega arith in e)
@@ -97,7 +97,7 @@ turn_goes_on store round old now new commands before after later exported export
 -- a turn that stops behind a command, which is an export where the outlet failed
 pub turn_stops_behind : (store : StoreView) (round : ℕ) (old now new : Session) (commands rest all : List Command) (before after : List ℕ) (exported exported_now exported_later : Option (List ℕ)) (index : ℕ) (command : Command) (told : Said) (failed : RunFault)
     → Turn store round old now commands before after exported exported_now index → commands ++ command ∷ rest ≡ all
-    → Answered store now new command told exported_now exported_later → events_made new ≤ events_made now + most_events
+    → Answered store now new command told exported_now exported_later → MakesAtMost most_events now new
     → (failed ≡ fault.Export → is_export command ≡ true)
     → WorkedInPart store old new all failed exported exported_later
 turn_stops_behind store round old now new commands rest all before after exported exported_now exported_later index command told failed turn split answered few at_export =
@@ -126,12 +126,6 @@ turn_has_room store round old now commands rest all before after exported export
     let whole = ap length split in
     let parted = length-append commands (command ∷ rest) in
     omega (arith, made, each, asked, whole, parted, room)
-
--- what all of a list have, one of them has
-pub all_at : {X : Type 0} (P : X → Type 0) (front rest all : List X) (x : X) → front ++ x ∷ rest ≡ all → All P all → P x
-all_at P [] rest all x split each = All-head P x rest (subst (All P) (sym split) each)
-all_at P (y ∷ front) rest all x split each =
-    all_at P front rest (front ++ x ∷ rest) x refl (All-tail P y (front ++ x ∷ rest) (subst (All P) (sym split) each))
 
 -- nothing is left
 pub none_left : {X : Type 0} (front rest all : List X) → length rest ≡ 0 → front ++ rest ≡ all → front ≡ all

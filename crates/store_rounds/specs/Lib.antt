@@ -1,5 +1,7 @@
 pub mod Answered
 pub mod Worked
+pub mod Crews
+pub mod Turned
 pub mod Row
 pub mod Agendas
 pub mod Rounds

@@ -1,4 +1,4 @@
--- How a run over a row of sessions stands.
+-- How a run over a row of sessions and workers stands.
 use Rattle.std.specs.Prelude.{◌≡◌, ℕ, ◌+◌, ◌<◌, List, Option, get_or, length}
 use Rattle.workload_spec.specs.declared.script.Line.{Line}
 use Rattle.workload_spec.specs.declared.script.Script.{Script}
@@ -12,23 +12,22 @@ use Rattle.store_rounds.specs.Row.{AreSessions}
 use Rattle.store_rounds.specs.Rounds.{AreNumbered}
 use Rattle.store_rounds.specs.Workloads.{Went}
 
--- The sessions of a row stand behind finished rounds that ended with this log: the log of each goes
--- on from it, and has no more events of that session's own.
+-- Those of a row stand behind finished rounds that ended with this log: the log of each goes
+-- on from it, and has no more events of its own.
 pub record Standing (store : StoreView) (finished : List Logged) (row : List Session) : Type 0 where
   pub sessions : AreSessions store row
   pub numbers : AreNumbered row
   pub behind : (k : ℕ) (d : Session) → k < length row
       → StandsBehind (shape_in store) finished (k + 1) (seen (get_or row k d))
 
--- The store is one for the script, and the row has its sessions; it has no workers.
+-- The store is one for the script, and the row has its sessions, and its workers behind them.
 pub record IsRowOf (script : Script) (store : StoreView) (row : List Session) : Type 0 where
   pub shape : shape_in store ≡ shape_of script
-  pub size : length row ≡ script.sessions
-  pub workers : script.workers ≡ 0
+  pub size : length row ≡ script.sessions + script.workers
 
--- Rounds of these lines ran on the store and ended with the log in which all sessions of the row met
--- last. The row's sessions stand behind the rounds: the log of each goes on from this one, and has
--- no more events of that session's own.
+-- Rounds of these lines ran on the store and ended with the log in which all of the row met last.
+-- They stand behind the rounds: the log of each goes on from this one, and has no more events of
+-- its own.
 pub record RunsIn
     (script : Script) (store : StoreView) (row : List Session)
     (exported exported_now : Option (List ℕ)) (asked : List (List Line)) (text : List ℕ)

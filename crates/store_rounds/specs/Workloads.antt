@@ -1,5 +1,5 @@
 -- How the run of a workload ends: which rounds ran, what was printed, and what was sent.
-use Rattle.std.specs.Prelude.{◌≡◌, ℕ, true, List, [], ◌∷◌, ◌++◌, Option, Result, Ok, Err}
+use Rattle.std.specs.Prelude.{◌≡◌, ◌⊎◌, ℕ, true, List, [], ◌∷◌, ◌++◌, Option, Result, Ok, Err}
 use Rattle.std.specs.Io.KnownBytes.{Appends}
 use Rattle.byte_ports.specs.Calls.{AppendsFront, Rose}
 use Rattle.export_spec.specs.Sent.{SaysAllSent}
@@ -15,7 +15,9 @@ use Rattle.store_rounds.specs.declared.fault.RunFault.TheVariants as fault
 
 -- The script ran with some log of events and had this text, which snapshot isolation explains; the
 -- outlet grew by what the text's lines say.
-pub record Went (script : Script) (text : List ℕ) (exported exported_now : Option (List ℕ)) : Type 0 where
+pub record Went
+    (script : Script) (text : List ℕ) (exported exported_now : Option (List ℕ))
+    : Type 0 where
   pub log : List Logged
   pub ran : Ran script log text
   pub explained : Explained script text
@@ -45,8 +47,9 @@ pub record GoesCutOff
   pub went : Goes whole text
   pub printed : AppendsFront before now text
 
--- The run stopped within a round: the rounds before it ran, and their text alone was printed. Of the
--- round these first lines of each session ran, and their text was not printed.
+-- The run stopped within a round: the rounds before it ran, and their text alone was printed. Of
+-- the round these first lines of each session ran, and each worker made its turns; their text was
+-- not printed.
 pub record GoesTo
     (Goes : List (List Line) → List ℕ → Type 0) (script : Script) (lines : List Line)
     (before now : Option (List ℕ))
@@ -70,12 +73,31 @@ pub record EndAtExport (lines : List Line) : Type 0 where
   pub lines_are : lines_of session lines ≡ front ++ last ∷ []
   pub asked : is_export last.command ≡ true
 
--- It stopped for want of memory.
-pub record GoesStopped
+-- It stopped within a round.
+pub record GoesWithin
     (Goes : List (List Line) → List ℕ → Type 0) (script : Script) (before now : Option (List ℕ))
     : Type 0 where
   pub lines : List Line
   pub to : GoesTo Goes script lines before now
+
+-- It stopped before a round, of which nothing ran: the rounds before it ran, and their text was
+-- printed.
+pub record GoesBefore
+    (Goes : List (List Line) → List ℕ → Type 0) (script : Script) (before now : Option (List ℕ))
+    : Type 0 where
+  pub whole : List (List Line)
+  pub round : List Line
+  pub rest : List (List Line)
+  pub rounds : script.rounds ≡ whole ++ round ∷ rest
+  pub text : List ℕ
+  pub went : Goes whole text
+  pub printed : Appends before now text
+
+-- It stopped for want of memory.
+abbrev pub GoesStopped
+    : (List (List Line) → List ℕ → Type 0) → Script → Option (List ℕ) → Option (List ℕ) → Type 0
+GoesStopped Goes script before now =
+    GoesBefore Goes script before now ⊎ GoesWithin Goes script before now
 
 -- It stopped at an export, where the outlet failed; the export counts as answered `memory`.
 pub record GoesToExport
@@ -87,7 +109,8 @@ pub record GoesToExport
 
 -- how a run ends that does not come to its last round
 abbrev pub GoesPart
-    : (List (List Line) → List ℕ → Type 0) → Script → RunFault → Option (List ℕ) → Option (List ℕ) → Type 0
+    : (List (List Line) → List ℕ → Type 0) → Script → RunFault → Option (List ℕ)
+    → Option (List ℕ) → Type 0
 GoesPart Goes script fault.Out before now = GoesCutOff Goes script before now
 GoesPart Goes script fault.Export before now = GoesToExport Goes script before now
 GoesPart Goes script fault.Memory before now = GoesStopped Goes script before now

@@ -1,7 +1,8 @@
 //! The lines of a round, as they are told.
-ghost use Rattle.std.specs.Prelude.{◌≡◌, ◌++◌, IfErr, OnOk};
-ghost use Rattle.workload_spec.specs.ReplyText.{reply_text};
+ghost use Rattle.std.specs.Prelude.{◌≡◌, ◌+◌, ◌++◌, ◌<◌, ◌^◌, IfErr, IfOk, OnOk, length};
+ghost use Rattle.workload_spec.specs.ReplyText.{replies_text, reply_text};
 ghost use Rattle.round_laws.specs.Lines.{line_of};
+ghost use Rattle.store_rounds.specs.Turned.{PutTurn, lines_behind};
 
 use crate::fault::RunFault;
 use cell_model::TableDecl;
@@ -19,22 +20,22 @@ pub(crate) struct Lines {
 }
 
 impl Lines {
-    /// Puts the line of a session's command of this index, from 1 on, behind the others.
+    /// Puts a line of a session or worker, of this index from 1 on, behind the others.
     pub(crate) fn put(
         &mut self,
         tables: &[TableDecl],
-        session: u32,
+        who: Who,
         index: u64,
         said: Said,
     ) -> Result<(), RunFault>
         ensures round { self.new.round ≡ self.old.round }
         ensures ok { OnOk result (self.new.text.items ≡ self.old.text.items
-            ++ reply_text tables.now (line_of self.old.round (Who.Session session) index said)) }
+            ++ reply_text tables.now (line_of self.old.round who index said)) }
         ensures err { IfErr result (λ fault. fault ≡ RunFault.Memory) }
     {
         let line = ReplyLine {
             round: self.round,
-            who: Who::Session(session),
+            who,
             index,
             said,
         };
@@ -42,5 +43,55 @@ impl Lines {
             Ok(()) => Ok(()),
             Err(AllocError) => Err(RunFault::Memory),
         }
+    }
+
+    /// Puts the lines of a worker's turn behind the others, where so many of its lines were put
+    /// before. Gives how many are put since.
+    ///
+    /// # Errors
+    ///
+    /// There is no memory for these lines, or there was none for those before.
+    pub(crate) fn put_turn(
+        &mut self,
+        tables: &[TableDecl],
+        worker: u32,
+        shown: Result<u64, RunFault>,
+        told: Result<Vec<Said>, AllocError>,
+    ) -> Result<u64, RunFault>
+        requires few { IfOk shown (λ count.
+            IfOk told (λ told. count + length told.items < 2 ^ 64)) }
+        ensures round { self.new.round ≡ self.old.round }
+        ensures ok { IfOk result (PutTurn tables.now self.old.round worker shown told
+            self.old.text.items self.new.text.items) }
+        ensures err { IfErr result (λ fault. fault ≡ RunFault.Memory) }
+    {
+        match (shown, told) {
+            (Ok(count), Ok(told)) => self.put_all(tables, worker, count, told),
+            _ => Err(RunFault::Memory),
+        }
+    }
+
+    /// Puts these lines of a worker behind the others, counted on from so many. Gives the number of
+    /// the last.
+    fn put_all(
+        &mut self,
+        tables: &[TableDecl],
+        worker: u32,
+        count: u64,
+        told: Vec<Said>,
+    ) -> Result<u64, RunFault>
+        requires few { count + length told.items < 2 ^ 64 }
+        ensures round { self.new.round ≡ self.old.round }
+        ensures ok { OnOk result (self.new.text.items ≡ self.old.text.items ++ replies_text
+            tables.now (lines_behind self.old.round (Who.Worker worker) count told.items)) }
+        ensures counted { IfOk result (λ last. last ≡ count + length told.items) }
+        ensures err { IfErr result (λ fault. fault ≡ RunFault.Memory) }
+    {
+        let mut index = count;
+        for said in told {
+            index += 1;
+            self.put(tables, Who::Worker(worker), index, said)?;
+        }
+        Ok(index)
     }
 }

@@ -1,15 +1,16 @@
 //! The rounds of a workload, one after another.
-ghost use Rattle.std.specs.Prelude.{◌≡◌, ◌<◌, ◌^◌, All, IfErr, OnOk, length, true};
+ghost use Rattle.std.specs.Prelude.{◌≡◌, ◌+◌, ◌<◌, ◌^◌, IfErr, OnOk, length, true};
 ghost use Rattle.run_spec.specs.Ran.{shape_of};
 ghost use Rattle.workload_spec.specs.ScriptText.{script_text};
-ghost use Rattle.workload_spec.specs.Valid.{all_lines, is_valid};
+ghost use Rattle.workload_spec.specs.Valid.{is_valid};
 ghost use Rattle.shared_store.specs.Building.{IsNewRow};
 ghost use Rattle.shared_store.specs.Store.{shape_in};
-ghost use Rattle.store_rounds.specs.Answered.{IsServed};
+ghost use Rattle.store_rounds.specs.Crews.{crew_of};
 ghost use Rattle.store_rounds.specs.Runs.{RunsIn};
 ghost use Rattle.store_rounds.specs.Workloads.{CountsExportFault, CountsOutFault};
 ghost use Rattle.store_rounds.specs.Workloads.{GoesPart, GoesWhole};
 
+use crate::crew::Crew;
 use crate::fault::RunFault;
 use crate::round::run_round;
 use byte_ports::{Failed, Gate, Sink, write_all};
@@ -21,21 +22,22 @@ use std::thread::Threads;
 use workload_spec::{Rounds, Script};
 
 /// Runs the rounds of a workload over a store that was just built for it, with the row of all its
-/// sessions. The lines of a round are printed when it has ended, session by session, and an export
-/// goes to the outlet. The gate is passed before each command. `script` is the workload, which costs
-/// nothing.
+/// sessions and, behind them, its workers. The lines of a round are printed when it has ended,
+/// session by session and worker by worker, and an export goes to the outlet. The gate is passed
+/// before each command and each turn. `script` is the workload, which costs nothing.
 ///
 /// # Errors
 ///
 /// [`RunFault::Out`] where the lines of a round could not be printed: the rounds up to it ran.
 /// [`RunFault::Memory`] where there was no memory for the commands or the lines of a round, and
-/// [`RunFault::Export`] where the outlet failed at the export: the rounds before it were printed. In
-/// each case the sessions met after what they did last.
+/// [`RunFault::Export`] where the outlet failed at the export: the rounds before it were printed.
+/// In each case the sessions and workers met after what they did last.
 pub fn run_rounds<R: Wait + Threads + Sync, O: Sink, X: Sink, G: Gate>(
     rt: &R,
     alloc: Global,
     gate: &G,
     store: &Store,
+    crew: Crew,
     row: &mut [Session],
     script: &Snapshot<Script>,
     rounds: Rounds,
@@ -45,10 +47,9 @@ pub fn run_rounds<R: Wait + Threads + Sync, O: Sink, X: Sink, G: Gate>(
     requires rounds { rounds ≡ script.now.value.rounds }
     requires valid { is_valid script.now.value ≡ true }
     requires short { length (script_text script.now.value) < 2 ^ 32 }
-    requires served { All (λ line. IsServed script.now.value.tables line.command) (all_lines script.now.value) }
-    requires workers { script.now.value.workers ≡ 0 }
+    requires crew { crew ≡ crew_of script.now.value }
     requires shape { shape_in store.now ≡ shape_of script.now.value }
-    requires row { IsNewRow store.now script.now.value.sessions row.old }
+    requires row { IsNewRow store.now (crew.sessions + crew.workers) row.old }
     ensures whole { OnOk result (GoesWhole
         (RunsIn script.now.value store.now row.new (X.written outlet.old) (X.written outlet.new))
         script.now.value (O.written out.old) (O.written out.new)) }
@@ -62,7 +63,7 @@ pub fn run_rounds<R: Wait + Threads + Sync, O: Sink, X: Sink, G: Gate>(
     let mut number = 0;
     for round in rounds.into_vec() {
         number += 1;
-        let text = run_round(rt, alloc, gate, store, number, row, round, outlet)?;
+        let text = run_round(rt, alloc, gate, store, number, crew, row, round, outlet)?;
         if let Err(Failed) = write_all(out, text.as_slice()) {
             return Err(RunFault::Out);
         }

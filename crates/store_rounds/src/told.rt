@@ -1,7 +1,7 @@
 //! The lines that the answers of a store's calls tell.
 ghost use Rattle.std.specs.Prelude.{◌≡◌};
 ghost use Rattle.run_spec.specs.Told.{cause_told, fault_told};
-ghost use Rattle.shared_store.specs.Told.{begun_told, found_told, gathered_told};
+ghost use Rattle.shared_store.specs.Told.{begun_told, compacted_told, found_told, gathered_told};
 ghost use Rattle.shared_store.specs.Told.{scanned_told, sealed_told, written_told};
 
 use block_spec::SealFault;
@@ -68,6 +68,16 @@ fn refused(table: u32, fault: WriteFault) -> Said
             stamp,
         },
         WriteFault::Full { inserts: _ } => Said::Full,
+    }
+}
+
+/// The line of a compaction.
+pub(crate) fn moved(answer: Result<u64, AllocError>) -> Said
+    ensures { result ≡ compacted_told answer }
+{
+    match answer {
+        Ok(rows) => Said::Moved(rows),
+        Err(AllocError) => Said::Memory,
     }
 }
 

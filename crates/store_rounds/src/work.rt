@@ -12,7 +12,7 @@ use byte_ports::{Gate, Sink};
 use shared_store::{Session, Store};
 use std::sync::Wait;
 use std::thread::Threads;
-use workload_spec::Command;
+use workload_spec::{Command, Who};
 
 /// Carries out a session's commands of a round one after another, and puts their lines behind those
 /// of the round. An export goes to the outlet. The gate is passed before each command.
@@ -56,7 +56,8 @@ pub(crate) fn work<R: Wait + Threads + Sync, G: Gate, X: Sink>(
         let Ok(said) = carry_out(rt, store, session, command, outlet) else {
             return Err(RunFault::Export);
         };
-        lines.put(tables, session.session_number(), index, said)?;
+        let who = Who::Session(session.session_number());
+        lines.put(tables, who, index, said)?;
     }
     Ok(())
 }

@@ -1,11 +1,11 @@
 //! A workload, run over a store that is built for it.
-ghost use Rattle.std.specs.Prelude.{◌≡◌, ◌<◌, ◌^◌, All, IfErr, OnOk, length, true};
+ghost use Rattle.std.specs.Prelude.{◌≡◌, ◌<◌, ◌^◌, IfErr, OnOk, length, true};
 ghost use Rattle.workload_spec.specs.ScriptText.{script_text};
-ghost use Rattle.workload_spec.specs.Valid.{all_lines, is_valid};
-ghost use Rattle.store_rounds.specs.Answered.{IsServed};
+ghost use Rattle.workload_spec.specs.Valid.{is_valid};
 ghost use Rattle.store_rounds.specs.Workloads.{CountsExportFault, CountsOutFault};
 ghost use Rattle.store_rounds.specs.Workloads.{GoesPart, GoesWhole, WentBy};
 
+use crate::crew::Crew;
 use crate::fault::RunFault;
 use crate::rounds::run_rounds;
 use byte_ports::{Gate, Sink};
@@ -17,8 +17,8 @@ use std::thread::Threads;
 use workload_spec::Script;
 
 /// Runs a workload over a store that is built for it. The lines of a round are printed when it has
-/// ended, session by session, and an export goes to the outlet. The gate is passed before each
-/// command.
+/// ended, session by session and worker by worker, and an export goes to the outlet. The gate is
+/// passed before each command and each turn.
 ///
 /// # Errors
 ///
@@ -33,8 +33,6 @@ pub fn run_workload<R: Wait + Threads + Sync, O: Sink, X: Sink, G: Gate>(
 ) -> Result<(), RunFault>
     requires valid { is_valid script ≡ true }
     requires short { length (script_text script) < 2 ^ 32 }
-    requires served { All (λ line. IsServed script.tables line.command) (all_lines script) }
-    requires workers { script.workers ≡ 0 }
     ensures whole { OnOk result (GoesWhole
         (WentBy script (X.written outlet.old) (X.written outlet.new))
         script (O.written out.old) (O.written out.new)) }
@@ -50,19 +48,26 @@ pub fn run_workload<R: Wait + Threads + Sync, O: Sink, X: Sink, G: Gate>(
         version: _,
         tables,
         sessions,
-        workers: _,
-        turns: _,
+        workers,
+        turns,
         rounds,
     } = script;
+    let crew = Crew {
+        sessions,
+        workers,
+        turns,
+    };
     let Ok(
         Built {
             store,
             sessions: mut row,
         },
-    ) = Store::build(alloc, tables.into_vec(), sessions)
+    ) = Store::build(alloc, tables.into_vec(), crew.size())
     else {
         return Err(RunFault::Memory);
     };
     let row = row.as_mut_slice();
-    run_rounds(rt, alloc, gate, &store, row, &whole, rounds, out, outlet)
+    run_rounds(
+        rt, alloc, gate, &store, crew, row, &whole, rounds, out, outlet,
+    )
 }

@@ -1,21 +1,24 @@
 //! Workloads of several sessions and rounds, and what their runs print.
 use super::{NOTHING_FAILS, run};
 use crate::status::Status;
+use std::alloc::Global;
 use std::process::Abort;
+use std::sync::Wait;
 use std::test::Fail;
+use std::thread::Threads;
 
 // A workload, which is two texts, and what it prints.
-struct Case {
-    name: &'static str,
+pub(super) struct Case {
+    pub name: &'static str,
     // Up to the line `go`.
-    head: &'static str,
-    commands: &'static str,
-    printed: &'static str,
+    pub head: &'static str,
+    pub commands: &'static str,
+    pub printed: &'static str,
 }
 
 // Heads: a table of texts in two blocks and in one, for two sessions; a table of keys alone in one
 // block for one session, and in two for two.
-const TWO_BLOCKS: &str =
+pub(super) const TWO_BLOCKS: &str =
     "store 1\ntable a key:i64 v:utf8? slots 8 blocks 2\nsessions 2\nworkers 0 0\ngo\n";
 
 const ONE_BLOCK: &str =
@@ -215,21 +218,25 @@ const CASES: [Case; 25] = [
     },
 ];
 
-#[test]
-fn workloads_print_their_replies(rt: HostRuntime) -> Result<(), Fail> {
-    for case in &CASES {
-        let mut input = String::from_str(rt.alloc(), case.head)?;
+// Runs each workload, and compares what it prints.
+pub(super) fn run_all<R: Abort + Wait + Threads + Sync>(
+    rt: &R,
+    alloc: Global,
+    cases: &[Case],
+) -> Result<(), Fail> {
+    for case in cases {
+        let mut input = String::from_str(alloc, case.head)?;
         input.push_str(case.commands)?;
-        let ended = run(
-            &rt,
-            rt.alloc(),
-            &["mainline", "run"],
-            input.as_str(),
-            NOTHING_FAILS,
-        )?;
-        let printed = String::from_utf8_lossy(rt.alloc(), ended.out.written())?;
+        let words = ["mainline", "run"];
+        let ended = run(rt, alloc, &words, input.as_str(), NOTHING_FAILS)?;
+        let printed = String::from_utf8_lossy(alloc, ended.out.written())?;
         assert_eq!(rt; printed.as_str(), case.printed, "{}", case.name);
         assert_eq!(rt; ended.status, Status::Done, "{}", case.name);
     }
     Ok(())
+}
+
+#[test]
+fn workloads_print_their_replies(rt: HostRuntime) -> Result<(), Fail> {
+    run_all(&rt, rt.alloc(), &CASES)
 }

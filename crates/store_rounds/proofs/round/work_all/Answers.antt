@@ -5,7 +5,8 @@ use Rattle.std.proofs.lemmas.List.{length_push}
 use Rattle.store_rounds.specs.Rounds.{RowWorkedInPart}
 use Rattle.store_rounds.specs.declared.agenda.Agenda.{Agenda}
 use Rattle.store_rounds.proofs.Faults.{handed_on}
-use Rattle.store_rounds.proofs.RowWork.{agenda_at, is_inside, row_begins, row_goes_on, room_at, row_stops, set_length}
+use Rattle.store_rounds.proofs.RowCalls.{set_length}
+use Rattle.store_rounds.proofs.RowWork.{agenda_at, is_inside, row_begins, row_goes_on, room_at, row_stops}
 use Rattle.store_rounds.proofs.round.work_all.Goals as goal
 
 pub loop-agenda-init : goal.loop-agenda-init

@@ -8,12 +8,11 @@ use Rattle.workload_spec.specs.declared.reply.Said.TheVariants as said
 use Rattle.workload_spec.specs.declared.reply.Who.TheVariants.{Session as TheSession}
 use Rattle.round_laws.specs.Lines.{line_of}
 use Rattle.shared_store.specs.Store.{shape_in}
-use Rattle.store_rounds.specs.Answered.{IsServed}
 use Rattle.store_rounds.specs.Worked.{WorkedInPart}
 use Rattle.store_rounds.specs.declared.fault.RunFault.TheVariants as fault
 use Rattle.store_rounds.proofs.Answering.{few_events}
 use Rattle.store_rounds.proofs.Faults.{handed_on}
-use Rattle.store_rounds.proofs.Turns.{all_at, turn_begins, turn_goes_on, turn_has_room, turn_stops_behind}
+use Rattle.store_rounds.proofs.Turns.{turn_begins, turn_goes_on, turn_has_room, turn_stops_behind}
 use Rattle.store_rounds.proofs.work.work.Goals as goal
 
 pub loop-command-init : goal.loop-command-init
@@ -39,9 +38,8 @@ loop-command-preserved g c =
     let inv = c.loop-command.invariant in
     let split : c.loop-command.yielded ++ c.in-Some.command ∷ into_iter_items c.next.new.self ≡ c.args.commands.items =
     ap (λ (cs : List Command). c.loop-command.yielded ++ cs) (sym c.in-Some.ensures.steps.0) ∙ inv.split in
-    let few = few_events c.args.store.now c.loop-command.session c.carry_out.new.session c.in-Some.command c.in-Ok.said
-    c.tables-tables.ensures.few c.tables-tables.ensures.many (all_at (IsServed (shape_in c.args.store.now).tables) c.loop-command.yielded (into_iter_items c.next.new.self) c.args.commands.items c.in-Some.command split c.requires.commands)
-    c.in-Ok.ensures.answered.answers in
+    let few = few_events c.args.store.now c.loop-command.session c.carry_out.new.session c.in-Some.command c.in-Ok.said _ _
+    c.tables-tables.ensures.few c.tables-tables.ensures.many c.in-Ok.ensures.answered in
     let line : ℕ → ℕ → List ℕ = λ (round session : ℕ).
     c.loop-command.lines.text.items ++ reply_text (shape_in c.args.store.now).tables (line_of round (TheSession session) (c.loop-command.index + 1) c.in-Ok.said) in
     let grown : c.put.new.self.text.items ≡ line c.args.lines.now.round c.carry_out.new.session.session =
@@ -67,9 +65,8 @@ returns-in_err-put-clause-part g c =
     let inv = c.loop-command.invariant in
     let split : c.loop-command.yielded ++ c.in-Some.command ∷ into_iter_items c.next.new.self ≡ c.args.commands.items =
     ap (λ (cs : List Command). c.loop-command.yielded ++ cs) (sym c.in-Some.ensures.steps.0) ∙ inv.split in
-    let few = few_events c.args.store.now c.loop-command.session c.carry_out.new.session c.in-Some.command c.in-Ok.said
-    c.tables-tables.ensures.few c.tables-tables.ensures.many (all_at (IsServed (shape_in c.args.store.now).tables) c.loop-command.yielded (into_iter_items c.next.new.self) c.args.commands.items c.in-Some.command split c.requires.commands)
-    c.in-Ok.ensures.answered.answers in
+    let few = few_events c.args.store.now c.loop-command.session c.carry_out.new.session c.in-Some.command c.in-Ok.said _ _
+    c.tables-tables.ensures.few c.tables-tables.ensures.many c.in-Ok.ensures.answered in
     handed_on (λ r. IfErr r (λ failed. WorkedInPart c.args.store.now c.args.session.now c.carry_out.new.session c.args.commands.items failed
     (g.X.Sink.written c.args.outlet.now) (g.X.Sink.written c.carry_out.new.outlet)))
     c.from_residual.result c.in_err-put.field-0.0 c.from_residual.ensures
@@ -82,9 +79,8 @@ returns-in_default-clause-part g c =
     let inv = c.loop-command.invariant in
     let split : c.loop-command.yielded ++ c.in-Some.command ∷ into_iter_items c.next.new.self ≡ c.args.commands.items =
     ap (λ (cs : List Command). c.loop-command.yielded ++ cs) (sym c.in-Some.ensures.steps.0) ∙ inv.split in
-    let few = few_events c.args.store.now c.loop-command.session c.carry_out.new.session c.in-Some.command said.Memory
-    c.tables-tables.ensures.few c.tables-tables.ensures.many (all_at (IsServed (shape_in c.args.store.now).tables) c.loop-command.yielded (into_iter_items c.next.new.self) c.args.commands.items c.in-Some.command split c.requires.commands)
-    c.in_default.ensures.answered.answers in
+    let few = few_events c.args.store.now c.loop-command.session c.carry_out.new.session c.in-Some.command said.Memory _ _
+    c.tables-tables.ensures.few c.tables-tables.ensures.many c.in_default.ensures.answered in
     turn_stops_behind c.args.store.now c.args.lines.now.round c.args.session.now c.loop-command.session c.carry_out.new.session
     c.loop-command.yielded (into_iter_items c.next.new.self) c.args.commands.items _ _ _ _ _ c.loop-command.index c.in-Some.command said.Memory fault.Export
     inv.turn split c.in_default.ensures.answered few (λ e. c.in_default.ensures.asked)

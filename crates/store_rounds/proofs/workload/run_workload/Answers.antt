@@ -1,4 +1,4 @@
-use Rattle.std.proofs.Common.{List, sym, subst}
+use Rattle.std.proofs.Common.{◌+◌, List, arith, sym, subst}
 use Rattle.std.specs.Prelude.{IfErr}
 use Rattle.cell_model.specs.declared.table.TableDecl.{TableDecl}
 use Rattle.engine_core.specs.Core.{MayOpen}
@@ -6,17 +6,29 @@ use Rattle.store_rounds.specs.Runs.{RunsIn}
 use Rattle.store_rounds.specs.Workloads.{GoesPart, WentBy}
 use Rattle.store_rounds.proofs.Going.{on_part}
 use Rattle.store_rounds.proofs.Nothing.{nothing_goes}
-use Rattle.store_rounds.proofs.Scripts.{may_open}
+use Rattle.store_rounds.proofs.Scripts.{few_sessions, few_workers, has_sessions, may_open}
 use Rattle.workload_spec.specs.declared.script.Script.{Script}
 use Rattle.store_rounds.proofs.workload.run_workload.Goals as goal
 
 pub build-requires-clause-size : goal.build-requires-clause-size
 build-requires-clause-size g c =
-    subst (λ (tables : List TableDecl). MayOpen tables c.args.script.sessions) (sym c.into_vec.ensures) (may_open c.args.script c.requires.valid)
+    subst (λ n. MayOpen c.into_vec.result.items n) (sym c.size.ensures)
+    (subst (λ (tables : List TableDecl). MayOpen tables (c.args.script.sessions + c.args.script.workers)) (sym c.into_vec.ensures) (may_open c.args.script c.requires.valid))
+
+pub build-requires-clause-some : goal.build-requires-clause-some
+build-requires-clause-some g c =
+    let some = has_sessions c.args.script c.requires.valid in
+    omega (arith, some, c.size.ensures)
+
+pub size-requires : goal.size-requires
+size-requires g c =
+    let sessions = few_sessions c.args.script c.requires.valid in
+    let workers = few_workers c.args.script c.requires.valid in
+    omega (arith, sessions, workers)
 
 pub returns-in_default-clause-part : goal.returns-in_default-clause-part
 returns-in_default-clause-part g c =
-    nothing_goes c.args.script c.requires.workers (g.O.Sink.written c.args.out.now) (g.X.Sink.written c.args.outlet.now) c.requires.valid
+    nothing_goes c.args.script (g.O.Sink.written c.args.out.now) (g.X.Sink.written c.args.outlet.now) c.requires.valid
 
 pub returns-clause-part : goal.returns-clause-part
 returns-clause-part g c =
