@@ -8,3 +8,6 @@ mod turning;
 
 pub use keeping::keep_up;
 pub use turning::turn;
+
+#[cfg(test)]
+mod tests;

@@ -1,4 +1,4 @@
-use Rattle.std.proofs.Common.{◌≡◌, ◌+◌, ◌*◌, ◌<◌, ◌++◌, ◌∷◌, [], refl, ap, arith}
+use Rattle.std.proofs.Common.{◌≡◌, ◌+◌, ◌*◌, ◌++◌, ◌∷◌, [], refl, ap, arith}
 use Rattle.event_spec.specs.Parts.{blocks_of}
 use Rattle.shared_store.specs.Store.{most_blocks_in_table, shape_in}
 use Rattle.workload_spec.specs.declared.command.Command.TheVariants as command

@@ -1,4 +1,4 @@
-use Rattle.std.proofs.Common.{◌+◌, ◌++◌, ◌∷◌, [], arith}
+use Rattle.std.proofs.Common.{◌+◌, ◌∷◌, [], arith}
 use Rattle.shared_store.specs.Store.{shape_in}
 use Rattle.workload_spec.specs.declared.command.Command.TheVariants as command
 use Rattle.store_workers.specs.Keeping.{most_made}
