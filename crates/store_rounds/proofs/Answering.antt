@@ -1,9 +1,8 @@
 -- What a session is answered: refused without a transaction, or by few events.
-use Rattle.std.proofs.Common.{◌≡◌, ℕ, ℤ, zero, suc, ◌+◌, ◌*◌, ◌<◌, ◌≤◌, ◌^◌, ◌&&◌, Bool, true, false, List, [], ◌∷◌, ◌++◌, map, length, Option, None, Some, is_some, option_map, refl, sym, ap, ◌∙◌, subst, append-nil, arith, length-append, true≢false}
+use Rattle.std.proofs.Common.{◌≡◌, ℕ, ℤ, zero, suc, ◌<◌, ◌≤◌, ◌^◌, ◌&&◌, Bool, true, false, List, [], ◌∷◌, ◌++◌, map, length, Option, None, Some, is_some, option_map, refl, sym, ap, ◌∙◌, subst, append-nil, arith, length-append, true≢false}
 use mathlib.Core.Logic.{inl, inr}
 use Rattle.std.specs.Prelude.{All, slice_get, unwrap_or}
-use Rattle.std.specs.Prelude.{flat_map, option_to_list}
-use Rattle.std.specs.List.{range_with_len}
+use Rattle.std.specs.Prelude.{option_to_list}
 use Rattle.std.proofs.lemmas.Bool.{and_parts}
 use Rattle.std.proofs.lemmas.List.{length-map}
 use Rattle.std.proofs.lemmas.List.Elements.{All-head, All-tail}
@@ -11,16 +10,15 @@ use Rattle.std.proofs.lemmas.List.FromFn.{length-range_with_len}
 use Rattle.cell_model.specs.declared.table.TableDecl.{TableDecl}
 use Rattle.event_spec.specs.declared.own.OwnTransaction.{OwnTransaction}
 use Rattle.event_spec.specs.declared.event.Event.TheVariants as event
-use Rattle.event_spec.specs.declared.event.MovePair.{MovePair}
 use Rattle.event_spec.specs.Effects.{CoreEvent}
 use Rattle.event_spec.specs.Parts.{Shape, below, blocks_of}
-use Rattle.event_spec.specs.Plans.{plan_of}
 use Rattle.workload_spec.specs.Valid.{is_key_number, is_table_place}
 use Rattle.workload_spec.specs.declared.command.Command.{Command}
 use Rattle.workload_spec.specs.declared.command.Command.TheVariants as command
 use Rattle.workload_spec.specs.declared.reply.Said.{Said}
 use Rattle.workload_spec.specs.declared.reply.Said.TheVariants as said
-use Rattle.run_spec.specs.Asked.{at_all_blocks, at_blocks, events_of, looks_in, moves}
+use Rattle.outcome_spec.specs.Forms.{is_upkeep}
+use Rattle.run_spec.specs.Asked.{at_blocks, events_of}
 use Rattle.run_spec.specs.Calls.{Call, IsCallBy}
 use Rattle.run_spec.specs.Handed.{own_in}
 use Rattle.run_spec.specs.Occurrences.{Occurrence, events_in}
@@ -98,100 +96,65 @@ reads_few shape table read few =
     let all = length-range_with_len 0 (blocks_of shape table) in
     omega (arith, each, all, few)
 
--- and so do events for each block of each table
-sweeps_few : (shape : Shape) (event : ℕ → ℕ → CoreEvent) → ((table : ℕ) → blocks_of shape table ≤ 2 ^ 10) → length shape.tables ≤ 16 → length (at_all_blocks shape event) ≤ 2 ^ 14
-sweeps_few shape event few many =
-    let all = go 0 (length shape.tables) in
-    omega (arith, all, many)
-  where
-    go : (a n : ℕ) → length (flat_map (λ table. at_blocks shape table (event table)) (range_with_len a n)) ≤ 2 ^ 10 * n
-    go a zero = omega arith
-    go a (suc n) =
-        let rest = go (a + 1) n in
-        let first = reads_few shape a (event a) (few a) in
-        let both = length-append (at_blocks shape a (event a)) (flat_map (λ table. at_blocks shape table (event table)) (range_with_len (a + 1) n)) in
-        omega (arith, rest, first, both)
-
 thaw_and_write : (table : ℕ) (block : Option ℕ) (e : CoreEvent) → length (map (event.Thaw table) (option_to_list block) ++ e ∷ []) ≤ most_events
 thaw_and_write table None e = omega arith
 thaw_and_write table (Some block) e = omega arith
 
-look_and_move : (shape : Shape) (table : ℕ) (pairs : List MovePair) → blocks_of shape table ≤ 2 ^ 10
-    → length (at_blocks shape table (event.Look table) ++ moves table pairs) ≤ most_events
-look_and_move shape table pairs few =
-    let looks = reads_few shape table (event.Look table) few in
-    let parted = length-append (at_blocks shape table (event.Look table)) (moves table pairs) in
-    let one = move_at_most pairs in
-    omega (arith, looks, parted, one)
-  where
-    move_at_most : (pairs : List MovePair) → length (moves table pairs) ≤ 1
-    move_at_most [] = omega arith
-    move_at_most (pair ∷ pairs) = omega arith
-
--- the events of any command but a pruning
+-- the events of any command but one of upkeep
 events_few : (shape : Shape) (own : Option OwnTransaction) (session : ℕ) (asked : Command) (made : List Occurrence)
-    → ((table : ℕ) → blocks_of shape table ≤ 2 ^ 10) → length shape.tables ≤ 16 → (asked ≡ command.Prune → ⊥)
+    → ((table : ℕ) → blocks_of shape table ≤ 2 ^ 10) → is_upkeep asked ≡ false
     → length (events_of shape own session asked made) ≤ most_events
-events_few shape own session command.Begin made few many other = omega arith
-events_few shape None session (command.Get table key) made few many other = omega arith
-events_few shape (Some t) session (command.Get table key) made few many other = omega arith
-events_few shape None session (command.Scan table) made few many other = omega arith
-events_few shape (Some t) session (command.Scan table) made few many other = let reads = reads_few shape table (event.Read t table) (few table) in omega (arith, reads)
-events_few shape None session (command.Insert table row) made few many other = omega arith
-events_few shape (Some t) session (command.Insert table row) made few many other = omega arith
-events_few shape None session (command.Update table row) made few many other = omega arith
-events_few shape (Some t) session (command.Update table row) made few many other = thaw_and_write table _ _
-events_few shape None session (command.Delete table key) made few many other = omega arith
-events_few shape (Some t) session (command.Delete table key) made few many other = thaw_and_write table _ _
-events_few shape None session command.Commit made few many other = omega arith
-events_few shape (Some t) session command.Commit made few many other = omega arith
-events_few shape None session command.Abort made few many other = omega arith
-events_few shape (Some t) session command.Abort made few many other = omega arith
-events_few shape own session command.Observe made few many other = let sweeps = sweeps_few shape event.Observe few many in omega (arith, sweeps)
-events_few shape own session command.Prune made few many other = absurd (other refl)
-events_few shape own session (command.Compact table) made few many other = look_and_move shape table (plan_of (looks_in made)) (few table)
-events_few shape own session (command.Seal table block) made few many other = omega arith
-events_few shape own session (command.Gather table block) made few many other = omega arith
-events_few shape None session (command.Export table) made few many other = omega arith
-events_few shape (Some t) session (command.Export table) made few many other = let reads = reads_few shape table (event.Read t table) (few table) in omega (arith, reads)
+events_few shape own session command.Begin made few other = omega arith
+events_few shape None session (command.Get table key) made few other = omega arith
+events_few shape (Some t) session (command.Get table key) made few other = omega arith
+events_few shape None session (command.Scan table) made few other = omega arith
+events_few shape (Some t) session (command.Scan table) made few other = let reads = reads_few shape table (event.Read t table) (few table) in omega (arith, reads)
+events_few shape None session (command.Insert table row) made few other = omega arith
+events_few shape (Some t) session (command.Insert table row) made few other = omega arith
+events_few shape None session (command.Update table row) made few other = omega arith
+events_few shape (Some t) session (command.Update table row) made few other = thaw_and_write table _ _
+events_few shape None session (command.Delete table key) made few other = omega arith
+events_few shape (Some t) session (command.Delete table key) made few other = thaw_and_write table _ _
+events_few shape None session command.Commit made few other = omega arith
+events_few shape (Some t) session command.Commit made few other = omega arith
+events_few shape None session command.Abort made few other = omega arith
+events_few shape (Some t) session command.Abort made few other = omega arith
+events_few shape own session command.Observe made few other = absurd (true≢false other)
+events_few shape own session command.Prune made few other = absurd (true≢false other)
+events_few shape own session (command.Compact table) made few other = absurd (true≢false other)
+events_few shape own session (command.Seal table block) made few other = absurd (true≢false other)
+events_few shape own session (command.Gather table block) made few other = absurd (true≢false other)
+events_few shape None session (command.Export table) made few other = omega arith
+events_few shape (Some t) session (command.Export table) made few other = let reads = reads_few shape table (event.Read t table) (few table) in omega (arith, reads)
 
 made_few : (shape : Shape) (worker : Bool) (session : ℕ) (own : Option OwnTransaction) (refusal : Option Said) (call : Call)
-    → ((table : ℕ) → blocks_of shape table ≤ 2 ^ 10) → length shape.tables ≤ 16 → (call.command ≡ command.Prune → ⊥)
+    → ((table : ℕ) → blocks_of shape table ≤ 2 ^ 10) → is_upkeep call.command ≡ false
     → IsCallBy shape worker session own refusal call → length call.made ≤ most_events
-made_few shape worker session own (Some line) call few many other (none, told) = let e = ap length none in omega (arith, e)
-made_few shape worker session own None call few many other (inl whole) =
-    let all = events_few shape own session call.command call.made few many other in
+made_few shape worker session own (Some line) call few other (none, told) = let e = ap length none in omega (arith, e)
+made_few shape worker session own None call few other (inl whole) =
+    let all = events_few shape own session call.command call.made few other in
     let same = ap length whole.events in
     let each = length-map call.made (λ (occurrence : Occurrence). occurrence.event) in
     omega (arith, all, same, each)
-made_few shape worker session own None call few many other (inr part) =
-    let all = events_few shape own session call.command call.made few many other in
+made_few shape worker session own None call few other (inr part) =
+    let all = events_few shape own session call.command call.made few other in
     let same = ap length part.events in
     let parted = length-append (events_in call.made) part.missed in
     let each = length-map call.made (λ (occurrence : Occurrence). occurrence.event) in
     omega (arith, all, same, parted, each)
 
--- whether the command prunes
-data IsPruning (asked : Command) : Type 0 where
-  prunes : asked ≡ command.Prune → IsPruning asked
-  other : (asked ≡ command.Prune → ⊥) → IsPruning asked
-
-is_pruning : (asked : Command) → IsPruning asked
-is_pruning command.Prune = prunes refl
-is_pruning _ = other (λ e. let never : ⊥ = cc e in never)
-
 -- an answered command made few events
 pub few_events : (store : StoreView) (old new : Session) (asked : Command) (told : Said) (exported now : Option (List ℕ))
-    → All (λ (t : TableDecl). t.blocks ≤ 2 ^ 10) (shape_in store).tables → length (shape_in store).tables ≤ 16
+    → All (λ (t : TableDecl). t.blocks ≤ 2 ^ 10) (shape_in store).tables
     → Answered store old new asked told exported now → MakesAtMost most_events old new
-few_events store old new asked told exported now blocks many answered = go (is_pruning asked)
+few_events store old new asked told exported now blocks answered = go (is_upkeep asked) refl
   where
-    go : IsPruning asked → MakesAtMost most_events old new
-    go (prunes is) = answered.pruned is
-    go (other not) =
+    go : (b : Bool) → is_upkeep asked ≡ b → MakesAtMost most_events old new
+    go true is = answered.kept_up is
+    go false other =
         let few : (table : ℕ) → blocks_of (shape_in store) table ≤ 2 ^ 10 =
         λ (table : ℕ). blocks_few (shape_in store).tables table blocks in
         let made = made_few (shape_in store) false old.session (own_after (own_in (shape_in store) old.session (seen old)))
         (refusal_of asked (own_after (own_in (shape_in store) old.session (seen old))))
-        (record { command = asked; made = answered.answers.made; told = Some told }) few many not answered.answers.called.is_call in
+        (record { command = asked; made = answered.answers.made; told = Some told }) few other answered.answers.called.is_call in
         omega (arith, made, answered.answers.count)

@@ -1,5 +1,5 @@
 -- What calls sent to an outlet.
-use Rattle.std.proofs.Common.{◌≡◌, ℕ, false, List, [], ◌∷◌, ◌++◌, Option, Some, Ok, Err, refl, sym, subst, true≢false}
+use Rattle.std.proofs.Common.{◌≡◌, ℕ, true, false, List, [], ◌∷◌, ◌++◌, Option, Some, Ok, Err, refl, sym, subst, true≢false}
 use Rattle.std.specs.Prelude.{IfSome, Result}
 use Rattle.std.specs.Io.KnownBytes.{Appends}
 use Rattle.std.proofs.KnownBytes.{Appends-nil, Appends-trans}
@@ -11,6 +11,7 @@ use Rattle.explained_laws.proofs.Counting.{blocks_same}
 use Rattle.export_laws.proofs.Sending.{sending_goes_on, sendings_join}
 use Rattle.export_laws.proofs.Tables.{columns_same}
 use Rattle.export_spec.specs.Calls.{CallSends, SendsAs}
+use Rattle.outcome_spec.specs.Forms.{is_upkeep}
 use Rattle.outcome_spec.specs.Tables.{blocks_at, columns_at}
 use Rattle.outcome_spec.specs.Upkeep.{exported_table}
 use Rattle.run_spec.specs.Calls.{Call}
@@ -21,7 +22,8 @@ use Rattle.store_export.specs.Exports.{Exports, exported_told}
 use Rattle.store_export.specs.declared.exporting.ExportFault.{ExportFault}
 use Rattle.store_export.specs.declared.exporting.ExportFault.TheVariants as fault
 use Rattle.store_export.specs.declared.exporting.Summary.{Summary}
-use Rattle.store_rounds.specs.Answered.{Answered, Counts, SentBy, most_events}
+use Rattle.store_workers.specs.Keeping.{Counts}
+use Rattle.store_rounds.specs.Answered.{Answered, SentBy, most_events}
 use Rattle.workload_spec.specs.Valid.{is_export}
 use Rattle.workload_spec.specs.declared.command.Command.{Command}
 use Rattle.workload_spec.specs.declared.command.Command.TheVariants as command
@@ -64,14 +66,14 @@ no_export _ other = refl
 -- they send nothing
 pub other_answered : (store : StoreView) (old new : Session) (asked : Command) (told : Said) (exported : Option (List ℕ))
     → IsSession store new → new.session ≡ old.session → Answers store old new asked told → Counts told
-    → (asked ≡ command.Prune → MakesAtMost most_events old new) → is_export asked ≡ false
+    → (is_upkeep asked ≡ true → MakesAtMost most_events old new) → is_export asked ≡ false
     → Answered store old new asked told exported exported
-other_answered store old new asked told exported is same answers counts pruned other = record {
+other_answered store old new asked told exported is same answers counts kept_up other = record {
   session = is;
   same = same;
   answers = answers;
   counts = counts;
-  pruned = pruned;
+  kept_up = kept_up;
   bytes = [];
   sent = Appends-nil exported;
   by_call = record {
@@ -92,7 +94,7 @@ export_refused store s table exported is answers = record {
   same = refl;
   answers = answers;
   counts = λ count e. absurd (let never : ⊥ = cc e in never);
-  pruned = λ e. absurd (let never : ⊥ = cc e in never);
+  kept_up = λ e. absurd (true≢false (sym e));
   bytes = [];
   sent = Appends-nil exported;
   by_call = record { by_line = refl; quiet = λ no. refl };
@@ -120,7 +122,7 @@ export_answered store old new table told exported now steps exports = record {
   same = exports.same;
   answers = exports.answers;
   counts = no_count told;
-  pruned = λ e. absurd (let never : ⊥ = cc e in never);
+  kept_up = λ e. absurd (true≢false (sym e));
   bytes = exports.bytes;
   sent = exports.sent;
   by_call = record {

@@ -1,15 +1,16 @@
 -- Which commands a session may be asked, what it is told, and what is sent meanwhile.
-use Rattle.std.specs.Prelude.{◌≡◌, ℕ, ◌+◌, ◌<◌, ◌^◌, true, List, Option, Some, Result, Ok, Err}
+use Rattle.std.specs.Prelude.{◌≡◌, ℕ, true, List, Option, Some, Result, Ok, Err}
 use Rattle.std.specs.Io.KnownBytes.{Appends}
 use Rattle.byte_ports.specs.declared.ports.Failed.{Failed}
 use Rattle.cell_model.specs.declared.table.TableDecl.{TableDecl}
 use Rattle.export_spec.specs.Calls.{CallSends, CallsSend}
+use Rattle.outcome_spec.specs.Forms.{is_upkeep}
 use Rattle.run_spec.specs.Calls.{Call}
-use Rattle.shared_store.specs.Store.{Answers, IsSession, MakesAtMost, StoreView, most_blocks, shape_in}
+use Rattle.shared_store.specs.Store.{Answers, IsSession, MakesAtMost, StoreView, shape_in}
 use Rattle.shared_store.specs.declared.session.Session.{Session}
+use Rattle.store_workers.specs.Keeping.{Counts, most_upkeep}
 use Rattle.workload_spec.specs.Valid.{is_command}
 use Rattle.workload_spec.specs.declared.command.Command.{Command}
-use Rattle.workload_spec.specs.declared.command.Command.TheVariants as asked
 use Rattle.workload_spec.specs.declared.reply.Said.{Said}
 use Rattle.workload_spec.specs.declared.reply.Said.TheVariants as said
 
@@ -17,14 +18,9 @@ use Rattle.workload_spec.specs.declared.reply.Said.TheVariants as said
 abbrev pub IsServed : List TableDecl → Command → Type 0
 IsServed tables command = is_command tables command ≡ true
 
--- A command makes at most so many events: a pruning asks for a stamp, and prunes each block of each
--- table by it.
+-- A command makes at most so many events: none makes more than a pruning.
 abbrev pub most_events : ℕ
-most_events = most_blocks + 1
-
--- what is told is no pruning's count beyond 64 bits
-abbrev pub Counts : Said → Type 0
-Counts told = (count : ℕ) → told ≡ said.Pruned count → count < 2 ^ 64
+most_events = most_upkeep
 
 -- What calls sent to an outlet, one behind the other.
 pub record SentBy
@@ -39,7 +35,8 @@ abbrev pub told_in : Result Said Failed → Said
 told_in (Ok told) = told
 told_in (Err failed) = said.Memory
 
--- The session carried out the command and was told this line, and an export sent what the line says.
+-- The session carried out the command and was told this line, and an export sent what the line
+-- says.
 pub record Answered
     (store : StoreView) (old new : Session) (command : Command) (told : Said)
     (exported exported_now : Option (List ℕ))
@@ -48,7 +45,7 @@ pub record Answered
   pub same : new.session ≡ old.session
   pub answers : Answers store old new command told
   pub counts : Counts told
-  pub pruned : command ≡ asked.Prune → MakesAtMost most_events old new
+  pub kept_up : is_upkeep command ≡ true → MakesAtMost most_events old new
   pub bytes : List ℕ
   pub sent : Appends exported exported_now bytes
   pub by_call : CallSends

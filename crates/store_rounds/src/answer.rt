@@ -1,18 +1,21 @@
 //! A session's command, carried out by its store call.
 ghost use Rattle.std.specs.Prelude.{◌≡◌, None, OnErr, OnOk, false, is_some, true};
 ghost use Rattle.byte_ports.specs.Calls.{Rose};
+ghost use Rattle.outcome_spec.specs.Forms.{is_upkeep};
 ghost use Rattle.run_spec.specs.Told.{refusal_of};
 ghost use Rattle.shared_store.specs.Store.{Answers, HasRoomFor, IsSession, MakesAtMost};
 ghost use Rattle.shared_store.specs.Store.{shape_in};
-ghost use Rattle.store_rounds.specs.Answered.{Answered, Counts, IsServed, most_events, told_in};
+ghost use Rattle.store_workers.specs.Keeping.{Counts};
+ghost use Rattle.store_rounds.specs.Answered.{Answered, IsServed, most_events, told_in};
 ghost use Rattle.workload_spec.specs.Valid.{is_export};
 
 use crate::sending::send;
-use crate::told::{begun, found, gathered, moved, scanned, sealed, written};
+use crate::told::{begun, found, scanned, written};
 use byte_ports::{Failed, Sink};
 use shared_store::{Session, Store};
 use std::sync::Wait;
 use std::thread::Threads;
+use store_workers::keep_up;
 use workload_spec::{Command, Said};
 
 /// Carries out a session's command, and gives the line that it is told. An export goes to the
@@ -61,7 +64,7 @@ fn answer<R: Wait + Threads + Sync>(
     ensures same { session.new.session ≡ session.old.session }
     ensures answers { Answers store.now session.old session.new command result }
     ensures counts { Counts result }
-    ensures pruned { command ≡ Command.Prune → MakesAtMost most_events session.old session.new }
+    ensures kept_up { is_upkeep command ≡ true → MakesAtMost most_events session.old session.new }
 {
     if needs_transaction(&command) && !session.busy() {
         return Said::NoTransaction;
@@ -78,15 +81,11 @@ fn answer<R: Wait + Threads + Sync>(
             store.abort(rt, session);
             Said::Aborted
         }
-        Command::Observe => Said::Cooling(store.observe(rt, session)),
-        Command::Prune => Said::Pruned(store.prune(rt, session)),
-        Command::Compact { table } => moved(store.compact(rt, session, table)),
-        Command::Seal { table, block } => {
-            sealed(table, block, store.seal(rt, session, table, block))
-        }
-        Command::Gather { table, block } => {
-            gathered(table, block, store.gather(rt, session, table, block))
-        }
+        Command::Observe
+        | Command::Prune
+        | Command::Compact { .. }
+        | Command::Seal { .. }
+        | Command::Gather { .. } => keep_up(rt, store, session, command),
         Command::Export { .. } => unreachable!(),
     }
 }

@@ -1,15 +1,13 @@
 //! The lines that the answers of a store's calls tell.
 ghost use Rattle.std.specs.Prelude.{◌≡◌};
-ghost use Rattle.run_spec.specs.Told.{cause_told, fault_told};
-ghost use Rattle.shared_store.specs.Told.{begun_told, compacted_told, found_told, gathered_told};
-ghost use Rattle.shared_store.specs.Told.{scanned_told, sealed_told, written_told};
+ghost use Rattle.run_spec.specs.Told.{fault_told};
+ghost use Rattle.shared_store.specs.Told.{begun_told, found_told, scanned_told, written_told};
 
-use block_spec::SealFault;
 use cell_model::{Row, Rows};
 use event_spec::WriteFault;
 use shared_store::{Busy, StoreFault};
 use std::alloc::AllocError;
-use workload_spec::{Said, SealCause};
+use workload_spec::Said;
 
 /// The line of a begin.
 pub(crate) fn begun(answer: Result<u64, Busy>) -> Said
@@ -68,55 +66,5 @@ fn refused(table: u32, fault: WriteFault) -> Said
             stamp,
         },
         WriteFault::Full { inserts: _ } => Said::Full,
-    }
-}
-
-/// The line of a compaction.
-pub(crate) fn moved(answer: Result<u64, AllocError>) -> Said
-    ensures { result ≡ compacted_told answer }
-{
-    match answer {
-        Ok(rows) => Said::Moved(rows),
-        Err(AllocError) => Said::Memory,
-    }
-}
-
-/// The line of a seal of a block.
-pub(crate) fn sealed(table: u32, block: u32, answer: Result<u32, SealFault>) -> Said
-    ensures { result ≡ sealed_told table block answer }
-{
-    match answer {
-        Ok(stamp) => Said::Sealed {
-            table,
-            block,
-            stamp,
-        },
-        Err(fault) => Said::NotSealed(cause(fault)),
-    }
-}
-
-/// Why a block is not sealed, as its line says it.
-fn cause(fault: SealFault) -> SealCause
-    ensures { result ≡ cause_told fault }
-{
-    match fault {
-        SealFault::Phase => SealCause::Phase,
-        SealFault::Head => SealCause::Head,
-        SealFault::Empty => SealCause::Empty,
-        SealFault::Gaps => SealCause::Gaps,
-        SealFault::Versions => SealCause::Versions,
-        SealFault::Hot => SealCause::Hot,
-        SealFault::Last => SealCause::Last,
-    }
-}
-
-/// The line of a gathering of a block.
-pub(crate) fn gathered(table: u32, block: u32, answer: Result<Option<u32>, AllocError>) -> Said
-    ensures { result ≡ gathered_told table block answer }
-{
-    match answer {
-        Ok(Some(rows)) => Said::Frozen { table, block, rows },
-        Ok(None) => Said::NotFrozen,
-        Err(AllocError) => Said::Memory,
     }
 }

@@ -39,7 +39,7 @@ loop-command-preserved g c =
     let split : c.loop-command.yielded ++ c.in-Some.command ∷ into_iter_items c.next.new.self ≡ c.args.commands.items =
     ap (λ (cs : List Command). c.loop-command.yielded ++ cs) (sym c.in-Some.ensures.steps.0) ∙ inv.split in
     let few = few_events c.args.store.now c.loop-command.session c.carry_out.new.session c.in-Some.command c.in-Ok.said _ _
-    c.tables-tables.ensures.few c.tables-tables.ensures.many c.in-Ok.ensures.answered in
+    c.tables-tables.ensures.few c.in-Ok.ensures.answered in
     let line : ℕ → ℕ → List ℕ = λ (round session : ℕ).
     c.loop-command.lines.text.items ++ reply_text (shape_in c.args.store.now).tables (line_of round (TheSession session) (c.loop-command.index + 1) c.in-Ok.said) in
     let grown : c.put.new.self.text.items ≡ line c.args.lines.now.round c.carry_out.new.session.session =
@@ -66,7 +66,7 @@ returns-in_err-put-clause-part g c =
     let split : c.loop-command.yielded ++ c.in-Some.command ∷ into_iter_items c.next.new.self ≡ c.args.commands.items =
     ap (λ (cs : List Command). c.loop-command.yielded ++ cs) (sym c.in-Some.ensures.steps.0) ∙ inv.split in
     let few = few_events c.args.store.now c.loop-command.session c.carry_out.new.session c.in-Some.command c.in-Ok.said _ _
-    c.tables-tables.ensures.few c.tables-tables.ensures.many c.in-Ok.ensures.answered in
+    c.tables-tables.ensures.few c.in-Ok.ensures.answered in
     handed_on (λ r. IfErr r (λ failed. WorkedInPart c.args.store.now c.args.session.now c.carry_out.new.session c.args.commands.items failed
     (g.X.Sink.written c.args.outlet.now) (g.X.Sink.written c.carry_out.new.outlet)))
     c.from_residual.result c.in_err-put.field-0.0 c.from_residual.ensures
@@ -80,7 +80,7 @@ returns-in_default-clause-part g c =
     let split : c.loop-command.yielded ++ c.in-Some.command ∷ into_iter_items c.next.new.self ≡ c.args.commands.items =
     ap (λ (cs : List Command). c.loop-command.yielded ++ cs) (sym c.in-Some.ensures.steps.0) ∙ inv.split in
     let few = few_events c.args.store.now c.loop-command.session c.carry_out.new.session c.in-Some.command said.Memory _ _
-    c.tables-tables.ensures.few c.tables-tables.ensures.many c.in_default.ensures.answered in
+    c.tables-tables.ensures.few c.in_default.ensures.answered in
     turn_stops_behind c.args.store.now c.args.lines.now.round c.args.session.now c.loop-command.session c.carry_out.new.session
     c.loop-command.yielded (into_iter_items c.next.new.self) c.args.commands.items _ _ _ _ _ c.loop-command.index c.in-Some.command said.Memory fault.Export
     inv.turn split c.in_default.ensures.answered few (λ e. c.in_default.ensures.asked)
