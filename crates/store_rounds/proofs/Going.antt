@@ -19,6 +19,8 @@ module _ (Goes Other : List (List Line) → List ℕ → Type 0) (told : (asked 
     first = to.first;
     shown = to.shown;
     hidden = to.hidden;
+    shares = to.shares;
+    of_round = to.of_round;
     explained_shown = to.explained_shown;
     went = told _ _ to.went;
     printed = to.printed;

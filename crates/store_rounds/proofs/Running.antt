@@ -398,6 +398,8 @@ module _ (script : Script) (store : StoreView) (old new : List Session) (asked r
     first = first_lines_are_so (counts_of (λ n. did.calls (TheSession n))) lines;
     shown = rounds_text script.tables 1 running.rounds;
     hidden = round_text script.tables (number + 1) (crew_shares (crew_of script) did.calls);
+    shares = crew_shares (crew_of script) did.calls;
+    of_round = ap (λ n. round_text script.tables (n + 1) (crew_shares (crew_of script) did.calls)) running.asked_count;
     explained_shown = explained_so_far script running.rounds running.finished exported exported_now running.counted running.sent
         asked (lines ∷ rest) (sym split) valid running.ran;
     went = subst (RunsIn script store new exported exported_later (asked ++ first ∷ []))

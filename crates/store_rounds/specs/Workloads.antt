@@ -1,5 +1,5 @@
 -- How the run of a workload ends: which rounds ran, what was printed, and what was sent.
-use Rattle.std.specs.Prelude.{◌≡◌, ◌⊎◌, ℕ, true, List, [], ◌∷◌, ◌++◌, Option, Result, Ok, Err}
+use Rattle.std.specs.Prelude.{◌≡◌, ◌⊎◌, ℕ, ◌+◌, true, List, [], ◌∷◌, ◌++◌, length, Option, Result, Ok, Err}
 use Rattle.std.specs.Io.KnownBytes.{Appends}
 use Rattle.byte_ports.specs.Calls.{AppendsFront, Rose}
 use Rattle.export_spec.specs.Sent.{SaysAllSent}
@@ -8,8 +8,9 @@ use Rattle.workload_spec.specs.Valid.{is_export}
 use Rattle.workload_spec.specs.declared.script.Line.{Line}
 use Rattle.workload_spec.specs.declared.script.Script.{Script}
 use Rattle.run_spec.specs.Occurrences.{Logged}
-use Rattle.run_spec.specs.Ran.{Ran}
+use Rattle.run_spec.specs.Ran.{Ran, Share}
 use Rattle.round_laws.specs.Fronts.{AreFirstLines, lines_of, with_rounds}
+use Rattle.round_laws.specs.Lines.{round_text}
 use Rattle.store_rounds.specs.declared.fault.RunFault.{RunFault}
 use Rattle.store_rounds.specs.declared.fault.RunFault.TheVariants as fault
 
@@ -48,8 +49,8 @@ pub record GoesCutOff
   pub printed : AppendsFront before now text
 
 -- The run stopped within a round: the rounds before it ran, and their text alone was printed. Of
--- the round these first lines of each session ran, and each worker made its turns; their text was
--- not printed.
+-- the round these first lines of each session ran, and each worker made its turns; the text of
+-- this round's lines alone was not printed.
 pub record GoesTo
     (Goes : List (List Line) → List ℕ → Type 0) (script : Script) (lines : List Line)
     (before now : Option (List ℕ))
@@ -61,6 +62,8 @@ pub record GoesTo
   pub first : AreFirstLines lines round
   pub shown : List ℕ
   pub hidden : List ℕ
+  pub shares : List Share
+  pub of_round : hidden ≡ round_text script.tables (length whole + 1) shares
   pub explained_shown : Explained (with_rounds whole script) shown
   pub went : Goes (whole ++ lines ∷ []) (shown ++ hidden)
   pub printed : Appends before now shown
