@@ -607,7 +607,13 @@ fn blocks_are_batches(rt: HostRuntime) -> Result<(), Fail> {
     Ok(())
 }
 
-// Holds the index of the last pass while session 1 passes with 1, 2 and so on.
+// The commands of session 1 in the test of the gate, and the number of the first worker there.
+const COMMANDS: u32 = 8;
+
+const FIRST_WORKER: u32 = 65;
+
+// Holds how often it was passed, while session 1 passes with 1, 2 and so on, and behind all its
+// commands the first worker with 1, 2 and so on.
 #[derive(Drop)]
 struct CountingGate<'a> {
     passed: &'a AtomicU32,
@@ -616,9 +622,13 @@ struct CountingGate<'a> {
 impl<'a> Gate for CountingGate<'a> {
     fn pass<R: Wait>(&self, _rt: &R, session: u32, index: u32) {
         let next = self.passed.load(Ordering::Relaxed).wrapping_add(1);
-        let in_order = session == 1 && index == next;
+        let in_order = if next <= COMMANDS {
+            session == 1 && index == next
+        } else {
+            session == FIRST_WORKER && index == next.wrapping_sub(COMMANDS)
+        };
         self.passed
-            .store(if in_order { index } else { u32::MAX }, Ordering::Relaxed);
+            .store(if in_order { next } else { u32::MAX }, Ordering::Relaxed);
     }
 }
 
@@ -655,12 +665,10 @@ impl<'a> Outlet for WatchingOutlet<'a> {
 
 // The outlet is started before the first command, and the export is the seventh.
 #[test]
-fn the_gate_is_passed_before_each_command(rt: HostRuntime) -> Result<(), Fail> {
+fn the_gate_is_passed_before_each_command_and_turn(rt: HostRuntime) -> Result<(), Fail> {
     let alloc = rt.alloc();
-    let input = workload(
-        alloc,
-        "1 begin\n1 insert b 1\n1 get b 1\n1 get b 2\n1 commit\n1 begin\n1 export b\n1 commit\n",
-    )?;
+    let input = "store 1\ntable b key:i64 slots 8 blocks 1\nsessions 1\nworkers 1 2\ngo\n\
+        1 begin\n1 insert b 1\n1 get b 1\n1 get b 2\n1 commit\n1 begin\n1 export b\n1 commit\n";
     let mut source = ListSource::new(alloc, input.as_bytes(), &[])?;
     let mut out = ListSink::new(alloc, &[])?;
     let passed = AtomicU32::new(0);
@@ -675,7 +683,7 @@ fn the_gate_is_passed_before_each_command(rt: HostRuntime) -> Result<(), Fail> {
     assert_eq!(rt; status, Status::Done);
     assert_eq!(rt; outlet.at_start, Some(0));
     assert_eq!(rt; outlet.at_write, Some(7));
-    assert_eq!(rt; passed.load(Ordering::Relaxed), 8);
+    assert_eq!(rt; passed.load(Ordering::Relaxed), COMMANDS + 2);
     Ok(())
 }
 
