@@ -5,12 +5,14 @@ pub mod Compacted
 pub mod Freezes
 pub mod Hands
 pub mod Imagings
+pub mod Kept
 pub mod Laid
 pub mod Latched
 pub mod Made
 pub mod Maps
 pub mod Observed
 pub mod Pruned
+pub mod Rested
 pub mod Rows
 pub mod Scanned
 pub mod Sessions

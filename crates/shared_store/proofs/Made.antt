@@ -38,8 +38,8 @@ use Rattle.run_spec.specs.Occurrences.{Logged}
 use Rattle.run_spec.specs.Opened.{own_after}
 use Rattle.own_laws.specs.Laws.{HasOpened}
 use Rattle.hall_rule.specs.Hands.{Agrees, Covers, SameRoom, all_in}
-use Rattle.shared_store.specs.Making.{Gives, IsFew, Makes, MakesHeld, MayMake, MayMakeHeld, OldestLasts, Takes, parts_seen}
-use Rattle.shared_store.specs.Store.{HandsView, IsAt, IsStore, IsWithin, SeatView, StoreView, TookPartsOf, shape_in}
+use Rattle.shared_store.specs.Making.{FitsEach, Gives, IsFew, Makes, MakesHeld, MayMake, MayMakeHeld, OldestLasts, Takes, parts_seen}
+use Rattle.shared_store.specs.Store.{HandsView, IsStore, IsWithin, SeatView, StoreView, TookPartsOf, shape_in}
 use Rattle.shared_store.proofs.Hands.{agrees_with, touching_whole}
 
 -- both tests of a reply are one
@@ -135,33 +135,26 @@ module _ (store : StoreView) (session : ℕ) (seat : SeatView) (hands : HandsVie
 module _ (store : StoreView) (s t : SeatView) (held hands : HandsView) (e : CoreEvent)
     (there : IsPass (store_meaning (shape_in store)) store.id t hands) (same_t : IsSameSeat s t)
     (sees : SeesMore (store_meaning (shape_in store)) s.me.0 t.me.0)
-    (covers : Covers (touching (shape_in store) e) (first_of hands))
-    (only : (k : ℕ) → Holds (first_of hands) k → touching (shape_in store) e (first_of hands) k ≡ true)
-    (took : TookParts (first_of hands) s.me.0 t.me.0)
-    (session : ℕ) (own : Option OwnTransaction) (at' : IsAt store session s held own)
+    (session : ℕ) (own : Option OwnTransaction) (within : IsWithin store session s held own)
   where
     abbrev sh : Shape
     sh = shape_in store
 
     knows_old : Knows (store_meaning sh) t.id s.me (first_of held)
-    knows_old = subst (λ i. Knows (store_meaning sh) i s.me (first_of held)) (sym same_t.1) at'.within.pass.of.1
+    knows_old = subst (λ i. Knows (store_meaning sh) i s.me (first_of held)) (sym same_t.1) within.pass.of.1
 
     knows_t : Knows (store_meaning sh) t.id t.me (first_of hands)
     knows_t = there.of.1
 
     looked : SeesOn sh session s.me.0 t.me.0 own
-    looked = looks_go_on sh session t.id s.me t.me (first_of held) (first_of hands) own knows_old knows_t sees at'.within.knows
+    looked = looks_go_on sh session t.id s.me t.me (first_of held) (first_of hands) own knows_old knows_t sees within.knows
 
     hand_there : hands_of t.me.0 ≡ 1
     hand_there = ap (λ (qs : List ℕ). length qs) looked.knows.sessions
 
-    touches : (k : ℕ) → Holds (first_of hands) k → touching sh e (all_in (parts_after sh (log_of t.me.0.log))) k ≡ true
-    touches k holds = subst (λ (x : Parts). touching sh e (all_in x) k ≡ true) (replay_same sh t.me.0.log)
-        (touching_whole sh (first_of hands) (replay (store_meaning sh) t.me.0.log) (agrees_with store t hands there hand_there) e k covers (only k holds))
-
     -- it stands in the log that was seen since
     still : (other : CoreEvent) → IsOfSession session other → Stands sh other (parts_seen sh s.me.0) → Stands sh other (parts_seen sh t.me.0)
-    still other mine stands = (has_laws sh (opening sh) sh.passes 0).depends other (parts_seen sh s.me.0) (parts_seen sh t.me.0) at'.within.pass.of.1.sound knows_t.sound
+    still other mine stands = (has_laws sh (opening sh) sh.passes 0).depends other (parts_seen sh s.me.0) (parts_seen sh t.me.0) within.pass.of.1.sound knows_t.sound
         (λ q is. same mine q is) (λ f known. sees.stays.facts f known) stands
       where
         some_is : (a b : ℕ) → Some a ≡ Some b → a ≡ b
@@ -172,30 +165,43 @@ module _ (store : StoreView) (s t : SeatView) (held hands : HandsView) (e : Core
 
         same : IsOfSession session other → (q : ℕ) → session_of other ≡ Some q → transaction sh (parts_seen sh t.me.0) q ≡ transaction sh (parts_seen sh s.me.0) q
         same (inl mine) q is = subst (λ r. transaction sh (parts_seen sh t.me.0) r ≡ transaction sh (parts_seen sh s.me.0) r) (some_is session q (sym mine ∙ is))
-            (sees.stays.transactions session (in_sessions store session s held own at'.within))
+            (sees.stays.transactions session (in_sessions store session s held own within))
         same (inr unnamed) q is = absurd (none_is q (sym unnamed ∙ is))
 
-    pub taken_event : Takes store session s t hands own e
-    taken_event = record {
+    -- parts that the event touches were taken beside any that were held
+    pub taken_parts : Covers (touching (shape_in store) e) (first_of hands) → (parts : List ℕ) → t.me.0.taken ≡ s.me.0.taken ++ parts
+        → ((k : ℕ) → has k parts ≡ true → touching (shape_in store) e (all_in (parts_after (shape_in store) (log_of t.me.0.log))) k ≡ true)
+        → Takes store session s t hands own e
+    taken_parts covers parts taken touches = record {
       within = record { pass = there; knows = looked.knows };
       sees = looked;
       mine = sees.mine;
       covers = covers;
       took = record {
-        parts = took.parts;
-        took = took.taken;
+        parts = parts;
+        took = taken;
         touched = λ k is. record {
           event = e;
           is_one = inl refl;
           log = log_of t.me.0.log;
           saw = looked.goes_on;
           left = ([], sym (append-nil (log_of t.me.0.log)));
-          touches = touches k (took.held k is);
+          touches = touches k is;
         };
       };
       stands = still;
       lasting = λ stamp known. sees.stays.facts stamp known;
     }
+
+    -- all parts that it touches, and no others, were taken
+    pub taken_event : Covers (touching (shape_in store) e) (first_of hands)
+        → ((k : ℕ) → Holds (first_of hands) k → touching (shape_in store) e (first_of hands) k ≡ true)
+        → TookParts (first_of hands) s.me.0 t.me.0 → Takes store session s t hands own e
+    taken_event covers only took = taken_parts covers took.parts took.taken (λ k is. touches k (took.held k is))
+      where
+        touches : (k : ℕ) → Holds (first_of hands) k → touching sh e (all_in (parts_after sh (log_of t.me.0.log))) k ≡ true
+        touches k holds = subst (λ (x : Parts). touching sh e (all_in x) k ≡ true) (replay_same sh t.me.0.log)
+            (touching_whole sh (first_of hands) (replay (store_meaning sh) t.me.0.log) (agrees_with store t hands there hand_there) e k covers (only k holds))
 
 -- ---- the event
 
@@ -314,20 +320,26 @@ took_further _ events old mid new taken later took on = record {
 }
 
 -- an event that its pass takes the parts for may be made on them
+pub may_make_taken : (store : StoreView) (is_store : IsStore store) (s t : SeatView) (hands : HandsView) (e : CoreEvent) (session : ℕ) (own : Option OwnTransaction)
+    → IsOfSession session e → Stands (shape_in store) e (parts_seen (shape_in store) s.me.0) → FitsEach (shape_in store) e → IsFew s.me.0
+    → Takes store session s t hands own e → MayMakeHeld store t hands e
+may_make_taken store is_store s t hands e session own mine stands fits few takes =
+    let left : IsFew t.me.0 = let m = ap (λ (es : List (Entry CoreEvent)). length es) takes.mine in omega (arith, few, m) in
+    record {
+      session = session;
+      own = own;
+      within = takes.within;
+      mine = mine;
+      covers = takes.covers;
+      stands = takes.stands e mine stands;
+      fits = fits (parts_seen (shape_in store) t.me.0) takes.within.pass.of.1.sound (stamp_left store session t hands own takes.within is_store left);
+      few = left;
+    }
+
 pub may_make_held : (store : StoreView) (is_store : IsStore store) (s t : SeatView) (held hands : HandsView) (e : CoreEvent)
     → (may : MayMake store s held e) → Takes store may.session s t hands may.own e → MayMakeHeld store t hands e
 may_make_held store is_store s t held hands e may takes =
-    let few : IsFew t.me.0 = let f = may.few in let m = ap (λ (es : List (Entry CoreEvent)). length es) takes.mine in omega (arith, f, m) in
-    record {
-      session = may.session;
-      own = may.own;
-      within = takes.within;
-      mine = may.mine;
-      covers = takes.covers;
-      stands = takes.stands e may.mine may.stands;
-      fits = may.fits (parts_seen (shape_in store) t.me.0) takes.within.pass.of.1.sound (stamp_left store may.session t hands may.own takes.within is_store few);
-      few = few;
-    }
+    may_make_taken store is_store s t hands e may.session may.own may.mine may.stands may.fits may.few takes
 
 pub made_whole : (store : StoreView) (session : ℕ) (s t u w : SeatView) (hands later ended : HandsView) (own : Option OwnTransaction) (e : CoreEvent) (told : CoreReply)
     → Takes store session s t hands own e → MakesHeld store session t u hands later own e told → Gives store session u w ended (own_behind own e told)

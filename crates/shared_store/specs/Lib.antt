@@ -2,6 +2,7 @@ pub mod Building
 pub mod Changing
 pub mod Compacting
 pub mod Freezing
+pub mod Keeping
 pub mod Making
 pub mod Meeting
 pub mod Observing

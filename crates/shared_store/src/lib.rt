@@ -7,6 +7,7 @@ pub mod changing;
 pub mod compacting;
 pub mod faults;
 pub mod freezing;
+pub mod keeping;
 pub mod making;
 pub mod meeting;
 pub mod observing;

@@ -1,5 +1,8 @@
 //! Making an event: its parts are taken, it is made on them, and they are given back.
-ghost use Rattle.std.specs.Prelude.{◌≡◌, ◌<◌};
+ghost use Rattle.std.specs.Prelude.{◌≡◌, ◌<◌, ℕ, true};
+ghost use Rattle.event_spec.specs.Touched.{touching};
+ghost use Rattle.hall_rule.specs.Hands.{Holds};
+ghost use Rattle.hall_steps.specs.Hall.{first_of};
 ghost use Rattle.shared_store.specs.Making.{GivesAny, MakesAny, MakesAnyHeld, MayMake};
 ghost use Rattle.shared_store.specs.Making.{MayMakeHeld, ReadsFew, TakesAny};
 ghost use Rattle.shared_store.specs.Store.{IsAnyAt, IsAnyWithin, shape_in};
@@ -17,8 +20,10 @@ impl Store {
     /// Takes the parts that an event touches, for a pass that holds none.
     pub(crate) fn take_for<R: Wait>(&self, rt: &R, pass: &mut Pass<Core>, event: &KeyedEvent)
         requires { IsAnyAt self.now pass.old.seat pass.old.hands }
-        ensures { TakesAny self.now
+        ensures takes { TakesAny self.now
             pass.old.seat pass.old.hands pass.new.seat pass.new.hands event.now }
+        ensures only { (k : ℕ) → Holds (first_of pass.new.hands) k
+            → touching (shape_in self.now) event.now (first_of pass.new.hands) k ≡ true }
     {
         self.hall.take_all(rt, pass, event);
     }

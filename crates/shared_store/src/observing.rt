@@ -1,8 +1,9 @@
 //! Observing all blocks.
-ghost use Rattle.std.specs.Prelude.{◌≡◌, ◌≤◌};
+ghost use Rattle.std.specs.Prelude.{◌≡◌, ◌+◌, ◌≤◌};
 ghost use Rattle.event_spec.specs.Lawful.{HasBlock, HasTable};
 ghost use Rattle.workload_spec.specs.declared.command.Command.TheVariants as command;
 ghost use Rattle.workload_spec.specs.declared.reply.Said.TheVariants as said;
+ghost use Rattle.shared_store.specs.Keeping.{IsKeeping, beside_observe, rested};
 ghost use Rattle.shared_store.specs.Observing.{ObservesBlock, ObservesTable};
 ghost use Rattle.shared_store.specs.Store.{
   Answers,
@@ -21,15 +22,18 @@ use event_spec::{Event, Reply};
 use std::sync::Wait;
 
 impl Store {
-    // Observes a block, and tells whether it turned cooling.
+    // Observes a block, and tells whether it turned cooling. The table's head is kept for the next.
     fn observe_block<R: Wait>(&self, rt: &R, session: &mut Session, table: u32, block: u32) -> bool
-        requires session { IsSession self.now session.old }
+        requires keeping { IsKeeping self.now (beside_observe table) block session.old }
         requires room { HasRoomFor 1 session.old }
         requires block { HasBlock (shape_in self.now) table block }
-        ensures { ObservesBlock self.now session.old session.new table block result }
+        ensures keeping { IsKeeping self.now (beside_observe table) (block + 1) session.new }
+        ensures observes { ObservesBlock self.now
+            (rested session.old) (rested session.new) table block result }
     {
         let event = KeyedEvent::new(Event::Observe { table, block });
-        let Reply::Turned(turned) = self.make(rt, &mut session.pass, event) else {
+        let Reply::Turned(turned) = self.make_keeping(rt, &mut session.pass, event, table, block)
+        else {
             unreachable!()
         };
         turned
@@ -48,6 +52,7 @@ impl Store {
         for block in 0..self.hall.shape().blocks(table) {
             turned += u64::from(self.observe_block(rt, session, table, block));
         }
+        self.give_back(&mut session.pass);
         turned
     }
 

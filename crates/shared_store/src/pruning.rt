@@ -3,6 +3,7 @@ ghost use Rattle.std.specs.Prelude.{◌≡◌, ◌+◌, ◌^◌, ◌≤◌};
 ghost use Rattle.event_spec.specs.Lawful.{HasBlock, HasTable};
 ghost use Rattle.workload_spec.specs.declared.command.Command.TheVariants as command;
 ghost use Rattle.workload_spec.specs.declared.reply.Said.TheVariants as said;
+ghost use Rattle.shared_store.specs.Keeping.{IsKeeping, beside_prune, rested};
 ghost use Rattle.shared_store.specs.Pruning.{AsksOldest, KnowsOldest, PrunesBlock, PrunesTable};
 ghost use Rattle.shared_store.specs.Store.{
   Answers,
@@ -35,7 +36,8 @@ impl Store {
         oldest
     }
 
-    // Drops the versions of a block that no snapshot from a stamp on needs, and tells how many.
+    // Drops the versions of a block that no snapshot from a stamp on needs, and tells how many. The
+    // other parts that this touches are kept for the next block.
     fn prune_block<R: Wait>(
         &self,
         rt: &R,
@@ -44,11 +46,13 @@ impl Store {
         block: u32,
         oldest: u64,
     ) -> u64
-        requires session { IsSession self.now session.old }
+        requires keeping { IsKeeping self.now (beside_prune table) block session.old }
         requires room { HasRoomFor 1 session.old }
         requires block { HasBlock (shape_in self.now) table block }
         requires oldest { KnowsOldest self.now session.old oldest }
-        ensures prunes { PrunesBlock self.now oldest session.old session.new table block result }
+        ensures keeping { IsKeeping self.now (beside_prune table) (block + 1) session.new }
+        ensures prunes { PrunesBlock self.now
+            oldest (rested session.old) (rested session.new) table block result }
         ensures few { result ≤ 2 ^ 46 }
     {
         let event = KeyedEvent::new(Event::Prune {
@@ -56,7 +60,8 @@ impl Store {
             block,
             oldest,
         });
-        let Reply::Dropped(dropped) = self.make(rt, &mut session.pass, event) else {
+        let Reply::Dropped(dropped) = self.make_keeping(rt, &mut session.pass, event, table, block)
+        else {
             unreachable!()
         };
         dropped.get()
@@ -77,6 +82,7 @@ impl Store {
         for block in 0..self.hall.shape().blocks(table) {
             dropped += self.prune_block(rt, session, table, block, oldest);
         }
+        self.give_back(&mut session.pass);
         dropped
     }
 

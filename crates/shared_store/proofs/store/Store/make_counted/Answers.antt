@@ -8,12 +8,12 @@ pub make_held-reply-requires : goal.make_held-reply-requires
 make_held-reply-requires g c =
     let s = c.args.pass.now in
     let t = c.take_for.new.pass in
-    let takes = c.take_for.ensures c.requires.session c.requires.own c.requires.at' in
+    let takes = c.take_for.ensures.takes c.requires.session c.requires.own c.requires.at' in
     may_make_held c.args.self.now (subst IsStore c.self.view_is c.self.invariant) s.seat t.seat s.hands t.hands c.args.event c.requires takes
 
 pub give_back-requires : goal.give_back-requires
 give_back-requires g c =
-    let takes = c.take_for.ensures c.requires.session c.requires.own c.requires.at' in
+    let takes = c.take_for.ensures.takes c.requires.session c.requires.own c.requires.at' in
     let held = c.make_held-reply.ensures.made c.requires.session c.requires.own takes.within c.requires.mine in
     (c.requires.session, own_behind c.requires.own c.args.event c.make_held-reply.result, held.within)
 
@@ -24,7 +24,7 @@ returns-clause-made g c session own at' mine =
     let u = c.make_held-reply.new.pass in
     let w = c.give_back.new.pass in
     let told = c.make_held-reply.result in
-    let takes = c.take_for.ensures session own at' in
+    let takes = c.take_for.ensures.takes session own at' in
     let held = c.make_held-reply.ensures.made session own takes.within mine in
     let gives = c.give_back.ensures session (own_behind own c.args.event told) held.within in
     made_whole c.args.self.now session s.seat t.seat u.seat w.seat t.hands u.hands w.hands own c.args.event told takes held gives

@@ -1,26 +1,63 @@
-use Rattle.std.proofs.Common.{refl}
+use Rattle.std.proofs.Common.{refl, sym, subst, arith}
+use mathlib.Core.Logic.{inr}
 use Rattle.event_spec.specs.declared.reply.Reply.TheVariants as reply
 use Rattle.event_spec.specs.Effects.{CoreEvent}
+use Rattle.shared_store.specs.Keeping.{MayMakeKeeping, beside_observe}
 use Rattle.shared_store.specs.Observing.{observing}
-use Rattle.shared_store.specs.Store.{own_of}
+use Rattle.shared_store.specs.Store.{own_of, shape_in}
 use Rattle.shared_store.specs.declared.session.Session.{Session}
 use Rattle.shared_store.proofs.Calls.{told_always}
-use Rattle.shared_store.proofs.Swept.{made_alone, made_by}
+use Rattle.shared_store.proofs.Kept.{observe_on_block}
+use Rattle.shared_store.proofs.Rested.{alone_kept, kept_by, kept_on}
 use Rattle.shared_store.proofs.store.Store.observe_block.Goals as goal
+
+pub make_keeping-requires : goal.make_keeping-requires
+make_keeping-requires g c =
+    let st = c.args.self.now in
+    let s = c.args.session.now in
+    let r = c.requires in
+    let room = r.room in
+    let e : CoreEvent = observing c.args.table c.args.block in
+    subst (MayMakeKeeping st s.pass.seat s.pass.hands c.args.table c.args.block) (sym c.new-event.ensures) (record {
+      session = s.session;
+      own = own_of s;
+      within = r.keeping.within;
+      common = beside_observe c.args.table;
+      has = r.block;
+      on = observe_on_block (shape_in st) c.args.table c.args.block;
+      keeps = r.keeping.keeps;
+      mine = inr refl;
+      stands = tt;
+      fits = λ parts holds stamp. r.block;
+      few = omega (arith, room);
+    })
 
 pub unreachable-requires : goal.unreachable-requires
 unreachable-requires g c =
     let st = c.args.self.now in
     let s = c.args.session.now in
     let e : CoreEvent = observing c.args.table c.args.block in
-    let m = made_by st s c.make.new.pass.seat c.make.new.pass.hands e c.new-event.result c.make.result c.requires.session refl c.new-event.ensures c.make.ensures in
-    c.in_default.not-Turned _ (told_always st s.session s.pass.seat c.make.new.pass.seat c.make.new.pass.hands (own_of s) e c.make.result m refl)
+    let new = c.make_keeping.new.pass in
+    let m = kept_by st (beside_observe c.args.table) c.args.table c.args.block s new.seat new.hands e c.new-event.result c.make_keeping.result c.requires.keeping
+    (observe_on_block (shape_in st) c.args.table c.args.block) refl c.new-event.ensures c.make_keeping.ensures in
+    c.in_default.not-Turned _ (told_always st s.session s.pass.seat _ _ (own_of s) e c.make_keeping.result m.makes refl)
 
-pub returns : goal.returns
-returns g c =
+pub returns-clause-keeping : goal.returns-clause-keeping
+returns-clause-keeping g c =
     let st = c.args.self.now in
     let s = c.args.session.now in
     let e : CoreEvent = observing c.args.table c.args.block in
-    let new : Session = record { pass = c.make.new.pass; session = s.session; snapshot = s.snapshot; writes = s.writes } in
-    let m = made_by st s c.make.new.pass.seat c.make.new.pass.hands e c.new-event.result c.make.result c.requires.session refl c.new-event.ensures c.make.ensures in
-    made_alone st s new e c.make.result (reply.Turned c.in-Turned.turned) m c.in-Turned.is refl refl refl
+    let new : Session = record { pass = c.make_keeping.new.pass; session = s.session; snapshot = s.snapshot; writes = s.writes } in
+    let m = kept_by st (beside_observe c.args.table) c.args.table c.args.block s new.pass.seat new.pass.hands e c.new-event.result c.make_keeping.result c.requires.keeping
+    (observe_on_block (shape_in st) c.args.table c.args.block) refl c.new-event.ensures c.make_keeping.ensures in
+    kept_on st (beside_observe c.args.table) c.args.block s new e c.make_keeping.result m refl refl refl
+
+pub returns-clause-observes : goal.returns-clause-observes
+returns-clause-observes g c =
+    let st = c.args.self.now in
+    let s = c.args.session.now in
+    let e : CoreEvent = observing c.args.table c.args.block in
+    let new : Session = record { pass = c.make_keeping.new.pass; session = s.session; snapshot = s.snapshot; writes = s.writes } in
+    let m = kept_by st (beside_observe c.args.table) c.args.table c.args.block s new.pass.seat new.pass.hands e c.new-event.result c.make_keeping.result c.requires.keeping
+    (observe_on_block (shape_in st) c.args.table c.args.block) refl c.new-event.ensures c.make_keeping.ensures in
+    alone_kept st (beside_observe c.args.table) s new e c.make_keeping.result (reply.Turned c.in-Turned.turned) m c.in-Turned.is refl refl refl
