@@ -10,7 +10,7 @@ use Rattle.store_rounds.specs.declared.fault.RunFault.TheVariants as fault
 
 module _ (Goes Other : List (List Line) → List ℕ → Type 0) (told : (asked : List (List Line)) (text : List ℕ) → Goes asked text → Other asked text)
     (script : Script) (before now : Option (List ℕ)) where
-  to_told : (lines : List Line) → GoesTo Goes script lines before now → GoesTo Other script lines before now
+  abbrev to_told : (lines : List Line) → GoesTo Goes script lines before now → GoesTo Other script lines before now
   to_told lines to = record {
     whole = to.whole;
     round = to.round;
@@ -35,7 +35,14 @@ module _ (Goes Other : List (List Line) → List ℕ → Type 0) (told : (asked 
     went = told goes.whole goes.text goes.went;
     printed = goes.printed;
   }
-  part_told fault.Export goes = record { lines = goes.lines; last = goes.last; to = to_told goes.lines goes.to }
+  part_told fault.Export goes = record {
+    lines = goes.lines;
+    to = to_told goes.lines goes.to;
+    session = goes.session;
+    last = goes.last;
+    told = goes.told;
+    others = goes.others;
+  }
   part_told fault.Memory (inl goes) = inl (record {
     whole = goes.whole;
     round = goes.round;
@@ -45,7 +52,7 @@ module _ (Goes Other : List (List Line) → List ℕ → Type 0) (told : (asked 
     went = told goes.whole goes.text goes.went;
     printed = goes.printed;
   })
-  part_told fault.Memory (inr goes) = inr (record { lines = goes.lines; to = to_told goes.lines goes.to })
+  part_told fault.Memory (inr goes) = inr (record { lines = goes.lines; to = to_told goes.lines goes.to; whole = goes.whole })
 
   pub on_part : {T : Type 0} (r : Result T RunFault) → IfErr r (λ failed. GoesPart Goes script failed before now) → IfErr r (λ failed. GoesPart Other script failed before now)
   on_part (Ok value) goes = tt

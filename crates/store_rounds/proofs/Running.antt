@@ -1,21 +1,19 @@
 -- A run, round by round.
-use Rattle.std.proofs.Common.{◌≡◌, ℕ, suc, ◌+◌, ◌*◌, ◌<◌, ◌≤◌, ◌^◌, ◌==◌, Bool, true, false, cond, List, [], ◌∷◌, ◌++◌, map, length, get_or, take, Option, None, Some, refl, sym, ap, ◌∙◌, subst, append-nil, append_assoc, arith, length-append}
-use mathlib.Core.Logic.{inr}
-use Rattle.std.specs.Prelude.{◌≢◌, All}
-use Rattle.std.specs.List.{cons_option, flat_map, list_all, range_with_len}
+use Rattle.std.proofs.Common.{◌≡◌, ℕ, suc, ◌+◌, ◌*◌, ◌<◌, ◌≤◌, ◌^◌, true, cond, List, [], ◌∷◌, ◌++◌, map, length, get_or, take, Option, refl, sym, ap, ◌∙◌, subst, append-nil, append_assoc, arith, length-append}
+use Rattle.std.specs.Prelude.{All, count_by, sum_by}
+use Rattle.std.specs.List.{flat_map, list_all, range_with_len}
 use Rattle.std.specs.Io.KnownBytes.{Appends}
 use Rattle.std.proofs.KnownBytes.{Appends-nil, Appends-trans}
 use Rattle.std.proofs.lemmas.Bool.{and_from, and_parts}
 use Rattle.std.proofs.lemmas.Grind.{flat_map-append}
 use Rattle.std.proofs.lemmas.Grind.{elements}
-use Rattle.std.proofs.lemmas.List.{length-map, length_push, map-append}
+use Rattle.std.proofs.lemmas.List.{length-map, length_push}
 use Rattle.std.proofs.lemmas.List.Elements.{All-append, All-cons, All-nil}
 use Rattle.std.proofs.lemmas.List.Folds.{list_all-append}
+use Rattle.std.proofs.lemmas.List.Sums.{sum_by-append}
 use Rattle.byte_ports.specs.Calls.{AppendsFront}
 use Rattle.export_spec.specs.Calls.{calls_in}
-use Rattle.outcome_spec.specs.Forms.{commands_of}
 use Rattle.workload_spec.specs.Valid.{all_lines, is_command, is_export, is_line, is_valid, is_within}
-use Rattle.workload_spec.specs.declared.command.Command.{Command}
 use Rattle.workload_spec.specs.declared.reply.Who.{Who}
 use Rattle.workload_spec.specs.declared.reply.Who.TheVariants.{Session as TheSession, Worker as TheWorker}
 use Rattle.workload_spec.specs.declared.script.Line.{Line}
@@ -24,10 +22,8 @@ use Rattle.event_spec.specs.Parts.{Shape}
 use Rattle.run_spec.specs.Calls.{Call}
 use Rattle.run_spec.specs.Occurrences.{Logged}
 use Rattle.run_spec.specs.Ran.{RoundRun, Share, shape_of}
-use Rattle.round_laws.proofs.Fronts.{first_lines_are_so, first_lines_ask, fronts_are_valid}
 use Rattle.round_laws.proofs.Lines.{rounds_grow}
 use Rattle.round_laws.proofs.Rounds.{nothing_ran, rounds_go_on}
-use Rattle.round_laws.specs.Fronts.{first_lines, lines_of}
 use Rattle.round_laws.specs.Lines.{round_text, rounds_text}
 use Rattle.round_laws.specs.Rounds.{RanSoFar, round_behind}
 use Rattle.round_laws.specs.Texts.{AreCounted}
@@ -37,18 +33,16 @@ use Rattle.shared_store.specs.declared.session.Session.{Session}
 use Rattle.store_workers.specs.Turns.{most_of_turn}
 use Rattle.store_rounds.specs.Answered.{IsServed, SentBy, most_events}
 use Rattle.store_rounds.specs.Crews.{calls_of, crew_calls, crew_of, crew_shares, shares_of}
-use Rattle.store_rounds.specs.Rounds.{AllTurned, AskedAll, HaveRoomFor, OneEndsAtExport, RanInPart, RanRound, RowRan}
+use Rattle.store_rounds.specs.Rounds.{AllTurned, AskedAll, HaveRoomFor, RanRound, RowRan}
 use Rattle.store_rounds.specs.Runs.{IsRowOf, RunsIn, Standing}
-use Rattle.store_rounds.specs.Worked.{asked_in, share_of}
-use Rattle.store_rounds.specs.Workloads.{EndAtExport, GoesCutOff, GoesPart, GoesTo, GoesWhole}
+use Rattle.store_rounds.specs.Worked.{share_of}
+use Rattle.store_rounds.specs.Workloads.{GoesCutOff, GoesWhole}
 use Rattle.store_rounds.specs.declared.crew.Crew.{Crew}
-use Rattle.store_rounds.specs.declared.fault.RunFault.{RunFault}
-use Rattle.store_rounds.specs.declared.fault.RunFault.TheVariants as fault
-use Rattle.store_rounds.proofs.RowWork.{commands_few}
+use Rattle.store_rounds.proofs.Duties.{commands_few}
 use Rattle.store_rounds.proofs.Runs.{Place, gone_on, is_row, of_session, of_worker, place, row_met, shares_counted, stand_behind}
-use Rattle.store_rounds.proofs.Scripts.{few_turns, has_sessions, lines_are_valid}
+use Rattle.store_rounds.proofs.Scripts.{few_exports, few_turns, has_sessions, lines_are_valid}
 use Rattle.store_rounds.proofs.Sends.{calls_sent, nothing_sent}
-use Rattle.store_rounds.proofs.Went.{explained_so_far, went, went_so_far}
+use Rattle.store_rounds.proofs.Went.{went_so_far}
 
 -- ---- what is printed
 
@@ -149,7 +143,7 @@ calls_in_crew crew calls =
     (calls_in_shares (λ n. TheWorker n) (λ n. calls (TheWorker n)) (range_with_len 1 crew.workers))
 
 -- one of a row that has one
-one_of : (row : List Session) → 0 < length row → Session
+pub one_of : (row : List Session) → 0 < length row → Session
 one_of [] some = absurd (omega (arith, some))
 one_of (d ∷ row) some = d
 
@@ -165,37 +159,37 @@ pub record RoundDone (script : Script) (store : StoreView) (old new : List Sessi
 module _ (script : Script) (store : StoreView) (old new : List Session) (asked : List (List Line)) (before now exported exported_now exported_later : Option (List ℕ)) (number : ℕ)
     (running : Running script store old asked before now exported exported_now number) (lines : List Line)
     (done : RoundDone script store old new lines exported_now exported_later) where
-  abbrev shares : List Share
+  abbrev pub shares : List Share
   shares = crew_shares (crew_of script) done.calls
 
-  abbrev first_of_row : Session
+  abbrev pub first_of_row : Session
   first_of_row = one_of old (let size = running.is.size in let some = running.some in omega (arith, size, some))
 
-  abbrev more : List Logged
+  abbrev pub more : List Logged
   more = (gone_on script store running.finished old new running.is running.stands done.calls done.ran first_of_row running.some).0
 
-  abbrev round : RoundRun
+  abbrev pub round : RoundRun
   round = round_behind script running.finished more shares
 
-  abbrev both : List RoundRun
+  abbrev pub both : List RoundRun
   both = running.rounds ++ round ∷ []
 
-  ran_further : RanSoFar script (asked ++ lines ∷ []) both (running.finished ++ more)
+  pub ran_further : RanSoFar script (asked ++ lines ∷ []) both (running.finished ++ more)
   ran_further = rounds_go_on script asked running.rounds running.finished more lines shares running.ran
       (row_met script store running.finished old new running.is running.stands done.calls done.ran first_of_row running.some lines done.asked
       (subst (λ (shape : Shape). AllTurned shape.tables (crew_of script) done.calls) running.is.shape done.turned))
 
-  counted_further : All AreCounted both
+  pub counted_further : All AreCounted both
   counted_further = All-append AreCounted running.rounds (round ∷ []) running.counted
       (All-cons AreCounted round [] (shares_counted script store running.finished old new running.is running.stands done.calls done.ran first_of_row) (All-nil AreCounted))
 
-  text_further : rounds_text script.tables 1 both
+  pub text_further : rounds_text script.tables 1 both
       ≡ rounds_text script.tables 1 running.rounds ++ round_text script.tables (number + 1) shares
   text_further = rounds_grow script.tables 1 running.rounds round
       ∙ ap (λ n. rounds_text script.tables 1 running.rounds ++ round_text script.tables n shares)
       (let e : 1 + length running.rounds ≡ number + 1 = omega (arith, running.count) in e)
 
-  stands_further : Standing store (running.finished ++ more) new
+  pub stands_further : Standing store (running.finished ++ more) new
   stands_further = subst (λ log. Standing store log new)
       (gone_on script store running.finished old new running.is running.stands done.calls done.ran first_of_row running.some).1
       (stand_behind script store running.finished old new running.is running.stands done.calls done.ran)
@@ -214,7 +208,7 @@ module _ (script : Script) (store : StoreView) (old new : List Session) (asked :
       ∙ ap (λ (cs : List Call). calls_in running.rounds ++ cs)
       (append-nil (flat_map (λ (share : Share). share.calls) shares) ∙ calls_in_crew (crew_of script) done.calls)
 
-  sent_further : SentBy script.tables (calls_in both) exported exported_later
+  pub sent_further : SentBy script.tables (calls_in both) exported exported_later
   sent_further = subst (λ (cs : List Call). SentBy script.tables cs exported exported_later) (sym calls_further)
       (calls_sent script.tables (calls_in running.rounds) (crew_calls (crew_of script) done.calls) exported exported_now exported_later running.sent
       (subst (λ (shape : Shape). SentBy shape.tables (crew_calls (crew_of script) done.calls) exported_now exported_later) running.is.shape done.sent))
@@ -314,130 +308,6 @@ running_ends script store row asked before now exported exported_now number vali
   printed = running.printed;
 }
 
--- ---- a run that stops within a round
-
--- how many commands each session carried out
-abbrev counts_of : (ℕ → List Call) → ℕ → ℕ
-counts_of calls session = length (asked_in (calls session))
-
-taken_all : (xs ys : List Command) → take (length xs) (xs ++ ys) ≡ xs
-taken_all [] [] = refl
-taken_all [] (y ∷ ys) = refl
-taken_all (x ∷ xs) ys = ap (λ (zs : List Command). x ∷ zs) (taken_all xs ys)
-
-asked_first : (sessions : ℕ) (lines : List Line) (calls : ℕ → List Call)
-    → ((k : ℕ) → k < sessions → (rest : List Command) × (commands_of (k + 1) lines ≡ asked_in (calls (k + 1)) ++ rest))
-    → (k : ℕ) → k < sessions → asked_in (calls (k + 1)) ≡ commands_of (k + 1) (first_lines (counts_of calls) lines)
-asked_first sessions lines calls some k within =
-    let part = some k within in
-    sym (first_lines_ask (counts_of calls) lines (k + 1)
-    ∙ ap (take (counts_of calls (k + 1))) part.1
-    ∙ taken_all (asked_in (calls (k + 1))) part.0)
-
--- a session's commands are those of its lines
-commands_in_lines : (session : ℕ) (lines : List Line) → commands_of session lines ≡ map (λ (line : Line). line.command) (lines_of session lines)
-commands_in_lines session [] = refl
-commands_in_lines session (line ∷ lines) = go (line.session == session) (commands_in_lines session lines)
-  where
-    go : (own : Bool) → commands_of session lines ≡ map (λ (line : Line). line.command) (lines_of session lines)
-        → cons_option (cond own (Some line.command) None) (commands_of session lines)
-        ≡ map (λ (line : Line). line.command) (cond own (line ∷ lines_of session lines) (lines_of session lines))
-    go true rest = ap (λ (cs : List Command). line.command ∷ cs) rest
-    go false rest = rest
-
--- the last of some lines asks the last command
-last_asks : (lines : List Line) (front : List Command) (last : Command) → map (λ (line : Line). line.command) lines ≡ front ++ last ∷ []
-    → (others : List Line) × (line : Line) × (lines ≡ others ++ line ∷ []) × (line.command ≡ last)
-last_asks [] [] last e = absurd (let never : ⊥ = cc e in never)
-last_asks [] (c ∷ front) last e = absurd (let never : ⊥ = cc e in never)
-last_asks (line ∷ []) [] last e = ([], line, refl, cc e)
-last_asks (line ∷ next ∷ lines) [] last e = absurd (let never : ⊥ = cc e in never)
-last_asks (line ∷ lines) (c ∷ front) last e =
-    let behind = last_asks lines front last (cc e) in
-    (line ∷ behind.0, behind.1, ap (λ (ls : List Line). line ∷ ls) behind.2, behind.3)
-
-ends_at_export : (sessions : ℕ) (calls : ℕ → List Call) (lines : List Line)
-    → ((k : ℕ) → k < sessions → asked_in (calls (k + 1)) ≡ commands_of (k + 1) lines)
-    → OneEndsAtExport sessions calls → EndAtExport lines
-ends_at_export sessions calls lines asked one =
-    let session : ℕ = one.0 + 1 in
-    let export = one.2 in
-    let last = last_asks (lines_of session lines) (asked_in export.0) export.1.command
-    (sym (commands_in_lines session lines) ∙ sym (asked one.0 one.1) ∙ ap asked_in export.2
-    ∙ map-append (λ (call : Call). call.command) export.0 (export.1 ∷ [])) in
-    record {
-      session = session;
-      front = last.0;
-      last = last.1;
-      lines_are = last.2;
-      asked = ap is_export last.3 ∙ export.3;
-    }
-
-module _ (script : Script) (store : StoreView) (old new : List Session) (asked rest : List (List Line)) (before now exported exported_now exported_later : Option (List ℕ)) (number : ℕ) (lines : List Line)
-    (valid : is_valid script ≡ true) (split : asked ++ lines ∷ rest ≡ script.rounds)
-    (running : Running script store old asked before now exported exported_now number) (failed : RunFault)
-    (did : RanInPart store (crew_of script) old new lines failed exported_now exported_later) where
-  abbrev first : List Line
-  first = first_lines (counts_of (λ n. did.calls (TheSession n))) lines
-
-  abbrev first_done : RoundDone script store old new first exported_now exported_later
-  first_done = record {
-    calls = did.calls;
-    ran = did.ran;
-    asked = asked_first script.sessions lines (λ n. did.calls (TheSession n)) did.asked;
-    turned = did.turned;
-    sent = did.sent;
-  }
-
-  goes_to : GoesTo (RunsIn script store new exported exported_later) script first before now
-  goes_to = record {
-    whole = asked;
-    round = lines;
-    rest = rest;
-    rounds = sym split;
-    first = first_lines_are_so (counts_of (λ n. did.calls (TheSession n))) lines;
-    shown = rounds_text script.tables 1 running.rounds;
-    hidden = round_text script.tables (number + 1) (crew_shares (crew_of script) did.calls);
-    shares = crew_shares (crew_of script) did.calls;
-    of_round = ap (λ n. round_text script.tables (n + 1) (crew_shares (crew_of script) did.calls)) running.asked_count;
-    explained_shown = explained_so_far script running.rounds running.finished exported exported_now running.counted running.sent
-        asked (lines ∷ rest) (sym split) valid running.ran;
-    went = subst (RunsIn script store new exported exported_later (asked ++ first ∷ []))
-        (text_further script store old new asked before now exported exported_now exported_later number running first first_done)
-        (record {
-          went = went script
-              (both script store old new asked before now exported exported_now exported_later number running first first_done)
-              (running.finished ++ more script store old new asked before now exported exported_now exported_later number running first first_done)
-              exported exported_later
-              (counted_further script store old new asked before now exported exported_now exported_later number running first first_done)
-              (sent_further script store old new asked before now exported exported_now exported_later number running first first_done)
-              (asked ++ first ∷ []) (fronts_are_valid script (counts_of (λ n. did.calls (TheSession n))) lines asked rest (sym split) valid)
-              (ran_further script store old new asked before now exported exported_now exported_later number running first first_done);
-          stands = stands_further script store old new asked before now exported exported_now exported_later number running first first_done;
-        });
-    printed = running.printed;
-  }
-
-  ends_at : failed ≡ fault.Export → EndAtExport first
-  ends_at e = ends_at_export script.sessions (λ n. did.calls (TheSession n)) first first_done.asked (did.last e)
-
-pub running_stops : (script : Script) (store : StoreView) (old new : List Session) (asked rest : List (List Line)) (before now exported exported_now exported_later : Option (List ℕ)) (number : ℕ) (lines : List Line)
-    → is_valid script ≡ true → asked ++ lines ∷ rest ≡ script.rounds
-    → Running script store old asked before now exported exported_now number
-    → (failed : RunFault) → failed ≢ fault.Out
-    → RanInPart store (crew_of script) old new lines failed exported_now exported_later
-    → GoesPart (RunsIn script store new exported exported_later) script failed before now
-running_stops script store old new asked rest before now exported exported_now exported_later number lines valid split running fault.Out other did = absurd (other refl)
-running_stops script store old new asked rest before now exported exported_now exported_later number lines valid split running fault.Export other did = record {
-  lines = first script store old new asked rest before now exported exported_now exported_later number lines valid split running fault.Export did;
-  last = ends_at script store old new asked rest before now exported exported_now exported_later number lines valid split running fault.Export did refl;
-  to = goes_to script store old new asked rest before now exported exported_now exported_later number lines valid split running fault.Export did;
-}
-running_stops script store old new asked rest before now exported exported_now exported_later number lines valid split running fault.Memory other did = inr (record {
-  lines = first script store old new asked rest before now exported exported_now exported_later number lines valid split running fault.Memory did;
-  to = goes_to script store old new asked rest before now exported exported_now exported_later number lines valid split running fault.Memory did;
-})
-
 -- ---- what a round asks
 
 -- each line of a round of a valid script is one
@@ -477,6 +347,18 @@ module _ (script : Script) (store : StoreView) (row : List Session) (asked rest 
   pub round_served : All (λ (line : Line). IsServed (shape_in store).tables line.command) lines
   round_served = subst (λ (shape : Shape). All (λ (line : Line). IsServed shape.tables line.command) lines) (sym is.shape)
       (each_served script lines (round_valid script asked rest lines split valid))
+
+-- it has one export at most
+pub round_once : (script : Script) (asked rest : List (List Line)) (lines : List Line) → asked ++ lines ∷ rest ≡ script.rounds → is_valid script ≡ true
+    → count_by (λ (line : Line). is_export line.command) lines ≤ 1
+round_once script asked rest lines split valid =
+    let exports = λ (line : Line). cond (is_export line.command) 1 0 in
+    let few = few_exports script valid in
+    let all = ap (λ rounds. sum_by exports (lines_in rounds)) (sym split) in
+    let cut = ap (sum_by exports) (parted_lines asked rest lines) in
+    let first = sum_by-append exports (lines_in asked) (lines ++ lines_in rest) in
+    let second = sum_by-append exports lines (lines_in rest) in
+    omega (arith, few, all, cut, first, second)
 
 -- each of the row may make the events of a further round
 pub round_has_room : (script : Script) (store : StoreView) (row : List Session) (asked rest : List (List Line)) (before now exported exported_now : Option (List ℕ)) (number : ℕ) (lines : List Line)

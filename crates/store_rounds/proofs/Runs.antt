@@ -29,7 +29,7 @@ use Rattle.store_rounds.specs.Crews.{crew_of, crew_shares, shares_of}
 use Rattle.store_rounds.specs.Rounds.{AllTurned, AskedAll, OneRan, RowRan}
 use Rattle.store_rounds.specs.Runs.{IsRowOf, Standing}
 use Rattle.store_rounds.specs.Worked.{asked_in, share_of}
-use Rattle.store_rounds.proofs.RowCalls.{same_on_range}
+use Rattle.store_rounds.proofs.Ranges.{same_on_range}
 
 -- what each place of a range gives
 all_on_range : {X : Type 0} (P : X → Type 0) (f : ℕ → X) (a n : ℕ) → ((k : ℕ) → a ≤ k → k < a + n → P (f k)) → All P (map f (range_with_len a n))

@@ -87,6 +87,7 @@ record Parts (script : Script) : Type 0 where
   few_turns : script.turns ≤ 100
   some_rounds : nat_lt 0 (length script.rounds) ≡ true
   lines : list_all (is_line script) (all_lines script) ≡ true
+  few_exports : count_by (λ (line : Line). is_export line.command) (all_lines script) ≤ 1
 
 parts_of : (script : Script) → is_valid script ≡ true → Parts script
 parts_of script valid =
@@ -105,6 +106,7 @@ parts_of script valid =
       few_turns = leb-true script.turns most_turns head.6;
       some_rounds = whole.1;
       lines = whole.2;
+      few_exports = leb-true (count_by (λ (line : Line). is_export line.command) (all_lines script)) 1 whole.3;
     }
 
 pub has_sessions : (script : Script) → is_valid script ≡ true → 1 ≤ script.sessions
@@ -124,6 +126,9 @@ has_rounds script valid = (parts_of script valid).some_rounds
 
 pub lines_are_valid : (script : Script) → is_valid script ≡ true → list_all (is_line script) (all_lines script) ≡ true
 lines_are_valid script valid = (parts_of script valid).lines
+
+pub few_exports : (script : Script) → is_valid script ≡ true → count_by (λ (line : Line). is_export line.command) (all_lines script) ≤ 1
+few_exports script valid = (parts_of script valid).few_exports
 
 -- a store may be built of its tables
 pub may_open : (script : Script) → is_valid script ≡ true → MayOpen script.tables (script.sessions + script.workers)

@@ -1,20 +1,15 @@
--- A round of sessions and workers: both did their part, and then all met.
-use Rattle.std.proofs.Common.{◌≡◌, ℕ, zero, suc, ◌+◌, ◌-◌, ◌*◌, ◌<◌, ◌≤◌, true, false, List, [], ◌∷◌, ◌++◌, length, get_or, Option, Ok, Err, refl, sym, ap, ◌∙◌, subst, append-nil, arith, length-append}
-use Rattle.std.specs.Prelude.{IfErr, OnOk, Result}
-use Rattle.std.specs.List.{flat_map, list_all, range_with_len}
-use Rattle.std.specs.Result.{result_and}
-use Rattle.std.proofs.KnownBytes.{Appends-nil}
-use Rattle.std.proofs.lemmas.Bool.{and_from, and_parts}
-use Rattle.std.proofs.lemmas.Grind.{elements, flat_map-append}
-use Rattle.std.proofs.lemmas.List.Folds.{list_all-append}
+-- A round of sessions and workers: each did what it was to do, and then all met.
+use Rattle.std.proofs.Common.{◌≡◌, ℕ, ◌+◌, ◌*◌, ◌<◌, Bool, true, false, ◌||◌, List, [], ◌∷◌, ◌++◌, length, get_or, Option, Some, Ok, Err, refl, sym, ap, ◌∙◌, subst, append-nil, arith, true≢false}
+use mathlib.Core.Logic.{inl, inr}
+use Rattle.std.specs.Prelude.{◌≢◌, ◌⊎◌, OnOk, Result, not}
+use Rattle.std.specs.List.{flat_map, list_any, range_with_len}
+use Rattle.std.proofs.lemmas.Grind.{flat_map-append}
+use Rattle.std.proofs.lemmas.List.Folds.{list_any-append}
+use Rattle.std.proofs.lemmas.List.{map-append}
 use Rattle.cell_model.specs.declared.table.TableDecl.{TableDecl}
-use Rattle.export_laws.proofs.Quiet.{upkeep_no_export}
-use Rattle.export_laws.proofs.Sending.{sendings_join}
-use Rattle.export_spec.specs.Calls.{CallsSend, SendsAs}
-use Rattle.outcome_spec.specs.Forms.{is_upkeep, turn_of}
-use Rattle.outcome_spec.specs.Tables.{blocks_at, columns_at}
+use Rattle.outcome_spec.specs.Forms.{commands_of}
+use Rattle.workload_spec.specs.Valid.{is_export}
 use Rattle.workload_spec.specs.declared.command.Command.{Command}
-use Rattle.workload_spec.specs.declared.command.Command.TheVariants as command
 use Rattle.workload_spec.specs.declared.reply.Who.{Who}
 use Rattle.workload_spec.specs.declared.reply.Who.TheVariants.{Session as TheSession, Worker as TheWorker}
 use Rattle.workload_spec.specs.declared.script.Line.{Line}
@@ -25,216 +20,277 @@ use Rattle.shared_store.specs.declared.session.Session.{Session}
 use Rattle.store_workers.specs.Turns.{most_of_turn}
 use Rattle.store_rounds.specs.Answered.{SentBy, most_events}
 use Rattle.store_rounds.specs.Crews.{calls_of, crew_calls, crew_shares, shares_of, turns_in}
-use Rattle.store_rounds.specs.Row.{AreSessions, Met, MetIn}
-use Rattle.store_rounds.specs.Rounds.{OneEndsAtExport, RanInPart, RanRound, RowRan, RowWorked, StoppedRound, WorkedRound}
-use Rattle.store_rounds.specs.Turned.{RowTurned}
-use Rattle.store_rounds.specs.Worked.{RowDid, Worked, asked_in}
+use Rattle.store_rounds.specs.Duties.{AreDuties, IsNew, duties_text, is_cut, is_whole, is_whole_end}
+use Rattle.store_rounds.specs.Row.{AreSessions, Met}
+use Rattle.store_rounds.specs.Rounds.{AllTurned, AreNumbered, AskedAll, AskedUpToExport, OneEndsAtExport, RanRound, RanUnshown, RoundStops, RowRan, CallsStopAtExport}
+use Rattle.store_rounds.specs.Served.{CarriedOut, RowServed, ServedBy, is_of_worker, most_of_task, asked_of_task, who_of}
+use Rattle.store_rounds.specs.Worked.{EndsAtExport, Worked, asked_in, share_of}
 use Rattle.store_rounds.specs.declared.crew.Crew.{Crew}
+use Rattle.store_rounds.specs.declared.duty.Duty.{Duty}
+use Rattle.store_rounds.specs.declared.duty.Task.{Task}
+use Rattle.store_rounds.specs.declared.duty.Task.TheVariants as task
 use Rattle.store_rounds.specs.declared.fault.RunFault.{RunFault}
 use Rattle.store_rounds.specs.declared.fault.RunFault.TheVariants as fault
-use Rattle.store_rounds.proofs.Sends.{calls_sent, nothing_said}
+use Rattle.store_rounds.proofs.Duties.{Stopped, Whole, by_memory, by_outlet, duties_size, of_session_at, of_worker_at}
+use Rattle.store_rounds.proofs.Quiet.{asks_none, none_at, none_of_both}
+use Rattle.store_rounds.proofs.Ranges.{any_default, any_of, flat_at, flat_of_map, flat_split, joined, joined_back, joined_flat, joined_front, shifted, some_place}
+use Rattle.store_rounds.proofs.Runs.{Place, of_session, of_worker, place}
 
--- ---- the two parts of a row
+-- ---- ends
 
--- one of the first part, and one of the second
-at_front : (front back : List Session) (k : ℕ) (d : Session) → k < length front → get_or (front ++ back) k d ≡ get_or front k d
-at_front front back k d within = grind (arith, elements)
-
-at_back : (front back : List Session) (n k : ℕ) (d : Session) → length front ≡ n → get_or (front ++ back) (n + k) d ≡ get_or back k d
-at_back front back n k d size = grind (arith, elements)
-
--- both parts are sessions of the store
-pub both_are : (store : StoreView) (front back : List Session) → AreSessions store front → AreSessions store back → AreSessions store (front ++ back)
-both_are store [] back first second k d within = second k d within
-both_are store (s ∷ front) back first second zero d within = first zero d (omega arith)
-both_are store (s ∷ front) back first second (suc k) d within =
-    both_are store front back (λ j e inside. first (suc j) e (omega (arith, inside))) second k d (omega (arith, within))
-
--- ---- upkeep sends nothing
-
-upkeep_sends : (tables : List TableDecl) (calls : List Call) → list_all is_upkeep (asked_in calls) ≡ true → CallsSend tables calls []
-upkeep_sends tables [] all = refl
-upkeep_sends tables (call ∷ calls) all =
-    let parts = and_parts (is_upkeep call.command) (list_all is_upkeep (asked_in calls)) all in (
-      [],
-      [],
-      refl,
-      record {
-        by_line = nothing_said call.command
-            (λ table. Rattle.std.specs.Prelude.IfSome call.told (λ told. SendsAs (columns_at tables table) (blocks_at tables table) call.made told []))
-            (upkeep_no_export call.command parts.0);
-        quiet = λ no. refl;
-      },
-      upkeep_sends tables calls parts.1,
-    )
-
-all_flat : {X : Type 0} (f : X → List Command) → ((x : X) → list_all is_upkeep (f x) ≡ true) → (xs : List X) → list_all is_upkeep (flat_map f xs) ≡ true
-all_flat f each [] = refl
-all_flat f each (x ∷ xs) =
-    list_all-append is_upkeep (f x) (flat_map f xs) ∙ and_from (list_all is_upkeep (f x)) (list_all is_upkeep (flat_map f xs)) (each x) (all_flat f each xs)
-
--- a worker's turns are upkeep
-turns_are_upkeep : (tables : List TableDecl) (turns : ℕ) → list_all is_upkeep (turns_in tables turns) ≡ true
-turns_are_upkeep tables turns = all_flat (λ (turn : ℕ). turn_of tables) (λ turn. one) (range_with_len 1 turns)
+-- calls that end at an export have one
+pub ends_exports : (calls : List Call) → EndsAtExport calls → list_any is_export (asked_in calls) ≡ true
+ends_exports calls ends =
+    ap (λ (cs : List Call). list_any is_export (asked_in cs)) ends.calls_are
+    ∙ ap (list_any is_export) (map-append (λ (call : Call). call.command) ends.front (ends.last ∷ []))
+    ∙ list_any-append is_export (asked_in ends.front) (ends.last.command ∷ [])
+    ∙ ap (λ b. list_any is_export (asked_in ends.front) || (b || false)) ends.asked
+    ∙ or_true (list_any is_export (asked_in ends.front))
   where
-    one : list_all is_upkeep (turn_of tables) ≡ true
-    one = all_flat
-        (λ (entry : ℕ × TableDecl). command.Compact entry.0 ∷ flat_map (λ block. command.Seal entry.0 block ∷ command.Gather entry.0 block ∷ []) (range_with_len 0 entry.1.blocks))
-        (λ entry. all_flat (λ (block : ℕ). command.Seal entry.0 block ∷ command.Gather entry.0 block ∷ []) (λ block. refl) (range_with_len 0 entry.1.blocks))
-        (Rattle.std.specs.List.enumerate_from 0 tables)
+    or_true : (b : Bool) → b || (true || false) ≡ true
+    or_true true = refl
+    or_true false = refl
 
--- so workers send nothing
-row_sends : (tables : List TableDecl) (turns : ℕ) (calls : ℕ → List Call) (a n : ℕ)
-    → ((k : ℕ) → a ≤ k → k < a + n → asked_in (calls k) ≡ turns_in tables turns)
-    → CallsSend tables (flat_map calls (range_with_len a n)) []
-row_sends tables turns calls a zero asked = refl
-row_sends tables turns calls a (suc n) asked =
-    sendings_join tables (calls a) (flat_map calls (range_with_len (a + 1) n)) [] []
-    (upkeep_sends tables (calls a) (ap (list_all is_upkeep) (asked a (omega arith) (omega arith)) ∙ turns_are_upkeep tables turns))
-    (row_sends tables turns calls (a + 1) n (λ k low high. asked k (omega (arith, low)) (omega (arith, high))))
+-- the text of one whose lines are whole
+whole_text : {T : Type 0} (r : Result T RunFault) (P : Type 0) → is_whole_end r ≡ true → OnOk r P → P
+whole_text (Ok value) P whole text = text
+whole_text (Err failed) P whole text = absurd (true≢false (sym whole))
 
-workers_sent : (tables : List TableDecl) (turns : ℕ) (calls : ℕ → List Call) (count : ℕ) (exported : Option (List ℕ))
-    → ((k : ℕ) → k < count → asked_in (calls (k + 1)) ≡ turns_in tables turns)
-    → SentBy tables (calls_of count calls) exported exported
-workers_sent tables turns calls count exported asked = record {
-  bytes = [];
-  sent = Appends-nil exported;
-  by_calls = row_sends tables turns calls 1 count
-      (λ k low high. subst (λ n. asked_in (calls n) ≡ turns_in tables turns) (let e : (k - 1) + 1 ≡ k = omega (arith, low) in e)
-      (asked (k - 1) (omega (arith, low, high))));
-}
+not_false : (b : Bool) → not b ≡ false → b ≡ true
+not_false true e = refl
+not_false false e = absurd (let never : ⊥ = cc e in never)
 
--- ---- both did their part
+module _ (store : StoreView) (crew : Crew) (round : ℕ) (lines : List Line) (old ended new : List Session) (before after : List Duty) (exported exported_now : Option (List ℕ))
+    (size : length old ≡ crew.sessions + crew.workers) (some : 0 < crew.sessions) (numbers : AreNumbered old)
+    (are : AreDuties crew round lines before) (served : RowServed store old ended before after exported exported_now) where
+  abbrev tables : List TableDecl
+  tables = (shape_in store).tables
 
--- the calls of each, of sessions by their numbers and of workers by theirs
-abbrev by_who : (ℕ → List Call) → (ℕ → List Call) → Who → List Call
-by_who calls turned (TheSession n) = calls n
-by_who calls turned (TheWorker n) = turned n
+  -- the calls of each
+  abbrev pub by_who : Who → List Call
+  by_who (TheSession n) = served.calls n
+  by_who (TheWorker n) = served.calls (crew.sessions + n)
 
-module _ (store : StoreView) (crew : Crew) (front back front_ended back_ended new : List Session)
-    (sessions : length front ≡ crew.sessions) (workers : length back ≡ crew.workers) (calls turned : ℕ → List Call)
-    (worked : RowWorked store front front_ended calls) (made : RowDid (Worked store true (most_of_turn * crew.turns)) back back_ended turned)
-    (met : Met store (front_ended ++ back_ended) new) where
-  front_size : length front_ended ≡ crew.sessions
-  front_size = worked.size ∙ sessions
+  some_duty : Duty
+  some_duty = any_of before 0 (let size = duties_size crew round lines before are in omega (arith, size, some))
 
-  row_ran : RowRan store crew (front ++ back) new (by_who calls turned)
-  row_ran = record {
-    met = met.met;
-    lawful = met.lawful;
-    named = met.named;
-    size = omega (arith, met.size, worked.size, made.size, length-append front back, length-append front_ended back_ended);
-    sessions = λ k d within. record {
-      ended = get_or front_ended k d;
-      worked = subst (λ s. Worked store false (most_events * length (calls (k + 1))) s (get_or front_ended k d) (calls (k + 1)))
-          (sym (at_front front back k d (omega (arith, within, sessions))))
-          (worked.each k d (omega (arith, within, sessions)));
-      met_in = subst (λ s. MetIn store met.met s (get_or new k d)) (at_front front_ended back_ended k d (omega (arith, within, front_size)))
-          (met.each k d (omega (arith, within, front_size, length-append front_ended back_ended)));
-    };
-    workers = λ k d within. record {
-      ended = get_or back_ended k d;
-      worked = subst (λ s. Worked store true (most_of_turn * crew.turns) s (get_or back_ended k d) (turned (k + 1)))
-          (sym (at_back front back crew.sessions k d sessions))
-          (made.each k d (omega (arith, within, workers)));
-      met_in = subst (λ s. MetIn store met.met s (get_or new (crew.sessions + k) d)) (at_back front_ended back_ended crew.sessions k d front_size)
-          (met.each (crew.sessions + k) d (omega (arith, within, front_size, made.size, workers, length-append front_ended back_ended)));
-    };
-  }
+  -- what a session did
+  record SessionDid (k : ℕ) (d : Session) (e : Duty) : Type 0 where
+    asked : List Command
+    same : asked ≡ commands_of (k + 1) lines
+    did : CarriedOut store false (TheSession (k + 1)) round (most_events * length (served.calls (k + 1))) (get_or old k d) (get_or ended k d)
+        asked [] (get_or after k e).lines.text.items (get_or after k e).ended (served.calls (k + 1))
 
-module _ (store : StoreView) (round : ℕ) (crew : Crew) (front back front_ended back_ended new : List Session) (lines : List Line)
-    (sessions : length front ≡ crew.sessions) (workers : length back ≡ crew.workers) (before middle after : List ℕ) (exported now : Option (List ℕ)) where
-  -- what both sent
-  both_sent : (calls turned : ℕ → List Call) → SentBy (shape_in store).tables (calls_of (length front) calls) exported now
-      → ((k : ℕ) → k < length back → asked_in (turned (k + 1)) ≡ turns_in (shape_in store).tables crew.turns)
-      → SentBy (shape_in store).tables (crew_calls crew (by_who calls turned)) exported now
-  both_sent calls turned sent asked =
-      let tables = (shape_in store).tables in
-      calls_sent tables (calls_of crew.sessions calls) (calls_of crew.workers turned) exported now now
-      (subst (λ n. SentBy tables (calls_of n calls) exported now) sessions sent)
-      (workers_sent tables crew.turns turned crew.workers now (λ k within. asked k (omega (arith, within, workers))))
+  -- what one did, told of its task
+  told_of : (o n : Session) (b a : Duty) (to_do : Task) (calls : List Call) (number : ℕ) → IsNew round to_do b → o.session ≡ number → ServedBy store o n b a calls
+      → CarriedOut store (is_of_worker (Some to_do)) (who_of (Some to_do) (record o { session = number })) round (most_of_task (Some to_do) calls) o n
+      (asked_of_task tables (Some to_do)) [] a.lines.text.items a.ended calls
+  told_of o n b a to_do calls number new numbered did =
+      subst (λ m. CarriedOut store (is_of_worker (Some to_do)) (who_of (Some to_do) (record o { session = m })) round (most_of_task (Some to_do) calls) o n
+      (asked_of_task tables (Some to_do)) [] a.lines.text.items a.ended calls) numbered
+      (subst (λ (text : List ℕ). CarriedOut store (is_of_worker (Some to_do)) (who_of (Some to_do) o) round (most_of_task (Some to_do) calls) o n
+      (asked_of_task tables (Some to_do)) text a.lines.text.items a.ended calls) (no_text b.lines.text.items new.no_lines)
+      (subst (λ m. CarriedOut store (is_of_worker (Some to_do)) (who_of (Some to_do) o) m (most_of_task (Some to_do) calls) o n
+      (asked_of_task tables (Some to_do)) b.lines.text.items a.lines.text.items a.ended calls) new.round_is
+      (subst (λ (t : Option Task). CarriedOut store (is_of_worker t) (who_of t o) b.lines.round (most_of_task t calls) o n
+      (asked_of_task tables t) b.lines.text.items a.lines.text.items a.ended calls) new.asked did)))
+    where
+      no_text : (text : List ℕ) → length text ≡ 0 → text ≡ []
+      no_text [] none = refl
+      no_text (x ∷ text) none = absurd (omega (arith, none))
 
-  -- the lines of both
-  both_text : (calls turned : ℕ → List Call) → before ≡ []
-      → middle ≡ before ++ round_text (shape_in store).tables round (shares_of TheSession (length front) calls)
-      → after ≡ middle ++ round_text (shape_in store).tables round (shares_of TheWorker (length back) turned)
-      → after ≡ round_text (shape_in store).tables round (crew_shares crew (by_who calls turned))
-  both_text calls turned none first second =
-      let tables = (shape_in store).tables in
-      second
-      ∙ ap (λ (text : List ℕ). text ++ round_text tables round (shares_of TheWorker (length back) turned))
-      (first ∙ ap (λ (text : List ℕ). text ++ round_text tables round (shares_of TheSession (length front) calls)) none)
-      ∙ ap (λ n. round_text tables round (shares_of TheSession (length front) calls) ++ round_text tables round (shares_of TheWorker n turned)) workers
-      ∙ ap (λ n. round_text tables round (shares_of TheSession n calls) ++ round_text tables round (shares_of TheWorker crew.workers turned)) sessions
-      ∙ sym (flat_map-append (share_text tables round) (shares_of TheSession crew.sessions calls) (shares_of TheWorker crew.workers turned))
+  session_did : (k : ℕ) (d : Session) (e : Duty) → k < crew.sessions → SessionDid k d e
+  session_did k d e within =
+      let asked = of_session_at crew round lines before are k some_duty within in
+      let inside : k < length old = omega (arith, within, size) in
+      record {
+        asked = asked.commands.items;
+        same = asked.same;
+        did = subst (λ a. CarriedOut store false (TheSession (k + 1)) round (most_events * length (served.calls (k + 1))) (get_or old k d) (get_or ended k d)
+            asked.commands.items [] a.lines.text.items a.ended (served.calls (k + 1)))
+            (any_default after k some_duty e (let sizes = duties_size crew round lines before are in omega (arith, inside, served.duties, sizes, size)))
+            (told_of (get_or old k d) (get_or ended k d) (get_or before k some_duty) (get_or after k some_duty) (task.Commands asked.commands) (served.calls (k + 1)) (k + 1)
+            asked.new (numbers k d inside) (served.each k d some_duty inside));
+      }
 
-  abbrev RanWhole : Type 0
-  RanWhole = RanRound store round crew (front ++ back) new lines after exported now
+  worker_did : (n : ℕ) (d : Session) (e : Duty) → n < crew.workers
+      → CarriedOut store true (TheWorker (n + 1)) round (most_of_turn * crew.turns) (get_or old (crew.sessions + n) d) (get_or ended (crew.sessions + n) d)
+      (turns_in tables crew.turns) [] (get_or after (crew.sessions + n) e).lines.text.items (get_or after (crew.sessions + n) e).ended (served.calls (crew.sessions + n + 1))
+  worker_did n d e within =
+      let inside : crew.sessions + n < length old = omega (arith, within, size) in
+      subst (λ a. CarriedOut store true (TheWorker (n + 1)) round (most_of_turn * crew.turns) (get_or old (crew.sessions + n) d) (get_or ended (crew.sessions + n) d)
+      (turns_in tables crew.turns) [] a.lines.text.items a.ended (served.calls (crew.sessions + n + 1)))
+      (any_default after (crew.sessions + n) some_duty e (let sizes = duties_size crew round lines before are in omega (arith, inside, served.duties, sizes, size)))
+      (told_of (get_or old (crew.sessions + n) d) (get_or ended (crew.sessions + n) d) (get_or before (crew.sessions + n) some_duty) (get_or after (crew.sessions + n) some_duty)
+      (task.Turns (n + 1) crew.turns) (served.calls (crew.sessions + n + 1)) (get_or old (crew.sessions + n) d).session
+      (of_worker_at crew round lines before are n some_duty within) refl (served.each (crew.sessions + n) d some_duty inside))
 
-  abbrev RanPart : RunFault → Type 0
-  RanPart failed = RanInPart store crew (front ++ back) new lines failed exported now
+  -- a worker's calls, by its number
+  by_number : (n : ℕ) → served.calls (crew.sessions + n + 1) ≡ served.calls (crew.sessions + (n + 1))
+  by_number n = ap served.calls (let e : crew.sessions + n + 1 ≡ crew.sessions + (n + 1) = omega arith in e)
 
-  module _ {T U : Type 0} (worked : Result T RunFault) (shown : Result U RunFault)
-      (whole : OnOk worked (WorkedRound store round front front_ended lines before middle exported now))
-      (part : IfErr worked (λ failed. StoppedRound store front front_ended lines failed exported now))
-      (made : RowTurned store round crew.turns back back_ended middle after shown) where
-    -- whichever way the sessions' part ended, they are sessions of the store, and so are the workers
-    pub ended_sessions : AreSessions store (front_ended ++ back_ended)
-    ended_sessions = both_are store front_ended back_ended (go worked whole part)
-        (λ k d within. (made.worked.each k d (omega (arith, within, made.worked.size))).is_session)
-      where
-        go : (worked : Result T RunFault) → OnOk worked (WorkedRound store round front front_ended lines before middle exported now)
-            → IfErr worked (λ failed. StoppedRound store front front_ended lines failed exported now) → AreSessions store front_ended
-        go (Ok value) whole part k d within = (whole.worked.each k d (omega (arith, within, whole.worked.size))).is_session
-        go (Err failed) whole part k d within = (part.worked.each k d (omega (arith, within, part.worked.size))).is_session
+  -- a worker does not stop at an export
+  worker_whole : (n : ℕ) (d : Session) (e : Duty) → n < crew.workers → is_cut (get_or after (crew.sessions + n) e) ≡ false
+  worker_whole n d e within = go (is_cut (get_or after (crew.sessions + n) e)) refl
+    where
+      go : (b : Bool) → is_cut (get_or after (crew.sessions + n) e) ≡ b → is_cut (get_or after (crew.sessions + n) e) ≡ false
+      go false is = is
+      go true is =
+          let did = worker_did n d e within in
+          let calls = served.calls (crew.sessions + n + 1) in
+          let none = (none_of_both is_export (asked_in calls) did.rest (ap (list_any is_export) (sym did.asked) ∙ asks_none tables (Some (task.Turns (n + 1) crew.turns)) refl)).0 in
+          absurd (true≢false (sym (ends_exports calls (did.last is)) ∙ none))
 
-    -- and there are as many
-    pub ended_size : length front_ended ≡ length front
-    ended_size = go worked whole part
-      where
-        go : (worked : Result T RunFault) → OnOk worked (WorkedRound store round front front_ended lines before middle exported now)
-            → IfErr worked (λ failed. StoppedRound store front front_ended lines failed exported now) → length front_ended ≡ length front
-        go (Ok value) whole part = whole.worked.size
-        go (Err failed) whole part = part.worked.size
+  turned : AllTurned tables crew by_who
+  turned n within =
+      let d : Session = any_of old 0 (omega (arith, size, some)) in
+      let did = worker_did n d some_duty within in
+      let calls = served.calls (crew.sessions + n + 1) in
+      ap asked_in (sym (by_number n))
+      ∙ sym (append-nil (asked_in calls))
+      ∙ ap (λ (cs : List Command). asked_in calls ++ cs) (sym (did.whole (worker_whole n d some_duty within)))
+      ∙ sym did.asked
 
-    module _ (none : before ≡ []) (met : Met store (front_ended ++ back_ended) new) where
-      pub ran_whole : OnOk (result_and worked shown) RanWhole
-      ran_whole = go worked shown whole made
+  asked_up_to : AskedUpToExport crew.sessions lines (λ n. by_who (TheSession n))
+  asked_up_to k within =
+      let d : Session = any_of old 0 (omega (arith, size, some)) in
+      let did = session_did k d some_duty within in
+      go did (is_cut (get_or after k some_duty)) refl
+    where
+      go : {d : Session} (did : SessionDid k d some_duty) (b : Bool) → is_cut (get_or after k some_duty) ≡ b
+          → (asked_in (served.calls (k + 1)) ≡ commands_of (k + 1) lines) ⊎ CallsStopAtExport (served.calls (k + 1)) (commands_of (k + 1) lines)
+      go did false is = inl (
+          sym (append-nil (asked_in (served.calls (k + 1))))
+          ∙ ap (λ (cs : List Command). asked_in (served.calls (k + 1)) ++ cs) (sym (did.did.whole is))
+          ∙ sym did.did.asked ∙ did.same)
+      go did true is = inr (record { rest = did.did.rest; asked = sym did.same ∙ did.did.asked; last = did.did.last is })
+
+  asked_all : list_any is_cut after ≡ false → AskedAll crew.sessions lines (λ n. by_who (TheSession n))
+  asked_all none k within =
+      let d : Session = any_of old 0 (omega (arith, size, some)) in
+      let did = session_did k d some_duty within in
+      let sizes = duties_size crew round lines before are in
+      sym (append-nil (asked_in (served.calls (k + 1))))
+      ∙ ap (λ (cs : List Command). asked_in (served.calls (k + 1)) ++ cs)
+      (sym (did.did.whole (none_at is_cut after none k some_duty (omega (arith, within, served.duties, sizes)))))
+      ∙ sym did.did.asked ∙ did.same
+
+  one_ends : list_any is_cut after ≡ true → OneEndsAtExport crew.sessions (λ n. by_who (TheSession n))
+  one_ends some_cut =
+      let at' = some_place is_cut after some_cut in
+      let sizes = duties_size crew round lines before are in
+      go at'.0 (at'.2 some_duty) (place crew.sessions crew.workers at'.0 (omega (arith, at'.1, served.duties, sizes)))
+    where
+      go : (k : ℕ) → is_cut (get_or after k some_duty) ≡ true → Place crew.sessions crew.workers k → OneEndsAtExport crew.sessions (λ n. by_who (TheSession n))
+      go k is (of_session inside) =
+          let d : Session = any_of old 0 (omega (arith, size, some)) in
+          record { place = k; within = inside; ends = (session_did k d some_duty inside).did.last is }
+      go k is (of_worker n inside same) =
+          let d : Session = any_of old 0 (omega (arith, size, some)) in
+          absurd (true≢false (sym is ∙ ap (λ j. is_cut (get_or after j some_duty)) (sym same) ∙ worker_whole n d some_duty inside))
+
+  -- what all sent
+  sent : SentBy tables (crew_calls crew by_who) exported exported_now
+  sent = subst (λ (cs : List Call). SentBy tables cs exported exported_now)
+      (ap (λ n. calls_of n served.calls) size
+      ∙ flat_split served.calls 1 crew.sessions crew.workers
+      ∙ ap (λ (cs : List Call). calls_of crew.sessions served.calls ++ cs)
+      (shifted served.calls (λ n. served.calls (crew.sessions + n)) crew.sessions 1 crew.workers (λ k low high. refl)))
+      served.sent
+
+  -- the text of all
+  text_is : Whole after → duties_text after ≡ round_text tables round (crew_shares crew by_who)
+  text_is whole =
+      let first : ℕ → List ℕ = λ n. share_text tables round (share_of (TheSession n) (served.calls n)) in
+      let second : ℕ → List ℕ = λ n. share_text tables round (share_of (TheWorker n) (served.calls (crew.sessions + n))) in
+      let sizes = duties_size crew round lines before are in
+      flat_at (λ (duty : Duty). duty.lines.text.items) (joined crew.sessions first second) 1 after each
+      ∙ ap (λ n. flat_map (joined crew.sessions first second) (range_with_len 1 n)) (served.duties ∙ sizes)
+      ∙ joined_flat crew.sessions crew.workers first second
+      ∙ ap (λ (text : List ℕ). text ++ flat_map second (range_with_len 1 crew.workers))
+      (sym (flat_of_map (share_text tables round) (λ n. share_of (TheSession n) (served.calls n)) (range_with_len 1 crew.sessions)))
+      ∙ ap (λ (text : List ℕ). flat_map (share_text tables round) (shares_of TheSession crew.sessions served.calls) ++ text)
+      (sym (flat_of_map (share_text tables round) (λ n. share_of (TheWorker n) (served.calls (crew.sessions + n))) (range_with_len 1 crew.workers)))
+      ∙ sym (flat_map-append (share_text tables round) (shares_of TheSession crew.sessions served.calls) (shares_of TheWorker crew.workers (λ n. served.calls (crew.sessions + n))))
+    where
+      whole_at : (k : ℕ) (e : Duty) → k < length after → is_whole (get_or after k e) ≡ true
+      whole_at k e within = not_false (is_whole (get_or after k e)) (none_at (λ (duty : Duty). not (is_whole duty)) after whole.none_lost k e within)
+
+      each : (k : ℕ) (e : Duty) → k < length after
+          → (get_or after k e).lines.text.items
+          ≡ joined crew.sessions (λ n. share_text tables round (share_of (TheSession n) (served.calls n)))
+          (λ n. share_text tables round (share_of (TheWorker n) (served.calls (crew.sessions + n)))) (1 + k)
+      each k e within =
+          let sizes = duties_size crew round lines before are in
+          go (place crew.sessions crew.workers k (omega (arith, within, served.duties, sizes)))
         where
-          go : (worked : Result T RunFault) (shown : Result U RunFault) → OnOk worked (WorkedRound store round front front_ended lines before middle exported now)
-              → RowTurned store round crew.turns back back_ended middle after shown → OnOk (result_and worked shown) RanWhole
-          go (Ok value) (Ok next) whole made = record {
-            calls = by_who whole.calls made.calls;
-            ran = row_ran store crew front back front_ended back_ended new sessions workers whole.calls made.calls whole.worked made.worked met;
-            asked = λ k within. whole.asked k (omega (arith, within, sessions));
-            turned = λ k within. made.asked k (omega (arith, within, workers));
-            text_is = both_text whole.calls made.calls none whole.text made.text;
-            sent = both_sent whole.calls made.calls whole.sent made.asked;
-          }
-          go (Ok value) (Err failed) whole made = tt
-          go (Err failed) shown whole made = tt
+          d : Session
+          d = any_of old 0 (omega (arith, size, some))
 
-      pub ran_in_part : IfErr shown (λ failed. failed ≡ fault.Memory) → IfErr (result_and worked shown) RanPart
-      ran_in_part = go worked shown whole part made
-        where
-          go : (worked : Result T RunFault) (shown : Result U RunFault) → OnOk worked (WorkedRound store round front front_ended lines before middle exported now)
-              → IfErr worked (λ failed. StoppedRound store front front_ended lines failed exported now)
-              → RowTurned store round crew.turns back back_ended middle after shown → IfErr shown (λ failed. failed ≡ fault.Memory)
-              → IfErr (result_and worked shown) RanPart
-          go (Ok value) (Ok next) whole part made memory = tt
-          go (Ok value) (Err failed) whole part made memory = record {
-            calls = by_who whole.calls made.calls;
-            ran = row_ran store crew front back front_ended back_ended new sessions workers whole.calls made.calls whole.worked made.worked met;
-            asked = λ k within. ([], sym (append-nil (asked_in (whole.calls (k + 1))) ∙ whole.asked k (omega (arith, within, sessions))));
-            turned = λ k within. made.asked k (omega (arith, within, workers));
-            sent = both_sent whole.calls made.calls whole.sent made.asked;
-            last = λ e. absurd (let never : ⊥ = cc (memory, e) in never);
-          }
-          go (Err failed) shown whole part made memory = record {
-            calls = by_who part.calls made.calls;
-            ran = row_ran store crew front back front_ended back_ended new sessions workers part.calls made.calls part.worked made.worked met;
-            asked = λ k within. part.asked k (omega (arith, within, sessions));
-            turned = λ k within. made.asked k (omega (arith, within, workers));
-            sent = both_sent part.calls made.calls part.sent made.asked;
-            last = λ e. subst (λ n. OneEndsAtExport n part.calls) sessions (part.last e);
-          }
+          go : Place crew.sessions crew.workers k
+              → (get_or after k e).lines.text.items
+              ≡ joined crew.sessions (λ n. share_text tables round (share_of (TheSession n) (served.calls n)))
+              (λ n. share_text tables round (share_of (TheWorker n) (served.calls (crew.sessions + n)))) (1 + k)
+          go (of_session inside) =
+              whole_text (get_or after k e).ended
+              ((get_or after k e).lines.text.items ≡ [] ++ share_text tables round (share_of (TheSession (k + 1)) (served.calls (k + 1))))
+              (whole_at k e within) (session_did k d e inside).did.text
+              ∙ ap (λ n. share_text tables round (share_of (TheSession n) (served.calls n))) (let e : k + 1 ≡ 1 + k = omega arith in e)
+              ∙ sym (joined_front crew.sessions (λ n. share_text tables round (share_of (TheSession n) (served.calls n)))
+              (λ n. share_text tables round (share_of (TheWorker n) (served.calls (crew.sessions + n)))) (1 + k) (omega (arith, inside)))
+          go (of_worker n inside same) =
+              ap (λ j. (get_or after j e).lines.text.items) (sym same)
+              ∙ whole_text (get_or after (crew.sessions + n) e).ended
+              ((get_or after (crew.sessions + n) e).lines.text.items ≡ [] ++ share_text tables round (share_of (TheWorker (n + 1)) (served.calls (crew.sessions + n + 1))))
+              (subst (λ j. is_whole (get_or after j e) ≡ true) (sym same) (whole_at k e within)) (worker_did n d e inside).text
+              ∙ ap (λ (cs : List Call). share_text tables round (share_of (TheWorker (n + 1)) cs)) (by_number n)
+              ∙ sym (joined_back crew.sessions (λ n. share_text tables round (share_of (TheSession n) (served.calls n)))
+              (λ n. share_text tables round (share_of (TheWorker n) (served.calls (crew.sessions + n)))) (1 + k) (n + 1) (omega (arith, same)) (omega arith))
+
+  pub ended_sessions : AreSessions store ended
+  ended_sessions k d within =
+      let sizes = duties_size crew round lines before are in
+      (served.each k d some_duty (omega (arith, within, served.size))).worked.is_session
+
+  module _ (met : Met store ended new) where
+    row_ran : RowRan store crew old new by_who
+    row_ran = record {
+      met = met.met;
+      lawful = met.lawful;
+      named = met.named;
+      size = met.size ∙ served.size;
+      sessions = λ k d within. record {
+        ended = get_or ended k d;
+        worked = (session_did k d some_duty within).did.worked;
+        met_in = met.each k d (omega (arith, within, served.size, size));
+      };
+      workers = λ n d within. record {
+        ended = get_or ended (crew.sessions + n) d;
+        worked = subst (λ (cs : List Call). Worked store true (most_of_turn * crew.turns) (get_or old (crew.sessions + n) d) (get_or ended (crew.sessions + n) d) cs)
+            (by_number n) (worker_did n d some_duty within).worked;
+        met_in = met.each (crew.sessions + n) d (omega (arith, within, served.size, size));
+      };
+    }
+
+    pub ran_round : Whole after → RanRound store round crew old new lines (duties_text after) exported exported_now
+    ran_round whole = record {
+      calls = by_who;
+      ran = row_ran;
+      asked = asked_all whole.none_cut;
+      turned = turned;
+      text_is = text_is whole;
+      sent = sent;
+    }
+
+    ran_unshown : list_any is_cut after ≡ false → RanUnshown store crew old new lines exported exported_now
+    ran_unshown none = record { calls = by_who; ran = row_ran; asked = asked_all none; turned = turned; sent = sent }
+
+    pub ran_in_part : (failed : RunFault) → Stopped after failed → RoundStops store crew old new lines exported exported_now failed
+    ran_in_part failed (by_outlet is cut) = subst (RoundStops store crew old new lines exported exported_now) (sym is)
+        (record { calls = by_who; ran = row_ran; asked = asked_up_to; turned = turned; sent = sent; last = one_ends cut })
+    ran_in_part failed (by_memory is none) = subst (RoundStops store crew old new lines exported exported_now) (sym is)
+        (inr (ran_unshown none))
+
+    -- where there was no memory for the text
+    pub text_lost : Whole after → RoundStops store crew old new lines exported exported_now fault.Memory
+    text_lost whole = inr (ran_unshown whole.none_cut)

@@ -30,7 +30,7 @@ use Rattle.store_rounds.specs.Crews.{turns_in}
 use Rattle.store_rounds.specs.Turned.{PutTurn, TurnsMade, lines_behind}
 use Rattle.store_rounds.specs.Worked.{Worked, asked_in, share_of}
 use Rattle.store_rounds.specs.declared.fault.RunFault.{RunFault}
-use Rattle.store_rounds.proofs.RowCalls.{one_behind}
+use Rattle.store_rounds.proofs.Ranges.{one_behind}
 
 -- ---- calls behind calls
 

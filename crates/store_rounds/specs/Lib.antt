@@ -1,9 +1,11 @@
 pub mod Answered
 pub mod Worked
+pub mod Served
 pub mod Crews
 pub mod Turned
 pub mod Row
 pub mod Agendas
+pub mod Duties
 pub mod Rounds
 pub mod Workloads
 pub mod Runs

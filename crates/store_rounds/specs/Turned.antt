@@ -1,5 +1,5 @@
--- What the workers of a row did in a round, and the text of their lines.
-use Rattle.std.specs.Prelude.{◌≡◌, ℕ, ◌+◌, ◌*◌, ◌<◌, true, List, ◌++◌, Ok, OnOk, Result, length, map}
+-- What a worker did in a round, and the text of its lines.
+use Rattle.std.specs.Prelude.{◌≡◌, ℕ, ◌+◌, ◌*◌, true, List, ◌++◌, Ok, OnOk, Result, length, map}
 use Rattle.std.specs.Global.{Vec as GlobalVec}
 use Rattle.std.specs.List.{enumerate_from}
 use Rattle.cell_model.specs.declared.table.TableDecl.{TableDecl}
@@ -9,12 +9,12 @@ use Rattle.workload_spec.specs.declared.reply.Said.{Said}
 use Rattle.workload_spec.specs.declared.reply.Who.{Who}
 use Rattle.workload_spec.specs.declared.reply.Who.TheVariants.{Worker as TheWorker}
 use Rattle.run_spec.specs.Calls.{Call}
-use Rattle.round_laws.specs.Lines.{line_of, round_text, share_text}
+use Rattle.round_laws.specs.Lines.{line_of, share_text}
 use Rattle.shared_store.specs.Store.{StoreView, shape_in}
 use Rattle.shared_store.specs.declared.session.Session.{Session}
 use Rattle.store_workers.specs.Turns.{most_of_turn}
-use Rattle.store_rounds.specs.Crews.{shares_of, turns_in}
-use Rattle.store_rounds.specs.Worked.{RowDid, Worked, asked_in, share_of}
+use Rattle.store_rounds.specs.Crews.{turns_in}
+use Rattle.store_rounds.specs.Worked.{Worked, asked_in, share_of}
 use Rattle.store_rounds.specs.declared.fault.RunFault.{RunFault}
 
 -- the lines of one who is told these, counted on from so many
@@ -48,17 +48,3 @@ pub record TurnsMade
   pub text : OnOk shown (after
       ≡ before
       ++ share_text (shape_in store).tables round (share_of (TheWorker worker) calls))
-
--- Each of a row of workers made so many turns. Unless there was no memory for a line, the text grew
--- by their lines, worker by worker.
-pub record RowTurned
-    {T : Type 0} (store : StoreView) (round turns : ℕ) (old new : List Session)
-    (before after : List ℕ) (shown : Result T RunFault)
-    : Type 0 where
-  pub calls : ℕ → List Call
-  pub worked : RowDid (Worked store true (most_of_turn * turns)) old new calls
-  pub asked : (k : ℕ) → k < length old
-      → asked_in (calls (k + 1)) ≡ turns_in (shape_in store).tables turns
-  pub text : OnOk shown (after
-      ≡ before
-      ++ round_text (shape_in store).tables round (shares_of TheWorker (length old) calls))

@@ -1,5 +1,5 @@
 -- How the run of a workload ends: which rounds ran, what was printed, and what was sent.
-use Rattle.std.specs.Prelude.{◌≡◌, ◌⊎◌, ℕ, ◌+◌, true, List, [], ◌∷◌, ◌++◌, length, Option, Result, Ok, Err}
+use Rattle.std.specs.Prelude.{◌≡◌, ◌≢◌, ◌⊎◌, ℕ, ◌+◌, true, List, [], ◌∷◌, ◌++◌, length, Option, Result, Ok, Err}
 use Rattle.std.specs.Io.KnownBytes.{Appends}
 use Rattle.byte_ports.specs.Calls.{AppendsFront, Rose}
 use Rattle.export_spec.specs.Sent.{SaysAllSent}
@@ -11,6 +11,8 @@ use Rattle.run_spec.specs.Occurrences.{Logged}
 use Rattle.run_spec.specs.Ran.{Ran, Share}
 use Rattle.round_laws.specs.Fronts.{AreFirstLines, lines_of, with_rounds}
 use Rattle.round_laws.specs.Lines.{round_text}
+use Rattle.store_rounds.specs.Worked.{EndsAtExport}
+use Rattle.workload_spec.specs.declared.reply.Who.TheVariants.{Session as TheSession}
 use Rattle.store_rounds.specs.declared.fault.RunFault.{RunFault}
 use Rattle.store_rounds.specs.declared.fault.RunFault.TheVariants as fault
 
@@ -36,8 +38,7 @@ pub record GoesWhole
   pub went : Goes script.rounds text
   pub printed : Appends before now text
 
--- The output failed within the lines of a round, the last of those that ran. These are some first
--- rounds of the script, and only a front of their text was printed.
+-- The output failed: some first rounds of the script ran, and only a front of their text was printed.
 pub record GoesCutOff
     (Goes : List (List Line) → List ℕ → Type 0) (script : Script) (before now : Option (List ℕ))
     : Type 0 where
@@ -48,9 +49,9 @@ pub record GoesCutOff
   pub went : Goes whole text
   pub printed : AppendsFront before now text
 
--- The run stopped within a round: the rounds before it ran, and their text alone was printed. Of
--- the round these first lines of each session ran, and each worker made its turns; the text of
--- this round's lines alone was not printed.
+-- The run stopped at a round: the rounds before it ran, and their text alone was printed. Of the round
+-- these first lines of each session ran, and each worker made its turns; the text of this round's
+-- lines alone was not printed.
 pub record GoesTo
     (Goes : List (List Line) → List ℕ → Type 0) (script : Script) (lines : List Line)
     (before now : Option (List ℕ))
@@ -69,19 +70,28 @@ pub record GoesTo
   pub printed : Appends before now shown
 
 -- A session's lines end at an export.
-pub record EndAtExport (lines : List Line) : Type 0 where
-  pub session : ℕ
+pub record LinesEndAtExport (lines : List Line) (session : ℕ) : Type 0 where
   pub front : List Line
   pub last : Line
   pub lines_are : lines_of session lines ≡ front ++ last ∷ []
   pub asked : is_export last.command ≡ true
 
--- It stopped within a round.
-pub record GoesWithin
+-- The calls of a session are among these shares, and end at an export that is told `memory`.
+pub record ToldMemory (shares : List Share) (session : ℕ) : Type 0 where
+  pub before : List Share
+  pub share : Share
+  pub behind : List Share
+  pub shares_are : shares ≡ before ++ share ∷ behind
+  pub who : share.who ≡ TheSession session
+  pub ends : EndsAtExport share.calls
+
+-- It stopped behind a round, whose text found no memory.
+pub record GoesUnshown
     (Goes : List (List Line) → List ℕ → Type 0) (script : Script) (before now : Option (List ℕ))
     : Type 0 where
   pub lines : List Line
   pub to : GoesTo Goes script lines before now
+  pub whole : lines ≡ to.round
 
 -- It stopped before a round, of which nothing ran: the rounds before it ran, and their text was
 -- printed.
@@ -100,15 +110,19 @@ pub record GoesBefore
 abbrev pub GoesStopped
     : (List (List Line) → List ℕ → Type 0) → Script → Option (List ℕ) → Option (List ℕ) → Type 0
 GoesStopped Goes script before now =
-    GoesBefore Goes script before now ⊎ GoesWithin Goes script before now
+    GoesBefore Goes script before now ⊎ GoesUnshown Goes script before now
 
--- It stopped at an export, where the outlet failed; the export counts as answered `memory`.
+-- It stopped behind a round in which the outlet failed at an export, which counts as answered
+-- `memory`: its session stopped there, and the others ended their lines.
 pub record GoesToExport
     (Goes : List (List Line) → List ℕ → Type 0) (script : Script) (before now : Option (List ℕ))
     : Type 0 where
   pub lines : List Line
-  pub last : EndAtExport lines
   pub to : GoesTo Goes script lines before now
+  pub session : ℕ
+  pub last : LinesEndAtExport lines session
+  pub told : ToldMemory to.shares session
+  pub others : (other : ℕ) → other ≢ session → lines_of other lines ≡ lines_of other to.round
 
 -- how a run ends that does not come to its last round
 abbrev pub GoesPart

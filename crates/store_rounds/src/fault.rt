@@ -7,6 +7,6 @@ pub enum RunFault {
     Out,
     /// The outlet of the export took no more bytes.
     Export,
-    /// There was no memory for the commands or the lines of a round.
+    /// There was no memory for the store, or for the commands or the lines of a round.
     Memory,
 }

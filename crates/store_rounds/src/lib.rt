@@ -6,18 +6,21 @@
 mod agenda;
 mod answer;
 mod crew;
+mod duty;
 mod fault;
 mod lines;
 mod round;
 mod rounds;
 mod row;
 mod sending;
+mod serving;
 mod told;
 mod turning;
 mod work;
 mod workload;
 
 pub use crew::Crew;
+pub use duty::is_export;
 pub use fault::RunFault;
 pub use rounds::run_rounds;
 pub use workload::run_workload;

@@ -1,5 +1,5 @@
 //! The lines of a round, as they are told.
-ghost use Rattle.std.specs.Prelude.{◌≡◌, ◌+◌, ◌++◌, ◌<◌, ◌^◌, IfErr, IfOk, OnOk, length};
+ghost use Rattle.std.specs.Prelude.{◌≡◌, ◌+◌, ◌++◌, ◌<◌, ◌^◌, Err, IfErr, IfOk, OnOk, length};
 ghost use Rattle.workload_spec.specs.ReplyText.{replies_text, reply_text};
 ghost use Rattle.round_laws.specs.Lines.{line_of};
 ghost use Rattle.store_rounds.specs.Turned.{PutTurn, lines_behind};
@@ -43,6 +43,30 @@ impl Lines {
             Ok(()) => Ok(()),
             Err(AllocError) => Err(RunFault::Memory),
         }
+    }
+
+    /// Puts a line behind the others as [`Lines::put`] does, unless one before it was lost.
+    ///
+    /// # Errors
+    ///
+    /// There is no memory for this line, or there was none for one before.
+    pub(crate) fn put_unless(
+        &mut self,
+        tables: &[TableDecl],
+        shown: Result<(), RunFault>,
+        who: Who,
+        index: u64,
+        said: Said,
+    ) -> Result<(), RunFault>
+        requires memory { IfErr shown (λ fault. fault ≡ RunFault.Memory) }
+        ensures round { self.new.round ≡ self.old.round }
+        ensures ok { OnOk result (OnOk shown (self.new.text.items ≡ self.old.text.items
+            ++ reply_text tables.now (line_of self.old.round who index said))) }
+        ensures kept { IfErr shown (λ fault. result ≡ Err fault) }
+        ensures err { IfErr result (λ fault. fault ≡ RunFault.Memory) }
+    {
+        shown?;
+        self.put(tables, who, index, said)
     }
 
     /// Puts the lines of a worker's turn behind the others, where so many of its lines were put

@@ -32,7 +32,7 @@ use workload_spec::{Rounds, Script};
 /// [`RunFault::Memory`] where there was no memory for the commands or the lines of a round, and
 /// [`RunFault::Export`] where the outlet failed at the export: the rounds before it were printed.
 /// In each case the sessions and workers met after what they did last.
-pub fn run_rounds<R: Wait + Threads + Sync, O: Sink, X: Sink, G: Gate>(
+pub fn run_rounds<R: Wait + Threads + Sync, O: Sink, X: Sink, G: Gate + Sync>(
     rt: &R,
     alloc: Global,
     gate: &G,

@@ -1,11 +1,9 @@
 //! The workers' turns of a round.
-ghost use Rattle.std.specs.Prelude.{◌≡◌, ◌*◌, ◌≤◌, IfErr, length};
+ghost use Rattle.std.specs.Prelude.{◌≡◌, ◌*◌, ◌≤◌, IfErr};
 ghost use Rattle.workload_spec.specs.Valid.{most_turns, most_workers};
 ghost use Rattle.shared_store.specs.Store.{HasRoomFor, IsSession};
 ghost use Rattle.store_workers.specs.Turns.{most_of_turn};
-ghost use Rattle.store_rounds.specs.Rounds.{HaveRoomFor};
-ghost use Rattle.store_rounds.specs.Row.{AreSessions};
-ghost use Rattle.store_rounds.specs.Turned.{RowTurned, TurnsMade};
+ghost use Rattle.store_rounds.specs.Turned.{TurnsMade};
 
 use crate::fault::RunFault;
 use crate::lines::Lines;
@@ -19,46 +17,14 @@ use store_workers::turn;
 /// At the gate the workers' numbers come behind those of the most sessions.
 const MOST_SESSIONS: u32 = 64;
 
-/// Makes the turns of each worker of a row, one worker after another, and puts their lines behind
-/// those of the round.
-///
-/// # Errors
-///
-/// [`RunFault::Memory`] where there is no memory for a line. All turns were made all the same; the
-/// text of the lines is not to be used.
-pub(crate) fn turn_all<R: Wait + Threads + Sync, G: Gate>(
-    rt: &R,
-    alloc: Global,
-    gate: &G,
-    store: &Store,
-    row: &mut [Session],
-    turns: u32,
-    lines: &mut Lines,
-) -> Result<(), RunFault>
-    requires sessions { AreSessions store.now row.old }
-    requires few { length row.old ≤ most_workers }
-    requires turns { turns ≤ most_turns }
-    requires room { HaveRoomFor (most_of_turn * turns) row.old }
-    ensures round { lines.new.round ≡ lines.old.round }
-    ensures turned { RowTurned store.now lines.old.round turns row.old row.new
-        lines.old.text.items lines.new.text.items result }
-    ensures memory { IfErr result (λ fault. fault ≡ RunFault.Memory) }
-{
-    let mut shown = Ok(());
-    for at in 0..row.len() {
-        let worker = at as u32 + 1;
-        shown = shown.and(make_turns(rt, alloc, gate, store, &mut row[at], worker, turns, lines));
-    }
-    shown
-}
-
 /// Makes the turns of a worker, and puts their lines behind those of the round. The gate is passed
 /// before each turn.
 ///
 /// # Errors
 ///
-/// Those of [`turn_all`].
-fn make_turns<R: Wait + Threads + Sync, G: Gate>(
+/// [`RunFault::Memory`] where there is no memory for a line. All turns were made all the same; the
+/// text of the lines is not to be used.
+pub(crate) fn make_turns<R: Wait + Threads + Sync, G: Gate>(
     rt: &R,
     alloc: Global,
     gate: &G,

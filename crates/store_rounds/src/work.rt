@@ -1,8 +1,8 @@
 //! A session's commands of a round.
-ghost use Rattle.std.specs.Prelude.{◌≡◌, ◌≢◌, ◌*◌, All, IfErr, OnOk, length};
+ghost use Rattle.std.specs.Prelude.{◌≡◌, ◌*◌, All, length};
 ghost use Rattle.shared_store.specs.Store.{HasRoomFor, IsSession, shape_in};
 ghost use Rattle.store_rounds.specs.Answered.{IsServed, most_events};
-ghost use Rattle.store_rounds.specs.Worked.{WorkedInPart, WorkedWhole};
+ghost use Rattle.store_rounds.specs.Served.{SessionServed};
 ghost use Rattle.store_rounds.specs.Workloads.{CountsExportFault};
 
 use crate::answer::carry_out;
@@ -19,9 +19,9 @@ use workload_spec::{Command, Who};
 ///
 /// # Errors
 ///
-/// [`RunFault::Memory`] where there is no memory for a line, and [`RunFault::Export`] where the
-/// outlet failed at an export. The commands up to this one were carried out; the text of the lines
-/// is not to be used.
+/// [`RunFault::Export`] where the outlet failed at an export: the commands up to this one were
+/// carried out. [`RunFault::Memory`] where there is no memory for a line: all commands were carried
+/// out all the same. In both cases the text of the lines is not to be used.
 pub(crate) fn work<R: Wait + Threads + Sync, G: Gate, X: Sink>(
     rt: &R,
     gate: &G,
@@ -35,29 +35,24 @@ pub(crate) fn work<R: Wait + Threads + Sync, G: Gate, X: Sink>(
     requires room { HasRoomFor (most_events * length commands.items) session.old }
     requires commands { All (IsServed (shape_in store.now).tables) commands.items }
     ensures round { lines.new.round ≡ lines.old.round }
-    ensures whole { OnOk result (WorkedWhole store.now lines.old.round
-        session.old session.new commands.items lines.old.text.items lines.new.text.items
-        (X.written outlet.old) (X.written outlet.new)) }
-    ensures part { IfErr result (λ fault. WorkedInPart store.now session.old session.new
-        commands.items fault (X.written outlet.old) (X.written outlet.new)) }
-    ensures printed { IfErr result (λ fault. fault ≢ RunFault.Out) }
+    ensures served { SessionServed store.now lines.old.round session.old session.new commands.items
+        lines.old.text.items lines.new.text.items result
+        (X.written outlet.old) (X.written outlet.new) }
     ensures faults { CountsExportFault (X.faults outlet.old) (X.faults outlet.new) result }
     ensures started { X.started outlet.new ≡ X.started outlet.old }
 {
     let tables = store.tables();
     let mut index = 0;
+    let mut shown = Ok(());
     for command in commands {
         index += 1;
-        gate.pass(
-            rt,
-            session.session_number(),
-            u32::try_from(index).unwrap_or(u32::MAX),
-        );
+        let number = u32::try_from(index).unwrap_or(u32::MAX);
+        gate.pass(rt, session.session_number(), number);
         let Ok(said) = carry_out(rt, store, session, command, outlet) else {
             return Err(RunFault::Export);
         };
         let who = Who::Session(session.session_number());
-        lines.put(tables, who, index, said)?;
+        shown = lines.put_unless(tables, shown, who, index, said);
     }
-    Ok(())
+    shown
 }

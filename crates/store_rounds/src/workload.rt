@@ -23,7 +23,7 @@ use workload_spec::Script;
 /// # Errors
 ///
 /// Those of [`run_rounds`]; where there is no memory for the store, nothing ran.
-pub fn run_workload<R: Wait + Threads + Sync, O: Sink, X: Sink, G: Gate>(
+pub fn run_workload<R: Wait + Threads + Sync, O: Sink, X: Sink, G: Gate + Sync>(
     rt: &R,
     alloc: Global,
     gate: &G,

@@ -1,66 +1,63 @@
-use Rattle.std.proofs.Common.{◌++◌, List, arith, sym, ◌∙◌, subst, length-append}
-use Rattle.std.specs.Prelude.{IfErr, OnOk}
-use Rattle.shared_store.specs.declared.session.Session.{Session}
-use Rattle.store_rounds.specs.Rounds.{RanInPart, RanRound}
-use Rattle.store_rounds.specs.Turned.{RowTurned}
-use Rattle.store_rounds.proofs.WholeRounds.{ended_sessions, ended_size, ran_in_part, ran_whole}
+use Rattle.std.proofs.Common.{ℕ, ◌+◌, List, sym, ap, ◌∙◌, subst, arith}
+use Rattle.store_rounds.specs.Duties.{duties_text, fault_of}
+use Rattle.store_rounds.specs.Rounds.{RanRound}
+use Rattle.store_rounds.specs.Served.{MayServeRow, OneExportsAtMost, RowServed}
+use Rattle.store_rounds.specs.declared.duty.Duty.{Duty}
+use Rattle.store_rounds.proofs.Duties.{export_once, fault_is, may_serve_row, no_fault}
+use Rattle.store_rounds.proofs.Ranges.{written_over}
+use Rattle.store_rounds.proofs.WholeRounds.{ended_sessions, ran_in_part, ran_round, text_lost}
 use Rattle.store_rounds.proofs.round.run_round.Goals as goal
+
+pub duties_of-requires-clause-size : goal.duties_of-requires-clause-size
+duties_of-requires-clause-size g c = omega (arith, c.requires.few, c.requires.workers)
+
+pub serve_row-requires-clause-may : goal.serve_row-requires-clause-may
+serve_row-requires-clause-may g c κs within =
+    subst (λ (duties : List Duty). MayServeRow c.args.store.now duties c.args.row.now) (sym c.as_mut_slice.ensures.value)
+    (may_serve_row c.args.crew c.args.number c.args.round c.in-Ok.duties.items c.in-Ok.ensures c.args.store.now c.args.row.now
+    c.requires.sessions c.requires.size c.requires.room c.requires.workers c.requires.turns c.requires.commands)
+
+pub serve_row-requires-clause-once : goal.serve_row-requires-clause-once
+serve_row-requires-clause-once g c κs within =
+    subst OneExportsAtMost (sym c.as_mut_slice.ensures.value)
+    (export_once c.args.crew c.args.number c.args.round c.in-Ok.duties.items c.in-Ok.ensures c.requires.one)
 
 pub meet_all-requires-clause-sessions : goal.meet_all-requires-clause-sessions
 meet_all-requires-clause-sessions g c =
-    let cut = c.split_at_mut-sessions.ensures in
-    let front = c.split_at_mut-sessions.result.0.now in
-    let back = c.split_at_mut-sessions.result.1.now in
-    ended_sessions c.args.store.now c.args.number c.args.crew front back c.work_round-worked.new.row c.turn_all-turned.new.row c.args.row.now c.args.round
-    cut.front_len (omega (arith, cut.back_len, c.requires.size)) c.new.result.items c.work_round-worked.new.lines.text.items c.turn_all-turned.new.lines.text.items
-    (g.X.Sink.written c.args.outlet.now) (g.X.Sink.written c.work_round-worked.new.outlet)
-    c.work_round-worked.result c.turn_all-turned.result c.work_round-worked.ensures.whole c.work_round-worked.ensures.part
-    (subst (λ round. RowTurned c.args.store.now round c.args.crew.turns back c.turn_all-turned.new.row
-    c.work_round-worked.new.lines.text.items c.turn_all-turned.new.lines.text.items c.turn_all-turned.result) c.work_round-worked.ensures.round c.turn_all-turned.ensures.turned)
+    ended_sessions c.args.store.now c.args.crew c.args.number c.args.round c.args.row.now c.serve_row.new.row c.serve_row.new.row
+    c.in-Ok.duties.items c.serve_row.new.duties (g.X.Sink.written c.args.outlet.now) (g.X.Sink.written c.serve_row.new.outlet)
+    c.requires.size c.requires.some c.requires.numbers c.in-Ok.ensures
+    (subst (λ (before : List Duty). RowServed c.args.store.now c.args.row.now c.serve_row.new.row before c.serve_row.new.duties
+    (g.X.Sink.written c.args.outlet.now) (g.X.Sink.written c.serve_row.new.outlet)) c.as_mut_slice.ensures.value c.serve_row.ensures.served)
 
-pub meet_all-requires-clause-some : goal.meet_all-requires-clause-some
-meet_all-requires-clause-some g c =
-    let cut = c.split_at_mut-sessions.ensures in
-    let front = c.split_at_mut-sessions.result.0.now in
-    let back = c.split_at_mut-sessions.result.1.now in
-    let size = ended_size c.args.store.now c.args.number c.args.crew front back c.work_round-worked.new.row c.turn_all-turned.new.row c.args.row.now c.args.round
-    cut.front_len (omega (arith, cut.back_len, c.requires.size)) c.new.result.items c.work_round-worked.new.lines.text.items c.turn_all-turned.new.lines.text.items
-    (g.X.Sink.written c.args.outlet.now) (g.X.Sink.written c.work_round-worked.new.outlet)
-    c.work_round-worked.result c.turn_all-turned.result c.work_round-worked.ensures.whole c.work_round-worked.ensures.part
-    (subst (λ round. RowTurned c.args.store.now round c.args.crew.turns back c.turn_all-turned.new.row
-    c.work_round-worked.new.lines.text.items c.turn_all-turned.new.lines.text.items c.turn_all-turned.result) c.work_round-worked.ensures.round c.turn_all-turned.ensures.turned) in
-    omega (arith, size, cut.front_len, c.requires.some, length-append c.work_round-worked.new.row c.turn_all-turned.new.row)
+pub returns-in-Some-clause-part : goal.returns-in-Some-clause-part
+returns-in-Some-clause-part g c =
+    let served = subst (λ (before : List Duty). RowServed c.args.store.now c.args.row.now c.serve_row.new.row before c.serve_row.new.duties
+    (g.X.Sink.written c.args.outlet.now) (g.X.Sink.written c.serve_row.new.outlet)) c.as_mut_slice.ensures.value c.serve_row.ensures.served in
+    let after = written_over c.serve_row.new.duties c.in-Ok.duties.items c.in-Ok.duties.len (omega (arith, c.in-Ok.duties.ok.0, c.in-Ok.duties.ok.1)) served.duties in
+    ran_in_part c.args.store.now c.args.crew c.args.number c.args.round c.args.row.now c.serve_row.new.row c.meet_all.new.row
+    c.in-Ok.duties.items c.serve_row.new.duties (g.X.Sink.written c.args.outlet.now) (g.X.Sink.written c.serve_row.new.outlet)
+    c.requires.size c.requires.some c.requires.numbers c.in-Ok.ensures served c.meet_all.ensures c.in-Some.fault
+    (fault_is c.serve_row.new.duties c.in-Some.fault (ap fault_of (sym (c.as_slice.ensures.value ∙ after)) ∙ sym c.fault_of.ensures ∙ c.in-Some.is))
 
-pub returns-in-Ok-clause-whole : goal.returns-in-Ok-clause-whole
-returns-in-Ok-clause-whole g c =
-    let cut = c.split_at_mut-sessions.ensures in
-    let front = c.split_at_mut-sessions.result.0.now in
-    let back = c.split_at_mut-sessions.result.1.now in
-    subst (λ (row : List Session). RanRound c.args.store.now c.args.number c.args.crew row c.meet_all.new.row c.args.round c.turn_all-turned.new.lines.text.items
-    (g.X.Sink.written c.args.outlet.now) (g.X.Sink.written c.work_round-worked.new.outlet)) (sym cut.value)
-    (subst (λ r. OnOk r (RanRound c.args.store.now c.args.number c.args.crew (front ++ back) c.meet_all.new.row c.args.round c.turn_all-turned.new.lines.text.items
-    (g.X.Sink.written c.args.outlet.now) (g.X.Sink.written c.work_round-worked.new.outlet))) (sym c.and.ensures ∙ c.in-Ok.is)
-    (ran_whole c.args.store.now c.args.number c.args.crew front back c.work_round-worked.new.row c.turn_all-turned.new.row c.meet_all.new.row c.args.round
-    cut.front_len (omega (arith, cut.back_len, c.requires.size)) c.new.result.items c.work_round-worked.new.lines.text.items c.turn_all-turned.new.lines.text.items
-    (g.X.Sink.written c.args.outlet.now) (g.X.Sink.written c.work_round-worked.new.outlet)
-    c.work_round-worked.result c.turn_all-turned.result c.work_round-worked.ensures.whole c.work_round-worked.ensures.part
-    (subst (λ round. RowTurned c.args.store.now round c.args.crew.turns back c.turn_all-turned.new.row
-    c.work_round-worked.new.lines.text.items c.turn_all-turned.new.lines.text.items c.turn_all-turned.result) c.work_round-worked.ensures.round c.turn_all-turned.ensures.turned)
-    c.new.ensures.items c.meet_all.ensures))
+pub returns-in-Ok-text_of-clause-whole : goal.returns-in-Ok-text_of-clause-whole
+returns-in-Ok-text_of-clause-whole g c =
+    let served = subst (λ (before : List Duty). RowServed c.args.store.now c.args.row.now c.serve_row.new.row before c.serve_row.new.duties
+    (g.X.Sink.written c.args.outlet.now) (g.X.Sink.written c.serve_row.new.outlet)) c.as_mut_slice.ensures.value c.serve_row.ensures.served in
+    let after = written_over c.serve_row.new.duties c.in-Ok.duties.items c.in-Ok.duties.len (omega (arith, c.in-Ok.duties.ok.0, c.in-Ok.duties.ok.1)) served.duties in
+    subst (λ (text : List ℕ). RanRound c.args.store.now c.args.number c.args.crew c.args.row.now c.meet_all.new.row c.args.round text
+    (g.X.Sink.written c.args.outlet.now) (g.X.Sink.written c.serve_row.new.outlet)) (sym (c.in-Ok-text_of.ensures ∙ ap duties_text after))
+    (ran_round c.args.store.now c.args.crew c.args.number c.args.round c.args.row.now c.serve_row.new.row c.meet_all.new.row
+    c.in-Ok.duties.items c.serve_row.new.duties (g.X.Sink.written c.args.outlet.now) (g.X.Sink.written c.serve_row.new.outlet)
+    c.requires.size c.requires.some c.requires.numbers c.in-Ok.ensures served c.meet_all.ensures
+    (no_fault c.serve_row.new.duties (ap fault_of (sym (c.as_slice.ensures.value ∙ after)) ∙ sym c.fault_of.ensures ∙ c.in_default-fault_of.is)))
 
 pub returns-in-Err-clause-part : goal.returns-in-Err-clause-part
 returns-in-Err-clause-part g c =
-    let cut = c.split_at_mut-sessions.ensures in
-    let front = c.split_at_mut-sessions.result.0.now in
-    let back = c.split_at_mut-sessions.result.1.now in
-    subst (λ (row : List Session). RanInPart c.args.store.now c.args.crew row c.meet_all.new.row c.args.round c.in-Err.fault
-    (g.X.Sink.written c.args.outlet.now) (g.X.Sink.written c.work_round-worked.new.outlet)) (sym cut.value)
-    (subst (λ r. IfErr r (λ failed. RanInPart c.args.store.now c.args.crew (front ++ back) c.meet_all.new.row c.args.round failed
-    (g.X.Sink.written c.args.outlet.now) (g.X.Sink.written c.work_round-worked.new.outlet))) (sym c.and.ensures ∙ c.in-Err.is)
-    (ran_in_part c.args.store.now c.args.number c.args.crew front back c.work_round-worked.new.row c.turn_all-turned.new.row c.meet_all.new.row c.args.round
-    cut.front_len (omega (arith, cut.back_len, c.requires.size)) c.new.result.items c.work_round-worked.new.lines.text.items c.turn_all-turned.new.lines.text.items
-    (g.X.Sink.written c.args.outlet.now) (g.X.Sink.written c.work_round-worked.new.outlet)
-    c.work_round-worked.result c.turn_all-turned.result c.work_round-worked.ensures.whole c.work_round-worked.ensures.part
-    (subst (λ round. RowTurned c.args.store.now round c.args.crew.turns back c.turn_all-turned.new.row
-    c.work_round-worked.new.lines.text.items c.turn_all-turned.new.lines.text.items c.turn_all-turned.result) c.work_round-worked.ensures.round c.turn_all-turned.ensures.turned)
-    c.new.ensures.items c.meet_all.ensures c.turn_all-turned.ensures.memory))
+    let served = subst (λ (before : List Duty). RowServed c.args.store.now c.args.row.now c.serve_row.new.row before c.serve_row.new.duties
+    (g.X.Sink.written c.args.outlet.now) (g.X.Sink.written c.serve_row.new.outlet)) c.as_mut_slice.ensures.value c.serve_row.ensures.served in
+    let after = written_over c.serve_row.new.duties c.in-Ok.duties.items c.in-Ok.duties.len (omega (arith, c.in-Ok.duties.ok.0, c.in-Ok.duties.ok.1)) served.duties in
+    text_lost c.args.store.now c.args.crew c.args.number c.args.round c.args.row.now c.serve_row.new.row c.meet_all.new.row
+    c.in-Ok.duties.items c.serve_row.new.duties (g.X.Sink.written c.args.outlet.now) (g.X.Sink.written c.serve_row.new.outlet)
+    c.requires.size c.requires.some c.requires.numbers c.in-Ok.ensures served c.meet_all.ensures
+    (no_fault c.serve_row.new.duties (ap fault_of (sym (c.as_slice.ensures.value ∙ after)) ∙ sym c.fault_of.ensures ∙ c.in_default-fault_of.is))

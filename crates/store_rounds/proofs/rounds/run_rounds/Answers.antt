@@ -7,15 +7,16 @@ use Rattle.workload_spec.specs.Valid.{is_within}
 use Rattle.workload_spec.specs.declared.script.Line.{Line}
 use Rattle.store_workers.specs.Turns.{most_of_turn}
 use Rattle.store_rounds.specs.Answered.{most_events}
-use Rattle.store_rounds.specs.Rounds.{HaveRoomFor, RanInPart, RanRound}
+use Rattle.store_rounds.specs.Rounds.{HaveRoomFor, RanRound, RoundStops}
 use Rattle.store_rounds.specs.Runs.{RunsIn}
 use Rattle.store_rounds.specs.Workloads.{GoesPart}
 use Rattle.store_rounds.specs.declared.crew.Crew.{Crew}
 use Rattle.store_rounds.proofs.Faults.{handed_on}
-use Rattle.store_rounds.proofs.Scripts.{few_workers}
+use Rattle.store_rounds.proofs.Scripts.{few_sessions, few_workers}
 use Rattle.store_rounds.proofs.Turns.{none_left}
 use Rattle.store_rounds.proofs.Short.{few_lines, few_rounds}
-use Rattle.store_rounds.proofs.Running.{number_fits, round_has_room, round_served, round_within, running_begins, running_ends, running_goes_on, running_is_cut_off, running_stops}
+use Rattle.store_rounds.proofs.Running.{number_fits, round_has_room, round_once, round_served, round_within, running_begins, running_ends, running_goes_on, running_is_cut_off}
+use Rattle.store_rounds.proofs.Stopping.{running_stops}
 use Rattle.store_rounds.proofs.rounds.run_rounds.Goals as goal
 
 pub loop-round-init : goal.loop-round-init
@@ -43,6 +44,16 @@ run_round-requires-clause-some g c κs within =
 pub run_round-requires-clause-workers : goal.run_round-requires-clause-workers
 run_round-requires-clause-workers g c κs within =
     subst (λ (crew : Crew). crew.workers ≤ 16) (sym c.requires.crew) (few_workers c.args.script.now.value c.requires.valid)
+
+pub run_round-requires-clause-few : goal.run_round-requires-clause-few
+run_round-requires-clause-few g c κs within =
+    subst (λ (crew : Crew). crew.sessions ≤ 64) (sym c.requires.crew) (few_sessions c.args.script.now.value c.requires.valid)
+
+pub run_round-requires-clause-one : goal.run_round-requires-clause-one
+run_round-requires-clause-one g c κs within =
+    round_once c.args.script.now.value c.loop-round.yielded (into_iter_items c.next.new.self) c.in-Some.round
+    (ap (λ (rounds : List (List Line)). c.loop-round.yielded ++ rounds) (sym c.in-Some.ensures.steps.0) ∙ c.loop-round.invariant.split)
+    c.requires.valid
 
 pub run_round-requires-clause-turns : goal.run_round-requires-clause-turns
 run_round-requires-clause-turns g c κs within =
@@ -109,9 +120,9 @@ returns-in_err-text-clause-part g c =
     (running_stops c.args.script.now.value c.args.store.now c.loop-round.row c.run_round.new.row c.loop-round.yielded (into_iter_items c.next.new.self)
     _ _ _ (g.X.Sink.written c.loop-round.outlet) (g.X.Sink.written c.run_round.new.outlet) c.loop-round.number c.in-Some.round c.requires.valid
     (ap (λ (rounds : List (List Line)). c.loop-round.yielded ++ rounds) (sym c.in-Some.ensures.steps.0) ∙ c.loop-round.invariant.split)
-    c.loop-round.invariant.running c.in_err-text.field-0.0 c.in_err-text.ensures.printed
-    (subst (λ (crew : Crew). RanInPart c.args.store.now crew c.loop-round.row c.run_round.new.row c.in-Some.round c.in_err-text.field-0.0
-    (g.X.Sink.written c.loop-round.outlet) (g.X.Sink.written c.run_round.new.outlet)) c.requires.crew c.in_err-text.ensures.part))
+    c.loop-round.invariant.running c.in_err-text.field-0.0
+    (subst (λ (crew : Crew). RoundStops c.args.store.now crew c.loop-round.row c.run_round.new.row c.in-Some.round
+    (g.X.Sink.written c.loop-round.outlet) (g.X.Sink.written c.run_round.new.outlet) c.in_err-text.field-0.0) c.requires.crew c.in_err-text.ensures.part))
 
 pub returns-in-Err-clause-part : goal.returns-in-Err-clause-part
 returns-in-Err-clause-part g c =
