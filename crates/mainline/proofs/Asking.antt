@@ -8,7 +8,7 @@ use Rattle.clap.specs.declared.parser.matches.SubCommand.{SubCommand}
 use Rattle.clap.specs.declared.error.Error.{Error}
 use Rattle.clap.specs.declared.error.kind.ErrorKind.{ErrorKind}
 use Rattle.clap.specs.declared.error.kind.ErrorKind.TheVariants as kind
-use Rattle.mainline.specs.Words.{Asked, ToRun, ToShow, ToCheck, ToBench, asked_by, asked_of, command_asks, mainline_app, unless_faulty}
+use Rattle.mainline.specs.Words.{Asked, ToRun, ToShow, ToCheck, ToBench, asked_by, asked_of, bench_asks, command_asks, mainline_app, unless_faulty}
 
 -- the command is one whose meaning `clap` tells
 pub mainline_is_free : is_simple_and_free mainline_app ≡ true
@@ -66,4 +66,4 @@ run_asked name rows value is same =
     ∙ ap (λ (b : Bool). if b then Some (ToRun (first_of (codes "export") rows))
     else (if bytes_eq name (codes "show") then Some ToShow
     else (if bytes_eq name (codes "check") then Some ToCheck
-    else (if bytes_eq name (codes "bench") then Some ToBench else None)))) (sym is)
+    else (if bytes_eq name (codes "bench") then bench_asks rows else None)))) (sym is)

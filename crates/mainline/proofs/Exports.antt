@@ -4,7 +4,7 @@ use Rattle.std.specs.List.{flat_map, list_any}
 use Rattle.std.proofs.lemmas.List.Folds.{list_any-append}
 use Rattle.export_spec.specs.Sent.{has_export}
 use Rattle.round_laws.specs.Fronts.{AreFirstLines, lines_of}
-use Rattle.store_rounds.specs.Workloads.{EndAtExport}
+use Rattle.store_rounds.specs.Workloads.{LinesEndAtExport}
 use Rattle.workload_spec.specs.Valid.{is_export}
 use Rattle.workload_spec.specs.declared.script.Line.{Line}
 use Rattle.workload_spec.specs.declared.script.Script.{Script}
@@ -51,13 +51,13 @@ session_exports session (line ∷ lines) any =
     kept_export (line.session == session) line (lines_of session lines) lines (session_exports session lines) any
 
 -- the first lines of a round end at an export: the workload has one
-pub export_asked : (script : Script) (whole rest : List (List Line)) (round lines : List Line) → script.rounds ≡ whole ++ round ∷ rest
-    → AreFirstLines lines round → EndAtExport lines → has_export script ≡ true
-export_asked script whole rest round lines split first ends =
+pub export_asked : (script : Script) (whole rest : List (List Line)) (round lines : List Line) (session : ℕ) → script.rounds ≡ whole ++ round ∷ rest
+    → AreFirstLines lines round → LinesEndAtExport lines session → has_export script ≡ true
+export_asked script whole rest round lines session split first ends =
     let last = or_left (exports ends.last) false ends.asked in
     let own = ap (list_any exports) ends.lines_are ∙ any_behind exports ends.front (ends.last ∷ []) last in
-    let behind = first ends.session in
-    let session = ap (list_any exports) behind.1 ∙ any_in_front exports (lines_of ends.session lines) behind.0 own in
-    let here = or_left (list_any exports round) (list_any (λ (ls : List Line). list_any exports ls) rest) (session_exports ends.session round session) in
+    let behind = first session in
+    let all = ap (list_any exports) behind.1 ∙ any_in_front exports (lines_of session lines) behind.0 own in
+    let here = or_left (list_any exports round) (list_any (λ (ls : List Line). list_any exports ls) rest) (session_exports session round all) in
     sym (rounds_export script.rounds) ∙ ap (list_any (λ (ls : List Line). list_any exports ls)) split
     ∙ any_behind (λ (ls : List Line). list_any exports ls) whole (round ∷ rest) here

@@ -1,4 +1,6 @@
 pub mod Asking
+pub mod Numbers
+pub mod Benched
 pub mod Exports
 pub mod Scripts
 pub mod Played

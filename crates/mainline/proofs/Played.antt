@@ -36,7 +36,7 @@ cut_told Goes Told script before now told goes = record {
   printed = goes.printed;
 }
 
-to_told : (Goes Told : OfRounds) (script : Script) (lines : List Line) (before now : Option (List ℕ)) → TellsBy Goes Told → GoesTo Goes script lines before now → GoesTo Told script lines before now
+abbrev to_told : (Goes Told : OfRounds) (script : Script) (lines : List Line) (before now : Option (List ℕ)) → TellsBy Goes Told → GoesTo Goes script lines before now → GoesTo Told script lines before now
 to_told Goes Told script lines before now told goes = record {
   whole = goes.whole;
   round = goes.round;
@@ -65,13 +65,17 @@ stopped_told Goes Told script before now told (inl goes) = inl (record {
 stopped_told Goes Told script before now told (inr goes) = inr (record {
   lines = goes.lines;
   to = to_told Goes Told script goes.lines before now told goes.to;
+  whole = goes.whole;
 })
 
 export_told : (Goes Told : OfRounds) (script : Script) (before now : Option (List ℕ)) → TellsBy Goes Told → GoesToExport Goes script before now → GoesToExport Told script before now
 export_told Goes Told script before now told goes = record {
   lines = goes.lines;
-  last = goes.last;
   to = to_told Goes Told script goes.lines before now told goes.to;
+  session = goes.session;
+  last = goes.last;
+  told = goes.told;
+  others = goes.others;
 }
 
 -- rounds that went so ran, where what they sent is delivered
@@ -98,7 +102,7 @@ play_ends Goes path script status.Memory before now told named ends =
     stopped_told Goes (RanRounds path script before now) script before.printed now.printed told ends
 play_ends Goes path script status.ExportFault before now told named ends = record {
   named = named refl;
-  asked = export_asked script ends.to.whole ends.to.rest ends.to.round ends.lines ends.to.rounds ends.to.first ends.last;
+  asked = export_asked script ends.to.whole ends.to.rest ends.to.round ends.lines ends.session ends.to.rounds ends.to.first ends.last;
   failed = inr (export_told Goes (RanRounds path script before now) script before.printed now.printed told ends);
 }
 play_ends Goes path script _ before now told named ends = absurd ends

@@ -1,3 +1,4 @@
+pub mod Bench
 pub mod Verdict
 pub mod Words
 pub mod Codes

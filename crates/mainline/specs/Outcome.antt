@@ -16,6 +16,9 @@ use Rattle.run_spec.specs.Occurrences.{Logged}
 use Rattle.run_spec.specs.Ran.{Ran}
 use Rattle.round_laws.specs.Fronts.{with_rounds}
 use Rattle.store_rounds.specs.Workloads.{GoesCutOff, GoesStopped, GoesToExport, GoesWhole}
+use Rattle.bench_spec.specs.Counted.{counts_text}
+use Rattle.bench_spec.specs.declared.counts.Counts.{Counts}
+use Rattle.mainline.specs.Bench.{RanGenerated}
 use Rattle.mainline.specs.Words.{Asked, ToRun, ToShow, ToCheck, ToBench, usage_line}
 use Rattle.mainline.specs.declared.status.Status.{Status}
 use Rattle.mainline.specs.declared.status.Status.TheVariants as status
@@ -246,6 +249,32 @@ CheckEnds status.NotAStream before now = ⊥
 CheckEnds status.TooLong before now =
     ConsumesAtLeast before.left now.left (2 ^ 32) × IsSilent before now
 
+-- ---- a generated workload
+
+-- The workload that the seed and the size generate ran, and what was counted of its replies is
+-- printed. Nothing is read, and its export is dropped.
+pub record IsBenched
+    (Prints : Option (List ℕ) → Option (List ℕ) → List ℕ → Type 0) (seed size : ℕ) (before now : Outside)
+    : Type 0 where
+  pub left : now.left ≡ before.left
+  pub counts : Counts
+  pub ran : RanGenerated seed size counts
+  pub printed : Prints before.printed now.printed (counts_text counts)
+  pub outlet : LeavesOutlet before now
+
+-- How the program ends where the words ask for a generated workload. Where one of its replies was
+-- refused memory nothing is printed, and the status is Memory.
+abbrev pub BenchEnds : ℕ → ℕ → Status → Outside → Outside → Type 0
+BenchEnds seed size status.Done before now = IsBenched Appends seed size before now
+BenchEnds seed size status.Usage before now = ⊥
+BenchEnds seed size status.Refused before now = ⊥
+BenchEnds seed size status.ReadFault before now = ⊥
+BenchEnds seed size status.OutFault before now = IsBenched AppendsFront seed size before now
+BenchEnds seed size status.ExportFault before now = ⊥
+BenchEnds seed size status.Memory before now = now ≡ before
+BenchEnds seed size status.NotAStream before now = ⊥
+BenchEnds seed size status.TooLong before now = ⊥
+
 -- How the program ends where the words ask for nothing that runs. Before they are judged there may
 -- be no memory.
 abbrev pub UsageEnds : Status → Outside → Outside → Type 0
@@ -259,13 +288,13 @@ UsageEnds status.Memory before now = now ≡ before
 UsageEnds status.NotAStream before now = ⊥
 UsageEnds status.TooLong before now = ⊥
 
--- How the program ends, by what the words ask for. No workload is generated yet.
+-- How the program ends, by what the words ask for.
 abbrev pub Ends : Option Asked → Status → Outside → Outside → Type 0
 Ends None ended before now = UsageEnds ended before now
 Ends (Some (ToRun path)) ended before now = RunEnds path ended before now
 Ends (Some ToShow) ended before now = ShowEnds ended before now
 Ends (Some ToCheck) ended before now = CheckEnds ended before now
-Ends (Some ToBench) ended before now = UsageEnds ended before now
+Ends (Some (ToBench seed size)) ended before now = BenchEnds seed size ended before now
 
 -- A run ends with this status only where a count of faults rose, and with any other the count is as
 -- before.

@@ -2,7 +2,9 @@
 //! prints the replies, and writes the export as an Arrow stream to the path.
 #![tactic(auto)]
 
+mod benching;
 mod checking;
+mod output;
 mod perform;
 mod status;
 #[cfg(test)]

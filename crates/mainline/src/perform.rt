@@ -13,6 +13,7 @@ ghost use Rattle.mainline.specs.Outcome.{Ends, RunEnds, ScriptEnds, ShowEnds, Us
 ghost use Rattle.mainline.specs.Played.{RefusalEnds, PlayEnds};
 ghost use Rattle.mainline.specs.Words.{asked_by};
 
+use crate::benching::bench;
 use crate::checking::check;
 use crate::status::Status;
 use crate::words::{WordsFault, Work, work_of};
@@ -24,9 +25,9 @@ use script_text::{ScriptFault, parse};
 use std::alloc::{AllocError, Global};
 use std::sync::Wait;
 use std::thread::Threads;
-use store_rounds::{RunFault, run_workload};
+use store_rounds::{RunFault, is_export, run_workload};
 use stream_spec::StreamFault;
-use workload_spec::{Command, Extent, Round, Script};
+use workload_spec::{Extent, Round, Script};
 
 /// As many bytes of input, or more, are too long.
 pub(crate) const MOST_BYTES: usize = 1 << 32;
@@ -37,7 +38,9 @@ const USAGE: &[u8] = b"usage: mainline run [--export PATH] | show | check | benc
 /// end; the replies go to `out`, and the export to the outlet, which is started with the words'
 /// path. Without a path the export is dropped. Or they ask for a stream to be shown, which is read
 /// from the source to its end; its rows go to `out`. Or they ask for an output to be checked, which
-/// stands behind its workload in the source; whether it is explained goes to `out`.
+/// stands behind its workload in the source; whether it is explained goes to `out`. Or they ask for
+/// a generated workload, whose replies are counted; the counts go to `out`, and its export is
+/// dropped.
 ///
 /// The words are judged first, then the reading of the input, its grammar, the start of the outlet
 /// and the rounds. Where the line that tells of a fault can't be printed, the status is `OutFault`.
@@ -61,7 +64,8 @@ pub fn perform<R: Wait + Threads + Sync, S: Source, O: Sink, X: Outlet + Send, G
         Ok(Work::Run(path)) => run(rt, alloc, path, source, out, export, gate),
         Ok(Work::Show) => show(alloc, source, out),
         Ok(Work::Check) => check(alloc, source, out),
-        Ok(Work::Bench) | Err(WordsFault::Usage) => tell_usage(out),
+        Ok(Work::Bench { seed, size }) => bench(rt, alloc, seed, size, out, gate),
+        Err(WordsFault::Usage) => tell_usage(out),
         Err(WordsFault::Memory) => Status::Memory,
     }
 }
@@ -117,7 +121,7 @@ fn shown_status(fault: &Option<StreamFault>) -> Status
 }
 
 /// Runs the workload that is read from the source to its end.
-fn run<R: Wait + Threads + Sync, S: Source, O: Sink, X: Outlet, G: Gate>(
+fn run<R: Wait + Threads + Sync, S: Source, O: Sink, X: Outlet, G: Gate + Sync>(
     rt: &R,
     alloc: Global,
     path: Option<&str>,
@@ -177,7 +181,7 @@ pub(crate) fn refuse<O: Sink>(alloc: Global, fault: ScriptFault, out: &mut O) ->
 /// Runs a workload: its replies go to `out`, its export to the outlet,
 /// which is started with the path where the workload has an export. Without a path the export is
 /// dropped, and the outlet left alone.
-fn run_script<R: Wait + Threads + Sync, O: Sink, X: Outlet, G: Gate>(
+fn run_script<R: Wait + Threads + Sync, O: Sink, X: Outlet, G: Gate + Sync>(
     rt: &R,
     alloc: Global,
     script: Script,
@@ -204,7 +208,7 @@ fn run_script<R: Wait + Threads + Sync, O: Sink, X: Outlet, G: Gate>(
 }
 
 /// Runs the rounds of a workload, and prints their text. The export goes to the sink.
-fn play<R: Wait + Threads + Sync, O: Sink, X: Outlet, G: Gate>(
+fn play<R: Wait + Threads + Sync, O: Sink, X: Outlet, G: Gate + Sync>(
     rt: &R,
     alloc: Global,
     script: Script,
@@ -263,13 +267,4 @@ fn exports(round: &Round) -> bool
     ensures { result ≡ list_any (λ line. is_export line.command) round.now }
 {
     round.as_slice().iter().any(|line| is_export(&line.command))
-}
-
-fn is_export(command: &Command) -> bool
-    ensures { result ≡ is_export command.now }
-{
-    match command {
-        Command::Export { table: _ } => true,
-        _ => false,
-    }
 }

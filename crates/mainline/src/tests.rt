@@ -1,4 +1,5 @@
 //! Whole runs: what the words and the input give.
+mod benched;
 mod checked;
 mod kept;
 mod ran;
@@ -222,7 +223,7 @@ const FAULTS: [Fault; 16] = [
         exported: 0,
     },
     Fault {
-        words: &["mainline", "bench", "1", "4096"],
+        words: &["mainline", "bench", "1", "4097"],
         commands: EXPORT,
         failing: NOTHING_FAILS,
         status: Status::Usage,
@@ -612,23 +613,24 @@ const COMMANDS: u32 = 8;
 
 const FIRST_WORKER: u32 = 65;
 
-// Holds how often it was passed, while session 1 passes with 1, 2 and so on, and behind all its
-// commands the first worker with 1, 2 and so on.
+// Holds how often session 1 passed it, while it passes with 1, 2 and so on, and how often the first
+// worker did, at the same time.
 #[derive(Drop)]
 struct CountingGate<'a> {
     passed: &'a AtomicU32,
+    turned: &'a AtomicU32,
 }
 
 impl<'a> Gate for CountingGate<'a> {
     fn pass<R: Wait>(&self, _rt: &R, session: u32, index: u32) {
-        let next = self.passed.load(Ordering::Relaxed).wrapping_add(1);
-        let in_order = if next <= COMMANDS {
-            session == 1 && index == next
+        let passed = if session == FIRST_WORKER {
+            self.turned
         } else {
-            session == FIRST_WORKER && index == next.wrapping_sub(COMMANDS)
+            self.passed
         };
-        self.passed
-            .store(if in_order { next } else { u32::MAX }, Ordering::Relaxed);
+        let next = passed.load(Ordering::Relaxed).wrapping_add(1);
+        let in_order = (session == 1 || session == FIRST_WORKER) && index == next;
+        passed.store(if in_order { next } else { u32::MAX }, Ordering::Relaxed);
     }
 }
 
@@ -672,18 +674,23 @@ fn the_gate_is_passed_before_each_command_and_turn(rt: HostRuntime) -> Result<()
     let mut source = ListSource::new(alloc, input.as_bytes(), &[])?;
     let mut out = ListSink::new(alloc, &[])?;
     let passed = AtomicU32::new(0);
+    let turned = AtomicU32::new(0);
     let mut outlet = WatchingOutlet {
         passed: &passed,
         at_start: None,
         at_write: None,
     };
     let words = owned(alloc, &RUN)?;
-    let gate = CountingGate { passed: &passed };
+    let gate = CountingGate {
+        passed: &passed,
+        turned: &turned,
+    };
     let status = perform(&rt, alloc, words, &mut source, &mut out, &mut outlet, &gate);
     assert_eq!(rt; status, Status::Done);
     assert_eq!(rt; outlet.at_start, Some(0));
     assert_eq!(rt; outlet.at_write, Some(7));
-    assert_eq!(rt; passed.load(Ordering::Relaxed), COMMANDS + 2);
+    assert_eq!(rt; passed.load(Ordering::Relaxed), COMMANDS);
+    assert_eq!(rt; turned.load(Ordering::Relaxed), 2);
     Ok(())
 }
 

@@ -1,12 +1,15 @@
 //! The words of the command line.
-ghost use Rattle.std.specs.Prelude.{◌≡◌, ◌≢◌, None, IsErrOf, IfOk, Some, false, map, option_map, string_bytes};
+ghost use Rattle.std.specs.Prelude.{◌≡◌, ◌≢◌, ◌≤◌, None, IsErrOf, IfOk, IfSome, Some, false, map, option_map, string_bytes};
 ghost use Rattle.clap.specs.Words.{app_of, found_of, kind_of, rows_of};
 ghost use Rattle.clap.specs.declared.builder.command.Command.TheViews.{out-Command};
-ghost use Rattle.mainline.specs.Words.{asked_by, bench_app, command_asks, mainline_app, meaning, run_app};
+ghost use Rattle.mainline.specs.Words.{IsSized, asked_by, bench_app, bench_asks, command_asks, mainline_app, meaning, number_at, number_in, run_app};
 
 use clap::error::ErrorKind;
 use clap::{Arg, ArgMatches, Command, Error};
 use std::alloc::{AllocError, Global};
+
+/// The most rounds of writes of a generated workload.
+const MOST_SIZE: u64 = 4096;
 
 /// What the words ask for.
 #[derive(Clone, Copy)]
@@ -17,8 +20,8 @@ pub enum Work<'a> {
     Show,
     /// To check an output of a workload.
     Check,
-    /// To run a generated workload.
-    Bench,
+    /// To run the workload that a seed and a size generate.
+    Bench { seed: u64, size: u32 },
 }
 
 /// Why the words are not judged to ask for some work.
@@ -33,6 +36,7 @@ pub enum WordsFault {
 /// What the words ask for: the program's name, and then what its command takes.
 pub fn work_of<'a>(alloc: Global, words: &'a [String]) -> Result<Work<'a>, WordsFault>
     ensures ok { IfOk result (λ work. asked_by (map string_bytes words.entry.now) ≡ Some (meaning work)) }
+    ensures sized { IfOk result IsSized }
     ensures usage { IsErrOf result WordsFault.Usage → asked_by (map string_bytes words.entry.now) ≡ None }
 {
     let Ok(command) = command(alloc) else {
@@ -61,7 +65,8 @@ fn words_fault(fault: &Error) -> WordsFault
 
 /// What the subcommand of this name asks for.
 fn named<'a>(name: &str, matches: &ArgMatches<'a>) -> Option<Work<'a>>
-    ensures { option_map meaning result ≡ command_asks name.now (rows_of (found_of matches.now)) }
+    ensures asked { option_map meaning result ≡ command_asks name.now (rows_of (found_of matches.now)) }
+    ensures sized { IfSome result IsSized }
 {
     if name == "run" {
         Some(Work::Run(matches.get_str("export")))
@@ -70,9 +75,44 @@ fn named<'a>(name: &str, matches: &ArgMatches<'a>) -> Option<Work<'a>>
     } else if name == "check" {
         Some(Work::Check)
     } else if name == "bench" {
-        Some(Work::Bench)
+        bench_of(matches)
     } else {
         None
+    }
+}
+
+/// The seed and the size that the words give.
+fn bench_of<'a>(matches: &ArgMatches<'a>) -> Option<Work<'a>>
+    ensures asked { option_map meaning result ≡ bench_asks (rows_of (found_of matches.now)) }
+    ensures sized { IfSome result IsSized }
+{
+    let seed = number_at(matches, "seed", 0, u64::MAX)?;
+    let size = number_at(matches, "size", 1, MOST_SIZE)?;
+    Some(Work::Bench {
+        seed,
+        size: size as u32,
+    })
+}
+
+/// The number that the first word under a name gives, where it lies between these two.
+fn number_at(matches: &ArgMatches<'_>, name: &str, low: u64, high: u64) -> Option<u64>
+    ensures number { result ≡ number_at name.now low high (rows_of (found_of matches.now)) }
+    ensures most { IfSome result (λ number. number ≤ high) }
+{
+    match matches.get_str(name) {
+        Some(word) => number_in(word, low, high),
+        None => None,
+    }
+}
+
+/// The number that a word gives, where it lies between these two.
+fn number_in(word: &str, low: u64, high: u64) -> Option<u64>
+    ensures number { result ≡ number_in low high word.now }
+    ensures most { IfSome result (λ number. number ≤ high) }
+{
+    match word.parse::<u64>() {
+        Ok(number) if low <= number && number <= high => Some(number),
+        _ => None,
     }
 }
 

@@ -122,18 +122,18 @@ const CASES: [Case; 25] = [
             3 1 1 committed 1\n4 2 1 conflict #1\n",
     },
     Case {
-        name: "two sessions of a round insert one key",
+        name: "two sessions insert one key",
         head: TWO_BLOCKS,
-        commands: "1 begin\n1 insert a 1 \"x\"\n2 begin\n2 insert a 1 \"y\"\n",
-        printed: "1 1 1 at 0\n1 1 2 ok\n1 2 1 at 0\n1 2 2 conflict session 1\n",
+        commands: "1 begin\n1 insert a 1 \"x\"\n--\n2 begin\n2 insert a 1 \"y\"\n",
+        printed: "1 1 1 at 0\n1 1 2 ok\n2 2 1 at 0\n2 2 2 conflict session 1\n",
     },
     Case {
-        name: "a later commit and one beside it",
+        name: "a later commit, and one behind the refusal",
         head: "store 1\ntable a key:i64 slots 8 blocks 2\nsessions 3\nworkers 0 0\ngo\n",
-        commands: "1 begin\n--\n2 begin\n2 insert a 1\n2 commit\n--\n2 begin\n2 update a 1\n\
-            2 commit\n1 update a 1\n",
+        commands: "1 begin\n--\n2 begin\n2 insert a 1\n2 commit\n--\n1 update a 1\n--\n\
+            2 begin\n2 update a 1\n2 commit\n",
         printed: "1 1 1 at 0\n2 2 1 at 0\n2 2 2 ok\n2 2 3 committed 1\n3 1 1 conflict #1\n\
-            3 2 1 at 1\n3 2 2 ok\n3 2 3 committed 2\n",
+            4 2 1 at 1\n4 2 2 ok\n4 2 3 committed 2\n",
     },
     Case {
         name: "a transaction goes over rounds",

@@ -4,8 +4,8 @@ use Rattle.clap.proofs.WalkLemmas.{first_value-rows}
 use Rattle.mainline.proofs.Asking.{run_asked}
 use Rattle.mainline.proofs.words.named.Goals as goal
 
-pub returns-then-eq : goal.returns-then-eq
-returns-then-eq c =
+pub returns-then-eq-clause-asked : goal.returns-then-eq-clause-asked
+returns-then-eq-clause-asked c =
     let is_run : bytes_eq c.args.name.now (codes "run") ≡ true = search rules in
     let read : option_map (λ p. p.now) c.get_str.result ≡ first_value (found_of c.args.matches.now) (codes "export") = search rules in
     run_asked c.args.name.now (rows_of (found_of c.args.matches.now)) (option_map (λ p. p.now) c.get_str.result) is_run

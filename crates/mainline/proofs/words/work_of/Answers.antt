@@ -13,7 +13,7 @@ returns-in-Some-named-clause-ok c =
     ∙ (c.in-Ok-try_get_matches_from.ensures.matches (ap is_simple c.in-Ok.ensures ∙ mainline_is_simple)).1 in
     taken_ask (app_of c.in-Ok.command) words c.try_get_matches_from.result c.in-Ok-try_get_matches_from.matches (Some (c.in-Some.name.now, rows))
     c.in-Ok.ensures c.try_get_matches_from.ensures.kinds c.in-Ok-try_get_matches_from.is named
-    ∙ sym c.in-Some-named.ensures
+    ∙ sym c.in-Some-named.ensures.asked
 
 pub returns-in-Some-clause-usage : goal.returns-in-Some-clause-usage
 returns-in-Some-clause-usage c = λ _.
@@ -24,7 +24,7 @@ returns-in-Some-clause-usage c = λ _.
     ∙ (c.in-Ok-try_get_matches_from.ensures.matches (ap is_simple c.in-Ok.ensures ∙ mainline_is_simple)).1 in
     taken_ask (app_of c.in-Ok.command) words c.try_get_matches_from.result c.in-Ok-try_get_matches_from.matches (Some (c.in-Some.name.now, rows))
     c.in-Ok.ensures c.try_get_matches_from.ensures.kinds c.in-Ok-try_get_matches_from.is named
-    ∙ sym c.in-None-named.ensures
+    ∙ sym c.in-None-named.ensures.asked
 
 pub returns-clause-usage : goal.returns-clause-usage
 returns-clause-usage c = λ is.

@@ -1,0 +1,39 @@
+-- The columns of the table are named.
+use Rattle.std.proofs.Common.{ℕ, ◌<◌, ◌≤◌, List, [], ◌∷◌, length, zero, suc, codes, arith}
+use Rattle.std.specs.Prelude.{slice_index, true, false}
+use Rattle.std.specs.Str.{IsAscii}
+use Rattle.std.proofs.lemmas.List.Elements.{All-nil, All-cons}
+use Rattle.std.proofs.lemmas.Str.{IsUtf8-from_ascii}
+use Rattle.cell_model.specs.declared.column.Column.{Column}
+use Rattle.cell_model.specs.declared.kind.Kind.TheVariants.{I64, Utf8}
+use Rattle.cell_model.specs.Schemas.{AreNamed, IsName}
+use Rattle.bench_spec.specs.Generated.{bench_columns}
+
+no_bytes : IsAscii []
+no_bytes = λ i. omega arith
+
+pub one_more : (b : ℕ) (bs : List ℕ) → b < 128 → IsAscii bs → IsAscii (b ∷ bs)
+one_more b bs small rest = λ i. by i
+  where
+    by : (i : ℕ) → slice_index (b ∷ bs) i < 128
+    by zero = small
+    by (suc i) = rest i
+
+named : (column : Column) → IsAscii column.name → length column.name ≤ 100 → IsName column
+named column ascii few = (IsUtf8-from_ascii column.name ascii, omega (arith, few))
+
+abbrev pub key : Column
+key = record { name = codes "key"; kind = I64; nullable = false }
+
+abbrev pub number : Column
+number = record { name = codes "n"; kind = I64; nullable = false }
+
+abbrev pub text : Column
+text = record { name = codes "t"; kind = Utf8; nullable = true }
+
+pub columns_named : AreNamed bench_columns
+columns_named = record {
+  each = All-cons IsName key (number ∷ text ∷ []) (named key (one_more 107 (101 ∷ 121 ∷ []) (omega arith) (one_more 101 (121 ∷ []) (omega arith) (one_more 121 [] (omega arith) no_bytes))) (omega arith))
+      (All-cons IsName number (text ∷ []) (named number (one_more 110 [] (omega arith) no_bytes) (omega arith))
+      (All-cons IsName text [] (named text (one_more 116 [] (omega arith) no_bytes) (omega arith)) (All-nil IsName)));
+}

@@ -1,0 +1,5 @@
+use Rattle.bench_script.proofs.Fine.{generated_valid}
+use Rattle.bench_script.proofs.laws.what_is_generated_is_a_workload.Goals as goal
+
+pub returns : goal.returns
+returns c = generated_valid

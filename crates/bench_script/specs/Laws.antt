@@ -1,0 +1,23 @@
+-- What holds of every generated workload.
+use Rattle.std.specs.Prelude.{◌≡◌, ◌<◌, ◌≤◌, ◌^◌, ℕ, true, length, Ok}
+use Rattle.workload_spec.specs.Extents.{whole}
+use Rattle.workload_spec.specs.Grammar.{read_with}
+use Rattle.workload_spec.specs.ScriptText.{script_text}
+use Rattle.workload_spec.specs.Valid.{is_valid}
+use Rattle.bench_spec.specs.Generated.{generated}
+
+-- the most rounds of writes
+abbrev pub most_size : ℕ
+most_size = 4096
+
+-- What is generated is a workload.
+abbrev pub GeneratesWorkloads : Type 0
+GeneratesWorkloads = (seed size : ℕ) → size ≤ most_size → is_valid (generated seed size) ≡ true
+
+-- Its text is read as it.
+abbrev pub TextsAreRead : Type 0
+TextsAreRead = (seed size : ℕ) → size ≤ most_size → read_with whole (script_text (generated seed size)) ≡ Ok (generated seed size)
+
+-- Its text is short.
+abbrev pub TextsAreShort : Type 0
+TextsAreShort = (seed size : ℕ) → size ≤ most_size → length (script_text (generated seed size)) < 2 ^ 32
