@@ -1,4 +1,4 @@
-// Rows, column by column, as a record batch.
+//! Rows, column by column, as a record batch (Arrow columnar format, "RecordBatch message").
 ghost use Rattle.std.specs.Prelude.{◌≡◌, ◌≤◌, ◌↔◌, ◌<◌, ◌^◌, ◌++◌, All, IfOk, IsTrue, OnOk, length, ◌==◌, if◌then◌else◌};
 ghost use Rattle.arrow_spec.specs.Arrays.{column_buffers, data_buffers, layout_of, null_count, validity};
 ghost use Rattle.arrow_spec.specs.Batches.{arrays_of, column_cells};

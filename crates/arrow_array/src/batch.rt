@@ -1,3 +1,4 @@
+//! A record batch and its columns: what is built of rows, and what a stream is written from.
 ghost use Rattle.std.specs.Prelude.{◌≡◌};
 ghost use Rattle.arrow_array.specs.Batches.{AreFew};
 

@@ -1,4 +1,5 @@
-// The cells of a column, row by row.
+//! The cells of a column, row by row, as its buffers need them: a null, or a row without the cell,
+//! counts as zero or as no bytes.
 ghost use Rattle.std.specs.Prelude.{◌≡◌, ◌≤◌, ◌^◌, count_by, length, option_copied, unwrap_or};
 ghost use Rattle.arrow_spec.specs.Arrays.{number_of, truth_of, value_of};
 ghost use Rattle.cell_model.specs.Values.{is_null};

@@ -1,4 +1,4 @@
-// Numbers, the lowest byte first (Arrow columnar format, "Byte Order (Endianness)").
+//! Numbers as bytes, the lowest byte first (Arrow columnar format, "Byte Order (Endianness)").
 ghost use Rattle.std.specs.Prelude.{◌≡◌, ◌++◌, OnOk, true};
 ghost use Rattle.std.specs.Int.{w16, w32, w64, to_le_bytes};
 ghost use Rattle.cell_model.specs.Values.{is_integer_of};

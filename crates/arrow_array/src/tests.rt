@@ -1,3 +1,5 @@
+//! Tests of the building of a batch: two rows of numbers, truth values and bytes, with nulls, and
+//! the lengths of their buffers.
 use crate::{all_fit, build};
 use cell_model::{Bytes, Cell, Column, Kind, Row, Schema, are_named};
 use std::alloc::Global;

@@ -1,4 +1,4 @@
-// The data of a column: its numbers, or its texts and bytes with their offsets.
+//! The data of a column: its numbers, or its texts and bytes with their offsets.
 ghost use Rattle.std.specs.Prelude.{◌≡◌, ◌<◌, ◌≤◌, ◌^◌, All, IfOk, length, true, flat_map};
 ghost use Rattle.std.specs.Int.{w32, to_le_bytes};
 ghost use Rattle.arrow_spec.specs.Arrays.{number_of, offsets, value_of};

@@ -1,4 +1,4 @@
-// A record batch's table with its nodes and the places of its buffers.
+//! The laying of a record batch's table, with its nodes and the places of its buffers.
 ghost use Rattle.std.specs.Prelude.{◌≡◌, ◌+◌, ◌*◌, ◌-◌, ◌^◌, ◌<◌, ◌≤◌, IfOk, length};
 ghost use Rattle.arrow_spec.specs.Flatbuffers.{vector_of_pairs};
 ghost use Rattle.arrow_spec.specs.Metadata.{record_batch_table};

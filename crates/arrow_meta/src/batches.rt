@@ -1,4 +1,5 @@
-// A record batch as its metadata has it (Message.fbs, "RecordBatch", "FieldNode", "Buffer").
+//! A record batch as its metadata has it, and how it is read (Message.fbs, "RecordBatch",
+//! "FieldNode", "Buffer").
 ghost use Rattle.std.specs.Prelude.{◌≡◌, ◌+◌, ◌*◌, ◌<◌, ◌≤◌, ◌^◌, IfOk, IsErrOf, Ok, Err, length, map};
 ghost use Rattle.stream_spec.specs.Metadata.{batch_at, buffer_at, node_at, places_of, signed_from};
 ghost use Rattle.stream_spec.specs.declared.fault.MetaFault.{MetaFault as MetaFaultValue};
@@ -74,6 +75,7 @@ pub fn read_batch(alloc: Global, bytes: &[u8], table: u64) -> Result<BatchMeta, 
     })
 }
 
+// The nodes of a record batch's columns, in order.
 fn nodes_of(alloc: Global, bytes: &[u8], nodes: Elements) -> Result<Vec<FieldNode>, AllocError>
     requires inside { nodes.first + 16 * nodes.count ≤ length bytes.now }
     ensures { IfOk result (λ list. list.items ≡ map (node_at bytes.now) (places_of nodes 16)) }
@@ -85,6 +87,7 @@ fn nodes_of(alloc: Global, bytes: &[u8], nodes: Elements) -> Result<Vec<FieldNod
     Ok(list)
 }
 
+// Where each buffer of a record batch lies, in order.
 fn buffers_of(
     alloc: Global,
     bytes: &[u8],
@@ -100,6 +103,7 @@ fn buffers_of(
     Ok(list)
 }
 
+// The node that stands at a place: a column's length and its nulls.
 fn node_at(bytes: &[u8], place: u64) -> FieldNode
     requires { place + 16 ≤ length bytes.now }
     ensures { result ≡ node_at bytes.now place }
@@ -110,6 +114,7 @@ fn node_at(bytes: &[u8], place: u64) -> FieldNode
     }
 }
 
+// The place of a buffer in the body, as it stands at a place of the metadata.
 fn buffer_at(bytes: &[u8], place: u64) -> BufferPlace
     requires { place + 16 ≤ length bytes.now }
     ensures { result ≡ buffer_at bytes.now place }

@@ -1,4 +1,4 @@
-// A schema's columns, as tables behind one another.
+//! The laying of a schema's columns, as tables behind one another.
 ghost use Rattle.std.specs.Prelude.{◌≡◌, ◌+◌, ◌*◌, ◌^◌, ◌≤◌, All, IfOk, length, map};
 ghost use Rattle.arrow_spec.specs.Flatbuffers.{vector_of_tables};
 ghost use Rattle.arrow_spec.specs.Metadata.{empty_table, field_table, int_table, schema_table, type_number, type_table};

@@ -1,5 +1,5 @@
-// The fields of a flatbuffer's table: numbers, references, vectors and texts. An absent number is 0, an absent vector has
-// no element and an absent text is empty.
+//! The fields of a flatbuffer's table: numbers, references, vectors and texts. An absent number is
+//! 0, an absent vector has no element and an absent text is empty.
 ghost use Rattle.std.specs.Prelude.{◌≡◌, ◌+◌, ◌*◌, ◌≤◌, IfOk, MatchResult, Ok, Err, length};
 ghost use Rattle.stream_spec.specs.Metadata.{elements, elements_of, int_table_of, reference, scalar, text};
 
@@ -20,6 +20,7 @@ impl From<AllocError> for NotRead {
 
     ghost from_gives = { λ _ e. e ≡ not_read.Memory };
 
+    // Refused memory, which `?` hands on.
     fn from(_refused: AllocError) -> NotRead {
         NotRead::Memory
     }
@@ -31,6 +32,7 @@ impl<T: Drop> From<AllocFailed<T>> for NotRead {
 
     ghost from_gives = { λ _ e. e ≡ not_read.Memory };
 
+    // Refused memory of a call that gives its value back, which is dropped here.
     fn from(_refused: AllocFailed<T>) -> NotRead {
         NotRead::Memory
     }
@@ -42,6 +44,7 @@ impl From<MetaFault> for NotRead {
 
     ghost from_gives = { λ fault e. e ≡ not_read.Fault fault };
 
+    // A fault of the metadata, which `?` hands on.
     fn from(fault: MetaFault) -> NotRead {
         NotRead::Fault(fault)
     }
@@ -54,6 +57,7 @@ impl From<FlatFault> for NotRead {
 
     ghost from_gives = { λ fault e. e ≡ not_read.Fault (meta.Flat fault) };
 
+    // A read that the bytes cannot meet, as a fault of the metadata.
     fn from(fault: FlatFault) -> NotRead {
         NotRead::Fault(MetaFault::Flat(fault))
     }

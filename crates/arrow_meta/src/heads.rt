@@ -1,4 +1,4 @@
-// A message's head (Message.fbs, "Message" and "MessageHeader").
+//! A message's head and how it is read (Message.fbs, "Message" and "MessageHeader").
 ghost use Rattle.std.specs.Prelude.{◌≡◌};
 ghost use Rattle.stream_spec.specs.Metadata.{head_of, message_table_at};
 
@@ -37,6 +37,7 @@ pub fn read_head(bytes: &[u8]) -> Result<Head, MetaFault>
     })
 }
 
+// The fields of the table of a message, which is the root of its flatbuffer.
 fn message_table(bytes: &[u8]) -> Result<MessageTable, FlatFault>
     ensures { result ≡ message_table_at bytes.now }
 {

@@ -1,4 +1,4 @@
-// The columns of a schema message (Schema.fbs, "Schema", "Field", "Type").
+//! The columns of a schema message and how they are read (Schema.fbs, "Schema", "Field", "Type").
 ghost use Rattle.std.specs.Prelude.{◌≡◌, ◌+◌, ◌*◌, ◌≤◌, IfOk, IsErrOf, MatchResult, Ok, Err, length};
 ghost use Rattle.std.specs.Str.{is_utf8};
 ghost use Rattle.arrow_meta.specs.Fields.{field_of};
@@ -35,6 +35,7 @@ pub fn read_schema(alloc: Global, bytes: &[u8], table: u64) -> Result<Vec<Column
     Ok(columns)
 }
 
+// The fields of a schema's table that are read: its byte order and its columns.
 fn schema_table(bytes: &[u8], table: u64) -> Result<SchemaTable, FlatFault>
     ensures { result ≡ schema_table_at bytes.now table }
 {
@@ -70,6 +71,7 @@ fn column(alloc: Global, bytes: &[u8], place: u64) -> Result<Column, NotRead>
     })
 }
 
+// What the table of a column says, before it is judged whether a column can be so.
 fn field_table(bytes: &[u8], table: u64) -> Result<FieldTable<'_>, FlatFault>
     ensures { MatchResult result (λ f. field_table_at bytes.now table ≡ Ok (field_of f)) (λ f. field_table_at bytes.now table ≡ Err f) }
 {
@@ -123,6 +125,7 @@ fn kind_of_field(field: &FieldTable<'_>) -> Result<Kind, MetaFault>
     Ok(kind)
 }
 
+// Whether the bytes are a text, as the name of a column has to be.
 fn is_utf8(bytes: &[u8]) -> bool
     ensures { result ≡ is_utf8 bytes.now }
 {

@@ -1,4 +1,5 @@
-// Whole flatbuffers, byte by byte.
+//! Tests of the metadata of messages: whole flatbuffers, byte by byte, as they are laid and as they
+//! are read back.
 use crate::{batch_message, read_batch, read_head, read_schema, schema_message};
 use cell_model::{Bytes, Column, Kind, Schema, are_named};
 use std::alloc::Global;

@@ -43,6 +43,7 @@ pub fn count_replies(
     }
 }
 
+// What is counted of these replies; none where one of them was refused memory.
 fn counts_of(alloc: Global, replies: &[KeptReply<'_>]) -> Result<Option<Counts>, AllocError>
     requires told { are_told replies.now ≡ true }
     ensures { IfOk result (λ told. told ≡ told_of (entries_of replies.now)) }
@@ -72,6 +73,7 @@ fn was_refused(replies: &[KeptReply<'_>]) -> bool
     false
 }
 
+// Whether the reply says that memory was refused.
 fn is_refused(told: &Told<'_>) -> bool
     ensures { result ≡ is_refused (said_of told.now) }
 {

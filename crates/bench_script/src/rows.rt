@@ -25,6 +25,7 @@ pub(crate) fn row_of(alloc: Global, key: u64, number: u64, text: u64) -> Result<
     Ok(row)
 }
 
+// The cell that a draw makes: a text, or null for one of `TEXTLESS` draws.
 fn text_of(alloc: Global, drawn: u64) -> Result<Cell, AllocError>
     ensures { IfOk result (λ cell. cell ≡ text_of drawn) }
 {

@@ -1,3 +1,5 @@
+//! Tests of a body: a write that is rolled back, a row from its put to its seal, a last stamp that
+//! is not passed, a move between two slots, and rows taken back from a shared image.
 ghost use Rattle.std.specs.Prelude.{◌≡◌, ◌<◌, IfOk, length};
 ghost use Rattle.cell_model.specs.Rows.{Fits};
 ghost use Rattle.block_spec.specs.declared.change.Change.TheVariants as change;

@@ -1,4 +1,4 @@
-// One slot of all columns.
+//! The cells of one slot in all columns: how a row is written, laid, wiped and read.
 ghost use Rattle.std.specs.Prelude.{◌≡◌, ◌<◌, ◌≤◌, ℕ, All, IfOk, OnOk, OnErr, length, slice_index_or};
 ghost use Rattle.std.specs.List.{AllZip};
 ghost use Rattle.cell_model.specs.declared.cell.Cell.TheVariants as cell;

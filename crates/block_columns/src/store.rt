@@ -221,6 +221,7 @@ pub fn moved_cell(kind: Kind, moved: Option<Bytes>, spare: Cell) -> Cell
     }
 }
 
+// The cells of a column of numbers that has no slot yet.
 fn numbers(alloc: Global, width: u32, signed: bool) -> Result<Store, AllocError>
     requires { IsWidth width }
     ensures { IfOk result (λ store. StoresNone width signed store) }
@@ -228,6 +229,7 @@ fn numbers(alloc: Global, width: u32, signed: bool) -> Result<Store, AllocError>
     Ok(Store::Numbers(Fixed::new(alloc, width, signed, 0)?))
 }
 
+// Copies of values of any length.
 fn copied_values(alloc: Global, values: &[Value]) -> Result<Vec<Value>, AllocError>
     ensures { IfOk result (λ copies. copies.items ≡ values.now) }
 {
@@ -238,6 +240,7 @@ fn copied_values(alloc: Global, values: &[Value]) -> Result<Vec<Value>, AllocErr
     Ok(copies)
 }
 
+// Adds so many empty values. Without memory none is added.
 fn add_empty(values: &mut Vec<Value>, n: usize) -> Result<(), AllocError>
     ensures ok { OnOk result (values.new.items ≡ values.old.items ++ replicate n []) }
     ensures err { OnErr result (values.new.items ≡ values.old.items) }

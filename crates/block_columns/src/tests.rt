@@ -1,3 +1,5 @@
+//! Tests of a block's columns: a row of each layout that is put, taken away, laid back and patched,
+//! and the columns that an image lends.
 ghost use Rattle.std.specs.Prelude.{◌≡◌, ◌<◌};
 ghost use Rattle.cell_model.specs.Rows.{Fits};
 ghost use Rattle.block_spec.specs.Fitting.{columns_of};

@@ -1,3 +1,4 @@
+-- The places of slots: how a block and a slot are one number, and are found in it again.
 use Rattle.std.specs.Prelude.{ℕ, ◌+◌, ◌*◌, ◌/◌, ◌%◌, ◌^◌}
 
 -- The place of a slot: blocks lie one after another, each with 2 ^ 20 places.

@@ -1,3 +1,4 @@
+//! Tests of a patch: its assignments stay in the order in which they were given.
 use crate::{Assignment, Patch};
 use cell_model::Cell;
 use std::test::Fail;

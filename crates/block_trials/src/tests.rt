@@ -1,3 +1,5 @@
+//! Tests of whole blocks over a freeze and a thaw: rows of every kind, with nulls, stay as they
+//! were, in the body and in its image, in each way in which an image is laid.
 ghost use Rattle.std.specs.Prelude.{◌≡◌, ◌<◌, ℕ, true, IfOk, IsTrue, IsSome, None, slice_index_or};
 ghost use Rattle.cell_model.specs.Rows.{Fits};
 ghost use Rattle.block_spec.specs.Fitting.{columns_of};

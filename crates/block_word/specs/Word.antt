@@ -1,3 +1,4 @@
+-- The word of a block: state, stamp and readers in 64 bits, and which moves of it are lawful.
 use Rattle.std.specs.Prelude.{◌≡◌, ℕ, zero, suc, ◌+◌, ◌*◌, ◌/◌, ◌%◌, ◌^◌, ◌<◌, ◌⊎◌, Option, Some, None, IsSomeAnd}
 use Rattle.block_word.specs.declared.State.{State}
 use Rattle.block_word.specs.declared.State.TheVariants.{Hot, Cooling, Freezing, Frozen}

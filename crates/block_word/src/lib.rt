@@ -40,6 +40,7 @@ pub enum State {
 }
 
 impl State {
+    // The number that stands for the state in a word.
     fn number(self) -> u64
         ensures { result ≡ state_number self }
     {
@@ -124,6 +125,8 @@ pub fn lawful(before: u64, after: u64) -> bool
     turns(from, to) || enters(from, to) || enters(to, from)
 }
 
+// Whether the second word comes from the first by one of the six turns of the state: the stamp
+// moves by what the turn takes, and the readers stay.
 fn turns(from: Word, to: Word) -> bool
     ensures { IsTrue result ↔ Turns from to }
 {
@@ -138,6 +141,7 @@ fn turns(from: Word, to: Word) -> bool
     to.stamp.checked_sub(from.stamp) == Some(taken) && to.readers == from.readers
 }
 
+// Whether the second word has one reader more, and all else is the same.
 fn enters(from: Word, to: Word) -> bool
     ensures { IsTrue result ↔ Enters from to }
 {

@@ -1,4 +1,4 @@
-// A lent source, sink or outlet is one too.
+//! A lent source, sink or outlet is one too, so that a caller keeps it and learns what was done.
 ghost use Rattle.std.specs.Prelude.{Some};
 
 use crate::{Failed, Outlet, Sink, Source};
@@ -8,6 +8,7 @@ impl<S: Source> Source for &mut S {
 
     ghost faults = { λ s. S.faults s.now };
 
+    // Reads from the source that is lent.
     fn read(&mut self, buf: &mut [u8]) -> Result<usize, Failed> {
         Source::read(&mut **self, buf)
     }
@@ -22,12 +23,14 @@ impl<S: Sink> Sink for &mut S {
 
     ghost faults = { λ s. S.faults s.now };
 
+    // Writes to the sink that is lent.
     fn write(&mut self, piece: &[u8]) -> Result<usize, Failed> {
         Sink::write(&mut **self, piece)
     }
 }
 
 impl<X: Outlet> Outlet for &mut X {
+    // Starts the outlet that is lent.
     fn start(&mut self, name: &str) -> Result<(), Failed> {
         Outlet::start(&mut **self, name)
     }

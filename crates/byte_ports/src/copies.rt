@@ -1,3 +1,4 @@
+//! The copy of as many bytes as there is room for, which sources over bytes in memory share.
 ghost use Rattle.std.specs.Prelude.{◌≡◌, ◌++◌, take, drop, length, min};
 
 // Copies as many bytes of `from` into the front of `to` as there is room for, and answers how many.

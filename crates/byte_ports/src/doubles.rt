@@ -1,3 +1,5 @@
+//! Sources, sinks and outlets over lists of bytes, for tests: their calls fail where a list says
+//! so.
 ghost use Rattle.std.specs.Prelude.{◌≡◌, ◌<◌, ◌≤◌, List, [], ◌∷◌, ◌++◌, Ok, Some, IfOk, OnOk, OnErr, IsErr, IsTrue, length, min, is_err, map, string_bytes, refl};
 ghost use Rattle.std.specs.Io.{ReadsAtMost, WritesAtMost};
 ghost use Rattle.std.specs.Io.KnownBytes.{ReadConsumes, WriteAppends};
@@ -183,6 +185,7 @@ impl ListOutlet {
         self.names.as_slice()
     }
 
+    // Keeps the name of a start. Without memory nothing is kept.
     fn add_name(&mut self, name: &str) -> Result<(), AllocError>
         ensures ok { OnOk result (self.new ≡ record self.old { started = self.old.started ++ name.now ∷ [] }) }
         ensures err { OnErr result (self.new ≡ self.old) }

@@ -1,3 +1,4 @@
+//! Counts of faults, and plans of which calls of a double fail.
 ghost use Rattle.std.specs.Prelude.{◌≡◌, ◌≤◌, IfOk, OnErr, OnOk, is_err};
 ghost use Rattle.byte_ports.specs.Calls.{Rose, counted};
 ghost use Rattle.byte_ports.specs.FaultPlan.{new_plan, fails_next, after_call};
@@ -21,6 +22,7 @@ impl Model for FaultCount {
 }
 
 impl FaultCount {
+    /// A count of no fault.
     pub fn new() -> Self
         ensures { result ≡ 0 }
     {
@@ -55,6 +57,7 @@ impl Model for FaultPlan {
 }
 
 impl FaultPlan {
+    /// The plan of which these calls fail, before the first of them.
     pub fn new(alloc: Global, failing: &[u64]) -> Result<Self, AllocError>
         ensures { IfOk result (λ p. p ≡ new_plan failing.now) }
     {

@@ -1,3 +1,5 @@
+//! The traits by which the program meets the outside: sources, sinks, outlets and gates, with what
+//! contracts are told of each.
 ghost use Rattle.std.specs.Prelude.{◌≡◌, ℕ, ◌<◌, ◌≤◌, List, Option, None, Some, IfOk, OnErr, OnOk, length, is_some, codes};
 ghost use Rattle.std.specs.Borrow.{GName};
 ghost use Rattle.std.specs.Io.{ReadsAtMost, WritesAtMost};
@@ -15,6 +17,7 @@ pub struct Failed;
 impl fmt::Display for Failed {
     ghost output = { λ _. Some (codes "reading or writing failed") };
 
+    // The line of a call that failed.
     fn fmt<W: fmt::Write>(&self, f: &mut fmt::Formatter<W>) -> fmt::Result {
         write!(f, "reading or writing failed")
     }
@@ -96,5 +99,6 @@ pub trait Gate {
 pub struct OpenGate;
 
 impl Gate for OpenGate {
+    // Goes on at once.
     fn pass<R: Wait>(&self, _rt: &R, _session: u32, _index: u32) {}
 }

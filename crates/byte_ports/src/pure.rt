@@ -1,3 +1,4 @@
+//! Ports that never fail: a source over lent bytes, and a sink and an outlet that keep nothing.
 ghost use Rattle.std.specs.Prelude.{◌≡◌, ◌<◌, ◌≤◌, ℕ, Ok, None, Some, length, min, refl};
 ghost use Rattle.std.specs.Io.{ReadsAtMost};
 ghost use Rattle.std.specs.Io.KnownBytes.{ReadConsumes};
@@ -83,6 +84,7 @@ impl Sink for PureOutlet {
 }
 
 impl Outlet for PureOutlet {
+    // It starts at any name, and keeps none.
     fn start(&mut self, _name: &str) -> Result<(), Failed>
         ensures { result ≡ Ok tt }
     {

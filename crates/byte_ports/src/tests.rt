@@ -1,3 +1,5 @@
+//! Tests of the ports: doubles that fail where their lists say so, the ports over std with short
+//! and failed writes, and an outlet that is a file.
 use super::*;
 use std::alloc::Global;
 use std::fs::{self, File};

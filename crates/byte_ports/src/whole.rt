@@ -1,3 +1,5 @@
+//! Whole inputs and whole pieces: what is read to the end of a source, and what is written in as
+//! many calls as a sink needs.
 ghost use Rattle.std.specs.Prelude.{◌≡◌, ◌<◌, ◌≤◌, ℕ, Some, IfOk, OnOk, OnErr, IsErrOf, vec_len, alloc_error};
 ghost use Rattle.std.specs.Io.KnownBytes.{Consumes, IsAtEnd};
 ghost use Rattle.byte_ports.specs.Calls.{Rose, TellsAlike, WritesAll, ConsumesSome, ConsumesAtLeast};
@@ -26,6 +28,7 @@ pub enum InputFault {
 impl fmt::Display for InputFault {
     ghost output = { λ f. Some (input_fault_text f) };
 
+    // The line of each fault.
     fn fmt<W: fmt::Write>(&self, f: &mut fmt::Formatter<W>) -> fmt::Result {
         match self {
             InputFault::TooLong => write!(f, "the input is too long"),
@@ -40,6 +43,7 @@ impl Error for InputFault {}
 impl From<Failed> for InputFault {
     ghost from_gives = { λ _ f. f ≡ fault.Failed };
 
+    // A failed call of the source, which `?` hands on.
     fn from(_: Failed) -> Self {
         InputFault::Failed
     }
@@ -48,6 +52,7 @@ impl From<Failed> for InputFault {
 impl From<AllocError> for InputFault {
     ghost from_gives = { λ _ f. f ≡ fault.Memory };
 
+    // Refused memory, which `?` hands on.
     fn from(_: AllocError) -> Self {
         InputFault::Memory
     }
@@ -75,6 +80,7 @@ pub fn write_all<S: Sink>(sink: &mut S, piece: &[u8]) -> Result<(), Failed>
     Ok(())
 }
 
+// A buffer of so many bytes, for reads to fill.
 fn blank_piece(alloc: Global, count: usize) -> Result<Vec<u8>, AllocError>
     ensures { IfOk result (λ v. vec_len v ≡ count) }
 {

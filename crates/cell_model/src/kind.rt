@@ -71,6 +71,7 @@ impl Kind {
     }
 }
 
+// Whether the bytes are a text.
 fn is_utf8(bytes: &[u8]) -> bool
     ensures { result ≡ is_utf8 bytes.now }
 {

@@ -29,6 +29,7 @@ impl From<Vec<Cell>> for Row {
 
     ghost from_gives = { λ cells r. r ≡ cells.items };
 
+    // The vector as it is, without a copy.
     fn from(cells: Vec<Cell>) -> Row {
         Row { cells }
     }
@@ -95,6 +96,7 @@ impl Clone for Row {
 
     ghost is_clone = { λ r s. s ≡ r };
 
+    // A copy, each of whose cells is one.
     fn clone(&self) -> Result<Row, AllocError> {
         Ok(Row {
             cells: self.cells.clone()?,

@@ -102,6 +102,8 @@ pub fn most_slots(schema: &Schema) -> u32
     MOST_SLOTS.min(8 * (BLOCK_BYTES / row_bits(columns)))
 }
 
+// How many bits a row takes in a block: one that tells whether the slot has a row, and for each
+// column a validity bit and its value.
 fn row_bits(columns: &[Column]) -> u32
     requires { length columns.now ≤ 32 }
     ensures { result ≡ row_bits columns.now }
@@ -113,6 +115,7 @@ fn row_bits(columns: &[Column]) -> u32
     bits
 }
 
+// Whether the first column is the key.
 fn begins_with_key(columns: &[Column]) -> bool
     ensures { result ≡ begins_with_key columns.now }
 {
@@ -122,6 +125,7 @@ fn begins_with_key(columns: &[Column]) -> bool
     }
 }
 
+// The places of the first two columns of one name.
 fn first_twins(columns: &[Column]) -> Option<(u32, u32)>
     requires { length columns.now ≤ 32 }
     ensures { result ≡ first_twins 0 columns.now }
@@ -135,6 +139,7 @@ fn first_twins(columns: &[Column]) -> Option<(u32, u32)>
     None
 }
 
+// The place of the first column of this name.
 fn place_of_name(name: &[u8], columns: &[Column]) -> Option<usize>
     ensures place { result ≡ place_of_name name.now columns.now }
     ensures below { IfSome result (λ at. at < length columns.now) }
@@ -144,6 +149,7 @@ fn place_of_name(name: &[u8], columns: &[Column]) -> Option<usize>
         .position(|column| column.name.as_slice() == name)
 }
 
+// Whether each cell keeps its column's rules; else the first fault, from the left.
 fn check_cells(columns: &[Column], cells: &[Cell]) -> Result<(), RowFault>
     requires same { length cells.now ≡ length columns.now }
     requires few { length columns.now ≤ 32 }

@@ -1,3 +1,5 @@
+//! Tests of cells, rows and schemas: which columns are a schema, how many rows fit a block, which
+//! rule of its columns a row breaks, and what copies keep.
 use crate::{
     Buffers, Bytes, Cell, Column, Kind, MOST_BYTES, Row, RowFault, Rows, Schema, SchemaFault,
     TableDecl, are_named, most_slots,

@@ -1,3 +1,4 @@
+-- The plan of a compaction: which rows go to which gaps.
 use Rattle.std.specs.Prelude.{◌≢◌, ℕ, ◌++◌, List, map, take, nat_lt, AllPairs}
 use Rattle.std.specs.List.{zip, take_while}
 

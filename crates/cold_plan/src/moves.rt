@@ -1,3 +1,4 @@
+//! The plan of a compaction: which rows move down into which gaps.
 ghost use Rattle.std.specs.Prelude.{◌≡◌, ◌<◌, AllPairs, IfOk, take};
 ghost use Rattle.std.specs.List.{zip};
 ghost use Rattle.cold_plan.specs.Plan.{downwards, moves_of, NoPlaceTwice};

@@ -1,3 +1,4 @@
+//! How long a block was left unmodified, which decides whether it is cold.
 ghost use Rattle.std.specs.Prelude.{◌≡◌, ℕ, ◌+◌, ◌≤◌, ◌↔◌, IsTrue, min};
 
 use std::marker::Model;

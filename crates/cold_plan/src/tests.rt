@@ -1,3 +1,5 @@
+//! Tests of when a block is cold and of the plan of moves: a modification between rounds, and gaps
+//! of two blocks up to the one that lies above the row.
 use super::*;
 use block_layout::SlotId;
 use std::test::Fail;

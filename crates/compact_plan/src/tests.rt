@@ -1,3 +1,5 @@
+//! Tests of the plan of a compaction over looks at blocks: cold blocks alone give and take rows,
+//! and rows move down within one block too.
 ghost use Rattle.std.specs.Prelude.{◌≡◌, ◌<◌, All, IfOk, length};
 ghost use Rattle.cell_model.specs.Rows.{Fits};
 ghost use Rattle.block_spec.specs.Fitting.{columns_of};

@@ -1,4 +1,4 @@
-// Lists of events with the reply to each.
+//! Tests of the core: lists of events, made one after another, with the reply to each as text.
 ghost use Rattle.std.specs.Prelude.{◌≡◌, ◌^◌, ◌<◌, ◌≤◌, [], ◌∷◌, IfOk, true, false, codes};
 ghost use Rattle.cell_model.specs.declared.kind.Kind.TheVariants.{I64, Utf8};
 

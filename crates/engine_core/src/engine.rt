@@ -106,20 +106,24 @@ impl Parts for Core {
 
     ghost teaches = { λ shape event said fact. Teaches event said fact };
 
+    // The desk is the last part, behind those of the tables.
     fn parts(&self) -> u32 {
         let _tables = self.shape.tables();
         self.shape.desk() + 1
     }
 
+    // All parts lie in the core's hand already.
     fn into_parts(self) -> Result<(Shape, Hand<CorePart>), AllocError> {
         let Core { shape, hand } = self;
         Ok((shape, hand))
     }
 
+    // By the table, the key, the block or the places of the event, and the parts held before.
     fn touches(shape: &Shape, event: &KeyedEvent, held: &Hand<CorePart>, part: u32) -> bool {
         touches(shape, event, held, part)
     }
 
+    // The least of the parts that the event touches, from `from` on; no other part is looked at.
     fn next_touched(
         shape: &Shape,
         event: &KeyedEvent,
@@ -129,6 +133,7 @@ impl Parts for Core {
         next_touched(shape, event, held, from)
     }
 
+    // Runs the event on the parts of the tables and the desk that it touches.
     fn run<L: Ledger>(
         shape: &Shape,
         event: KeyedEvent,

@@ -35,6 +35,7 @@ impl From<Arc<BTreeMap<Place, SlotId>>> for OwnWrites {
 
     ghost from_gives = { λ by_row own. own ≡ (arc_value by_row).entries };
 
+    // The map as it is, shared with whoever holds it too.
     fn from(by_row: Arc<BTreeMap<Place, SlotId>>) -> OwnWrites {
         OwnWrites { by_row }
     }

@@ -1,4 +1,4 @@
-// Whole flatbuffers, byte by byte.
+//! Tests of the building of flatbuffers: whole ones, byte by byte, with the place of each object.
 use super::*;
 use std::process::Abort;
 use std::test::Fail;

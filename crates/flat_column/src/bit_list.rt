@@ -126,6 +126,7 @@ impl Bits {
 impl Clone for Bits {
     ghost is_clone = { λ x y. y ≡ x };
 
+    // A copy in memory of the same allocator.
     fn clone(&self) -> Result<Bits, AllocError> {
         Ok(Bits {
             bytes: Vec::from_slice(*self.bytes.allocator(), self.bytes.as_slice())?,
@@ -134,6 +135,7 @@ impl Clone for Bits {
     }
 }
 
+// The byte with a bit put at a place.
 fn with_bit(byte: u8, place: usize, bit: bool) -> u8
     requires { place < 8 }
     ensures { PutsBit byte result place bit }
@@ -165,6 +167,7 @@ fn ones(bytes: &[u8]) -> usize
     ones_of_words(words) + ones_of_bytes(rest)
 }
 
+// How many bits of whole words are ones; they are counted eight bytes at a time.
 fn ones_of_words(words: &[[u8; 8]]) -> usize
     requires bytes { (k : ℕ) → AreBytes (slice_index_or words.now k []) }
     requires fits { sum_by (sum_by count_ones) words.now < 2 ^ 64 }
@@ -177,6 +180,7 @@ fn ones_of_words(words: &[[u8; 8]]) -> usize
     count
 }
 
+// How many bits of bytes are ones; for what is left behind the last whole word.
 fn ones_of_bytes(bytes: &[u8]) -> usize
     requires { sum_by count_ones bytes.now < 2 ^ 64 }
     ensures { result ≡ sum_by count_ones bytes.now }

@@ -164,6 +164,7 @@ impl Fixed {
 impl Clone for Fixed {
     ghost is_clone = { λ x y. y ≡ x };
 
+    // A copy in memory of the same allocator.
     fn clone(&self) -> Result<Fixed, AllocError> {
         Ok(Fixed {
             bytes: Vec::from_slice(*self.bytes.allocator(), self.bytes.as_slice())?,
@@ -173,6 +174,7 @@ impl Clone for Fixed {
     }
 }
 
+// The number of a width with which the bytes begin.
 fn first_number(bytes: &[u8], width: u32, signed: bool) -> i128
     requires known { IsWidth width }
     requires room { width / 8 ≤ length bytes.now }
@@ -190,6 +192,7 @@ fn first_number(bytes: &[u8], width: u32, signed: bool) -> i128
     }
 }
 
+// Puts a number of a width in the bytes from a place on. The others stay.
 fn put_number_at(bytes: &mut [u8], at: usize, width: u32, signed: bool, value: i128)
     requires known { IsWidth width }
     requires room { at + width / 8 ≤ length bytes.old }
@@ -200,6 +203,7 @@ fn put_number_at(bytes: &mut [u8], at: usize, width: u32, signed: bool, value: i
     put_number(&mut bytes[at..], width, signed, value);
 }
 
+// Puts a number of a width in the first bytes. The others stay.
 fn put_number(bytes: &mut [u8], width: u32, signed: bool, value: i128)
     requires known { IsWidth width }
     requires room { width / 8 ≤ length bytes.old }

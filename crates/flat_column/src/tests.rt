@@ -1,3 +1,5 @@
+//! Tests of lists of bits and of numbers: their bytes, the spare bits of a bitmap, and which
+//! numbers are in range.
 use super::*;
 use std::test::Fail;
 

@@ -1,4 +1,4 @@
-// Reads of an Arrow schema's flatbuffer, and of bytes that are none.
+//! Tests of reads of flatbuffers: that of an Arrow schema, and bytes that are none.
 use super::*;
 use std::process::Abort;
 

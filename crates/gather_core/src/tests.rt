@@ -1,3 +1,5 @@
+//! Tests of gathering: two rows of each layout, and a whole block, whose buffers are those that are
+//! made cell by cell.
 mod plain;
 
 ghost use Rattle.std.specs.Prelude.{◌<◌, ℕ, IsTrue, IsSome, None, slice_index_or};

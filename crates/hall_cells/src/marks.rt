@@ -79,16 +79,20 @@ impl Parts for Marks {
 
     ghost teaches = { Teaches };
 
+    // A part is a mark.
     fn parts(&self) -> u32 {
         self.marks.len() as u32
     }
 
+    // Each mark is laid in the place of its number.
     fn into_parts(self) -> Result<(u32, Hand<u64>), AllocError> {
         let parts = self.marks.len() as u32;
         let places = places_of(self.alloc, self.marks.as_slice())?;
         Ok((parts, Hand::of(self.alloc, places)?))
     }
 
+    // The mark 0, the session that began, is touched by a begin and an end; a raise touches its
+    // mark.
     fn touches(_shape: &u32, event: &Deed, _held: &Hand<u64>, part: u32) -> bool {
         match event {
             Deed::Begin { .. } | Deed::End { .. } => part == 0,
@@ -96,6 +100,7 @@ impl Parts for Marks {
         }
     }
 
+    // A raise replies what its mark was, the others 0.
     fn run<L: Ledger>(
         _shape: &u32,
         event: Deed,

@@ -1,3 +1,5 @@
+//! Tests of a hall over marks: one pass alone, two threads that raise one mark, and an event on a
+//! part while another is held.
 mod scenarios;
 
 use scenarios::{Turn, marks_after, raised_by_two, raised_while_held};

@@ -41,6 +41,7 @@ impl<P> Closed<P> {
 }
 
 impl<P: Drop> Drop for Closed<P> {
+    // Each part is taken out and dropped, and then the table's memory is given back.
     fn drop(self) {
         let Closed { mut table } = self;
         let mut at = 0;

@@ -1,4 +1,5 @@
-// Bitmaps (Arrow columnar format, "Validity bitmaps").
+//! Lent bitmaps, and which slots of a column have a value (Arrow columnar format, "Validity
+//! bitmaps").
 ghost use Rattle.std.specs.Prelude.{◌≡◌};
 ghost use Rattle.stream_spec.specs.Columns.{bit_of, is_valid, null_count_of};
 

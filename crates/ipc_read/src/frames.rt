@@ -1,4 +1,4 @@
-// Messages as they are framed (Arrow columnar format, "Encapsulated message format").
+//! Messages as they are framed (Arrow columnar format, "Encapsulated message format").
 ghost use Rattle.std.specs.Prelude.{◌≡◌, ◌+◌, ◌<◌, ◌≤◌, ◌^◌, IfOk, MatchResult, Ok, Err, length};
 ghost use Rattle.ipc_read.specs.Frames.{Fills, frame_value, metadata_of};
 ghost use Rattle.stream_spec.specs.Streams.{due_head, frame_of, is_of_kind, sized};

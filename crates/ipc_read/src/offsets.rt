@@ -1,4 +1,5 @@
-// Values of any length (Arrow columnar format, "Variable-size Binary Layout").
+//! Values of any length by their offsets, and whether these are lawful (Arrow columnar format,
+//! "Variable-size Binary Layout").
 ghost use Rattle.std.specs.Prelude.{◌≡◌, ◌+◌, ◌*◌, ◌<◌, ◌≤◌, length, unsigned_abs};
 ghost use Rattle.std.specs.List.{list_all, range_with_len};
 ghost use Rattle.ipc_read.specs.Offsets.{rises};

@@ -1,4 +1,5 @@
-// A worked stream, and streams that were changed by a byte or cut.
+//! Tests of the reading of streams: a worked one, the same cut or changed by a byte, and the same
+//! message by message.
 use crate::{Next, first_schema, next_batch, read};
 use cell_model::{Cell, Column, Kind, Row};
 use std::process::Abort;

@@ -1,5 +1,5 @@
-// A column of a batch, lent from the body (Arrow columnar format, "Buffer Listing for Each
-// Layout").
+//! A column of a batch, lent from the body (Arrow columnar format, "Buffer Listing for Each
+//! Layout").
 ghost use Rattle.std.specs.Prelude.{◌≡◌, ◌+◌, ◌^◌, ◌≤◌, ◌<◌, false, true, nat_le, IfOk, IsTrue, MatchOption, MatchResult, None, Some, Ok, Err, length, pos};
 ghost use Rattle.std.specs.List.{list_all};
 ghost use Rattle.std.specs.Ordering.{int_eq};
@@ -219,6 +219,7 @@ pub fn column<'a>(
     Ok(view)
 }
 
+// Whether the bytes are a text.
 fn is_utf8(bytes: &[u8]) -> bool
     ensures { result ≡ is_utf8 bytes.now }
 {

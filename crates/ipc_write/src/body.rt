@@ -1,4 +1,5 @@
-// Where the buffers of a record batch lie in its body (Arrow columnar format, "RecordBatch message").
+//! Where the buffers of a record batch lie in its body (Arrow columnar format, "RecordBatch
+//! message").
 ghost use Rattle.std.specs.Prelude.{◌≡◌, ◌<◌, ◌^◌, ◌+◌, ◌++◌, ◌∷◌, [], pos, IfOk, OnOk, length, flat_map};
 ghost use Rattle.arrow_spec.specs.Batches.{buffer_places};
 ghost use Rattle.arrow_spec.specs.Bytes.{padded};
@@ -34,6 +35,7 @@ impl Body {
         Ok(body)
     }
 
+    // Puts the buffers of a column behind those that are there.
     fn add_buffers(&mut self, buffers: &[Bytes]) -> Result<(), AllocError>
         requires { self.old.size < 2 ^ 63 }
         ensures places { OnOk result (self.new.places.items
@@ -47,6 +49,8 @@ impl Body {
         Ok(())
     }
 
+    // Puts a buffer behind those that are there. There is no memory for a body of 2^63 bytes or
+    // more.
     fn add_buffer(&mut self, buffer: &[u8]) -> Result<(), AllocError>
         requires { self.old.size < 2 ^ 63 }
         ensures places { OnOk result (self.new.places.items

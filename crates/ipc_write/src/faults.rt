@@ -1,3 +1,4 @@
+//! Why a piece of a stream was not written: the sink failed, or there was no memory.
 use std::alloc::AllocError;
 
 /// A call of the sink failed.
@@ -23,6 +24,7 @@ impl From<SinkFault> for PieceFault {
 
     ghost from_gives = { λ sink f. f ≡ fault.Sink sink };
 
+    // A failed call of the sink, which `?` hands on.
     fn from(fault: SinkFault) -> PieceFault {
         PieceFault::Sink(fault)
     }
@@ -34,6 +36,7 @@ impl From<AllocError> for PieceFault {
 
     ghost from_gives = { λ refused f. f ≡ fault.Memory refused };
 
+    // Refused memory, which `?` hands on.
     fn from(refused: AllocError) -> PieceFault {
         PieceFault::Memory(refused)
     }

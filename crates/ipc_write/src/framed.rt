@@ -1,4 +1,4 @@
-// The bytes of a message before its body (Arrow columnar format, "Encapsulated message format").
+//! The bytes of a message before its body (Arrow columnar format, "Encapsulated message format").
 ghost use Rattle.std.specs.Prelude.{◌≡◌, ◌++◌, ◌<◌, ◌^◌, IfOk, OnOk, length};
 ghost use Rattle.std.specs.Int.{w32, to_le_bytes};
 ghost use Rattle.arrow_spec.specs.Bytes.{padded};

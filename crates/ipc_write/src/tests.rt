@@ -1,4 +1,5 @@
-// Whole streams, byte by byte, and faults in turn.
+//! Tests of the writer: whole streams, byte by byte, of rows and of images, and calls of the sink
+//! that fail in turn.
 mod images;
 
 use crate::tests::images::image_of;

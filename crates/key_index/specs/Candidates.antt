@@ -1,3 +1,4 @@
+-- The index of a table: the places at which a key may stand.
 use Rattle.std.specs.Prelude.{◌==◌, ℕ, ℤ, List, [], ◌∷◌, option_map, unwrap_or, remove, position}
 use Rattle.std.specs.Ordering.{int_cmp}
 use Rattle.std.specs.FinMap as map

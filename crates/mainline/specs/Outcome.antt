@@ -128,12 +128,15 @@ abbrev pub IsCutOff : Option (List ℕ) → Script → Outside → Outside → T
 IsCutOff path script before now =
     GoesCutOff (RanRounds path script before now) script before.printed now.printed
 
--- The run stopped before a round or within one, for want of memory.
+-- The run stopped for want of memory: where a round was to begin, or behind a round that ran whole
+-- and whose text was not shown. The text of the rounds before it was printed.
 abbrev pub IsStopped : Option (List ℕ) → Script → Outside → Outside → Type 0
 IsStopped path script before now =
     GoesStopped (RanRounds path script before now) script before.printed now.printed
 
--- The run stopped at an export, which counts as answered `memory`: a front of its stream was sent.
+-- The run stopped behind a round in which the outlet failed at an export, which counts as answered
+-- `memory`: a front of its stream was sent, its session stopped there, and the others ended their
+-- lines. The text of the round was not shown; that of the rounds before it was printed.
 abbrev pub StopsAtExport : Option (List ℕ) → Script → Outside → Outside → Type 0
 StopsAtExport path script before now =
     GoesToExport (RanRounds path script before now) script before.printed now.printed

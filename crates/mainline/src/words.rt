@@ -54,6 +54,7 @@ pub fn work_of<'a>(alloc: Global, words: &'a [String]) -> Result<Work<'a>, Words
     }
 }
 
+// Whether words were refused for want of memory or for what they are.
 fn words_fault(fault: &Error) -> WordsFault
     ensures { result ≡ WordsFault.Usage → kind_of fault.now ≢ ErrorKind.OutOfMemory }
 {
@@ -127,6 +128,7 @@ fn command<'a>(alloc: Global) -> Result<Command<'a>, AllocError>
         .subcommand(bench_command(alloc)?)
 }
 
+// The command to run a workload, with the path of its export if it is given one.
 fn run_command<'a>(alloc: Global) -> Result<Command<'a>, AllocError>
     ensures app { IfOk result (λ command. app_of command ≡ run_app) }
     ensures plain { IfOk result (λ command. (out-Command command).has_globals ≡ false) }
@@ -134,6 +136,7 @@ fn run_command<'a>(alloc: Global) -> Result<Command<'a>, AllocError>
     Command::new(alloc, "run").arg(Arg::new(alloc, "export").long("export"))
 }
 
+// The command to run a generated workload of a seed and a size.
 fn bench_command<'a>(alloc: Global) -> Result<Command<'a>, AllocError>
     ensures app { IfOk result (λ command. app_of command ≡ bench_app) }
     ensures plain { IfOk result (λ command. (out-Command command).has_globals ≡ false) }

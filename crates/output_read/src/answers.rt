@@ -21,6 +21,7 @@ pub fn answers(tables: &[TableDecl], within: bool, command: &Command, said: &Sai
     }
 }
 
+// Whether the command is one of upkeep, which is told the same in a transaction and without one.
 fn is_upkeep(command: &Command) -> bool
     ensures { result ≡ is_upkeep command.now }
 {
@@ -95,6 +96,7 @@ pub fn key_of(row: &Row) -> i128
     }
 }
 
+// What an insert may be told.
 fn answers_insert(said: &Said) -> bool
     ensures { result ≡ answers_insert said.now }
 {
@@ -126,6 +128,7 @@ fn answers_change(table: u32, said: &Said) -> bool
     }
 }
 
+// What the sealing of the block may be told.
 fn answers_seal(table: u32, block: u32, said: &Said) -> bool
     ensures { result ≡ answers_seal table block said.now }
 {
@@ -139,6 +142,7 @@ fn answers_seal(table: u32, block: u32, said: &Said) -> bool
     }
 }
 
+// What the gathering of the block may be told.
 fn answers_gather(table: u32, block: u32, said: &Said) -> bool
     ensures { result ≡ answers_gather table block said.now }
 {

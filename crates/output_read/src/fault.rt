@@ -19,6 +19,7 @@ impl From<AllocError> for ReadFault {
 
     ghost from_gives = { λ a e. e ≡ fault.Memory a };
 
+    // Refused memory, which `?` hands on.
     fn from(refused: AllocError) -> ReadFault {
         ReadFault::Memory(refused)
     }
@@ -30,6 +31,7 @@ impl<T: Drop> From<AllocFailed<T>> for ReadFault {
 
     ghost from_gives = { λ _ e. e ≡ fault.Memory alloc_error };
 
+    // Refused memory of a call that gives its value back, which is dropped here.
     fn from(_refused: AllocFailed<T>) -> ReadFault {
         ReadFault::Memory(AllocError)
     }

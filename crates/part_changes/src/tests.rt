@@ -1,3 +1,5 @@
+//! Tests of a table's head and its index: the places that it gives out in turn, and a candidate
+//! that is added once.
 use crate::{TableHead, add_place, drop_place};
 use block_layout::SlotId;
 use key_index::Index;

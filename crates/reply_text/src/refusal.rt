@@ -19,6 +19,7 @@ pub fn put_refusal(out: &mut Vec<u8>, line: u64, cause: Cause) -> Result<(), All
     Ok(())
 }
 
+// The name of a cause.
 fn cause_word(cause: Cause) -> &'static [u8]
     ensures { result.now ≡ cause_word cause }
 {

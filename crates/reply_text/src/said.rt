@@ -84,6 +84,7 @@ fn put_with_number(out: &mut Vec<u8>, text: &[u8], number: u64) -> Result<(), Al
     put_natural(out, number)
 }
 
+// The words that tell a row that was found.
 fn put_found(out: &mut Vec<u8>, row: &Row) -> Result<(), AllocError>
     ensures { OnOk result (out.new.items ≡ out.old.items ++ (codes " row" ++ behind_spaces (cell_words row.now))) }
 {
@@ -91,6 +92,7 @@ fn put_found(out: &mut Vec<u8>, row: &Row) -> Result<(), AllocError>
     put_cells(out, row.as_slice())
 }
 
+// The words that tell that the transaction wrote the table to be exported, and the least key.
 fn put_dirty(out: &mut Vec<u8>, key: i64) -> Result<(), AllocError>
     ensures { OnOk result (out.new.items ≡ out.old.items ++ (codes " dirty " ++ signed_decimal key)) }
 {
@@ -116,6 +118,7 @@ fn put_block(
     put_number(out, number as u64)
 }
 
+// The words that tell the numbers of an export.
 fn put_exported(
     out: &mut Vec<u8>,
     number: u64,
@@ -139,6 +142,7 @@ fn put_with_word(out: &mut Vec<u8>, text: &[u8], word: &[u8]) -> Result<(), Allo
     out.extend_from_slice(word)
 }
 
+// The word of why a block was not sealed.
 fn cause_text(cause: SealCause) -> &'static [u8]
     ensures { result.now ≡ cause_text cause }
 {

@@ -177,6 +177,7 @@ fn table_in(tables: &[TableDecl], name: &[u8]) -> Option<u32>
     }
 }
 
+// The place of the first table of this name in the list.
 fn place_of(tables: &[TableDecl], name: &[u8]) -> Option<usize>
     ensures place { result ≡ table_in tables.now name.now }
     ensures below { IfSome result (λ place. place < length tables.now) }

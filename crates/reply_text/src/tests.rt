@@ -1,3 +1,4 @@
+//! Tests of the text of replies: every reply is printed and read back, and other texts are none.
 ghost use Rattle.std.specs.Prelude.{◌≡◌, ◌<◌, ◌^◌, true, length, IfOk};
 ghost use Rattle.reply_text.specs.Shown.{are_tables};
 ghost use Rattle.workload_spec.specs.Valid.{is_table};

@@ -25,18 +25,21 @@ pub fn is_name(bytes: &[u8]) -> bool
     }
 }
 
+// Whether each of the bytes may stand in a name.
 fn are_name_bytes(bytes: &[u8]) -> bool
     ensures { result ≡ list_all is_name_byte bytes.now }
 {
     bytes.iter().all(|byte| is_name_byte(*byte))
 }
 
+// Whether the byte is a lower-case letter, with which a name begins.
 fn is_lower_case(byte: u8) -> bool
     ensures { result ≡ is_lower_case byte }
 {
     b'a' <= byte && byte <= b'z'
 }
 
+// Whether the byte may stand in a name behind its first.
 fn is_name_byte(byte: u8) -> bool
     ensures { result ≡ is_name_byte byte }
 {
@@ -62,6 +65,7 @@ fn split_colon(word: &[u8]) -> (&[u8], &[u8])
     }
 }
 
+// Where the word's first colon stands; its length where there is none.
 fn colon_place(word: &[u8]) -> usize
     ensures within { result ≤ length word.now }
     ensures before { before_colon word.now ≡ take result word.now }

@@ -11,6 +11,7 @@ use std::alloc::{AllocError, Global};
 use word_text::{kind_text, put_cells, put_key, put_natural, put_number, put_table_name, put_word};
 use workload_spec::{Command, Line, Round, Script};
 
+// The words of a command on a table.
 fn put_of_table(
     out: &mut Vec<u8>,
     command: &[u8],
@@ -23,6 +24,7 @@ fn put_of_table(
     put_table_name(out, tables, table)
 }
 
+// The words of a command on a key of a table.
 fn put_of_key(
     out: &mut Vec<u8>,
     command: &[u8],
@@ -37,6 +39,7 @@ fn put_of_key(
     put_key(out, key)
 }
 
+// The words of a command on a row of a table.
 fn put_of_row(
     out: &mut Vec<u8>,
     command: &[u8],
@@ -51,6 +54,7 @@ fn put_of_row(
     put_cells(out, row.as_slice())
 }
 
+// The words of a command on a block of a table.
 fn put_of_block(
     out: &mut Vec<u8>,
     command: &[u8],
@@ -87,6 +91,7 @@ fn put_command(out: &mut Vec<u8>, tables: &[TableDecl], command: &Command) -> Re
     }
 }
 
+// The line of a session's command.
 fn put_line(out: &mut Vec<u8>, tables: &[TableDecl], line: &Line) -> Result<(), AllocError>
     ensures { OnOk result (out.new.items ≡ out.old.items ++ (line_text tables.now line.now ++ 10 ∷ [])) }
 {
@@ -96,6 +101,7 @@ fn put_line(out: &mut Vec<u8>, tables: &[TableDecl], line: &Line) -> Result<(), 
     Ok(())
 }
 
+// The lines of a round's commands.
 fn put_lines(out: &mut Vec<u8>, tables: &[TableDecl], lines: &[Line]) -> Result<(), AllocError>
     ensures { OnOk result (out.new.items ≡ out.old.items ++ lines_text (map (line_text tables.now) lines.now)) }
 {
@@ -133,6 +139,7 @@ fn put_further_rounds(
     Ok(())
 }
 
+// A column as a word: its name, a colon and its kind.
 fn put_column(out: &mut Vec<u8>, column: &Column) -> Result<(), AllocError>
     ensures { OnOk result (out.new.items ≡ out.old.items ++ column_text column.now) }
 {
@@ -156,6 +163,7 @@ fn put_columns(out: &mut Vec<u8>, columns: &[Column]) -> Result<(), AllocError>
     Ok(())
 }
 
+// The line of a table.
 fn put_table(out: &mut Vec<u8>, table: &TableDecl) -> Result<(), AllocError>
     ensures { OnOk result (out.new.items ≡ out.old.items ++ (table_text table.now ++ 10 ∷ [])) }
 {
@@ -167,6 +175,7 @@ fn put_table(out: &mut Vec<u8>, table: &TableDecl) -> Result<(), AllocError>
     Ok(())
 }
 
+// The words that bound a table: the slots of a block, and its blocks.
 fn put_limits(out: &mut Vec<u8>, slots: u32, blocks: u32) -> Result<(), AllocError>
     ensures { OnOk result (out.new.items ≡ out.old.items ++ behind_spaces (codes "slots" ∷ decimal slots ∷ codes "blocks" ∷ decimal blocks ∷ [])) }
 {
@@ -176,6 +185,7 @@ fn put_limits(out: &mut Vec<u8>, slots: u32, blocks: u32) -> Result<(), AllocErr
     put_number(out, blocks as u64)
 }
 
+// The lines of the tables.
 fn put_tables(out: &mut Vec<u8>, tables: &[TableDecl]) -> Result<(), AllocError>
     ensures { OnOk result (out.new.items ≡ out.old.items ++ lines_text (map table_text tables.now)) }
 {
@@ -195,6 +205,7 @@ fn put_count(out: &mut Vec<u8>, word: &[u8], count: u32) -> Result<(), AllocErro
     Ok(())
 }
 
+// The line of the workers, with the turns of each in a round.
 fn put_workers(out: &mut Vec<u8>, workers: u32, turns: u32) -> Result<(), AllocError>
     ensures { OnOk result (out.new.items ≡ out.old.items ++ (spaced (codes "workers" ∷ decimal workers ∷ decimal turns ∷ []) ++ 10 ∷ [])) }
 {

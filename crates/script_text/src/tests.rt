@@ -1,3 +1,5 @@
+//! Tests of the text of workloads: each command and kind is printed and read back, each cause of a
+//! refusal is told in its order, and what passes an extent is refused.
 ghost use Rattle.std.specs.Prelude.{◌≡◌, true};
 ghost use Rattle.workload_spec.specs.Extents.{is_extent};
 

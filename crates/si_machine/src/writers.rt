@@ -25,6 +25,7 @@ pub(crate) struct Writers {
 }
 
 impl Writers {
+    /// No place was written yet.
     pub(crate) fn new(alloc: Global) -> Writers
         ensures { result.places.entries ≡ [] }
     {

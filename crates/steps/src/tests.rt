@@ -1,3 +1,4 @@
+//! Tests of the count of steps: two are counted from a blank.
 ghost use Rattle.std.specs.Prelude.{◌≡◌, ◌<◌};
 
 use super::*;

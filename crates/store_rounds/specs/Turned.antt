@@ -37,7 +37,8 @@ pub record PutTurn
       ≡ text ++ replies_text tables (lines_behind round (TheWorker worker) count_before lines.items)
   pub counted_now : count ≡ count_before + length lines.items
 
--- A worker made so many turns. Unless there was no memory for a line, the text grew by their lines.
+-- A worker made all of so many turns, also where there was no memory for a line. Where there was,
+-- the text grew by their lines.
 pub record TurnsMade
     {T : Type 0} (store : StoreView) (round worker turns : ℕ) (old new : Session)
     (before after : List ℕ) (shown : Result T RunFault)

@@ -85,7 +85,7 @@ pub record ToldMemory (shares : List Share) (session : ℕ) : Type 0 where
   pub who : share.who ≡ TheSession session
   pub ends : EndsAtExport share.calls
 
--- It stopped behind a round, whose text found no memory.
+-- It stopped behind a round that ran whole, whose text found no memory and was not printed.
 pub record GoesUnshown
     (Goes : List (List Line) → List ℕ → Type 0) (script : Script) (before now : Option (List ℕ))
     : Type 0 where

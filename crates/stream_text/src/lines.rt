@@ -1,4 +1,4 @@
-// The lines of a stream's text.
+//! The lines of a stream's text: its columns, its rows, and its count of rows or its first fault.
 ghost use Rattle.std.specs.Prelude.{◌≡◌, ◌++◌, ◌∷◌, [], None, Some, OnOk, map};
 ghost use Rattle.stream_text.specs.Shown.{cause_text, column_text, last_line, schema_line};
 ghost use Rattle.word_text.specs.Words.{behind_spaces};
@@ -30,6 +30,7 @@ fn cause_text(cause: Cause) -> &'static [u8]
     }
 }
 
+// A column as a word: its name between quotes, a colon and its kind.
 fn put_column(out: &mut Vec<u8>, column: &Column) -> Result<(), AllocError>
     ensures { OnOk result (out.new.items ≡ out.old.items ++ column_text column.now) }
 {

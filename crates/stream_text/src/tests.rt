@@ -1,4 +1,5 @@
-// A stream of nine rows in two batches, cut at each byte and changed at some.
+//! Tests of the text of streams: one of nine rows in two batches, cut at each byte and changed at
+//! some.
 use crate::show;
 use std::alloc::{AllocError, Global};
 use std::process::Abort;

@@ -1,3 +1,4 @@
+-- What a desk knows, and what always holds of it.
 use Rattle.std.specs.Prelude.{ℕ, ◌<◌, ◌≤◌, ◌^◌, List, Option, All, IfSome, length}
 use Rattle.txn_desk.specs.declared.Snapshot.{Snapshot}
 

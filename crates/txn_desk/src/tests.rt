@@ -1,3 +1,4 @@
+//! Tests of a desk: the stamps and numbers that it gives out, and the oldest stamp after each call.
 use super::*;
 use std::process::Abort;
 use std::test::Fail;

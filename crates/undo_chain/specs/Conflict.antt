@@ -1,3 +1,4 @@
+-- What stands in the way of a write to a slot.
 use Rattle.std.specs.Prelude.{ℕ, List, [], ◌∷◌, Option, None, Some, option_map, map, filter, find, fold, max}
 use Rattle.undo_chain.specs.declared.undo.Undo.{Undo}
 use Rattle.undo_chain.specs.declared.chain.Newer.{Newer}

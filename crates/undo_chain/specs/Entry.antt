@@ -1,3 +1,4 @@
+-- Whose an undo entry is, and which readers and writers it concerns.
 use Rattle.std.specs.Prelude.{ℕ, Bool, true, false, not, ◌&&◌, ◌||◌, ◌==◌, Option, None, Some, is_none, is_some, nat_le}
 use Rattle.undo_chain.specs.declared.undo.Undo.{Undo}
 use Rattle.undo_chain.specs.declared.undo.UndoKind.{UndoKind}

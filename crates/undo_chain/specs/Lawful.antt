@@ -1,3 +1,4 @@
+-- The order in which the entries of a chain stand, by their stamps.
 use Rattle.std.specs.Prelude.{◌≡◌, ℕ, ◌≤◌, List, MatchOption, IsSomeAnd, IfNone, IfSome, IsFalse, All, AllPairs}
 use Rattle.undo_chain.specs.declared.undo.Undo.{Undo}
 use Rattle.undo_chain.specs.Entry.{is_move}

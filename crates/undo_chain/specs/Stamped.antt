@@ -1,3 +1,4 @@
+-- What a commit makes of the entries of a slot.
 use Rattle.std.specs.Prelude.{ℕ, Some, if◌then◌else◌}
 use Rattle.undo_chain.specs.declared.undo.Undo.{Undo}
 use Rattle.undo_chain.specs.Entry.{is_own}

@@ -1,3 +1,4 @@
+-- What a contract sees of a chain.
 use Rattle.std.specs.Prelude.{ℕ, List}
 use Rattle.undo_chain.specs.declared.undo.Undo.{Undo}
 

@@ -1,3 +1,4 @@
+-- The row of a slot that a reader sees.
 use Rattle.std.specs.Prelude.{ℕ, List, not, map, fold}
 use Rattle.std.specs.List.{take_while}
 use Rattle.undo_chain.specs.declared.undo.Undo.{Undo}

@@ -1,3 +1,4 @@
+-- What the worked examples of a visible row are written in.
 use Rattle.std.specs.Prelude.{ℕ, List, Option, None, Some}
 use Rattle.undo_chain.specs.declared.undo.Undo.{Undo}
 use Rattle.undo_chain.specs.declared.undo.UndoKind.{UndoKind}

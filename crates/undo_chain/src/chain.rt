@@ -1,3 +1,5 @@
+//! The chain of a slot's undo entries: how it grows and is rolled back, stamped and pruned, what a
+//! reader lays back, and what stands in the way of a write.
 ghost use Rattle.std.specs.Prelude.{◌≡◌, ◌≢◌, ◌<◌, ◌≤◌, ◌++◌, [], ◌∷◌, not, false, OnOk, IsTrue, OnSome, IfSome, IsSome, ◌↔◌, ℕ, IfNone, IsOk, is_some, length, drop, take, map, filter, count_by, reverse, option_to_list, max};
 ghost use Rattle.std.specs.List.{list_any};
 ghost use Rattle.undo_chain.specs.Entry.{is_own, is_stamped_by, is_in_view};

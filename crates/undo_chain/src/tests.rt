@@ -1,3 +1,4 @@
+//! Tests of a chain: from its first entry to its last, and the visible row at the worked examples.
 mod worked;
 
 ghost use Rattle.undo_chain.specs.Lawful.{IsLawful};

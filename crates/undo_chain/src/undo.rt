@@ -1,3 +1,4 @@
+//! An undo entry: one change of a slot, who made it, its stamp, and its before-image.
 ghost use Rattle.std.specs.Prelude.{◌≡◌, ◌↔◌, IsTrue, Some};
 ghost use Rattle.undo_chain.specs.Entry.{is_move, is_own, is_stamped_by, is_in_view, is_open_write_of_another, is_commit_above};
 ghost use Rattle.undo_chain.specs.Lawful.{IsWriteOrStamped, MayStandAbove, IsStampedUpTo};

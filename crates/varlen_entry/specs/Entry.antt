@@ -1,3 +1,4 @@
+-- The entry of a value: which value it stands for, in place or in a buffer.
 use Rattle.std.specs.Prelude.{◌≡◌, ℕ, ◌+◌, ◌≤◌, ⊤, List, length, take, drop, Option, Some, None}
 use Rattle.varlen_entry.specs.declared.Entry.{Entry}
 use Rattle.varlen_entry.specs.declared.Entry.TheVariants.{Inline, Owned, Gathered}

@@ -165,6 +165,7 @@ impl Entry {
 impl Span {
     ghost use Rattle.std.specs.Prelude.{◌≡◌, ◌+◌, ◌≤◌, drop, length, take};
 
+    // The value, where it stands in this buffer.
     fn within<'a>(&self, buffer: &'a [u8]) -> &'a [u8]
         requires { self.now.place + self.now.len ≤ length buffer.now }
         ensures { result.now ≡ take self.now.len (drop self.now.place buffer.now) }

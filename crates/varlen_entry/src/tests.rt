@@ -1,3 +1,5 @@
+//! Tests of entries: values up to twelve bytes stand in place, longer ones in a buffer, owned or
+//! gathered.
 use super::*;
 use std::test::Fail;
 

@@ -1,3 +1,4 @@
+//! Tests of the reading of words: which words are numbers, and texts with spaces and escapes.
 use crate::*;
 use std::test::*;
 

@@ -52,12 +52,14 @@ fn plain_length(bytes: &[u8]) -> usize
     bytes.len()
 }
 
+// Whether the byte stands for itself in a text.
 fn is_plain(byte: u8) -> bool
     ensures { result ≡ is_plain byte }
 {
     !(byte == b'"' || byte == b'\\' || is_control(byte))
 }
 
+// Whether the byte is a control character, which a text spells by its digits.
 fn is_control(byte: u8) -> bool
     ensures { result ≡ is_control byte }
 {

@@ -11,6 +11,7 @@ pub fn split_word(line: &[u8]) -> (&[u8], &[u8])
     line.split_at(word_length(line))
 }
 
+// How many bytes the line's first word has; a text is one word with the spaces in it.
 fn word_length(line: &[u8]) -> usize
     ensures value { result ≡ word_end AtStart line.now }
     ensures within { result ≤ length line.now }

@@ -1,3 +1,5 @@
+//! Tests of the printing of words: a cell of each kind, numbers, a key, and a table that there is
+//! not.
 use crate::*;
 use cell_model::{Bytes, Cell};
 use std::test::*;

@@ -42,6 +42,7 @@ impl From<Vec<TableDecl>> for Tables {
 
     ghost from_gives = { λ items t. t ≡ items.items };
 
+    // The vector as it is, without a copy.
     fn from(tables: Vec<TableDecl>) -> Tables {
         Tables { tables }
     }
@@ -56,6 +57,7 @@ impl Tables {
         tables
     }
 
+    /// The tables, in order.
     pub fn as_slice(&self) -> &[TableDecl]
         ensures { result.now ≡ self.now }
     {
@@ -101,6 +103,7 @@ impl From<Vec<Line>> for Round {
 
     ghost from_gives = { λ items t. t ≡ items.items };
 
+    // The vector as it is, without a copy.
     fn from(lines: Vec<Line>) -> Round {
         Round { lines }
     }
@@ -115,6 +118,7 @@ impl Round {
         lines
     }
 
+    /// The lines of the round, in order.
     pub fn as_slice(&self) -> &[Line]
         ensures { result.now ≡ self.now }
     {
@@ -153,6 +157,7 @@ impl From<Vec<Round>> for Rounds {
 
     ghost from_gives = { λ items t. t ≡ items.items };
 
+    // The vector as it is, without a copy.
     fn from(rounds: Vec<Round>) -> Rounds {
         Rounds { rounds }
     }
@@ -167,6 +172,7 @@ impl Rounds {
         rounds
     }
 
+    /// The rounds, in order.
     pub fn as_slice(&self) -> &[Round]
         ensures { result.now ≡ self.now }
     {

@@ -1,4 +1,4 @@
-// The lists.
+//! The lists of events of the core's tests, each event with the text of its reply.
 
 // An event of a session, which comes first, or of upkeep.
 #[derive(Clone, Copy)]

@@ -1,4 +1,4 @@
-// Replies as text.
+//! The text of a core's reply, by which the tests compare it.
 use super::{Cell, CoreReply, Fail, Global, Phase, Reply, Row, SealFault, WriteFault};
 use block_body::Look;
 

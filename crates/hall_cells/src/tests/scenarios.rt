@@ -1,4 +1,4 @@
-// What passes do with a hall of three marks, and what comes of it.
+//! What passes do with a hall of three marks, and what comes of it.
 ghost use Rattle.std.specs.Prelude.{◌≡◌, ◌+◌, ◌*◌, ◌^◌, ◌<◌, ◌≤◌, ℕ, true, length, vec_len};
 ghost use Rattle.hall_cells.specs.Marks.{IsEmpty, meaning_of};
 ghost use Rattle.std.specs.Thread.{IsSync};

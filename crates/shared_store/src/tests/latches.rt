@@ -1,4 +1,5 @@
-// A row of one block is got while another pass holds the body of a second block.
+//! Tests of two sessions at once: one gets a row of a block while the other holds the body of a
+//! second block.
 ghost use Rattle.std.specs.Prelude.{◌≡◌, ◌+◌, ◌≤◌, ◌∷◌, [], ℕ, Some, pos, true, IfOk, is_some};
 ghost use Rattle.std.specs.Prelude.{slice_get};
 ghost use Rattle.std.specs.Thread.{IsSync};
