@@ -1,5 +1,5 @@
 //! Taking a part and giving it back.
-ghost use Rattle.std.specs.Prelude.{◌≡◌, ◌≢◌, ℕ, ◌+◌, ◌<◌, ◌==◌, List, [], ◌∷◌, ◌++◌, Option, None, Some, IsTrue, MatchBool, cond, length, slice_get, slice_set};
+ghost use Rattle.std.specs.Prelude.{◌≡◌, ◌≢◌, ℕ, ◌+◌, ◌<◌, ◌==◌, List, [], ◌∷◌, ◌++◌, None, Some, cond, length, slice_get, slice_set};
 ghost use Rattle.hall_rule.specs.HallInvariant.{hands_of, stage};
 ghost use Rattle.hall_rule.specs.EventLog.{replay};
 ghost use Rattle.hall_rule.specs.Hands.{Holds};
@@ -10,9 +10,17 @@ ghost use Rattle.hall_steps.specs.Hall.{IsAt, IsOf, IsSameSeat, IsSized, Looks};
 
 use crate::telling::{Board, Place, free_as, latch_as, load_as};
 use hall_rule::{Hand, Parts};
+use std::hint::spin_loop;
 use std::marker::Brand;
 use std::sync::Wait;
 use std::sync::atomic::{AtomicU64, Ordering};
+
+/// How often a latch that another pass holds is tried again before its taker sleeps, which costs a
+/// system call of each of the two.
+const TRIES: u32 = 2048;
+
+/// How many pauses the processor makes between two tries.
+const PAUSES: u32 = 2;
 
 // Tries the latch of a part once.
 fn try_latch<C: Parts>(board: &Board<C>, seat: &mut Place<C>, part: u32) -> bool
@@ -24,6 +32,32 @@ fn try_latch<C: Parts>(board: &Board<C>, seat: &mut Place<C>, part: u32) -> bool
     ensures taken { seat.new.me ≡ (cond result (staged seat.old.me.0 part 1) seat.old.me.0, []) }
 {
     latch_as::<C, Brand>(board, seat, part) == 0
+}
+
+// Waits a little, without sleeping.
+fn pause() {
+    for _ in 0..PAUSES {
+        spin_loop();
+    }
+}
+
+// Tries the latch of a part again for as long as a part is held by most events, and tells whether it
+// was taken.
+fn try_again<C: Parts>(board: &Board<C>, seat: &mut Place<C>, part: u32) -> bool
+    requires at { IsAt (planned C.Parts board.now.key) board.now.table_id seat.old part }
+    requires none_out { seat.old.me.1 ≡ [] }
+    requires away { stage seat.old.me.0 part ≡ 0 }
+    requires hand { hands_of seat.old.me.0 ≢ 0 }
+    ensures seat { IsSameSeat seat.old seat.new }
+    ensures taken { seat.new.me ≡ (cond result (staged seat.old.me.0 part 1) seat.old.me.0, []) }
+{
+    for _ in 0..TRIES {
+        pause();
+        if try_latch(board, seat, part) {
+            return true;
+        }
+    }
+    false
 }
 
 // Sleeps until the latch of a part is taken.
@@ -61,7 +95,7 @@ fn latch<C: Parts, R: Wait>(
     ensures seat { IsSameSeat seat.old seat.new }
     ensures taken { seat.new.me ≡ (staged seat.old.me.0 part 1, []) }
 {
-    if try_latch(board, seat, part) {
+    if try_latch(board, seat, part) || try_again(board, seat, part) {
         return;
     }
     waiting[part as usize].fetch_add(1, Ordering::SeqCst);
