@@ -1,64 +1,59 @@
 //! The Arrow buffers that an event lays into a sealed block.
-ghost use Rattle.std.specs.Prelude.{◌≡◌, ◌↔◌, IfSome, IsTrue, map};
+ghost use Rattle.std.specs.Prelude.{◌≡◌, ◌↔◌, IfOk, IfSome, IsTrue, map};
 ghost use Rattle.arrow_spec.specs.Batches.{arrays_of};
 ghost use Rattle.block_columns.specs.Images.{IsWhole, rows_of};
+ghost use Rattle.core_images.specs.Gathered.{image_of};
 ghost use Rattle.core_images.specs.Kinds.{kinds_of};
 
 use block_columns::Columns;
-use cell_model::Buffers;
+use cell_model::{Buffers, Kind};
+use std::alloc::{AllocError, Global};
 use std::marker::Model;
+use std::snapshot::Snapshot;
 
-/// The Arrow buffers of some rows, with the columns of which they were gathered. Contracts see the rows.
+/// The Arrow buffers of some rows, with the kinds of the columns of which they were gathered.
+/// Contracts see the rows.
 #[derive(Drop)]
 pub struct Gathered {
-    columns: Columns,
+    // The columns, for contracts alone: none of their cells is kept.
+    columns: Snapshot<Columns>,
+    kinds: Vec<Kind>,
     rows: u32,
     buffers: Vec<Buffers>,
 }
 
 impl Model for Gathered {
     ghost use Rattle.std.specs.Prelude.{List};
-    ghost use Rattle.block_columns.specs.Images.{IsWhole, rows_of};
+    ghost use Rattle.block_columns.specs.Images.{rows_of};
     ghost use Rattle.block_spec.specs.Slots.{Row};
+    ghost use Rattle.core_images.specs.Gathered.{IsKept, image_of};
 
     ghost Value = { List Row };
 
-    ghost view = { λ gathered. rows_of (record {
-      columns = gathered.columns.columns;
-      slots = gathered.columns.rows;
-      rows = gathered.rows;
-      buffers = gathered.buffers.items;
-    }) };
+    ghost view = { λ gathered. rows_of
+        (image_of gathered.columns.value gathered.rows gathered.buffers.items) };
 
-    ghost invariant = { λ gathered. IsWhole (record {
-      columns = gathered.columns.columns;
-      slots = gathered.columns.rows;
-      rows = gathered.rows;
-      buffers = gathered.buffers.items;
-    }) };
+    ghost invariant = { λ gathered. IsKept
+        gathered.columns.value gathered.kinds.items gathered.rows gathered.buffers.items };
 }
 
 impl Gathered {
     /// The buffers that were gathered of the first `rows` slots of the columns.
-    pub fn new(columns: Columns, rows: u32, buffers: Vec<Buffers>) -> Gathered
-        requires { IsWhole (record {
-          columns = columns.columns;
-          slots = columns.rows;
-          rows = rows;
-          buffers = buffers.items;
-        }) }
-        ensures { result ≡ rows_of (record {
-          columns = columns.columns;
-          slots = columns.rows;
-          rows = rows;
-          buffers = buffers.items;
-        }) }
+    pub fn new(
+        alloc: Global,
+        columns: &Columns,
+        rows: u32,
+        buffers: Vec<Buffers>,
+    ) -> Result<Gathered, AllocError>
+        requires { IsWhole (image_of columns.now rows buffers.items) }
+        ensures { IfOk result (λ gathered. gathered ≡ rows_of (image_of columns.now rows buffers.items)) }
     {
-        Gathered {
-            columns,
+        Ok(Gathered {
+            columns: Snapshot::of(columns),
+            kinds: kinds_in(alloc, columns)?,
             rows,
             buffers,
-        }
+        })
     }
 
     /// The buffers of the rows as rows of these columns: there are none where one of the columns is of
@@ -67,11 +62,12 @@ impl Gathered {
         ensures { IfSome result (λ buffers. buffers.items ≡ map (λ array. array.buffers) (arrays_of columns.now.columns self)) }
     {
         let Gathered {
-            columns: of,
+            columns: _,
+            kinds,
             rows: _,
             buffers,
         } = self;
-        if are_of_same_kinds(&of, columns) {
+        if are_of_kinds(kinds.as_slice(), columns) {
             Some(buffers)
         } else {
             None
@@ -79,15 +75,26 @@ impl Gathered {
     }
 }
 
-// Whether there are as many of the one columns as of the others, each of the kind of that in its place.
-fn are_of_same_kinds(one: &Columns, other: &Columns) -> bool
-    ensures { IsTrue result ↔ kinds_of one.now.columns ≡ kinds_of other.now.columns }
+// The kinds of columns, in order.
+fn kinds_in(alloc: Global, columns: &Columns) -> Result<Vec<Kind>, AllocError>
+    ensures { IfOk result (λ kinds. kinds.items ≡ kinds_of columns.now.columns) }
 {
-    if one.width() != other.width() {
+    let mut kinds = Vec::with_capacity(alloc, columns.width())?;
+    for at in 0..columns.width() {
+        kinds.push(columns.column(at).kind())?;
+    }
+    Ok(kinds)
+}
+
+// Whether there are as many columns as kinds, each of the kind in its place.
+fn are_of_kinds(kinds: &[Kind], columns: &Columns) -> bool
+    ensures { IsTrue result ↔ kinds.now ≡ kinds_of columns.now.columns }
+{
+    if kinds.len() != columns.width() {
         return false;
     }
-    for at in 0..one.width() {
-        if one.column(at).kind() != other.column(at).kind() {
+    for at in 0..kinds.len() {
+        if kinds[at] != columns.column(at).kind() {
             return false;
         }
     }

@@ -54,7 +54,7 @@ pub fn image_of<R: Threads + Sync>(
             let columns = sealed.columns();
             let rows = sealed.rows();
             let buffers = gather_buffers(rt, shape.alloc(), columns, rows)?;
-            Ok(Some(Gathered::new(columns.copy()?, rows, buffers)))
+            Ok(Some(Gathered::new(shape.alloc(), columns, rows, buffers)?))
         }
         Phase::Loose | Phase::Imaged(_) => Ok(None),
     }

@@ -1,7 +1,6 @@
 use Rattle.std.proofs.Common.{◌∙◌, List, Option, None, Some, take, get_or, ◌<◌, sym, ap, subst}
 use Rattle.std.specs.Prelude.{IsSome, flat_map, option_to_list}
 use mathlib.Core.Logic.{inl, inr}
-use Rattle.block_columns.specs.Columns.{ColumnsValue}
 use Rattle.block_spec.specs.Slots.{Row}
 use Rattle.core_images.proofs.Front.{front_held}
 use Rattle.engine_core.proofs.Asked.{few_slots, front_is, image_imaged, image_loose, image_sealed, image_there, rows_few, sealed_front}
@@ -19,15 +18,15 @@ gather_buffers-requires-clause-few g c κs within =
     let x = c.body-sealed.result.now in
     rows_few x c.rows-rows.result c.rows-rows.ensures (few_slots c.args.shape.now c.args.held.now c.args.table c.args.block x c.body-sealed.ensures c.requires.core c.requires.body)
 
-pub returns-in_ok-copy-in-Sealed : goal.returns-in_ok-copy-in-Sealed
-returns-in_ok-copy-in-Sealed g c = λ s holds agrees.
+pub returns-in_ok-new-in-Sealed : goal.returns-in_ok-new-in-Sealed
+returns-in_ok-new-in-Sealed g c = λ s holds agrees.
     let x = c.body-sealed.result.now in
     let sealed = sym c.phase.ensures ∙ c.in-Sealed.is in
     let front = sealed_front c.args.shape.now c.args.held.now c.args.table c.args.block x c.body-sealed.ensures c.requires.core c.requires.body c.in-Sealed.field-0 sealed in
-    image_there c.args.shape.now c.args.held.now c.args.table c.args.block x c.body-sealed.ensures (Some c.new.result)
-    (image_sealed x c.new.result c.in-Sealed.field-0 sealed (
-    c.new.ensures
-    ∙ ap (λ (l : List (Option Row)). flat_map (λ slot. option_to_list slot) (take c.rows-rows.result l)) (ap (λ (v : ColumnsValue). v.rows) c.in_ok-copy-in-Sealed.ensures ∙ c.columns-columns.ensures.rows)
+    image_there c.args.shape.now c.args.held.now c.args.table c.args.block x c.body-sealed.ensures (Some c.in_ok-new-in-Sealed.field-0)
+    (image_sealed x c.in_ok-new-in-Sealed.field-0 c.in-Sealed.field-0 sealed (
+    c.in_ok-new-in-Sealed.ensures
+    ∙ ap (λ (l : List (Option Row)). flat_map (λ slot. option_to_list slot) (take c.rows-rows.result l)) c.columns-columns.ensures.rows
     ∙ front_is x c.rows-rows.result front c.rows-rows.ensures
     )) s agrees
 
