@@ -3,6 +3,7 @@ use Rattle.std.specs.Prelude.{ℕ, ◌-◌, ◌^◌, pos, Bool, true, ◌&&◌, 
 use Rattle.std.specs.Char.{digit_value}
 use Rattle.std.specs.List.{list_all}
 use Rattle.std.specs.Str.Parse.{digits_value, without_leading_plus}
+use Rattle.bench_script.specs.Laws.{most_size}
 use Rattle.clap.specs.Words.{App, Kinds, Row, Rule, Text, fault_of, first_of, new_app, new_rule, subcommand_of, with_rule, with_subcommand}
 use Rattle.clap.specs.declared.builder.value_parser.ValueParser.TheVariants as parser
 use Rattle.mainline.specs.declared.words.Work.{Work}
@@ -23,9 +24,6 @@ export_rule = record (new_rule (codes "export")) { long = Some (codes "export") 
 
 abbrev pub seed_rule : Rule
 seed_rule = record (new_rule (codes "seed")) { required = true; parser = Some (parser.Unsigned 0 (2 ^ 64 - 1)) }
-
-abbrev pub most_size : ℕ
-most_size = 4096
 
 abbrev pub size_rule : Rule
 size_rule = record (new_rule (codes "size")) { required = true; parser = Some (parser.Signed (pos 1) (pos most_size)) }

@@ -1,9 +1,8 @@
-use Rattle.std.proofs.Common.{◌≡◌, ◌<◌, ◌^◌, length, subst, sym, ap, ◌∙◌, List, ℕ, Option, None}
+use Rattle.std.proofs.Common.{◌<◌, ◌^◌, length, subst, sym, List, ℕ, None}
 use Rattle.std.proofs.lemmas.Result.{IfOk-weaker}
 use Rattle.workload_spec.specs.ScriptText.{script_text}
 use Rattle.workload_spec.specs.declared.script.Script.{Script}
 use Rattle.bench_counts.specs.Told.{IsTold}
-use Rattle.bench_spec.specs.declared.counts.Counts.{Counts}
 use Rattle.mainline.proofs.Benched.{ran_generated}
 use Rattle.mainline.proofs.benching.run_generated.Goals as goal
 
@@ -15,6 +14,6 @@ pub returns : goal.returns
 returns g c =
     IfOk-weaker c.count_replies.result _ _
     (λ told tells. ran_generated c.args.seed c.args.size c.in_ok-script.script c.in_ok-script-2.script c.new-output.result.bytes.items c.run_workload.new.out.bytes.items None None told
-    c.in_ok-script.ensures c.in_ok-script-2.ensures c.new-output.ensures c.in-Ok.ensures.whole
+    c.requires c.in_ok-script.ensures c.in_ok-script-2.ensures c.new-output.ensures c.in-Ok.ensures.whole
     (subst (λ (output : List ℕ). IsTold c.in_ok-script-2.script output told) c.as_slice.ensures tells))
     c.count_replies.ensures
