@@ -1,19 +1,18 @@
 //! Whole runs: what the words and the input give.
 mod benched;
 mod checked;
+mod gated;
 mod kept;
 mod ran;
 mod shown;
 
-ghost use Rattle.std.specs.Prelude.{None, refl};
-
 use crate::perform::perform;
 use crate::status::Status;
-use byte_ports::{Failed, Gate, ListOutlet, ListSink, ListSource, OpenGate, Outlet, Sink};
+use crate::tests::gated::{Noted, NotingGate, NotingOutlet};
+use byte_ports::{ListOutlet, ListSink, ListSource};
 use std::alloc::{AllocError, Global};
 use std::process::Abort;
 use std::sync::Wait;
-use std::sync::atomic::{AtomicU32, Ordering};
 use std::test::Fail;
 use std::thread::Threads;
 
@@ -386,23 +385,17 @@ fn run_on<R: Wait + Threads + Sync>(
     input: &[u8],
     failing: Failing,
 ) -> Result<Ended, AllocError> {
+    let noted = Noted::new(0);
     let mut source = ListSource::new(alloc, input, failing.source)?;
     let mut out = ListSink::new(alloc, failing.out)?;
-    let mut outlet = ListOutlet::new(alloc, failing.outlet)?;
+    let mut outlet = NotingOutlet::new(ListOutlet::new(alloc, failing.outlet)?, &noted);
     let words = owned(alloc, words)?;
-    let status = perform(
-        rt,
-        alloc,
-        words,
-        &mut source,
-        &mut out,
-        &mut outlet,
-        &OpenGate,
-    );
+    let gate = NotingGate { noted: &noted };
+    let status = perform(rt, alloc, words, &mut source, &mut out, &mut outlet, &gate);
     Ok(Ended {
         status,
         out,
-        outlet,
+        outlet: outlet.outlet,
     })
 }
 
@@ -605,92 +598,6 @@ fn blocks_are_batches(rt: HostRuntime) -> Result<(), Fail> {
     }
     assert_eq!(rt; sent.get(376), Some(&0xff));
     assert_eq!(rt; ended.outlet.started().len(), 1);
-    Ok(())
-}
-
-// The commands of session 1 in the test of the gate, and the number of the first worker there.
-const COMMANDS: u32 = 8;
-
-const FIRST_WORKER: u32 = 65;
-
-// Holds how often session 1 passed it, while it passes with 1, 2 and so on, and how often the first
-// worker did, at the same time.
-#[derive(Drop)]
-struct CountingGate<'a> {
-    passed: &'a AtomicU32,
-    turned: &'a AtomicU32,
-}
-
-impl<'a> Gate for CountingGate<'a> {
-    fn pass<R: Wait>(&self, _rt: &R, session: u32, index: u32) {
-        let passed = if session == FIRST_WORKER {
-            self.turned
-        } else {
-            self.passed
-        };
-        let next = passed.load(Ordering::Relaxed).wrapping_add(1);
-        let in_order = (session == 1 || session == FIRST_WORKER) && index == next;
-        passed.store(if in_order { next } else { u32::MAX }, Ordering::Relaxed);
-    }
-}
-
-// An outlet that notes how often the gate was passed when it is started, and when it is first
-// written to.
-#[derive(Drop)]
-struct WatchingOutlet<'a> {
-    passed: &'a AtomicU32,
-    at_start: Option<u32>,
-    at_write: Option<u32>,
-}
-
-impl<'a> Sink for WatchingOutlet<'a> {
-    ghost written = { λ _. None };
-
-    ghost faults = { λ _. 0 };
-
-    fn write(&mut self, piece: &[u8]) -> Result<usize, Failed> {
-        if self.at_write.is_none() {
-            self.at_write = Some(self.passed.load(Ordering::Relaxed));
-        }
-        Ok(piece.len())
-    }
-}
-
-impl<'a> Outlet for WatchingOutlet<'a> {
-    fn start(&mut self, _name: &str) -> Result<(), Failed> {
-        self.at_start = Some(self.passed.load(Ordering::Relaxed));
-        Ok(())
-    }
-
-    ghost names_told = { λ _. refl };
-}
-
-// The outlet is started before the first command, and the export is the seventh.
-#[test]
-fn the_gate_is_passed_before_each_command_and_turn(rt: HostRuntime) -> Result<(), Fail> {
-    let alloc = rt.alloc();
-    let input = "store 1\ntable b key:i64 slots 8 blocks 1\nsessions 1\nworkers 1 2\ngo\n\
-        1 begin\n1 insert b 1\n1 get b 1\n1 get b 2\n1 commit\n1 begin\n1 export b\n1 commit\n";
-    let mut source = ListSource::new(alloc, input.as_bytes(), &[])?;
-    let mut out = ListSink::new(alloc, &[])?;
-    let passed = AtomicU32::new(0);
-    let turned = AtomicU32::new(0);
-    let mut outlet = WatchingOutlet {
-        passed: &passed,
-        at_start: None,
-        at_write: None,
-    };
-    let words = owned(alloc, &RUN)?;
-    let gate = CountingGate {
-        passed: &passed,
-        turned: &turned,
-    };
-    let status = perform(&rt, alloc, words, &mut source, &mut out, &mut outlet, &gate);
-    assert_eq!(rt; status, Status::Done);
-    assert_eq!(rt; outlet.at_start, Some(0));
-    assert_eq!(rt; outlet.at_write, Some(7));
-    assert_eq!(rt; passed.load(Ordering::Relaxed), COMMANDS);
-    assert_eq!(rt; turned.load(Ordering::Relaxed), 2);
     Ok(())
 }
 
