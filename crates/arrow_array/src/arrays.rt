@@ -1,5 +1,5 @@
 //! Rows, column by column, as a record batch (Arrow columnar format, "RecordBatch message").
-ghost use Rattle.std.specs.Prelude.{◌≡◌, ◌≤◌, ◌↔◌, ◌<◌, ◌^◌, ◌++◌, All, IfOk, IsTrue, OnOk, length, ◌==◌, if◌then◌else◌};
+ghost use Rattle.std.specs.Prelude.{◌≡◌, ◌≤◌, ◌↔◌, ◌<◌, ◌^◌, ◌++◌, All, IfOk, IsTrue, OnOk, length, ◌==◌};
 ghost use Rattle.arrow_spec.specs.Arrays.{column_buffers, data_buffers, layout_of, null_count, validity};
 ghost use Rattle.arrow_spec.specs.Batches.{arrays_of, column_cells};
 ghost use Rattle.cell_model.specs.Rows.{Fits};

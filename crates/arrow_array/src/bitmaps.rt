@@ -1,6 +1,6 @@
 //! Bitmaps of a column's cells, eight a byte, the first in the lowest bit (Arrow columnar format,
 //! "Validity bitmaps").
-ghost use Rattle.std.specs.Prelude.{◌≡◌, ◌+◌, ◌<◌, ◌≤◌, ◌^◌, IfOk, length, map};
+ghost use Rattle.std.specs.Prelude.{◌≡◌, ◌+◌, ◌<◌, ◌≤◌, IfOk, length, map};
 ghost use Rattle.arrow_spec.specs.Bytes.{bitmap, byte_of_bits};
 ghost use Rattle.arrow_array.specs.Batches.{bit_of, cell_at};
 

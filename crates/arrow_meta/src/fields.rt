@@ -1,7 +1,7 @@
 //! The fields of a flatbuffer's table: numbers, references, vectors and texts. An absent number is
 //! 0, an absent vector has no element and an absent text is empty.
 ghost use Rattle.std.specs.Prelude.{◌≡◌, ◌+◌, ◌*◌, ◌≤◌, IfOk, MatchResult, Ok, Err, length};
-ghost use Rattle.stream_spec.specs.Metadata.{elements, elements_of, int_table_of, reference, scalar, text};
+ghost use Rattle.stream_spec.specs.Metadata.{elements, int_table_of, reference, scalar, text};
 
 use flat_read::{FlatFault, field, follow, number, text as text_at, vector};
 use std::alloc::{AllocError, AllocFailed};

@@ -1,5 +1,5 @@
 //! The columns of a schema message and how they are read (Schema.fbs, "Schema", "Field", "Type").
-ghost use Rattle.std.specs.Prelude.{◌≡◌, ◌+◌, ◌*◌, ◌≤◌, IfOk, IsErrOf, MatchResult, Ok, Err, length};
+ghost use Rattle.std.specs.Prelude.{◌≡◌, ◌+◌, ◌*◌, IfOk, IsErrOf, MatchResult, Ok, Err};
 ghost use Rattle.std.specs.Str.{is_utf8};
 ghost use Rattle.arrow_meta.specs.Fields.{field_of};
 ghost use Rattle.stream_spec.specs.Metadata.{column_at, columns_at, field_table_at, int_of_type, kind_of_field, kind_of_type, schema_table_at};

@@ -1,5 +1,5 @@
 //! The rows that draws make.
-ghost use Rattle.std.specs.Prelude.{◌≡◌, ◌<◌, ◌^◌, IfOk};
+ghost use Rattle.std.specs.Prelude.{◌≡◌, ◌<◌, IfOk};
 ghost use Rattle.bench_spec.specs.Generated.{row_of, text_of};
 
 use cell_model::{Bytes, Cell, Row};

@@ -1,5 +1,5 @@
 //! The rounds in which sessions write.
-ghost use Rattle.std.specs.Prelude.{◌≡◌, ◌+◌, ◌*◌, ◌-◌, ◌<◌, ◌≤◌, ◌^◌, ◌++◌, ◌∷◌, [], OnOk, IfOk};
+ghost use Rattle.std.specs.Prelude.{◌≡◌, ◌+◌, ◌*◌, ◌-◌, ◌<◌, ◌≤◌, ◌++◌, ◌∷◌, [], OnOk, IfOk};
 ghost use Rattle.bench_spec.specs.Generated.{draws_of_each, key_of, line, transaction, write_round, writers};
 
 use crate::draws::Draws;

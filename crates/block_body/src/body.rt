@@ -1,5 +1,5 @@
 //! The body of a block.
-ghost use Rattle.std.specs.Prelude.{true, false, ◌≡◌, ◌≢◌, ◌+◌, ◌*◌, ◌<◌, ◌≤◌, ◌^◌, ◌↔◌, ℕ, None, Some, IfOk, IfSome, IfErr, OnOk, OnErr, IsTrue, is_some, is_none, option_copied, not, map, count_by, length, slice_index_or, if◌then◌else◌};
+ghost use Rattle.std.specs.Prelude.{true, false, ◌≡◌, ◌+◌, ◌*◌, ◌<◌, ◌≤◌, ◌^◌, ℕ, None, Some, IfOk, IfSome, IfErr, OnOk, OnErr, is_some, option_copied, not, map, count_by, length, if◌then◌else◌};
 ghost use Rattle.undo_chain.specs.Conflict.{conflict_of, other_writer};
 ghost use Rattle.undo_chain.specs.Lawful.{IsLawful, NoneStampedAbove};
 ghost use Rattle.cell_model.specs.Rows.{Fits};

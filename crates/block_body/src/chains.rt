@@ -1,5 +1,5 @@
 //! The version chains of a body, one for each slot that has an entry.
-ghost use Rattle.std.specs.Prelude.{◌≡◌, ◌≢◌, ◌∷◌, ◌++◌, ◌↔◌, ◌<◌, ◌≤◌, ◌*◌, ◌^◌, ℕ, [], None, IfOk, OnOk, OnErr, IfErr, OnSome, IfSome, IfNone, All, not, filter, map, fold, count_by, IsSome, option_to_list, length, slice_index_or, slice_set, if◌then◌else◌};
+ghost use Rattle.std.specs.Prelude.{◌≡◌, ◌≢◌, ◌∷◌, ◌++◌, ◌↔◌, ◌<◌, ◌≤◌, ◌*◌, ◌^◌, ℕ, [], None, OnOk, OnErr, IfErr, IfSome, IfNone, not, filter, map, fold, count_by, IsSome, option_to_list, length, slice_index_or, slice_set, if◌then◌else◌};
 ghost use Rattle.std.specs.List.{list_any};
 ghost use Rattle.block_spec.specs.Slots.{laid_back, rolled_back};
 ghost use Rattle.undo_chain.specs.Entry.{is_own, is_stamped_by};

@@ -1,5 +1,5 @@
 //! What a compaction reads of a body.
-ghost use Rattle.std.specs.Prelude.{◌≡◌, ◌<◌, ℕ, [], ◌∷◌, None, IfOk, length, slice_get, slice_index_or};
+ghost use Rattle.std.specs.Prelude.{◌≡◌, ◌<◌, [], ◌∷◌, None, IfOk, length, slice_get, slice_index_or};
 ghost use Rattle.isolation_spec.specs.Contents.{key_of};
 ghost use Rattle.block_columns.specs.Columns.{cell_of};
 ghost use Rattle.block_body.specs.Keys.{HasKey};

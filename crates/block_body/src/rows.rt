@@ -1,5 +1,5 @@
 //! The rows of a body: columns of its own, or those of the image that it shares with readers.
-ghost use Rattle.std.specs.Prelude.{◌≡◌, ℕ, List, ◌+◌, ◌<◌, ◌≤◌, ◌^◌, ◌↔◌, None, Some, IfOk, option_copied, OnOk, OnErr, IsTrue, IsSome, is_some, count_by, length, replicate, slice_index_or, slice_set, if◌then◌else◌};
+ghost use Rattle.std.specs.Prelude.{◌≡◌, ℕ, List, ◌+◌, ◌<◌, ◌≤◌, ◌^◌, None, Some, IfOk, option_copied, OnOk, OnErr, IsTrue, IsSome, is_some, count_by, length, replicate, slice_index_or, slice_set, if◌then◌else◌};
 ghost use Rattle.cell_model.specs.Rows.{Fits};
 ghost use Rattle.block_spec.specs.declared.change.Before.{Before as BeforeImage};
 ghost use Rattle.undo_chain.specs.declared.undo.Undo.{Undo};

@@ -1,5 +1,5 @@
 //! The cells of a column, as Arrow's bytes.
-ghost use Rattle.std.specs.Prelude.{◌≡◌, ◌<◌, ◌≤◌, ◌++◌, [], IfOk, OnOk, OnErr, IsTrue, ◌↔◌, length, replicate, slice_set, slice_index_or, map, not, take};
+ghost use Rattle.std.specs.Prelude.{◌≡◌, ◌<◌, ◌≤◌, ◌++◌, [], IfOk, OnOk, OnErr, length, replicate, slice_set, slice_index_or, map, not, take};
 ghost use Rattle.cell_model.specs.declared.cell.Cell.TheVariants as cell;
 ghost use Rattle.cell_model.specs.Values.{is_null};
 ghost use Rattle.std.specs.Int.{Width};

@@ -1,6 +1,6 @@
 //! The attributes of a slot that a patch names: their before-images, and how they are replaced and
 //! laid back.
-ghost use Rattle.std.specs.Prelude.{◌≡◌, ◌<◌, ℕ, All, IfOk, OnOk, OnErr, length, slice_set};
+ghost use Rattle.std.specs.Prelude.{◌≡◌, ◌<◌, All, IfOk, OnOk, OnErr, length};
 ghost use Rattle.std.specs.List.{AllZip};
 ghost use Rattle.cell_model.specs.declared.cell.Cell.TheVariants as cell;
 ghost use Rattle.block_spec.specs.Fitting.{PatchFits};

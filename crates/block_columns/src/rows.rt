@@ -1,5 +1,5 @@
 //! The cells of one slot in all columns: how a row is written, laid, wiped and read.
-ghost use Rattle.std.specs.Prelude.{◌≡◌, ◌<◌, ◌≤◌, ℕ, All, IfOk, OnOk, OnErr, length, slice_index_or};
+ghost use Rattle.std.specs.Prelude.{◌≡◌, ◌<◌, ◌≤◌, All, IfOk, OnOk, OnErr, length};
 ghost use Rattle.std.specs.List.{AllZip};
 ghost use Rattle.cell_model.specs.declared.cell.Cell.TheVariants as cell;
 ghost use Rattle.block_columns.specs.Columns.{CellFits, IsLonger, IsSpare, cells_at, columns_in, with_row, wiped};

@@ -1,5 +1,5 @@
 //! What a column stores for each cell.
-ghost use Rattle.std.specs.Prelude.{◌≡◌, ◌<◌, ◌≤◌, ◌++◌, [], ℕ, IfOk, OnOk, OnErr, IfNone, IfSome, List, length, map, take, replicate, slice_set, slice_index_or, IsTrue, ◌↔◌, ◌^◌, true, false, Bool};
+ghost use Rattle.std.specs.Prelude.{◌≡◌, ◌<◌, ◌≤◌, ◌++◌, [], IfOk, OnOk, OnErr, IfNone, IfSome, List, length, map, take, replicate, slice_set, slice_index_or, IsTrue, ◌↔◌, ◌^◌, true, false, Bool};
 ghost use Rattle.cell_model.specs.declared.cell.Cell.TheVariants as cell;
 ghost use Rattle.cell_model.specs.declared.cell.Cell.{Cell as CellValue};
 ghost use Rattle.cell_model.specs.declared.kind.Kind.{Kind as KindValue};

@@ -1,5 +1,5 @@
 //! A value of any length: a short one stands in its entry, a longer one in bytes of its own.
-ghost use Rattle.std.specs.Prelude.{◌≡◌, ◌<◌, ◌≤◌, ◌^◌, ◌↔◌, [], IfOk, IsTrue, IfNone, IfSome, OnSome, length, nat_lt};
+ghost use Rattle.std.specs.Prelude.{◌≡◌, ◌<◌, ◌≤◌, ◌^◌, ◌↔◌, [], IfOk, IsTrue, IfNone, IfSome, OnSome, length};
 
 use cell_model::Bytes;
 use std::alloc::{AllocError, Global};

@@ -1,6 +1,6 @@
 //! Sources, sinks and outlets over lists of bytes, for tests: their calls fail where a list says
 //! so.
-ghost use Rattle.std.specs.Prelude.{◌≡◌, ◌<◌, ◌≤◌, List, [], ◌∷◌, ◌++◌, Ok, Some, IfOk, OnOk, OnErr, IsErr, IsTrue, length, min, is_err, map, string_bytes, refl};
+ghost use Rattle.std.specs.Prelude.{◌≡◌, ◌<◌, ◌≤◌, [], ◌∷◌, ◌++◌, Ok, Some, IfOk, OnOk, OnErr, IsErr, IsTrue, length, min, is_err, map, string_bytes, refl};
 ghost use Rattle.std.specs.Io.{ReadsAtMost, WritesAtMost};
 ghost use Rattle.std.specs.Io.KnownBytes.{ReadConsumes, WriteAppends};
 ghost use Rattle.byte_ports.specs.Calls.{Rose, TellsAlike, StartAdds};

@@ -1,6 +1,6 @@
 //! Whole inputs and whole pieces: what is read to the end of a source, and what is written in as
 //! many calls as a sink needs.
-ghost use Rattle.std.specs.Prelude.{◌≡◌, ◌<◌, ◌≤◌, ℕ, Some, IfOk, OnOk, OnErr, IsErrOf, vec_len, alloc_error};
+ghost use Rattle.std.specs.Prelude.{◌≡◌, ◌<◌, ◌≤◌, Some, IfOk, OnOk, OnErr, IsErrOf, vec_len};
 ghost use Rattle.std.specs.Io.KnownBytes.{Consumes, IsAtEnd};
 ghost use Rattle.byte_ports.specs.Calls.{Rose, TellsAlike, WritesAll, ConsumesSome, ConsumesAtLeast};
 ghost use Rattle.byte_ports.specs.InputFault.{CountsFault, input_fault_text};

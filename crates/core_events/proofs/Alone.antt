@@ -1,5 +1,5 @@
 -- Events that change one part.
-use Rattle.std.specs.Prelude.{IfErr, IfOk, MatchResult, OnErr, OnOk, cond, is_none, Option, ◌+◌}
+use Rattle.std.specs.Prelude.{IfErr, IfOk, MatchResult, OnErr, OnOk, cond, is_none, ◌+◌}
 use Rattle.block_spec.specs.Bodies.{seal_fault, sealed}
 use Rattle.block_spec.specs.declared.phase.SealFault.{SealFault}
 use Rattle.core_parts.proofs.Telling.{body_is}
@@ -8,7 +8,7 @@ use Rattle.event_spec.specs.declared.reply.Reply.TheVariants as reply
 use Rattle.event_spec.specs.Parts.{body_at, nothing}
 use Rattle.core_parts.proofs.Changing.{after_nothing}
 use Rattle.event_spec.specs.Replies.{reply_to_seal}
-use Rattle.std.proofs.Common.{◌≡◌, ℕ, ◌==◌, Bool, None, Some, Result, Ok, Err, length, refl, sym, ap, ◌∙◌}
+use Rattle.std.proofs.Common.{◌≡◌, ℕ, ◌==◌, None, Some, Result, Ok, Err, length, sym, ap, ◌∙◌}
 use Rattle.block_spec.specs.Bodies.{Body}
 use Rattle.core_parts.proofs.Changing.{body_change, body_only, desk_change, desk_only, laid_back_changed, put_back}
 use Rattle.core_parts.proofs.Placing.{length-laid}

@@ -1,7 +1,7 @@
 -- What the desk has of a session.
-use Rattle.std.proofs.Common.{◌≡◌, ℕ, zero, suc, ◌≤◌, Option, None, Some, option_map, refl, sym, ap, ◌∙◌, arith}
+use Rattle.std.proofs.Common.{◌≡◌, ℕ, zero, suc, ◌≤◌, Option, None, Some, option_map, refl, arith}
 use Rattle.std.specs.Prelude.{IsSome, IsSomeAnd}
-use Rattle.event_spec.specs.Lawful.{IsSession, Opened, transaction, writes_of}
+use Rattle.event_spec.specs.Lawful.{Opened, transaction, writes_of}
 use Rattle.event_spec.specs.Parts.{Parts, Shape, desk_at}
 use Rattle.txn_desk.specs.declared.Snapshot.{Snapshot}
 use Rattle.txn_desk.specs.Oldest.{snapshot_of}

@@ -1,5 +1,4 @@
-//! What each event makes of the parts in a hand, and what it replies: transactions and their writes,
-//! reads, and the upkeep of one block.
+//! What begin, oldest, observe, seal and thaw make of the parts in a hand, and what they reply.
 #![tactic(auto)]
 
 mod blocks;

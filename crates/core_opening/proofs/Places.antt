@@ -1,12 +1,12 @@
 -- Places that are added one after another.
 use Rattle.std.proofs.Common.{◌≡◌, ℕ, ◌+◌, List, [], ◌∷◌, ◌++◌, Some, map, append_assoc, refl, sym, ap, ◌∙◌, arith}
-use Rattle.std.specs.List.{flat_map, range_with_len}
+use Rattle.std.specs.List.{flat_map}
 use Rattle.std.proofs.lemmas.List.{map-append}
 use Rattle.std.proofs.lemmas.Grind.{flat_map-append}
 use Rattle.part_changes.proofs.Heads.{range_more}
 use Rattle.core_opening.specs.Placed.{placed}
 use Rattle.core_parts.specs.Hands.{Held}
-use Rattle.event_spec.specs.Parts.{Name, Shape, below, names, tables_of, HeadOf, ShardOf, BodyOf, TheDesk, blocks_of, CorePart}
+use Rattle.event_spec.specs.Parts.{Name, Shape, below, names, tables_of, HeadOf, ShardOf, BodyOf, TheDesk, blocks_of}
 use Rattle.event_spec.specs.Replay.{opening, opening_part}
 use Rattle.hall_rule.specs.Hands.{all_in}
 

@@ -1,5 +1,5 @@
 //! What numbers the parts.
-ghost use Rattle.std.specs.Prelude.{◌≡◌, ◌+◌, ◌*◌, ◌^◌, ◌<◌, ◌≤◌, ℕ, Some, IfOk, length, slice_get};
+ghost use Rattle.std.specs.Prelude.{◌≡◌, ◌+◌, ◌*◌, ◌^◌, ◌<◌, ◌≤◌, Some, IfOk, length, slice_get};
 ghost use Rattle.cell_model.specs.Schemas.{IsSchema};
 ghost use Rattle.core_parts.specs.Numbers.{AreNumbers, IsOfSize, after_bodies};
 ghost use Rattle.event_spec.specs.Lawful.{HasBlock, HasTable};

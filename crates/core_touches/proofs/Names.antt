@@ -14,7 +14,7 @@ use Rattle.event_spec.specs.declared.event.Event.TheVariants as event
 use Rattle.event_spec.specs.declared.event.MovePair.{MovePair}
 use Rattle.event_spec.specs.Effects.{CoreEvent}
 use Rattle.event_spec.specs.Lawful.{Among}
-use Rattle.event_spec.specs.Parts.{CorePart, Name, HeadOf, ShardOf, BodyOf, TheDesk, Shape, below, names, same_name, shard_of, tables_of}
+use Rattle.event_spec.specs.Parts.{Name, HeadOf, ShardOf, BodyOf, TheDesk, Shape, below, names, same_name, shard_of, tables_of}
 use Rattle.event_spec.specs.Touched.{held_next, held_places, is_any_head, is_body_moved, is_body_of, is_body_written, is_shard_in, is_shard_moved, is_shard_written, passes_test, touched, touched_by_key, touching}
 use Rattle.isolation_spec.specs.Contents.{PlaceMap, key_of}
 

@@ -14,7 +14,7 @@ use Rattle.event_spec.specs.Lawful.{Among}
 use Rattle.event_spec.specs.Parts.{Name, Shape, below, names, same_name}
 use Rattle.event_spec.specs.Touched.{passes_test}
 use Rattle.frame_laws.proofs.Looks.{name_self, true_false}
-use Rattle.hall_rule.specs.Hands.{IsNext, NoneBetween}
+use Rattle.hall_rule.specs.Hands.{IsNext}
 
 -- ---- the number of a name
 

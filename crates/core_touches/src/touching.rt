@@ -1,11 +1,11 @@
 //! The next part that an event touches.
-ghost use Rattle.std.specs.Prelude.{◌≡◌, ◌<◌, [], ◌∷◌, ◌++◌, None, length};
+ghost use Rattle.std.specs.Prelude.{◌≡◌, ◌<◌, [], ◌∷◌, ◌++◌, None, length, map};
 ghost use Rattle.std.specs.Option.{option_map_or};
 ghost use Rattle.core_parts.specs.Hands.{in_hand};
 ghost use Rattle.core_touches.specs.Least.{offered_all};
-ghost use Rattle.core_touches.specs.Touched.{names_on_key, shards_moved, sources_moved, targets_moved, touched_names};
+ghost use Rattle.core_touches.specs.Touched.{bodies_written, names_on_key, shards_moved, shards_written, sources_moved, targets_moved, touched_names};
 ghost use Rattle.event_spec.specs.Judged.{next_place};
-ghost use Rattle.event_spec.specs.Parts.{HeadOf, TheDesk, head_from, shard_from};
+ghost use Rattle.event_spec.specs.Parts.{HeadOf, TheDesk, head_from, shard_from, tables_of};
 ghost use Rattle.event_spec.specs.Touched.{held_next, held_places, touching};
 ghost use Rattle.hall_rule.specs.Hands.{IsNext};
 
@@ -17,7 +17,7 @@ use crate::offers::{
 };
 use block_layout::SlotId;
 use core_parts::{CorePart, Shape, shard_of};
-use event_spec::{Event, MovePair, Part};
+use event_spec::{Event, MovePair, OwnWrites, Part};
 use hall_rule::Hand;
 use key_index::Index;
 use part_changes::TableHead;
@@ -71,12 +71,7 @@ fn offer_touched(shape: &Shape, least: &mut Least, event: &KeyedEvent, held: &Ha
             offer_written(shape, least, &own.writes);
             offer_desk(shape, least);
         }
-        Event::Abort { own } => {
-            offer_heads(shape, least);
-            offer_keys(shape, least, &own.writes);
-            offer_written(shape, least, &own.writes);
-            offer_desk(shape, least);
-        }
+        Event::Abort { own } => offer_aborted(shape, least, &own.writes),
         Event::Prune { table, block, .. } => {
             offer_head(shape, least, *table);
             offer_body(shape, least, *table, *block);
@@ -109,6 +104,17 @@ fn offer_on_key(
     offer_shard(shape, least, table, shard_of(key));
     offer_place(shape, least, table, place);
     offer_places(shape, least, table, candidates(shape, held, table, key));
+}
+
+// Offers the parts of an abort.
+fn offer_aborted(shape: &Shape, least: &mut Least, writes: &OwnWrites)
+    ensures { least.new ≡ offered_all shape.now (map HeadOf (tables_of shape.now)
+        ++ shards_written writes.now ++ bodies_written writes.now ++ TheDesk ∷ []) least.old }
+{
+    offer_heads(shape, least);
+    offer_keys(shape, least, writes);
+    offer_written(shape, least, writes);
+    offer_desk(shape, least);
 }
 
 // Offers the parts of a move.

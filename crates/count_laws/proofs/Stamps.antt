@@ -1,6 +1,6 @@
 -- What each event makes of a block's stamps.
 use mathlib.Core.Logic.{inl, inr}
-use Rattle.std.proofs.Common.{◌≡◌, ◌⊎◌, ℕ, ◌+◌, ◌≤◌, Bool, true, false, cond, not, ◌&&◌, ◌||◌, ◌==◌, List, [], ◌∷◌, fold, length, Option, None, Some, is_none, is_some, unwrap_or, refl, sym, ap, ◌∙◌, subst, arith}
+use Rattle.std.proofs.Common.{◌≡◌, ◌⊎◌, ℕ, ◌+◌, ◌≤◌, Bool, true, false, cond, ◌&&◌, ◌||◌, ◌==◌, List, [], ◌∷◌, fold, length, Option, None, Some, is_none, is_some, unwrap_or, refl, sym, ap, ◌∙◌, subst, arith}
 use Rattle.std.specs.Prelude.{Result, Ok, Err}
 use Rattle.std.specs.List.{filter_map, list_any}
 use Rattle.std.proofs.lemmas.Bool.Decides.{nat_tests}
@@ -24,8 +24,8 @@ use Rattle.event_spec.specs.Judged.{differences}
 use Rattle.event_spec.specs.Lawful.{IsLawful}
 use Rattle.event_spec.specs.Parts.{Parts, Shape, BodyOf, nothing, body_at, body_from, desk_at, is_head, names, slot_at, slots_of}
 use Rattle.event_spec.specs.Replay.{opening_part}
-use Rattle.event_spec.specs.Replies.{CoreReply, reply_to, reply_to_image, reply_to_seal}
-use Rattle.event_spec.specs.Sound.{IsShape, Sound}
+use Rattle.event_spec.specs.Replies.{reply_to, reply_to_image, reply_to_seal}
+use Rattle.event_spec.specs.Sound.{Sound}
 use Rattle.isolation_spec.specs.Contents.{key_of}
 use Rattle.run_laws.proofs.Opening.{part_there}
 use Rattle.sound_laws.proofs.Bodies.{and_parts, true_false}

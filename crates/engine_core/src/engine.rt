@@ -1,5 +1,5 @@
 //! The core as parts on which a hall lets threads work.
-ghost use Rattle.std.specs.Prelude.{◌≡◌, ◌+◌, ◌≤◌, ◌^◌, ◌<◌, true, false, IfOk, MatchBool, length};
+ghost use Rattle.std.specs.Prelude.{◌≡◌, ◌+◌, ◌<◌};
 ghost use Rattle.engine_core.specs.Core.{IsOpening, is_memory};
 ghost use Rattle.engine_core.specs.Costs.{cost_of};
 ghost use Rattle.engine_core.specs.Laws.{holds_opening, rests_opening};

@@ -25,7 +25,7 @@ use Rattle.event_spec.specs.declared.reply.WriteFault.{WriteFault}
 use Rattle.event_spec.specs.declared.reply.WriteFault.TheVariants as refusal
 use Rattle.event_spec.specs.Effects.{CoreEvent, change_judged, held_pairs, holds, insert_judged}
 use Rattle.event_spec.specs.Lawful.{HasBlock, IsLawful}
-use Rattle.event_spec.specs.Parts.{Parts, Shape, blocks_of, body_at, head_at, is_head, slots_of}
+use Rattle.event_spec.specs.Parts.{Parts, Shape, blocks_of, body_at, is_head, slots_of}
 use Rattle.event_spec.specs.Plans.{BlockLook, gap_places, is_in_group, pair_of, pairs_of, plan_of, row_places}
 use Rattle.event_spec.specs.Replies.{reply_to, reply_to_image, reply_to_seal, reply_to_write}
 use Rattle.event_spec.specs.Sound.{IsShape}

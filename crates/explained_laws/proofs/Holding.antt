@@ -19,7 +19,7 @@ use Rattle.event_spec.specs.declared.reply.Reply.TheVariants as reply
 use Rattle.event_spec.specs.Lawful.{Among, HasBlock, HasTable, IsLawful}
 use Rattle.event_spec.specs.Parts.{Parts, Shape, body_at, desk_at, head_at}
 use Rattle.event_spec.specs.Replay.{Made, after, opening, reply_after}
-use Rattle.event_spec.specs.Replies.{CoreReply, reply_to}
+use Rattle.event_spec.specs.Replies.{reply_to}
 use Rattle.event_spec.specs.Sound.{IsShape, Sound}
 use Rattle.isolation_spec.specs.Machine.{IsolationMachine}
 use Rattle.isolation_spec.specs.Machine as machine

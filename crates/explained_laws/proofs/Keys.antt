@@ -23,7 +23,7 @@ use Rattle.event_spec.specs.Replay.{reply_after}
 use Rattle.event_spec.specs.Replies.{CoreReply, reply_to, reply_to_write}
 use Rattle.follow_laws.proofs.Machines.{found_session, of-append-new, of-append-other, of-with_own, of-with_own-other, of-without, of-without-own}
 use Rattle.isolation_spec.specs.Contents.{PlaceMap, WriteSet, key_of, place_at, place_cmp, place_of}
-use Rattle.isolation_spec.specs.Machine.{IsolationMachine, Transaction, commit, conflict_of, entered, refusal_of_change, refusal_of_insert, seen_rows, step, step_of, transaction_of, with_own, without, write}
+use Rattle.isolation_spec.specs.Machine.{IsolationMachine, Transaction, commit, entered, refusal_of_change, refusal_of_insert, step, step_of, transaction_of, with_own, without, write}
 use Rattle.isolation_spec.specs.Machine as machine
 use Rattle.isolation_spec.specs.declared.command.Act.{Act}
 use Rattle.isolation_spec.specs.declared.command.Act.TheVariants as act

@@ -1,5 +1,5 @@
 -- Reads that follow each other.
-use Rattle.std.proofs.Common.{◌≡◌, ◌≢◌, ◌⊎◌, ℕ, zero, suc, ◌+◌, ◌≤◌, Bool, true, false, cond, ◌&&◌, ◌||◌, ◌==◌, List, [], ◌∷◌, ◌++◌, Option, None, Some, length, refl, sym, ap, ◌∙◌, subst, arith}
+use Rattle.std.proofs.Common.{◌≡◌, ◌≢◌, ◌⊎◌, ℕ, zero, suc, ◌+◌, ◌≤◌, Bool, true, false, cond, ◌||◌, ◌==◌, List, [], ◌∷◌, ◌++◌, Option, None, Some, length, refl, sym, ap, ◌∙◌, subst, arith}
 use mathlib.Core.Logic.{inl, inr}
 use Rattle.std.specs.Prelude.{IfSome}
 use Rattle.std.specs.List.{cons_option, filter_map, flat_map, list_all, list_any, range_with_len}
@@ -16,10 +16,10 @@ use Rattle.event_spec.specs.declared.event.Event.TheVariants as event
 use Rattle.event_spec.specs.declared.own.OwnTransaction.{OwnTransaction}
 use Rattle.event_spec.specs.declared.reply.Reply.TheVariants as reply
 use Rattle.event_spec.specs.Effects.{CoreEvent, effect}
-use Rattle.event_spec.specs.Lawful.{Among, HasBlock, IsLawful, IsOwn, IsSession, OwnsAll, session_of, transaction}
-use Rattle.event_spec.specs.Parts.{Parts, Shape, below, body_at, slot_at, slots_of}
+use Rattle.event_spec.specs.Lawful.{Among, HasBlock, IsLawful, IsOwn, OwnsAll, session_of, transaction}
+use Rattle.event_spec.specs.Parts.{Parts, Shape, below, body_at, slots_of}
 use Rattle.event_spec.specs.Replay.{after}
-use Rattle.event_spec.specs.Replies.{CoreReply, reply_to, row_read, rows_read}
+use Rattle.event_spec.specs.Replies.{reply_to, row_read, rows_read}
 use Rattle.event_spec.specs.Sound.{IsShape, Sound}
 use Rattle.part_laws.proofs.Leaving.{leaves}
 use Rattle.run_spec.specs.Calls.{is_refused}

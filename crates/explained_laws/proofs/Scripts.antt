@@ -1,8 +1,8 @@
 -- What is asked of a workload's sessions and workers, and its tables.
 use Rattle.std.proofs.Common.{◌≡◌, ◌⊎◌, ℕ, zero, suc, ◌<◌, ◌≤◌, ◌^◌, nat_le, nat_lt, min, Bool, true, false, cond, ◌&&◌, ◌==◌, List, [], ◌∷◌, length, Option, None, Some, refl, sym, ap, ◌∙◌, subst, arith}
 use mathlib.Core.Logic.{inl, inr}
-use Rattle.std.specs.Prelude.{◌*◌, ◌/◌, ◌%◌, is_none, is_some, option_map, slice_get, unwrap_or}
-use Rattle.std.specs.List.{enumerate_from, filter_map, flat_map, list_all, range_with_len}
+use Rattle.std.specs.Prelude.{◌*◌, ◌/◌, ◌%◌, is_none, option_map, slice_get, unwrap_or}
+use Rattle.std.specs.List.{enumerate_from, flat_map, list_all, range_with_len}
 use Rattle.std.specs.Option.{option_map_or}
 use Rattle.std.proofs.lemmas.Bool.Decides.{nat_tests}
 use Rattle.std.proofs.lemmas.List.Folds.{list_all-append}

@@ -1,5 +1,5 @@
 -- What a moment's line adds to the counts of lines, by its event.
-use Rattle.std.proofs.Common.{◌≡◌, ◌⊎◌, ℕ, ◌+◌, ◌≤◌, Bool, true, false, cond, ◌&&◌, ◌==◌, List, [], ◌∷◌, ◌++◌, length, Option, None, Some, sum_by, refl, sym, ap, ◌∙◌, subst, arith}
+use Rattle.std.proofs.Common.{◌≡◌, ◌⊎◌, ℕ, ◌+◌, ◌≤◌, Bool, true, false, cond, ◌&&◌, ◌==◌, List, [], ◌∷◌, ◌++◌, length, Option, None, Some, refl, sym, ap, ◌∙◌, subst, arith}
 use mathlib.Core.Logic.{inl, inr}
 use Rattle.std.specs.Prelude.{Result, Ok, Err}
 use Rattle.std.specs.List.{cons_option, filter_map}
@@ -27,7 +27,7 @@ use Rattle.workload_spec.specs.declared.reply.Said.{Said}
 use Rattle.workload_spec.specs.declared.reply.Said.TheVariants as said
 use Rattle.run_spec.specs.Calls.{line_to}
 use Rattle.run_spec.specs.Occurrences.{Occurrence}
-use Rattle.run_spec.specs.Told.{cause_told, fault_told, told_by}
+use Rattle.run_spec.specs.Told.{cause_told, told_by}
 use Rattle.count_laws.specs.Room.{inserted_by}
 use Rattle.count_laws.specs.Stamps.{imaged_by, sealed_by}
 use Rattle.told_laws.specs.Laws.{TellsAt, TellsMove, TellsQuietly, is_plain, is_quiet}

@@ -14,7 +14,7 @@ use Rattle.std.specs.Option.{option_map_or}
 use Rattle.event_spec.specs.Parts.{Parts, Shape, below, blocks_of, slots_of}
 use Rattle.event_spec.specs.Replies.{CoreReply, reply_to}
 use Rattle.isolation_spec.specs.Machine.{IsolationMachine}
-use Rattle.outcome_spec.specs.Forms.{is_seal_or_gather, is_silent, is_worker}
+use Rattle.outcome_spec.specs.Forms.{is_silent, is_worker}
 use Rattle.timeline_spec.specs.Forms.{MayStand}
 use Rattle.workload_spec.specs.declared.command.Command.{Command}
 use Rattle.workload_spec.specs.declared.command.Command.TheVariants as command

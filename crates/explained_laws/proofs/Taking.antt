@@ -48,7 +48,6 @@ use Rattle.ran_laws.specs.Coming.{EndsAt, is_single}
 use Rattle.ran_laws.specs.Open.{OpenAs}
 use Rattle.ran_laws.specs.Upkeep.{AreReplied}
 use Rattle.scan_laws.proofs.Scans.{reads_are_the_scan}
-use Rattle.told_laws.proofs.Splits.{passes_at}
 use Rattle.told_laws.proofs.Tells.{calls_go_on_quietly}
 use Rattle.told_laws.specs.Laws.{is_quiet}
 use Rattle.moment_laws.specs.Laws.{IsAsked, command_told}

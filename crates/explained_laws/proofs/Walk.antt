@@ -46,7 +46,7 @@ use Rattle.told_laws.proofs.Tells.{calls_go_on_quietly, last_events_are_told, no
 use Rattle.told_laws.specs.Laws.{TellsAt, is_plain, is_quiet}
 use Rattle.moment_laws.specs.Laws.{AreMoments, Ends, GoesOn, IsPrinted, Stands, command_told, with_event}
 use Rattle.moment_laws.specs.Moments.{moments_of, replies_at, who_at, with_reply}
-use Rattle.moment_laws.proofs.Seats.{either, worker_at}
+use Rattle.moment_laws.proofs.Seats.{either}
 use Rattle.moment_laws.proofs.Standing.{own_last}
 use Rattle.moment_laws.proofs.Rounds.{runs_have_moments}
 use Rattle.ran_laws.proofs.Named.{run_named}

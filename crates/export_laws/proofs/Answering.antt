@@ -36,7 +36,7 @@ use Rattle.told_laws.specs.Laws.{TellsAt, TellsMove, TellsQuietly, is_plain}
 use Rattle.moment_laws.specs.Laws.{EachCall, EachOf, EachShare}
 use Rattle.moment_laws.specs.Moments.{due_of}
 use Rattle.explained_laws.specs.Timelines.{PruningsFit}
-use Rattle.explained_laws.proofs.Scripts.{head, is_shape}
+use Rattle.explained_laws.proofs.Scripts.{head}
 use Rattle.explained_laws.proofs.Shown.{write_line}
 use Rattle.explained_laws.proofs.Walk.{told_something}
 use Rattle.explained_laws.proofs.Explaining.{Answered, AnswersIf}

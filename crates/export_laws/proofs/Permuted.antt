@@ -1,5 +1,5 @@
 -- Rows that are as many as their map has stand in it, each once.
-use Rattle.std.proofs.Common.{◌≡◌, ◌⊎◌, ℕ, suc, ◌+◌, ◌≤◌, Bool, true, false, cond, ◌==◌, List, [], ◌∷◌, ◌++◌, Option, None, Some, Ordering, Less, Equal, Greater, length, refl, sym, ap, ◌∙◌, subst, arith}
+use Rattle.std.proofs.Common.{◌≡◌, ◌⊎◌, ℕ, suc, ◌+◌, ◌≤◌, Bool, true, false, cond, ◌==◌, List, [], ◌∷◌, ◌++◌, None, Some, Ordering, Less, Equal, Greater, length, refl, sym, ap, subst, arith}
 use mathlib.Core.Logic.{inl, inr}
 use Rattle.std.specs.BTreeMap.{insert_entry}
 use Rattle.std.specs.List.{cons_option}

@@ -1,5 +1,5 @@
 -- The bytes of an export are a stream of all groups that its transaction reads, or a front of one.
-use Rattle.std.proofs.Common.{◌≡◌, ◌⊎◌, ℕ, Bool, true, false, cond, ◌+◌, List, [], ◌∷◌, ◌++◌, map, filter, count_by, length, refl, sym, ap, ◌∙◌, subst, append_assoc, append-nil}
+use Rattle.std.proofs.Common.{◌≡◌, ℕ, Bool, true, false, cond, ◌+◌, List, [], ◌∷◌, ◌++◌, map, filter, count_by, length, refl, sym, ap, ◌∙◌, append_assoc, append-nil}
 use mathlib.Core.Logic.{inl, inr}
 use Rattle.std.specs.List.{flat_map}
 use Rattle.std.proofs.lemmas.Grind.{flat_map-append}

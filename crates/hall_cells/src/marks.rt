@@ -1,5 +1,5 @@
 //! The marks as a core.
-ghost use Rattle.std.specs.Prelude.{◌≡◌, ◌^◌, ◌<◌, ℕ, false, IfOk, Some, length, map, replicate, vec_len};
+ghost use Rattle.std.specs.Prelude.{◌≡◌, ◌^◌, ◌<◌, false, IfOk, Some, length, map, replicate, vec_len};
 ghost use Rattle.hall_cells.specs.Marks.{Fits, IsLeast, IsOpening, Stands, Teaches, after_deed, open_of, reply_of, session_of, touches_part};
 ghost use Rattle.hall_cells.specs.Laws.{ascends, depends, frame, learns, leaves, local, outlives, rests, sized};
 ghost use Rattle.std.proofs.Common.{◌∙◌};

@@ -1,5 +1,5 @@
 -- The steps that make no event, and what becomes of one part by them.
-use Rattle.std.proofs.Common.{◌≡◌, ◌≢◌, ℕ, zero, suc, ◌+◌, ◌*◌, ◌^◌, ◌<◌, ◌≤◌, Bool, true, false, List, [], ◌∷◌, ◌++◌, Option, Some, None, length, set, get_or, get_or-set_same, get_or-set_other, refl, sym, ap, subst, ◌∙◌, ◌⊎◌, inl, inr, ⊎_elim, length-append, length-set, append-nil, arith}
+use Rattle.std.proofs.Common.{◌≡◌, ◌≢◌, ℕ, zero, suc, ◌+◌, ◌<◌, true, false, List, [], ◌∷◌, ◌++◌, Option, length, sym, ap, subst, ◌∙◌, ◌⊎◌, ⊎_elim, append-nil, arith}
 use Rattle.std.specs.Prelude.{slice_index}
 use mathlib.Core.Option as maybe
 use lib.ListN.{get_elem?}

@@ -1,5 +1,5 @@
 //! The parts that a pass has in hand.
-ghost use Rattle.std.specs.Prelude.{◌≡◌, ◌^◌, ◌<◌, ℕ, List, Option, None, Some, IfOk, length, map, replicate, slice_get, slice_set, vec_capacity, vec_len};
+ghost use Rattle.std.specs.Prelude.{◌≡◌, ◌^◌, ◌<◌, List, Option, None, Some, IfOk, length, slice_get, slice_set};
 ghost use Rattle.hall_rule.specs.Hands.{Holds, IsNextHeld};
 ghost use Rattle.hall_rule.specs.Marks.{MarksHeld};
 

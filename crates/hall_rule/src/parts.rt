@@ -1,5 +1,5 @@
 //! A core in parts, on which a hall lets threads work.
-ghost use Rattle.std.specs.Prelude.{◌≡◌, ◌≢◌, ◌+◌, ◌^◌, ◌<◌, ◌≤◌, ℕ, Bool, true, List, Option, None, Some, MatchBool, IfOk, length, map, slice_get};
+ghost use Rattle.std.specs.Prelude.{◌≡◌, ◌≢◌, ◌+◌, ◌^◌, ◌<◌, ◌≤◌, ℕ, Bool, true, List, Option, None, Some, MatchBool, IfOk, length, slice_get};
 ghost use Rattle.hall_rule.specs.Hands.{Agrees, Covers, IsNext, OnlyHeld, SameRoom, all_in};
 
 use crate::hand::Hand;

@@ -1,9 +1,8 @@
 //! Closing a hall.
-ghost use Rattle.std.specs.Prelude.{◌≡◌, ℕ, List, Option, None, Some, length, slice_get};
+ghost use Rattle.std.specs.Prelude.{◌≡◌, ℕ, List, Option, None, Some, slice_get};
 ghost use Rattle.hall_rule.specs.EventLog.{replay};
 ghost use Rattle.hall_rule.specs.HallInvariant.{hands_of};
 ghost use Rattle.hall_rule.specs.Hands.{Holds, all_in};
-ghost use Rattle.hall_rule.specs.Meaning.{meaning};
 ghost use Rattle.hall_steps.specs.Hall.{IsPass, first_of, means};
 
 use crate::hall::{Hall, Pass};

@@ -1,12 +1,12 @@
 //! Making an event.
-ghost use Rattle.std.specs.Prelude.{◌≡◌, ◌≢◌, ℕ, ◌+◌, ◌*◌, ◌^◌, ◌<◌, ◌≤◌, true, List, [], ◌∷◌, Some, MatchBool, length};
+ghost use Rattle.std.specs.Prelude.{◌≡◌, ℕ, ◌+◌, ◌*◌, ◌^◌, ◌<◌, ◌≤◌, true, List, Some, MatchBool, length};
 ghost use Rattle.hall_rule.specs.EventLog.{has, replay};
 ghost use Rattle.hall_rule.specs.HallInvariant.{hands_of};
 ghost use Rattle.hall_rule.specs.Hands.{Covers, SameRoom};
 ghost use Rattle.hall_rule.specs.Meaning.{planned};
-ghost use Rattle.hall_rule.specs.Views.{Adds, entry_of};
+ghost use Rattle.hall_rule.specs.Views.{entry_of};
 ghost use Rattle.hall_rule.specs.declared.view.Entry.{Entry};
-ghost use Rattle.hall_steps.specs.Hall.{Extends, IsOf, IsSameSeat, IsSized};
+ghost use Rattle.hall_steps.specs.Hall.{Extends, IsOf, IsSized};
 
 use crate::telling::{Board, Place, count_as};
 use hall_rule::{Hand, Parts, Steps};

@@ -1,5 +1,5 @@
 //! The hall and its passes.
-ghost use Rattle.std.specs.Prelude.{◌≡◌, ◌≢◌, ℕ, ◌+◌, ◌*◌, ◌^◌, ◌<◌, ◌≤◌, true, List, [], ◌∷◌, ◌++◌, None, Some, MatchBool, length, slice_get, slice_set};
+ghost use Rattle.std.specs.Prelude.{◌≡◌, ℕ, ◌+◌, ◌*◌, ◌^◌, ◌<◌, ◌≤◌, true, List, [], ◌∷◌, ◌++◌, None, Some, MatchBool, length, slice_get, slice_set};
 ghost use Rattle.hall_rule.specs.EventLog.{has, replay};
 ghost use Rattle.hall_rule.specs.HallInvariant.{hands_of};
 ghost use Rattle.hall_rule.specs.Hands.{Covers, Holds, IsAboveAll, SameRoom};
@@ -34,7 +34,6 @@ pub struct Hall<C: Parts> {
 
 impl<C: Parts> Model for Hall<C> {
     ghost use Rattle.std.specs.Prelude.{◌≡◌, ◌^◌, ◌<◌, ℕ, length, vec_len};
-    ghost use Rattle.atomic_table.specs.Seated.{TableId};
     ghost use Rattle.hall_rule.specs.Meaning.{meaning};
     ghost use Rattle.hall_steps.specs.Hall.{HallView, IsSized};
 

@@ -1,5 +1,5 @@
 //! The hands of a pass.
-ghost use Rattle.std.specs.Prelude.{◌≡◌, ◌+◌, ◌-◌, ◌^◌, ◌<◌, ◌≤◌, ℕ, List, [], ◌∷◌, ◌++◌, OnOk, Option, None, Some, drop, length, slice_get, take};
+ghost use Rattle.std.specs.Prelude.{◌≡◌, ◌+◌, ◌-◌, ◌^◌, ◌<◌, List, [], ◌∷◌, ◌++◌, OnOk, Option, None, Some, drop, length, slice_get, take};
 
 use hall_rule::Hand;
 use std::alloc::{AllocError, Global};

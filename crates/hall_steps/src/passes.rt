@@ -1,5 +1,5 @@
 //! Making passes, and joining them.
-ghost use Rattle.std.specs.Prelude.{◌≡◌, ◌+◌, ◌^◌, ◌<◌, ◌≤◌, ℕ, List, [], ◌∷◌, true, false, length};
+ghost use Rattle.std.specs.Prelude.{◌≡◌, ◌^◌, ◌<◌, ◌≤◌, ℕ, [], ◌∷◌, true, false, length};
 ghost use Rattle.hall_rule.specs.EventLog.{has, under};
 ghost use Rattle.hall_rule.specs.HallInvariant.{hands_of};
 ghost use Rattle.hall_rule.specs.Hands.{Holds};

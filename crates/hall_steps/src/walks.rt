@@ -1,11 +1,8 @@
 //! Taking all parts of an event, and giving back all that are held.
-ghost use Rattle.std.specs.Prelude.{◌≡◌, ℕ, ◌+◌, ◌^◌, ◌<◌, ◌≤◌, true, List, [], ◌∷◌, ◌++◌, Option, None, Some, length, slice_get};
-ghost use Rattle.hall_rule.specs.EventLog.{has, replay};
+ghost use Rattle.std.specs.Prelude.{◌≡◌, ℕ, ◌+◌, ◌<◌, true, Some};
 ghost use Rattle.hall_rule.specs.HallInvariant.{hands_of};
-ghost use Rattle.hall_rule.specs.Hands.{Covers, Holds, IsNext, IsNextHeld};
-ghost use Rattle.hall_rule.specs.Meaning.{meaning};
+ghost use Rattle.hall_rule.specs.Hands.{Covers, Holds};
 ghost use Rattle.hall_rule.specs.Views.{with_hand_of};
-ghost use Rattle.hall_rule.specs.declared.view.Entry.{Entry};
 ghost use Rattle.hall_steps.specs.Hall.{IsPass, IsSameSeat, SeesMore, TookParts, first_of, means};
 
 use crate::hall::{Hall, Pass};

@@ -1,5 +1,5 @@
 //! A record batch, lent from its message's body (IPC format, "RecordBatch message").
-ghost use Rattle.std.specs.Prelude.{◌≡◌, ◌+◌, ◌<◌, ◌≤◌, ◌^◌, ◌==◌, true, map, IfOk, IsErrOf, IsTrue, Ok, Err, Some, length, pos, slice_get};
+ghost use Rattle.std.specs.Prelude.{◌≡◌, ◌+◌, ◌<◌, ◌^◌, ◌==◌, true, map, IfOk, IsErrOf, Ok, Err, Some, length, pos, slice_get};
 ghost use Rattle.std.specs.List.{list_all};
 ghost use Rattle.std.specs.Ordering.{int_eq};
 ghost use Rattle.ipc_read.specs.Batches.{have_room, have_slot, row_in, rows_in};

@@ -1,5 +1,5 @@
 -- A key's event on a hand: it is refused, or changes one slot.
-use Rattle.std.proofs.Common.{◌≡◌, ℕ, List, Option, None, Some, map, get_or, Ok, Err, refl, sym, ap, ◌∙◌}
+use Rattle.std.proofs.Common.{◌≡◌, ℕ, List, Option, None, Some, map, get_or, Ok, Err, sym, ap, ◌∙◌}
 use Rattle.std.specs.Prelude.{Result}
 use Rattle.core_parts.proofs.Changing.{after_nothing}
 use Rattle.core_parts.proofs.Telling.{from_one}

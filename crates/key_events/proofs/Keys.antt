@@ -1,10 +1,8 @@
 -- The parts that an event on a key touches are in the hand.
-use Rattle.std.proofs.Common.{◌≡◌, ℕ, ◌+◌, ◌%◌, ◌-◌, ◌<◌, ℤ, pos, negsuc, Bool, true, false, cond, List, [], ◌∷◌, ◌++◌, Option, None, Some, is_none, is_some, not, nat_lt, ◌&&◌, ◌==◌, length, refl, sym, ap, ◌∙◌, subst, arith}
-use mathlib.Core.Logic.{inl, inr}
+use Rattle.std.proofs.Common.{◌≡◌, ℕ, ◌+◌, ◌-◌, ◌<◌, ℤ, pos, negsuc, Bool, true, false, cond, List, [], ◌∷◌, Option, None, Some, is_none, not, nat_lt, ◌&&◌, ◌==◌, length, refl, sym, ap, ◌∙◌, subst, arith}
 use Rattle.std.specs.Prelude.{IfSome, bytes_eq, codes}
 use Rattle.block_body.specs.Keys.{HasKey}
 use Rattle.block_layout.specs.Place.{block_of, slot_of}
-use Rattle.block_spec.specs.Bodies.{Body}
 use Rattle.block_spec.specs.Slots.{Row}
 use Rattle.cell_model.specs.declared.cell.Cell.{Cell}
 use Rattle.cell_model.specs.declared.cell.Cell.TheVariants as cell
@@ -16,18 +14,18 @@ use Rattle.cell_model.specs.declared.row.RowFault.TheVariants as fault
 use Rattle.cell_model.specs.Rows.{Fits, cell_fault, first_fault}
 use Rattle.cell_model.specs.Schemas.{begins_with_key, is_i64}
 use Rattle.cell_model.specs.Values.{byte_length, is_integer_of, most_bytes}
-use Rattle.core_parts.proofs.Telling.{a_shard, body_is, has_body, has_shard, places_are}
-use Rattle.core_parts.specs.Hands.{Has, Held, MayRun, in_hand}
+use Rattle.core_parts.proofs.Telling.{a_shard, has_body, has_shard, places_are}
+use Rattle.core_parts.specs.Hands.{Has, Held, MayRun}
 use Rattle.event_laws.proofs.Owners.{key_slot}
 use Rattle.event_spec.specs.declared.own.OwnKey.{OwnKey}
 use Rattle.event_spec.specs.declared.part.Part.TheVariants as part
 use Rattle.event_spec.specs.Effects.{CoreEvent}
 use Rattle.event_spec.specs.Lawful.{Among, HasTable, OwnsKey}
-use Rattle.event_spec.specs.Parts.{Parts, Shape, places_at, ShardOf, BodyOf, body_from, names, shard_from, shard_of}
+use Rattle.event_spec.specs.Parts.{Parts, Shape, places_at, ShardOf, BodyOf, body_from, shard_from, shard_of}
 use Rattle.frame_laws.proofs.Looks.{look, touches, true_false}
 use Rattle.hall_rule.specs.Hands.{Agrees}
 use Rattle.key_events.specs.Candidates.{candidates_in}
-use Rattle.key_index.specs.Candidates.{Places, candidates_of}
+use Rattle.key_index.specs.Candidates.{candidates_of}
 use Rattle.key_judge.specs.Slots.{HasSlot, HasSlots}
 use Rattle.sound_laws.proofs.Written.{filled_there}
 

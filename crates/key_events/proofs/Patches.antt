@@ -1,10 +1,9 @@
 -- What an update changes fits the columns.
-use Rattle.std.proofs.Common.{◌≡◌, ◌⊎◌, ℕ, zero, suc, ◌+◌, ◌<◌, Bool, true, false, cond, List, [], ◌∷◌, map, length, get_or, refl, sym, ap, ◌∙◌, subst, arith}
+use Rattle.std.proofs.Common.{◌≡◌, ◌⊎◌, ℕ, suc, ◌+◌, ◌<◌, Bool, true, false, cond, List, [], ◌∷◌, map, length, get_or, refl, sym, ap, ◌∙◌, subst, arith}
 use mathlib.Core.Logic.{inl, inr}
 use Rattle.block_spec.proofs.Unnamed.{fault-unnamed}
-use Rattle.block_spec.specs.declared.patch.Assignment.{Assignment}
 use Rattle.block_spec.specs.Fitting.{PatchFits, columns_of}
-use Rattle.block_spec.specs.Slots.{Patch, Row, columns_before, standing}
+use Rattle.block_spec.specs.Slots.{Row, standing}
 use Rattle.cell_model.specs.declared.cell.Cell.{Cell}
 use Rattle.cell_model.specs.declared.cell.Cell.TheVariants.{Null}
 use Rattle.cell_model.specs.declared.column.Column.{Column}

@@ -14,7 +14,7 @@ use Rattle.event_spec.specs.declared.own.OwnKey.{OwnKey}
 use Rattle.event_spec.specs.declared.part.Head.{Head}
 use Rattle.event_spec.specs.declared.part.Part.TheVariants as part
 use Rattle.event_spec.specs.Effects.{at_both, at_table, taken_by, with_place}
-use Rattle.event_spec.specs.Parts.{Changes, CorePart, HeadOf, ShardOf, BodyOf, Name, Shape, body_from, changed, head_from, names, nothing, shard_from, shard_of, slots_of}
+use Rattle.event_spec.specs.Parts.{Changes, CorePart, HeadOf, ShardOf, BodyOf, Shape, body_from, changed, names, nothing, shard_from, shard_of, slots_of}
 use Rattle.event_spec.specs.Sound.{IsOfKind}
 use Rattle.frame_laws.specs.Shards.{ShardHolds}
 use Rattle.key_events.specs.Puts.{put_changes, row_changes}

@@ -1,5 +1,5 @@
 -- The body of a slot that a write goes to takes the change.
-use Rattle.std.proofs.Common.{◌≡◌, ◌⊎◌, ℕ, ◌<◌, ℤ, Bool, true, false, cond, ◌&&◌, not, ◌==◌, List, [], ◌∷◌, ◌++◌, Option, None, Some, option_map, is_none, is_some, length, refl, sym, ap, ◌∙◌, subst, arith}
+use Rattle.std.proofs.Common.{◌≡◌, ℕ, ℤ, Bool, true, false, cond, ◌&&◌, List, [], ◌∷◌, Option, None, Some, is_none, is_some, refl, sym, ap, ◌∙◌, subst}
 use mathlib.Core.Logic.{inl, inr}
 use Rattle.std.specs.Prelude.{IfSome, Ok, option_and_then}
 use Rattle.cell_model.specs.Rows.{Fits}
@@ -7,12 +7,12 @@ use Rattle.std.specs.List.{flat_map}
 use Rattle.std.specs.Option.{option_or}
 use Rattle.block_body.specs.Bodies.{wants_row}
 use Rattle.block_layout.specs.Place.{block_of, slot_of}
-use Rattle.block_spec.specs.Bodies.{Body, slot_in, with_slot}
+use Rattle.block_spec.specs.Bodies.{Body, with_slot}
 use Rattle.block_spec.specs.declared.change.Before.{Before}
 use Rattle.block_spec.specs.declared.change.Change.{Change}
 use Rattle.block_spec.specs.declared.change.Change.TheVariants as change
 use Rattle.block_spec.specs.Fitting.{ChangeFits, columns_of}
-use Rattle.block_spec.specs.Slots.{Row, Slot, has_none, is_bare, seen, writer_of, written}
+use Rattle.block_spec.specs.Slots.{Row, Slot, has_none, is_bare, written}
 use Rattle.event_laws.proofs.Fitting.{current_fits, fits_columns, fits_length, versions_fit}
 use Rattle.event_laws.proofs.Heads.{next_is_there}
 use Rattle.event_laws.proofs.Owners.{key_slot}
@@ -21,8 +21,8 @@ use Rattle.event_spec.specs.declared.own.OwnKey.{OwnKey}
 use Rattle.event_spec.specs.declared.reply.WriteFault.{WriteFault}
 use Rattle.event_spec.specs.declared.reply.WriteFault.TheVariants.{Exists, Full, Missing}
 use Rattle.event_spec.specs.Effects.{at_both, at_table, change_judged, found, insert_judged, taken_by}
-use Rattle.event_spec.specs.Judged.{current_place, differences, fault_of, first_at, found_at, found_by, freezing_of, judged, newer_by, next_place}
-use Rattle.event_spec.specs.Lawful.{Among, FitsTable, HasBlock, HasTable, IsLawful, IsThawed, OwnsKey}
+use Rattle.event_spec.specs.Judged.{current_place, differences, fault_of, first_at, found_at, freezing_of, newer_by, next_place}
+use Rattle.event_spec.specs.Lawful.{Among, HasBlock, IsLawful, IsThawed}
 use Rattle.event_spec.specs.Parts.{Parts, Shape, body_at, head_at, nothing, places_at, slot_at, slots_of}
 use Rattle.event_spec.specs.Replay.{columns_in}
 use Rattle.event_spec.specs.Sound.{IsShape, Sound}
@@ -39,7 +39,6 @@ use Rattle.slot_writes.specs.Writes.{TakesAt, TakesChange}
 use Rattle.sound_laws.proofs.Inserts.{spot}
 use Rattle.sound_laws.proofs.Keeps.{own_spot, shaped}
 use Rattle.sound_laws.proofs.Written.{ChangesRow, change_goes, judged_ok, put_fits}
-use Rattle.slot_laws.proofs.Kept.{writer_filled, bool_cases}
 use Rattle.undo_chain.specs.Conflict.{conflict_by, largest, numbers_above, other_writer}
 use Rattle.undo_chain.specs.declared.chain.Newer.{Newer}
 use Rattle.undo_chain.specs.declared.chain.Newer.TheVariants as newer

@@ -1,13 +1,13 @@
 -- What updates, deletes and inserts touch.
-use Rattle.std.proofs.Common.{◌≡◌, ◌⊎◌, ℕ, ℤ, ◌++◌, Bool, true, false, ◌==◌, ◌∷◌, List, Option, None, Some, Ok, option_to_list, length, refl, sym, ap, ◌∙◌, subst}
-use mathlib.Core.Logic.{inl, inr}
+use Rattle.std.proofs.Common.{◌≡◌, ℕ, ℤ, ◌++◌, false, ◌==◌, Option, Some, option_to_list, refl, sym, ap, ◌∙◌, subst}
+use mathlib.Core.Logic.{inl}
 use Rattle.std.specs.Prelude.{IfSome}
 use Rattle.std.specs.List.{list_any}
 use Rattle.std.specs.Option.{option_or}
-use Rattle.block_layout.specs.Place.{block_of, slot_of}
+use Rattle.block_layout.specs.Place.{block_of}
 use Rattle.block_spec.specs.Slots.{Row}
 use Rattle.core_parts.proofs.Telling.{has_body, has_head}
-use Rattle.core_parts.specs.Hands.{Has, Held, MayRun, in_hand}
+use Rattle.core_parts.specs.Hands.{Has, Held, MayRun}
 use Rattle.event_laws.proofs.Lists.{in_left}
 use Rattle.event_laws.proofs.Slots.{num_refl}
 use Rattle.event_spec.specs.declared.event.Event.TheVariants as event
@@ -15,7 +15,7 @@ use Rattle.event_spec.specs.declared.own.OwnKey.{OwnKey}
 use Rattle.event_spec.specs.Judged.{next_place}
 use Rattle.event_spec.specs.Lawful.{Among, HasBlock}
 use Rattle.event_spec.specs.Parts.{Parts, Shape, HeadOf, ShardOf, BodyOf, head_at, head_from, names, places_at, shard_of, slots_of}
-use Rattle.event_spec.specs.Touched.{held_next, touched_by_key}
+use Rattle.event_spec.specs.Touched.{held_next}
 use Rattle.frame_laws.proofs.Fitness.{body_touched, shard_touched}
 use Rattle.frame_laws.proofs.Looks.{and_true, block_among, look, or_left}
 use Rattle.hall_rule.specs.Hands.{Agrees}

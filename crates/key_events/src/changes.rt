@@ -1,7 +1,6 @@
 //! Changing the row of a key, and removing it.
 ghost use Rattle.std.specs.Prelude.{◌≡◌, ◌+◌, ◌≤◌, ◌<◌, ◌^◌, IfOk, OnErr, [], length, unwrap_or};
-ghost use Rattle.block_layout.specs.Place.{block_of};
-ghost use Rattle.core_parts.specs.Hands.{Has, Makes, MayRun};
+ghost use Rattle.core_parts.specs.Hands.{Makes, MayRun};
 ghost use Rattle.event_spec.specs.declared.event.Event.TheVariants as event;
 ghost use Rattle.event_spec.specs.Judged.{differences};
 ghost use Rattle.event_spec.specs.Parts.{Parts, places_at, slot_at};

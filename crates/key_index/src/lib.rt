@@ -20,7 +20,7 @@ pub struct Index {
 }
 
 impl Model for Index {
-    ghost use Rattle.std.specs.Prelude.{ℕ, ℤ, List, map as each};
+    ghost use Rattle.std.specs.Prelude.{ℕ, List, map as each};
     ghost use Rattle.std.specs.Ordering.{int_cmp};
     ghost use Rattle.std.specs.FinMap as map;
     ghost use Rattle.std.specs.Coded.{coded_ℕ, coded_ℤ, coded_list};

@@ -3,7 +3,7 @@ ghost use Rattle.std.specs.Prelude.{◌≡◌, ◌+◌, ◌≤◌, None, IfOk, I
 ghost use Rattle.std.specs.Option.{option_or};
 ghost use Rattle.block_layout.specs.Place.{block_of};
 ghost use Rattle.core_parts.specs.Hands.{Has};
-ghost use Rattle.event_spec.specs.Judged.{current_place, fault_of, freezing_of, judged, judged_change, judged_insert, newer_by, next_place};
+ghost use Rattle.event_spec.specs.Judged.{current_place, fault_of, freezing_of, judged, judged_change, judged_insert, next_place};
 ghost use Rattle.event_spec.specs.Lawful.{HasTable};
 ghost use Rattle.event_spec.specs.declared.reply.WriteFault.TheVariants.{Full, Missing};
 ghost use Rattle.event_spec.specs.Parts.{HeadOf, Parts, body_at, head_at, slot_at, slots_of};

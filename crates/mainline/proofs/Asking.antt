@@ -8,7 +8,7 @@ use Rattle.clap.specs.declared.parser.matches.SubCommand.{SubCommand}
 use Rattle.clap.specs.declared.error.Error.{Error}
 use Rattle.clap.specs.declared.error.kind.ErrorKind.{ErrorKind}
 use Rattle.clap.specs.declared.error.kind.ErrorKind.TheVariants as kind
-use Rattle.mainline.specs.Words.{Asked, ToRun, ToShow, ToCheck, ToBench, asked_by, asked_of, bench_asks, command_asks, mainline_app, unless_faulty}
+use Rattle.mainline.specs.Words.{Asked, ToRun, ToShow, ToCheck, asked_by, asked_of, bench_asks, command_asks, mainline_app, unless_faulty}
 
 -- the command is one whose meaning `clap` tells
 pub mainline_is_free : is_simple_and_free mainline_app ≡ true

@@ -1,6 +1,5 @@
 //! The output of a run that is kept, to be read again.
 ghost use Rattle.std.specs.Prelude.{◌≡◌, [], Some};
-ghost use Rattle.mainline.specs.declared.output.KeptOutput.{KeptOutput as Kept};
 
 use byte_ports::{Failed, Sink};
 use std::alloc::{AllocError, Global};

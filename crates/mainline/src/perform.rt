@@ -1,5 +1,5 @@
 //! What the program does with its words, its input, its output and its outlet.
-ghost use Rattle.std.specs.Prelude.{◌≡◌, ◌≢◌, ◌<◌, ◌^◌, ℕ, List, Option, None, IsSome, length, map, true, string_bytes, option_map, IfOk, OnOk, OnErr, if◌then◌else◌, ◌++◌, ◌∷◌, []};
+ghost use Rattle.std.specs.Prelude.{◌≡◌, ◌≢◌, ◌<◌, ◌^◌, ℕ, List, Option, None, IsSome, length, map, true, string_bytes, option_map, IfOk, OnOk, OnErr, if◌then◌else◌};
 ghost use Rattle.std.specs.List.{list_any};
 ghost use Rattle.byte_ports.specs.Calls.{Rose};
 ghost use Rattle.workload_spec.specs.Valid.{is_valid, is_export};

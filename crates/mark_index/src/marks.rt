@@ -1,8 +1,7 @@
 //! Marks at places, which count what stands up to a place, or tell the highest value there.
 ghost use Rattle.std.specs.Prelude.{◌≡◌, ◌*◌, ◌^◌, ◌<◌, ◌≤◌, max, nat_lt, if◌then◌else◌};
-ghost use Rattle.std.specs.List.{list_all};
 ghost use Rattle.std.specs.List.Sorted.{IsNonDecreasing, IsNonDecreasingBy};
-ghost use Rattle.std.specs.Option.{option_copied, option_map_or};
+ghost use Rattle.std.specs.Option.{option_map_or};
 ghost use Rattle.mark_index.specs.Marks.{count_below, last_below, last_sum, most_below, next_peak, next_sum, own_below, total_below};
 
 /// How many of the places, which rise, are below one.

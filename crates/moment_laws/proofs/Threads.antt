@@ -15,7 +15,7 @@ use Rattle.run_spec.specs.Calls.{Call}
 use Rattle.run_spec.specs.Occurrences.{Occurrence}
 use Rattle.run_spec.specs.Ran.{Share, session_of}
 use Rattle.ran_laws.specs.Moments.{Lined, Moment, lines_at, lines_of}
-use Rattle.moment_laws.specs.Laws.{AreMoments, Ends, IsMoment, IsPrinted, with_event}
+use Rattle.moment_laws.specs.Laws.{AreMoments, IsPrinted, with_event}
 use Rattle.moment_laws.specs.Moments.{all_printed, due_of, lined, pending_at, pending_of, printed_by, printed_in, replies_at, reply_of, shares_lined, who_at, with_reply}
 use Rattle.moment_laws.proofs.Seats.{Aligned, Seat, same_seat, stands_at}
 

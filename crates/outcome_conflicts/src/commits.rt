@@ -8,7 +8,7 @@ ghost use Rattle.output_read.specs.declared.kept.KeptReply.{KeptReply as Kept};
 ghost use Rattle.outcome_counts.specs.Asked.{IsAsked, asked_at};
 ghost use Rattle.outcome_spec.specs.Conflicts.{is_committed_not_after, is_first_updater, passes_no_commit};
 ghost use Rattle.outcome_spec.specs.Entries.{before, is_before};
-ghost use Rattle.outcome_spec.specs.Runs.{Span, commit_line, run_of};
+ghost use Rattle.outcome_spec.specs.Runs.{Span, run_of};
 ghost use Rattle.outcome_conflicts.specs.Conflicts.{is_highest, is_named};
 ghost use Rattle.outcome_conflicts.specs.Writers.{AreHeights, AreNumbered, count_up_to, is_number_in, number_told, numbers_of, transaction_told};
 ghost use Rattle.outcome_history.specs.Kept.{place_in};

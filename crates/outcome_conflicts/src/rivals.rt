@@ -9,7 +9,7 @@ ghost use Rattle.outcome_spec.specs.Entries.{is_same};
 ghost use Rattle.output_read.specs.Kept.{entries_of, entry_of};
 ghost use Rattle.outcome_counts.specs.Keys.{is_keyed};
 ghost use Rattle.outcome_conflicts.specs.Leads.{AreFollowed, is_ordered};
-ghost use Rattle.outcome_conflicts.specs.Rivals.{AreRivals, IsMarked, is_writer, row_of, writer_at, writer_cmp};
+ghost use Rattle.outcome_conflicts.specs.Rivals.{AreRivals, IsMarked, row_of, writer_at, writer_cmp};
 ghost use Rattle.outcome_history.specs.Kept.{key_cmp};
 ghost use Rattle.outcome_conflicts.specs.declared.rivals.Writer.{Writer as Whom};
 ghost use Rattle.outcome_history.specs.declared.keys.RowKey.{RowKey as Where};

@@ -1,5 +1,5 @@
 //! What may be said of blocks, by counts.
-ghost use Rattle.std.specs.Prelude.{◌≡◌, ◌+◌, ◌*◌, ◌&&◌, ◌==◌, ◌<◌, ◌^◌, List, length, nat_le, nat_lt};
+ghost use Rattle.std.specs.Prelude.{◌≡◌, ◌+◌, ◌*◌, ◌&&◌, ◌==◌, ◌<◌, List, length, nat_le, nat_lt};
 ghost use Rattle.cell_model.specs.declared.table.TableDecl.{TableDecl as Table};
 ghost use Rattle.outcome_spec.specs.Entries.{not_after};
 ghost use Rattle.outcome_spec.specs.Runs.{run_of};

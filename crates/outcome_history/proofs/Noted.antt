@@ -21,7 +21,7 @@ use Rattle.outcome_counts.proofs.Keyed.{nat-same}
 use Rattle.si_machine.specs.Kept.{Rises}
 use Rattle.outcome_history.specs.Spots.{row_at}
 use Rattle.outcome_history.specs.Timed.{TimedWrite, after_writes, left_at, up_to, rows_in, gains, loses}
-use Rattle.outcome_history.specs.Kept.{AreKept, IsNoted, spot_cmp, shelf_cmp, spot_of, shelf_of, place_in, key_cmp, count_up_to, with_time, row_left, row_up_to, with_one, write_noted}
+use Rattle.outcome_history.specs.Kept.{AreKept, IsNoted, spot_cmp, shelf_cmp, spot_of, shelf_of, place_in, count_up_to, with_time, row_left, row_up_to, with_one, write_noted}
 use Rattle.outcome_history.specs.declared.keys.Spot.{Spot}
 use Rattle.outcome_history.specs.declared.keys.Shelf.{Shelf}
 use Rattle.outcome_history.specs.declared.writes.Left.{Left}

@@ -1,5 +1,5 @@
 //! The accepted writes of each transaction, in the order of their replies.
-ghost use Rattle.std.specs.Prelude.{◌≡◌, [], ℕ, ◌+◌, ◌<◌, ◌^◌, IfOk, OnOk, length, map, option_map};
+ghost use Rattle.std.specs.Prelude.{◌≡◌, ℕ, ◌+◌, ◌<◌, IfOk, OnOk, length, option_map};
 ghost use Rattle.std.specs.Ordering.{nat_cmp};
 ghost use Rattle.isolation_spec.specs.Contents.{key_of};
 ghost use Rattle.mark_index.specs.Lists.{marks_at};

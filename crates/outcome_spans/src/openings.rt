@@ -1,5 +1,5 @@
 //! Where the transaction of each reply is opened.
-ghost use Rattle.std.specs.Prelude.{◌≡◌, IfOk, OnOk, length};
+ghost use Rattle.std.specs.Prelude.{◌≡◌, IfOk, OnOk};
 ghost use Rattle.outcome_check.specs.Opened.{OpensOutside};
 ghost use Rattle.outcome_check.specs.Places.{Rises};
 ghost use Rattle.outcome_spec.specs.Entries.{is_end};

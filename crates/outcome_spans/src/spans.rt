@@ -1,8 +1,8 @@
 //! The transactions of an output, by the places of their replies.
-ghost use Rattle.std.specs.Prelude.{◌≡◌, ◌+◌, ◌<◌, [], IfOk, IfSome, List, OnOk, Some, false, length, min, option_and_then, ℕ};
+ghost use Rattle.std.specs.Prelude.{◌≡◌, ◌+◌, ◌<◌, IfOk, IfSome, List, Some, false, length, min, option_and_then, ℕ};
 ghost use Rattle.std.specs.Ordering.{nat_cmp};
 ghost use Rattle.cell_model.specs.declared.table.TableDecl.{TableDecl as Table};
-ghost use Rattle.mark_index.specs.Lists.{marks_at, with_mark};
+ghost use Rattle.mark_index.specs.Lists.{marks_at};
 ghost use Rattle.mark_index.specs.Marks.{AreCounted};
 ghost use Rattle.outcome_check.specs.Opened.{OpensOutside};
 ghost use Rattle.outcome_check.specs.Places.{Rises};

@@ -12,12 +12,12 @@ use Rattle.workload_spec.specs.declared.command.Command.TheVariants as command
 use Rattle.workload_spec.specs.Valid.{is_table, is_table_place, is_name, are_columns, are_slots, are_blocks}
 use Rattle.outcome_spec.specs.Entries.{Entry}
 use Rattle.outcome_spec.specs.Tables.{blocks_at}
-use Rattle.outcome_spec.specs.Forms.{Due, next_line, reading, reply_at, lines_begun, scanned_by, is_seal_or_gather}
+use Rattle.outcome_spec.specs.Forms.{Due, reading}
 use Rattle.reply_text.specs.Shown.{is_u32}
 use Rattle.output_read.specs.declared.turns.NextSteps.{NextSteps}
 use Rattle.output_read.proofs.Fitting.{never}
 use Rattle.output_read.proofs.Walks.{Reading}
-use Rattle.output_read.proofs.Silences.{step_due, first_hit, blocks_of, AreQuiet, AllQuiet, joined, from_steps, beyond, beyond-is, further_on, lines_left, now_read, NoneHit, one-here, one-later, one-none, all-none}
+use Rattle.output_read.proofs.Silences.{first_hit, blocks_of, AreQuiet, AllQuiet, joined, from_steps}
 
 -- the steps over blocks from one on
 abbrev pub blocks_from : ℕ → ℕ → ℕ → List Command

@@ -24,7 +24,7 @@ use Rattle.output_read.proofs.Fitting.{never}
 use Rattle.output_read.proofs.Keys.{absurdly, same-said, said_there, said-is, one-text, reply_of, misses, next}
 use Rattle.output_read.proofs.Walks.{Reading, Late, late, missing, silenced, passed}
 use Rattle.output_read.proofs.Silences.{step_due, AreQuiet, worker_dues, reaches, steps-stop}
-use Rattle.output_read.proofs.Placing.{InTurn, from_next, left-quiet, quiet-next, entries_at, has-blocks}
+use Rattle.output_read.proofs.Placing.{InTurn, from_next, left-quiet, quiet-next, entries_at}
 use Rattle.output_read.proofs.Stepping.{anew-fails, there, narrow, step-begun, step-fails}
 use Rattle.output_read.proofs.Turning.{moved-read, memory-read, sealed-read, frozen-read}
 

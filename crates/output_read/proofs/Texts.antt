@@ -11,7 +11,7 @@ use Rattle.workload_spec.specs.Reading.{parts, parted, onto_first}
 use Rattle.workload_spec.specs.Words.{line_feed, spaced, cell_words}
 use Rattle.outcome_spec.specs.Entries.{is_same}
 use Rattle.outcome_spec.specs.Lines.{lines_of}
-use Rattle.reply_text.specs.Readers.{◌>>=◌, where_true, behind, cut, u64_in, Heading, head_in, row_in, told_in, said_in, scanned_in, reply_in}
+use Rattle.reply_text.specs.Readers.{◌>>=◌, where_true, behind, cut, u64_in, Heading, head_in, row_in, told_in, said_in, scanned_in}
 use Rattle.reply_text.proofs.PieceLemmas.{step, where_is, cut_back}
 use Rattle.reply_text.proofs.RowsBack.{row_back}
 use Rattle.reply_text.proofs.SaidSound.{said_is}

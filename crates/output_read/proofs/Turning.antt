@@ -12,14 +12,14 @@ use Rattle.workload_spec.specs.declared.reply.Said.TheVariants as said
 use Rattle.workload_spec.specs.Valid.{is_table}
 use Rattle.outcome_spec.specs.Entries.{Entry}
 use Rattle.outcome_spec.specs.Tables.{blocks_at}
-use Rattle.outcome_spec.specs.Forms.{Due, line_count, next_line, reading, reply_at, is_silent}
+use Rattle.outcome_spec.specs.Forms.{Due, line_count, next_line, reading, reply_at}
 use Rattle.reply_text.specs.Shown.{is_u32, is_u64, are_tables}
 use Rattle.timeline_laws.proofs.ReadBack.{NamesPlain}
 use Rattle.output_read.specs.declared.turns.NextSteps.{NextSteps}
 use Rattle.output_read.specs.Turns.{one_more, next_table, may_seal, may_gather, next_steps}
 use Rattle.output_read.proofs.Keys.{said_there}
 use Rattle.output_read.proofs.Walks.{Reading, taken}
-use Rattle.output_read.proofs.Silences.{first_hit, blocks_of, AreQuiet, AllQuiet, joined, from_steps, compact-hit, compact-next, compact-none}
+use Rattle.output_read.proofs.Silences.{first_hit, blocks_of, AreQuiet, AllQuiet, from_steps, compact-hit, compact-next, compact-none}
 use Rattle.output_read.proofs.Placing.{blocks_from, blocks-whole, miss-one, hit-one, steps_left, none-says, memory-says, decl_at, entries_at, entries-first, entries-none, InTurn, left-quiet, quiet-next, joined-cap}
 use Rattle.output_read.proofs.Stepping.{due_of, there, says, says-is, the_entry, found, found-quiet, missed, step-begun, outcome, now, later, one-read, seal-range, gather-range}
 

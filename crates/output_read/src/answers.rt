@@ -4,7 +4,7 @@ ghost use Rattle.workload_spec.specs.Valid.{is_command, is_table_place};
 ghost use Rattle.isolation_spec.specs.Contents.{key_of};
 ghost use Rattle.outcome_spec.specs.Tables.{columns_at};
 ghost use Rattle.outcome_spec.specs.Forms.{is_upkeep};
-ghost use Rattle.output_read.specs.Answers.{answers, answers_begin, answers_change, answers_export, answers_gather, answers_get, answers_insert, answers_seal, answers_within, answers_without, is_opening, is_without};
+ghost use Rattle.output_read.specs.Answers.{answers, answers_change, answers_gather, answers_get, answers_insert, answers_seal, answers_within, answers_without};
 
 use cell_model::{Cell, Row, TableDecl};
 use workload_spec::{Command, Said};

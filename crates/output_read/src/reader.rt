@@ -1,12 +1,9 @@
 //! How far an output was read.
 ghost use Rattle.std.specs.Prelude.{◌≡◌, ◌+◌, ◌<◌, ◌^◌, ◌++◌, ◌∷◌, [], true, length, drop, option_map, OnOk, IfOk, IfSome, None};
-ghost use Rattle.workload_spec.specs.Words.{line_feed};
-ghost use Rattle.reply_text.specs.Shown.{are_tables};
 ghost use Rattle.outcome_spec.specs.Entries.{is_same};
 ghost use Rattle.outcome_spec.specs.Lines.{lines_of};
 ghost use Rattle.output_read.specs.Fronts.{IsSaidBy, count_first, is_of_block, is_plain, is_single, said_first, words_behind, words_first};
 ghost use Rattle.output_read.specs.Kept.{is_told, said_of};
-ghost use Rattle.output_read.specs.Readers.{lines_left};
 
 use crate::kept::{Exported, KeptReply, Told, narrow};
 use cell_model::TableDecl;

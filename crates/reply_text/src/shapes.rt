@@ -1,6 +1,6 @@
 //! Replies of one line, read from the bytes behind their index.
 ghost use Rattle.std.specs.Prelude.{◌≡◌, ℕ, ◌<◌, ◌^◌, length, option_map, IfOk, IfSome};
-ghost use Rattle.reply_text.specs.Readers.{answer_in, refusal_in, opened_in, counts, places, block_in, exported_in, key_in, table_in, found_in, said_in};
+ghost use Rattle.reply_text.specs.Readers.{answer_in, refusal_in, opened_in, counts, places, block_in, exported_in, key_in, table_in, said_in};
 ghost use Rattle.workload_spec.specs.declared.reply.Said.{Said as SaidValue};
 
 use crate::pieces::{behind, cut};

@@ -16,7 +16,7 @@ use Rattle.event_spec.specs.Replies.{reply_to}
 use Rattle.event_spec.specs.Sound.{IsShape, Sound}
 use Rattle.follow_laws.specs.Owned.{HasOpen}
 use Rattle.isolation_spec.specs.Contents.{key_of}
-use Rattle.isolation_spec.specs.Machine.{IsolationMachine, Transaction, transaction_of}
+use Rattle.isolation_spec.specs.Machine.{IsolationMachine, transaction_of}
 use Rattle.isolation_spec.specs.Machine as machine
 use Rattle.run_laws.proofs.Opening.{opening_follows, sound}
 use Rattle.run_laws.specs.Laws.{IsAnsweredFrom, Opens, Reaches, RepliesAsTheMachine}

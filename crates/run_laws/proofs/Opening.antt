@@ -24,7 +24,6 @@ use Rattle.event_spec.specs.Replay.{columns_in, opening, opening_head, opening_p
 use Rattle.event_spec.specs.SlotSound.{IsOfSession, IsSoundSlot, VersionsFit}
 use Rattle.event_spec.specs.Sound.{BodyHolds, HeadHolds, IsOfKind, IsShape, Sound}
 use Rattle.isolation_spec.specs.Contents.{State, at_place, place_at, state_at}
-use Rattle.isolation_spec.specs.Machine.{IsolationMachine}
 use Rattle.isolation_spec.specs.Machine as machine
 use Rattle.key_index.specs.Candidates.{candidates_of}
 use Rattle.sound_laws.proofs.Kept.{filter_same, in_block}

@@ -1,6 +1,5 @@
 //! A table's line.
-ghost use Rattle.std.specs.Prelude.{◌≡◌, ◌%◌, ◌==◌, true, false, codes, bytes_eq, IfOk, Ok};
-ghost use Rattle.cell_model.specs.Schemas.{most_slots_of};
+ghost use Rattle.std.specs.Prelude.{◌≡◌, ◌%◌, ◌==◌, true, false, IfOk, Ok};
 ghost use Rattle.workload_spec.specs.declared.script.Cause.TheVariants as cause;
 ghost use Rattle.workload_spec.specs.Extents.{is_extent};
 ghost use Rattle.workload_spec.specs.Reading.{words_of};

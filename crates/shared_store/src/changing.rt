@@ -1,5 +1,5 @@
 //! Changing rows: where the block of a row is imaged, it is thawed before.
-ghost use Rattle.std.specs.Prelude.{◌≡◌, ◌<◌, ℕ, true, is_some, length};
+ghost use Rattle.std.specs.Prelude.{◌≡◌, ◌<◌, true, is_some, length};
 ghost use Rattle.engine_core.specs.Asks.{HasKeyParts, IsOfCore};
 ghost use Rattle.event_spec.specs.Parts.{Parts};
 ghost use Rattle.hall_rule.specs.Hands.{Agrees};
@@ -105,6 +105,11 @@ impl Store {
     }
 
     /// Changes the row of a key that has one. A block that is imaged is thawed before.
+    ///
+    /// # Errors
+    ///
+    /// The key has no row or meets a conflict, its block is being frozen, or there is no memory; the row
+    /// stays.
     pub fn update<R: Wait>(
         &self,
         rt: &R,
@@ -129,6 +134,11 @@ impl Store {
     }
 
     /// Removes the row of a key that has one. A block that is imaged is thawed before.
+    ///
+    /// # Errors
+    ///
+    /// The key has no row or meets a conflict, its block is being frozen, or there is no memory; the row
+    /// stays.
     pub fn delete<R: Wait>(
         &self,
         rt: &R,

@@ -1,7 +1,6 @@
 //! Events on the blocks of a table one after another: the parts that all of them touch are kept from
 //! one block to the next.
-ghost use Rattle.std.specs.Prelude.{◌≡◌, ℕ, true, Some, None, slice_get, slice_set};
-ghost use Rattle.event_spec.specs.Parts.{BodyOf, names};
+ghost use Rattle.std.specs.Prelude.{◌≡◌, ℕ, true, None, slice_set};
 ghost use Rattle.event_spec.specs.Touched.{touching};
 ghost use Rattle.hall_rule.specs.Hands.{Holds};
 ghost use Rattle.hall_steps.specs.Hall.{first_of};

@@ -1,8 +1,8 @@
 //! What is kept of the machine, and its steps.
-ghost use Rattle.std.specs.Prelude.{◌≡◌, ◌==◌, ◌&&◌, ◌<◌, [], ◌∷◌, IfOk, None, OnErr, OnOk, Some, find, is_some, length, map, not, option_copied, option_map, position, slice_index_or, slice_set, true};
+ghost use Rattle.std.specs.Prelude.{◌≡◌, ◌==◌, ◌&&◌, ◌<◌, IfOk, None, OnErr, OnOk, Some, find, is_some, length, map, not, option_copied, option_map, position, slice_index_or, slice_set, true};
 ghost use Rattle.cell_model.specs.declared.kind.Kind.TheVariants as kind;
 ghost use Rattle.cell_model.specs.Values.{is_integer_of};
-ghost use Rattle.isolation_spec.specs.Contents.{at_place, contents_of, key_of, place_at, place_of, state_at};
+ghost use Rattle.isolation_spec.specs.Contents.{at_place, key_of, place_of, state_at};
 ghost use Rattle.isolation_spec.specs.Machine.{conflict_of, entered, opening, seen_rows, step, refusal_of_change, step_within, step_without, transaction_of, with_own, without, write, writes_place};
 ghost use Rattle.isolation_spec.specs.declared.command.Act.TheVariants as act;
 ghost use Rattle.si_machine.specs.declared.ledger.OpenTransaction.{OpenTransaction as Kept};

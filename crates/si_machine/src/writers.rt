@@ -1,9 +1,8 @@
 //! Which commits wrote which place.
-ghost use Rattle.std.specs.Prelude.{◌≡◌, ◌++◌, ◌∷◌, ◌⊎◌, [], ℕ, IfOk, List, None, OnErr, OnOk, Option, if◌then◌else◌, true, vec_len};
+ghost use Rattle.std.specs.Prelude.{◌≡◌, ◌++◌, ◌∷◌, ◌⊎◌, [], None, OnOk, Option, if◌then◌else◌, true};
 ghost use Rattle.std.specs.List.{filter, last_or};
 ghost use Rattle.std.specs.List.Sorted.{IsNonDecreasing};
 ghost use Rattle.std.specs.Prelude.{nat_le};
-ghost use Rattle.isolation_spec.specs.Contents.{at_place};
 ghost use Rattle.isolation_spec.specs.Machine.{writes_place};
 ghost use Rattle.isolation_spec.specs.declared.place.Place.{Place as PlaceValue};
 ghost use Rattle.si_machine.specs.Kept.{HasRoom, has_place, numbers_at};

@@ -1,5 +1,5 @@
 //! What an update changes of a row.
-ghost use Rattle.std.specs.Prelude.{◌≡◌, ◌+◌, ◌++◌, ◌≤◌, ◌<◌, ◌^◌, drop, IfOk, length};
+ghost use Rattle.std.specs.Prelude.{◌≡◌, ◌+◌, ◌<◌, ◌^◌, IfOk, length};
 ghost use Rattle.block_body.specs.Keys.{HasKey};
 ghost use Rattle.event_spec.specs.Judged.{differences, same_cell};
 ghost use Rattle.isolation_spec.specs.Contents.{key_of};

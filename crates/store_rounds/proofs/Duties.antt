@@ -1,6 +1,6 @@
 -- The duties of a crew, one by one, and that they may be done.
-use Rattle.std.proofs.Common.{◌≡◌, ℕ, suc, ◌+◌, ◌-◌, ◌*◌, ◌<◌, ◌≤◌, nat_lt, Bool, true, false, cond, ◌==◌, ◌||◌, List, [], ◌∷◌, ◌++◌, length, get_or, None, Some, Ok, Err, refl, sym, ap, ◌∙◌, subst, arith, true≢false}
-use Rattle.std.specs.Prelude.{◌≢◌, All, IfErr, Result, count_by, not}
+use Rattle.std.proofs.Common.{◌≡◌, ℕ, suc, ◌+◌, ◌-◌, ◌*◌, ◌<◌, ◌≤◌, nat_lt, Bool, true, false, cond, ◌==◌, ◌||◌, List, [], ◌∷◌, ◌++◌, length, get_or, None, Some, refl, sym, ap, ◌∙◌, subst, arith, true≢false}
+use Rattle.std.specs.Prelude.{◌≢◌, All, count_by, not}
 use Rattle.std.specs.Global.{Vec as GlobalVec}
 use Rattle.std.specs.List.{cons_option, list_any}
 use Rattle.std.proofs.lemmas.Bool.Decides.{nat_tests}
@@ -15,7 +15,7 @@ use Rattle.shared_store.specs.Store.{IsSession, StoreView, shape_in}
 use Rattle.shared_store.specs.declared.session.Session.{Session}
 use Rattle.store_workers.specs.Turns.{most_of_turn}
 use Rattle.store_rounds.specs.Answered.{IsServed, most_events}
-use Rattle.store_rounds.specs.Duties.{AreDuties, AreOfSessions, AreWithWorkers, IsNew, IsOfSession, asks_export, fault_of, has_export, is_cut, is_cut_end, is_whole, is_whole_end}
+use Rattle.store_rounds.specs.Duties.{AreDuties, AreOfSessions, AreWithWorkers, IsNew, IsOfSession, asks_export, fault_of, has_export, is_cut, is_whole}
 use Rattle.store_rounds.specs.Rounds.{HaveRoomFor}
 use Rattle.store_rounds.specs.Row.{AreSessions}
 use Rattle.store_rounds.specs.Served.{OneExportsAtMost, MayDo, MayServe, MayServeRow}

@@ -1,8 +1,8 @@
 -- What a call tells at its last event.
-use Rattle.std.proofs.Common.{◌≡◌, ◌⊎◌, ℕ, ◌+◌, Bool, true, false, cond, not, ◌&&◌, ◌||◌, List, [], ◌∷◌, ◌++◌, map, Option, None, Some, refl, sym, ap, ◌∙◌, subst, arith, append_assoc}
+use Rattle.std.proofs.Common.{◌≡◌, ◌⊎◌, ℕ, ◌+◌, Bool, true, false, cond, not, ◌||◌, List, [], ◌∷◌, ◌++◌, Option, None, Some, refl, sym, ap, ◌∙◌, subst, arith, append_assoc}
 use mathlib.Core.Logic.{inl, inr}
 use Rattle.std.specs.Prelude.{is_none, option_and_then, option_map, option_to_list, sum_by}
-use Rattle.std.specs.List.{flat_map, last_or, list_all, list_any}
+use Rattle.std.specs.List.{flat_map, last_or, list_all}
 use Rattle.std.proofs.lemmas.List.Sums.{sum_by-append, sum_by-cons}
 use Rattle.block_spec.specs.Bodies.{is_imaged}
 use Rattle.event_spec.specs.declared.event.Event.TheVariants as event
@@ -19,7 +19,7 @@ use Rattle.workload_spec.specs.declared.command.Command.{Command}
 use Rattle.workload_spec.specs.declared.command.Command.TheVariants as command
 use Rattle.workload_spec.specs.declared.reply.Said.{Said}
 use Rattle.workload_spec.specs.declared.reply.Said.TheVariants as said
-use Rattle.run_spec.specs.Asked.{by_own, events_of, looks_in}
+use Rattle.run_spec.specs.Asked.{events_of, looks_in}
 use Rattle.run_spec.specs.Calls.{Call, IsCallBy, IsPart, IsWhole, is_cut_short, is_final, is_memory, is_refused, line_to, may_lack_memory}
 use Rattle.run_spec.specs.Occurrences.{Occurrence, events_in, replies_in}
 use Rattle.run_spec.specs.Opened.{least_written, own_after}

@@ -4,7 +4,7 @@ use Rattle.std.specs.Prelude.{Ok}
 use Rattle.workload_spec.specs.declared.extent.Extent.{Extent}
 use Rattle.workload_spec.specs.declared.script.Script.{Script}
 use Rattle.workload_spec.specs.Extents.{is_extent}
-use Rattle.workload_spec.specs.Grammar.{read_with, script_of}
+use Rattle.workload_spec.specs.Grammar.{read_with}
 use Rattle.workload_spec.specs.ScriptText.{script_text}
 use Rattle.workload_laws.proofs.ValidBytes.{valid_bytes}
 use Rattle.workload_laws.specs.Laws.{IsWorkloadWithin}

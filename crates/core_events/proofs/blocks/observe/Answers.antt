@@ -1,12 +1,12 @@
-use Rattle.std.proofs.Common.{◌≡◌, ◌==◌, Bool, true, false, Some, None, Result, Ok, Err, length, ap, ◌∙◌, sym, refl, subst}
-use Rattle.block_spec.specs.Bodies.{Body, observed, seal_fault, sealed, thawed, turns}
-use Rattle.core_events.proofs.Alone.{body_back, head_told, one_body, room_taken}
+use Rattle.std.proofs.Common.{◌==◌, false, ap, ◌∙◌, sym}
+use Rattle.block_spec.specs.Bodies.{observed, turns}
+use Rattle.core_events.proofs.Alone.{head_told, one_body, room_taken}
 use Rattle.core_parts.proofs.Changing.{body_change}
 use Rattle.core_parts.proofs.Telling.{body_is, has_body, has_head}
 use Rattle.event_laws.proofs.Slots.{num_refl}
 use Rattle.event_spec.specs.declared.event.Event.TheVariants as event
 use Rattle.event_spec.specs.declared.reply.Reply.TheVariants as reply
-use Rattle.event_spec.specs.Parts.{HeadOf, BodyOf, is_head, body_at}
+use Rattle.event_spec.specs.Parts.{BodyOf, body_at}
 use Rattle.frame_laws.proofs.Looks.{name_self, or_left, or_right}
 use Rattle.core_events.proofs.blocks.observe.Goals as goal
 

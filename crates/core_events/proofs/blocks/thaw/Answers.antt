@@ -1,12 +1,11 @@
-use Rattle.std.proofs.Common.{◌≡◌, Bool, true, false, Some, None, Result, Ok, Err, length, ap, ◌∙◌, sym, refl, subst}
-use Rattle.block_spec.specs.Bodies.{Body, is_imaged, observed, seal_fault, sealed, thawed, turns}
-use Rattle.core_events.proofs.Alone.{body_back, head_told, ok_then, err_then, one_body, room_taken}
-use Rattle.core_parts.proofs.Telling.{body_is, has_body, has_head}
-use Rattle.event_laws.proofs.Slots.{num_refl}
+use Rattle.std.proofs.Common.{◌≡◌, ap, ◌∙◌, sym, refl}
+use Rattle.block_spec.specs.Bodies.{Body, is_imaged, thawed}
+use Rattle.core_events.proofs.Alone.{body_back, ok_then, err_then, one_body, room_taken}
+use Rattle.core_parts.proofs.Telling.{body_is, has_body}
 use Rattle.event_spec.specs.declared.event.Event.TheVariants as event
 use Rattle.event_spec.specs.declared.reply.Reply.TheVariants as reply
-use Rattle.event_spec.specs.Parts.{HeadOf, BodyOf, is_head, body_at}
-use Rattle.frame_laws.proofs.Looks.{name_self, or_left, or_right}
+use Rattle.event_spec.specs.Parts.{BodyOf}
+use Rattle.frame_laws.proofs.Looks.{name_self}
 use Rattle.core_events.proofs.blocks.thaw.Goals as goal
 
 pub take_body-body-requires : goal.take_body-body-requires

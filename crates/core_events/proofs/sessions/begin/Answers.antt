@@ -1,4 +1,4 @@
-use Rattle.std.proofs.Common.{◌≡◌, ◌≤◌, ◌-◌, ℕ, set, Some, None, length, ap, ◌∙◌, sym, refl, subst, arith}
+use Rattle.std.proofs.Common.{◌≡◌, ◌-◌, ℕ, set, Some, length, ap, ◌∙◌, sym, refl, arith}
 use Rattle.core_events.proofs.Alone.{one_desk, room_taken}
 use Rattle.core_events.proofs.Desks.{no_snapshot}
 use Rattle.core_parts.proofs.Telling.{desk_is, has_desk}

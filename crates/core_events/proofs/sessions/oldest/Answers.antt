@@ -1,8 +1,7 @@
-use Rattle.std.proofs.Common.{◌≡◌, ap, ◌∙◌, sym, refl}
+use Rattle.std.proofs.Common.{ap, ◌∙◌, sym, refl}
 use Rattle.core_parts.proofs.Telling.{desk_is, has_desk, only_told}
 use Rattle.event_spec.specs.declared.event.Event.TheVariants as event
 use Rattle.event_spec.specs.declared.reply.Reply.TheVariants as reply
-use Rattle.txn_desk.specs.Desk.{DeskState}
 use Rattle.txn_desk.specs.Oldest.{oldest_of}
 use Rattle.core_events.proofs.sessions.oldest.Goals as goal
 

@@ -1,4 +1,4 @@
-use Rattle.std.proofs.Common.{◌≡◌, ◌++◌, ℕ, sym, ap, ◌∙◌}
+use Rattle.std.proofs.Common.{◌++◌, sym, ap, ◌∙◌}
 use Rattle.core_opening.proofs.Places.{grown, placed_table}
 use Rattle.core_opening.specs.Placed.{placed}
 use Rattle.core_parts.specs.Hands.{Held}

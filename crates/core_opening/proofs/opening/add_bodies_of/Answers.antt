@@ -1,11 +1,11 @@
-use Rattle.std.proofs.Common.{◌≡◌, ◌++◌, ◌∷◌, [], Some, ℕ, List, sym, ap, ◌∙◌}
+use Rattle.std.proofs.Common.{◌++◌, ◌∷◌, [], Some, List, sym, ap, ◌∙◌}
 use Rattle.block_spec.specs.Bodies.{Body, untouched}
 use Rattle.cell_model.specs.declared.column.Column.{Column}
 use Rattle.core_opening.proofs.Places.{grown, placed_more}
 use Rattle.core_opening.specs.Placed.{placed}
 use Rattle.core_parts.specs.Hands.{Held}
 use Rattle.event_spec.specs.declared.part.Part.TheVariants as part
-use Rattle.event_spec.specs.Parts.{BodyOf, below, slots_of}
+use Rattle.event_spec.specs.Parts.{BodyOf, below}
 use Rattle.event_spec.specs.Replay.{columns_in}
 use Rattle.std.specs.Prelude.{map}
 use Rattle.core_opening.proofs.opening.add_bodies_of.Goals as goal

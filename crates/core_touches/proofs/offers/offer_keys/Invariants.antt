@@ -1,8 +1,7 @@
 use Rattle.std.proofs.Common.{◌≡◌, map, ℕ}
 use Rattle.std.specs.Map.Iter.{deref_pair}
-use Rattle.block_layout.specs.Place.{block_of}
 use Rattle.core_touches.specs.Least.{offered_all}
-use Rattle.event_spec.specs.Parts.{BodyOf, ShardOf, shard_of}
+use Rattle.event_spec.specs.Parts.{ShardOf, shard_of}
 use Rattle.isolation_spec.specs.declared.place.Place.{Place}
 use Rattle.core_touches.proofs.offers.offer_keys.Given as goal
 

@@ -1,7 +1,6 @@
 use Rattle.std.proofs.Common.{◌≡◌, map, take}
-use Rattle.block_layout.specs.Place.{block_of}
 use Rattle.core_touches.specs.Least.{offered_all}
-use Rattle.event_spec.specs.Parts.{BodyOf, ShardOf, shard_of}
+use Rattle.event_spec.specs.Parts.{ShardOf, shard_of}
 use Rattle.event_spec.specs.declared.event.MovePair.{MovePair}
 use Rattle.core_touches.proofs.offers.offer_moved_keys.Given as goal
 

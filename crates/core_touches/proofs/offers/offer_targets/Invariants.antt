@@ -1,7 +1,7 @@
 use Rattle.std.proofs.Common.{◌≡◌, map, take}
 use Rattle.block_layout.specs.Place.{block_of}
 use Rattle.core_touches.specs.Least.{offered_all}
-use Rattle.event_spec.specs.Parts.{BodyOf, ShardOf, shard_of}
+use Rattle.event_spec.specs.Parts.{BodyOf}
 use Rattle.event_spec.specs.declared.event.MovePair.{MovePair}
 use Rattle.core_touches.proofs.offers.offer_targets.Given as goal
 

@@ -1,7 +1,7 @@
 use Rattle.std.proofs.Common.{◌∙◌, None, ap, arith, length, sym}
 use Rattle.core_touches.proofs.Held.{head_beyond, head_held, no_head, no_slots}
 use Rattle.event_spec.specs.Judged.{next_place}
-use Rattle.event_spec.specs.Parts.{head_from, slots_of}
+use Rattle.event_spec.specs.Parts.{head_from}
 use Rattle.core_touches.proofs.touching.next_place.Goals as goal
 
 pub returns-then-table-tables : goal.returns-then-table-tables

@@ -1,4 +1,4 @@
-use Rattle.std.proofs.Common.{rules, ◌≡◌, [], ◌∷◌, ap, sym, ◌∙◌}
+use Rattle.std.proofs.Common.{◌≡◌, [], ◌∷◌, ap, sym, ◌∙◌}
 use Rattle.core_parts.specs.Hands.{in_hand}
 use Rattle.core_touches.specs.Least.{offered_all, offered_name}
 use Rattle.core_touches.specs.Touched.{shards_in, touched_names}

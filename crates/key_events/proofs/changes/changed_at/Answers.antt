@@ -1,4 +1,4 @@
-use Rattle.std.proofs.Common.{◌≡◌, Option, None, Some, [], ap, ◌∙◌, sym}
+use Rattle.std.proofs.Common.{Option, [], ap, ◌∙◌, sym}
 use Rattle.std.specs.Prelude.{unwrap_or}
 use Rattle.block_spec.specs.Slots.{Row}
 use Rattle.event_spec.specs.Judged.{differences}

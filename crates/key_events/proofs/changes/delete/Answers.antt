@@ -1,25 +1,20 @@
-use Rattle.std.proofs.Common.{◌≡◌, ◌+◌, ◌≤◌, ℕ, ℤ, List, Some, Ok, Err, rules, to_z, of_z, w64, length, refl, sym, ap, ◌∙◌, subst, arith}
+use Rattle.std.proofs.Common.{◌≡◌, ℕ, ℤ, List, rules, to_z, of_z, w64, length, refl, sym, ap, ◌∙◌, subst, arith}
 use Rattle.std.proofs.Math.Facts.{to_z-of_z}
-use Rattle.std.specs.Prelude.{Result, unwrap_or}
-use Rattle.block_layout.specs.Place.{block_of, slot_of}
+use Rattle.std.specs.Prelude.{Result}
 use Rattle.block_spec.specs.declared.change.Change.TheVariants as change
-use Rattle.block_spec.specs.Slots.{Row}
-use Rattle.core_parts.proofs.Telling.{room}
-use Rattle.core_parts.specs.Hands.{Has, Held, MayRun, after}
+use Rattle.core_parts.specs.Hands.{Has, Held, MayRun}
 use Rattle.event_spec.specs.declared.event.Event.TheVariants as event
 use Rattle.event_spec.specs.declared.own.OwnKey.{OwnKey}
 use Rattle.event_spec.specs.declared.reply.WriteFault.{WriteFault}
-use Rattle.event_spec.specs.Effects.{after_change, after_insert, change_judged, insert_judged}
-use Rattle.event_spec.specs.Judged.{differences, judged_change, judged_insert}
+use Rattle.event_spec.specs.Effects.{after_change, change_judged}
+use Rattle.event_spec.specs.Judged.{judged_change}
 use Rattle.event_spec.specs.Lawful.{Among}
-use Rattle.event_spec.specs.Parts.{Parts, Shape, ShardOf, body_at, head_at, names, places_at, shard_of, slot_at, slots_of}
-use Rattle.isolation_spec.specs.Contents.{key_of}
+use Rattle.event_spec.specs.Parts.{Shape, ShardOf, body_at, shard_of, slot_at}
 use Rattle.key_events.proofs.Changing.{refused, written_once}
-use Rattle.key_events.proofs.Takes.{change_takes, changed_place, changes, patch_fits, takes_at}
+use Rattle.key_events.proofs.Takes.{change_takes, changed_place, changes, takes_at}
 use Rattle.key_events.proofs.Touched.{delete_own, delete_same, delete_shard, delete_slots}
 use Rattle.key_events.specs.Candidates.{candidates_in}
-use Rattle.key_judge.specs.Slots.{HasSlot, HasSlots}
-use Rattle.slot_writes.specs.Writes.{TakesAt}
+use Rattle.key_judge.specs.Slots.{HasSlots}
 use Rattle.key_events.proofs.changes.delete.Goals as goal
 
 pub candidates-places-requires : goal.candidates-places-requires

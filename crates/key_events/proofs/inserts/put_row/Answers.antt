@@ -1,16 +1,13 @@
-use Rattle.std.proofs.Common.{◌≡◌, ◌==◌, ◌+◌, ◌<◌, ◌^◌, ℕ, ℤ, true, false, Some, None, rules, not, to_z, of_z, w64, length, refl, sym, ap, ◌∙◌, subst}
+use Rattle.std.proofs.Common.{◌≡◌, ◌==◌, ℤ, true, false, rules, to_z, of_z, w64, length, sym, ap, ◌∙◌, subst}
 use Rattle.std.proofs.Math.Facts.{to_z-of_z}
 use Rattle.std.specs.List.{list_any}
-use Rattle.std.specs.Prelude.{OnOk}
-use Rattle.block_layout.specs.Place.{block_of, slot_of}
 use Rattle.block_spec.specs.declared.change.Change.TheVariants as change
 use Rattle.core_parts.specs.Hands.{Has, after, in_hand}
-use Rattle.event_spec.specs.Effects.{taken_by, with_place}
-use Rattle.event_spec.specs.Parts.{HeadOf, ShardOf, head_from, shard_from, shard_of, slots_of}
-use Rattle.event_spec.specs.Sound.{IsOfKind}
+use Rattle.event_spec.specs.Effects.{with_place}
+use Rattle.event_spec.specs.Parts.{ShardOf, shard_from, shard_of}
 use Rattle.frame_laws.specs.Shards.{ShardHolds}
-use Rattle.key_events.proofs.Puts.{none_by, not_false, not_true, on_ok, row_put, slot_kept, slot_taken, still_head, still_room, still_shard, still_takes, taken_back, was_there}
-use Rattle.key_events.specs.Puts.{put_changes, row_changes}
+use Rattle.key_events.proofs.Puts.{not_false, not_true, row_put, still_room, still_shard, still_takes, taken_back, was_there}
+use Rattle.key_events.specs.Puts.{row_changes}
 use Rattle.key_index.specs.Candidates.{candidates_of}
 use Rattle.part_changes.proofs.Shards.{added_is_dropped}
 use Rattle.slot_writes.specs.Writes.{of_shard}

@@ -1,9 +1,9 @@
-use Rattle.std.proofs.Common.{◌≡◌, ℕ, ℤ, Some, rules, sym, ap, ◌∙◌, subst, to_z, of_z, w64}
+use Rattle.std.proofs.Common.{◌≡◌, rules, sym, ap, ◌∙◌, subst, to_z, of_z, w64}
 use Rattle.std.proofs.Math.Facts.{to_z-of_z}
 use Rattle.core_parts.specs.Hands.{Has, in_hand}
 use Rattle.event_spec.specs.Parts.{ShardOf, shard_from, shard_of}
 use Rattle.key_events.specs.Candidates.{candidates_in}
-use Rattle.key_index.specs.Candidates.{Places, candidates_of}
+use Rattle.key_index.specs.Candidates.{candidates_of}
 use Rattle.key_events.proofs.keyed.candidates.Goals as goal
 
 pub shard-requires : goal.shard-requires

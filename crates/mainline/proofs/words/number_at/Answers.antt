@@ -1,6 +1,6 @@
-use Rattle.std.proofs.Common.{◌≡◌, ◌∙◌, ap, sym, Bor, List, ℕ, Option, Some, None, option_map}
+use Rattle.std.proofs.Common.{◌∙◌, ap, sym, Bor, List, ℕ, option_map}
 use Rattle.std.specs.Prelude.{option_and_then}
-use Rattle.clap.specs.Words.{Text, found_of}
+use Rattle.clap.specs.Words.{found_of}
 use Rattle.clap.proofs.WalkLemmas.{first_value-rows}
 use Rattle.mainline.specs.Words.{number_in}
 use Rattle.mainline.proofs.words.number_at.Goals as goal

@@ -1,4 +1,4 @@
-use Rattle.std.proofs.Common.{◌∙◌, ◌&&◌, Bool, Option, Some, ap, sym}
+use Rattle.std.proofs.Common.{◌∙◌, ◌&&◌, Option, ap, sym}
 use Rattle.std.specs.Ordering.{is_eq}
 use Rattle.workload_spec.specs.declared.reply.Who.{Who}
 use Rattle.workload_spec.specs.declared.reply.Who.TheVariants.{Session}

@@ -1,4 +1,4 @@
-use Rattle.std.proofs.Common.{◌≡◌, ◌∙◌, ◌&&◌, Bool, arith}
+use Rattle.std.proofs.Common.{◌≡◌, ◌∙◌, ◌&&◌, arith}
 use Rattle.outcome_conflicts.specs.Conflicts.{heights_hold, numbers_hold, sessions_hold}
 use Rattle.outcome_conflicts.proofs.Whole.{in-parts}
 use Rattle.outcome_spec.specs.Conflicts.{conflicts_hold}

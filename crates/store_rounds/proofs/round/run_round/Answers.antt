@@ -1,4 +1,4 @@
-use Rattle.std.proofs.Common.{ℕ, ◌+◌, List, sym, ap, ◌∙◌, subst, arith}
+use Rattle.std.proofs.Common.{ℕ, List, sym, ap, ◌∙◌, subst, arith}
 use Rattle.store_rounds.specs.Duties.{duties_text, fault_of}
 use Rattle.store_rounds.specs.Rounds.{RanRound}
 use Rattle.store_rounds.specs.Served.{MayServeRow, OneExportsAtMost, RowServed}

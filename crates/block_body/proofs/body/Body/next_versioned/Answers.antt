@@ -1,9 +1,9 @@
-use Rattle.std.proofs.Common.{◌≡◌, ℕ, ◌<◌, length, ap, sym, ◌∙◌, subst}
+use Rattle.std.proofs.Common.{◌<◌, length, ap, sym, ◌∙◌, subst}
 use Rattle.block_spec.specs.Bodies.{Body as BodyValue, slot_in}
 use Rattle.block_body.proofs.Bodies.{body_slot}
 use Rattle.block_body.proofs.Nexts.{next_told}
 use Rattle.block_body.proofs.Slots.{slots-length}
-use Rattle.block_body.specs.Chains.{entries_at, slot_at}
+use Rattle.block_body.specs.Chains.{entries_at}
 use Rattle.block_body.proofs.body.Body.next_versioned.Goals as goal
 
 pub returns : goal.returns

@@ -1,4 +1,4 @@
-use Rattle.std.proofs.Common.{◌∙◌, ◌+◌, List, ℕ, take, drop, subst}
+use Rattle.std.proofs.Common.{◌+◌, List, ℕ, take, drop, subst}
 use Rattle.std.specs.Prelude.{flat_map}
 use Rattle.arrow_spec.specs.Batches.{Array}
 use Rattle.arrow_spec.specs.Bytes.{padded}

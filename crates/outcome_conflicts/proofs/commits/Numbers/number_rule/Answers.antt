@@ -1,4 +1,4 @@
-use Rattle.std.proofs.Common.{◌≡◌, ◌∙◌, ap}
+use Rattle.std.proofs.Common.{◌∙◌, ap}
 use Rattle.output_read.specs.Kept.{entries_of, entry_of}
 use Rattle.outcome_counts.specs.Asked.{asked_at}
 use Rattle.outcome_counts.proofs.Asked.{asked-is}

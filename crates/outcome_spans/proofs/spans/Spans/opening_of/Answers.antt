@@ -1,4 +1,4 @@
-use Rattle.std.proofs.Common.{◌≡◌, ◌∙◌, ◌<◌, sym, subst, ℕ, length}
+use Rattle.std.proofs.Common.{◌≡◌, ◌∙◌, ◌<◌, sym, subst, ℕ}
 use Rattle.std.proofs.lemmas.List.{length-map}
 use Rattle.output_read.specs.Kept.{entries_of, entry_of}
 use Rattle.outcome_spans.specs.Openings.{opening_of}
