@@ -8,7 +8,7 @@ mod shown;
 
 use crate::perform::perform;
 use crate::status::Status;
-use crate::tests::gated::{Noted, NotingGate, NotingOutlet};
+use crate::tests::gated::{Noted, NotingGate, NotingOutlet, NotingSink};
 use byte_ports::{ListOutlet, ListSink, ListSource};
 use std::alloc::{AllocError, Global};
 use std::process::Abort;
@@ -387,14 +387,17 @@ fn run_on<R: Wait + Threads + Sync>(
 ) -> Result<Ended, AllocError> {
     let noted = Noted::new(0);
     let mut source = ListSource::new(alloc, input, failing.source)?;
-    let mut out = ListSink::new(alloc, failing.out)?;
+    let mut out = NotingSink {
+        sink: ListSink::new(alloc, failing.out)?,
+        noted: &noted,
+    };
     let mut outlet = NotingOutlet::new(ListOutlet::new(alloc, failing.outlet)?, &noted);
     let words = owned(alloc, words)?;
     let gate = NotingGate { noted: &noted };
     let status = perform(rt, alloc, words, &mut source, &mut out, &mut outlet, &gate);
     Ok(Ended {
         status,
-        out,
+        out: out.sink,
         outlet: outlet.outlet,
     })
 }

@@ -1,5 +1,5 @@
-//! The gate and the outlet of whole runs: what comes before each command and turn, and that all of a
-//! round are at work at once.
+//! The gate, the output and the outlet of whole runs: what comes before each command and turn, that all
+//! of a round are at work at once, and that a round is printed before the next.
 
 ghost use Rattle.std.specs.Prelude.{Some, refl};
 
@@ -7,9 +7,11 @@ use super::{RUN, owned};
 use crate::perform::perform;
 use crate::status::Status;
 use byte_ports::{Failed, Gate, ListOutlet, ListSink, ListSource, Outlet, Sink};
+use std::alloc::{AllocError, Global};
 use std::sync::Wait;
-use std::sync::atomic::{AtomicU32, Ordering};
+use std::sync::atomic::{AtomicU32, AtomicU64, Ordering};
 use std::test::Fail;
+use std::thread::Threads;
 
 // The commands of session 1 in the test of what comes before each, and the number of the first
 // worker.
@@ -23,14 +25,17 @@ const AT_WORK: u32 = 3;
 const MOST_LOADS: u32 = 1 << 28;
 
 /// What is noted while a run goes on: how often session 1 passed the gate, while it passes with 1, 2
-/// and so on, how often the first worker did, how often anybody did, and how often somebody looked
-/// for the others in vain.
+/// and so on, how often the first worker did, how often anybody did, how often somebody looked for
+/// the others in vain, how many bytes were printed, and how many when a first command was last let
+/// go on.
 #[derive(Drop)]
 pub(super) struct Noted {
     passed: AtomicU32,
     turned: AtomicU32,
     come: AtomicU32,
     missed: AtomicU32,
+    printed: AtomicU64,
+    printed_before: AtomicU64,
     // How many wait for each other before each command and turn; nobody does for 0.
     at_work: u32,
 }
@@ -42,6 +47,8 @@ impl Noted {
             turned: AtomicU32::new(0),
             come: AtomicU32::new(0),
             missed: AtomicU32::new(0),
+            printed: AtomicU64::new(0),
+            printed_before: AtomicU64::new(0),
             at_work,
         }
     }
@@ -56,6 +63,14 @@ impl Noted {
         let next = passed.load(Ordering::Relaxed).wrapping_add(1);
         let in_order = (session == 1 || session == FIRST_WORKER) && index == next;
         passed.store(if in_order { next } else { u32::MAX }, Ordering::Relaxed);
+    }
+
+    // Notes how much was printed before the first command or turn.
+    fn look(&self, index: u32) {
+        if index == 1 {
+            let printed = self.printed.load(Ordering::Relaxed);
+            self.printed_before.store(printed, Ordering::Relaxed);
+        }
     }
 
     // Waits before a command or turn until all others have come as far.
@@ -80,7 +95,29 @@ pub(super) struct NotingGate<'a> {
 impl<'a> Gate for NotingGate<'a> {
     fn pass<R: Wait>(&self, _rt: &R, session: u32, index: u32) {
         self.noted.count(session, index);
+        self.noted.look(index);
         self.noted.meet(index);
+    }
+}
+
+/// An output that notes how many bytes it took.
+#[derive(Drop)]
+pub(super) struct NotingSink<'a> {
+    pub(super) sink: ListSink,
+    pub(super) noted: &'a Noted,
+}
+
+impl<'a> Sink for NotingSink<'a> {
+    ghost written = { λ o. Some o.sink.written };
+
+    ghost faults = { λ o. o.sink.plan.faults };
+
+    fn write(&mut self, piece: &[u8]) -> Result<usize, Failed> {
+        let count = self.sink.write(piece)?;
+        self.noted
+            .printed
+            .fetch_add(count as u64, Ordering::Relaxed);
+        Ok(count)
     }
 }
 
@@ -136,12 +173,8 @@ fn the_gate_is_passed_before_each_command_and_turn(rt: HostRuntime) -> Result<()
     let input = "store 1\ntable b key:i64 slots 8 blocks 1\nsessions 1\nworkers 1 2\ngo\n\
         1 begin\n1 insert b 1\n1 get b 1\n1 get b 2\n1 commit\n1 begin\n1 export b\n1 commit\n";
     let noted = Noted::new(0);
-    let mut source = ListSource::new(alloc, input.as_bytes(), &[])?;
-    let mut out = ListSink::new(alloc, &[])?;
     let mut outlet = NotingOutlet::new(ListOutlet::new(alloc, &[])?, &noted);
-    let words = owned(alloc, &RUN)?;
-    let gate = NotingGate { noted: &noted };
-    let status = perform(&rt, alloc, words, &mut source, &mut out, &mut outlet, &gate);
+    let status = run_noted(&rt, alloc, input, &noted, &mut outlet)?;
     assert_eq!(rt; status, Status::Done);
     assert_eq!(rt; outlet.at_start, Some(0));
     assert_eq!(rt; outlet.at_write, Some(7));
@@ -158,14 +191,48 @@ fn all_of_a_round_are_at_work_at_once(rt: HostRuntime) -> Result<(), Fail> {
     let input = "store 1\ntable b key:i64 slots 8 blocks 1\nsessions 2\nworkers 1 2\ngo\n\
         1 begin\n1 commit\n2 begin\n2 commit\n";
     let noted = Noted::new(AT_WORK);
-    let mut source = ListSource::new(alloc, input.as_bytes(), &[])?;
-    let mut out = ListSink::new(alloc, &[])?;
     let mut outlet = NotingOutlet::new(ListOutlet::new(alloc, &[])?, &noted);
-    let words = owned(alloc, &RUN)?;
-    let gate = NotingGate { noted: &noted };
-    let status = perform(&rt, alloc, words, &mut source, &mut out, &mut outlet, &gate);
+    let status = run_noted(&rt, alloc, input, &noted, &mut outlet)?;
     assert_eq!(rt; status, Status::Done);
     assert_eq!(rt; noted.come.load(Ordering::SeqCst), 2 * AT_WORK);
     assert_eq!(rt; noted.missed.load(Ordering::SeqCst), 0);
     Ok(())
+}
+
+// Before the first command of the second round the lines of the first are printed, and no others.
+#[test]
+fn a_round_is_printed_before_the_next_begins(rt: HostRuntime) -> Result<(), Fail> {
+    let alloc = rt.alloc();
+    let input = "store 1\ntable b key:i64 slots 8 blocks 1\nsessions 1\nworkers 0 0\ngo\n\
+        1 begin\n1 commit\n--\n1 begin\n1 commit\n";
+    let first = "1 1 1 at 0\n1 1 2 committed -\n";
+    let whole = "1 1 1 at 0\n1 1 2 committed -\n2 1 1 at 0\n2 1 2 committed -\n";
+    let noted = Noted::new(0);
+    let mut outlet = NotingOutlet::new(ListOutlet::new(alloc, &[])?, &noted);
+    let status = run_noted(&rt, alloc, input, &noted, &mut outlet)?;
+    assert_eq!(rt; status, Status::Done);
+    assert_eq!(rt;
+        noted.printed_before.load(Ordering::Relaxed),
+        first.len() as u64
+    );
+    assert_eq!(rt; noted.printed.load(Ordering::Relaxed), whole.len() as u64);
+    Ok(())
+}
+
+// Runs a workload, of which the gate, the output and the outlet note what happens.
+fn run_noted<R: Wait + Threads + Sync>(
+    rt: &R,
+    alloc: Global,
+    input: &str,
+    noted: &Noted,
+    outlet: &mut NotingOutlet,
+) -> Result<Status, AllocError> {
+    let mut source = ListSource::new(alloc, input.as_bytes(), &[])?;
+    let mut out = NotingSink {
+        sink: ListSink::new(alloc, &[])?,
+        noted,
+    };
+    let words = owned(alloc, &RUN)?;
+    let gate = NotingGate { noted };
+    Ok(perform(rt, alloc, words, &mut source, &mut out, outlet, &gate))
 }
