@@ -1,5 +1,6 @@
 -- How many columns a batch may have, and what they are built from.
-use Rattle.std.specs.Prelude.{ℕ, ◌+◌, ◌<◌, ◌^◌, Bool, not, ◌||◌, ◌&&◌, nat_lt, List, [], length, flat_map, ℤ}
+use Rattle.std.specs.Prelude.{ℕ, ◌+◌, ◌<◌, ◌^◌, Bool, not, ◌||◌, ◌&&◌, nat_lt, List, [], length}
+use Rattle.std.specs.Prelude.{flat_map, ℤ}
 use Rattle.std.specs.List.{slice_index_or}
 use Rattle.arrow_spec.specs.Arrays.{Layout, fixed, boolean, variable, layout_of, truth_of}
 use Rattle.arrow_spec.specs.Batches.{Array}
@@ -11,9 +12,9 @@ use Rattle.cell_model.specs.declared.kind.Kind.{Kind}
 use Rattle.arrow_array.specs.declared.bitmaps.Bit.{Bit}
 use Rattle.arrow_array.specs.declared.bitmaps.Bit.TheVariants as bit
 
--- There are so few columns and buffers that the size of a message's metadata, which tells a node of each column and
--- the place of each buffer, fits its 32 bits (Arrow columnar format, "RecordBatch message" and "Encapsulated message
--- format").
+-- There are so few columns and buffers that the size of a message's metadata, which tells a node of
+-- each column and the place of each buffer, fits its 32 bits (Arrow columnar format, "RecordBatch
+-- message" and "Encapsulated message format").
 abbrev pub AreFew : List Array → Type 0
 AreFew arrays = length arrays + length (flat_map (λ array. array.buffers) arrays) < 2 ^ 26
 
@@ -23,16 +24,17 @@ cell_at place row = slice_index_or row place Null
 
 -- the cell is null, or a value of the kind that is not too long
 abbrev pub is_slot_of : Kind → Cell → Bool
-is_slot_of kind cell = is_null cell || (is_value_of kind cell && not (nat_lt most_bytes (byte_length cell)))
+is_slot_of kind cell = is_null cell
+    || (is_value_of kind cell && not (nat_lt most_bytes (byte_length cell)))
 
--- What a bit of a bitmap tells of a cell: that it is not null, or its truth value (Arrow columnar format, "Validity
--- bitmaps" and "Fixed-size Primitive Layout").
+-- What a bit of a bitmap tells of a cell: that it is not null, or its truth value (Arrow columnar
+-- format, "Validity bitmaps" and "Fixed-size Primitive Layout").
 abbrev pub bit_of : Bit → Cell → Bool
 bit_of bit.Valid cell = not (is_null cell)
 bit_of bit.Truth cell = truth_of cell
 
--- A number in a layout: the bytes of its width; there are none in others (Arrow columnar format, "Fixed-size Primitive
--- Layout" and "Byte Order (Endianness)").
+-- A number in a layout: the bytes of its width; there are none in others (Arrow columnar format,
+-- "Fixed-size Primitive Layout" and "Byte Order (Endianness)").
 abbrev pub bytes_in : Layout → ℤ → List ℕ
 bytes_in (fixed width) number = number_bytes width number
 bytes_in boolean number = []

@@ -1,6 +1,8 @@
 //! Rows, column by column, as a record batch (Arrow columnar format, "RecordBatch message").
-ghost use Rattle.std.specs.Prelude.{◌≡◌, ◌≤◌, ◌↔◌, ◌<◌, ◌^◌, ◌++◌, All, IfOk, IsTrue, OnOk, length, ◌==◌};
-ghost use Rattle.arrow_spec.specs.Arrays.{column_buffers, data_buffers, layout_of, null_count, validity};
+ghost use Rattle.std.specs.Prelude.{◌≡◌, ◌≤◌, ◌↔◌, ◌<◌, ◌^◌, ◌++◌, All, IfOk, IsTrue, OnOk, length};
+ghost use Rattle.std.specs.Prelude.{◌==◌};
+ghost use Rattle.arrow_spec.specs.Arrays.{column_buffers, data_buffers, layout_of, null_count};
+ghost use Rattle.arrow_spec.specs.Arrays.{validity};
 ghost use Rattle.arrow_spec.specs.Batches.{arrays_of, column_cells};
 ghost use Rattle.cell_model.specs.Rows.{Fits};
 ghost use Rattle.arrow_array.specs.Batches.{cell_at, is_slot_of};
@@ -35,7 +37,7 @@ pub fn all_fit(schema: &Schema, rows: &[Row]) -> bool
     rows.iter().all(|row| schema.fits(row).is_ok())
 }
 
-// The column of a kind of the rows' cells at a place.
+/// The column of a kind of the rows' cells at a place.
 fn array(alloc: Global, kind: Kind, place: usize, rows: &[Row]) -> Result<Array, AllocError>
     requires few { length rows.now ≤ 2 ^ 15 }
     requires fits { All (λ row. IsTrue (is_slot_of kind (cell_at place row))) rows.now }
@@ -51,8 +53,8 @@ fn array(alloc: Global, kind: Kind, place: usize, rows: &[Row]) -> Result<Array,
     Ok(Array::new(nulls, Buffers::from(buffers)))
 }
 
-// The validity of a column with so many nulls: nothing where there is none (Arrow columnar format,
-// "Validity bitmaps").
+/// The validity of a column with so many nulls: nothing where there is none (Arrow columnar format,
+/// "Validity bitmaps").
 fn validity(alloc: Global, nulls: u32, place: usize, rows: &[Row]) -> Result<Vec<u8>, AllocError>
     requires { nulls ≡ null_count (column_cells place rows.now) }
     ensures { IfOk result (λ bytes. bytes.items ≡ validity (column_cells place rows.now)) }
@@ -64,7 +66,7 @@ fn validity(alloc: Global, nulls: u32, place: usize, rows: &[Row]) -> Result<Vec
     }
 }
 
-// Adds the buffers of a column that stand behind its validity.
+/// Adds the buffers of a column that stand behind its validity.
 fn add_data(
     alloc: Global,
     buffers: &mut Vec<Bytes>,

@@ -8,18 +8,19 @@ use crate::cells::{is_null_at, truth_at};
 use cell_model::Row;
 use std::alloc::{AllocError, Global};
 
-// What a bit tells of a cell.
+/// What a bit tells of a cell.
 #[derive(Clone, Copy)]
 pub enum Bit {
-    // That it is not null.
+    /// That it is not null.
     Valid,
-    // Its truth value; that of a null cell is zero.
+    /// Its truth value; that of a null cell is zero.
     Truth,
 }
 
-// The bitmap of a column's cells.
+/// The bitmap of a column's cells.
 pub fn bitmap(alloc: Global, bit: Bit, place: usize, rows: &[Row]) -> Result<Vec<u8>, AllocError>
-    ensures { IfOk result (λ bytes. bytes.items ≡ bitmap (map (λ row. bit_of bit (cell_at place row)) rows.now)) }
+    ensures { IfOk result (λ bytes. bytes.items
+        ≡ bitmap (map (λ row. bit_of bit (cell_at place row)) rows.now)) }
 {
     let mut bytes = Vec::with_capacity(alloc, rows.len().div_ceil(8))?;
     let mut rest = rows;
@@ -31,7 +32,7 @@ pub fn bitmap(alloc: Global, bit: Bit, place: usize, rows: &[Row]) -> Result<Vec
     Ok(bytes)
 }
 
-// The bits of at most eight cells.
+/// The bits of at most eight cells.
 fn byte(bit: Bit, place: usize, rows: &[Row]) -> u8
     requires { length rows.now ≤ 8 }
     ensures { result ≡ byte_of_bits (map (λ row. bit_of bit (cell_at place row)) rows.now) }
@@ -43,7 +44,7 @@ fn byte(bit: Bit, place: usize, rows: &[Row]) -> u8
     byte
 }
 
-// The bit of a row's cell.
+/// The bit of a row's cell.
 fn bit_at(bit: Bit, place: usize, row: &Row) -> bool
     ensures { result ≡ bit_of bit (cell_at place row.now) }
 {

@@ -7,7 +7,7 @@ ghost use Rattle.arrow_array.specs.Batches.{cell_at};
 
 use cell_model::{Cell, Row};
 
-// How many rows have a null at a place.
+/// How many rows have a null at a place.
 pub fn null_count(place: usize, rows: &[Row]) -> u32
     requires { length rows.now ≤ 2 ^ 15 }
     ensures { result ≡ count_by (λ row. is_null (cell_at place row)) rows.now }
@@ -15,14 +15,14 @@ pub fn null_count(place: usize, rows: &[Row]) -> u32
     rows.iter().filter(|row| is_null_at(place, row)).count() as u32
 }
 
-// The cell at a place, if there is one.
+/// The cell at a place, if there is one.
 fn found(place: usize, row: &Row) -> Option<&Cell>
     ensures { cell_at place row.now ≡ unwrap_or (option_copied result) Cell.Null }
 {
     row.get(place)
 }
 
-// Whether the cell at a place is null.
+/// Whether the cell at a place is null.
 pub fn is_null_at(place: usize, row: &Row) -> bool
     ensures { result ≡ is_null (cell_at place row.now) }
 {
@@ -32,7 +32,7 @@ pub fn is_null_at(place: usize, row: &Row) -> bool
     }
 }
 
-// The truth value at a place; else false.
+/// The truth value at a place; else false.
 pub fn truth_at(place: usize, row: &Row) -> bool
     ensures { result ≡ truth_of (cell_at place row.now) }
 {
@@ -42,7 +42,7 @@ pub fn truth_at(place: usize, row: &Row) -> bool
     }
 }
 
-// The number at a place; else zero.
+/// The number at a place; else zero.
 pub fn number_at(place: usize, row: &Row) -> i128
     ensures { result ≡ number_of (cell_at place row.now) }
 {
@@ -52,7 +52,7 @@ pub fn number_at(place: usize, row: &Row) -> i128
     }
 }
 
-// The bytes of the text or the blob at a place; else none.
+/// The bytes of the text or the blob at a place; else none.
 pub fn value_at(place: usize, row: &Row) -> &[u8]
     ensures { result.now ≡ value_of (cell_at place row.now) }
 {

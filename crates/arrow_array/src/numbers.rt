@@ -8,7 +8,7 @@ use byteorder::{ByteOrder, LittleEndian};
 use cell_model::Kind;
 use std::alloc::AllocError;
 
-// Adds a number of this integer kind.
+/// Adds a number of this integer kind.
 pub fn add_number(bytes: &mut Vec<u8>, kind: Kind, number: i128) -> Result<(), AllocError>
     requires { is_integer_of kind number ≡ true }
     ensures { OnOk result (bytes.new.items ≡ bytes.old.items ++ kind_bytes kind number) }
@@ -26,7 +26,7 @@ pub fn add_number(bytes: &mut Vec<u8>, kind: Kind, number: i128) -> Result<(), A
     }
 }
 
-// Adds a number of two bytes.
+/// Adds a number of two bytes.
 fn add_u16(bytes: &mut Vec<u8>, number: u16) -> Result<(), AllocError>
     ensures { OnOk result (bytes.new.items ≡ bytes.old.items ++ to_le_bytes w16 number) }
 {
@@ -35,7 +35,7 @@ fn add_u16(bytes: &mut Vec<u8>, number: u16) -> Result<(), AllocError>
     bytes.extend_from_slice(&buffer)
 }
 
-// Adds a number of four bytes.
+/// Adds a number of four bytes.
 pub fn add_u32(bytes: &mut Vec<u8>, number: u32) -> Result<(), AllocError>
     ensures { OnOk result (bytes.new.items ≡ bytes.old.items ++ to_le_bytes w32 number) }
 {
@@ -44,7 +44,7 @@ pub fn add_u32(bytes: &mut Vec<u8>, number: u32) -> Result<(), AllocError>
     bytes.extend_from_slice(&buffer)
 }
 
-// Adds a number of eight bytes.
+/// Adds a number of eight bytes.
 fn add_u64(bytes: &mut Vec<u8>, number: u64) -> Result<(), AllocError>
     ensures { OnOk result (bytes.new.items ≡ bytes.old.items ++ to_le_bytes w64 number) }
 {

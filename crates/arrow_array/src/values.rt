@@ -11,11 +11,12 @@ use crate::numbers::{add_number, add_u32};
 use cell_model::{Kind, Row};
 use std::alloc::{AllocError, Global};
 
-// The numbers of a column of this integer kind, one after another (Arrow columnar format, "Fixed-size
-// Primitive Layout").
+/// The numbers of a column of this integer kind, one after another (Arrow columnar format,
+/// "Fixed-size Primitive Layout").
 pub fn numbers(alloc: Global, kind: Kind, place: usize, rows: &[Row]) -> Result<Vec<u8>, AllocError>
     requires few { length rows.now ≤ 2 ^ 15 }
-    requires in_range { All (λ row. is_integer_of kind (number_of (cell_at place row)) ≡ true) rows.now }
+    requires in_range { All (λ row. is_integer_of kind (number_of (cell_at place row)) ≡ true)
+        rows.now }
     ensures { IfOk result (λ bytes. bytes.items
         ≡ flat_map (λ row. kind_bytes kind (number_of (cell_at place row))) rows.now) }
 {
@@ -26,8 +27,8 @@ pub fn numbers(alloc: Global, kind: Kind, place: usize, rows: &[Row]) -> Result<
     Ok(bytes)
 }
 
-// The offsets of a column of texts or bytes, one more than its rows (Arrow columnar format,
-// "Variable-size Binary Layout").
+/// The offsets of a column of texts or bytes, one more than its rows (Arrow columnar format,
+/// "Variable-size Binary Layout").
 pub fn offsets(alloc: Global, place: usize, rows: &[Row]) -> Result<Vec<u8>, AllocError>
     requires few { length rows.now ≤ 2 ^ 15 }
     requires short { All (λ row. length (value_of (cell_at place row)) < 2 ^ 16) rows.now }
@@ -44,9 +45,10 @@ pub fn offsets(alloc: Global, place: usize, rows: &[Row]) -> Result<Vec<u8>, All
     Ok(bytes)
 }
 
-// The texts or bytes of a column, one after another.
+/// The texts or bytes of a column, one after another.
 pub fn values(alloc: Global, place: usize, rows: &[Row]) -> Result<Vec<u8>, AllocError>
-    ensures { IfOk result (λ bytes. bytes.items ≡ flat_map (λ row. value_of (cell_at place row)) rows.now) }
+    ensures { IfOk result (λ bytes. bytes.items
+        ≡ flat_map (λ row. value_of (cell_at place row)) rows.now) }
 {
     let mut bytes = Vec::new(alloc);
     for row in rows {

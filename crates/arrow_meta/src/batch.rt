@@ -8,7 +8,7 @@ ghost use Rattle.arrow_meta.specs.Laying.{IsLaid};
 use flat_build::FlatBuild;
 use std::alloc::AllocError;
 
-// Lays a record batch's table with its nodes and the places of its buffers, and answers its place.
+/// Lays a record batch's table with its nodes and the places of its buffers, and answers its place.
 pub fn lay_record_batch(
     build: &mut FlatBuild,
     rows: u64,
@@ -33,7 +33,7 @@ pub fn lay_record_batch(
     Ok(batch)
 }
 
-// Lays a vector of pairs of 64-bit numbers, and answers the place of its length.
+/// Lays a vector of pairs of 64-bit numbers, and answers the place of its length.
 fn lay_pairs(build: &mut FlatBuild, pairs: &[(i64, i64)]) -> Result<u32, AllocError>
     requires few { length pairs.now < 2 ^ 26 }
     requires room { length build.old + 16 * length pairs.now ≤ 2 ^ 31 - 64 }
@@ -54,7 +54,7 @@ fn lay_pairs(build: &mut FlatBuild, pairs: &[(i64, i64)]) -> Result<u32, AllocEr
     Ok(vector)
 }
 
-// The bits of a number, in two's complement.
+/// The bits of a number, in two's complement.
 fn bits_of(number: &i64) -> u64
     ensures { result ≡ cast_unsigned w64 number.now }
 {

@@ -1,6 +1,7 @@
 //! A record batch as its metadata has it, and how it is read (Message.fbs, "RecordBatch",
 //! "FieldNode", "Buffer").
-ghost use Rattle.std.specs.Prelude.{◌≡◌, ◌+◌, ◌*◌, ◌<◌, ◌≤◌, ◌^◌, IfOk, IsErrOf, Ok, Err, length, map};
+ghost use Rattle.std.specs.Prelude.{◌≡◌, ◌+◌, ◌*◌, ◌<◌, ◌≤◌, ◌^◌, IfOk, IsErrOf, Ok, Err, length};
+ghost use Rattle.std.specs.Prelude.{map};
 ghost use Rattle.stream_spec.specs.Metadata.{batch_at, buffer_at, node_at, places_of, signed_from};
 ghost use Rattle.stream_spec.specs.declared.fault.MetaFault.{MetaFault as MetaFaultValue};
 
@@ -11,7 +12,8 @@ use std::alloc::{AllocError, Global};
 use std::marker::Model;
 use stream_spec::{BufferPlace, Elements, FieldNode, MetaFault};
 
-/// A record batch as its metadata has it: how many rows, a node for each column, and where each buffer lies.
+/// A record batch as its metadata has it: how many rows, a node for each column, and where each
+/// buffer lies.
 #[derive(Debug, Drop)]
 pub struct BatchMeta {
     rows: u64,
@@ -25,7 +27,12 @@ impl Model for BatchMeta {
 
     ghost Value = { BatchTable };
 
-    ghost view = { λ b. record { rows = b.rows; nodes = b.nodes.items; buffers = b.buffers.items; compressed = false } };
+    ghost view = { λ b. record {
+      rows = b.rows;
+      nodes = b.nodes.items;
+      buffers = b.buffers.items;
+      compressed = false;
+    } };
 }
 
 impl BatchMeta {
@@ -51,11 +58,12 @@ impl BatchMeta {
     }
 }
 
-/// The record batch whose table stands at this place of the metadata; or the first fault: the metadata's form,
-/// compression, a negative length.
+/// The record batch whose table stands at this place of the metadata; or the first fault: the
+/// metadata's form, compression, a negative length.
 pub fn read_batch(alloc: Global, bytes: &[u8], table: u64) -> Result<BatchMeta, NotRead>
     ensures ok { IfOk result (λ batch. batch_at bytes.now table ≡ Ok batch) }
-    ensures fault { (fault : MetaFaultValue) → IsErrOf result (NotRead.Fault fault) → batch_at bytes.now table ≡ Err fault }
+    ensures fault { (fault : MetaFaultValue) → IsErrOf result (NotRead.Fault fault)
+        → batch_at bytes.now table ≡ Err fault }
     ensures short { IfOk result (λ batch. batch.rows < 2 ^ 63) }
 {
     let rows = scalar(bytes, table, 0, 8)?;
@@ -75,7 +83,7 @@ pub fn read_batch(alloc: Global, bytes: &[u8], table: u64) -> Result<BatchMeta, 
     })
 }
 
-// The nodes of a record batch's columns, in order.
+/// The nodes of a record batch's columns, in order.
 fn nodes_of(alloc: Global, bytes: &[u8], nodes: Elements) -> Result<Vec<FieldNode>, AllocError>
     requires inside { nodes.first + 16 * nodes.count ≤ length bytes.now }
     ensures { IfOk result (λ list. list.items ≡ map (node_at bytes.now) (places_of nodes 16)) }
@@ -87,7 +95,7 @@ fn nodes_of(alloc: Global, bytes: &[u8], nodes: Elements) -> Result<Vec<FieldNod
     Ok(list)
 }
 
-// Where each buffer of a record batch lies, in order.
+/// Where each buffer of a record batch lies, in order.
 fn buffers_of(
     alloc: Global,
     bytes: &[u8],
@@ -103,7 +111,7 @@ fn buffers_of(
     Ok(list)
 }
 
-// The node that stands at a place: a column's length and its nulls.
+/// The node that stands at a place: a column's length and its nulls.
 fn node_at(bytes: &[u8], place: u64) -> FieldNode
     requires { place + 16 ≤ length bytes.now }
     ensures { result ≡ node_at bytes.now place }
@@ -114,7 +122,7 @@ fn node_at(bytes: &[u8], place: u64) -> FieldNode
     }
 }
 
-// The place of a buffer in the body, as it stands at a place of the metadata.
+/// The place of a buffer in the body, as it stands at a place of the metadata.
 fn buffer_at(bytes: &[u8], place: u64) -> BufferPlace
     requires { place + 16 ≤ length bytes.now }
     ensures { result ≡ buffer_at bytes.now place }
@@ -125,7 +133,7 @@ fn buffer_at(bytes: &[u8], place: u64) -> BufferPlace
     }
 }
 
-// The signed number of 64 bits at a place.
+/// The signed number of 64 bits at a place.
 fn signed_at(bytes: &[u8], place: u64) -> i64
     requires { place + 8 ≤ length bytes.now }
     ensures { result ≡ signed_from bytes.now place }

@@ -1,7 +1,8 @@
 //! The laying of a schema's columns, as tables behind one another.
 ghost use Rattle.std.specs.Prelude.{◌≡◌, ◌+◌, ◌*◌, ◌^◌, ◌≤◌, All, IfOk, length, map};
 ghost use Rattle.arrow_spec.specs.Flatbuffers.{vector_of_tables};
-ghost use Rattle.arrow_spec.specs.Metadata.{empty_table, field_table, int_table, schema_table, type_number, type_table};
+ghost use Rattle.arrow_spec.specs.Metadata.{empty_table, field_table, int_table, schema_table};
+ghost use Rattle.arrow_spec.specs.Metadata.{type_number, type_table};
 ghost use Rattle.cell_model.specs.Schemas.{IsName};
 ghost use Rattle.cell_model.specs.Values.{most_bytes};
 ghost use Rattle.std.specs.Int.{from_bool};
@@ -11,12 +12,13 @@ use cell_model::{Column, Kind};
 use flat_build::FlatBuild;
 use std::alloc::AllocError;
 
-// Lays a schema's table with its columns, and answers the table's place.
+/// Lays a schema's table with its columns, and answers the table's place.
 pub fn lay_schema(build: &mut FlatBuild, columns: &[Column]) -> Result<u32, AllocError>
     requires few { length columns.now ≤ 32 }
     requires named { All IsName columns.now }
     requires room { length build.old ≤ 2 ^ 16 }
-    ensures { IfOk result (λ place. IsLaid (schema_table columns.now) (2 ^ 22) build.old build.new place) }
+    ensures { IfOk result (λ place. IsLaid (schema_table columns.now) (2 ^ 22) build.old build.new
+        place) }
 {
     let schema = build.table(&[8, 10, 8, 4])?;
     build.number(schema + 8, 2, 0);
@@ -25,7 +27,7 @@ pub fn lay_schema(build: &mut FlatBuild, columns: &[Column]) -> Result<u32, Allo
     Ok(schema)
 }
 
-// Lays a vector of the columns' tables, and answers the place of its length.
+/// Lays a vector of the columns' tables, and answers the place of its length.
 fn lay_fields(build: &mut FlatBuild, columns: &[Column]) -> Result<u32, AllocError>
     requires few { length columns.now ≤ 32 }
     requires named { All IsName columns.now }
@@ -47,11 +49,12 @@ fn lay_fields(build: &mut FlatBuild, columns: &[Column]) -> Result<u32, AllocErr
     Ok(fields)
 }
 
-// Lays a column's table with its name, its type and no children, and answers the table's place.
+/// Lays a column's table with its name, its type and no children, and answers the table's place.
 fn lay_field(build: &mut FlatBuild, column: &Column) -> Result<u32, AllocError>
     requires name { length column.now.name ≤ most_bytes }
     requires room { length build.old ≤ 2 ^ 22 }
-    ensures { IfOk result (λ place. IsLaid (field_table column.now) 65800 build.old build.new place) }
+    ensures { IfOk result (λ place. IsLaid (field_table column.now) 65800 build.old build.new
+        place) }
 {
     let field = build.table(&[16, 18, 4, 16, 17, 8, 0, 12])?;
     let name = build.string(column.name.as_slice())?;
@@ -65,7 +68,7 @@ fn lay_field(build: &mut FlatBuild, column: &Column) -> Result<u32, AllocError>
     Ok(field)
 }
 
-// The number of a kind's type in the union of types.
+/// The number of a kind's type in the union of types.
 fn type_number(kind: Kind) -> u64
     ensures value { result ≡ type_number kind }
     ensures most { result ≤ 6 }
@@ -78,7 +81,7 @@ fn type_number(kind: Kind) -> u64
     }
 }
 
-// Lays the table of a kind's type, and answers its place.
+/// Lays the table of a kind's type, and answers its place.
 fn lay_type(build: &mut FlatBuild, kind: Kind) -> Result<u32, AllocError>
     requires { length build.old ≤ 2 ^ 23 }
     ensures { IfOk result (λ place. IsLaid (type_table kind) 64 build.old build.new place) }
@@ -96,10 +99,11 @@ fn lay_type(build: &mut FlatBuild, kind: Kind) -> Result<u32, AllocError>
     }
 }
 
-// Lays the table of a type of integers of so many bits, and answers its place.
+/// Lays the table of a type of integers of so many bits, and answers its place.
 fn lay_int(build: &mut FlatBuild, bits: u32, signed: bool) -> Result<u32, AllocError>
     requires { length build.old ≤ 2 ^ 23 }
-    ensures { IfOk result (λ place. IsLaid (int_table bits (from_bool signed)) 64 build.old build.new place) }
+    ensures { IfOk result (λ place. IsLaid (int_table bits (from_bool signed)) 64 build.old
+        build.new place) }
 {
     let table = build.table(&[8, 9, 4, 8])?;
     build.number(table + 4, 4, u64::from(bits));
@@ -107,7 +111,7 @@ fn lay_int(build: &mut FlatBuild, bits: u32, signed: bool) -> Result<u32, AllocE
     Ok(table)
 }
 
-// Lays a table without fields, and answers its place.
+/// Lays a table without fields, and answers its place.
 fn lay_empty(build: &mut FlatBuild) -> Result<u32, AllocError>
     requires { length build.old ≤ 2 ^ 23 }
     ensures { IfOk result (λ place. IsLaid empty_table 64 build.old build.new place) }

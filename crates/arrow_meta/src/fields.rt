@@ -20,7 +20,7 @@ impl From<AllocError> for NotRead {
 
     ghost from_gives = { λ _ e. e ≡ not_read.Memory };
 
-    // Refused memory, which `?` hands on.
+    /// Refused memory, which `?` hands on.
     fn from(_refused: AllocError) -> NotRead {
         NotRead::Memory
     }
@@ -32,7 +32,7 @@ impl<T: Drop> From<AllocFailed<T>> for NotRead {
 
     ghost from_gives = { λ _ e. e ≡ not_read.Memory };
 
-    // Refused memory of a call that gives its value back, which is dropped here.
+    /// Refused memory of a call that gives its value back, which is dropped here.
     fn from(_refused: AllocFailed<T>) -> NotRead {
         NotRead::Memory
     }
@@ -44,7 +44,7 @@ impl From<MetaFault> for NotRead {
 
     ghost from_gives = { λ fault e. e ≡ not_read.Fault fault };
 
-    // A fault of the metadata, which `?` hands on.
+    /// A fault of the metadata, which `?` hands on.
     fn from(fault: MetaFault) -> NotRead {
         NotRead::Fault(fault)
     }
@@ -57,13 +57,13 @@ impl From<FlatFault> for NotRead {
 
     ghost from_gives = { λ fault e. e ≡ not_read.Fault (meta.Flat fault) };
 
-    // A read that the bytes cannot meet, as a fault of the metadata.
+    /// A read that the bytes cannot meet, as a fault of the metadata.
     fn from(fault: FlatFault) -> NotRead {
         NotRead::Fault(MetaFault::Flat(fault))
     }
 }
 
-// The number in a field.
+/// The number in a field.
 pub fn scalar(bytes: &[u8], table: u64, index: u16, width: u64) -> Result<u64, FlatFault>
     requires low { 1 ≤ width }
     requires high { width ≤ 8 }
@@ -75,7 +75,7 @@ pub fn scalar(bytes: &[u8], table: u64, index: u16, width: u64) -> Result<u64, F
     }
 }
 
-// Where a field's reference leads.
+/// Where a field's reference leads.
 pub fn reference(bytes: &[u8], table: u64, index: u16) -> Result<Option<u64>, FlatFault>
     ensures { result ≡ reference bytes.now table index }
 {
@@ -85,7 +85,7 @@ pub fn reference(bytes: &[u8], table: u64, index: u16) -> Result<Option<u64>, Fl
     }
 }
 
-// The elements of a field's vector, so many bytes each.
+/// The elements of a field's vector, so many bytes each.
 pub fn elements(bytes: &[u8], table: u64, index: u16, width: u64) -> Result<Elements, FlatFault>
     requires { width ≤ 16 }
     ensures elements { result ≡ elements bytes.now table index width }
@@ -100,9 +100,10 @@ pub fn elements(bytes: &[u8], table: u64, index: u16, width: u64) -> Result<Elem
     }
 }
 
-// The bytes of a field's text.
+/// The bytes of a field's text.
 pub fn text(bytes: &[u8], table: u64, index: u16) -> Result<&[u8], FlatFault>
-    ensures { MatchResult result (λ t. text bytes.now table index ≡ Ok t.now) (λ f. text bytes.now table index ≡ Err f) }
+    ensures { MatchResult result (λ t. text bytes.now table index ≡ Ok t.now)
+        (λ f. text bytes.now table index ≡ Err f) }
 {
     match reference(bytes, table, index)? {
         Some(place) => text_at(bytes, place),
@@ -110,7 +111,7 @@ pub fn text(bytes: &[u8], table: u64, index: u16) -> Result<&[u8], FlatFault>
     }
 }
 
-// What an Int table says, where there is one.
+/// What an Int table says, where there is one.
 pub fn int_table(bytes: &[u8], table: Option<u64>) -> Result<IntTable, FlatFault>
     ensures { result ≡ int_table_of bytes.now table }
 {

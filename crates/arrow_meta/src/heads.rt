@@ -6,8 +6,9 @@ use crate::fields::{reference, scalar};
 use flat_read::{FlatFault, root};
 use stream_spec::{Head, HeadKind, MessageTable, MetaFault};
 
-/// The head of a message with this metadata, so that its kind and its body's length are known before anything else of
-/// it is read; or the first fault: the metadata's form, the version, a dictionary, another kind, what is absent.
+/// The head of a message with this metadata, so that its kind and its body's length are known
+/// before anything else of it is read; or the first fault: the metadata's form, the version, a
+/// dictionary, another kind, what is absent.
 pub fn read_head(bytes: &[u8]) -> Result<Head, MetaFault>
     ensures { result ≡ head_of bytes.now }
 {
@@ -37,7 +38,7 @@ pub fn read_head(bytes: &[u8]) -> Result<Head, MetaFault>
     })
 }
 
-// The fields of the table of a message, which is the root of its flatbuffer.
+/// The fields of the table of a message, which is the root of its flatbuffer.
 fn message_table(bytes: &[u8]) -> Result<MessageTable, FlatFault>
     ensures { result ≡ message_table_at bytes.now }
 {

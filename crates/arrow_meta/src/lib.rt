@@ -1,5 +1,5 @@
-//! The metadata of Arrow's messages, written as flatbuffers and read from bytes that nobody vouches for (Arrow columnar
-//! format, "Encapsulated message format").
+//! The metadata of Arrow's messages, written as flatbuffers and read from bytes that nobody vouches
+//! for (Arrow columnar format, "Encapsulated message format").
 #![tactic(auto)]
 
 mod batch;

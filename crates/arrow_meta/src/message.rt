@@ -1,6 +1,7 @@
 //! The flatbuffers of whole messages.
 ghost use Rattle.std.specs.Prelude.{◌≡◌, ◌+◌, ◌*◌, ◌^◌, ◌<◌, ◌≤◌, All, IfOk, length};
-ghost use Rattle.arrow_spec.specs.Metadata.{flatbuffer_of, message_table, schema as of_schema, record_batch};
+ghost use Rattle.arrow_spec.specs.Metadata.{flatbuffer_of, message_table, schema as of_schema};
+ghost use Rattle.arrow_spec.specs.Metadata.{record_batch};
 ghost use Rattle.cell_model.specs.Schemas.{IsName};
 ghost use Rattle.arrow_meta.specs.Laying.{IsLaid};
 
@@ -37,7 +38,8 @@ pub fn batch_message(
     requires length { rows < 2 ^ 63 }
     requires body { body < 2 ^ 63 }
     requires few { length nodes.now + length buffers.now < 2 ^ 26 }
-    ensures bytes { IfOk result (λ bytes. bytes ≡ flatbuffer_of (record_batch rows nodes.now buffers.now) body) }
+    ensures bytes { IfOk result (λ bytes. bytes
+        ≡ flatbuffer_of (record_batch rows nodes.now buffers.now) body) }
     ensures short { IfOk result (λ bytes. length bytes < 2 ^ 31) }
 {
     let mut build = FlatBuild::new(alloc)?;
@@ -45,12 +47,13 @@ pub fn batch_message(
     Ok(Bytes::from(build.finish(root)?))
 }
 
-// Lays a schema's message, which has no body, and answers its table's place.
+/// Lays a schema's message, which has no body, and answers its table's place.
 fn lay_schema_message(build: &mut FlatBuild, columns: &[Column]) -> Result<u32, AllocError>
     requires few { length columns.now ≤ 32 }
     requires named { All IsName columns.now }
     requires room { length build.old ≤ 8 }
-    ensures { IfOk result (λ place. IsLaid (message_table (of_schema columns.now) 0) (2 ^ 23) build.old build.new place) }
+    ensures { IfOk result (λ place. IsLaid (message_table (of_schema columns.now) 0) (2 ^ 23)
+        build.old build.new place) }
 {
     let message = build.table(&[12, 20, 16, 18, 4, 8])?;
     build.number(message + 16, 2, 4);
@@ -61,7 +64,7 @@ fn lay_schema_message(build: &mut FlatBuild, columns: &[Column]) -> Result<u32, 
     Ok(message)
 }
 
-// Lays a record batch's message, and answers its table's place.
+/// Lays a record batch's message, and answers its table's place.
 fn lay_batch_message(
     build: &mut FlatBuild,
     rows: u64,

@@ -2,7 +2,8 @@
 ghost use Rattle.std.specs.Prelude.{◌≡◌, ◌+◌, ◌*◌, IfOk, IsErrOf, MatchResult, Ok, Err};
 ghost use Rattle.std.specs.Str.{is_utf8};
 ghost use Rattle.arrow_meta.specs.Fields.{field_of};
-ghost use Rattle.stream_spec.specs.Metadata.{column_at, columns_at, field_table_at, int_of_type, kind_of_field, kind_of_type, schema_table_at};
+ghost use Rattle.stream_spec.specs.Metadata.{column_at, columns_at, field_table_at, int_of_type};
+ghost use Rattle.stream_spec.specs.Metadata.{kind_of_field, kind_of_type, schema_table_at};
 ghost use Rattle.stream_spec.specs.declared.fault.MetaFault.{MetaFault as MetaFaultValue};
 
 use crate::fields::{NotRead, elements, int_table, scalar, text};
@@ -11,12 +12,13 @@ use flat_read::{FlatFault, field, follow};
 use std::alloc::Global;
 use stream_spec::{IntTable, MetaFault, SchemaTable};
 
-/// The columns of the schema whose table stands at this place of the metadata; or the first fault, from the first
-/// column on: the metadata's form, big-endian numbers, no field; then each column's form, name, dictionary, type and
-/// children.
+/// The columns of the schema whose table stands at this place of the metadata; or the first fault,
+/// from the first column on: the metadata's form, big-endian numbers, no field; then each column's
+/// form, name, dictionary, type and children.
 pub fn read_schema(alloc: Global, bytes: &[u8], table: u64) -> Result<Vec<Column>, NotRead>
     ensures ok { IfOk result (λ columns. columns_at bytes.now table ≡ Ok columns.items) }
-    ensures fault { (fault : MetaFaultValue) → IsErrOf result (NotRead.Fault fault) → columns_at bytes.now table ≡ Err fault }
+    ensures fault { (fault : MetaFaultValue) → IsErrOf result (NotRead.Fault fault)
+        → columns_at bytes.now table ≡ Err fault }
 {
     let schema = schema_table(bytes, table)?;
     if schema.endianness != 0 {
@@ -35,7 +37,7 @@ pub fn read_schema(alloc: Global, bytes: &[u8], table: u64) -> Result<Vec<Column
     Ok(columns)
 }
 
-// The fields of a schema's table that are read: its byte order and its columns.
+/// The fields of a schema's table that are read: its byte order and its columns.
 fn schema_table(bytes: &[u8], table: u64) -> Result<SchemaTable, FlatFault>
     ensures { result ≡ schema_table_at bytes.now table }
 {
@@ -44,7 +46,7 @@ fn schema_table(bytes: &[u8], table: u64) -> Result<SchemaTable, FlatFault>
     Ok(SchemaTable { endianness, fields })
 }
 
-// A Field table (Schema.fbs, "Field").
+/// A Field table (Schema.fbs, "Field").
 #[derive(Clone, Copy)]
 struct FieldTable<'a> {
     name: &'a [u8],
@@ -56,10 +58,11 @@ struct FieldTable<'a> {
     int: IntTable,
 }
 
-// The column of the field whose reference stands at this place.
+/// The column of the field whose reference stands at this place.
 fn column(alloc: Global, bytes: &[u8], place: u64) -> Result<Column, NotRead>
     ensures ok { IfOk result (λ column. column_at bytes.now place ≡ Ok column) }
-    ensures fault { (fault : MetaFaultValue) → IsErrOf result (NotRead.Fault fault) → column_at bytes.now place ≡ Err fault }
+    ensures fault { (fault : MetaFaultValue) → IsErrOf result (NotRead.Fault fault)
+        → column_at bytes.now place ≡ Err fault }
 {
     let table = follow(bytes, place)?;
     let field = field_table(bytes, table)?;
@@ -71,9 +74,10 @@ fn column(alloc: Global, bytes: &[u8], place: u64) -> Result<Column, NotRead>
     })
 }
 
-// What the table of a column says, before it is judged whether a column can be so.
+/// What the table of a column says, before it is judged whether a column can be so.
 fn field_table(bytes: &[u8], table: u64) -> Result<FieldTable<'_>, FlatFault>
-    ensures { MatchResult result (λ f. field_table_at bytes.now table ≡ Ok (field_of f)) (λ f. field_table_at bytes.now table ≡ Err f) }
+    ensures { MatchResult result (λ f. field_table_at bytes.now table ≡ Ok (field_of f))
+        (λ f. field_table_at bytes.now table ≡ Err f) }
 {
     let name = text(bytes, table, 0)?;
     let nullable = scalar(bytes, table, 1, 1)?;
@@ -93,7 +97,7 @@ fn field_table(bytes: &[u8], table: u64) -> Result<FieldTable<'_>, FlatFault>
     })
 }
 
-// The Int table of a field's type; the references of other types are not followed.
+/// The Int table of a field's type; the references of other types are not followed.
 fn int_of_type(bytes: &[u8], type_type: u64, place: Option<u64>) -> Result<IntTable, FlatFault>
     ensures { result ≡ int_of_type bytes.now type_type place }
 {
@@ -103,7 +107,7 @@ fn int_of_type(bytes: &[u8], type_type: u64, place: Option<u64>) -> Result<IntTa
     }
 }
 
-// The kind of a field's values, or the first fault of the field.
+/// The kind of a field's values, or the first fault of the field.
 fn kind_of_field(field: &FieldTable<'_>) -> Result<Kind, MetaFault>
     ensures { result ≡ kind_of_field (field_of field.now) }
 {
@@ -125,7 +129,7 @@ fn kind_of_field(field: &FieldTable<'_>) -> Result<Kind, MetaFault>
     Ok(kind)
 }
 
-// Whether the bytes are a text, as the name of a column has to be.
+/// Whether the bytes are a text, as the name of a column has to be.
 fn is_utf8(bytes: &[u8]) -> bool
     ensures { result ≡ is_utf8 bytes.now }
 {
@@ -135,7 +139,7 @@ fn is_utf8(bytes: &[u8]) -> bool
     }
 }
 
-// The kind whose type has this number and this Int table.
+/// The kind whose type has this number and this Int table.
 fn kind_of_type(type_type: u64, int: IntTable) -> Option<Kind>
     ensures { result ≡ kind_of_type type_type int }
 {

@@ -7,7 +7,7 @@ use std::process::Abort;
 use std::test::Fail;
 use stream_spec::HeadKind;
 
-// What a message tells: columns, or a batch's rows, nodes, buffers and body.
+/// What a message tells: columns, or a batch's rows, nodes, buffers and body.
 enum Told {
     Columns(&'static [(&'static str, Kind, bool)]),
     Batch(u64, &'static [(i64, i64)], &'static [(i64, i64)], u64),

@@ -1,5 +1,6 @@
 -- A column's values as the buffers of an Arrow array.
-use Rattle.std.specs.Prelude.{ℕ, ◌+◌, Bool, false, not, ◌==◌, if◌then◌else◌, List, [], ◌∷◌, map, length, ℤ, pos, count_by, flat_map}
+use Rattle.std.specs.Prelude.{ℕ, ◌+◌, Bool, false, not, ◌==◌, if◌then◌else◌, List, [], ◌∷◌, map}
+use Rattle.std.specs.Prelude.{length, ℤ, pos, count_by, flat_map}
 use Rattle.std.specs.Int.{Width, w32, to_le_bytes}
 use Rattle.cell_model.specs.Kinds.{Values, signed, unsigned, truths, texts, blobs, values_of}
 use Rattle.cell_model.specs.Values.{is_null}
@@ -8,8 +9,9 @@ use Rattle.cell_model.specs.declared.cell.Cell.TheVariants.{Num, Truth, Text, Bl
 use Rattle.cell_model.specs.declared.kind.Kind.{Kind}
 use Rattle.arrow_spec.specs.Bytes.{bitmap, number_bytes}
 
--- How values lie in buffers: numbers of a width one after another, truth values in a bitmap, or texts and bytes
--- of any length between offsets (Arrow columnar format, "Fixed-size Primitive Layout", "Variable-size Binary Layout").
+-- How values lie in buffers: numbers of a width one after another, truth values in a bitmap, or
+-- texts and bytes of any length between offsets (Arrow columnar format, "Fixed-size Primitive
+-- Layout", "Variable-size Binary Layout").
 pub data Layout : Type 0 where
   fixed : Width → Layout
   boolean : Layout
@@ -47,13 +49,15 @@ value_of _ = []
 abbrev pub null_count : List Cell → ℕ
 null_count cells = count_by is_null cells
 
--- The validity bitmap has a 1 for each slot that is not null; it has length 0 exactly where no slot is null
--- (Arrow columnar format, "Validity bitmaps").
+-- The validity bitmap has a 1 for each slot that is not null; it has length 0 exactly where no slot
+-- is null (Arrow columnar format, "Validity bitmaps").
 abbrev pub validity : List Cell → List ℕ
-validity cells = if null_count cells == 0 then [] else bitmap (map (λ cell. not (is_null cell)) cells)
+validity cells = if null_count cells == 0 then []
+    else bitmap (map (λ cell. not (is_null cell)) cells)
 
--- The first value begins at `from`, each other where the one before ends, and one more offset tells where the last
--- ends; so a null slot lies between equal offsets (Arrow columnar format, "Variable-size Binary Layout").
+-- The first value begins at `from`, each other where the one before ends, and one more offset tells
+-- where the last ends; so a null slot lies between equal offsets (Arrow columnar format,
+-- "Variable-size Binary Layout").
 abbrev pub offsets : ℕ → List Cell → List ℕ
 offsets from [] = from ∷ []
 offsets from (cell ∷ cells) = from ∷ offsets (from + length (value_of cell)) cells
@@ -62,7 +66,8 @@ offsets from (cell ∷ cells) = from ∷ offsets (from + length (value_of cell))
 abbrev pub data_buffers : Layout → List Cell → List (List ℕ)
 data_buffers (fixed width) cells = flat_map (λ cell. number_bytes width (number_of cell)) cells ∷ []
 data_buffers boolean cells = bitmap (map truth_of cells) ∷ []
-data_buffers variable cells = flat_map (to_le_bytes w32) (offsets 0 cells) ∷ flat_map value_of cells ∷ []
+data_buffers variable cells = flat_map (to_le_bytes w32) (offsets 0 cells) ∷ flat_map value_of cells
+    ∷ []
 
 -- The buffers of a column of this kind with these cells: the validity, then the data
 -- (Arrow columnar format, "Buffer Listing for Each Layout").

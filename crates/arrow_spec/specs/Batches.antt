@@ -12,8 +12,8 @@ pub record Array : Type 0 where
   pub nulls : ℕ
   pub buffers : List (List ℕ)
 
--- A record batch: how many rows it has, a node (length, null count) for each column, where each buffer lies
--- (offset, length), and the body (Message.fbs, "RecordBatch", "FieldNode", "Buffer").
+-- A record batch: how many rows it has, a node (length, null count) for each column, where each
+-- buffer lies (offset, length), and the body (Message.fbs, "RecordBatch", "FieldNode", "Buffer").
 pub record Batch : Type 0 where
   pub rows : ℕ
   pub nodes : List (ℤ × ℤ)
@@ -34,13 +34,15 @@ arrays_of columns rows =
     })
     (enumerate_from 0 columns)
 
--- Each buffer begins where the one before ended, padded to a multiple of 8; its length doesn't count the padding.
+-- Each buffer begins where the one before ended, padded to a multiple of 8; its length doesn't
+-- count the padding.
 abbrev pub buffer_places : ℕ → List (List ℕ) → List (ℤ × ℤ)
 buffer_places from [] = []
-buffer_places from (buffer ∷ buffers) = (pos from, pos (length buffer)) ∷ buffer_places (from + length (padded buffer)) buffers
+buffer_places from (buffer ∷ buffers) = (pos from, pos (length buffer)) ∷ buffer_places
+    (from + length (padded buffer)) buffers
 
--- A batch of so many rows with these arrays: column after column, one node each, and the body is all the buffers,
--- each padded (IPC format, "RecordBatch message").
+-- A batch of so many rows with these arrays: column after column, one node each, and the body is
+-- all the buffers, each padded (IPC format, "RecordBatch message").
 abbrev pub batch_of_arrays : ℕ → List Array → Batch
 batch_of_arrays rows arrays =
     let buffers = flat_map (λ array. array.buffers) arrays in

@@ -1,14 +1,15 @@
--- The metadata of Arrow's messages, as flatbuffers. Field numbers, places and the numbers of types are those of the
--- public schemas Message.fbs and Schema.fbs.
+-- The metadata of Arrow's messages, as flatbuffers. Field numbers, places and the numbers of types
+-- are those of the public schemas Message.fbs and Schema.fbs.
 use Rattle.std.specs.Prelude.{ℕ, ◌*◌, List, [], ◌∷◌, map, ℤ}
 use Rattle.std.specs.Int.{w8, w16, w32, w64, byte_len, from_bool}
 use Rattle.cell_model.specs.Kinds.{Values, signed, unsigned, truths, texts, blobs, values_of}
 use Rattle.cell_model.specs.declared.column.Column.{Column}
 use Rattle.cell_model.specs.declared.kind.Kind.{Kind}
-use Rattle.arrow_spec.specs.Flatbuffers.{Object, number, reference, absent, table, string, vector_of_pairs, vector_of_tables, flatbuffer}
+use Rattle.arrow_spec.specs.Flatbuffers.{Object, number, reference, absent, table, string}
+use Rattle.arrow_spec.specs.Flatbuffers.{vector_of_pairs, vector_of_tables, flatbuffer}
 
--- What a message is: a schema of these columns, or a record batch of so many rows with its nodes and the places of
--- its buffers (Message.fbs, "MessageHeader").
+-- What a message is: a schema of these columns, or a record batch of so many rows with its nodes
+-- and the places of its buffers (Message.fbs, "MessageHeader").
 pub data Header : Type 0 where
   schema : List Column → Header
   record_batch : ℕ → List (ℤ × ℤ) → List (ℤ × ℤ) → Header
@@ -59,12 +60,14 @@ field_table column =
 
 -- Schema: endianness (Little, 0), fields.
 abbrev pub schema_table : List Column → Object
-schema_table columns = table 10 (number 8 w16 0 ∷ reference 4 (vector_of_tables (map field_table columns)) ∷ [])
+schema_table columns = table 10
+    (number 8 w16 0 ∷ reference 4 (vector_of_tables (map field_table columns)) ∷ [])
 
 -- RecordBatch: length, nodes, buffers.
 abbrev pub record_batch_table : ℕ → List (ℤ × ℤ) → List (ℤ × ℤ) → Object
 record_batch_table rows nodes buffers =
-    table 20 (number 8 w64 rows ∷ reference 4 (vector_of_pairs nodes) ∷ reference 16 (vector_of_pairs buffers) ∷ [])
+    table 20 (number 8 w64 rows ∷ reference 4 (vector_of_pairs nodes) ∷ reference 16
+    (vector_of_pairs buffers) ∷ [])
 
 -- the table of a message's header
 abbrev pub header_table : Header → Object

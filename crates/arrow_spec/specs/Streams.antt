@@ -11,10 +11,12 @@ use Rattle.arrow_spec.specs.Metadata.{schema, record_batch, flatbuffer_of}
 abbrev pub continuation : List ℕ
 continuation = replicate 4 0xff
 
--- A message: four bytes FF, the size of the metadata in 32 bits, which counts the padding, the metadata with zeros
--- to a multiple of 8, and the body (Arrow columnar format, "Encapsulated message format").
+-- A message: four bytes FF, the size of the metadata in 32 bits, which counts the padding, the
+-- metadata with zeros to a multiple of 8, and the body (Arrow columnar format, "Encapsulated
+-- message format").
 abbrev pub message : List ℕ → List ℕ → List ℕ
-message metadata body = continuation ++ to_le_bytes w32 (length (padded metadata)) ++ padded metadata ++ body
+message metadata body = continuation ++ to_le_bytes w32 (length (padded metadata))
+    ++ padded metadata ++ body
 
 -- The message of a schema, which has no body.
 abbrev pub schema_message : List Column → List ℕ
@@ -23,7 +25,8 @@ schema_message columns = message (flatbuffer_of (schema columns) 0) []
 -- The message of a record batch.
 abbrev pub message_of_batch : Batch → List ℕ
 message_of_batch batch =
-    message (flatbuffer_of (record_batch batch.rows batch.nodes batch.buffers) (length batch.body)) batch.body
+    message (flatbuffer_of (record_batch batch.rows batch.nodes batch.buffers) (length batch.body))
+    batch.body
 
 -- The message of a batch of these rows.
 abbrev pub batch_message : List Column → List (List Cell) → List ℕ
@@ -35,4 +38,5 @@ end_word = continuation ++ replicate 4 0
 
 -- A stream: the schema's message, one record batch for each list of rows, and the end word.
 abbrev pub stream_of : List Column → List (List (List Cell)) → List ℕ
-stream_of columns batches = schema_message columns ++ flat_map (batch_message columns) batches ++ end_word
+stream_of columns batches = schema_message columns ++ flat_map (batch_message columns) batches
+    ++ end_word

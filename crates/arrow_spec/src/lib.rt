@@ -1,17 +1,23 @@
-//! What the bytes of Arrow arrays, metadata and streams are (`specs/`), with worked examples and laws.
+//! What the bytes of Arrow arrays, metadata and streams are (`specs/`), with worked examples and
+//! laws.
 //!
 //! Each function here is one example or law. It does nothing; its contract is a value of the
 //! definitions that is written out, or what holds of them all.
 #![tactic(auto)]
 
-ghost use Rattle.std.specs.Prelude.{◌≡◌, ◌++◌, ◌+◌, ◌*◌, ◌/◌, ◌%◌, ◌^◌, ◌-◌, ℕ, ℤ, pos, negsuc, Bool, true, false, if◌then◌else◌, List, [], ◌∷◌, length, drop, slice_index, slice_index_or, slice_range};
+ghost use Rattle.std.specs.Prelude.{◌≡◌, ◌++◌, ◌+◌, ◌*◌, ◌/◌, ◌%◌, ◌^◌, ◌-◌, ℕ, ℤ, pos, negsuc};
+ghost use Rattle.std.specs.Prelude.{Bool, true, false, if◌then◌else◌, List, [], ◌∷◌, length, drop};
+ghost use Rattle.std.specs.Prelude.{slice_index, slice_index_or, slice_range};
 ghost use Rattle.std.specs.Int.{bit_at};
 ghost use Rattle.cell_model.specs.declared.cell.Cell.TheVariants.{Null, Num, Truth};
 ghost use Rattle.cell_model.specs.declared.kind.Kind.TheVariants as kind;
 ghost use Rattle.arrow_spec.specs.Arrays.{column_buffers};
 ghost use Rattle.arrow_spec.specs.Batches.{batch_of};
 ghost use Rattle.arrow_spec.specs.Bytes.{bitmap};
-ghost use Rattle.arrow_spec.specs.Examples.{key_alone, key_and, mixed_columns, three_keys, three_texts, x_rows, nine_rows, mixed_rows, key_schema_bytes, three_keys_bytes, key_and_text_flatbuffer, three_texts_body, mixed_body};
+ghost use Rattle.arrow_spec.specs.Examples.{key_alone, key_and, mixed_columns, three_keys};
+ghost use Rattle.arrow_spec.specs.Examples.{three_texts, x_rows, nine_rows, mixed_rows};
+ghost use Rattle.arrow_spec.specs.Examples.{key_schema_bytes, three_keys_bytes};
+ghost use Rattle.arrow_spec.specs.Examples.{key_and_text_flatbuffer, three_texts_body, mixed_body};
 ghost use Rattle.arrow_spec.specs.Metadata.{schema, record_batch, flatbuffer_of};
 ghost use Rattle.arrow_spec.specs.Streams.{schema_message, batch_message, end_word, stream_of};
 
@@ -50,7 +56,8 @@ pub fn unsigned_numbers_are_little_endian()
 
 /// A null among numbers is zero bytes, and makes the validity be written.
 pub fn a_null_number_is_zero_bytes()
-    ensures { column_buffers kind.I16 (Num (pos 7) ∷ Null ∷ []) ≡ (0x01 ∷ []) ∷ (7 ∷ 0 ∷ 0 ∷ 0 ∷ []) ∷ [] }
+    ensures { column_buffers kind.I16 (Num (pos 7) ∷ Null ∷ [])
+        ≡ (0x01 ∷ []) ∷ (7 ∷ 0 ∷ 0 ∷ 0 ∷ []) ∷ [] }
 {}
 
 /// A null among truth values is a zero bit.
@@ -73,14 +80,15 @@ pub fn three_keys_make_344_bytes()
 
 /// With a nullable text beside the key, the schema's message has 224 bytes.
 pub fn a_schema_of_key_and_text_has_224_bytes()
-    ensures flatbuffer { flatbuffer_of (schema (key_and kind.Utf8 true)) 0 ≡ key_and_text_flatbuffer }
+    ensures flatbuffer { flatbuffer_of (schema (key_and kind.Utf8 true)) 0
+        ≡ key_and_text_flatbuffer }
     ensures message { schema_message (key_and kind.Utf8 true)
         ≡ 0xff ∷ 0xff ∷ 0xff ∷ 0xff ∷ 0xd8 ∷ 0 ∷ 0 ∷ 0 ∷ [] ++ key_and_text_flatbuffer }
     ensures size { length (schema_message (key_and kind.Utf8 true)) ≡ 224 }
 {}
 
-/// Of a second field, the bytes from place 184 on tell whether it is nullable, its type's number (Int
-/// 2, Bool 6, Binary 4), its name, and its type's table.
+/// Of a second field, the bytes from place 184 on tell whether it is nullable, its type's number
+/// (Int 2, Bool 6, Binary 4), its name, and its type's table.
 pub fn fields_tell_their_types()
     ensures u16 { drop 184 (flatbuffer_of (schema (key_and kind.U16 false)) 0)
         ≡ 0x00 ∷ 0x02 ∷ 0x00 ∷ 0x00 ∷ 0x01 ∷ 0x00 ∷ 0x00 ∷ 0x00
@@ -98,8 +106,8 @@ pub fn fields_tell_their_types()
     ensures binary { slice_index (flatbuffer_of (schema (key_and kind.Binary false)) 0) 185 ≡ 4 }
 {}
 
-/// The table of an integer type, which stands at 208 for a second field, tells its width in bits, and
-/// 1 where it has a sign.
+/// The table of an integer type, which stands at 208 for a second field, tells its width in bits,
+/// and 1 where it has a sign.
 pub fn integers_tell_their_width_and_sign()
     ensures i8 { slice_range (flatbuffer_of (schema (key_and kind.I8 false)) 0) 212 217
         ≡ 8 ∷ 0 ∷ 0 ∷ 0 ∷ 1 ∷ [] }
@@ -125,12 +133,14 @@ pub fn a_batch_of_texts_has_a_body_of_56_bytes()
     ensures nodes { (batch_of (key_and kind.Utf8 true) three_texts).nodes
         ≡ (pos 3, pos 0) ∷ (pos 3, pos 1) ∷ [] }
     ensures buffers { (batch_of (key_and kind.Utf8 true) three_texts).buffers
-        ≡ (pos 0, pos 0) ∷ (pos 0, pos 24) ∷ (pos 24, pos 1) ∷ (pos 32, pos 16) ∷ (pos 48, pos 2) ∷ [] }
+        ≡ (pos 0, pos 0) ∷ (pos 0, pos 24) ∷ (pos 24, pos 1) ∷ (pos 32, pos 16) ∷ (pos 48, pos 2)
+        ∷ [] }
     ensures body { (batch_of (key_and kind.Utf8 true) three_texts).body ≡ three_texts_body }
     ensures size { length (batch_message (key_and kind.Utf8 true) three_texts) ≡ 8 + 208 + 56 }
 {}
 
-/// A row with a value of each layout, and one with nulls: a body of 80 bytes behind 304 of metadata.
+/// A row with a value of each layout, and one with nulls: a body of 80 bytes behind 304 of
+/// metadata.
 pub fn a_batch_of_mixed_columns_has_a_body_of_80_bytes()
     ensures rows { (batch_of mixed_columns mixed_rows).rows ≡ 2 }
     ensures nodes { (batch_of mixed_columns mixed_rows).nodes
@@ -152,7 +162,8 @@ pub fn a_batch_has_16_bytes_of_metadata_for_each_node_and_buffer()
 /// A stream without a batch is the schema's message and the end word.
 pub fn a_stream_of_no_batch_has_232_bytes()
     ensures whole { stream_of (key_and kind.Utf8 true) []
-        ≡ schema_message (key_and kind.Utf8 true) ++ 0xff ∷ 0xff ∷ 0xff ∷ 0xff ∷ 0 ∷ 0 ∷ 0 ∷ 0 ∷ [] }
+        ≡ schema_message (key_and kind.Utf8 true)
+        ++ 0xff ∷ 0xff ∷ 0xff ∷ 0xff ∷ 0 ∷ 0 ∷ 0 ∷ 0 ∷ [] }
     ensures size { length (stream_of (key_and kind.Utf8 true) []) ≡ 232 }
 {}
 

@@ -43,7 +43,7 @@ pub fn count_replies(
     }
 }
 
-// What is counted of these replies; none where one of them was refused memory.
+/// What is counted of these replies; none where one of them was refused memory.
 fn counts_of(alloc: Global, replies: &[KeptReply<'_>]) -> Result<Option<Counts>, AllocError>
     requires told { are_told replies.now ≡ true }
     ensures { IfOk result (λ told. told ≡ told_of (entries_of replies.now)) }
@@ -73,7 +73,7 @@ fn was_refused(replies: &[KeptReply<'_>]) -> bool
     false
 }
 
-// Whether the reply says that memory was refused.
+/// Whether the reply says that memory was refused.
 fn is_refused(told: &Told<'_>) -> bool
     ensures { result ≡ is_refused (said_of told.now) }
 {
@@ -123,7 +123,8 @@ fn scanned(alloc: Global, replies: &[KeptReply<'_>]) -> Result<Rows, AllocError>
 
 /// The rows of the lines, of which there are so many.
 fn rows_of(alloc: Global, count: u32, lines: &[u8]) -> Result<Rows, AllocError>
-    requires { option_map_or (λ rows. length rows == count) (rows_in (parts line_feed lines.now)) false ≡ true }
+    requires { option_map_or (λ rows. length rows == count) (rows_in (parts line_feed lines.now))
+        false ≡ true }
     ensures rows { IfOk result (λ rows. rows_in (parts line_feed lines.now) ≡ Some rows) }
     ensures small { IfOk result AreSmall }
     ensures few { IfOk result (λ rows. length rows < 2 ^ 32) }

@@ -22,7 +22,8 @@ pub fn put_counts(out: &mut Vec<u8>, counts: &Counts) -> Result<(), AllocError>
 
 /// Puts a line of a word and a count behind `out`.
 fn put_count(out: &mut Vec<u8>, word: &[u8], count: u64) -> Result<(), AllocError>
-    ensures { OnOk result (out.new.items ≡ out.old.items ++ (spaced (word.now ∷ decimal count ∷ []) ++ line_feed ∷ [])) }
+    ensures { OnOk result (out.new.items ≡ out.old.items
+        ++ (spaced (word.now ∷ decimal count ∷ []) ++ line_feed ∷ [])) }
 {
     out.extend_from_slice(word)?;
     put_number(out, count)?;
@@ -32,7 +33,8 @@ fn put_count(out: &mut Vec<u8>, word: &[u8], count: u64) -> Result<(), AllocErro
 
 /// Puts the line of the sum behind `out`.
 fn put_sum(out: &mut Vec<u8>, sum: i128) -> Result<(), AllocError>
-    ensures { OnOk result (out.new.items ≡ out.old.items ++ (spaced (codes "sum" ∷ signed_decimal sum ∷ []) ++ line_feed ∷ [])) }
+    ensures { OnOk result (out.new.items ≡ out.old.items
+        ++ (spaced (codes "sum" ∷ signed_decimal sum ∷ []) ++ line_feed ∷ [])) }
 {
     out.extend_from_slice(b"sum")?;
     put_cells(out, &[Cell::Num(sum)])?;

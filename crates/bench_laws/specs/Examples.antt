@@ -1,4 +1,5 @@
--- A worked example: an output of one round of writes to which the laws apply, and what they say of it.
+-- A worked example: an output of one round of writes to which the laws apply, and what they say of
+-- it.
 use Rattle.std.specs.Prelude.{◌≡◌, List, [], ◌∷◌, codes, pos, unwrap_or}
 use Rattle.std.specs.Result.{result_ok}
 use Rattle.outcome_spec.specs.Entries.{Entry}
@@ -9,10 +10,13 @@ use Rattle.bench_laws.specs.Laws.{Undisturbed, counts_of}
 
 -- the replies of an output of the workload of the seed 0 with one round of writes
 abbrev pub replies_of_one_round : List Entry
-replies_of_one_round = unwrap_or (result_ok (replies_of (generated 0 1) (output_with (codes "ok") (scan_with (codes "448"))))) []
+replies_of_one_round = unwrap_or
+    (result_ok (replies_of (generated 0 1)
+    (output_with (codes "ok") (scan_with (codes "448"))))) []
 
 abbrev pub OneRoundIsUndisturbed : Type 0
-OneRoundIsUndisturbed = Undisturbed 0 1 (output_with (codes "ok") (scan_with (codes "448"))) replies_of_one_round
+OneRoundIsUndisturbed = Undisturbed 0 1 (output_with (codes "ok") (scan_with (codes "448")))
+    replies_of_one_round
 
 -- the counts that the laws tell of that workload, from its writes alone
 abbrev pub OneRoundHasItsCounts : Type 0

@@ -22,7 +22,8 @@ pub record Undisturbed (seed size : ℕ) (text : List ℕ) (replies : List Entry
 
 -- Each insert and each update is accepted.
 abbrev pub WritesAreAccepted : Type 0
-WritesAreAccepted = (seed size : ℕ) (text : List ℕ) (replies : List Entry) → Undisturbed seed size text replies
+WritesAreAccepted = (seed size : ℕ) (text : List ℕ) (replies : List Entry)
+    → Undisturbed seed size text replies
     → All (λ reply. IsSome (write_of reply.command) → reply.reply.said ≡ said.Accepted) replies
 
 -- the rows that the workload's writes leave, when they are carried out in the order of its lines
@@ -31,11 +32,12 @@ rows_left seed size = contents_of 0 (left_by (generated seed size))
 
 -- The last round's scan tells the rows that the writes leave.
 abbrev pub ScanTellsTheRows : Type 0
-ScanTellsTheRows = (seed size : ℕ) (text : List ℕ) (replies : List Entry) → Undisturbed seed size text replies
+ScanTellsTheRows = (seed size : ℕ) (text : List ℕ) (replies : List Entry)
+    → Undisturbed seed size text replies
     → scanned replies ≡ rows_left seed size
 
--- the counts of a seed and a size: each session commits in each round and adds a row, and the export
--- has each row
+-- the counts of a seed and a size: each session commits in each round and adds a row, and the
+-- export has each row
 abbrev pub counts_of : ℕ → ℕ → Counts
 counts_of seed size = record {
   commits = writers * size;
@@ -46,5 +48,6 @@ counts_of seed size = record {
 
 -- So what is counted is the same at each run.
 abbrev pub CountsAreTheSame : Type 0
-CountsAreTheSame = (seed size : ℕ) (text : List ℕ) (replies : List Entry) → Undisturbed seed size text replies
+CountsAreTheSame = (seed size : ℕ) (text : List ℕ) (replies : List Entry)
+    → Undisturbed seed size text replies
     → counted replies ≡ counts_of seed size

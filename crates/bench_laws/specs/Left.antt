@@ -8,7 +8,8 @@ use Rattle.outcome_spec.specs.Runs.{write_of}
 
 -- the rows behind a line: its write is carried out, where it has one
 abbrev pub carried_out : State → Line → State
-carried_out rows line = option_map_or (λ write. with_write rows write.0 write.1) (write_of line.command) rows
+carried_out rows line = option_map_or (λ write. with_write rows write.0 write.1)
+    (write_of line.command) rows
 
 -- the rows behind the lines of a round
 abbrev pub round_carried_out : State → List Line → State

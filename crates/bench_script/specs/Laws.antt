@@ -16,8 +16,10 @@ GeneratesWorkloads = (seed size : ℕ) → size ≤ most_size → is_valid (gene
 
 -- Its text is read as it.
 abbrev pub TextsAreRead : Type 0
-TextsAreRead = (seed size : ℕ) → size ≤ most_size → read_with whole (script_text (generated seed size)) ≡ Ok (generated seed size)
+TextsAreRead = (seed size : ℕ) → size ≤ most_size
+    → read_with whole (script_text (generated seed size)) ≡ Ok (generated seed size)
 
 -- Its text is short.
 abbrev pub TextsAreShort : Type 0
-TextsAreShort = (seed size : ℕ) → size ≤ most_size → length (script_text (generated seed size)) < 2 ^ 32
+TextsAreShort = (seed size : ℕ) → size ≤ most_size
+    → length (script_text (generated seed size)) < 2 ^ 32

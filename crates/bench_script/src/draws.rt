@@ -6,7 +6,7 @@ const MULTIPLIER: u64 = 6_364_136_223_846_793_005;
 
 const INCREMENT: u64 = 1_442_695_040_888_963_407;
 
-// A draw is what stands above these bits of the state behind it.
+/// A draw is what stands above these bits of the state behind it.
 const DROPPED_BITS: u32 = 33;
 
 /// The draws of a seed, some of which were made.

@@ -9,7 +9,7 @@ use crate::writing::{WRITERS, write_round};
 use std::alloc::{AllocError, Global};
 use workload_spec::{Round, Rounds, Script, Tables};
 
-// Upkeep stands behind each round whose number is a multiple of this.
+/// Upkeep stands behind each round whose number is a multiple of this.
 const UPKEEP_ROUNDS: u32 = 16;
 
 /// The workload that a seed generates, with so many rounds of writes.

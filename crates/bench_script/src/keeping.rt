@@ -7,7 +7,7 @@ use crate::writing::{TABLE, WRITERS, put};
 use std::alloc::{AllocError, Global};
 use workload_spec::{Command, Line, Round};
 
-// Upkeep and the last round are the first session's.
+/// Upkeep and the last round are the first session's.
 const KEEPER: u32 = 1;
 
 /// The round of upkeep behind the round of this number, counted from 1.

@@ -6,12 +6,12 @@ use cell_model::{Bytes, Cell, Row};
 use std::alloc::{AllocError, Global};
 use word_text::put_natural;
 
-// Numbers go from the negative of the middle one to it.
+/// Numbers go from the negative of the middle one to it.
 const NUMBERS: u64 = 2001;
 
 const MIDDLE: i128 = 1000;
 
-// One draw of so many is no text.
+/// One draw of so many is no text.
 const TEXTLESS: u64 = 4;
 
 /// The row of a key, with the number and the text of these draws.
@@ -25,7 +25,7 @@ pub(crate) fn row_of(alloc: Global, key: u64, number: u64, text: u64) -> Result<
     Ok(row)
 }
 
-// The cell that a draw makes: a text, or null for one of `TEXTLESS` draws.
+/// The cell that a draw makes: a text, or null for one of `TEXTLESS` draws.
 fn text_of(alloc: Global, drawn: u64) -> Result<Cell, AllocError>
     ensures { IfOk result (λ cell. cell ≡ text_of drawn) }
 {

@@ -22,7 +22,7 @@ pub(crate) fn bench_table(alloc: Global) -> Result<TableDecl, AllocError>
     })
 }
 
-// The columns of the table of a generated workload.
+/// The columns of the table of a generated workload.
 fn bench_schema(alloc: Global) -> Result<Schema, AllocError>
     ensures { IfOk result (λ schema. schema ≡ bench_columns) }
 {
@@ -36,9 +36,10 @@ fn bench_schema(alloc: Global) -> Result<Schema, AllocError>
     }
 }
 
-// A column of this name and kind.
+/// A column of this name and kind.
 fn column(alloc: Global, name: &[u8], kind: Kind, nullable: bool) -> Result<Column, AllocError>
-    ensures { IfOk result (λ column. column ≡ record { name = name.now; kind = kind; nullable = nullable }) }
+    ensures { IfOk result (λ column. column
+        ≡ record { name = name.now; kind = kind; nullable = nullable }) }
 {
     Ok(Column {
         name: Bytes::from_slice(alloc, name)?,

@@ -5,7 +5,7 @@ use std::process::Abort;
 use std::test::Fail;
 use workload_spec::{Command, Round};
 
-// The cells of a row: its key, its number and its text.
+/// The cells of a row: its key, its number and its text.
 fn assert_cells<R: Abort>(rt: &R, row: &Row, key: i128, number: i128, text: Option<&[u8]>) {
     assert!(rt; matches!(row.get(0), Some(Cell::Num(own)) if *own == key));
     assert!(rt; matches!(row.get(1), Some(Cell::Num(own)) if *own == number));
@@ -16,7 +16,7 @@ fn assert_cells<R: Abort>(rt: &R, row: &Row, key: i128, number: i128, text: Opti
     }
 }
 
-// The commands of the transaction that begins at a line of the round.
+/// The commands of the transaction that begins at a line of the round.
 fn assert_transaction<R: Abort>(rt: &R, round: &Round, at: usize, session: u32) {
     let lines = round.as_slice();
     for line in lines.iter().skip(at).take(4) {

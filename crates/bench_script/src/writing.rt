@@ -1,6 +1,7 @@
 //! The rounds in which sessions write.
 ghost use Rattle.std.specs.Prelude.{◌≡◌, ◌+◌, ◌*◌, ◌-◌, ◌<◌, ◌≤◌, ◌++◌, ◌∷◌, [], OnOk, IfOk};
-ghost use Rattle.bench_spec.specs.Generated.{draws_of_each, key_of, line, transaction, write_round, writers};
+ghost use Rattle.bench_spec.specs.Generated.{draws_of_each, key_of, line, transaction, write_round};
+ghost use Rattle.bench_spec.specs.Generated.{writers};
 
 use crate::draws::Draws;
 use crate::rows::row_of;
@@ -34,7 +35,8 @@ fn put_transaction(
     requires session { 0 < session }
     requires few { session ≤ writers }
     requires made { draws.old.made ≡ draws_of_each * (key_of round session - 1) }
-    ensures lines { OnOk result (out.new.items ≡ out.old.items ++ transaction draws.old.seed round session) }
+    ensures lines { OnOk result (out.new.items ≡ out.old.items
+        ++ transaction draws.old.seed round session) }
     ensures made { OnOk result (draws.new.made ≡ draws_of_each * key_of round session) }
     ensures seed { draws.new.seed ≡ draws.old.seed }
 {

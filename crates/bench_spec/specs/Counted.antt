@@ -1,5 +1,6 @@
 -- What is counted of the replies of a generated workload, and the lines that tell it.
-use Rattle.std.specs.Prelude.{ℕ, Bool, true, false, List, [], ◌∷◌, length, fold, ℤ, pos, ◌+ℤ◌, codes, decimal, slice_get, Option, None, Some, unwrap_or}
+use Rattle.std.specs.Prelude.{ℕ, Bool, true, false, List, [], ◌∷◌, length, fold, ℤ, pos, ◌+ℤ◌}
+use Rattle.std.specs.Prelude.{codes, decimal, slice_get, Option, None, Some, unwrap_or}
 use Rattle.std.specs.Fmt.{signed_decimal}
 use Rattle.std.specs.List.{list_any}
 use Rattle.std.specs.Option.{option_map_or}
@@ -33,7 +34,8 @@ exported_in _ = None
 -- what the first reply tells that tells it
 abbrev pub first_told : {X : Type 0} → (Said → Option X) → List Entry → Option X
 first_told told [] = None
-first_told told (reply ∷ replies) = elim (told reply.reply.said) [ Some value ↦ Some value | None ↦ first_told told replies ]
+first_told told (reply ∷ replies) = elim (told reply.reply.said)
+    [ Some value ↦ Some value | None ↦ first_told told replies ]
 
 -- the rows of the scan
 abbrev pub scanned : List Entry → List (List Cell)
@@ -59,8 +61,8 @@ row_number row = option_map_or cell_number (slice_get row 1) (pos 0)
 abbrev pub sum_of : List (List Cell) → ℤ
 sum_of rows = fold (λ sum row. sum +ℤ row_number row) (pos 0) rows
 
--- What is counted of replies: how many commits show a number, how many rows the scan tells, the sum of their numbers, and
--- how many rows the export tells.
+-- What is counted of replies: how many commits show a number, how many rows the scan tells, the sum
+-- of their numbers, and how many rows the export tells.
 abbrev pub counted : List Entry → Counts
 counted replies = record {
   commits = commit_count replies;

@@ -1,4 +1,5 @@
--- The numbers that a workload is generated of: those of a linear congruential generator, which anybody can draw again.
+-- The numbers that a workload is generated of: those of a linear congruential generator, which
+-- anybody can draw again.
 use Rattle.std.specs.Prelude.{ℕ, zero, suc, ◌+◌, ◌*◌, ◌/◌, ◌%◌, ◌^◌}
 
 -- the state behind a draw, from the one before it

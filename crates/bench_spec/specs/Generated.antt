@@ -1,6 +1,8 @@
--- The workload that a seed and a size generate: rounds in which four sessions write, each into keys of its own, rounds of
--- upkeep between them, and a last round that reads and exports what was written.
-use Rattle.std.specs.Prelude.{ℕ, ◌+◌, ◌-◌, ◌*◌, ◌/◌, ◌%◌, ◌==◌, List, [], ◌∷◌, ◌++◌, flat_map, ℤ, pos, ◌-ℤ◌, codes, decimal, if◌then◌else◌, true, false}
+-- The workload that a seed and a size generate: rounds in which four sessions write, each into keys
+-- of its own, rounds of upkeep between them, and a last round that reads and exports what was
+-- written.
+use Rattle.std.specs.Prelude.{ℕ, ◌+◌, ◌-◌, ◌*◌, ◌/◌, ◌%◌, ◌==◌, List, [], ◌∷◌, ◌++◌, flat_map, ℤ}
+use Rattle.std.specs.Prelude.{pos, ◌-ℤ◌, codes, decimal, if◌then◌else◌, true, false}
 use Rattle.std.specs.List.{range_with_len}
 use Rattle.cell_model.specs.declared.cell.Cell.{Cell}
 use Rattle.cell_model.specs.declared.cell.Cell.TheVariants.{Null, Num, Text}
@@ -46,7 +48,8 @@ text_of drawn = if drawn % 4 == 0 then Null else Text (codes "s" ++ decimal draw
 abbrev pub row_of : ℕ → ℕ → ℕ → List Cell
 row_of key number text = Num (pos key) ∷ Num (number_of number) ∷ text_of text ∷ []
 
--- the key that a session inserts in a round, both counted from 1: keys rise by one from session to session
+-- the key that a session inserts in a round, both counted from 1: keys rise by one from session to
+-- session
 abbrev pub key_of : ℕ → ℕ → ℕ
 key_of round session = writers * (round - 1) + session
 
@@ -54,7 +57,8 @@ key_of round session = writers * (round - 1) + session
 abbrev pub draw_in : ℕ → ℕ → ℕ → ℕ → ℕ
 draw_in seed round session number = draw seed (draws_of_each * (key_of round session - 1) + number)
 
--- the key that a session updates in a round: one that it inserted in one of the rounds up to it, which a draw names
+-- the key that a session updates in a round: one that it inserted in one of the rounds up to it,
+-- which a draw names
 abbrev pub updated_key : ℕ → ℕ → ℕ → ℕ
 updated_key round session drawn = writers * (drawn % round) + session
 
@@ -62,8 +66,12 @@ updated_key round session drawn = writers * (drawn % round) + session
 abbrev pub transaction : ℕ → ℕ → ℕ → List Line
 transaction seed round session =
     line session command.Begin
-    ∷ line session (command.Insert 0 (row_of (key_of round session) (draw_in seed round session 1) (draw_in seed round session 2)))
-    ∷ line session (command.Update 0 (row_of (updated_key round session (draw_in seed round session 3)) (draw_in seed round session 4) (draw_in seed round session 5)))
+    ∷ line session (command.Insert 0
+    (row_of (key_of round session) (draw_in seed round session 1)
+    (draw_in seed round session 2)))
+    ∷ line session (command.Update 0
+    (row_of (updated_key round session (draw_in seed round session 3))
+    (draw_in seed round session 4) (draw_in seed round session 5)))
     ∷ line session command.Commit
     ∷ []
 
@@ -78,21 +86,32 @@ freezing block = line 1 (command.Seal 0 block) ∷ line 1 (command.Gather 0 bloc
 -- Upkeep behind a round: of the blocks that the rows up to it fill, and of the next one.
 abbrev pub upkeep_round : ℕ → List Line
 upkeep_round round =
-    line 1 command.Prune ∷ line 1 command.Observe ∷ line 1 command.Observe ∷ line 1 (command.Compact 0)
+    line 1 command.Prune ∷ line 1 command.Observe ∷ line 1 command.Observe ∷ line 1
+    (command.Compact 0)
     ∷ flat_map freezing (range_with_len 0 (writers * round / bench_table.slots + 1))
 
 -- a round, with upkeep behind each sixteenth
 abbrev pub rounds_at : ℕ → ℕ → List (List Line)
-rounds_at seed round = write_round seed round ∷ (if round % 16 == 0 then upkeep_round round ∷ [] else [])
+rounds_at seed round = write_round seed round
+    ∷ (if round % 16 == 0 then upkeep_round round ∷ [] else [])
 
 -- The last round reads and exports the table.
 abbrev pub last_round : List Line
-last_round = line 1 command.Begin ∷ line 1 (command.Scan 0) ∷ line 1 (command.Export 0) ∷ line 1 command.Commit ∷ []
+last_round = line 1 command.Begin ∷ line 1 (command.Scan 0) ∷ line 1 (command.Export 0) ∷ line 1
+    command.Commit ∷ []
 
 -- the workload of these rounds
 abbrev pub bench_script : List (List Line) → Script
-bench_script rounds = record { version = 1; tables = bench_table ∷ []; sessions = writers; workers = 0; turns = 0; rounds = rounds }
+bench_script rounds = record {
+  version = 1;
+  tables = bench_table ∷ [];
+  sessions = writers;
+  workers = 0;
+  turns = 0;
+  rounds = rounds;
+}
 
 -- The workload that a seed generates, with so many rounds of writes.
 abbrev pub generated : ℕ → ℕ → Script
-generated seed size = bench_script (flat_map (rounds_at seed) (range_with_len 1 size) ++ last_round ∷ [])
+generated seed size = bench_script
+    (flat_map (rounds_at seed) (range_with_len 1 size) ++ last_round ∷ [])

@@ -1,7 +1,10 @@
-//! Worked examples of generated workloads and of what is counted of them: each is a fact that the definitions compute.
+//! Worked examples of generated workloads and of what is counted of them: each is a fact that the
+//! definitions compute.
 #![tactic(auto, unfolding(outcome_spec::specs::Opened::digits, outcome_spec::specs::Opened::is_utf8, outcome_spec::specs::Opened::chars, outcome_spec::specs::Opened::encode))]
 
-ghost use Rattle.bench_spec.specs.Examples.{FirstDraws, NumbersOfDraws, OneRoundIsGenerated, RoundsAreGenerated, UpkeepIsGenerated, RepliesAreCounted, RefusalsAreFound, CountsAreTold};
+ghost use Rattle.bench_spec.specs.Examples.{FirstDraws, NumbersOfDraws, OneRoundIsGenerated};
+ghost use Rattle.bench_spec.specs.Examples.{RoundsAreGenerated, UpkeepIsGenerated};
+ghost use Rattle.bench_spec.specs.Examples.{RepliesAreCounted, RefusalsAreFound, CountsAreTold};
 
 /// The first draws of the seed 0.
 pub fn a_seed_has_its_draws()

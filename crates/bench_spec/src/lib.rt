@@ -1,4 +1,5 @@
-//! The workload that a seed and a size generate, and what is counted of its replies, as definitions.
+//! The workload that a seed and a size generate, and what is counted of its replies, as
+//! definitions.
 #![tactic(auto)]
 
 pub mod counts;

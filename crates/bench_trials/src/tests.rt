@@ -13,8 +13,8 @@ use std::alloc::{AllocError, Global};
 use std::test::Fail;
 use workload_spec::{Command, Line};
 
-// A seed and a size, and what is counted of a run of that workload; `mainline bench` prints the
-// same.
+/// A seed and a size, and what is counted of a run of that workload; `mainline bench` prints the
+/// same.
 struct Counted {
     seed: u64,
     size: u32,
@@ -47,7 +47,7 @@ const COUNTED: [Counted; 3] = [
     },
 ];
 
-// Whether the key of the row has 64 bits.
+/// Whether the key of the row has 64 bits.
 fn has_key(row: &Row) -> bool
     ensures { result ≡ is_integer_of kind.I64 (key_of row.now) }
 {
@@ -57,7 +57,7 @@ fn has_key(row: &Row) -> bool
     }
 }
 
-// What the command asks of the machine; nothing where it is upkeep, or an export.
+/// What the command asks of the machine; nothing where it is upkeep, or an export.
 fn act_of(command: Command) -> Option<Act>
     ensures { IfSome result HasKey }
 {
@@ -71,7 +71,7 @@ fn act_of(command: Command) -> Option<Act>
     }
 }
 
-// The number of a row, which stands behind its key.
+/// The number of a row, which stands behind its key.
 fn number_of(row: &Row) -> i128 {
     match row.get(1) {
         Some(Cell::Num(number)) => *number,
@@ -79,8 +79,8 @@ fn number_of(row: &Row) -> i128 {
     }
 }
 
-// What the machine answered so far: how many commits have a number, how many rows the scan has, and
-// the sum of their numbers.
+/// What the machine answered so far: how many commits have a number, how many rows the scan has,
+/// and the sum of their numbers.
 #[derive(Drop)]
 struct Fed {
     commits: u64,

@@ -1,5 +1,6 @@
 -- A body from what it is made of.
-use Rattle.std.specs.Prelude.{◌≡◌, ℕ, ◌≤◌, Bool, true, false, List, [], Option, None, Some, IfSome, is_some, slice_index_or}
+use Rattle.std.specs.Prelude.{◌≡◌, ℕ, ◌≤◌, Bool, true, false, List, [], Option, None, Some, IfSome}
+use Rattle.std.specs.Prelude.{is_some, slice_index_or}
 use Rattle.std.specs.List.{list_any}
 use Rattle.std.specs.Ordering.{nat_cmp}
 use Rattle.std.specs.Map.{lookup}
@@ -41,12 +42,15 @@ wants_row (change.Put row) = false
 wants_row (change.Patch patch) = true
 wants_row change.Gone = true
 
--- What holds of a body at any time: its chains can be laid back, a slot with an uncommitted entry is listed for its
--- session, a body that is not loose has no version, and its rows are an image's where it is imaged.
+-- What holds of a body at any time: its chains can be laid back, a slot with an uncommitted entry
+-- is listed for its session, a body that is not loose has no version, and its rows are an image's
+-- where it is imaged.
 pub record IsBody (rows : RowsValue) (chains : Chains) (lists : SlotLists) (phase : Phase) (stamp : ℕ) : Type 0 where
   pub each : AreChains chains
-  pub kept : (slot : ℕ) → IsKept rows slot (slice_index_or rows.rows slot None) (entries_at chains slot)
-  pub listed : (session slot : ℕ) → list_any (λ undo. is_own undo session) (entries_at chains slot) ≡ true →
+  pub kept : (slot : ℕ) → IsKept rows slot (slice_index_or rows.rows slot None)
+      (entries_at chains slot)
+  pub listed : (session slot : ℕ) → list_any (λ undo. is_own undo session) (entries_at chains slot)
+      ≡ true →
       is_listed (slots_of lists session) slot ≡ true
   pub quiet : is_loose phase ≡ false → chains ≡ []
   pub image : is_some rows.image ≡ is_imaged phase

@@ -1,5 +1,6 @@
 -- The version chains of a body, by slot.
-use Rattle.std.specs.Prelude.{◌≡◌, ℕ, zero, suc, ◌+◌, ◌<◌, ◌≤◌, ◌^◌, Bool, ◌==◌, List, [], ◌∷◌, Option, None, Some, length, slice_index_or, count_by, All}
+use Rattle.std.specs.Prelude.{◌≡◌, ℕ, zero, suc, ◌+◌, ◌<◌, ◌≤◌, ◌^◌, Bool, ◌==◌, List, [], ◌∷◌}
+use Rattle.std.specs.Prelude.{Option, None, Some, length, slice_index_or, count_by, All}
 use Rattle.std.specs.List.{list_any}
 use Rattle.std.specs.Ordering.{nat_cmp}
 use Rattle.std.specs.Map.{lookup}
@@ -40,7 +41,8 @@ pub record IsChain (chain : ChainState Before) : Type 0 where
   pub lawful : IsLawful chain.entries
 
 pub record AreChains (chains : Chains) : Type 0 where
-  pub each : (slot : ℕ) (chain : ChainState Before) → chain_at chains slot ≡ Some chain → IsChain chain
+  pub each : (slot : ℕ) (chain : ChainState Before) → chain_at chains slot ≡ Some chain
+      → IsChain chain
 
 -- a slot is one of those listed
 abbrev pub is_listed : List ℕ → ℕ → Bool
@@ -49,14 +51,16 @@ is_listed slots slot = list_any (λ other. other == slot) slots
 -- how many entries of the slots below a number have a stamp at most `oldest`
 abbrev pub stamped_below : (ℕ → List (Undo Before)) → ℕ → ℕ → ℕ
 stamped_below entries oldest zero = 0
-stamped_below entries oldest (suc n) = stamped_below entries oldest n + count_by (λ undo. is_stamped_by undo oldest) (entries n)
+stamped_below entries oldest (suc n) = stamped_below entries oldest n + count_by
+    (λ undo. is_stamped_by undo oldest) (entries n)
 
 -- Each before-image finds what it wants of the row on which it is laid back.
 abbrev pub LaysBack : Option Row → List (Undo Before) → Type 0
 LaysBack row [] = Unit {0}
 LaysBack row (e ∷ es) = WantsRow e.before row × LaysBack (laid_back row e.before) es
 
--- The entries of a slot can be laid back on its row: it has memory where it has an entry, and what they lay back fits.
+-- The entries of a slot can be laid back on its row: it has memory where it has an entry, and what
+-- they lay back fits.
 pub record IsKept (rows : RowsValue) (slot : ℕ) (row : Option Row) (entries : List (Undo Before)) : Type 0 where
   pub room : 0 < length entries → slot < rows.room
   pub within : 0 < length entries → slot < length rows.rows

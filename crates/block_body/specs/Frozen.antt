@@ -15,4 +15,9 @@ pub record IsImageOf (columns : List Column) (slots : List (Option Row)) (image 
 
 -- an image of all these rows with these buffers
 abbrev pub image_of : List Column → List (Option Row) → List (List (List ℕ)) → ImageValue
-image_of columns slots buffers = record { columns = columns; slots = slots; rows = count_by is_some slots; buffers = buffers }
+image_of columns slots buffers = record {
+  columns = columns;
+  slots = slots;
+  rows = count_by is_some slots;
+  buffers = buffers;
+}

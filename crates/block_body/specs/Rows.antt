@@ -5,7 +5,8 @@ use Rattle.block_spec.specs.Slots.{Row}
 use Rattle.block_columns.specs.Columns.{ColumnsValue}
 use Rattle.block_columns.specs.Images.{ImageValue}
 
--- What the columns take, the row of each slot, how many of the first slots have memory, and the image, if the rows are one's.
+-- What the columns take, the row of each slot, how many of the first slots have memory, and the
+-- image, if the rows are one's.
 pub record RowsValue : Type 0 where
   pub columns : List Column
   pub rows : List (Option Row)

@@ -1,12 +1,19 @@
 //! The body of a block.
-ghost use Rattle.std.specs.Prelude.{true, false, ◌≡◌, ◌+◌, ◌*◌, ◌<◌, ◌≤◌, ◌^◌, ℕ, None, Some, IfOk, IfSome, IfErr, OnOk, OnErr, is_some, option_copied, not, map, count_by, length, if◌then◌else◌};
+ghost use Rattle.std.specs.Prelude.{true, false, ◌≡◌, ◌+◌, ◌*◌, ◌<◌, ◌≤◌, ◌^◌, ℕ, None, Some, IfOk};
+ghost use Rattle.std.specs.Prelude.{IfSome, IfErr, OnOk, OnErr, is_some, option_copied, not, map};
+ghost use Rattle.std.specs.Prelude.{count_by, length, if◌then◌else◌};
 ghost use Rattle.undo_chain.specs.Conflict.{conflict_of, other_writer};
 ghost use Rattle.undo_chain.specs.Lawful.{IsLawful, NoneStampedAbove};
 ghost use Rattle.cell_model.specs.Rows.{Fits};
 ghost use Rattle.block_spec.specs.Fitting.{ChangeFits};
-ghost use Rattle.block_spec.specs.Slots.{has_none, is_bare, kind_of, moved_in, moved_out, seen, taken_back, written};
+ghost use Rattle.block_spec.specs.Slots.{has_none, is_bare, kind_of, moved_in, moved_out, seen};
+ghost use Rattle.block_spec.specs.Slots.{taken_back, written};
 ghost use Rattle.block_spec.specs.Looks.{looked, movable};
-ghost use Rattle.block_spec.specs.Bodies.{untouched, slot_in, is_loose, is_sealed, is_imaged, is_empty, is_quiet, is_front, has_row, with_slot, committed_in, rolled_back_in, pruned_in, dropped_from, observed, turns, seal_fault, sealed, imaged, thawed, taken_back_in};
+ghost use Rattle.block_spec.specs.Bodies.{untouched, slot_in, is_loose, is_sealed, is_imaged};
+ghost use Rattle.block_spec.specs.Bodies.{is_empty, is_quiet, is_front, has_row, with_slot};
+ghost use Rattle.block_spec.specs.Bodies.{committed_in, rolled_back_in, pruned_in, dropped_from};
+ghost use Rattle.block_spec.specs.Bodies.{observed, turns, seal_fault, sealed, imaged, thawed};
+ghost use Rattle.block_spec.specs.Bodies.{taken_back_in};
 ghost use Rattle.block_columns.specs.Images.{IsWhole};
 ghost use Rattle.block_body.specs.Bodies.{wants_row};
 ghost use Rattle.block_body.specs.Changes.{IsNextVersioned, changed, key_left};
@@ -31,14 +38,14 @@ use std::sync::ledger::Ledger;
 use steps::Steps;
 use undo_chain::{Newer, Undo, UndoKind};
 
-/// The slots of a block with their rows and versions, and the block's phase. Contracts see the record
-/// of `block_spec`.
+/// The slots of a block with their rows and versions, and the block's phase. Contracts see the
+/// record of `block_spec`.
 #[derive(Drop)]
 pub struct Body {
     alloc: Global,
     rows: Rows,
     chains: Chains,
-    // The slots in which each session has uncommitted entries, one for each entry.
+    /// The slots in which each session has uncommitted entries, one for each entry.
     written: BTreeMap<u32, SlotList>,
     phase: Phase,
     cooling: bool,
@@ -122,8 +129,8 @@ impl Body {
         }
     }
 
-    /// The row of a slot that a session with the snapshot `stamp` sees. A slot's current row is read
-    /// in one step.
+    /// The row of a slot that a session with the snapshot `stamp` sees. A slot's current row is
+    /// read in one step.
     pub fn read<L: Ledger>(
         &self,
         slot: u32,
@@ -133,7 +140,8 @@ impl Body {
     ) -> Result<Option<Row>, AllocError>
         requires { slot < length self.now.slots }
         ensures row { IfOk result (λ row. row ≡ seen (slot_in self.now slot) stamp session) }
-        ensures steps { steps.new ≡ steps.old + (if is_some (slot_in self.now slot).row then 1 else 0) }
+        ensures steps { steps.new ≡ steps.old
+            + (if is_some (slot_in self.now slot).row then 1 else 0) }
     {
         let row = self.rows.columns().row(slot, steps)?;
         match chains::chain_of(&self.chains, slot) {
@@ -166,8 +174,8 @@ impl Body {
         })
     }
 
-    /// Makes a session's write in a slot. The block is modified by it, but for want of memory, which
-    /// leaves the body as it is.
+    /// Makes a session's write in a slot. The block is modified by it, but for want of memory,
+    /// which leaves the body as it is.
     pub fn install(&mut self, slot: u32, session: u32, change: Change) -> Result<(), AllocError>
         requires loose { is_loose self.old.phase ≡ true }
         requires slot { slot < length self.old.slots }
@@ -192,7 +200,8 @@ impl Body {
         requires row { is_some (slot_in self.old slot).row ≡ true }
         requires quiet { has_none (slot_in self.old slot).entries ≡ true }
         ensures row { IfOk result (λ row. (slot_in self.old slot).row ≡ Some row) }
-        ensures moved { IfOk result (λ row. self.new ≡ with_slot slot (moved_out stamp row) self.old) }
+        ensures moved { IfOk result (λ row. self.new
+            ≡ with_slot slot (moved_out stamp row) self.old) }
         ensures err { OnErr result (self.new ≡ self.old) }
     {
         let cooling = self.cooling;
@@ -235,8 +244,8 @@ impl Body {
         self.change(slot, by, &Change::Put(row))
     }
 
-    /// Takes one half of a move back: the newest entry of a slot is laid back and dropped. The block
-    /// is cooling then, as it was before the move.
+    /// Takes one half of a move back: the newest entry of a slot is laid back and dropped. The
+    /// block is cooling then, as it was before the move.
     pub fn take_back(&mut self, slot: u32)
         requires { has_none (slot_in self.old slot).entries ≡ false }
         ensures { self.new ≡ taken_back_in slot self.old }
@@ -286,8 +295,8 @@ impl Body {
         );
     }
 
-    /// Lays the session's before-images back, newest first, and drops its entries. Where it had any,
-    /// the block is modified.
+    /// Lays the session's before-images back, newest first, and drops its entries. Where it had
+    /// any, the block is modified.
     pub fn roll_back(&mut self, session: u32)
         ensures { self.new ≡ rolled_back_in session self.old }
     {
@@ -365,7 +374,8 @@ impl Body {
     /// Its image once more, where it is imaged.
     pub fn shared(&self) -> Result<Option<Shared>, AllocError>
         ensures imaged { IfOk result (λ shared. is_some shared ≡ is_imaged self.now.phase) }
-        ensures image { IfOk result (λ shared. IfSome shared (IsImageOf self.now.columns (map (λ slot. slot.row) self.now.slots))) }
+        ensures image { IfOk result (λ shared. IfSome shared
+            (IsImageOf self.now.columns (map (λ slot. slot.row) self.now.slots))) }
     {
         match self.rows.image() {
             Some(shared) => Ok(Some(shared.share()?)),
@@ -373,8 +383,8 @@ impl Body {
         }
     }
 
-    /// Takes the image of a sealed body's rows, from which it has them from now on. Without memory the
-    /// body stays.
+    /// Takes the image of a sealed body's rows, from which it has them from now on. Without memory
+    /// the body stays.
     pub fn image(&mut self, image: Image) -> Result<(), AllocError>
         requires sealed { is_sealed self.old.phase ≡ true }
         requires image { IsImageOf self.old.columns (map (λ slot. slot.row) self.old.slots) image }
@@ -388,11 +398,12 @@ impl Body {
         Ok(())
     }
 
-    /// Makes an image of a sealed body's own columns, which are not copied, and these buffers, those
-    /// of the batch of its rows. Without memory the body stays.
+    /// Makes an image of a sealed body's own columns, which are not copied, and these buffers,
+    /// those of the batch of its rows. Without memory the body stays.
     pub fn freeze(&mut self, buffers: Vec<Buffers>) -> Result<(), AllocError>
         requires sealed { is_sealed self.old.phase ≡ true }
-        requires whole { IsWhole (image_of self.old.columns (map (λ slot. slot.row) self.old.slots) buffers.items) }
+        requires whole { IsWhole (image_of self.old.columns (map (λ slot. slot.row) self.old.slots)
+            buffers.items) }
         ensures ok { OnOk result (self.new ≡ imaged self.old) }
         ensures err { OnErr result (self.new ≡ self.old) }
     {
@@ -403,8 +414,8 @@ impl Body {
         Ok(())
     }
 
-    /// Makes an imaged body loose again, with the same rows. Those who share the image keep it. Without
-    /// memory the body stays.
+    /// Makes an imaged body loose again, with the same rows. Those who share the image keep it.
+    /// Without memory the body stays.
     pub fn thaw(&mut self) -> Result<(), AllocError>
         requires { is_imaged self.old.phase ≡ true }
         ensures ok { OnOk result (self.new ≡ thawed self.old) }
@@ -416,8 +427,8 @@ impl Body {
         Ok(())
     }
 
-    // Changes a slot's row and lays the entry on top that undoes it. The block is modified by it,
-    // but for want of memory, which leaves the body as it is.
+    /// Changes a slot's row and lays the entry on top that undoes it. The block is modified by it,
+    /// but for want of memory, which leaves the body as it is.
     fn change(&mut self, slot: u32, by: Origin, change: &Change) -> Result<(), AllocError>
         requires loose { is_loose self.old.phase ≡ true }
         requires slot { slot < length self.old.slots }
@@ -450,7 +461,7 @@ impl Body {
         }
     }
 
-    // Takes a slot's newest entry off and lays its before-image back, which modifies the block.
+    /// Takes a slot's newest entry off and lays its before-image back, which modifies the block.
     fn take_off(&mut self, slot: u32)
         requires { has_none (slot_in self.old slot).entries ≡ false }
         ensures { self.new ≡ with_slot slot taken_back self.old }
@@ -463,7 +474,7 @@ impl Body {
         self.rounds = 0;
     }
 
-    // The row that the newest change of a slot without a row took away, lent.
+    /// The row that the newest change of a slot without a row took away, lent.
     fn taken_away(&self, slot: u32) -> Option<&Row>
         requires { (slot_in self.now slot).row ≡ None }
         ensures { option_copied result ≡ (taken_back (slot_in self.now slot)).row }
@@ -475,7 +486,7 @@ impl Body {
         }
     }
 
-    // The rows that may move, in slot order.
+    /// The rows that may move, in slot order.
     fn movable_rows(&self) -> Result<Vec<MovableRow>, AllocError>
         requires { HasKeys self.now }
         ensures { IfOk result (λ rows. rows.items ≡ (looked self.now).rows) }
@@ -505,7 +516,7 @@ impl Body {
         }))
     }
 
-    // The bare slots, in order.
+    /// The bare slots, in order.
     fn gaps(&self) -> Result<Vec<u32>, AllocError>
         ensures { IfOk result (λ gaps. gaps.items ≡ (looked self.now).gaps) }
     {
@@ -525,21 +536,21 @@ impl Body {
         self.rows.count() != 0
     }
 
-    // Whether the slots with a row are the first.
+    /// Whether the slots with a row are the first.
     fn is_front(&self) -> bool
         ensures { result ≡ is_front self.now.slots }
     {
         self.rows.is_front()
     }
 
-    // Whether no slot has an entry.
+    /// Whether no slot has an entry.
     fn is_quiet(&self) -> bool
         ensures { result ≡ is_quiet self.now }
     {
         self.chains.is_empty()
     }
 
-    // The first reason against a seal.
+    /// The first reason against a seal.
     fn seal_fault(&self, head: bool) -> Option<SealFault>
         ensures { result ≡ seal_fault head self.now }
     {
@@ -563,7 +574,7 @@ impl Body {
     }
 }
 
-// Whether a body in the phase takes writes.
+/// Whether a body in the phase takes writes.
 fn is_loose(phase: Phase) -> bool
     ensures { result ≡ is_loose phase }
 {
@@ -573,7 +584,7 @@ fn is_loose(phase: Phase) -> bool
     }
 }
 
-// What a write's entry is called.
+/// What a write's entry is called.
 fn kind_of(change: &Change) -> UndoKind
     ensures { result ≡ kind_of change.now }
 {

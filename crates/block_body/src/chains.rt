@@ -1,11 +1,15 @@
 //! The version chains of a body, one for each slot that has an entry.
-ghost use Rattle.std.specs.Prelude.{◌≡◌, ◌≢◌, ◌∷◌, ◌++◌, ◌↔◌, ◌<◌, ◌≤◌, ◌*◌, ◌^◌, ℕ, [], None, OnOk, OnErr, IfErr, IfSome, IfNone, not, filter, map, fold, count_by, IsSome, option_to_list, length, slice_index_or, slice_set, if◌then◌else◌};
+ghost use Rattle.std.specs.Prelude.{◌≡◌, ◌≢◌, ◌∷◌, ◌++◌, ◌↔◌, ◌<◌, ◌≤◌, ◌*◌, ◌^◌, ℕ, [], None};
+ghost use Rattle.std.specs.Prelude.{OnOk, OnErr, IfErr, IfSome, IfNone, not, filter, map, fold};
+ghost use Rattle.std.specs.Prelude.{count_by, IsSome, option_to_list, length, slice_index_or};
+ghost use Rattle.std.specs.Prelude.{slice_set, if◌then◌else◌};
 ghost use Rattle.std.specs.List.{list_any};
 ghost use Rattle.block_spec.specs.Slots.{laid_back, rolled_back};
 ghost use Rattle.undo_chain.specs.Entry.{is_own, is_stamped_by};
 ghost use Rattle.undo_chain.specs.Lawful.{IsLawful, NoneStampedAbove};
 ghost use Rattle.undo_chain.specs.Stamped.{stamped};
-ghost use Rattle.block_body.specs.Chains.{AreChains, IsKept, slot_at, chain_at, entries_at, is_listed, stamped_below};
+ghost use Rattle.block_body.specs.Chains.{AreChains, IsKept, slot_at, chain_at, entries_at};
+ghost use Rattle.block_body.specs.Chains.{is_listed, stamped_below};
 
 use crate::rows::Rows;
 use block_columns::Before;
@@ -24,7 +28,8 @@ pub(crate) fn chain_of(chains: &Chains, slot: u32) -> Option<&Chain<Before>>
     requires { AreChains chains.now.entries }
     ensures some { IfSome result (λ chain. chain_at chains.now.entries slot ≡ Some chain.now) }
     ensures lawful { IfSome result (λ chain. IsLawful chain.now.entries) }
-    ensures entries { IfSome result (λ chain. chain.now.entries ≡ entries_at chains.now.entries slot) }
+    ensures entries { IfSome result
+        (λ chain. chain.now.entries ≡ entries_at chains.now.entries slot) }
     ensures none { IfNone result (entries_at chains.now.entries slot ≡ []) }
 {
     chains.get(&slot)
@@ -40,8 +45,10 @@ pub(crate) fn push(
     requires chains { AreChains chains.old.entries }
     requires lawful { IsLawful (undo ∷ entries_at chains.old.entries slot) }
     ensures chains { AreChains chains.new.entries }
-    ensures here { OnOk result (entries_at chains.new.entries slot ≡ undo ∷ entries_at chains.old.entries slot) }
-    ensures same { OnErr result (entries_at chains.new.entries slot ≡ entries_at chains.old.entries slot) }
+    ensures here { OnOk result (entries_at chains.new.entries slot
+        ≡ undo ∷ entries_at chains.old.entries slot) }
+    ensures same { OnErr result (entries_at chains.new.entries slot
+        ≡ entries_at chains.old.entries slot) }
     ensures others { (other : ℕ) → other ≢ slot →
         entries_at chains.new.entries other ≡ entries_at chains.old.entries other }
     ensures back { IfErr result (λ refused. refused.value ≡ undo) }
@@ -52,7 +59,7 @@ pub(crate) fn push(
     }
 }
 
-// Adds an entry on top of a chain.
+/// Adds an entry on top of a chain.
 fn lay_on(chain: &mut Chain<Before>, undo: Undo<Before>) -> Result<(), AllocFailed<Undo<Before>>>
     requires { IsLawful (undo ∷ chain.old.entries) }
     ensures here { OnOk result (chain.new.entries ≡ undo ∷ chain.old.entries) }
@@ -68,7 +75,7 @@ fn lay_on(chain: &mut Chain<Before>, undo: Undo<Before>) -> Result<(), AllocFail
     Ok(())
 }
 
-// Begins the chain of a slot that has none.
+/// Begins the chain of a slot that has none.
 fn begin(
     alloc: Global,
     chains: &mut Chains,
@@ -115,7 +122,7 @@ pub(crate) fn stamp(chains: &mut Chains, slots: &[u32], session: u32, stamp: u64
     }
 }
 
-// Commits the session's entries in a slot.
+/// Commits the session's entries in a slot.
 fn stamp_slot(chains: &mut Chains, slot: u32, session: u32, stamp: u64, number: u64)
     requires chains { AreChains chains.old.entries }
     requires newest { NoneStampedAbove (entries_at chains.old.entries slot) stamp }
@@ -130,8 +137,8 @@ fn stamp_slot(chains: &mut Chains, slot: u32, session: u32, stamp: u64, number: 
     }
 }
 
-/// Drops the entries with a stamp at most `oldest` of the first slots, in which all entries are, and
-/// tells how many these were.
+/// Drops the entries with a stamp at most `oldest` of the first slots, in which all entries are,
+/// and tells how many these were.
 pub(crate) fn prune(chains: &mut Chains, slots: u32, oldest: u64) -> u64
     requires chains { AreChains chains.old.entries }
     requires within { (slot : ℕ) → IsSome (chain_at chains.old.entries slot) → slot < slots }
@@ -156,13 +163,14 @@ pub(crate) fn next_slot(chains: &Chains, from: u32) -> Option<u32>
     ensures above { IfSome result (λ slot. from ≤ slot) }
     ensures least { IfSome result (λ slot. (other : ℕ) → from ≤ other → other < slot →
         chain_at chains.now.entries other ≡ None) }
-    ensures none { IfNone result ((other : ℕ) → from ≤ other → chain_at chains.now.entries other ≡ None) }
+    ensures none { IfNone result ((other : ℕ) → from ≤ other → chain_at chains.now.entries other
+        ≡ None) }
 {
     let (slot, _) = chains.range(from..).next()?;
     Some(*slot)
 }
 
-// Drops the entries of a slot with a stamp at most `oldest`.
+/// Drops the entries of a slot with a stamp at most `oldest`.
 fn prune_slot(chains: &mut Chains, slot: u32, oldest: u64) -> u64
     requires chains { AreChains chains.old.entries }
     ensures chains { AreChains chains.new.entries }
@@ -170,7 +178,8 @@ fn prune_slot(chains: &mut Chains, slot: u32, oldest: u64) -> u64
         filter (λ undo. not (is_stamped_by undo oldest)) (entries_at chains.old.entries slot) }
     ensures others { (other : ℕ) → other ≢ slot →
         chain_at chains.new.entries other ≡ chain_at chains.old.entries other }
-    ensures count { result ≡ count_by (λ undo. is_stamped_by undo oldest) (entries_at chains.old.entries slot) }
+    ensures count { result ≡ count_by (λ undo. is_stamped_by undo oldest)
+        (entries_at chains.old.entries slot) }
     ensures few { result ≤ 2 ^ 31 }
 {
     let Some(chain) = chains.get_mut(&slot) else {
@@ -187,7 +196,8 @@ fn prune_slot(chains: &mut Chains, slot: u32, oldest: u64) -> u64
 pub(crate) fn pop(chains: &mut Chains, slot: u32) -> Option<Undo<Before>>
     requires chains { AreChains chains.old.entries }
     ensures chains { AreChains chains.new.entries }
-    ensures here { entries_at chains.old.entries slot ≡ option_to_list result ++ entries_at chains.new.entries slot }
+    ensures here { entries_at chains.old.entries slot ≡ option_to_list result
+        ++ entries_at chains.new.entries slot }
     ensures some { IsSome result ↔ (0 < length (entries_at chains.old.entries slot)) }
     ensures others { (other : ℕ) → other ≢ slot →
         entries_at chains.new.entries other ≡ entries_at chains.old.entries other }
@@ -200,23 +210,26 @@ pub(crate) fn pop(chains: &mut Chains, slot: u32) -> Option<Undo<Before>>
     undo
 }
 
-/// Takes the session's entries of some slots off and lays their before-images back, newest first. Tells
-/// whether there were any.
+/// Takes the session's entries of some slots off and lays their before-images back, newest first.
+/// Tells whether there were any.
 pub(crate) fn roll_back(chains: &mut Chains, rows: &mut Rows, slots: &[u32], session: u32) -> bool
     requires chains { AreChains chains.old.entries }
     requires own { rows.old.image ≡ None }
-    requires kept { (slot : ℕ) → IsKept rows.old slot (slice_index_or rows.old.rows slot None) (entries_at chains.old.entries slot) }
+    requires kept { (slot : ℕ) → IsKept rows.old slot (slice_index_or rows.old.rows slot None)
+        (entries_at chains.old.entries slot) }
     ensures chains { AreChains chains.new.entries }
     ensures slots { (slot : ℕ) → slot_at rows.new.rows chains.new.entries slot ≡
         (if is_listed slots.now slot
         then rolled_back session (slot_at rows.old.rows chains.old.entries slot)
         else slot_at rows.old.rows chains.old.entries slot) }
-    ensures kept { (slot : ℕ) → IsKept rows.new slot (slice_index_or rows.new.rows slot None) (entries_at chains.new.entries slot) }
+    ensures kept { (slot : ℕ) → IsKept rows.new slot (slice_index_or rows.new.rows slot None)
+        (entries_at chains.new.entries slot) }
     ensures long { length rows.new.rows ≡ length rows.old.rows }
     ensures columns { rows.new.columns ≡ rows.old.columns }
     ensures own { rows.new.image ≡ None }
     ensures any { result ≡ list_any
-        (λ slot. list_any (λ undo. is_own undo session) (entries_at chains.old.entries slot)) slots.now }
+        (λ slot. list_any (λ undo. is_own undo session) (entries_at chains.old.entries slot))
+        slots.now }
 {
     let mut any = false;
     for slot in slots {
@@ -227,12 +240,13 @@ pub(crate) fn roll_back(chains: &mut Chains, rows: &mut Rows, slots: &[u32], ses
     any
 }
 
-// Takes the session's entries of a slot off and lays their before-images back, newest first. Tells
-// whether there were any.
+/// Takes the session's entries of a slot off and lays their before-images back, newest first. Tells
+/// whether there were any.
 fn roll_back_slot(chains: &mut Chains, rows: &mut Rows, slot: u32, session: u32) -> bool
     requires chains { AreChains chains.old.entries }
     requires own { rows.old.image ≡ None }
-    requires kept { IsKept rows.old slot (slice_index_or rows.old.rows slot None) (entries_at chains.old.entries slot) }
+    requires kept { IsKept rows.old slot (slice_index_or rows.old.rows slot None)
+        (entries_at chains.old.entries slot) }
     ensures chains { AreChains chains.new.entries }
     ensures here { entries_at chains.new.entries slot ≡
         filter (λ undo. not (is_own undo session)) (entries_at chains.old.entries slot) }
@@ -240,12 +254,15 @@ fn roll_back_slot(chains: &mut Chains, rows: &mut Rows, slot: u32, session: u32)
         entries_at chains.new.entries other ≡ entries_at chains.old.entries other }
     ensures rows { rows.new.rows ≡ slice_set rows.old.rows slot (fold laid_back
         (slice_index_or rows.old.rows slot None)
-        (map (λ undo. undo.before) (filter (λ undo. is_own undo session) (entries_at chains.old.entries slot)))) }
-    ensures kept { IsKept rows.new slot (slice_index_or rows.new.rows slot None) (entries_at chains.new.entries slot) }
+        (map (λ undo. undo.before) (filter (λ undo. is_own undo session)
+        (entries_at chains.old.entries slot)))) }
+    ensures kept { IsKept rows.new slot (slice_index_or rows.new.rows slot None)
+        (entries_at chains.new.entries slot) }
     ensures columns { rows.new.columns ≡ rows.old.columns }
     ensures room { rows.new.room ≡ rows.old.room }
     ensures own { rows.new.image ≡ None }
-    ensures any { result ≡ list_any (λ undo. is_own undo session) (entries_at chains.old.entries slot) }
+    ensures any { result ≡ list_any (λ undo. is_own undo session)
+        (entries_at chains.old.entries slot) }
 {
     let Some(chain) = chains.get_mut(&slot) else {
         return false;
@@ -257,13 +274,15 @@ fn roll_back_slot(chains: &mut Chains, rows: &mut Rows, slot: u32, session: u32)
     any
 }
 
-// The same for the slot's chain.
+/// The same for the slot's chain.
 fn lay_own_back(chain: &mut Chain<Before>, rows: &mut Rows, slot: u32, session: u32) -> bool
     requires lawful { IsLawful chain.old.entries }
     requires own { rows.old.image ≡ None }
-    requires kept { IsKept rows.old slot (slice_index_or rows.old.rows slot None) chain.old.entries }
+    requires kept { IsKept rows.old slot (slice_index_or rows.old.rows slot None)
+        chain.old.entries }
     ensures lawful { IsLawful chain.new.entries }
-    ensures chain { chain.new.entries ≡ filter (λ undo. not (is_own undo session)) chain.old.entries }
+    ensures chain { chain.new.entries
+        ≡ filter (λ undo. not (is_own undo session)) chain.old.entries }
     ensures rows { rows.new.rows ≡ slice_set rows.old.rows slot (fold laid_back
         (slice_index_or rows.old.rows slot None)
         (map (λ undo. undo.before) (filter (λ undo. is_own undo session) chain.old.entries))) }

@@ -8,5 +8,6 @@ ghost use Rattle.block_body.specs.Keys.{HasKey};
 
 /// A row that fits columns of which the first is the key has a key of 64 bits.
 pub fn rows_that_fit_have_a_key()
-    ensures { (columns : List Column) (row : List Cell) → begins_with_key columns ≡ true → Fits columns row → HasKey row }
+    ensures { (columns : List Column) (row : List Cell) → begins_with_key columns ≡ true
+        → Fits columns row → HasKey row }
 {}

@@ -1,5 +1,5 @@
-//! The body of a block: the columns of its slots, the version chains of those that were changed, its
-//! phase, and what the observe rounds know of it. Contracts see the record of `block_spec`.
+//! The body of a block: the columns of its slots, the version chains of those that were changed,
+//! its phase, and what the observe rounds know of it. Contracts see the record of `block_spec`.
 #![tactic(auto)]
 
 mod body;

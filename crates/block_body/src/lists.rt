@@ -30,7 +30,8 @@ pub(crate) fn add(
     by: &Origin,
     slot: u32,
 ) -> Result<(), AllocError>
-    ensures added { OnOk result (by.now.stamp ≡ None → is_listed (slots_of lists.new.entries by.now.session) slot ≡ true) }
+    ensures added { OnOk result (by.now.stamp ≡ None
+        → is_listed (slots_of lists.new.entries by.now.session) slot ≡ true) }
     ensures more { (other number : ℕ) → is_listed (slots_of lists.old.entries other) number ≡ true →
         is_listed (slots_of lists.new.entries other) number ≡ true }
 {
@@ -40,7 +41,7 @@ pub(crate) fn add(
     }
 }
 
-// Lists a slot for a session once more.
+/// Lists a slot for a session once more.
 fn add_for(
     alloc: Global,
     lists: &mut BTreeMap<u32, SlotList>,
@@ -65,10 +66,11 @@ fn add_for(
 }
 
 impl SlotList {
-    // Adds a slot behind the others.
+    /// Adds a slot behind the others.
     fn push(&mut self, slot: u32) -> Result<(), AllocError>
         ensures added { OnOk result (is_listed self.new slot ≡ true) }
-        ensures more { (number : ℕ) → is_listed self.old number ≡ true → is_listed self.new number ≡ true }
+        ensures more { (number : ℕ) → is_listed self.old number ≡ true → is_listed self.new number
+            ≡ true }
     {
         self.slots.push(slot)?;
         Ok(())

@@ -1,5 +1,6 @@
 //! What a compaction reads of a body.
-ghost use Rattle.std.specs.Prelude.{◌≡◌, ◌<◌, [], ◌∷◌, None, IfOk, length, slice_get, slice_index_or};
+ghost use Rattle.std.specs.Prelude.{◌≡◌, ◌<◌, [], ◌∷◌, None, IfOk, length, slice_get};
+ghost use Rattle.std.specs.Prelude.{slice_index_or};
 ghost use Rattle.isolation_spec.specs.Contents.{key_of};
 ghost use Rattle.block_columns.specs.Columns.{cell_of};
 ghost use Rattle.block_body.specs.Keys.{HasKey};
@@ -15,7 +16,7 @@ use std::marker::Model;
 #[derive(Drop)]
 pub struct Look {
     pub(crate) rows: Vec<MovableRow>,
-    // So many first slots are gaps, and the others are listed: an empty body needs no list.
+    /// So many first slots are gaps, and the others are listed: an empty body needs no list.
     pub(crate) first: u32,
     pub(crate) gaps: Vec<u32>,
     pub(crate) phase: Phase,

@@ -1,5 +1,7 @@
 //! The rows of a body: columns of its own, or those of the image that it shares with readers.
-ghost use Rattle.std.specs.Prelude.{◌≡◌, ℕ, List, ◌+◌, ◌<◌, ◌≤◌, ◌^◌, None, Some, IfOk, option_copied, OnOk, OnErr, IsTrue, IsSome, is_some, count_by, length, replicate, slice_index_or, slice_set, if◌then◌else◌};
+ghost use Rattle.std.specs.Prelude.{◌≡◌, ℕ, List, ◌+◌, ◌<◌, ◌≤◌, ◌^◌, None, Some, IfOk};
+ghost use Rattle.std.specs.Prelude.{option_copied, OnOk, OnErr, IsTrue, IsSome, is_some, count_by};
+ghost use Rattle.std.specs.Prelude.{length, replicate, slice_index_or, slice_set, if◌then◌else◌};
 ghost use Rattle.cell_model.specs.Rows.{Fits};
 ghost use Rattle.block_spec.specs.declared.change.Before.{Before as BeforeImage};
 ghost use Rattle.undo_chain.specs.declared.undo.Undo.{Undo};
@@ -24,7 +26,7 @@ use std::marker::Model;
 /// Slots with or without a row, and how many have one.
 #[derive(Drop)]
 pub(crate) struct Rows {
-    // None while the rows are the image's.
+    /// None while the rows are the image's.
     columns: Option<Columns>,
     image: Option<Shared>,
     count: u32,
@@ -80,7 +82,8 @@ impl Rows {
 
     /// Whether the slots with a row are the first.
     pub fn is_front(&self) -> bool
-        ensures { (entries : ℕ → List (Undo BeforeImage)) → result ≡ is_front (slots_from entries 0 self.now.rows) }
+        ensures { (entries : ℕ → List (Undo BeforeImage)) → result
+            ≡ is_front (slots_from entries 0 self.now.rows) }
     {
         let columns = self.columns();
         // Each slot with a row has memory.
@@ -109,12 +112,13 @@ impl Rows {
         Ok(())
     }
 
-    /// Makes an image of its own columns with these buffers, and has the rows from it. Without memory
-    /// the rows stay.
+    /// Makes an image of its own columns with these buffers, and has the rows from it. Without
+    /// memory the rows stay.
     pub fn freeze_own(&mut self, alloc: Global, buffers: Vec<Buffers>) -> Result<(), AllocError>
         requires own { self.old.image ≡ None }
         requires whole { IsWhole (image_of self.old.columns self.old.rows buffers.items) }
-        ensures ok { OnOk result (self.new ≡ in_image (image_of self.old.columns self.old.rows buffers.items)) }
+        ensures ok { OnOk result (self.new
+            ≡ in_image (image_of self.old.columns self.old.rows buffers.items)) }
         ensures columns { self.new.columns ≡ self.old.columns }
         ensures rows { self.new.rows ≡ self.old.rows }
         ensures own { OnErr result (self.new.image ≡ None) }
@@ -159,16 +163,19 @@ impl Rows {
         }
     }
 
-    /// Makes a write's change of a slot, and hands out what undoes it. Without memory the rows stay.
+    /// Makes a write's change of a slot, and hands out what undoes it. Without memory the rows
+    /// stay.
     pub fn write(&mut self, slot: u32, change: &Change) -> Result<Before, AllocError>
         requires own { self.old.image ≡ None }
         requires slot { slot < length self.old.rows }
         requires row { is_some (slice_index_or self.old.rows slot None) ≡ wants_row change.now }
         requires fits { ChangeFits self.old.columns change.now }
-        ensures before { IfOk result (λ before. before ≡ image_before (slice_index_or self.old.rows slot None) change.now) }
+        ensures before { IfOk result (λ before. before
+            ≡ image_before (slice_index_or self.old.rows slot None) change.now) }
         ensures fits { IfOk result (BeforeFits self.old.columns) }
         ensures ok { OnOk result (self.new.rows ≡
-            slice_set self.old.rows slot (row_after (slice_index_or self.old.rows slot None) change.now)) }
+            slice_set self.old.rows slot (row_after (slice_index_or self.old.rows slot None)
+            change.now)) }
         ensures err { OnErr result (self.new.rows ≡ self.old.rows) }
         ensures columns { self.new.columns ≡ self.old.columns }
         ensures room { self.old.room ≤ self.new.room }
@@ -182,14 +189,15 @@ impl Rows {
         }
     }
 
-    /// Puts a copy of a row in a slot that has none, and hands out that there was none. Without memory
-    /// the rows stay.
+    /// Puts a copy of a row in a slot that has none, and hands out that there was none. Without
+    /// memory the rows stay.
     pub fn put(&mut self, slot: u32, row: &Row) -> Result<Before, AllocError>
         requires own { self.old.image ≡ None }
         requires slot { slot < length self.old.rows }
         requires none { slice_index_or self.old.rows slot None ≡ None }
         requires fits { Fits self.old.columns row.now }
-        ensures before { IfOk result (λ before. before ≡ image_before (slice_index_or self.old.rows slot None) (change.Put row.now)) }
+        ensures before { IfOk result (λ before. before
+            ≡ image_before (slice_index_or self.old.rows slot None) (change.Put row.now)) }
         ensures fits { IfOk result (BeforeFits self.old.columns) }
         ensures ok { OnOk result (self.new.rows ≡ slice_set self.old.rows slot (Some row.now)) }
         ensures err { OnErr result (self.new.rows ≡ self.old.rows) }
@@ -215,10 +223,12 @@ impl Rows {
         requires within { slot < length self.old.rows }
         requires slot { IsSome (slice_index_or self.old.rows slot None) }
         requires fits { PatchFits self.old.columns patch.now }
-        ensures before { IfOk result (λ before. before ≡ image_before (slice_index_or self.old.rows slot None) (change.Patch patch.now)) }
+        ensures before { IfOk result (λ before. before
+            ≡ image_before (slice_index_or self.old.rows slot None) (change.Patch patch.now)) }
         ensures fits { IfOk result (BeforeFits self.old.columns) }
         ensures ok { OnOk result (self.new.rows ≡
-            slice_set self.old.rows slot (row_after (slice_index_or self.old.rows slot None) (change.Patch patch.now))) }
+            slice_set self.old.rows slot (row_after (slice_index_or self.old.rows slot None)
+            (change.Patch patch.now))) }
         ensures err { OnErr result (self.new.rows ≡ self.old.rows) }
         ensures columns { self.new.columns ≡ self.old.columns }
         ensures room { self.old.room ≤ self.new.room }
@@ -237,7 +247,8 @@ impl Rows {
         requires own { self.old.image ≡ None }
         requires within { slot < length self.old.rows }
         requires slot { IsSome (slice_index_or self.old.rows slot None) }
-        ensures before { IfOk result (λ before. before ≡ image_before (slice_index_or self.old.rows slot None) change.Gone) }
+        ensures before { IfOk result (λ before. before
+            ≡ image_before (slice_index_or self.old.rows slot None) change.Gone) }
         ensures fits { IfOk result (BeforeFits self.old.columns) }
         ensures ok { OnOk result (self.new.rows ≡ slice_set self.old.rows slot None) }
         ensures err { OnErr result (self.new.rows ≡ self.old.rows) }
@@ -263,7 +274,8 @@ impl Rows {
         requires long { slot < length self.old.rows }
         requires fits { BeforeFits self.old.columns before }
         requires row { WantsRow before (slice_index_or self.old.rows slot None) }
-        ensures rows { self.new.rows ≡ slice_set self.old.rows slot (laid_back (slice_index_or self.old.rows slot None) before) }
+        ensures rows { self.new.rows ≡ slice_set self.old.rows slot
+            (laid_back (slice_index_or self.old.rows slot None) before) }
         ensures columns { self.new.columns ≡ self.old.columns }
         ensures room { self.new.room ≡ self.old.room }
         ensures own { self.new.image ≡ None }
@@ -280,7 +292,7 @@ impl Rows {
     }
 }
 
-// How many slots have a row where one may have got or lost it.
+/// How many slots have a row where one may have got or lost it.
 fn counted(count: u32, had: bool, has: bool) -> u32
     requires some { IsTrue had → 0 < count }
     requires few { IsTrue has → count + 1 < 2 ^ 32 + (if had then 1 else 0) }

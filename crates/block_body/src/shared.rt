@@ -48,8 +48,8 @@ impl Shared {
         &self.image
     }
 
-    /// The image's columns: those themselves from the last owner, and a copy of them where there are
-    /// others, who keep theirs. Without memory for the copy this owner comes back.
+    /// The image's columns: those themselves from the last owner, and a copy of them where there
+    /// are others, who keep theirs. Without memory for the copy this owner comes back.
     pub fn into_columns(self) -> Result<Columns, Shared>
         ensures columns { IfOk result (λ c. c.columns ≡ self.columns) }
         ensures rows { IfOk result (λ c. c.rows ≡ self.slots) }

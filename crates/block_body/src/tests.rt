@@ -21,7 +21,7 @@ use std::test::Fail;
 use steps::Steps;
 use undo_chain::Newer;
 
-// The columns `key:i64 t:utf8?`.
+/// The columns `key:i64 t:utf8?`.
 fn schema(alloc: Global) -> Result<Schema, Fail> {
     let mut columns = Vec::new(alloc);
     for (name, kind, nullable) in [("key", Kind::I64, false), ("t", Kind::Utf8, true)] {
@@ -38,8 +38,8 @@ fn schema(alloc: Global) -> Result<Schema, Fail> {
     }
 }
 
-// What a session and another one see of a row that the session put, how the body stands in the way of
-// the other's write, and the body.
+/// What a session and another one see of a row that the session put, how the body stands in the way
+/// of the other's write, and the body.
 fn put<L: Ledger>(
     alloc: Global,
     schema: &Schema,
@@ -71,7 +71,7 @@ fn counted<L: Ledger>(
     put(alloc, schema, row, &mut steps)
 }
 
-// A body with one uncommitted row of session 1.
+/// A body with one uncommitted row of session 1.
 fn with_row(alloc: Global) -> Result<(bool, bool, Newer, Body), Fail> {
     let schema = schema(alloc)?;
     let row = Row::from(vec![in alloc; Cell::Num(5), Cell::Null]?);
@@ -115,11 +115,12 @@ fn a_body_from_its_first_row_to_its_seal(rt: HostRuntime) -> Result<(), Fail> {
     Ok(())
 }
 
-// A body of four slots whose first has a row that its session committed, without an entry.
+/// A body of four slots whose first has a row that its session committed, without an entry.
 fn settled(alloc: Global, schema: &Schema, row: Row) -> Result<Body, Fail>
     requires { Fits (columns_of schema.now) row }
     ensures { IfOk result (λ body. body ≡
-        pruned_in 1 (committed_in 1 1 1 (with_slot 0 (written 1 (change.Put row)) (untouched schema.now 4)))) }
+        pruned_in 1 (committed_in 1 1 1
+        (with_slot 0 (written 1 (change.Put row)) (untouched schema.now 4)))) }
 {
     let mut body = Body::new(alloc, schema, 4)?;
     body.install(0, 1, Change::Put(row))?;
@@ -128,7 +129,7 @@ fn settled(alloc: Global, schema: &Schema, row: Row) -> Result<Body, Fail>
     Ok(body)
 }
 
-// The same, of a row.
+/// The same, of a row.
 fn with_settled_row(alloc: Global) -> Result<Body, Fail> {
     let schema = schema(alloc)?;
     let row = Row::from(vec![in alloc; Cell::Num(5), Cell::Null]?);
@@ -165,9 +166,9 @@ fn the_last_stamp_is_not_passed(rt: HostRuntime) -> Result<(), Fail> {
     Ok(())
 }
 
-// What a look at a body with one settled row finds, before and after the row moved from the first
-// slot to the second, the key that a pruning leaves then, and the body with the second half taken
-// back.
+/// What a look at a body with one settled row finds, before and after the row moved from the first
+/// slot to the second, the key that a pruning leaves then, and the body with the second half taken
+/// back.
 #[derive(Drop)]
 struct Moved {
     before: Look,

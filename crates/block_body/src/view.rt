@@ -1,4 +1,5 @@
-//! What a reader sees of a slot: its row with the before-images laid back that he does not have in view.
+//! What a reader sees of a slot: its row with the before-images laid back that he does not have in
+//! view.
 ghost use Rattle.std.specs.Prelude.{◌≡◌, IfOk, reverse};
 ghost use Rattle.undo_chain.specs.Visible.{visible_row};
 ghost use Rattle.block_spec.specs.Slots.{laid_back, patched};
@@ -8,14 +9,16 @@ use cell_model::Row;
 use std::alloc::AllocError;
 use undo_chain::Undo;
 
-/// The visible row of a slot to a session with the snapshot `stamp`. The entries stand oldest first.
+/// The visible row of a slot to a session with the snapshot `stamp`. The entries stand oldest
+/// first.
 pub(crate) fn visible_row(
     row: Option<Row>,
     entries: &[Undo<Before>],
     stamp: u64,
     session: u32,
 ) -> Result<Option<Row>, AllocError>
-    ensures { IfOk result (λ seen. seen ≡ visible_row laid_back row (reverse entries.now) stamp session) }
+    ensures { IfOk result (λ seen. seen
+        ≡ visible_row laid_back row (reverse entries.now) stamp session) }
 {
     let mut seen = row;
     let mut older = entries;
@@ -28,7 +31,7 @@ pub(crate) fn visible_row(
     Ok(seen)
 }
 
-// A row with a before-image laid back on it.
+/// A row with a before-image laid back on it.
 fn lay_back(row: Option<Row>, before: &Before) -> Result<Option<Row>, AllocError>
     ensures { IfOk result (λ old. old ≡ laid_back row before.now) }
 {
@@ -42,7 +45,7 @@ fn lay_back(row: Option<Row>, before: &Before) -> Result<Option<Row>, AllocError
     }
 }
 
-// A row with copies of the cells of a patch.
+/// A row with copies of the cells of a patch.
 fn with_cells(row: Row, patch: &Patch) -> Result<Row, AllocError>
     ensures { IfOk result (λ new. new ≡ patched row patch.now) }
 {

@@ -1,5 +1,7 @@
--- What a column keeps of its cells: whether each is valid, and a value, which of a null is zero, false or no bytes.
-use Rattle.std.specs.Prelude.{◌≡◌, ℕ, ◌*◌, Bool, true, false, not, if◌then◌else◌, List, [], ◌∷◌, length, slice_index_or, map, All, IsTrue, ◌||◌, ◌&&◌, nat_le}
+-- What a column keeps of its cells: whether each is valid, and a value, which of a null is zero,
+-- false or no bytes.
+use Rattle.std.specs.Prelude.{◌≡◌, ℕ, ◌*◌, Bool, true, false, not, if◌then◌else◌, List, [], ◌∷◌}
+use Rattle.std.specs.Prelude.{length, slice_index_or, map, All, IsTrue, ◌||◌, ◌&&◌, nat_le}
 use Rattle.std.specs.Int.{byte_len}
 use Rattle.cell_model.specs.declared.cell.Cell.{Cell}
 use Rattle.cell_model.specs.declared.cell.Cell.TheVariants.{Null, Num, Truth, Text, Blob}
@@ -18,7 +20,8 @@ pub record ColumnValue : Type 0 where
 
 -- a null, or a value of the kind that is not too long
 abbrev pub IsSlotOf : Kind → Cell → Type 0
-IsSlotOf kind cell = IsTrue (is_null cell || (is_value_of kind cell && nat_le (byte_length cell) most_bytes))
+IsSlotOf kind cell = IsTrue (is_null cell
+    || (is_value_of kind cell && nat_le (byte_length cell) most_bytes))
 
 -- bytes as a cell of a kind
 abbrev pub bytes_in : Values → List ℕ → Cell
@@ -72,7 +75,8 @@ IsStoreOf kind (store.Numbers numbers) = AreNumbers (values_of kind) numbers.wid
 IsStoreOf kind (store.Truths bits) = AreTruths (values_of kind)
 IsStoreOf kind (store.Values values) = AreBytes (values_of kind)
 
--- The values of cells: numbers, bits or bytes one after another, and zero, false or nothing for a null.
+-- The values of cells: numbers, bits or bytes one after another, and zero, false or nothing for a
+-- null.
 abbrev pub Stores : Store → List Cell → Type 0
 Stores (store.Numbers numbers) cells = numbers.values ≡ map number_of cells
 Stores (store.Truths bits) cells = bits ≡ map truth_of cells
@@ -95,7 +99,8 @@ valid_bit cell = not (is_null cell)
 
 -- no number of this width and sign is stored
 abbrev pub StoresNone : ℕ → Bool → Store → Type 0
-StoresNone bits sign (store.Numbers numbers) = (numbers.width ≡ bits) × (numbers.signed ≡ sign) × (numbers.values ≡ [])
+StoresNone bits sign (store.Numbers numbers) = (numbers.width ≡ bits) × (numbers.signed ≡ sign)
+    × (numbers.values ≡ [])
 StoresNone bits sign (store.Truths flags) = ⊥
 StoresNone bits sign (store.Values items) = ⊥
 

@@ -1,5 +1,7 @@
 -- The columns of a block as slots with or without a row.
-use Rattle.std.specs.Prelude.{◌≡◌, ℕ, ◌≤◌, Bool, true, false, List, [], ◌∷◌, Option, None, Some, IsSome, ◌++◌, replicate, map, length, All, slice_index_or, slice_set, if◌then◌else◌}
+use Rattle.std.specs.Prelude.{◌≡◌, ℕ, ◌≤◌, Bool, true, false, List, [], ◌∷◌, Option, None, Some}
+use Rattle.std.specs.Prelude.{IsSome, ◌++◌, replicate, map, length, All, slice_index_or, slice_set}
+use Rattle.std.specs.Prelude.{if◌then◌else◌}
 use Rattle.std.specs.List.{range_with_len, AllZip}
 use Rattle.cell_model.specs.declared.cell.Cell.{Cell}
 use Rattle.cell_model.specs.declared.cell.Cell.TheVariants.{Null}
@@ -11,7 +13,8 @@ use Rattle.block_spec.specs.declared.change.Before.TheVariants as before
 use Rattle.block_spec.specs.Slots.{Row}
 use Rattle.block_columns.specs.Cells.{ColumnValue}
 
--- What the columns take, the row of each slot, if it has one, and how many of the first slots have memory.
+-- What the columns take, the row of each slot, if it has one, and how many of the first slots have
+-- memory.
 pub record ColumnsValue : Type 0 where
   pub columns : List Column
   pub rows : List (Option Row)
@@ -63,7 +66,8 @@ CellFits column cell = cell_fault 0 column cell ≡ None
 abbrev pub IsLonger : ColumnValue → ColumnValue → Type 0
 IsLonger old new = (n : ℕ) × (new ≡ record old { cells = old.cells ++ replicate n Null })
 
--- a cell that serves where a column's is moved out: the same, or any where the column's has bytes of its own
+-- a cell that serves where a column's is moved out: the same, or any where the column's has bytes
+-- of its own
 abbrev pub IsSpare : ℕ → ColumnValue → Cell → Type 0
 IsSpare at c spare = length (value_of (cell_in at c)) ≤ 12 → spare ≡ cell_in at c
 
@@ -77,5 +81,7 @@ WantsRow (before.Part patch) row = IsSome row
 pub record AreColumns (taken : List Bool) (columns : List ColumnValue) (slots : ℕ) : Type 0 where
   pub within : length taken ≤ slots
   pub room : All (λ c. length taken ≤ length c.cells) columns
-  pub fits : (at : ℕ) → slice_index_or taken at false ≡ true → AllZip CellFits (columns_in columns) (cells_at at columns)
-  pub bare : (at : ℕ) → slice_index_or taken at false ≡ false → All (λ cell. cell ≡ Null) (cells_at at columns)
+  pub fits : (at : ℕ) → slice_index_or taken at false ≡ true
+      → AllZip CellFits (columns_in columns) (cells_at at columns)
+  pub bare : (at : ℕ) → slice_index_or taken at false ≡ false
+      → All (λ cell. cell ≡ Null) (cells_at at columns)

@@ -1,10 +1,12 @@
 //! The cells of a column, as Arrow's bytes.
-ghost use Rattle.std.specs.Prelude.{◌≡◌, ◌<◌, ◌≤◌, ◌++◌, [], IfOk, OnOk, OnErr, length, replicate, slice_set, slice_index_or, map, not, take};
+ghost use Rattle.std.specs.Prelude.{◌≡◌, ◌<◌, ◌≤◌, ◌++◌, [], IfOk, OnOk, OnErr, length, replicate};
+ghost use Rattle.std.specs.Prelude.{slice_set, slice_index_or, map, not, take};
 ghost use Rattle.cell_model.specs.declared.cell.Cell.TheVariants as cell;
 ghost use Rattle.cell_model.specs.Values.{is_null};
 ghost use Rattle.std.specs.Int.{Width};
 ghost use Rattle.std.specs.List.{flat_map};
-ghost use Rattle.arrow_spec.specs.Arrays.{boolean, fixed, layout_of, null_count, number_of, truth_of, value_of};
+ghost use Rattle.arrow_spec.specs.Arrays.{boolean, fixed, layout_of, null_count, number_of};
+ghost use Rattle.arrow_spec.specs.Arrays.{truth_of, value_of};
 ghost use Rattle.arrow_spec.specs.Bytes.{bitmap, number_bytes};
 ghost use Rattle.block_spec.specs.Fitting.{unnamed};
 ghost use Rattle.block_columns.specs.Cells.{IsSlotOf};
@@ -60,7 +62,8 @@ impl ColumnCells {
 
     /// Adds `n` nulls at the end. Without memory the cells stay.
     pub fn extend(&mut self, n: usize) -> Result<(), AllocError>
-        ensures ok { OnOk result (self.new ≡ record self.old { cells = self.old.cells ++ replicate n cell.Null }) }
+        ensures ok { OnOk result (self.new
+            ≡ record self.old { cells = self.old.cells ++ replicate n cell.Null }) }
         ensures err { OnErr result (self.new ≡ self.old) }
     {
         let mut valid = self.valid.clone()?;
@@ -84,7 +87,8 @@ impl ColumnCells {
     pub fn write(&mut self, alloc: Global, at: usize, cell: &Cell) -> Result<(), AllocError>
         requires slot { IsSlotOf self.old.column.kind cell.now }
         requires at { at < length self.old.cells }
-        ensures ok { OnOk result (self.new ≡ record self.old { cells = slice_set self.old.cells at cell.now }) }
+        ensures ok { OnOk result (self.new
+            ≡ record self.old { cells = slice_set self.old.cells at cell.now }) }
         ensures err { OnErr result (self.new ≡ self.old) }
     {
         self.store.write(alloc, self.kind, at, cell)?;
@@ -111,10 +115,12 @@ impl ColumnCells {
         self.store.get(alloc, self.kind, at)
     }
 
-    /// A copy of the cell of a slot, or any cell where `take` moves the value out, which takes no memory.
+    /// A copy of the cell of a slot, or any cell where `take` moves the value out, which takes no
+    /// memory.
     pub fn spare(&self, alloc: Global, at: usize) -> Result<Cell, AllocError>
         requires { at < length self.now.cells }
-        ensures { IfOk result (λ spare. length (value_of (slice_index_or self.now.cells at cell.Null)) ≤ 12 →
+        ensures { IfOk result (λ spare. length
+            (value_of (slice_index_or self.now.cells at cell.Null)) ≤ 12 →
             spare ≡ slice_index_or self.now.cells at cell.Null) }
     {
         if self.store.is_long(at) {
@@ -129,7 +135,8 @@ impl ColumnCells {
         requires spare { length (value_of (slice_index_or self.old.cells at cell.Null)) ≤ 12 →
             spare ≡ slice_index_or self.old.cells at cell.Null }
         ensures taken { result ≡ slice_index_or self.old.cells at cell.Null }
-        ensures left { self.new ≡ record self.old { cells = slice_set self.old.cells at cell.Null } }
+        ensures left { self.new ≡ record self.old
+            { cells = slice_set self.old.cells at cell.Null } }
         ensures slot { IsSlotOf self.old.column.kind result }
     {
         self.valid.set(at, false);
@@ -164,8 +171,8 @@ impl ColumnCells {
         self.kind
     }
 
-    /// Appends the bitmap that tells which of the first `n` cells are not null. Without memory `out`
-    /// stays.
+    /// Appends the bitmap that tells which of the first `n` cells are not null. Without memory
+    /// `out` stays.
     pub fn copy_validity(&self, n: usize, out: &mut Vec<u8>) -> Result<(), AllocError>
         requires { n ≤ length self.now.cells }
         ensures ok { OnOk result (out.new.items ≡
@@ -179,7 +186,8 @@ impl ColumnCells {
     pub fn numbers(&self, n: usize) -> &[u8]
         requires { n ≤ length self.now.cells }
         ensures { (width : Width) → layout_of self.now.column.kind ≡ fixed width →
-            result.now ≡ flat_map (λ cell. number_bytes width (number_of cell)) (take n self.now.cells) }
+            result.now ≡ flat_map (λ cell. number_bytes width (number_of cell))
+            (take n self.now.cells) }
     {
         self.store.numbers(n)
     }

@@ -1,5 +1,8 @@
 //! The columns of a block.
-ghost use Rattle.std.specs.Prelude.{◌≡◌, ◌+◌, ◌<◌, ◌≤◌, ◌↔◌, ℕ, None, Some, IfOk, OnOk, OnErr, IsTrue, IsSome, is_some, option_map, count_by, length, replicate, slice_get, slice_index_or, slice_set, take, ◌^◌, if◌then◌else◌};
+ghost use Rattle.std.specs.Prelude.{◌≡◌, ◌+◌, ◌<◌, ◌≤◌, ◌↔◌, ℕ, None, Some, IfOk, OnOk, OnErr};
+ghost use Rattle.std.specs.Prelude.{IsTrue, IsSome, is_some, option_map, count_by, length};
+ghost use Rattle.std.specs.Prelude.{replicate, slice_get, slice_index_or, slice_set, take, ◌^◌};
+ghost use Rattle.std.specs.Prelude.{if◌then◌else◌};
 ghost use Rattle.std.specs.Int.{Width};
 ghost use Rattle.std.specs.List.{flat_map};
 ghost use Rattle.arrow_spec.specs.Arrays.{fixed, layout_of, number_of};
@@ -30,7 +33,7 @@ use steps::Steps;
 pub struct Columns {
     alloc: Global,
     slots: u32,
-    // Which of the slots with memory have a row.
+    /// Which of the slots with memory have a row.
     taken: Bits,
     columns: Vec<ColumnCells>,
 }
@@ -90,7 +93,8 @@ impl Columns {
     pub fn room(&self) -> usize
         ensures room { result ≡ self.now.room }
         ensures within { result ≤ length self.now.rows }
-        ensures held { (slot : ℕ) → IsSome (slice_index_or self.now.rows slot None) → slot < result }
+        ensures held { (slot : ℕ) → IsSome (slice_index_or self.now.rows slot None)
+            → slot < result }
     {
         self.taken.len()
     }
@@ -121,7 +125,8 @@ impl Columns {
         requires room { n ≤ self.now.room }
         ensures { (width : Width) (c : ColumnDecl) → slice_get self.now.columns column ≡ Some c →
             layout_of c.kind ≡ fixed width → result.now ≡
-            flat_map (λ row. number_bytes width (number_of (cell_of column row))) (take n self.now.rows) }
+            flat_map (λ row. number_bytes width (number_of (cell_of column row)))
+            (take n self.now.rows) }
     {
         self.columns[column].numbers(n)
     }
@@ -138,7 +143,8 @@ impl Columns {
     pub fn row<L: Ledger>(&self, slot: u32, steps: &mut Steps<L>) -> Result<Option<Row>, AllocError>
         requires { slot < length self.now.rows }
         ensures row { IfOk result (λ row. row ≡ slice_index_or self.now.rows slot None) }
-        ensures steps { steps.new ≡ steps.old + (if is_some (slice_index_or self.now.rows slot None) then 1 else 0) }
+        ensures steps { steps.new ≡ steps.old
+            + (if is_some (slice_index_or self.now.rows slot None) then 1 else 0) }
     {
         if !self.has_row(slot) {
             return Ok(None);
@@ -148,7 +154,8 @@ impl Columns {
         Ok(Some(Row::from(cells)))
     }
 
-    /// Makes memory for a slot and those before it, at least twice as many as had it. The rows stay.
+    /// Makes memory for a slot and those before it, at least twice as many as had it. The rows
+    /// stay.
     pub fn reserve(&mut self, slot: u32) -> Result<(), AllocError>
         requires { slot < length self.old.rows }
         ensures ok { OnOk result (slot < self.new.room) }
@@ -166,11 +173,13 @@ impl Columns {
         self.taken.extend(room - len)
     }
 
-    /// Puts a copy of a row in a slot, and hands out what stood there. Without memory the rows stay.
+    /// Puts a copy of a row in a slot, and hands out what stood there. Without memory the rows
+    /// stay.
     pub fn put(&mut self, slot: u32, row: &Row) -> Result<Before, AllocError>
         requires slot { slot < length self.old.rows }
         requires fits { Fits self.old.columns row.now }
-        ensures before { IfOk result (λ before. before ≡ image_before (slice_index_or self.old.rows slot None) (change.Put row.now)) }
+        ensures before { IfOk result (λ before. before
+            ≡ image_before (slice_index_or self.old.rows slot None) (change.Put row.now)) }
         ensures fits { IfOk result (BeforeFits self.old.columns) }
         ensures ok { OnOk result (self.new.rows ≡ slice_set self.old.rows slot (Some row.now)) }
         ensures err { OnErr result (self.new.rows ≡ self.old.rows) }
@@ -194,10 +203,12 @@ impl Columns {
     pub fn patch(&mut self, slot: u32, patch: &Patch) -> Result<Before, AllocError>
         requires slot { IsSome (slice_index_or self.old.rows slot None) }
         requires fits { PatchFits self.old.columns patch.now }
-        ensures before { IfOk result (λ before. before ≡ image_before (slice_index_or self.old.rows slot None) (change.Patch patch.now)) }
+        ensures before { IfOk result (λ before. before
+            ≡ image_before (slice_index_or self.old.rows slot None) (change.Patch patch.now)) }
         ensures fits { IfOk result (BeforeFits self.old.columns) }
         ensures ok { OnOk result (self.new.rows ≡
-            slice_set self.old.rows slot (row_after (slice_index_or self.old.rows slot None) (change.Patch patch.now))) }
+            slice_set self.old.rows slot (row_after (slice_index_or self.old.rows slot None)
+            (change.Patch patch.now))) }
         ensures err { OnErr result (self.new.rows ≡ self.old.rows) }
         ensures columns { self.new.columns ≡ self.old.columns }
         ensures room { self.new.room ≡ self.old.room }
@@ -212,10 +223,11 @@ impl Columns {
         Ok(Before::Part(Patch::from(before)))
     }
 
-    /// Takes the row of a slot away and hands it out; none where there is none. Without memory the rows
-    /// stay.
+    /// Takes the row of a slot away and hands it out; none where there is none. Without memory the
+    /// rows stay.
     pub fn clear(&mut self, slot: u32) -> Result<Before, AllocError>
-        ensures before { IfOk result (λ before. before ≡ image_before (slice_index_or self.old.rows slot None) change.Gone) }
+        ensures before { IfOk result (λ before. before
+            ≡ image_before (slice_index_or self.old.rows slot None) change.Gone) }
         ensures fits { IfOk result (BeforeFits self.old.columns) }
         ensures ok { OnOk result (self.new.rows ≡ slice_set self.old.rows slot None) }
         ensures err { OnErr result (self.new.rows ≡ self.old.rows) }
@@ -237,7 +249,8 @@ impl Columns {
         requires slot { slot < self.old.room }
         requires fits { BeforeFits self.old.columns before }
         requires row { WantsRow before (slice_index_or self.old.rows slot None) }
-        ensures rows { self.new.rows ≡ slice_set self.old.rows slot (laid_back (slice_index_or self.old.rows slot None) before) }
+        ensures rows { self.new.rows ≡ slice_set self.old.rows slot
+            (laid_back (slice_index_or self.old.rows slot None) before) }
         ensures columns { self.new.columns ≡ self.old.columns }
         ensures room { self.new.room ≡ self.old.room }
     {
@@ -264,8 +277,8 @@ impl Columns {
         })
     }
 
-    // Writes copies of the cells of a row in a slot that has memory and no row. Without memory the
-    // rows stay.
+    /// Writes copies of the cells of a row in a slot that has memory and no row. Without memory the
+    /// rows stay.
     fn fill(&mut self, slot: u32, cells: &[Cell]) -> Result<(), AllocError>
         requires slot { slot < self.old.room }
         requires none { slice_index_or self.old.rows slot None ≡ None }
@@ -281,7 +294,7 @@ impl Columns {
         Ok(())
     }
 
-    // Leaves a slot without a row.
+    /// Leaves a slot without a row.
     fn erase(&mut self, slot: u32)
         requires { slot < self.old.room }
         ensures rows { self.new.rows ≡ slice_set self.old.rows slot None }
@@ -293,7 +306,7 @@ impl Columns {
         self.taken.set(at, false);
     }
 
-    // Lays a row in a slot.
+    /// Lays a row in a slot.
     fn lay(&mut self, slot: u32, row: Row)
         requires slot { slot < self.old.room }
         requires fits { Fits self.old.columns row }
@@ -307,12 +320,13 @@ impl Columns {
         self.taken.set(at, true);
     }
 
-    // Lays attributes in the row of a slot.
+    /// Lays attributes in the row of a slot.
     fn lay_part(&mut self, slot: u32, patch: Patch)
         requires slot { IsSome (slice_index_or self.old.rows slot None) }
         requires fits { PatchFits self.old.columns patch }
         ensures rows { self.new.rows ≡
-            slice_set self.old.rows slot (option_map (λ cells. patched cells patch) (slice_index_or self.old.rows slot None)) }
+            slice_set self.old.rows slot (option_map (λ cells. patched cells patch)
+            (slice_index_or self.old.rows slot None)) }
         ensures columns { self.new.columns ≡ self.old.columns }
         ensures room { self.new.room ≡ self.old.room }
     {
@@ -322,7 +336,7 @@ impl Columns {
     }
 }
 
-// How many slots have memory next: twice as many, up to all, and as many as the place needs.
+/// How many slots have memory next: twice as many, up to all, and as many as the place needs.
 fn larger(len: usize, at: usize, slots: usize) -> usize
     requires place { at < slots }
     requires within { len ≤ slots }

@@ -1,5 +1,6 @@
 //! The columns of a frozen block with their Arrow buffers.
-ghost use Rattle.std.specs.Prelude.{◌≡◌, ◌<◌, ◌≤◌, ◌^◌, length, map, option_copied, slice_get, take};
+ghost use Rattle.std.specs.Prelude.{◌≡◌, ◌<◌, ◌≤◌, ◌^◌, length, map, option_copied, slice_get};
+ghost use Rattle.std.specs.Prelude.{take};
 ghost use Rattle.arrow_spec.specs.Arrays.{null_count};
 ghost use Rattle.block_columns.specs.Columns.{cell_of};
 
@@ -28,7 +29,8 @@ impl Model for Image {
       buffers = i.buffers.items;
     } };
 
-    ghost invariant = { λ i. (i.rows ≤ i.columns.room) × (length i.buffers.items ≡ length i.columns.columns) };
+    ghost invariant = { λ i. (i.rows ≤ i.columns.room)
+        × (length i.buffers.items ≡ length i.columns.columns) };
 }
 
 impl Image {
@@ -68,7 +70,8 @@ impl Image {
     /// How many of the rows that the buffers are of have a null in a column.
     pub fn nulls(&self, column: usize) -> usize
         requires { column < length self.now.columns }
-        ensures count { result ≡ null_count (map (cell_of column) (take self.now.rows self.now.slots)) }
+        ensures count { result ≡ null_count
+            (map (cell_of column) (take self.now.rows self.now.slots)) }
         ensures few { result < 2 ^ 32 }
     {
         // The slots with memory are some of all slots.

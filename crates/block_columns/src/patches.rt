@@ -6,7 +6,8 @@ ghost use Rattle.cell_model.specs.declared.cell.Cell.TheVariants as cell;
 ghost use Rattle.block_spec.specs.Fitting.{PatchFits};
 ghost use Rattle.block_spec.specs.Slots.{patched, columns_before};
 ghost use Rattle.block_columns.specs.Cells.{IsSlotOf};
-ghost use Rattle.block_columns.specs.Columns.{CellFits, cell_in, cells_at, columns_in, with_cell, with_row};
+ghost use Rattle.block_columns.specs.Columns.{CellFits, cell_in, cells_at, columns_in, with_cell};
+ghost use Rattle.block_columns.specs.Columns.{with_row};
 
 use crate::cells::ColumnCells;
 use block_spec::Assignment;
@@ -14,8 +15,8 @@ use cell_model::Cell;
 use std::alloc::{AllocError, Global};
 use std::mem;
 
-// Puts a copy of a cell in a slot, and hands out the cell that stood there. Without memory nothing
-// changes.
+/// Puts a copy of a cell in a slot, and hands out the cell that stood there. Without memory nothing
+/// changes.
 fn exchange(
     alloc: Global,
     column: &mut ColumnCells,
@@ -39,8 +40,8 @@ fn exchange(
     }
 }
 
-// Puts copies of the cells of a patch, and hands out what stood in their columns. Without memory
-// nothing changes.
+/// Puts copies of the cells of a patch, and hands out what stood in their columns. Without memory
+/// nothing changes.
 pub fn exchange_patch(
     alloc: Global,
     columns: &mut [ColumnCells],
@@ -50,8 +51,10 @@ pub fn exchange_patch(
     requires fits { PatchFits (columns_in columns.old) patch.now }
     requires slot { AllZip CellFits (columns_in columns.old) (cells_at at columns.old) }
     requires at { All (λ c. at < length c.cells) columns.old }
-    ensures before { IfOk result (λ before. before.items ≡ columns_before (cells_at at columns.old) patch.now) }
-    ensures ok { OnOk result (columns.new ≡ with_row at columns.old (patched (cells_at at columns.old) patch.now)) }
+    ensures before { IfOk result (λ before. before.items
+        ≡ columns_before (cells_at at columns.old) patch.now) }
+    ensures ok { OnOk result (columns.new
+        ≡ with_row at columns.old (patched (cells_at at columns.old) patch.now)) }
     ensures err { OnErr result (columns.new ≡ columns.old) }
 {
     let mut before = Vec::with_capacity(alloc, patch.len())?;
@@ -72,7 +75,7 @@ pub fn exchange_patch(
     Ok(before)
 }
 
-// Lays the cells of a patch in a slot, moved out of the list.
+/// Lays the cells of a patch in a slot, moved out of the list.
 pub fn lay_patch(columns: &mut [ColumnCells], at: usize, patch: &mut [Assignment])
     requires fits { PatchFits (columns_in columns.old) patch.old }
     requires at { All (λ c. at < length c.cells) columns.old }

@@ -2,14 +2,15 @@
 ghost use Rattle.std.specs.Prelude.{◌≡◌, ◌<◌, ◌≤◌, All, IfOk, OnOk, OnErr, length};
 ghost use Rattle.std.specs.List.{AllZip};
 ghost use Rattle.cell_model.specs.declared.cell.Cell.TheVariants as cell;
-ghost use Rattle.block_columns.specs.Columns.{CellFits, IsLonger, IsSpare, cells_at, columns_in, with_row, wiped};
+ghost use Rattle.block_columns.specs.Columns.{CellFits, IsLonger, IsSpare, cells_at, columns_in};
+ghost use Rattle.block_columns.specs.Columns.{with_row, wiped};
 
 use crate::cells::ColumnCells;
 use cell_model::Cell;
 use std::alloc::{AllocError, Global};
 use std::mem;
 
-// Writes copies of the cells in a slot. Without memory some are written.
+/// Writes copies of the cells in a slot. Without memory some are written.
 fn write_row(
     alloc: Global,
     columns: &mut [ColumnCells],
@@ -29,7 +30,7 @@ fn write_row(
     Ok(())
 }
 
-// Writes copies of the cells in a slot of nulls. Without memory nothing changes.
+/// Writes copies of the cells in a slot of nulls. Without memory nothing changes.
 pub fn fill_row(
     alloc: Global,
     columns: &mut [ColumnCells],
@@ -51,7 +52,7 @@ pub fn fill_row(
     }
 }
 
-// Lays the cells in a slot, moved out of the list.
+/// Lays the cells in a slot, moved out of the list.
 pub fn lay_row(columns: &mut [ColumnCells], at: usize, cells: &mut [Cell])
     requires fits { AllZip CellFits (columns_in columns.old) cells.old }
     requires at { All (λ c. at < length c.cells) columns.old }
@@ -64,7 +65,7 @@ pub fn lay_row(columns: &mut [ColumnCells], at: usize, cells: &mut [Cell])
     }
 }
 
-// Leaves nulls in a slot.
+/// Leaves nulls in a slot.
 pub fn wipe(columns: &mut [ColumnCells], at: usize)
     requires { All (λ c. at < length c.cells) columns.old }
     ensures { columns.new ≡ wiped at columns.old }
@@ -74,7 +75,7 @@ pub fn wipe(columns: &mut [ColumnCells], at: usize)
     }
 }
 
-// Copies of the cells of a slot.
+/// Copies of the cells of a slot.
 pub fn read_row(alloc: Global, columns: &[ColumnCells], at: usize) -> Result<Vec<Cell>, AllocError>
     requires { All (λ c. at < length c.cells) columns.now }
     ensures { IfOk result (λ cells. cells.items ≡ cells_at at columns.now) }
@@ -86,7 +87,7 @@ pub fn read_row(alloc: Global, columns: &[ColumnCells], at: usize) -> Result<Vec
     Ok(cells)
 }
 
-// The cells of a slot that are moved out without memory, and any cells for the others.
+/// The cells of a slot that are moved out without memory, and any cells for the others.
 fn spare_row(alloc: Global, columns: &[ColumnCells], at: usize) -> Result<Vec<Cell>, AllocError>
     requires { All (λ c. at < length c.cells) columns.now }
     ensures { IfOk result (λ cells. AllZip (IsSpare at) columns.now cells.items) }
@@ -98,7 +99,7 @@ fn spare_row(alloc: Global, columns: &[ColumnCells], at: usize) -> Result<Vec<Ce
     Ok(cells)
 }
 
-// Moves the cells of a slot out and leaves nulls. Without memory nothing changes.
+/// Moves the cells of a slot out and leaves nulls. Without memory nothing changes.
 pub fn take_row(
     alloc: Global,
     columns: &mut [ColumnCells],
@@ -114,7 +115,7 @@ pub fn take_row(
     Ok(cells)
 }
 
-// Moves the cells of a slot out into spare ones and leaves nulls.
+/// Moves the cells of a slot out into spare ones and leaves nulls.
 fn move_row(columns: &mut [ColumnCells], at: usize, cells: &mut [Cell])
     requires at { All (λ c. at < length c.cells) columns.old }
     requires spare { AllZip (IsSpare at) columns.old cells.old }
@@ -128,7 +129,7 @@ fn move_row(columns: &mut [ColumnCells], at: usize, cells: &mut [Cell])
     }
 }
 
-// Lengthens each column to so many cells at least, with nulls. Without memory some are lengthened.
+/// Lengthens each column to so many cells at least, with nulls. Without memory some are lengthened.
 pub fn lengthen(columns: &mut [ColumnCells], to: usize) -> Result<(), AllocError>
     ensures longer { AllZip IsLonger columns.old columns.new }
     ensures ok { OnOk result (All (λ c. to ≤ length c.cells) columns.new) }
@@ -139,7 +140,7 @@ pub fn lengthen(columns: &mut [ColumnCells], to: usize) -> Result<(), AllocError
     Ok(())
 }
 
-// Lengthens a column to so many cells at least, with nulls. Without memory it stays.
+/// Lengthens a column to so many cells at least, with nulls. Without memory it stays.
 fn lengthen_column(column: &mut ColumnCells, to: usize) -> Result<(), AllocError>
     ensures longer { IsLonger column.old column.new }
     ensures ok { OnOk result (to ≤ length column.new.cells) }

@@ -1,5 +1,7 @@
 //! What a column stores for each cell.
-ghost use Rattle.std.specs.Prelude.{◌≡◌, ◌<◌, ◌≤◌, ◌++◌, [], IfOk, OnOk, OnErr, IfNone, IfSome, List, length, map, take, replicate, slice_set, slice_index_or, IsTrue, ◌↔◌, ◌^◌, true, false, Bool};
+ghost use Rattle.std.specs.Prelude.{◌≡◌, ◌<◌, ◌≤◌, ◌++◌, [], IfOk, OnOk, OnErr, IfNone, IfSome};
+ghost use Rattle.std.specs.Prelude.{List, length, map, take, replicate, slice_set, slice_index_or};
+ghost use Rattle.std.specs.Prelude.{IsTrue, ◌↔◌, ◌^◌, true, false, Bool};
 ghost use Rattle.cell_model.specs.declared.cell.Cell.TheVariants as cell;
 ghost use Rattle.cell_model.specs.declared.cell.Cell.{Cell as CellValue};
 ghost use Rattle.cell_model.specs.declared.kind.Kind.{Kind as KindValue};
@@ -8,7 +10,8 @@ ghost use Rattle.std.specs.Int.{Width};
 ghost use Rattle.std.specs.List.{flat_map};
 ghost use Rattle.arrow_spec.specs.Arrays.{boolean, fixed, layout_of, number_of, truth_of, value_of};
 ghost use Rattle.arrow_spec.specs.Bytes.{bitmap, number_bytes};
-ghost use Rattle.block_columns.specs.Cells.{IsSlotOf, IsStoreOf, Stores, StoresNone, bytes_at, bytes_in, full_cells, stored_length};
+ghost use Rattle.block_columns.specs.Cells.{IsSlotOf, IsStoreOf, Stores, StoresNone, bytes_at};
+ghost use Rattle.block_columns.specs.Cells.{bytes_in, full_cells, stored_length};
 ghost use Rattle.cell_model.specs.Kinds.{values_of};
 
 use crate::value::Value;
@@ -17,7 +20,7 @@ use flat_column::{Bits, Fixed};
 use std::alloc::{AllocError, Global};
 use std::mem;
 
-// A value for each cell; that of a null is zero, false or no bytes.
+/// A value for each cell; that of a null is zero, false or no bytes.
 #[derive(Drop)]
 pub enum Store {
     Numbers(Fixed),
@@ -26,7 +29,7 @@ pub enum Store {
 }
 
 impl Store {
-    // No value of the kind, which takes no memory.
+    /// No value of the kind, which takes no memory.
     pub fn new(alloc: Global, kind: Kind) -> Result<Store, AllocError>
         ensures known { IfOk result (λ store. IsStoreOf kind store) }
         ensures empty { IfOk result (λ store. Stores store []) }
@@ -45,7 +48,7 @@ impl Store {
         }
     }
 
-    // Values of `n` more nulls. Without memory nothing changes.
+    /// Values of `n` more nulls. Without memory nothing changes.
     pub fn extend(&mut self, n: usize) -> Result<(), AllocError>
         ensures known { (kind : KindValue) → IsStoreOf kind self.old → IsStoreOf kind self.new }
         ensures ok { OnOk result ((cells : List CellValue) → Stores self.old cells →
@@ -60,7 +63,7 @@ impl Store {
         }
     }
 
-    // Puts the value of a cell, which takes no memory.
+    /// Puts the value of a cell, which takes no memory.
     pub fn lay(&mut self, kind: Kind, at: usize, value: Cell)
         requires known { IsStoreOf kind self.old }
         requires slot { IsSlotOf kind value }
@@ -76,7 +79,7 @@ impl Store {
         }
     }
 
-    // Puts a copy of the value of a cell. Without memory nothing changes.
+    /// Puts a copy of the value of a cell. Without memory nothing changes.
     pub fn write(
         &mut self,
         alloc: Global,
@@ -101,7 +104,7 @@ impl Store {
         Ok(())
     }
 
-    // Puts the value of a null, and moves the value out that has bytes of its own.
+    /// Puts the value of a null, and moves the value out that has bytes of its own.
     pub fn clear(&mut self, at: usize) -> Option<Bytes>
         requires at { at < stored_length self.old }
         ensures known { (kind : KindValue) → IsStoreOf kind self.old → IsStoreOf kind self.new }
@@ -124,10 +127,11 @@ impl Store {
         }
     }
 
-    // A copy of the value as a cell that is not null.
+    /// A copy of the value as a cell that is not null.
     pub fn get(&self, alloc: Global, kind: Kind, at: usize) -> Result<Cell, AllocError>
         requires { at < stored_length self.now }
-        ensures { IfOk result (λ found. found ≡ slice_index_or (full_cells kind self.now) at cell.Null) }
+        ensures { IfOk result (λ found. found
+            ≡ slice_index_or (full_cells kind self.now) at cell.Null) }
     {
         match self {
             Store::Numbers(numbers) => Ok(Cell::Num(numbers.get(at))),
@@ -139,10 +143,12 @@ impl Store {
         }
     }
 
-    // The same values again.
+    /// The same values again.
     pub fn copy(&self, alloc: Global) -> Result<Store, AllocError>
-        ensures known { (kind : KindValue) → IsStoreOf kind self.now → IfOk result (IsStoreOf kind) }
-        ensures same { (cells : List CellValue) → Stores self.now cells → IfOk result (λ store. Stores store cells) }
+        ensures known { (kind : KindValue) → IsStoreOf kind self.now
+            → IfOk result (IsStoreOf kind) }
+        ensures same { (cells : List CellValue) → Stores self.now cells
+            → IfOk result (λ store. Stores store cells) }
     {
         match self {
             Store::Numbers(numbers) => Ok(Store::Numbers(numbers.clone()?)),
@@ -151,10 +157,11 @@ impl Store {
         }
     }
 
-    // The Arrow bytes of the first `n` numbers, lent; none where other values are stored.
+    /// The Arrow bytes of the first `n` numbers, lent; none where other values are stored.
     pub fn numbers(&self, n: usize) -> &[u8]
         requires { n ≤ stored_length self.now }
-        ensures { (kind : KindValue) (width : Width) (cells : List CellValue) → IsStoreOf kind self.now →
+        ensures { (kind : KindValue) (width : Width) (cells : List CellValue)
+            → IsStoreOf kind self.now →
             Stores self.now cells → layout_of kind ≡ fixed width →
             result.now ≡ flat_map (λ cell. number_bytes width (number_of cell)) (take n cells) }
     {
@@ -164,10 +171,11 @@ impl Store {
         }
     }
 
-    // Appends the bitmap of the first `n` truth values; nothing where other values are stored.
+    /// Appends the bitmap of the first `n` truth values; nothing where other values are stored.
     pub fn copy_truths(&self, n: usize, out: &mut Vec<u8>) -> Result<(), AllocError>
         requires { n ≤ stored_length self.now }
-        ensures { OnOk result ((kind : KindValue) (cells : List CellValue) → IsStoreOf kind self.now →
+        ensures { OnOk result ((kind : KindValue) (cells : List CellValue) → IsStoreOf kind self.now
+            →
             Stores self.now cells → layout_of kind ≡ boolean →
             out.new.items ≡ out.old.items ++ bitmap (map truth_of (take n cells))) }
     {
@@ -177,7 +185,7 @@ impl Store {
         }
     }
 
-    // The bytes of a value, lent; none where numbers or truth values are stored.
+    /// The bytes of a value, lent; none where numbers or truth values are stored.
     pub fn bytes(&self, at: usize) -> &[u8]
         requires { at < stored_length self.now }
         ensures { result.now ≡ bytes_at self.now at }
@@ -188,7 +196,7 @@ impl Store {
         }
     }
 
-    // Whether the value is one of more than 12 bytes.
+    /// Whether the value is one of more than 12 bytes.
     pub fn is_long(&self, at: usize) -> bool
         requires { at < stored_length self.now }
         ensures { IsTrue result ↔ (12 < length (bytes_at self.now at)) }
@@ -200,7 +208,7 @@ impl Store {
     }
 }
 
-// Bytes as a cell of a kind.
+/// Bytes as a cell of a kind.
 fn cell_of_bytes(kind: Kind, bytes: Bytes) -> Cell
     ensures { result ≡ bytes_in (values_of kind) bytes }
 {
@@ -210,7 +218,7 @@ fn cell_of_bytes(kind: Kind, bytes: Bytes) -> Cell
     }
 }
 
-// The bytes that were moved out as a cell of a kind, or the spare cell where there are none.
+/// The bytes that were moved out as a cell of a kind, or the spare cell where there are none.
 pub fn moved_cell(kind: Kind, moved: Option<Bytes>, spare: Cell) -> Cell
     ensures some { IfSome moved (λ bytes. result ≡ bytes_in (values_of kind) bytes) }
     ensures none { IfNone moved (result ≡ spare) }
@@ -221,7 +229,7 @@ pub fn moved_cell(kind: Kind, moved: Option<Bytes>, spare: Cell) -> Cell
     }
 }
 
-// The cells of a column of numbers that has no slot yet.
+/// The cells of a column of numbers that has no slot yet.
 fn numbers(alloc: Global, width: u32, signed: bool) -> Result<Store, AllocError>
     requires { IsWidth width }
     ensures { IfOk result (λ store. StoresNone width signed store) }
@@ -229,7 +237,7 @@ fn numbers(alloc: Global, width: u32, signed: bool) -> Result<Store, AllocError>
     Ok(Store::Numbers(Fixed::new(alloc, width, signed, 0)?))
 }
 
-// Copies of values of any length.
+/// Copies of values of any length.
 fn copied_values(alloc: Global, values: &[Value]) -> Result<Vec<Value>, AllocError>
     ensures { IfOk result (λ copies. copies.items ≡ values.now) }
 {
@@ -240,7 +248,7 @@ fn copied_values(alloc: Global, values: &[Value]) -> Result<Vec<Value>, AllocErr
     Ok(copies)
 }
 
-// Adds so many empty values. Without memory none is added.
+/// Adds so many empty values. Without memory none is added.
 fn add_empty(values: &mut Vec<Value>, n: usize) -> Result<(), AllocError>
     ensures ok { OnOk result (values.new.items ≡ values.old.items ++ replicate n []) }
     ensures err { OnErr result (values.new.items ≡ values.old.items) }
@@ -252,7 +260,7 @@ fn add_empty(values: &mut Vec<Value>, n: usize) -> Result<(), AllocError>
     Ok(())
 }
 
-// The number of a cell, 0 of a null.
+/// The number of a cell, 0 of a null.
 fn number_of(cell: &Cell) -> i128
     ensures { result ≡ number_of cell.now }
 {
@@ -262,7 +270,7 @@ fn number_of(cell: &Cell) -> i128
     }
 }
 
-// The truth value of a cell, false of a null.
+/// The truth value of a cell, false of a null.
 fn truth_of(cell: &Cell) -> bool
     ensures { result ≡ truth_of cell.now }
 {
@@ -272,7 +280,7 @@ fn truth_of(cell: &Cell) -> bool
     }
 }
 
-// The bytes of a cell, none of a null.
+/// The bytes of a cell, none of a null.
 fn value_of(cell: &Cell) -> &[u8]
     ensures { result.now ≡ value_of cell.now }
 {
@@ -282,7 +290,7 @@ fn value_of(cell: &Cell) -> &[u8]
     }
 }
 
-// The bytes of a cell, moved.
+/// The bytes of a cell, moved.
 fn owned_value(cell: Cell) -> Value
     requires { length (value_of cell) < 2 ^ 32 }
     ensures { result ≡ value_of cell }

@@ -12,7 +12,7 @@ use std::sync::ledger::{Blank, Ledger};
 use std::test::Fail;
 use steps::Steps;
 
-// The columns `key:i64 n:i16? q:bool? t:utf8?`.
+/// The columns `key:i64 n:i16? q:bool? t:utf8?`.
 fn schema(alloc: Global) -> Result<Schema, Fail> {
     let mut columns = Vec::new(alloc);
     for (name, kind, nullable) in [
@@ -38,7 +38,7 @@ fn text(alloc: Global, text: &str) -> Result<Cell, Fail> {
     Ok(Cell::Text(Bytes::from_slice(alloc, text.as_bytes())?))
 }
 
-// The row of a slot after it was put, taken away, laid back and patched, and its image's columns.
+/// The row of a slot after it was put, taken away, laid back and patched, and its image's columns.
 fn through_a_slot<L: Ledger>(
     alloc: Global,
     schema: &Schema,

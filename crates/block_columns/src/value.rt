@@ -1,5 +1,6 @@
 //! A value of any length: a short one stands in its entry, a longer one in bytes of its own.
-ghost use Rattle.std.specs.Prelude.{◌≡◌, ◌<◌, ◌≤◌, ◌^◌, ◌↔◌, [], IfOk, IsTrue, IfNone, IfSome, OnSome, length};
+ghost use Rattle.std.specs.Prelude.{◌≡◌, ◌<◌, ◌≤◌, ◌^◌, ◌↔◌, [], IfOk, IsTrue, IfNone, IfSome};
+ghost use Rattle.std.specs.Prelude.{OnSome, length};
 
 use cell_model::Bytes;
 use std::alloc::{AllocError, Global};
@@ -14,9 +15,9 @@ pub struct Value {
 
 #[derive(Drop)]
 enum Stored {
-    // In the entry.
+    /// In the entry.
     Inline(Entry),
-    // In bytes that the column owns.
+    /// In bytes that the column owns.
     Owned(Bytes),
 }
 

@@ -6,7 +6,8 @@ ghost use Rattle.block_layout.specs.Place.{place_of, block_of, slot_of};
 
 use std::marker::Model;
 
-/// The places that one block takes: a block has 2^20 bytes, and a slot of it has its number for a place.
+/// The places that one block takes: a block has 2^20 bytes, and a slot of it has its number for a
+/// place.
 const PLACES_PER_BLOCK: u64 = 1 << 20;
 
 /// A tuple's place, `block * 2^20 + slot`. Places are ordered by block, and within a block by slot.

@@ -1,5 +1,7 @@
 -- A block's body: its slots, its phase, and what the observe rounds know of it.
-use Rattle.std.specs.Prelude.{ℕ, ◌+◌, ◌-◌, ◌^◌, min, Bool, true, false, not, ◌&&◌, ◌||◌, ◌==◌, List, [], ◌∷◌, Option, None, Some, is_some, is_none, map, replicate, sum_by, count_by, slice_index_or, slice_set, if◌then◌else◌}
+use Rattle.std.specs.Prelude.{ℕ, ◌+◌, ◌-◌, ◌^◌, min, Bool, true, false, not, ◌&&◌, ◌||◌, ◌==◌, List}
+use Rattle.std.specs.Prelude.{[], ◌∷◌, Option, None, Some, is_some, is_none, map, replicate, sum_by}
+use Rattle.std.specs.Prelude.{count_by, slice_index_or, slice_set, if◌then◌else◌}
 use Rattle.std.specs.List.{list_any, list_all, filter_map}
 use Rattle.cell_model.specs.declared.column.Column.{Column}
 use Rattle.undo_chain.specs.Entry.{is_stamped_by}
@@ -8,7 +10,8 @@ use Rattle.block_spec.specs.declared.phase.Phase.TheVariants.{Loose, Sealed, Ima
 use Rattle.block_spec.specs.declared.phase.SealFault.{SealFault}
 use Rattle.block_spec.specs.declared.phase.SealFault.TheVariants as fault
 use Rattle.block_spec.specs.Fitting.{columns_of}
-use Rattle.block_spec.specs.Slots.{Slot, Row, bare, is_bare, has_none, writer_of, committed, rolled_back, pruned, taken_back}
+use Rattle.block_spec.specs.Slots.{Slot, Row, bare, is_bare, has_none, writer_of, committed}
+use Rattle.block_spec.specs.Slots.{rolled_back, pruned, taken_back}
 
 pub record Body : Type 0 where
   -- what its columns take
@@ -68,7 +71,8 @@ is_quiet body = list_all (λ slot. has_none slot.entries) body.slots
 -- the slots with rows stand before those without
 abbrev pub is_front : List Slot → Bool
 is_front [] = true
-is_front (slot ∷ slots) = if is_some slot.row then is_front slots else list_all (λ slot. is_none slot.row) slots
+is_front (slot ∷ slots) = if is_some slot.row then is_front slots
+    else list_all (λ slot. is_none slot.row) slots
 
 -- its rows are a non-empty front of its slots
 abbrev pub is_dense : Body → Bool
@@ -80,11 +84,13 @@ modified body = record body { cooling = false; rounds = 0 }
 
 -- a slot is changed, which modifies the body
 abbrev pub with_slot : ℕ → (Slot → Slot) → Body → Body
-with_slot j change body = record (modified body) { slots = slice_set body.slots j (change (slot_in body j)) }
+with_slot j change body = record (modified body)
+    { slots = slice_set body.slots j (change (slot_in body j)) }
 
 -- A commit of a session changes its entries in every slot, and is no modification.
 abbrev pub committed_in : ℕ → ℕ → ℕ → Body → Body
-committed_in session stamp number body = record body { slots = map (committed session stamp number) body.slots }
+committed_in session stamp number body = record body
+    { slots = map (committed session stamp number) body.slots }
 
 abbrev pub is_writer : ℕ → Option ℕ → Bool
 is_writer session None = false
@@ -92,12 +98,14 @@ is_writer session (Some writer) = writer == session
 
 -- some slot has an uncommitted entry of the session
 abbrev pub is_written_by : ℕ → Body → Bool
-is_written_by session body = list_any (λ slot. is_writer session (writer_of slot.entries)) body.slots
+is_written_by session body = list_any (λ slot. is_writer session (writer_of slot.entries))
+    body.slots
 
 -- A roll-back of a session modifies the bodies that it wrote, and no other.
 abbrev pub rolled_back_in : ℕ → Body → Body
 rolled_back_in session body =
-    if is_written_by session body then record (modified body) { slots = map (rolled_back session) body.slots } else body
+    if is_written_by session body
+    then record (modified body) { slots = map (rolled_back session) body.slots } else body
 
 -- A pruning drops entries in every slot, and is no modification.
 abbrev pub pruned_in : ℕ → Body → Body
@@ -105,18 +113,24 @@ pruned_in oldest body = record body { slots = map (pruned oldest) body.slots }
 
 -- how many entries a pruning drops
 abbrev pub dropped_from : ℕ → Body → ℕ
-dropped_from oldest body = sum_by (λ slot. count_by (λ undo. is_stamped_by undo oldest) slot.entries) body.slots
+dropped_from oldest body = sum_by
+    (λ slot. count_by (λ undo. is_stamped_by undo oldest) slot.entries) body.slots
 
 -- One half of a move is taken back, after which the block is cooling with two rounds again.
 abbrev pub taken_back_in : ℕ → Body → Body
 taken_back_in j body = record (with_slot j taken_back body) { cooling = true; rounds = 2 }
 
--- One more observe round: a loose, hot body with a row that is not the head turns cooling in a round after which it counts 2.
+-- One more observe round: a loose, hot body with a row that is not the head turns cooling in a
+-- round after which it counts 2.
 abbrev pub turns : Bool → Body → Bool
-turns head body = is_loose body.phase && not body.cooling && not head && has_row body && (min (body.rounds + 1) 2 == 2)
+turns head body = is_loose body.phase && not body.cooling && not head && has_row body
+    && (min (body.rounds + 1) 2 == 2)
 
 abbrev pub observed : Bool → Body → Body
-observed head body = record body { rounds = min (body.rounds + 1) 2; cooling = body.cooling || turns head body }
+observed head body = record body {
+  rounds = min (body.rounds + 1) 2;
+  cooling = body.cooling || turns head body;
+}
 
 -- the last stamp of a block
 abbrev pub last_stamp : ℕ

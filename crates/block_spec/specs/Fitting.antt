@@ -1,4 +1,5 @@
--- What a body's columns take. A body knows of a column what its cells have to keep, and not its name.
+-- What a body's columns take. A body knows of a column what its cells have to keep, and not its
+-- name.
 use Rattle.std.specs.Prelude.{◌≡◌, ◌≢◌, List, [], None, map, All, AllPairs, IsSomeAnd, slice_get}
 use Rattle.cell_model.specs.Rows.{Fits, cell_fault}
 use Rattle.cell_model.specs.declared.column.Column.{Column}
@@ -19,7 +20,8 @@ columns_of schema = map unnamed schema
 -- the assignment is of a column that there is, and its cell keeps the column's rules
 abbrev pub AssignmentFits : List Column → Assignment → Type 0
 AssignmentFits columns assignment =
-    IsSomeAnd (slice_get columns assignment.column) (λ column. cell_fault assignment.column column assignment.cell ≡ None)
+    IsSomeAnd (slice_get columns assignment.column)
+    (λ column. cell_fault assignment.column column assignment.cell ≡ None)
 
 -- Each assignment of a patch fits the columns, and no two are of one column.
 pub record PatchFits (columns : List Column) (patch : List Assignment) : Type 0 where

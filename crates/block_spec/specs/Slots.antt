@@ -1,5 +1,7 @@
 -- One slot: its current row, and the undo entries of its changes, newest first.
-use Rattle.std.specs.Prelude.{ℕ, Bool, true, false, not, ◌&&◌, List, [], ◌∷◌, Option, None, Some, option_map, map, filter, fold, is_none, slice_index_or, slice_set, if◌then◌else◌}
+use Rattle.std.specs.Prelude.{ℕ, Bool, true, false, not, ◌&&◌, List, [], ◌∷◌, Option, None, Some}
+use Rattle.std.specs.Prelude.{option_map, map, filter, fold, is_none, slice_index_or, slice_set}
+use Rattle.std.specs.Prelude.{if◌then◌else◌}
 use Rattle.cell_model.specs.declared.cell.Cell.{Cell}
 use Rattle.cell_model.specs.declared.cell.Cell.TheVariants.{Null}
 use Rattle.undo_chain.specs.declared.undo.Undo.{Undo}
@@ -43,7 +45,8 @@ writer_of (e ∷ es) = if is_none e.stamp then Some e.session else None
 
 -- a row with the cells of a patch in their columns
 abbrev pub patched : Row → Patch → Row
-patched row patch = fold (λ cells assignment. slice_set cells assignment.column assignment.cell) row patch
+patched row patch = fold (λ cells assignment. slice_set cells assignment.column assignment.cell) row
+    patch
 
 -- a before-image laid back on a row
 abbrev pub laid_back : Option Row → Before → Option Row
@@ -87,35 +90,58 @@ kind_of change.Gone = kind.Gone
 abbrev pub written : ℕ → Change → Slot → Slot
 written session new slot = record {
   row = row_after slot.row new;
-  entries = record { session = session; stamp = None; number = 0; kind = kind_of new; before = image_before slot.row new } ∷ slot.entries;
+  entries = record {
+    session = session;
+    stamp = None;
+    number = 0;
+    kind = kind_of new;
+    before = image_before slot.row new;
+  } ∷ slot.entries;
 }
 
 -- A commit: the session's entries have its stamp and number.
 abbrev pub committed : ℕ → ℕ → ℕ → Slot → Slot
-committed session stamp number slot = record slot { entries = map (stamped session stamp number) slot.entries }
+committed session stamp number slot = record slot
+    { entries = map (stamped session stamp number) slot.entries }
 
--- A roll-back: the before-images of the session's entries are laid back, newest first, and the entries are gone.
+-- A roll-back: the before-images of the session's entries are laid back, newest first, and the
+-- entries are gone.
 abbrev pub rolled_back : ℕ → Slot → Slot
 rolled_back session slot = record {
-  row = fold laid_back slot.row (map (λ undo. undo.before) (filter (λ undo. is_own undo session) slot.entries));
+  row = fold laid_back slot.row
+      (map (λ undo. undo.before) (filter (λ undo. is_own undo session) slot.entries));
   entries = filter (λ undo. not (is_own undo session)) slot.entries;
 }
 
 -- A pruning: the entries with a stamp at most `oldest` are gone.
 abbrev pub pruned : ℕ → Slot → Slot
-pruned oldest slot = record slot { entries = filter (λ undo. not (is_stamped_by undo oldest)) slot.entries }
+pruned oldest slot = record slot
+    { entries = filter (λ undo. not (is_stamped_by undo oldest)) slot.entries }
 
--- The two halves of a move: the row leaves one slot for another, and each has an entry with the move's stamp.
+-- The two halves of a move: the row leaves one slot for another, and each has an entry with the
+-- move's stamp.
 abbrev pub moved_out : ℕ → Row → Slot → Slot
 moved_out stamp row slot = record {
   row = None;
-  entries = record { session = 0; stamp = Some stamp; number = 0; kind = kind.MoveOut; before = before.Whole row } ∷ slot.entries;
+  entries = record {
+    session = 0;
+    stamp = Some stamp;
+    number = 0;
+    kind = kind.MoveOut;
+    before = before.Whole row;
+  } ∷ slot.entries;
 }
 
 abbrev pub moved_in : ℕ → Row → Slot → Slot
 moved_in stamp row slot = record {
   row = Some row;
-  entries = record { session = 0; stamp = Some stamp; number = 0; kind = kind.MoveIn; before = before.Empty } ∷ slot.entries;
+  entries = record {
+    session = 0;
+    stamp = Some stamp;
+    number = 0;
+    kind = kind.MoveIn;
+    before = before.Empty;
+  } ∷ slot.entries;
 }
 
 abbrev pub taken_from : Option Row → List (Undo Before) → Slot

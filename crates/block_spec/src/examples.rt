@@ -1,12 +1,17 @@
 //! Worked examples of slots and bodies: each is a fact that the definitions compute.
-ghost use Rattle.block_spec.specs.Examples.{OwnWritesAreSeen, WritesKeepWhatUndoesThem, RollBackLeavesNothing, CommitsShowFromTheirStamp, MovesShowOnce, TheSecondRoundCools, WritesModify, MovesAreTakenBack, PruningCounts, SealsAreJudged, FreezesHaveStamps, BodiesAreTold, LooksFindRowsAndGaps};
+ghost use Rattle.block_spec.specs.Examples.{OwnWritesAreSeen, WritesKeepWhatUndoesThem};
+ghost use Rattle.block_spec.specs.Examples.{RollBackLeavesNothing, CommitsShowFromTheirStamp};
+ghost use Rattle.block_spec.specs.Examples.{MovesShowOnce, TheSecondRoundCools, WritesModify};
+ghost use Rattle.block_spec.specs.Examples.{MovesAreTakenBack, PruningCounts, SealsAreJudged};
+ghost use Rattle.block_spec.specs.Examples.{FreezesHaveStamps, BodiesAreTold, LooksFindRowsAndGaps};
 
 /// A session sees its own writes, and another does not.
 pub fn own_writes_are_seen()
     ensures { OwnWritesAreSeen }
 {}
 
-/// A write keeps what undoes it: that there was no row, the changed columns alone, or the whole row.
+/// A write keeps what undoes it: that there was no row, the changed columns alone, or the whole
+/// row.
 pub fn writes_keep_what_undoes_them()
     ensures { WritesKeepWhatUndoesThem }
 {}

@@ -7,5 +7,6 @@ ghost use Rattle.block_spec.specs.Fitting.{columns_of};
 
 /// A body's columns judge a row as the schema does, whatever the columns are named.
 pub fn columns_judge_as_their_schema()
-    ensures { (schema : List Column) (row : List Cell) → row_fault (columns_of schema) row ≡ row_fault schema row }
+    ensures { (schema : List Column) (row : List Cell) → row_fault (columns_of schema) row
+        ≡ row_fault schema row }
 {}

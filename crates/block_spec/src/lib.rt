@@ -1,5 +1,6 @@
-//! What a slot and a block's body are, and what a write, a commit, a roll-back, a pruning, a move and
-//! a freeze make of them (`specs/`), with worked examples and laws. It knows no buffer and no thread.
+//! What a slot and a block's body are, and what a write, a commit, a roll-back, a pruning, a move
+//! and a freeze make of them (`specs/`), with worked examples and laws. It knows no buffer and no
+//! thread.
 #![tactic(auto)]
 
 pub mod change;

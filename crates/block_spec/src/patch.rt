@@ -36,7 +36,7 @@ impl From<Vec<Assignment>> for Patch {
 
     ghost from_gives = { λ assignments p. p ≡ assignments.items };
 
-    // The vector as it is, without a copy.
+    /// The vector as it is, without a copy.
     fn from(assignments: Vec<Assignment>) -> Patch {
         Patch { assignments }
     }

@@ -19,7 +19,7 @@ use steps::Steps;
 
 const SLOTS: u32 = 8;
 
-// The columns of every block here, behind the key of their rows.
+/// The columns of every block here, behind the key of their rows.
 const COLUMNS: [(&str, Kind); 5] = [
     ("p", Kind::I8),
     ("q", Kind::U64),
@@ -49,7 +49,7 @@ fn schema(alloc: Global) -> Result<Schema, Fail> {
     }
 }
 
-// A cell of the kind; every third is null.
+/// A cell of the kind; every third is null.
 fn cell_of(alloc: Global, kind: Kind, at: u32) -> Result<Cell, Fail> {
     if at % 3 == 0 {
         return Ok(Cell::Null);
@@ -68,7 +68,7 @@ fn cell_of(alloc: Global, kind: Kind, at: u32) -> Result<Cell, Fail> {
     })
 }
 
-// The rows of a block, in slot order.
+/// The rows of a block, in slot order.
 fn rows_of(alloc: Global, count: u32) -> Result<Vec<Row>, Fail> {
     let mut rows = Vec::new(alloc);
     for key in 0..count {
@@ -96,7 +96,7 @@ fn is_row_of(schema: &Schema, row: &Row) -> bool
     }
 }
 
-// A body whose first slots have these rows, which a session committed, without versions.
+/// A body whose first slots have these rows, which a session committed, without versions.
 fn filled(alloc: Global, schema: &Schema, rows: &[Row]) -> Result<Body, Fail> {
     let mut body = Body::new(alloc, schema, SLOTS)?;
     for (slot, row) in rows.iter().enumerate() {
@@ -111,7 +111,7 @@ fn filled(alloc: Global, schema: &Schema, rows: &[Row]) -> Result<Body, Fail> {
     Ok(body)
 }
 
-// The same, cooling and sealed.
+/// The same, cooling and sealed.
 fn sealed(alloc: Global, schema: &Schema, rows: &[Row]) -> Result<Body, Fail>
     ensures { IfOk result (λ body. is_sealed body.phase ≡ true) }
 {
@@ -126,7 +126,8 @@ fn sealed(alloc: Global, schema: &Schema, rows: &[Row]) -> Result<Body, Fail>
 }
 
 fn all_held(columns: &Columns, n: u32) -> bool
-    ensures { IsTrue result → (slot : ℕ) → slot < n → IsSome (slice_index_or columns.now.rows slot None) }
+    ensures { IsTrue result → (slot : ℕ) → slot < n
+        → IsSome (slice_index_or columns.now.rows slot None) }
 {
     for slot in 0..n {
         if !columns.has_row(slot) {
@@ -136,12 +137,12 @@ fn all_held(columns: &Columns, n: u32) -> bool
     true
 }
 
-// How a sealed body gets its image.
+/// How a sealed body gets its image.
 #[derive(Clone, Copy)]
 enum Way {
-    // Of its own columns and the buffers that are made of them.
+    /// Of its own columns and the buffers that are made of them.
     Own,
-    // Of a copy of its columns and their buffers.
+    /// Of a copy of its columns and their buffers.
     Copied,
 }
 
@@ -201,7 +202,7 @@ fn is_row(found: &Option<Row>, expected: Option<&Row>) -> bool {
     }
 }
 
-// Whether the first slots of a body and of an image have these rows, and the others none.
+/// Whether the first slots of a body and of an image have these rows, and the others none.
 fn both_have<L: Ledger>(
     body: &Body,
     kept: &Shared,
@@ -257,7 +258,8 @@ fn have_same_buffers(one: &Image, other: &Image) -> bool {
     true
 }
 
-// The image of a body with these rows, which it has while it is frozen, and keeps when it is thawed.
+/// The image of a body with these rows, which it has while it is frozen, and keeps when it is
+/// thawed.
 fn frozen_and_thawed<R: Threads + Sync>(
     rt: &R,
     alloc: Global,

@@ -1,5 +1,6 @@
 -- The word of a block: state, stamp and readers in 64 bits, and which moves of it are lawful.
-use Rattle.std.specs.Prelude.{◌≡◌, ℕ, zero, suc, ◌+◌, ◌*◌, ◌/◌, ◌%◌, ◌^◌, ◌<◌, ◌⊎◌, Option, Some, None, IsSomeAnd}
+use Rattle.std.specs.Prelude.{◌≡◌, ℕ, zero, suc, ◌+◌, ◌*◌, ◌/◌, ◌%◌, ◌^◌, ◌<◌, ◌⊎◌, Option, Some}
+use Rattle.std.specs.Prelude.{None, IsSomeAnd}
 use Rattle.block_word.specs.declared.State.{State}
 use Rattle.block_word.specs.declared.State.TheVariants.{Hot, Cooling, Freezing, Frozen}
 use Rattle.block_word.specs.declared.Word.{Word}
@@ -54,9 +55,11 @@ Turns before after =
 -- a reader comes, and state and stamp stay
 abbrev pub Enters : Word → Word → Type 0
 Enters before after =
-    (after.state ≡ before.state) × (after.stamp ≡ before.stamp) × (after.readers ≡ before.readers + 1)
+    (after.state ≡ before.state) × (after.stamp ≡ before.stamp)
+    × (after.readers ≡ before.readers + 1)
 
--- one of the six turns, a reader that comes or a reader that leaves, with no number out of its range
+-- one of the six turns, a reader that comes or a reader that leaves, with no number out of its
+-- range
 pub record IsLawfulMove (before after : Word) : Type 0 where
   pub from : IsInRange before
   pub to : IsInRange after

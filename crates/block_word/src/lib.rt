@@ -2,7 +2,8 @@
 #![tactic(auto)]
 
 ghost use Rattle.std.specs.Prelude.{◌≡◌, ℕ, ◌+◌, ◌<◌, ◌↔◌, IsTrue, bit_and};
-ghost use Rattle.block_word.specs.Word.{Enters, IsInRange, IsLawfulMove, Turns, packed, state_number, unpacked, word_of};
+ghost use Rattle.block_word.specs.Word.{Enters, IsInRange, IsLawfulMove, Turns, packed};
+ghost use Rattle.block_word.specs.Word.{state_number, unpacked, word_of};
 ghost use Rattle.block_word.specs.declared.State.TheVariants.{Hot, Cooling, Freezing, Frozen};
 ghost use Rattle.block_word.specs.declared.Word.{Word};
 
@@ -40,7 +41,7 @@ pub enum State {
 }
 
 impl State {
-    // The number that stands for the state in a word.
+    /// The number that stands for the state in a word.
     fn number(self) -> u64
         ensures { result ≡ state_number self }
     {
@@ -97,22 +98,26 @@ pub fn atomic_steps()
     ensures cools { (stamp readers : ℕ) →
         packed (word_of Hot stamp readers) + RAISE ≡ packed (word_of Cooling stamp readers) }
     ensures seals { (stamp readers : ℕ) →
-        packed (word_of Cooling stamp readers) + SEAL ≡ packed (word_of Freezing (stamp + 1) readers) }
+        packed (word_of Cooling stamp readers) + SEAL
+        ≡ packed (word_of Freezing (stamp + 1) readers) }
     ensures gathers { (stamp readers : ℕ) →
         packed (word_of Freezing stamp readers) + RAISE ≡ packed (word_of Frozen stamp readers) }
     ensures refreezes { (stamp readers : ℕ) →
         packed (word_of Hot stamp readers) + REFREEZE ≡ packed (word_of Frozen stamp readers) }
     ensures clears { (w : Word) → IsInRange w →
         bit_and (packed w) CLEAR ≡ packed (record w { state = Hot }) }
-    ensures enters { (w : Word) → packed w + READER ≡ packed (record w { readers = w.readers + 1 }) }
+    ensures enters { (w : Word) → packed w + READER
+        ≡ packed (record w { readers = w.readers + 1 }) }
 {}
 
 /// A freezing word, and what may follow it, in numbers.
 pub fn worked_words()
     ensures freezing { packed (word_of Freezing 1 0) ≡ 0x8000_0001_0000_0000 }
     ensures frozen { packed (word_of Frozen 1 2) ≡ 0xc000_0001_0000_0002 }
-    ensures gathered { IsLawfulMove (unpacked 0x8000_0001_0000_0000) (unpacked 0xc000_0001_0000_0000) }
-    ensures thawed { ¬ IsLawfulMove (unpacked 0x8000_0001_0000_0000) (unpacked 0x0000_0001_0000_0000) }
+    ensures gathered { IsLawfulMove (unpacked 0x8000_0001_0000_0000)
+        (unpacked 0xc000_0001_0000_0000) }
+    ensures thawed { ¬ IsLawfulMove (unpacked 0x8000_0001_0000_0000)
+        (unpacked 0x0000_0001_0000_0000) }
 {}
 
 /// Whether a block word may move in one step from one number to another: by one of the six turns
@@ -125,8 +130,8 @@ pub fn lawful(before: u64, after: u64) -> bool
     turns(from, to) || enters(from, to) || enters(to, from)
 }
 
-// Whether the second word comes from the first by one of the six turns of the state: the stamp
-// moves by what the turn takes, and the readers stay.
+/// Whether the second word comes from the first by one of the six turns of the state: the stamp
+/// moves by what the turn takes, and the readers stay.
 fn turns(from: Word, to: Word) -> bool
     ensures { IsTrue result ↔ Turns from to }
 {
@@ -141,7 +146,7 @@ fn turns(from: Word, to: Word) -> bool
     to.stamp.checked_sub(from.stamp) == Some(taken) && to.readers == from.readers
 }
 
-// Whether the second word has one reader more, and all else is the same.
+/// Whether the second word has one reader more, and all else is the same.
 fn enters(from: Word, to: Word) -> bool
     ensures { IsTrue result ↔ Enters from to }
 {

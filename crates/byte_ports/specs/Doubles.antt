@@ -12,7 +12,8 @@ pub record Writing : Type 0 where
   pub written : List ℕ
   pub plan : Plan
 
--- a list outlet: the names that it was started with, the bytes written so far, and the plan of its faults
+-- a list outlet: the names that it was started with, the bytes written so far, and the plan of its
+-- faults
 pub record Exporting : Type 0 where
   pub started : List (List ℕ)
   pub written : List ℕ

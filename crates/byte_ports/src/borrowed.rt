@@ -8,7 +8,7 @@ impl<S: Source> Source for &mut S {
 
     ghost faults = { λ s. S.faults s.now };
 
-    // Reads from the source that is lent.
+    /// Reads from the source that is lent.
     fn read(&mut self, buf: &mut [u8]) -> Result<usize, Failed> {
         Source::read(&mut **self, buf)
     }
@@ -23,14 +23,14 @@ impl<S: Sink> Sink for &mut S {
 
     ghost faults = { λ s. S.faults s.now };
 
-    // Writes to the sink that is lent.
+    /// Writes to the sink that is lent.
     fn write(&mut self, piece: &[u8]) -> Result<usize, Failed> {
         Sink::write(&mut **self, piece)
     }
 }
 
 impl<X: Outlet> Outlet for &mut X {
-    // Starts the outlet that is lent.
+    /// Starts the outlet that is lent.
     fn start(&mut self, name: &str) -> Result<(), Failed> {
         Outlet::start(&mut **self, name)
     }

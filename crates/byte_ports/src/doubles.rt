@@ -1,6 +1,7 @@
 //! Sources, sinks and outlets over lists of bytes, for tests: their calls fail where a list says
 //! so.
-ghost use Rattle.std.specs.Prelude.{◌≡◌, ◌<◌, ◌≤◌, [], ◌∷◌, ◌++◌, Ok, Some, IfOk, OnOk, OnErr, IsErr, IsTrue, length, min, is_err, map, string_bytes, refl};
+ghost use Rattle.std.specs.Prelude.{◌≡◌, ◌<◌, ◌≤◌, [], ◌∷◌, ◌++◌, Ok, Some, IfOk, OnOk, OnErr};
+ghost use Rattle.std.specs.Prelude.{IsErr, IsTrue, length, min, is_err, map, string_bytes, refl};
 ghost use Rattle.std.specs.Io.{ReadsAtMost, WritesAtMost};
 ghost use Rattle.std.specs.Io.KnownBytes.{ReadConsumes, WriteAppends};
 ghost use Rattle.byte_ports.specs.Calls.{Rose, TellsAlike, StartAdds};
@@ -49,7 +50,8 @@ impl Source for ListSource {
 
     ghost faults = { λ s. s.plan.faults };
 
-    /// Reads as many bytes as are left and have room. Only a call in the list of failing calls fails.
+    /// Reads as many bytes as are left and have room. Only a call in the list of failing calls
+    /// fails.
     fn read(&mut self, buf: &mut [u8]) -> Result<usize, Failed>
         requires room { 0 < length buf.old }
         ensures bound { ReadsAtMost result buf.new }
@@ -112,12 +114,13 @@ impl Sink for ListSink {
 
     ghost faults = { λ s. s.plan.faults };
 
-    /// Takes the whole piece. Besides a call in the list of failing calls, only one fails that finds
-    /// no memory.
+    /// Takes the whole piece. Besides a call in the list of failing calls, only one fails that
+    /// finds no memory.
     fn write(&mut self, piece: &[u8]) -> Result<usize, Failed>
         ensures bound { WritesAtMost result piece.now }
         ensures some { IfOk result (λ count. 0 < length piece.now → 0 < count) }
-        ensures bytes { WriteAppends (Some self.old.written) (Some self.new.written) result piece.now }
+        ensures bytes { WriteAppends (Some self.old.written) (Some self.new.written) result
+            piece.now }
         ensures told { TellsAlike (Some self.old.written) (Some self.new.written) }
         ensures counted { self.old.plan.faults ≤ self.new.plan.faults }
         ensures kept { OnOk result (self.new.plan.faults ≡ self.old.plan.faults) }
@@ -162,7 +165,8 @@ impl Model for ListOutlet {
 impl ListOutlet {
     /// An empty outlet without a start. Of its calls, counted from 1, those in `failing` fail.
     pub fn new(alloc: Global, failing: &[u64]) -> Result<Self, AllocError>
-        ensures { IfOk result (λ s. s ≡ record { started = []; written = []; plan = new_plan failing.now }) }
+        ensures { IfOk result (λ s. s
+            ≡ record { started = []; written = []; plan = new_plan failing.now }) }
     {
         Ok(ListOutlet {
             alloc,
@@ -185,9 +189,10 @@ impl ListOutlet {
         self.names.as_slice()
     }
 
-    // Keeps the name of a start. Without memory nothing is kept.
+    /// Keeps the name of a start. Without memory nothing is kept.
     fn add_name(&mut self, name: &str) -> Result<(), AllocError>
-        ensures ok { OnOk result (self.new ≡ record self.old { started = self.old.started ++ name.now ∷ [] }) }
+        ensures ok { OnOk result (self.new
+            ≡ record self.old { started = self.old.started ++ name.now ∷ [] }) }
         ensures err { OnErr result (self.new ≡ self.old) }
     {
         let name = String::from_str(self.alloc, name)?;
@@ -203,12 +208,13 @@ impl Sink for ListOutlet {
 
     ghost faults = { λ s. s.plan.faults };
 
-    /// Takes the whole piece. Besides a call in the list of failing calls, only one fails that finds
-    /// no memory.
+    /// Takes the whole piece. Besides a call in the list of failing calls, only one fails that
+    /// finds no memory.
     fn write(&mut self, piece: &[u8]) -> Result<usize, Failed>
         ensures bound { WritesAtMost result piece.now }
         ensures some { IfOk result (λ count. 0 < length piece.now → 0 < count) }
-        ensures bytes { WriteAppends (Some self.old.written) (Some self.new.written) result piece.now }
+        ensures bytes { WriteAppends (Some self.old.written) (Some self.new.written) result
+            piece.now }
         ensures told { TellsAlike (Some self.old.written) (Some self.new.written) }
         ensures started { Some self.new.started ≡ Some self.old.started }
         ensures counted { self.old.plan.faults ≤ self.new.plan.faults }

@@ -7,7 +7,7 @@ use crate::Failed;
 use std::alloc::{AllocError, Global};
 use std::marker::Model;
 
-// How many calls have failed. The count holds at its last value.
+/// How many calls have failed. The count holds at its last value.
 #[derive(Drop)]
 pub struct FaultCount {
     faults: u64,
@@ -29,7 +29,7 @@ impl FaultCount {
         FaultCount { faults: 0 }
     }
 
-    // Counts a fault.
+    /// Counts a fault.
     pub fn fail(&mut self) -> Failed
         ensures value { self.new ≡ counted self.old }
         ensures counted { self.old ≤ self.new }
@@ -40,7 +40,7 @@ impl FaultCount {
     }
 }
 
-// Which calls of a double fail, counted from 1, with its counts of calls and faults.
+/// Which calls of a double fail, counted from 1, with its counts of calls and faults.
 #[derive(Drop)]
 pub struct FaultPlan {
     failing: Vec<u64>,
@@ -68,7 +68,7 @@ impl FaultPlan {
         })
     }
 
-    // Counts a call, and fails where it is one of those that fail.
+    /// Counts a call, and fails where it is one of those that fail.
     pub fn count_call(&mut self) -> Result<(), Failed>
         ensures fails { is_err result ≡ fails_next self.old }
         ensures plan { self.new ≡ after_call self.old (is_err result) }
@@ -83,7 +83,7 @@ impl FaultPlan {
         Ok(())
     }
 
-    // Counts a fault of the call that was counted last.
+    /// Counts a fault of the call that was counted last.
     pub fn fail(&mut self) -> Failed
         ensures plan { self.new ≡ record self.old { faults = counted self.old.faults } }
         ensures counted { self.old.faults ≤ self.new.faults }

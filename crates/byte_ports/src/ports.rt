@@ -1,6 +1,7 @@
 //! The traits by which the program meets the outside: sources, sinks, outlets and gates, with what
 //! contracts are told of each.
-ghost use Rattle.std.specs.Prelude.{◌≡◌, ℕ, ◌<◌, ◌≤◌, List, Option, None, Some, IfOk, OnErr, OnOk, length, is_some, codes};
+ghost use Rattle.std.specs.Prelude.{◌≡◌, ℕ, ◌<◌, ◌≤◌, List, Option, None, Some, IfOk, OnErr, OnOk};
+ghost use Rattle.std.specs.Prelude.{length, is_some, codes};
 ghost use Rattle.std.specs.Borrow.{GName};
 ghost use Rattle.std.specs.Io.{ReadsAtMost, WritesAtMost};
 ghost use Rattle.std.specs.Io.KnownBytes.{ReadConsumes, WriteAppends};
@@ -17,7 +18,7 @@ pub struct Failed;
 impl fmt::Display for Failed {
     ghost output = { λ _. Some (codes "reading or writing failed") };
 
-    // The line of a call that failed.
+    /// The line of a call that failed.
     fn fmt<W: fmt::Write>(&self, f: &mut fmt::Formatter<W>) -> fmt::Result {
         write!(f, "reading or writing failed")
     }
@@ -85,7 +86,8 @@ pub trait Outlet: Sink {
         ensures cause { OnErr result (Rose (Self.faults self.old) (Self.faults self.new)) };
 
     // The names are told exactly where the bytes are.
-    ghost names_told: { (outlet : Self) → is_some (Self.started outlet) ≡ is_some (Self.written outlet) };
+    ghost names_told: { (outlet : Self) → is_some (Self.started outlet)
+        ≡ is_some (Self.written outlet) };
 }
 
 /// What is asked before each command of a session, and each turn of a worker.
@@ -99,6 +101,6 @@ pub trait Gate {
 pub struct OpenGate;
 
 impl Gate for OpenGate {
-    // Goes on at once.
+    /// Goes on at once.
     fn pass<R: Wait>(&self, _rt: &R, _session: u32, _index: u32) {}
 }

@@ -84,7 +84,7 @@ impl Sink for PureOutlet {
 }
 
 impl Outlet for PureOutlet {
-    // It starts at any name, and keeps none.
+    /// It starts at any name, and keeps none.
     fn start(&mut self, _name: &str) -> Result<(), Failed>
         ensures { result ≡ Ok tt }
     {

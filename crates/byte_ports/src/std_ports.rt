@@ -1,5 +1,6 @@
 //! Ports over the readers, writers and files of std.
-ghost use Rattle.std.specs.Prelude.{◌≡◌, ◌<◌, ◌≤◌, None, IfOk, IsSome, OnErr, OnOk, length, is_err, refl};
+ghost use Rattle.std.specs.Prelude.{◌≡◌, ◌<◌, ◌≤◌, None, IfOk, IsSome, OnErr, OnOk, length, is_err};
+ghost use Rattle.std.specs.Prelude.{refl};
 ghost use Rattle.std.specs.Io.{ReadsAtMost, WritesAtMost};
 ghost use Rattle.std.specs.Io.KnownBytes.{ReadConsumes, WriteAppends};
 ghost use Rattle.byte_ports.specs.Adapters.{held};
@@ -12,8 +13,8 @@ use std::io::{self, Read, Write};
 use std::marker::Model;
 use std::rt::Files;
 
-/// A source over a reader of std. Contracts see it as the reader and its count of faults: each error
-/// of the reader is one. It reads what the reader reads; what is left is not told.
+/// A source over a reader of std. Contracts see it as the reader and its count of faults: each
+/// error of the reader is one. It reads what the reader reads; what is left is not told.
 #[derive(Drop)]
 pub struct StdSource<R: Read> {
     reader: R,
@@ -45,7 +46,7 @@ impl<R: Read> Source for StdSource<R> {
 
     ghost faults = { λ s. s.faults };
 
-    // Reads by the reader; an error of it is counted as a fault.
+    /// Reads by the reader; an error of it is counted as a fault.
     fn read(&mut self, buf: &mut [u8]) -> Result<usize, Failed>
         requires room { 0 < length buf.old }
         ensures bound { ReadsAtMost result buf.new }
@@ -54,7 +55,8 @@ impl<R: Read> Source for StdSource<R> {
         ensures cause { OnErr result (Rose self.old.faults self.new.faults) }
 
         ensures faults { self.new.faults ≡ faults_after self.old.faults (is_err result) }
-        ensures inner { ReadConsumes (R.remaining self.old.inner) (R.remaining self.new.inner) result buf.new }
+        ensures inner { ReadConsumes (R.remaining self.old.inner) (R.remaining self.new.inner)
+            result buf.new }
     {
         match self.reader.read(buf) {
             Ok(count) => Ok(count),
@@ -63,9 +65,9 @@ impl<R: Read> Source for StdSource<R> {
     }
 }
 
-/// A sink over a writer of std. Contracts see it as the writer and its count of faults: each error of
-/// the writer is one, and so is that it takes nothing of a piece. It writes what the writer takes;
-/// what it has written is not told.
+/// A sink over a writer of std. Contracts see it as the writer and its count of faults: each error
+/// of the writer is one, and so is that it takes nothing of a piece. It writes what the writer
+/// takes; what it has written is not told.
 #[derive(Drop)]
 pub struct StdSink<W: Write> {
     writer: W,
@@ -97,8 +99,8 @@ impl<W: Write> Sink for StdSink<W> {
 
     ghost faults = { λ s. s.faults };
 
-    // Writes by the writer; an error of it, or that it takes nothing of a piece, is counted as a
-    // fault.
+    /// Writes by the writer; an error of it, or that it takes nothing of a piece, is counted as a
+    /// fault.
     fn write(&mut self, piece: &[u8]) -> Result<usize, Failed>
         ensures bound { WritesAtMost result piece.now }
         ensures some { IfOk result (λ count. 0 < length piece.now → 0 < count) }
@@ -107,16 +109,17 @@ impl<W: Write> Sink for StdSink<W> {
         ensures cause { OnErr result (Rose self.old.faults self.new.faults) }
 
         ensures faults { self.new.faults ≡ faults_after self.old.faults (is_err result) }
-        ensures inner { WriteAppends (W.contents self.old.inner) (W.contents self.new.inner) result piece.now }
+        ensures inner { WriteAppends (W.contents self.old.inner) (W.contents self.new.inner) result
+            piece.now }
     {
         write_counted(&mut self.writer, &mut self.faults, piece)
     }
 }
 
 /// An outlet that is started with the path of a file, which it makes or empties, and writes there.
-/// Contracts see it as the file, if there is one, and its count of faults: each error is one, and so
-/// is a write before a start. It writes what the file takes; what it has written, and the names that
-/// it was started with, are not told.
+/// Contracts see it as the file, if there is one, and its count of faults: each error is one, and
+/// so is a write before a start. It writes what the file takes; what it has written, and the names
+/// that it was started with, are not told.
 #[derive(Drop)]
 pub struct FileOutlet<F: Files> {
     rt: F,
@@ -151,7 +154,7 @@ impl<F: Files> Sink for FileOutlet<F> {
 
     ghost faults = { λ s. s.faults };
 
-    // Writes to the file; before the first start there is none, and the call fails.
+    /// Writes to the file; before the first start there is none, and the call fails.
     fn write(&mut self, piece: &[u8]) -> Result<usize, Failed>
         ensures bound { WritesAtMost result piece.now }
         ensures some { IfOk result (λ count. 0 < length piece.now → 0 < count) }
@@ -160,7 +163,8 @@ impl<F: Files> Sink for FileOutlet<F> {
         ensures cause { OnErr result (Rose self.old.faults self.new.faults) }
 
         ensures faults { self.new.faults ≡ faults_after self.old.faults (is_err result) }
-        ensures inner { WriteAppends (held F.File.contents self.old.inner) (held F.File.contents self.new.inner) result piece.now }
+        ensures inner { WriteAppends (held F.File.contents self.old.inner)
+            (held F.File.contents self.new.inner) result piece.now }
     {
         match &mut self.file {
             Some(file) => write_counted(file, &mut self.faults, piece),
@@ -170,8 +174,9 @@ impl<F: Files> Sink for FileOutlet<F> {
 }
 
 impl<F: Files> Outlet for FileOutlet<F> {
-    /// Makes the file at the path `name`, or empties it. A start that fails leaves the file that was
-    /// written to before. The file is none of the standard streams, also where one of these is closed.
+    /// Makes the file at the path `name`, or empties it. A start that fails leaves the file that
+    /// was written to before. The file is none of the standard streams, also where one of these is
+    /// closed.
     fn start(&mut self, name: &str) -> Result<(), Failed>
         ensures counted { self.old.faults ≤ self.new.faults }
         ensures kept { OnOk result (self.new.faults ≡ self.old.faults) }
@@ -191,8 +196,9 @@ impl<F: Files> Outlet for FileOutlet<F> {
     ghost names_told = { λ _. refl };
 }
 
-// Makes or empties a file. The system gives a file the least number that is free, which is that of a
-// standard stream where one is closed, so three files are held open until this one has its number.
+/// Makes or empties a file. The system gives a file the least number that is free, which is that of
+/// a standard stream where one is closed, so three files are held open until this one has its
+/// number.
 fn create_apart<F: Files>(rt: &F, name: &str) -> io::Result<F::File> {
     let _first = File::open(rt, "/")?;
     let _second = File::open(rt, "/")?;
@@ -200,7 +206,7 @@ fn create_apart<F: Files>(rt: &F, name: &str) -> io::Result<F::File> {
     File::create(rt, name)
 }
 
-// Writes once. An error is counted, and so is that nothing was taken of a piece that has bytes.
+/// Writes once. An error is counted, and so is that nothing was taken of a piece that has bytes.
 fn write_counted<W: Write>(
     writer: &mut W,
     faults: &mut FaultCount,

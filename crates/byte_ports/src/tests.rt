@@ -172,7 +172,7 @@ fn std_sink_writes_until_its_writer_takes_nothing(rt: HostRuntime) -> Result<(),
     Ok(())
 }
 
-// A writer that takes two bytes a call, and of whose calls, counted from 1, this one fails.
+/// A writer that takes two bytes a call, and of whose calls, counted from 1, this one fails.
 #[derive(Drop)]
 struct Slow {
     taken: [u8; 8],

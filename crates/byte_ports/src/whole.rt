@@ -2,7 +2,8 @@
 //! many calls as a sink needs.
 ghost use Rattle.std.specs.Prelude.{◌≡◌, ◌<◌, ◌≤◌, Some, IfOk, OnOk, OnErr, IsErrOf, vec_len};
 ghost use Rattle.std.specs.Io.KnownBytes.{Consumes, IsAtEnd};
-ghost use Rattle.byte_ports.specs.Calls.{Rose, TellsAlike, WritesAll, ConsumesSome, ConsumesAtLeast};
+ghost use Rattle.byte_ports.specs.Calls.{Rose, TellsAlike, WritesAll, ConsumesSome};
+ghost use Rattle.byte_ports.specs.Calls.{ConsumesAtLeast};
 ghost use Rattle.byte_ports.specs.InputFault.{CountsFault, input_fault_text};
 ghost use Rattle.byte_ports.specs.declared.whole.InputFault.TheVariants as fault;
 
@@ -11,7 +12,7 @@ use std::alloc::{AllocError, Global};
 use std::error::Error;
 use std::fmt;
 
-// How many bytes a read of a whole input asks for at a time.
+/// How many bytes a read of a whole input asks for at a time.
 const PIECE_BYTES: usize = 1 << 16;
 
 /// Why an input was not read to its end.
@@ -28,7 +29,7 @@ pub enum InputFault {
 impl fmt::Display for InputFault {
     ghost output = { λ f. Some (input_fault_text f) };
 
-    // The line of each fault.
+    /// The line of each fault.
     fn fmt<W: fmt::Write>(&self, f: &mut fmt::Formatter<W>) -> fmt::Result {
         match self {
             InputFault::TooLong => write!(f, "the input is too long"),
@@ -43,7 +44,7 @@ impl Error for InputFault {}
 impl From<Failed> for InputFault {
     ghost from_gives = { λ _ f. f ≡ fault.Failed };
 
-    // A failed call of the source, which `?` hands on.
+    /// A failed call of the source, which `?` hands on.
     fn from(_: Failed) -> Self {
         InputFault::Failed
     }
@@ -52,7 +53,7 @@ impl From<Failed> for InputFault {
 impl From<AllocError> for InputFault {
     ghost from_gives = { λ _ f. f ≡ fault.Memory };
 
-    // Refused memory, which `?` hands on.
+    /// Refused memory, which `?` hands on.
     fn from(_: AllocError) -> Self {
         InputFault::Memory
     }
@@ -80,7 +81,7 @@ pub fn write_all<S: Sink>(sink: &mut S, piece: &[u8]) -> Result<(), Failed>
     Ok(())
 }
 
-// A buffer of so many bytes, for reads to fill.
+/// A buffer of so many bytes, for reads to fill.
 fn blank_piece(alloc: Global, count: usize) -> Result<Vec<u8>, AllocError>
     ensures { IfOk result (λ v. vec_len v ≡ count) }
 {

@@ -1,5 +1,6 @@
 -- Worked examples of values, rows and schemas, as facts.
-use Rattle.std.specs.Prelude.{◌≡◌, ℕ, ◌-◌, ◌^◌, Bool, true, false, List, [], ◌∷◌, ◌++◌, map, replicate, ℤ, pos, negsuc, codes, None, Some}
+use Rattle.std.specs.Prelude.{◌≡◌, ℕ, ◌-◌, ◌^◌, Bool, true, false, List, [], ◌∷◌, ◌++◌, map}
+use Rattle.std.specs.Prelude.{replicate, ℤ, pos, negsuc, codes, None, Some}
 use Rattle.cell_model.specs.declared.cell.Cell.TheVariants.{Null, Num, Truth, Blob}
 use Rattle.cell_model.specs.declared.kind.Kind.{Kind}
 use Rattle.cell_model.specs.declared.kind.Kind.TheVariants as kind
@@ -31,11 +32,13 @@ abbrev pub counted : List Column
 counted = key ∷ column (codes "n") kind.U8 false ∷ []
 
 abbrev pub SlotsFitABlock : Type 0
-SlotsFitABlock = (row_bits narrow ∷ most_slots_of narrow ∷ row_bits wide ∷ most_slots_of wide ∷ []) ≡ 195 ∷ 32768 ∷ 4065 ∷ 2056 ∷ []
+SlotsFitABlock = (row_bits narrow ∷ most_slots_of narrow ∷ row_bits wide ∷ most_slots_of wide ∷ [])
+    ≡ 195 ∷ 32768 ∷ 4065 ∷ 2056 ∷ []
 
 -- each kind, in the order of its type
 abbrev pub kinds : List Kind
-kinds = kind.I8 ∷ kind.I16 ∷ kind.I32 ∷ kind.I64 ∷ kind.U8 ∷ kind.U16 ∷ kind.U32 ∷ kind.U64 ∷ kind.Bool ∷ kind.Utf8 ∷ kind.Binary ∷ []
+kinds = kind.I8 ∷ kind.I16 ∷ kind.I32 ∷ kind.I64 ∷ kind.U8 ∷ kind.U16 ∷ kind.U32 ∷ kind.U64
+    ∷ kind.Bool ∷ kind.Utf8 ∷ kind.Binary ∷ []
 
 abbrev pub KindsHaveWidths : Type 0
 KindsHaveWidths = map bits_of kinds ≡ 8 ∷ 16 ∷ 32 ∷ 64 ∷ 8 ∷ 16 ∷ 32 ∷ 64 ∷ 1 ∷ 128 ∷ 128 ∷ []
@@ -46,7 +49,8 @@ holders number = map (λ kind. is_integer_of kind number) kinds
 
 -- the ends of the narrowest kinds, and what is beyond the widest
 abbrev pub KindsHaveEnds : Type 0
-KindsHaveEnds = map holders (negsuc 127 ∷ negsuc 128 ∷ pos 127 ∷ pos 128 ∷ pos 255 ∷ pos 256 ∷ negsuc (2 ^ 63 - 1) ∷ negsuc (2 ^ 63) ∷ pos (2 ^ 64 - 1) ∷ pos (2 ^ 64) ∷ [])
+KindsHaveEnds = map holders (negsuc 127 ∷ negsuc 128 ∷ pos 127 ∷ pos 128 ∷ pos 255 ∷ pos 256
+    ∷ negsuc (2 ^ 63 - 1) ∷ negsuc (2 ^ 63) ∷ pos (2 ^ 64 - 1) ∷ pos (2 ^ 64) ∷ [])
     ≡ (replicate 4 true ++ replicate 7 false)
     ∷ (false ∷ replicate 3 true ++ replicate 7 false)
     ∷ (replicate 8 true ++ replicate 3 false)
@@ -60,23 +64,31 @@ KindsHaveEnds = map holders (negsuc 127 ∷ negsuc 128 ∷ pos 127 ∷ pos 128 �
     ∷ []
 
 abbrev pub RowsAreJudged : Type 0
-RowsAreJudged = map (row_fault counted) ((Num (pos 1) ∷ Num (pos 300) ∷ []) ∷ (Num (pos 1) ∷ Num (pos 255) ∷ []) ∷ (Num (pos 1) ∷ Null ∷ []) ∷ (Null ∷ Null ∷ [])
+RowsAreJudged = map (row_fault counted)
+    ((Num (pos 1) ∷ Num (pos 300) ∷ []) ∷ (Num (pos 1) ∷ Num (pos 255) ∷ [])
+    ∷ (Num (pos 1) ∷ Null ∷ []) ∷ (Null ∷ Null ∷ [])
     ∷ (Num (pos 1) ∷ Truth true ∷ []) ∷ (Num (pos 1) ∷ []) ∷ [])
-    ≡ Some (RangeAt 1) ∷ None ∷ Some (NullAt 1) ∷ Some (NullAt 0) ∷ Some (RangeAt 1) ∷ Some Arity ∷ []
+    ≡ Some (RangeAt 1) ∷ None ∷ Some (NullAt 1) ∷ Some (NullAt 0) ∷ Some (RangeAt 1) ∷ Some Arity
+    ∷ []
 
 -- a value one byte longer than the longest
 abbrev pub LongValueIsRefused : Type 0
-LongValueIsRefused = row_fault (column (codes "b") kind.Binary false ∷ []) (Blob (replicate (2 ^ 16) 0) ∷ []) ≡ Some (LongAt 0)
+LongValueIsRefused = row_fault (column (codes "b") kind.Binary false ∷ [])
+    (Blob (replicate (2 ^ 16) 0) ∷ []) ≡ Some (LongAt 0)
 
 -- `key:i64 b:binary`
 abbrev pub blobs : List Column
 blobs = key ∷ column (codes "b") kind.Binary false ∷ []
 
 abbrev pub BlobsAreBytes : Type 0
-BlobsAreBytes = map (row_fault blobs) ((Num (pos 1) ∷ Blob (0 ∷ 255 ∷ []) ∷ []) ∷ (Num (pos 1) ∷ Blob (0 ∷ 256 ∷ []) ∷ []) ∷ [])
+BlobsAreBytes = map (row_fault blobs)
+    ((Num (pos 1) ∷ Blob (0 ∷ 255 ∷ []) ∷ []) ∷ (Num (pos 1) ∷ Blob (0 ∷ 256 ∷ []) ∷ []) ∷ [])
     ≡ None ∷ Some (RangeAt 1) ∷ []
 
 abbrev pub SchemasAreJudged : Type 0
-SchemasAreJudged = map schema_fault ([] ∷ narrow ∷ (column (codes "key") kind.I64 true ∷ []) ∷ (column (codes "key") kind.I32 false ∷ []) ∷ (key ∷ key ∷ [])
+SchemasAreJudged = map schema_fault
+    ([] ∷ narrow ∷ (column (codes "key") kind.I64 true ∷ [])
+    ∷ (column (codes "key") kind.I32 false ∷ []) ∷ (key ∷ key ∷ [])
     ∷ (key ∷ replicate 32 (column (codes "v") kind.U8 false)) ∷ (narrow ++ counted) ∷ wide ∷ [])
-    ≡ Some NoKey ∷ None ∷ Some NoKey ∷ Some NoKey ∷ Some (TwoNames 0 1) ∷ Some (TooMany 33) ∷ Some (TwoNames 0 2) ∷ Some (TwoNames 1 2) ∷ []
+    ≡ Some NoKey ∷ None ∷ Some NoKey ∷ Some NoKey ∷ Some (TwoNames 0 1) ∷ Some (TooMany 33) ∷ Some
+    (TwoNames 0 2) ∷ Some (TwoNames 1 2) ∷ []

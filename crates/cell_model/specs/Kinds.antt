@@ -4,7 +4,8 @@ use Rattle.std.specs.Int.{Width, w8, w16, w32, w64, byte_len}
 use Rattle.cell_model.specs.declared.kind.Kind.{Kind}
 use Rattle.cell_model.specs.declared.kind.Kind.TheVariants as kind
 
--- What values there are: the signed or the unsigned integers of a width, truth values, texts in UTF-8, and any bytes.
+-- What values there are: the signed or the unsigned integers of a width, truth values, texts in
+-- UTF-8, and any bytes.
 pub data Values : Type 0 where
   signed : Width → Values
   unsigned : Width → Values

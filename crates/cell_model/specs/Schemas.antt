@@ -1,5 +1,8 @@
 -- Which columns are a table's, and how many rows of them stand in a block of 2^20 bytes.
-use Rattle.std.specs.Prelude.{◌≡◌, ℕ, ◌+◌, ◌*◌, ◌/◌, ◌^◌, ◌≤◌, Bool, true, false, ◌&&◌, not, min, List, [], ◌∷◌, length, nat_lt, if◌then◌else◌, Option, None, Some, position, option_map, is_some, bytes_eq, codes, sum_by, All, Result, Ok, Err}
+use Rattle.std.specs.Prelude.{◌≡◌, ℕ, ◌+◌, ◌*◌, ◌/◌, ◌^◌, ◌≤◌, Bool, true, false, ◌&&◌, not, min}
+use Rattle.std.specs.Prelude.{List, [], ◌∷◌, length, nat_lt, if◌then◌else◌, Option, None, Some}
+use Rattle.std.specs.Prelude.{position, option_map, is_some, bytes_eq, codes, sum_by, All, Result}
+use Rattle.std.specs.Prelude.{Ok, Err}
 use Rattle.std.specs.Str.{IsUtf8}
 use Rattle.cell_model.specs.Kinds.{bits_in, values_of}
 use Rattle.cell_model.specs.Values.{most_bytes}
@@ -26,11 +29,13 @@ begins_with_key (column ∷ columns) = is_key column
 abbrev pub place_of_name : List ℕ → List Column → Option ℕ
 place_of_name name columns = position (λ column. bytes_eq column.name name) columns
 
--- The least pair of columns with one name, the lesser place first, where the columns are counted from `at`.
+-- The least pair of columns with one name, the lesser place first, where the columns are counted
+-- from `at`.
 abbrev pub first_twins : ℕ → List Column → Option (ℕ × ℕ)
 first_twins at [] = None
 first_twins at (column ∷ columns) =
-    if is_some (place_of_name column.name columns) then option_map (λ after. (at, at + 1 + after)) (place_of_name column.name columns)
+    if is_some (place_of_name column.name columns)
+    then option_map (λ after. (at, at + 1 + after)) (place_of_name column.name columns)
     else first_twins (at + 1) columns
 
 -- the most columns of a table
@@ -45,7 +50,8 @@ IsName column = IsUtf8 column.name × (length column.name ≤ most_bytes)
 pub record AreNamed (columns : List Column) : Type 0 where
   pub each : All IsName columns
 
--- The columns are a table's: the key stands first, there are at most 32, no two have one name, and each name is a text.
+-- The columns are a table's: the key stands first, there are at most 32, no two have one name, and
+-- each name is a text.
 pub record IsSchema (columns : List Column) : Type 0 where
   pub key : begins_with_key columns ≡ true
   pub few : length columns ≤ most_columns
@@ -56,7 +62,8 @@ pub record IsSchema (columns : List Column) : Type 0 where
 abbrev pub bits_of : Kind → ℕ
 bits_of kind = bits_in (values_of kind)
 
--- how many bits a row takes: one that tells whether the slot has a row, and for each column a validity bit and its value
+-- how many bits a row takes: one that tells whether the slot has a row, and for each column a
+-- validity bit and its value
 abbrev pub row_bits : List Column → ℕ
 row_bits columns = 1 + sum_by (λ column. 1 + bits_of column.kind) columns
 
@@ -64,14 +71,16 @@ row_bits columns = 1 + sum_by (λ column. 1 + bits_of column.kind) columns
 abbrev pub most_slots_of : List Column → ℕ
 most_slots_of columns = min (2 ^ 15) (8 * (2 ^ 20 / row_bits columns))
 
--- Why columns are no table's, the first rule that fails: the key first, at most 32, no two of one name.
+-- Why columns are no table's, the first rule that fails: the key first, at most 32, no two of one
+-- name.
 abbrev pub schema_fault : List Column → Option SchemaFault
 schema_fault columns =
     if not (begins_with_key columns) then Some NoKey
     else if nat_lt most_columns (length columns) then Some (TooMany (length columns))
     else option_map (λ twins. TwoNames twins.0 twins.1) (first_twins 0 columns)
 
--- The answer for columns with this first fault, if any: Ok exactly where there is none, else the fault.
+-- The answer for columns with this first fault, if any: Ok exactly where there is none, else the
+-- fault.
 abbrev pub IsJudgedBy : {A : Type 0} → Result A SchemaFault → Option SchemaFault → Type 0
 IsJudgedBy (Ok schema) fault = fault ≡ None
 IsJudgedBy (Err stood) fault = fault ≡ Some stood

@@ -1,9 +1,11 @@
 -- Which cells are values of a kind.
-use Rattle.std.specs.Prelude.{ℕ, Bool, true, false, ◌&&◌, ◌^◌, ◌-◌, ◌*◌, List, length, nat_lt, ℤ, pos, negsuc, int_le}
+use Rattle.std.specs.Prelude.{ℕ, Bool, true, false, ◌&&◌, ◌^◌, ◌-◌, ◌*◌, List, length, nat_lt, ℤ}
+use Rattle.std.specs.Prelude.{pos, negsuc, int_le}
 use Rattle.std.specs.Int.{byte_len}
 use Rattle.std.specs.List.{list_all}
 use Rattle.std.specs.Str.{is_utf8}
-use Rattle.cell_model.specs.Kinds.{Values, signed, unsigned, truths, texts, blobs, values_of, are_truths, are_texts, are_blobs}
+use Rattle.cell_model.specs.Kinds.{Values, signed, unsigned, truths, texts, blobs, values_of}
+use Rattle.cell_model.specs.Kinds.{are_truths, are_texts, are_blobs}
 use Rattle.cell_model.specs.declared.kind.Kind.{Kind}
 use Rattle.cell_model.specs.declared.cell.Cell.{Cell}
 use Rattle.cell_model.specs.declared.cell.Cell.TheVariants.{Null, Num, Truth, Text, Blob}
@@ -15,8 +17,10 @@ is_between low high number = int_le low number && int_le number high
 -- the number is one of these integers; there is none among truth values, texts and bytes
 abbrev pub is_integer_in : Values → ℤ → Bool
 is_integer_in (signed width) number =
-    is_between (negsuc (2 ^ (8 * byte_len width - 1) - 1)) (pos (2 ^ (8 * byte_len width - 1) - 1)) number
-is_integer_in (unsigned width) number = is_between (pos 0) (pos (2 ^ (8 * byte_len width) - 1)) number
+    is_between (negsuc (2 ^ (8 * byte_len width - 1) - 1)) (pos (2 ^ (8 * byte_len width - 1) - 1))
+    number
+is_integer_in (unsigned width) number = is_between (pos 0) (pos (2 ^ (8 * byte_len width) - 1))
+    number
 is_integer_in truths number = false
 is_integer_in texts number = false
 is_integer_in blobs number = false

@@ -23,7 +23,7 @@ impl From<Vec<Bytes>> for Buffers {
 
     ghost from_gives = { λ buffers b. b ≡ buffers.items };
 
-    // The vector as it is, without a copy.
+    /// The vector as it is, without a copy.
     fn from(buffers: Vec<Bytes>) -> Buffers {
         Buffers { buffers }
     }

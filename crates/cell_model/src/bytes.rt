@@ -23,7 +23,7 @@ impl From<Vec<u8>> for Bytes {
 
     ghost from_gives = { λ items b. b ≡ items.items };
 
-    // The vector as it is, without a copy.
+    /// The vector as it is, without a copy.
     fn from(bytes: Vec<u8>) -> Bytes {
         Bytes { bytes }
     }
@@ -74,7 +74,7 @@ impl Clone for Bytes {
 
     ghost is_clone = { λ b c. c ≡ b };
 
-    // A copy in memory of the same allocator.
+    /// A copy in memory of the same allocator.
     fn clone(&self) -> Result<Bytes, AllocError> {
         Bytes::from_slice(*self.bytes.allocator(), self.bytes.as_slice())
     }

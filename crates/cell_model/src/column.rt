@@ -37,8 +37,8 @@ impl Column {
             && !self.nullable
     }
 
-    /// Whether the cell may stand in this column, which is the row's column number `at`; else the first
-    /// rule that is broken: a null, another kind's value, too many bytes.
+    /// Whether the cell may stand in this column, which is the row's column number `at`; else the
+    /// first rule that is broken: a null, another kind's value, too many bytes.
     pub fn check(&self, at: u32, cell: &Cell) -> Result<(), RowFault>
         ensures { AnswersFault result (cell_fault at self.now cell.now) }
     {

@@ -1,5 +1,7 @@
 //! Worked examples: each is a fact that the definitions compute.
-ghost use Rattle.cell_model.specs.Examples.{SlotsFitABlock, KindsHaveWidths, KindsHaveEnds, RowsAreJudged, LongValueIsRefused, BlobsAreBytes, SchemasAreJudged};
+ghost use Rattle.cell_model.specs.Examples.{SlotsFitABlock, KindsHaveWidths, KindsHaveEnds};
+ghost use Rattle.cell_model.specs.Examples.{RowsAreJudged, LongValueIsRefused, BlobsAreBytes};
+ghost use Rattle.cell_model.specs.Examples.{SchemasAreJudged};
 
 /// How many rows of 195 and of 4,065 bits a block takes.
 pub fn slots_fit_a_block_of_2_to_the_20_bytes()

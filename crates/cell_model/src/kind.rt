@@ -25,7 +25,8 @@ pub enum Kind {
 }
 
 impl Kind {
-    /// Whether the cell is a value of this kind: an integer in range, a truth value, a text in UTF-8, or bytes.
+    /// Whether the cell is a value of this kind: an integer in range, a truth value, a text in
+    /// UTF-8, or bytes.
     pub fn holds(self, cell: &Cell) -> bool
         ensures { result ≡ is_value_of self cell.now }
     {
@@ -71,7 +72,7 @@ impl Kind {
     }
 }
 
-// Whether the bytes are a text.
+/// Whether the bytes are a text.
 fn is_utf8(bytes: &[u8]) -> bool
     ensures { result ≡ is_utf8 bytes.now }
 {
@@ -81,7 +82,7 @@ fn is_utf8(bytes: &[u8]) -> bool
     }
 }
 
-// Whether each number is below 256, as it always is: a byte's type holds no other.
+/// Whether each number is below 256, as it always is: a byte's type holds no other.
 fn are_bytes(bytes: &[u8]) -> bool
     ensures { result ≡ are_bytes bytes.now }
 {

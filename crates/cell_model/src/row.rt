@@ -1,5 +1,6 @@
 //! A row: its cells in the order of the columns.
-ghost use Rattle.std.specs.Prelude.{◌≡◌, ◌++◌, ◌∷◌, [], IfErr, OnErr, OnOk, length, ◌==◌, slice_get, option_copied};
+ghost use Rattle.std.specs.Prelude.{◌≡◌, ◌++◌, ◌∷◌, [], IfErr, OnErr, OnOk, length, ◌==◌};
+ghost use Rattle.std.specs.Prelude.{slice_get, option_copied};
 
 use crate::cell::Cell;
 use std::alloc::{AllocError, AllocFailed, Global};
@@ -29,7 +30,7 @@ impl From<Vec<Cell>> for Row {
 
     ghost from_gives = { λ cells r. r ≡ cells.items };
 
-    // The vector as it is, without a copy.
+    /// The vector as it is, without a copy.
     fn from(cells: Vec<Cell>) -> Row {
         Row { cells }
     }
@@ -53,7 +54,8 @@ impl Row {
         cells
     }
 
-    /// Adds a cell behind the others; where memory is refused, the row is as it was and the cell comes back.
+    /// Adds a cell behind the others; where memory is refused, the row is as it was and the cell
+    /// comes back.
     pub fn push(&mut self, cell: Cell) -> Result<(), AllocFailed<Cell>>
         ensures ok { OnOk result (self.new ≡ self.old ++ cell ∷ []) }
         ensures err { OnErr result (self.new ≡ self.old) }
@@ -96,7 +98,7 @@ impl Clone for Row {
 
     ghost is_clone = { λ r s. s ≡ r };
 
-    // A copy, each of whose cells is one.
+    /// A copy, each of whose cells is one.
     fn clone(&self) -> Result<Row, AllocError> {
         Ok(Row {
             cells: self.cells.clone()?,

@@ -28,7 +28,7 @@ impl From<Vec<Row>> for Rows {
 
     ghost from_gives = { λ rows r. r ≡ rows.items };
 
-    // The vector as it is, without a copy.
+    /// The vector as it is, without a copy.
     fn from(rows: Vec<Row>) -> Rows {
         Rows { rows }
     }

@@ -1,7 +1,9 @@
 //! The columns of a table.
 ghost use Rattle.std.specs.Prelude.{◌≡◌, ◌<◌, ◌≤◌, IfOk, IfSome, length};
 ghost use Rattle.cell_model.specs.Rows.{row_fault, first_fault, AnswersFault};
-ghost use Rattle.cell_model.specs.Schemas.{AreNamed, IsSchema, IsJudgedBy, schema_fault, begins_with_key, first_twins, place_of_name, row_bits, most_slots_of};
+ghost use Rattle.cell_model.specs.Schemas.{AreNamed, IsSchema, IsJudgedBy, schema_fault};
+ghost use Rattle.cell_model.specs.Schemas.{begins_with_key, first_twins, place_of_name, row_bits};
+ghost use Rattle.cell_model.specs.Schemas.{most_slots_of};
 
 use crate::cell::Cell;
 use crate::column::Column;
@@ -40,7 +42,8 @@ pub enum SchemaFault {
     /// There are this many columns, more than 32.
     #[error("{0} columns are too many")]
     TooMany(usize),
-    /// These two columns, counted from 0, have one name; the least such pair, the first place first.
+    /// These two columns, counted from 0, have one name; the least such pair, the first place
+    /// first.
     #[error("the columns {0} and {1} have one name")]
     TwoNames(u32, u32),
 }
@@ -80,8 +83,8 @@ impl Schema {
         self.columns.as_slice()
     }
 
-    /// Whether the row has a cell for each column and each cell keeps its column's rules; else the first
-    /// rule that is broken, from the left.
+    /// Whether the row has a cell for each column and each cell keeps its column's rules; else the
+    /// first rule that is broken, from the left.
     pub fn fits(&self, row: &Row) -> Result<(), RowFault>
         ensures { AnswersFault result (row_fault self.now row.now) }
     {
@@ -102,8 +105,8 @@ pub fn most_slots(schema: &Schema) -> u32
     MOST_SLOTS.min(8 * (BLOCK_BYTES / row_bits(columns)))
 }
 
-// How many bits a row takes in a block: one that tells whether the slot has a row, and for each
-// column a validity bit and its value.
+/// How many bits a row takes in a block: one that tells whether the slot has a row, and for each
+/// column a validity bit and its value.
 fn row_bits(columns: &[Column]) -> u32
     requires { length columns.now ≤ 32 }
     ensures { result ≡ row_bits columns.now }
@@ -115,7 +118,7 @@ fn row_bits(columns: &[Column]) -> u32
     bits
 }
 
-// Whether the first column is the key.
+/// Whether the first column is the key.
 fn begins_with_key(columns: &[Column]) -> bool
     ensures { result ≡ begins_with_key columns.now }
 {
@@ -125,7 +128,7 @@ fn begins_with_key(columns: &[Column]) -> bool
     }
 }
 
-// The places of the first two columns of one name.
+/// The places of the first two columns of one name.
 fn first_twins(columns: &[Column]) -> Option<(u32, u32)>
     requires { length columns.now ≤ 32 }
     ensures { result ≡ first_twins 0 columns.now }
@@ -139,7 +142,7 @@ fn first_twins(columns: &[Column]) -> Option<(u32, u32)>
     None
 }
 
-// The place of the first column of this name.
+/// The place of the first column of this name.
 fn place_of_name(name: &[u8], columns: &[Column]) -> Option<usize>
     ensures place { result ≡ place_of_name name.now columns.now }
     ensures below { IfSome result (λ at. at < length columns.now) }
@@ -149,7 +152,7 @@ fn place_of_name(name: &[u8], columns: &[Column]) -> Option<usize>
         .position(|column| column.name.as_slice() == name)
 }
 
-// Whether each cell keeps its column's rules; else the first fault, from the left.
+/// Whether each cell keeps its column's rules; else the first fault, from the left.
 fn check_cells(columns: &[Column], cells: &[Cell]) -> Result<(), RowFault>
     requires same { length cells.now ≡ length columns.now }
     requires few { length columns.now ≤ 32 }

@@ -9,9 +9,10 @@ use std::alloc::{AllocError, Global};
 /// The most rows that one compaction moves.
 pub const MOST_MOVES: usize = 64;
 
-/// Plans which rows move into which gaps: the i-th row goes to the i-th gap, while the gap lies below the
-/// row, and at most 64 rows move. A pair is the row's place and the gap's. The movable rows are handed in
-/// with their places falling and the gaps with theirs rising; then no place stands in the plan twice.
+/// Plans which rows move into which gaps: the i-th row goes to the i-th gap, while the gap lies
+/// below the row, and at most 64 rows move. A pair is the row's place and the gap's. The movable
+/// rows are handed in with their places falling and the gaps with theirs rising; then no place
+/// stands in the plan twice.
 pub fn plan_moves(
     alloc: Global,
     rows: &[SlotId],
@@ -26,7 +27,7 @@ pub fn plan_moves(
     downward_pairs(alloc, rows, gaps, MOST_MOVES)
 }
 
-// The first pairs of a row and a gap, at most so many, as long as the gap lies below the row.
+/// The first pairs of a row and a gap, at most so many, as long as the gap lies below the row.
 fn downward_pairs(
     alloc: Global,
     rows: &[SlotId],

@@ -28,7 +28,8 @@ fn a_block_is_cold_in_the_second_round(rt: HostRuntime) {
 fn the_highest_rows_fill_the_lowest_gaps(rt: HostRuntime) -> Result<(), Fail> {
     let at = SlotId::join;
     let cases: [(&[SlotId], &[SlotId], &[(SlotId, SlotId)]); 4] = [
-        // Two blocks with eight slots. In block 0 the slots 1 and 3 are gaps; in block 1 the slot 0 can't move.
+        // Two blocks with eight slots. In block 0 the slots 1 and 3 are gaps; in block 1 the slot 0
+        // can't move.
         (
             &[at(1, 7), at(1, 6), at(1, 5), at(1, 1), at(0, 7), at(0, 0)],
             &[at(0, 1), at(0, 3)],

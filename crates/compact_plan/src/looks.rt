@@ -60,7 +60,7 @@ impl BlockLook {
     }
 }
 
-// Appends a block's rows, each behind its place.
+/// Appends a block's rows, each behind its place.
 fn push_rows(
     block: u32,
     found: &[MovableRow],
@@ -76,7 +76,7 @@ fn push_rows(
     Ok(())
 }
 
-// Appends the places of a block's gaps.
+/// Appends the places of a block's gaps.
 fn push_gaps(block: u32, look: &Look, gaps: &mut Vec<SlotId>) -> Result<(), AllocError>
     requires { All (λ slot. slot < 2 ^ 20) look.now.gaps }
     ensures { OnOk result (gaps.new.items ≡ gaps.old.items ++ map (place_of block) look.now.gaps) }

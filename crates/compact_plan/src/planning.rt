@@ -26,7 +26,7 @@ pub fn plan(alloc: Global, looks: &[BlockLook]) -> Result<Moves, AllocError>
     Ok(Moves::from(pairs))
 }
 
-// The movable rows of the blocks in the group, each behind its place.
+/// The movable rows of the blocks in the group, each behind its place.
 fn group_rows(alloc: Global, looks: &[BlockLook]) -> Result<Vec<(SlotId, MovableRow)>, AllocError>
     requires { All HasPlaces looks.now }
     ensures { IfOk result (λ rows.
@@ -41,7 +41,7 @@ fn group_rows(alloc: Global, looks: &[BlockLook]) -> Result<Vec<(SlotId, Movable
     Ok(rows)
 }
 
-// The places of the gaps of the blocks in the group.
+/// The places of the gaps of the blocks in the group.
 fn group_gaps(alloc: Global, looks: &[BlockLook]) -> Result<Vec<SlotId>, AllocError>
     requires { All HasPlaces looks.now }
     ensures { IfOk result (λ gaps.
@@ -56,7 +56,7 @@ fn group_gaps(alloc: Global, looks: &[BlockLook]) -> Result<Vec<SlotId>, AllocEr
     Ok(gaps)
 }
 
-// The rows that move, with their places falling, each with the gap that it goes to.
+/// The rows that move, with their places falling, each with the gap that it goes to.
 fn pair_up(
     alloc: Global,
     rows: &[(SlotId, MovableRow)],

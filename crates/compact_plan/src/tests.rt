@@ -15,7 +15,7 @@ use event_spec::MovePair;
 use std::alloc::Global;
 use std::test::Fail;
 
-// The column `key:i64`.
+/// The column `key:i64`.
 fn schema(alloc: Global) -> Result<Schema, Fail>
     ensures { IfOk result (λ schema. length schema ≡ 1) }
 {
@@ -32,7 +32,7 @@ fn schema(alloc: Global) -> Result<Schema, Fail>
     }
 }
 
-// A body of four slots with two committed rows, in the slots 1 and 3, and no entry.
+/// A body of four slots with two committed rows, in the slots 1 and 3, and no entry.
 fn settled(alloc: Global, schema: &Schema, first: Row, second: Row) -> Result<Body, Fail>
     requires columns { 0 < length schema.now }
     requires first { Fits (columns_of schema.now) first }
@@ -50,7 +50,7 @@ fn settled(alloc: Global, schema: &Schema, first: Row, second: Row) -> Result<Bo
     Ok(body)
 }
 
-// The body after one observe round, or two.
+/// The body after one observe round, or two.
 fn observed(mut body: Body, twice: bool) -> Body
     ensures keys { HasKeys body → HasKeys result }
     ensures slots { length result.slots ≡ length body.slots }
@@ -62,7 +62,7 @@ fn observed(mut body: Body, twice: bool) -> Body
     body
 }
 
-// The row, where it fits.
+/// The row, where it fits.
 fn fitting(schema: &Schema, row: Row) -> Result<Row, Fail>
     ensures same { IfOk result (λ kept. kept ≡ row) }
     ensures fits { IfOk result (λ kept. Fits (columns_of schema.now) kept) }
@@ -73,7 +73,7 @@ fn fitting(schema: &Schema, row: Row) -> Result<Row, Fail>
     }
 }
 
-// The body of the keys 1 and 3 in the slots 1 and 3.
+/// The body of the keys 1 and 3 in the slots 1 and 3.
 fn two_keys(alloc: Global, schema: &Schema) -> Result<Body, Fail>
     requires { 0 < length schema.now }
     ensures keys { IfOk result HasKeys }
@@ -84,8 +84,8 @@ fn two_keys(alloc: Global, schema: &Schema) -> Result<Body, Fail>
     settled(alloc, schema, first, second)
 }
 
-// Looks at such bodies. Each block is its number, and whether it was left alone for two observe
-// rounds.
+/// Looks at such bodies. Each block is its number, and whether it was left alone for two observe
+/// rounds.
 fn looks_at(alloc: Global, schema: &Schema, blocks: &[(u32, bool)]) -> Result<Vec<BlockLook>, Fail>
     requires { 0 < length schema.now }
     ensures { IfOk result (λ looks. All HasPlaces looks.items) }
@@ -107,7 +107,8 @@ fn rows_of_cold_blocks_fill_the_lowest_gaps(rt: HostRuntime) -> Result<(), Fail>
         target,
     };
     let cases: [(&[(u32, bool)], &[MovePair]); 5] = [
-        // From the highest row on, each to the lowest gap that is left, until that is above the row.
+        // From the highest row on, each to the lowest gap that is left, until that is above the
+        // row.
         (
             &[(0, true), (1, true), (2, true)],
             &[

@@ -9,11 +9,14 @@ use Rattle.event_spec.specs.Effects.{closed, numbered}
 use Rattle.event_spec.specs.Parts.{Changes, Parts, Shape, desk_at, nothing}
 use Rattle.isolation_spec.specs.Contents.{PlaceMap}
 
--- A commit after some of the writes: the desk took its stamp and number, and their bodies are stamped.
+-- A commit after some of the writes: the desk took its stamp and number, and their bodies are
+-- stamped.
 abbrev pub stamped_so_far : Shape → Parts → ℕ → PlaceMap ℕ → Changes
 stamped_so_far shape parts session writes = record nothing {
   body = λ table block body.
-      if is_rolled writes table block then committed_in session ((desk_at shape parts).newest + 1) ((desk_at shape parts).commits + 1) body
+      if is_rolled writes table block
+      then committed_in session ((desk_at shape parts).newest + 1)
+      ((desk_at shape parts).commits + 1) body
       else body;
   desk = λ desk. closed session (numbered desk);
 }

@@ -30,7 +30,7 @@ pub fn commit(shape: &Shape, held: &mut Hand<CorePart>, own: &OwnTransaction) ->
     Some(committed.number)
 }
 
-// Stamps what the transaction wrote, body by body.
+/// Stamps what the transaction wrote, body by body.
 fn stamp_all(
     shape: &Shape,
     held: &mut Hand<CorePart>,
@@ -55,7 +55,7 @@ fn stamp_all(
     }
 }
 
-// Stamps what the session wrote in a body.
+/// Stamps what the session wrote in a body.
 fn stamp_body(
     shape: &Shape,
     held: &mut Hand<CorePart>,
@@ -67,8 +67,10 @@ fn stamp_body(
 )
     requires body { Has shape.now held.old (BodyOf table block) }
     requires room { length held.old ≡ length (names shape.now) }
-    requires stamps { (slot : ℕ) → NoneStampedAbove (slot_in (body_in shape.now held.old table block) slot).entries stamp }
-    ensures { held.new ≡ after shape.now (body_changed table block (committed_in session stamp number)) held.old }
+    requires stamps { (slot : ℕ) → NoneStampedAbove
+        (slot_in (body_in shape.now held.old table block) slot).entries stamp }
+    ensures { held.new ≡ after shape.now
+        (body_changed table block (committed_in session stamp number)) held.old }
 {
     let mut body = take_body(shape, held, table, block);
     body.stamp(session, stamp, number);

@@ -31,7 +31,8 @@ pub fn seal(
     requires { MayRun shape.now (event.Seal table block) held.old }
     ensures { MatchResult result
         (λ stamp. Makes shape.now (event.Seal table block) held.old held.new (reply.Sealed stamp))
-        (λ fault. Makes shape.now (event.Seal table block) held.old held.new (reply.NotSealed fault)) }
+        (λ fault. Makes shape.now (event.Seal table block) held.old held.new
+        (reply.NotSealed fault)) }
 {
     let is_head = block == head(shape, held, table).block();
     let mut body = take_body(shape, held, table, block);
@@ -48,7 +49,8 @@ pub fn thaw(
     block: u32,
 ) -> Result<(), AllocError>
     requires { MayRun shape.now (event.Thaw table block) held.old }
-    ensures ok { IfOk result (λ done. Makes shape.now (event.Thaw table block) held.old held.new reply.Thawed) }
+    ensures ok { IfOk result (λ done. Makes shape.now (event.Thaw table block) held.old held.new
+        reply.Thawed) }
     ensures err { OnErr result (held.new ≡ held.old) }
 {
     let mut body = take_body(shape, held, table, block);

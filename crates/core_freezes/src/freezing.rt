@@ -12,8 +12,8 @@ use gather_core::gather_in_turn;
 use hall_rule::Hand;
 use std::alloc::{AllocError, Global};
 
-/// Hands a sealed block its Arrow buffers, and tells of how many rows they are; none where it is not
-/// sealed, and then none are handed in. Without memory the hand stays.
+/// Hands a sealed block its Arrow buffers, and tells of how many rows they are; none where it is
+/// not sealed, and then none are handed in. Without memory the hand stays.
 pub fn image(
     shape: &Shape,
     held: &mut Hand<CorePart>,
@@ -22,7 +22,8 @@ pub fn image(
     image: Option<Gathered>,
 ) -> Result<Option<u32>, AllocError>
     requires { MayRun shape.now (event.Image table block image) held.old }
-    ensures ok { IfOk result (λ rows. Makes shape.now (event.Image table block image) held.old held.new (reply_of rows)) }
+    ensures ok { IfOk result (λ rows. Makes shape.now (event.Image table block image) held.old
+        held.new (reply_of rows)) }
     ensures err { OnErr result (held.new ≡ held.old) }
 {
     let Some(gathered) = image else {
@@ -36,8 +37,8 @@ pub fn image(
     Ok(Some(rows))
 }
 
-// Freezes a sealed body with the buffers of its rows. Where these were gathered of columns of other kinds
-// than the body's, they are gathered anew. Without memory the body stays.
+/// Freezes a sealed body with the buffers of its rows. Where these were gathered of columns of
+/// other kinds than the body's, they are gathered anew. Without memory the body stays.
 fn freeze(alloc: Global, body: &mut Body, gathered: Gathered) -> Result<(), AllocError>
     requires sealed { is_sealed body.old.phase ≡ true }
     requires front { is_front body.old.slots ≡ true }

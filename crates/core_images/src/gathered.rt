@@ -15,7 +15,7 @@ use std::snapshot::Snapshot;
 /// Contracts see the rows.
 #[derive(Drop)]
 pub struct Gathered {
-    // The columns, for contracts alone: none of their cells is kept.
+    /// The columns, for contracts alone: none of their cells is kept.
     columns: Snapshot<Columns>,
     kinds: Vec<Kind>,
     rows: u32,
@@ -46,7 +46,8 @@ impl Gathered {
         buffers: Vec<Buffers>,
     ) -> Result<Gathered, AllocError>
         requires { IsWhole (image_of columns.now rows buffers.items) }
-        ensures { IfOk result (λ gathered. gathered ≡ rows_of (image_of columns.now rows buffers.items)) }
+        ensures { IfOk result (λ gathered. gathered
+            ≡ rows_of (image_of columns.now rows buffers.items)) }
     {
         Ok(Gathered {
             columns: Snapshot::of(columns),
@@ -56,10 +57,11 @@ impl Gathered {
         })
     }
 
-    /// The buffers of the rows as rows of these columns: there are none where one of the columns is of
-    /// another kind than the one in its place of which the buffers were gathered.
+    /// The buffers of the rows as rows of these columns: there are none where one of the columns is
+    /// of another kind than the one in its place of which the buffers were gathered.
     pub fn into_buffers_of(self, columns: &Columns) -> Option<Vec<Buffers>>
-        ensures { IfSome result (λ buffers. buffers.items ≡ map (λ array. array.buffers) (arrays_of columns.now.columns self)) }
+        ensures { IfSome result (λ buffers. buffers.items
+            ≡ map (λ array. array.buffers) (arrays_of columns.now.columns self)) }
     {
         let Gathered {
             columns: _,
@@ -75,7 +77,7 @@ impl Gathered {
     }
 }
 
-// The kinds of columns, in order.
+/// The kinds of columns, in order.
 fn kinds_in(alloc: Global, columns: &Columns) -> Result<Vec<Kind>, AllocError>
     ensures { IfOk result (λ kinds. kinds.items ≡ kinds_of columns.now.columns) }
 {
@@ -86,7 +88,7 @@ fn kinds_in(alloc: Global, columns: &Columns) -> Result<Vec<Kind>, AllocError>
     Ok(kinds)
 }
 
-// Whether there are as many columns as kinds, each of the kind in its place.
+/// Whether there are as many columns as kinds, each of the kind in its place.
 fn are_of_kinds(kinds: &[Kind], columns: &Columns) -> bool
     ensures { IsTrue result ↔ kinds.now ≡ kinds_of columns.now.columns }
 {

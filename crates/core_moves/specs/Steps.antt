@@ -1,5 +1,6 @@
 -- What a move makes of a hand, pair by pair.
-use Rattle.std.specs.Prelude.{◌≡◌, ◌≢◌, ◌⊎◌, ℕ, ◌+◌, ◌<◌, Bool, true, not, ◌&&◌, ◌==◌, List, [], Some, is_some, length, take, unwrap_or, fold, if◌then◌else◌}
+use Rattle.std.specs.Prelude.{◌≡◌, ◌≢◌, ◌⊎◌, ℕ, ◌+◌, ◌<◌, Bool, true, not, ◌&&◌, ◌==◌, List, []}
+use Rattle.std.specs.Prelude.{Some, is_some, length, take, unwrap_or, fold, if◌then◌else◌}
 use Rattle.block_layout.specs.Place.{block_of, slot_of}
 use Rattle.block_spec.specs.Bodies.{Body, has_row, is_loose, slot_in, taken_back_in, with_slot}
 use Rattle.block_spec.specs.Slots.{Row, has_none, is_bare, moved_in, moved_out}
@@ -9,8 +10,10 @@ use Rattle.core_sweeps.specs.Steps.{body_changed, body_in}
 use Rattle.event_spec.specs.declared.event.Event.TheVariants as event
 use Rattle.event_spec.specs.declared.event.MovePair.{MovePair}
 use Rattle.event_spec.specs.declared.part.Head.{Head}
-use Rattle.event_spec.specs.Effects.{at_both, half_moved, has_key, held_pairs, may_move, places_moved, with_place}
-use Rattle.event_spec.specs.Parts.{Changes, Parts, Shape, HeadOf, ShardOf, BodyOf, desk_at, head_from, names, nothing, shard_from, shard_of}
+use Rattle.event_spec.specs.Effects.{at_both, half_moved, has_key, held_pairs, may_move}
+use Rattle.event_spec.specs.Effects.{places_moved, with_place}
+use Rattle.event_spec.specs.Parts.{Changes, Parts, Shape, HeadOf, ShardOf, BodyOf, desk_at}
+use Rattle.event_spec.specs.Parts.{head_from, names, nothing, shard_from, shard_of}
 use Rattle.part_changes.specs.Shards.{without_place}
 use Rattle.key_index.specs.Candidates.{Places}
 
@@ -29,9 +32,12 @@ may_move_in shape hand table block =
 
 abbrev pub holds_in : Shape → Held → ℕ → MovePair → Bool
 holds_in shape hand table pair =
-    may_move_in shape hand table (block_of pair.source) && may_move_in shape hand table (block_of pair.target)
-    && has_key pair.key (slot_in (body_in shape hand table (block_of pair.source)) (slot_of pair.source)).row
-    && has_none (slot_in (body_in shape hand table (block_of pair.source)) (slot_of pair.source)).entries
+    may_move_in shape hand table (block_of pair.source)
+    && may_move_in shape hand table (block_of pair.target)
+    && has_key pair.key (slot_in (body_in shape hand table (block_of pair.source))
+    (slot_of pair.source)).row
+    && has_none (slot_in (body_in shape hand table (block_of pair.source))
+    (slot_of pair.source)).entries
     && is_bare (slot_in (body_in shape hand table (block_of pair.target)) (slot_of pair.target))
 
 -- ---- one pair
@@ -42,27 +48,33 @@ cooled body = record body { cooling = true; rounds = 2 }
 
 -- the row that a pair moves
 abbrev pub row_in : Shape → Held → ℕ → MovePair → Row
-row_in shape hand table pair = unwrap_or (slot_in (body_in shape hand table (block_of pair.source)) (slot_of pair.source)).row []
+row_in shape hand table pair = unwrap_or
+    (slot_in (body_in shape hand table (block_of pair.source)) (slot_of pair.source)).row []
 
 -- A row leaves its slot, and comes to another.
 abbrev pub left : ℕ → ℕ → Row → ℕ → Changes
-left table place row stamp = record nothing { body = at_both table (block_of place) (with_slot (slot_of place) (moved_out stamp row)) }
+left table place row stamp = record nothing
+    { body = at_both table (block_of place) (with_slot (slot_of place) (moved_out stamp row)) }
 
 abbrev pub come : ℕ → ℕ → Row → ℕ → Changes
-come table place row stamp = record nothing { body = at_both table (block_of place) (with_slot (slot_of place) (moved_in stamp row)) }
+come table place row stamp = record nothing
+    { body = at_both table (block_of place) (with_slot (slot_of place) (moved_in stamp row)) }
 
 -- A pair moves: its target is a candidate, and the row leaves the source for it.
 abbrev pub pair_moved : ℕ → ℕ → MovePair → Row → Changes
 pair_moved table stamp pair row = record nothing {
   shard = at_both table (shard_of pair.key) (with_place pair.key pair.target);
   body = λ other block body.
-      at_both table (block_of pair.target) (with_slot (slot_of pair.target) (moved_in stamp row)) other block
-      (at_both table (block_of pair.source) (with_slot (slot_of pair.source) (moved_out stamp row)) other block body);
+      at_both table (block_of pair.target) (with_slot (slot_of pair.target) (moved_in stamp row))
+      other block
+      (at_both table (block_of pair.source) (with_slot (slot_of pair.source) (moved_out stamp row))
+      other block body);
 }
 
 -- its row alone
 abbrev pub rows_moved : ℕ → ℕ → MovePair → Row → Changes
-rows_moved table stamp pair row = record (pair_moved table stamp pair row) { shard = λ other shard places. places }
+rows_moved table stamp pair row = record (pair_moved table stamp pair row)
+    { shard = λ other shard places. places }
 
 -- A pair is taken back.
 abbrev pub pair_undone : ℕ → MovePair → Changes
@@ -73,8 +85,8 @@ pair_undone table pair = record nothing {
       (at_both table (block_of pair.target) (taken_back_in (slot_of pair.target)) other block body);
 }
 
--- The hand has what a pair needs to move: both bodies, which are loose, the row without an entry, and the bare slot, which
--- takes the row.
+-- The hand has what a pair needs to move: both bodies, which are loose, the row without an entry,
+-- and the bare slot, which takes the row.
 pub record IsReadyIn (shape : Shape) (hand : Held) (table : ℕ) (pair : MovePair) : Type 0 where
   pub source : Has shape hand (BodyOf table (block_of pair.source))
   pub target : Has shape hand (BodyOf table (block_of pair.target))
@@ -82,33 +94,41 @@ pub record IsReadyIn (shape : Shape) (hand : Held) (table : ℕ) (pair : MovePai
   pub loose : is_loose (body_in shape hand table (block_of pair.source)).phase ≡ true
   pub open' : is_loose (body_in shape hand table (block_of pair.target)).phase ≡ true
   pub inside : slot_of pair.source < length (body_in shape hand table (block_of pair.source)).slots
-  pub row : is_some (slot_in (body_in shape hand table (block_of pair.source)) (slot_of pair.source)).row ≡ true
-  pub quiet : has_none (slot_in (body_in shape hand table (block_of pair.source)) (slot_of pair.source)).entries ≡ true
+  pub row : is_some (slot_in (body_in shape hand table (block_of pair.source))
+      (slot_of pair.source)).row ≡ true
+  pub quiet : has_none (slot_in (body_in shape hand table (block_of pair.source))
+      (slot_of pair.source)).entries ≡ true
   pub slot : slot_of pair.target < length (body_in shape hand table (block_of pair.target)).slots
-  pub bare' : is_bare (slot_in (body_in shape hand table (block_of pair.target)) (slot_of pair.target)) ≡ true
-  pub fits : (row : Row) → (slot_in (body_in shape hand table (block_of pair.source)) (slot_of pair.source)).row ≡ Some row
+  pub bare' : is_bare (slot_in (body_in shape hand table (block_of pair.target))
+      (slot_of pair.target)) ≡ true
+  pub fits : (row : Row) → (slot_in (body_in shape hand table (block_of pair.source))
+      (slot_of pair.source)).row ≡ Some row
       → Fits (body_in shape hand table (block_of pair.target)).columns row
   pub apart : pair.source ≢ pair.target
 
 -- The hand is as before, or but for a block that is cooled again.
 abbrev pub IsNearly : Shape → ℕ → ℕ → Held → Held → Type 0
-IsNearly shape table block old new = (new ≡ old) ⊎ (new ≡ after shape (body_changed table block cooled) old)
+IsNearly shape table block old new = (new ≡ old)
+    ⊎ (new ≡ after shape (body_changed table block cooled) old)
 
 -- ---- so far
 
 -- A move after some of its pairs.
 abbrev pub moved_to : Shape → Parts → ℕ → List MovePair → Changes
 moved_to shape parts table pairs = record nothing {
-  shard = λ other shard places. if other == table then fold (places_moved shape parts shard) places pairs else places;
+  shard = λ other shard places. if other == table
+      then fold (places_moved shape parts shard) places pairs else places;
   body = λ other block body.
-      if other == table then fold (half_moved shape parts table ((desk_at shape parts).newest + 1) block) body pairs else body;
+      if other == table then fold (half_moved shape parts table ((desk_at shape parts).newest + 1)
+      block) body pairs else body;
 }
 
 -- The same where some blocks are cooled again, since pairs were taken back.
 abbrev pub back_to : Shape → Parts → ℕ → List MovePair → (ℕ → Bool) → Changes
 back_to shape parts table pairs again = record (moved_to shape parts table pairs) {
   body = λ other block body.
-      if (other == table) && again block then cooled ((moved_to shape parts table pairs).body other block body)
+      if (other == table) && again block
+      then cooled ((moved_to shape parts table pairs).body other block body)
       else (moved_to shape parts table pairs).body other block body;
 }
 

@@ -1,5 +1,6 @@
 //! One half of a pair on one part of a hand.
-ghost use Rattle.std.specs.Prelude.{◌≡◌, ◌<◌, Some, true, false, IfOk, OnOk, OnErr, is_some, length};
+ghost use Rattle.std.specs.Prelude.{◌≡◌, ◌<◌, Some, true, false, IfOk, OnOk, OnErr, is_some};
+ghost use Rattle.std.specs.Prelude.{length};
 ghost use Rattle.block_layout.specs.Place.{block_of, slot_of};
 ghost use Rattle.block_spec.specs.Bodies.{is_loose, slot_in, taken_back_in};
 ghost use Rattle.block_spec.specs.Slots.{has_none, is_bare};
@@ -27,7 +28,8 @@ pub(crate) fn add_candidate(
 ) -> Result<(), AllocError>
     requires shard { Has shape.now held.old (ShardOf table (shard_of key)) }
     requires room { length held.old ≡ length (names shape.now) }
-    ensures ok { OnOk result (held.new ≡ after shape.now (shard_changed table (shard_of key) (with_place key place)) held.old) }
+    ensures ok { OnOk result (held.new
+        ≡ after shape.now (shard_changed table (shard_of key) (with_place key place)) held.old) }
     ensures err { OnErr result (held.new ≡ held.old) }
 {
     let shard = shard_of(key);
@@ -51,10 +53,15 @@ pub(crate) fn move_out(
     requires body { Has shape.now held.old (BodyOf table (block_of place)) }
     requires room { length held.old ≡ length (names shape.now) }
     requires loose { is_loose (body_in shape.now held.old table (block_of place)).phase ≡ true }
-    requires row { is_some (slot_in (body_in shape.now held.old table (block_of place)) (slot_of place)).row ≡ true }
-    requires quiet { has_none (slot_in (body_in shape.now held.old table (block_of place)) (slot_of place)).entries ≡ true }
-    ensures row { IfOk result (λ row. (slot_in (body_in shape.now held.old table (block_of place)) (slot_of place)).row ≡ Some row) }
-    ensures moved { IfOk result (λ row. held.new ≡ after shape.now (left table place row stamp) held.old) }
+    requires row { is_some (slot_in (body_in shape.now held.old table (block_of place))
+        (slot_of place)).row ≡ true }
+    requires quiet { has_none (slot_in (body_in shape.now held.old table (block_of place))
+        (slot_of place)).entries ≡ true }
+    ensures row { IfOk result (λ row.
+        (slot_in (body_in shape.now held.old table (block_of place)) (slot_of place)).row
+        ≡ Some row) }
+    ensures moved { IfOk result (λ row. held.new
+        ≡ after shape.now (left table place row stamp) held.old) }
     ensures err { OnErr result (held.new ≡ held.old) }
 {
     let block = place.block();
@@ -76,8 +83,10 @@ pub(crate) fn move_in(
     requires body { Has shape.now held.old (BodyOf table (block_of place)) }
     requires room { length held.old ≡ length (names shape.now) }
     requires loose { is_loose (body_in shape.now held.old table (block_of place)).phase ≡ true }
-    requires slot { slot_of place < length (body_in shape.now held.old table (block_of place)).slots }
-    requires bare { is_bare (slot_in (body_in shape.now held.old table (block_of place)) (slot_of place)) ≡ true }
+    requires slot { slot_of place < length
+        (body_in shape.now held.old table (block_of place)).slots }
+    requires bare { is_bare (slot_in (body_in shape.now held.old table (block_of place))
+        (slot_of place)) ≡ true }
     requires fits { Fits (body_in shape.now held.old table (block_of place)).columns row }
     ensures ok { OnOk result (held.new ≡ after shape.now (come table place row stamp) held.old) }
     ensures err { OnErr result (held.new ≡ held.old) }
@@ -93,8 +102,10 @@ pub(crate) fn move_in(
 pub(crate) fn take_back(shape: &Shape, held: &mut Hand<CorePart>, table: u32, place: SlotId)
     requires body { Has shape.now held.old (BodyOf table (block_of place)) }
     requires room { length held.old ≡ length (names shape.now) }
-    requires entry { has_none (slot_in (body_in shape.now held.old table (block_of place)) (slot_of place)).entries ≡ false }
-    ensures { held.new ≡ after shape.now (body_changed table (block_of place) (taken_back_in (slot_of place))) held.old }
+    requires entry { has_none (slot_in (body_in shape.now held.old table (block_of place))
+        (slot_of place)).entries ≡ false }
+    ensures { held.new ≡ after shape.now
+        (body_changed table (block_of place) (taken_back_in (slot_of place))) held.old }
 {
     let block = place.block();
     let mut body = take_body(shape, held, table, block);

@@ -26,7 +26,8 @@ pub(crate) fn held_pairs(
     moves: Moves,
 ) -> Result<Vec<MovePair>, AllocError>
     requires { MayRun shape.now (event.Move table moves) held.now }
-    ensures { IfOk result (λ pairs. pairs.items ≡ filter (holds_in shape.now held.now table) moves) }
+    ensures { IfOk result (λ pairs. pairs.items
+        ≡ filter (holds_in shape.now held.now table) moves) }
 {
     prove!(!shape.schema(table).columns().is_empty());
     let mut pairs = moves.into_vec();
@@ -42,7 +43,7 @@ pub(crate) fn held_pairs(
     Ok(pairs)
 }
 
-// Whether a pair holds.
+/// Whether a pair holds.
 fn holds(
     shape: &Shape,
     held: &Hand<CorePart>,
@@ -67,7 +68,7 @@ fn holds(
     Ok(body(shape, held, table, pair.target.block()).bare(pair.target.slot()))
 }
 
-// Whether a block may give and take rows.
+/// Whether a block may give and take rows.
 fn may_move(shape: &Shape, held: &Hand<CorePart>, table: u32, block: u32) -> bool
     requires head { Has shape.now held.now (HeadOf table) }
     requires body { Has shape.now held.now (BodyOf table block) }
@@ -80,7 +81,7 @@ fn may_move(shape: &Shape, held: &Hand<CorePart>, table: u32, block: u32) -> boo
         && seen.has_row()
 }
 
-// Whether a slot has the row of a key and no entry.
+/// Whether a slot has the row of a key and no entry.
 fn has_quiet_row(
     shape: &Shape,
     held: &Hand<CorePart>,
@@ -91,8 +92,10 @@ fn has_quiet_row(
     requires body { Has shape.now held.now (BodyOf table (block_of place)) }
     requires keys { HasKeys (body_in shape.now held.now table (block_of place)) }
     ensures { IfOk result (λ is. is ≡
-        (has_key key (slot_in (body_in shape.now held.now table (block_of place)) (slot_of place)).row
-        && has_none (slot_in (body_in shape.now held.now table (block_of place)) (slot_of place)).entries)) }
+        (has_key key (slot_in (body_in shape.now held.now table (block_of place))
+        (slot_of place)).row
+        && has_none (slot_in (body_in shape.now held.now table (block_of place))
+        (slot_of place)).entries)) }
 {
     match body(shape, held, table, place.block()).movable(place.slot())? {
         Some(row) => Ok(row.key == key),

@@ -1,5 +1,5 @@
-//! A compaction's move on the parts in a hand: rows go from the ends of cold blocks into their gaps,
-//! all with one stamp.
+//! A compaction's move on the parts in a hand: rows go from the ends of cold blocks into their
+//! gaps, all with one stamp.
 #![tactic(auto)]
 
 mod halving;

@@ -4,7 +4,8 @@ ghost use Rattle.std.specs.List.{list_any};
 ghost use Rattle.block_layout.specs.Place.{block_of, slot_of};
 ghost use Rattle.block_spec.specs.Bodies.{slot_in};
 ghost use Rattle.block_spec.specs.Slots.{has_none};
-ghost use Rattle.core_moves.specs.Steps.{AreBack, AreMoved, IsNearly, IsReadyIn, pair_moved, pair_undone, row_in, rows_moved, shard_in};
+ghost use Rattle.core_moves.specs.Steps.{AreBack, AreMoved, IsNearly, IsReadyIn, pair_moved};
+ghost use Rattle.core_moves.specs.Steps.{pair_undone, row_in, rows_moved, shard_in};
 ghost use Rattle.core_parts.specs.Hands.{Has, Held, Makes, MayRun, after};
 ghost use Rattle.core_sweeps.specs.Steps.{body_in};
 ghost use Rattle.event_spec.specs.declared.event.Event.TheVariants as event;
@@ -22,8 +23,8 @@ use event_spec::{MovePair, Moves};
 use hall_rule::Hand;
 use std::alloc::AllocError;
 
-/// Moves the rows whose pairs hold, all with one stamp, and tells how many these were. Where memory is
-/// refused, nothing changes.
+/// Moves the rows whose pairs hold, all with one stamp, and tells how many these were. Where memory
+/// is refused, nothing changes.
 pub fn move_rows(
     shape: &Shape,
     held: &mut Hand<CorePart>,
@@ -31,7 +32,8 @@ pub fn move_rows(
     moves: Moves,
 ) -> Result<u64, AllocError>
     requires { MayRun shape.now (event.Move table moves) held.old }
-    ensures ok { IfOk result (λ count. Makes shape.now (event.Move table moves) held.old held.new (reply.Moved count)) }
+    ensures ok { IfOk result (λ count. Makes shape.now (event.Move table moves) held.old held.new
+        (reply.Moved count)) }
     ensures err { OnErr result (held.new ≡ held.old) }
 {
     let pairs = held_pairs(shape, held, table, moves)?;
@@ -45,15 +47,17 @@ pub fn move_rows(
     Ok(pairs.len() as u64)
 }
 
-// Moves the pairs in turn, or none where memory is refused.
+/// Moves the pairs in turn, or none where memory is refused.
 fn move_all(
     shape: &Shape,
     held: &mut Hand<CorePart>,
     table: u32,
     pairs: &[MovePair],
 ) -> Result<(), AllocError>
-    requires { (moves : List MovePairValue) × AreMoved shape.now table moves held.old held.old pairs.now 0 }
-    ensures ok { OnOk result ((moves : List MovePairValue) → AreMoved shape.now table moves held.old held.old pairs.now 0
+    requires { (moves : List MovePairValue)
+        × AreMoved shape.now table moves held.old held.old pairs.now 0 }
+    ensures ok { OnOk result ((moves : List MovePairValue)
+        → AreMoved shape.now table moves held.old held.old pairs.now 0
         → AreMoved shape.now table moves held.old held.new pairs.now (length pairs.now)) }
     ensures err { OnErr result (held.new ≡ held.old) }
 {
@@ -67,11 +71,13 @@ fn move_all(
     Ok(())
 }
 
-// Takes the first pairs back, the last first.
+/// Takes the first pairs back, the last first.
 fn undo_pairs(shape: &Shape, held: &mut Hand<CorePart>, table: u32, pairs: &[MovePair], done: usize)
-    requires moved { (moves : List MovePairValue) × (old : Held) × AreBack shape.now table moves old held.old pairs.now done }
+    requires moved { (moves : List MovePairValue) × (old : Held)
+        × AreBack shape.now table moves old held.old pairs.now done }
     requires done { done ≤ length pairs.now }
-    ensures { (moves : List MovePairValue) (old : Held) → AreBack shape.now table moves old held.old pairs.now done → held.new ≡ old }
+    ensures { (moves : List MovePairValue) (old : Held)
+        → AreBack shape.now table moves old held.old pairs.now done → held.new ≡ old }
 {
     let mut left = done;
     while left > 0 {
@@ -80,7 +86,7 @@ fn undo_pairs(shape: &Shape, held: &mut Hand<CorePart>, table: u32, pairs: &[Mov
     }
 }
 
-// Moves one pair. Where memory is refused, a block may be cooled again that was no more.
+/// Moves one pair. Where memory is refused, a block may be cooled again that was no more.
 fn move_pair(
     shape: &Shape,
     held: &mut Hand<CorePart>,
@@ -90,11 +96,16 @@ fn move_pair(
 ) -> Result<(), AllocError>
     requires ready { IsReadyIn shape.now held.old table pair.now }
     requires shard { Has shape.now held.old (ShardOf table (shard_of pair.now.key)) }
-    requires holds { ShardHolds (shard_of pair.now.key) (shard_in shape.now held.old table (shard_of pair.now.key)) }
+    requires holds { ShardHolds (shard_of pair.now.key)
+        (shard_in shape.now held.old table (shard_of pair.now.key)) }
     requires new { list_any (λ other. other == pair.now.target)
-        (candidates_of (shard_in shape.now held.old table (shard_of pair.now.key)) pair.now.key) ≡ false }
-    ensures ok { OnOk result (held.new ≡ after shape.now (pair_moved table stamp pair.now (row_in shape.now held.old table pair.now)) held.old) }
-    ensures err { OnErr result (IsNearly shape.now table (block_of pair.now.source) held.old held.new) }
+        (candidates_of (shard_in shape.now held.old table (shard_of pair.now.key)) pair.now.key)
+        ≡ false }
+    ensures ok { OnOk result (held.new
+        ≡ after shape.now (pair_moved table stamp pair.now
+        (row_in shape.now held.old table pair.now)) held.old) }
+    ensures err { OnErr result (IsNearly shape.now table (block_of pair.now.source) held.old
+        held.new) }
 {
     add_candidate(shape, held, table, pair.key, pair.target)?;
     match move_row(shape, held, table, pair, stamp) {
@@ -106,7 +117,7 @@ fn move_pair(
     }
 }
 
-// Moves the row of a pair.
+/// Moves the row of a pair.
 fn move_row(
     shape: &Shape,
     held: &mut Hand<CorePart>,
@@ -115,8 +126,11 @@ fn move_row(
     stamp: u64,
 ) -> Result<(), AllocError>
     requires { IsReadyIn shape.now held.old table pair.now }
-    ensures ok { OnOk result (held.new ≡ after shape.now (rows_moved table stamp pair.now (row_in shape.now held.old table pair.now)) held.old) }
-    ensures err { OnErr result (IsNearly shape.now table (block_of pair.now.source) held.old held.new) }
+    ensures ok { OnOk result (held.new
+        ≡ after shape.now (rows_moved table stamp pair.now
+        (row_in shape.now held.old table pair.now)) held.old) }
+    ensures err { OnErr result (IsNearly shape.now table (block_of pair.now.source) held.old
+        held.new) }
 {
     let row = move_out(shape, held, table, pair.source, stamp)?;
     match move_in(shape, held, table, pair.target, row, stamp) {
@@ -128,14 +142,16 @@ fn move_row(
     }
 }
 
-// Takes one pair back.
+/// Takes one pair back.
 fn undo_pair(shape: &Shape, held: &mut Hand<CorePart>, table: u32, pair: &MovePair)
     requires source { Has shape.now held.old (BodyOf table (block_of pair.now.source)) }
     requires target { Has shape.now held.old (BodyOf table (block_of pair.now.target)) }
     requires shard { Has shape.now held.old (ShardOf table (shard_of pair.now.key)) }
     requires room { length held.old ≡ length (names shape.now) }
-    requires out { has_none (slot_in (body_in shape.now held.old table (block_of pair.now.source)) (slot_of pair.now.source)).entries ≡ false }
-    requires in_ { has_none (slot_in (body_in shape.now held.old table (block_of pair.now.target)) (slot_of pair.now.target)).entries ≡ false }
+    requires out { has_none (slot_in (body_in shape.now held.old table (block_of pair.now.source))
+        (slot_of pair.now.source)).entries ≡ false }
+    requires in_ { has_none (slot_in (body_in shape.now held.old table (block_of pair.now.target))
+        (slot_of pair.now.target)).entries ≡ false }
     requires apart { pair.now.source ≢ pair.now.target }
     ensures { held.new ≡ after shape.now (pair_undone table pair.now) held.old }
 {

@@ -3,7 +3,8 @@ ghost use Rattle.std.specs.Prelude.{◌≡◌, ◌++◌, [], ◌∷◌, IfOk, On
 ghost use Rattle.std.specs.List.{flat_map};
 ghost use Rattle.core_opening.specs.Placed.{placed};
 ghost use Rattle.event_spec.specs.Lawful.{HasTable};
-ghost use Rattle.event_spec.specs.Parts.{HeadOf, ShardOf, BodyOf, TheDesk, below, blocks_of, tables_of};
+ghost use Rattle.event_spec.specs.Parts.{HeadOf, ShardOf, BodyOf, TheDesk, below, blocks_of};
+ghost use Rattle.event_spec.specs.Parts.{tables_of};
 ghost use Rattle.event_spec.specs.Replay.{opening};
 ghost use Rattle.hall_rule.specs.Hands.{all_in};
 
@@ -16,7 +17,7 @@ use part_changes::TableHead;
 use std::alloc::AllocError;
 use txn_desk::Desk;
 
-// The shards of a table's index.
+/// The shards of a table's index.
 const SHARDS: u32 = 8;
 
 /// A hand that has every part of a core before its first event.
@@ -31,9 +32,10 @@ pub fn opening_hand(shape: &Shape) -> Result<Hand<CorePart>, AllocError>
     Hand::of(shape.alloc(), places)
 }
 
-// Adds the heads, table by table.
+/// Adds the heads, table by table.
 fn add_heads(shape: &Shape, places: &mut Vec<Option<CorePart>>) -> Result<(), AllocError>
-    ensures { OnOk result (places.new.items ≡ places.old.items ++ placed shape.now (map HeadOf (tables_of shape.now))) }
+    ensures { OnOk result (places.new.items ≡ places.old.items
+        ++ placed shape.now (map HeadOf (tables_of shape.now))) }
 {
     let tables = shape.tables().len() as u32;
     for table in 0..tables {
@@ -43,10 +45,11 @@ fn add_heads(shape: &Shape, places: &mut Vec<Option<CorePart>>) -> Result<(), Al
     Ok(())
 }
 
-// Adds the shards, table by table.
+/// Adds the shards, table by table.
 fn add_shards(shape: &Shape, places: &mut Vec<Option<CorePart>>) -> Result<(), AllocError>
     ensures { OnOk result (places.new.items ≡ places.old.items
-        ++ placed shape.now (flat_map (λ table. map (ShardOf table) (below 8)) (tables_of shape.now))) }
+        ++ placed shape.now (flat_map (λ table. map (ShardOf table) (below 8))
+        (tables_of shape.now))) }
 {
     let tables = shape.tables().len() as u32;
     for table in 0..tables {
@@ -55,13 +58,14 @@ fn add_shards(shape: &Shape, places: &mut Vec<Option<CorePart>>) -> Result<(), A
     Ok(())
 }
 
-// Adds the shards of a table.
+/// Adds the shards of a table.
 fn add_shards_of(
     shape: &Shape,
     places: &mut Vec<Option<CorePart>>,
     table: u32,
 ) -> Result<(), AllocError>
-    ensures { OnOk result (places.new.items ≡ places.old.items ++ placed shape.now (map (ShardOf table) (below 8))) }
+    ensures { OnOk result (places.new.items ≡ places.old.items
+        ++ placed shape.now (map (ShardOf table) (below 8))) }
 {
     for _shard in 0..SHARDS {
         let index = Index::new(shape.alloc());
@@ -70,10 +74,11 @@ fn add_shards_of(
     Ok(())
 }
 
-// Adds the bodies, table by table.
+/// Adds the bodies, table by table.
 fn add_bodies(shape: &Shape, places: &mut Vec<Option<CorePart>>) -> Result<(), AllocError>
     ensures { OnOk result (places.new.items ≡ places.old.items ++ placed shape.now
-        (flat_map (λ table. map (BodyOf table) (below (blocks_of shape.now table))) (tables_of shape.now))) }
+        (flat_map (λ table. map (BodyOf table) (below (blocks_of shape.now table)))
+        (tables_of shape.now))) }
 {
     let tables = shape.tables().len() as u32;
     for table in 0..tables {
@@ -82,7 +87,7 @@ fn add_bodies(shape: &Shape, places: &mut Vec<Option<CorePart>>) -> Result<(), A
     Ok(())
 }
 
-// Adds the bodies of a table.
+/// Adds the bodies of a table.
 fn add_bodies_of(
     shape: &Shape,
     places: &mut Vec<Option<CorePart>>,
@@ -100,7 +105,7 @@ fn add_bodies_of(
     Ok(())
 }
 
-// Adds the desk.
+/// Adds the desk.
 fn add_desk(shape: &Shape, places: &mut Vec<Option<CorePart>>) -> Result<(), AllocError>
     ensures { OnOk result (places.new.items ≡ places.old.items ++ placed shape.now (TheDesk ∷ [])) }
 {

@@ -13,8 +13,8 @@ abbrev pub after_bodies : ℕ → List TableDecl → ℕ
 after_bodies from [] = from
 after_bodies from (table ∷ tables) = after_bodies (from + table.blocks) tables
 
--- What a core is made of: at most 16 tables, with at most 2 ^ 10 blocks of at most 2 ^ 15 slots each and columns that are
--- a schema, for at most 128 passes.
+-- What a core is made of: at most 16 tables, with at most 2 ^ 10 blocks of at most 2 ^ 15 slots
+-- each and columns that are a schema, for at most 128 passes.
 pub record IsOfSize (tables : List TableDecl) (passes : ℕ) : Type 0 where
   pub tables_few : length tables ≤ 16
   pub passes_few : passes ≤ 128

@@ -59,7 +59,7 @@ pub fn desk<'a>(shape: &Shape, held: &'a Hand<CorePart>) -> &'a Desk
     desk.get()
 }
 
-// Takes the part of a number out of the hand.
+/// Takes the part of a number out of the hand.
 fn take(held: &mut Hand<CorePart>, number: u32) -> CorePart
     requires { Holds held.old number }
     ensures part { slice_get held.old number ≡ Some (Some result) }
@@ -86,7 +86,8 @@ pub fn take_head(shape: &Shape, held: &mut Hand<CorePart>, table: u32) -> Box<Ta
 /// Takes one of a table's shards out of the hand.
 pub fn take_shard(shape: &Shape, held: &mut Hand<CorePart>, table: u32, shard: u32) -> Box<Index>
     requires { Has shape.now held.old (ShardOf table shard) }
-    ensures part { in_hand shape.now held.old (ShardOf table shard) ≡ Some (part.Shard result.value) }
+    ensures part { in_hand shape.now held.old (ShardOf table shard)
+        ≡ Some (part.Shard result.value) }
     ensures taken { held.new ≡ laid shape.now (ShardOf table shard) None held.old }
 {
     let Part::Shard(index) = take(held, shape.shard(table, shard)) else {
@@ -139,7 +140,8 @@ pub fn lay_shard(
     requires table { HasTable shape.now table }
     requires shard { shard < 8 }
     requires room { length held.old ≡ length (names shape.now) }
-    ensures { held.new ≡ laid shape.now (ShardOf table shard) (Some (part.Shard index.value)) held.old }
+    ensures { held.new ≡ laid shape.now (ShardOf table shard) (Some (part.Shard index.value))
+        held.old }
 {
     held.replace(
         shape.shard(table, shard),
@@ -151,7 +153,8 @@ pub fn lay_shard(
 pub fn lay_body(shape: &Shape, held: &mut Hand<CorePart>, table: u32, block: u32, body: Box<Body>)
     requires block { HasBlock shape.now table block }
     requires room { length held.old ≡ length (names shape.now) }
-    ensures { held.new ≡ laid shape.now (BodyOf table block) (Some (part.Body body.value)) held.old }
+    ensures { held.new ≡ laid shape.now (BodyOf table block) (Some (part.Body body.value))
+        held.old }
 {
     held.replace(shape.body(table, block), Some(Part::Body(Kept::of(body))));
 }

@@ -1,5 +1,5 @@
-//! The parts of the core as they lie in a hand: their types, the number of each, and how one is taken
-//! out, changed and laid back.
+//! The parts of the core as they lie in a hand: their types, the number of each, and how one is
+//! taken out, changed and laid back.
 #![tactic(auto)]
 
 mod access;

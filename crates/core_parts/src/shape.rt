@@ -4,22 +4,23 @@ ghost use Rattle.cell_model.specs.Schemas.{IsSchema};
 ghost use Rattle.core_parts.specs.Numbers.{AreNumbers, IsOfSize, after_bodies};
 ghost use Rattle.event_spec.specs.Lawful.{HasBlock, HasTable};
 ghost use Rattle.event_spec.specs.Replay.{columns_in};
-ghost use Rattle.event_spec.specs.Parts.{HeadOf, ShardOf, BodyOf, TheDesk, blocks_of, names, shard_of, slots_of};
+ghost use Rattle.event_spec.specs.Parts.{HeadOf, ShardOf, BodyOf, TheDesk, blocks_of, names};
+ghost use Rattle.event_spec.specs.Parts.{shard_of, slots_of};
 
 use cell_model::{Schema, TableDecl};
 use std::alloc::{AllocError, Global};
 use std::marker::Model;
 
-/// The tables of a core, the number of its passes, and with them the number of each of its parts. Contracts see the
-/// record of `event_spec`.
+/// The tables of a core, the number of its passes, and with them the number of each of its parts.
+/// Contracts see the record of `event_spec`.
 #[derive(Drop)]
 pub struct Shape {
     alloc: Global,
     tables: Vec<TableDecl>,
     passes: u32,
-    // The number of each table's first body.
+    /// The number of each table's first body.
     bodies: Vec<u32>,
-    // The number of the desk, which is the last.
+    /// The number of the desk, which is the last.
     desk: u32,
 }
 
@@ -31,7 +32,8 @@ impl Model for Shape {
 
     ghost view = { λ shape. record { tables = shape.tables.items; passes = shape.passes } };
 
-    ghost invariant = { λ shape. AreNumbers shape.tables.items shape.bodies.items shape.desk × IsOfSize shape.tables.items shape.passes };
+    ghost invariant = { λ shape. AreNumbers shape.tables.items shape.bodies.items shape.desk
+        × IsOfSize shape.tables.items shape.passes };
 }
 
 /// The shard of a key.
@@ -41,7 +43,7 @@ pub fn shard_of(key: i64) -> u32
     key.rem_euclid(8) as u32
 }
 
-// The number of each table's first body, and the number after those of all bodies.
+/// The number of each table's first body, and the number after those of all bodies.
 fn numbers_of(alloc: Global, tables: &[TableDecl]) -> Result<(Vec<u32>, u32), AllocError>
     requires { after_bodies (9 * length tables.now) tables.now < 2 ^ 32 }
     ensures { IfOk result (λ r. AreNumbers tables.now r.0.items r.1) }

@@ -20,10 +20,12 @@ reply_of (rows.Shared all) = reply.Shared all
 -- the row of a slot that the session sees, but for one whose key it wrote at another place
 abbrev pub row_in : OwnTransaction → ℕ → ℕ → Slot → Option Row
 row_in own table place slot = option_and_then
-    (λ row. if is_elsewhere (at_place own.writes (place_at table (key_of row))) place then None else Some row)
+    (λ row. if is_elsewhere (at_place own.writes (place_at table (key_of row))) place then None
+    else Some row)
     (seen slot own.snapshot.stamp own.session)
 
 -- those of a body, in slot order
 abbrev pub rows_in : OwnTransaction → ℕ → ℕ → Body → List Row
 rows_in own table block body =
-    filter_map (λ slot. row_in own table (place_of block slot) (slot_in body slot)) (below (length body.slots))
+    filter_map (λ slot. row_in own table (place_of block slot) (slot_in body slot))
+    (below (length body.slots))

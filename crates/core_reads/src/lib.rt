@@ -1,5 +1,5 @@
-//! The events that read a block of the parts in a hand: a read of the rows that a session sees, and a
-//! look at those that a compaction may move. A block's shared image is lent without an event.
+//! The events that read a block of the parts in a hand: a read of the rows that a session sees, and
+//! a look at those that a compaction may move. A block's shared image is lent without an event.
 #![tactic(auto)]
 
 mod looking;

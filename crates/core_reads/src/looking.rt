@@ -17,7 +17,8 @@ pub fn look(
     block: u32,
 ) -> Result<Look, AllocError>
     requires { MayRun shape.now (event.Look table block) held.now }
-    ensures { IfOk result (λ looked. Makes shape.now (event.Look table block) held.now held.now (reply.Looked looked)) }
+    ensures { IfOk result (λ looked. Makes shape.now (event.Look table block) held.now held.now
+        (reply.Looked looked)) }
 {
     // The rows fit the table's columns, which begin with the key.
     let _schema = shape.schema(table);

@@ -1,5 +1,6 @@
 //! A read of a block.
-ghost use Rattle.std.specs.Prelude.{◌≡◌, ◌+◌, ◌≤◌, ◌<◌, ◌^◌, ℕ, IfOk, IfSome, length, if◌then◌else◌};
+ghost use Rattle.std.specs.Prelude.{◌≡◌, ◌+◌, ◌≤◌, ◌<◌, ◌^◌, ℕ, IfOk, IfSome, length};
+ghost use Rattle.std.specs.Prelude.{if◌then◌else◌};
 ghost use Rattle.block_body.specs.Keys.{HasKey};
 ghost use Rattle.block_layout.specs.Place.{slot_of};
 ghost use Rattle.block_spec.specs.Bodies.{is_imaged, slot_in};
@@ -34,8 +35,8 @@ pub enum BlockRows {
     Shared(SharedRows),
 }
 
-/// The rows of a block that the session sees. Each slot's row is read once, and none where the block is
-/// imaged.
+/// The rows of a block that the session sees. Each slot's row is read once, and none where the
+/// block is imaged.
 pub fn read<L: Ledger>(
     shape: &Shape,
     held: &Hand<CorePart>,
@@ -45,9 +46,11 @@ pub fn read<L: Ledger>(
     steps: &mut Steps<L>,
 ) -> Result<BlockRows, AllocError>
     requires { MayRun shape.now (event.Read own.now table block) held.now }
-    ensures reply { IfOk result (λ rows. Makes shape.now (event.Read own.now table block) held.now held.now (reply_of rows)) }
+    ensures reply { IfOk result (λ rows. Makes shape.now (event.Read own.now table block) held.now
+        held.now (reply_of rows)) }
     ensures steps { (s : Parts) → Agrees held.now s →
-        steps.new ≤ steps.old + (if is_imaged (body_at shape.now s table block).phase then 0 else slots_of shape.now table) }
+        steps.new ≤ steps.old + (if is_imaged (body_at shape.now s table block).phase then 0
+        else slots_of shape.now table) }
 {
     // The rows fit the table's columns, which begin with the key.
     let _schema = shape.schema(table);
@@ -61,8 +64,8 @@ pub fn read<L: Ledger>(
     }
 }
 
-// The rows of a body that the session sees, in slot order, without those whose key it wrote at another
-// slot.
+/// The rows of a body that the session sees, in slot order, without those whose key it wrote at
+/// another slot.
 fn rows_in<L: Ledger>(
     alloc: Global,
     body: &Body,
@@ -72,7 +75,8 @@ fn rows_in<L: Ledger>(
     steps: &mut Steps<L>,
 ) -> Result<Rows, AllocError>
     requires few { length body.now.slots ≤ 2 ^ 15 }
-    requires keys { (slot : ℕ) → IfSome (seen (slot_in body.now slot) own.now.snapshot.stamp own.now.session) HasKey }
+    requires keys { (slot : ℕ) → IfSome
+        (seen (slot_in body.now slot) own.now.snapshot.stamp own.now.session) HasKey }
     ensures rows { IfOk result (λ rows. rows ≡ rows_in own.now table block body.now) }
     ensures steps { steps.new ≤ steps.old + length body.now.slots }
 {
@@ -85,7 +89,7 @@ fn rows_in<L: Ledger>(
     Ok(Rows::from(rows))
 }
 
-// The row of a slot that the session sees, if it did not write the row's key at another slot.
+/// The row of a slot that the session sees, if it did not write the row's key at another slot.
 fn row_in<L: Ledger>(
     body: &Body,
     own: &OwnTransaction,
@@ -94,8 +98,10 @@ fn row_in<L: Ledger>(
     steps: &mut Steps<L>,
 ) -> Result<Option<Row>, AllocError>
     requires slot { slot_of place < length body.now.slots }
-    requires key { IfSome (seen (slot_in body.now (slot_of place)) own.now.snapshot.stamp own.now.session) HasKey }
-    ensures row { IfOk result (λ row. row ≡ row_in own.now table place (slot_in body.now (slot_of place))) }
+    requires key { IfSome (seen (slot_in body.now (slot_of place)) own.now.snapshot.stamp
+        own.now.session) HasKey }
+    ensures row { IfOk result (λ row. row
+        ≡ row_in own.now table place (slot_in body.now (slot_of place))) }
     ensures steps { steps.new ≤ steps.old + 1 }
 {
     let Some(row) = body.read(place.slot(), own.snapshot.stamp, own.session, steps)? else {
@@ -107,7 +113,7 @@ fn row_in<L: Ledger>(
     Ok(Some(row))
 }
 
-// Whether the session wrote a key at another slot.
+/// Whether the session wrote a key at another slot.
 fn is_elsewhere(writes: &OwnWrites, table: u32, key: i64, place: SlotId) -> bool
     ensures { result ≡ is_elsewhere (at_place writes.now (place_at table key)) place }
 {

@@ -21,7 +21,8 @@ pub fn shared(
     requires body { Has shape.now held.now (BodyOf table block) }
     requires core { (parts : Parts) × CoreHolds shape.now parts × Agrees held.now parts }
     ensures { IfOk result (λ shared. (s : Parts) → CoreHolds shape.now s → Agrees held.now s →
-        shared ≡ (if is_imaged (body_at shape.now s table block).phase then Some (rows_of (body_at shape.now s table block)) else None)) }
+        shared ≡ (if is_imaged (body_at shape.now s table block).phase
+        then Some (rows_of (body_at shape.now s table block)) else None)) }
 {
     let body = body(shape, held, table, block);
     match body.shared()? {

@@ -25,7 +25,7 @@ pub fn abort(shape: &Shape, held: &mut Hand<CorePart>, own: &OwnTransaction)
     lay_desk(shape, held, desk);
 }
 
-// Undoes each write of the transaction.
+/// Undoes each write of the transaction.
 fn undo_all(shape: &Shape, held: &mut Hand<CorePart>, own: &OwnTransaction)
     requires { MayRun shape.now (event.Abort own.now) held.old }
     ensures { IsUndone shape.now own.now held.old held.new own.now.writes }
@@ -35,7 +35,7 @@ fn undo_all(shape: &Shape, held: &mut Hand<CorePart>, own: &OwnTransaction)
     }
 }
 
-// Undoes one write of the session, with all that it wrote in the same body.
+/// Undoes one write of the session, with all that it wrote in the same body.
 fn undo(shape: &Shape, held: &mut Hand<CorePart>, session: u32, table: u32, key: i64, place: SlotId)
     requires head { Has shape.now held.old (HeadOf table) }
     requires shard { Has shape.now held.old (ShardOf table (shard_of key)) }
@@ -49,11 +49,12 @@ fn undo(shape: &Shape, held: &mut Hand<CorePart>, session: u32, table: u32, key:
     tell_empty(shape, held, table, place.block());
 }
 
-// Rolls the session's writes in a body back.
+/// Rolls the session's writes in a body back.
 fn roll_back(shape: &Shape, held: &mut Hand<CorePart>, table: u32, block: u32, session: u32)
     requires body { Has shape.now held.old (BodyOf table block) }
     requires room { length held.old ≡ length (names shape.now) }
-    ensures { held.new ≡ after shape.now (body_changed table block (rolled_back_in session)) held.old }
+    ensures { held.new ≡ after shape.now (body_changed table block (rolled_back_in session))
+        held.old }
 {
     let mut body = take_body(shape, held, table, block);
     body.roll_back(session);

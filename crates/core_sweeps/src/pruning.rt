@@ -26,7 +26,8 @@ pub fn prune(
     oldest: u64,
 ) -> VersionCount
     requires { MayRun shape.now (event.Prune table block oldest) held.old }
-    ensures { Makes shape.now (event.Prune table block oldest) held.old held.new (reply.Dropped result) }
+    ensures { Makes shape.now (event.Prune table block oldest) held.old held.new
+        (reply.Dropped result) }
 {
     drop_left(shape, held, table, block, oldest);
     let dropped = prune_body(shape, held, table, block, oldest);
@@ -34,7 +35,7 @@ pub fn prune(
     VersionCount::of(dropped)
 }
 
-// Drops the candidates of the slots that the pruning will leave bare.
+/// Drops the candidates of the slots that the pruning will leave bare.
 fn drop_left(shape: &Shape, held: &mut Hand<CorePart>, table: u32, block: u32, oldest: u64)
     requires { MayRun shape.now (event.Prune table block oldest) held.old }
     ensures { AreDropped shape.now table block oldest held.old held.new }
@@ -47,7 +48,7 @@ fn drop_left(shape: &Shape, held: &mut Hand<CorePart>, table: u32, block: u32, o
     }
 }
 
-// Drops the candidate of a slot that the pruning will leave bare.
+/// Drops the candidate of a slot that the pruning will leave bare.
 fn drop_slot(
     shape: &Shape,
     held: &mut Hand<CorePart>,
@@ -60,7 +61,8 @@ fn drop_slot(
     requires shards { (shard : ℕ) → shard < 8 → Has shape.now held.old (ShardOf table shard) }
     requires room { length held.old ≡ length (names shape.now) }
     requires slot { slot < 2 ^ 20 }
-    requires key { IfSome (taken_back (slot_in (body_in shape.now held.old table block) slot)).row HasKey }
+    requires key { IfSome (taken_back (slot_in (body_in shape.now held.old table block) slot)).row
+        HasKey }
     ensures { held.new ≡ after shape.now (dropped_at table block slot
         (key_left oldest (slot_in (body_in shape.now held.old table block) slot))) held.old }
 {
@@ -69,12 +71,13 @@ fn drop_slot(
     }
 }
 
-// Drops the versions, and tells how many these were.
+/// Drops the versions, and tells how many these were.
 fn prune_body(shape: &Shape, held: &mut Hand<CorePart>, table: u32, block: u32, oldest: u64) -> u64
     requires body { Has shape.now held.old (BodyOf table block) }
     requires slots { length (body_in shape.now held.old table block).slots ≤ 2 ^ 15 }
     requires room { length held.old ≡ length (names shape.now) }
-    ensures pruned { held.new ≡ after shape.now (body_changed table block (pruned_in oldest)) held.old }
+    ensures pruned { held.new ≡ after shape.now (body_changed table block (pruned_in oldest))
+        held.old }
     ensures count { result ≡ dropped_from oldest (body_in shape.now held.old table block) }
     ensures few { result ≤ 2 ^ 46 }
 {

@@ -4,7 +4,8 @@ ghost use Rattle.block_layout.specs.Place.{block_of, slot_of};
 ghost use Rattle.block_spec.specs.Bodies.{is_empty, slot_in};
 ghost use Rattle.block_spec.specs.Slots.{is_bare};
 ghost use Rattle.core_parts.specs.Hands.{Has, after};
-ghost use Rattle.core_sweeps.specs.Steps.{body_in, head_changed, shard_changed, with_gain, without_bare};
+ghost use Rattle.core_sweeps.specs.Steps.{body_in, head_changed, shard_changed, with_gain};
+ghost use Rattle.core_sweeps.specs.Steps.{without_bare};
 ghost use Rattle.event_spec.specs.Parts.{HeadOf, ShardOf, BodyOf, names, shard_of};
 ghost use Rattle.part_changes.specs.Heads.{gained};
 ghost use Rattle.part_changes.specs.Shards.{without_place};
@@ -18,7 +19,8 @@ use part_changes::drop_place;
 pub fn drop_candidate(shape: &Shape, held: &mut Hand<CorePart>, table: u32, key: i64, place: SlotId)
     requires shard { Has shape.now held.old (ShardOf table (shard_of key)) }
     requires room { length held.old ≡ length (names shape.now) }
-    ensures { held.new ≡ after shape.now (shard_changed table (shard_of key) (without_place key place)) held.old }
+    ensures { held.new ≡ after shape.now
+        (shard_changed table (shard_of key) (without_place key place)) held.old }
 {
     let shard = shard_of(key);
     let mut index = take_shard(shape, held, table, shard);
@@ -38,7 +40,8 @@ pub(crate) fn drop_bare(
     requires shard { Has shape.now held.old (ShardOf table (shard_of key)) }
     requires room { length held.old ≡ length (names shape.now) }
     ensures { held.new ≡ after shape.now (shard_changed table (shard_of key) (without_bare
-        (is_bare (slot_in (body_in shape.now held.old table (block_of place)) (slot_of place))) key place)) held.old }
+        (is_bare (slot_in (body_in shape.now held.old table (block_of place)) (slot_of place))) key
+        place)) held.old }
 {
     if body(shape, held, table, place.block()).bare(place.slot()) {
         drop_candidate(shape, held, table, key, place);

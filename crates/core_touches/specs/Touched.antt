@@ -5,7 +5,8 @@ use Rattle.block_layout.specs.Place.{block_of}
 use Rattle.event_spec.specs.declared.event.Event.TheVariants as event
 use Rattle.event_spec.specs.declared.event.MovePair.{MovePair}
 use Rattle.event_spec.specs.Effects.{CoreEvent}
-use Rattle.event_spec.specs.Parts.{CorePart, Name, HeadOf, ShardOf, BodyOf, TheDesk, Shape, below, shard_of, tables_of}
+use Rattle.event_spec.specs.Parts.{CorePart, Name, HeadOf, ShardOf, BodyOf, TheDesk, Shape, below}
+use Rattle.event_spec.specs.Parts.{shard_of, tables_of}
 use Rattle.event_spec.specs.Touched.{held_next, held_places}
 use Rattle.isolation_spec.specs.Contents.{PlaceMap, key_of}
 
@@ -34,28 +35,34 @@ abbrev pub shards_in : ℕ → List Name
 shards_in table = map (ShardOf table) (below 8)
 
 module _ (shape : Shape) (held : Name → Option CorePart) where
-  -- of an event on a key: its shard, the body of the place that the event goes to, and those of its candidates
+  -- of an event on a key: its shard, the body of the place that the event goes to, and those of its
+  -- candidates
   abbrev pub names_on_key : ℕ → ℤ → Option ℕ → List Name
   names_on_key table key place =
-      ShardOf table (shard_of key) ∷ [] ++ bodies_at table (option_to_list place) ++ bodies_at table (held_places shape held table key)
+      ShardOf table (shard_of key) ∷ [] ++ bodies_at table (option_to_list place)
+      ++ bodies_at table (held_places shape held table key)
 
   abbrev pub touched_names : CoreEvent → List Name
   touched_names (event.Begin session) = TheDesk ∷ []
   touched_names (event.Get own table key) = names_on_key table key own.written
   touched_names (event.Insert own table row) =
-      HeadOf table ∷ [] ++ names_on_key table (key_of row) (option_or own.written (held_next shape held table))
+      HeadOf table ∷ [] ++ names_on_key table (key_of row)
+      (option_or own.written (held_next shape held table))
   touched_names (event.Update own table row) = names_on_key table (key_of row) own.written
   touched_names (event.Delete own table key) = names_on_key table key own.written
   touched_names (event.Read own table block) = BodyOf table block ∷ []
   touched_names (event.Commit own) = bodies_written own.writes ++ TheDesk ∷ []
   touched_names (event.Abort own) =
-      map HeadOf (tables_of shape) ++ shards_written own.writes ++ bodies_written own.writes ++ TheDesk ∷ []
+      map HeadOf (tables_of shape) ++ shards_written own.writes ++ bodies_written own.writes
+      ++ TheDesk ∷ []
   touched_names event.Oldest = TheDesk ∷ []
   touched_names (event.Observe table block) = HeadOf table ∷ BodyOf table block ∷ []
-  touched_names (event.Prune table block oldest) = HeadOf table ∷ BodyOf table block ∷ [] ++ shards_in table
+  touched_names (event.Prune table block oldest) = HeadOf table ∷ BodyOf table block ∷ []
+      ++ shards_in table
   touched_names (event.Look table block) = BodyOf table block ∷ []
   touched_names (event.Move table moves) =
-      HeadOf table ∷ [] ++ shards_moved table moves ++ sources_moved table moves ++ targets_moved table moves ++ TheDesk ∷ []
+      HeadOf table ∷ [] ++ shards_moved table moves ++ sources_moved table moves
+      ++ targets_moved table moves ++ TheDesk ∷ []
   touched_names (event.Seal table block) = HeadOf table ∷ BodyOf table block ∷ []
   touched_names (event.Image table block image) = BodyOf table block ∷ []
   touched_names (event.Thaw table block) = BodyOf table block ∷ []

@@ -1,4 +1,5 @@
-//! Which parts of the core an event touches, as the parts held before tell: the next one from any on.
+//! Which parts of the core an event touches, as the parts held before tell: the next one from any
+//! on.
 #![tactic(auto)]
 
 mod keyed;

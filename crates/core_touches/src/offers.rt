@@ -1,7 +1,8 @@
 //! Parts whose numbers are offered.
 ghost use Rattle.std.specs.Prelude.{◌≡◌, ◌<◌, map, option_to_list};
 ghost use Rattle.core_touches.specs.Least.{offered_all, offered_name};
-ghost use Rattle.core_touches.specs.Touched.{bodies_at, bodies_written, shards_in, shards_moved, shards_written, sources_moved, targets_moved};
+ghost use Rattle.core_touches.specs.Touched.{bodies_at, bodies_written, shards_in, shards_moved};
+ghost use Rattle.core_touches.specs.Touched.{shards_written, sources_moved, targets_moved};
 ghost use Rattle.event_spec.specs.Parts.{HeadOf, ShardOf, BodyOf, TheDesk, tables_of};
 
 use crate::least::Least;

@@ -3,7 +3,9 @@ ghost use Rattle.std.specs.Prelude.{◌≡◌, ◌<◌, [], ◌∷◌, ◌++◌,
 ghost use Rattle.std.specs.Option.{option_map_or};
 ghost use Rattle.core_parts.specs.Hands.{in_hand};
 ghost use Rattle.core_touches.specs.Least.{offered_all};
-ghost use Rattle.core_touches.specs.Touched.{bodies_written, names_on_key, shards_moved, shards_written, sources_moved, targets_moved, touched_names};
+ghost use Rattle.core_touches.specs.Touched.{bodies_written, names_on_key, shards_moved};
+ghost use Rattle.core_touches.specs.Touched.{shards_written, sources_moved, targets_moved};
+ghost use Rattle.core_touches.specs.Touched.{touched_names};
 ghost use Rattle.event_spec.specs.Judged.{next_place};
 ghost use Rattle.event_spec.specs.Parts.{HeadOf, TheDesk, head_from, shard_from, tables_of};
 ghost use Rattle.event_spec.specs.Touched.{held_next, held_places, touching};
@@ -47,9 +49,10 @@ pub fn next_touched(
     }
 }
 
-// Offers the numbers of all parts that the event touches.
+/// Offers the numbers of all parts that the event touches.
 fn offer_touched(shape: &Shape, least: &mut Least, event: &KeyedEvent, held: &Hand<CorePart>)
-    ensures { least.new ≡ offered_all shape.now (touched_names shape.now (in_hand shape.now held.now) event.now) least.old }
+    ensures { least.new ≡ offered_all shape.now
+        (touched_names shape.now (in_hand shape.now held.now) event.now) least.old }
 {
     match event.event() {
         Event::Begin { .. } | Event::Oldest => offer_desk(shape, least),
@@ -89,8 +92,8 @@ fn offer_touched(shape: &Shape, least: &mut Least, event: &KeyedEvent, held: &Ha
     }
 }
 
-// Offers the parts of an event on a key: its shard, the body of the place that it goes to, and those
-// of its candidates.
+/// Offers the parts of an event on a key: its shard, the body of the place that it goes to, and
+/// those of its candidates.
 fn offer_on_key(
     shape: &Shape,
     least: &mut Least,
@@ -99,14 +102,15 @@ fn offer_on_key(
     key: i64,
     place: Option<SlotId>,
 )
-    ensures { least.new ≡ offered_all shape.now (names_on_key shape.now (in_hand shape.now held.now) table key place) least.old }
+    ensures { least.new ≡ offered_all shape.now
+        (names_on_key shape.now (in_hand shape.now held.now) table key place) least.old }
 {
     offer_shard(shape, least, table, shard_of(key));
     offer_place(shape, least, table, place);
     offer_places(shape, least, table, candidates(shape, held, table, key));
 }
 
-// Offers the parts of an abort.
+/// Offers the parts of an abort.
 fn offer_aborted(shape: &Shape, least: &mut Least, writes: &OwnWrites)
     ensures { least.new ≡ offered_all shape.now (map HeadOf (tables_of shape.now)
         ++ shards_written writes.now ++ bodies_written writes.now ++ TheDesk ∷ []) least.old }
@@ -117,10 +121,11 @@ fn offer_aborted(shape: &Shape, least: &mut Least, writes: &OwnWrites)
     offer_desk(shape, least);
 }
 
-// Offers the parts of a move.
+/// Offers the parts of a move.
 fn offer_moved(shape: &Shape, least: &mut Least, table: u32, pairs: &[MovePair])
     ensures { least.new ≡ offered_all shape.now (HeadOf table ∷ [] ++ shards_moved table pairs.now
-        ++ sources_moved table pairs.now ++ targets_moved table pairs.now ++ TheDesk ∷ []) least.old }
+        ++ sources_moved table pairs.now ++ targets_moved table pairs.now ++ TheDesk ∷ [])
+        least.old }
 {
     offer_head(shape, least, table);
     offer_moved_keys(shape, least, table, pairs);
@@ -129,7 +134,7 @@ fn offer_moved(shape: &Shape, least: &mut Least, table: u32, pairs: &[MovePair])
     offer_desk(shape, least);
 }
 
-// The candidates of a key, where its shard is held, and else none.
+/// The candidates of a key, where its shard is held, and else none.
 fn candidates<'a>(shape: &Shape, held: &'a Hand<CorePart>, table: u32, key: i64) -> &'a [SlotId]
     ensures { result.now ≡ held_places shape.now (in_hand shape.now held.now) table key }
 {
@@ -146,7 +151,7 @@ fn candidates<'a>(shape: &Shape, held: &'a Hand<CorePart>, table: u32, key: i64)
     }
 }
 
-// The shard in a place, if there is one.
+/// The shard in a place, if there is one.
 fn shard_in(place: &Option<CorePart>) -> Option<&Index>
     ensures { shard_from place.now ≡ option_map_or (λ index. index.now) result (shard_from None) }
 {
@@ -159,7 +164,7 @@ fn shard_in(place: &Option<CorePart>) -> Option<&Index>
     }
 }
 
-// The next place of a table, where its head is held and has one.
+/// The next place of a table, where its head is held and has one.
 fn next_place(shape: &Shape, held: &Hand<CorePart>, table: u32) -> Option<SlotId>
     ensures { result ≡ held_next shape.now (in_hand shape.now held.now) table }
 {
@@ -177,7 +182,7 @@ fn next_place(shape: &Shape, held: &Hand<CorePart>, table: u32) -> Option<SlotId
     }
 }
 
-// The head in a place, if there is one.
+/// The head in a place, if there is one.
 fn head_in(place: &Option<CorePart>) -> Option<&TableHead>
     ensures { head_from place.now ≡ option_map_or (λ head. head.now) result (head_from None) }
 {
@@ -190,7 +195,7 @@ fn head_in(place: &Option<CorePart>) -> Option<&TableHead>
     }
 }
 
-// The first place of a table whose head is not held.
+/// The first place of a table whose head is not held.
 fn first_place(slots: u32) -> Option<SlotId>
     ensures { result ≡ next_place (head_from None) slots }
 {

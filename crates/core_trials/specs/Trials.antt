@@ -1,5 +1,6 @@
 -- What is kept of a core between its events.
-use Rattle.std.specs.Prelude.{◌≡◌, ℕ, ◌<◌, ◌≤◌, ◌^◌, List, [], ◌∷◌, Option, None, Some, option_map, codes, length, slice_index_or}
+use Rattle.std.specs.Prelude.{◌≡◌, ℕ, ◌<◌, ◌≤◌, ◌^◌, List, [], ◌∷◌, Option, None, Some, option_map}
+use Rattle.std.specs.Prelude.{codes, length, slice_index_or}
 use Rattle.block_layout.specs.Place.{block_of, slot_of}
 use Rattle.cell_model.specs.declared.column.Column.{Column}
 use Rattle.cell_model.specs.Schemas.{IsSchema}
@@ -19,7 +20,12 @@ use Rattle.own_laws.specs.Laws.{HasOpened}
 use Rattle.run_spec.specs.Opened.{begun_by, own_behind, with_own}
 
 abbrev pub trial_table : List Column → ℕ → ℕ → TableDecl
-trial_table schema slots blocks = record { name = codes "a"; schema = schema; slots = slots; blocks = blocks }
+trial_table schema slots blocks = record {
+  name = codes "a";
+  schema = schema;
+  slots = slots;
+  blocks = blocks;
+}
 
 -- A core of one table, what each session has open, how many events were made, and a stamp.
 pub record TrialState : Type 0 where
@@ -35,8 +41,8 @@ pub record TrialState : Type 0 where
 abbrev pub own_at : List (Option OwnTransaction) → ℕ → Option OwnTransaction
 own_at owns session = slice_index_or owns session None
 
--- The core holds, each session has open what stands at its place, no stamp is above the number of events, and no live
--- snapshot is below the kept stamp.
+-- The core holds, each session has open what stands at its place, no stamp is above the number of
+-- events, and no live snapshot is below the kept stamp.
 pub record IsKept (shape : Shape) (parts : Parts) (owns : List (Option OwnTransaction)) (events oldest : ℕ) : Type 0 where
   pub core : CoreHolds shape parts
   pub opened : (session : ℕ) → HasOpened shape parts session (own_at owns session)
@@ -60,7 +66,8 @@ behind_of session Closes own told = None
 
 abbrev pub IsMarked : ℕ → Mark → CoreEvent → Type 0
 IsMarked session mark event =
-    (own : Option OwnTransaction) (told : CoreReply) → own_behind own event told ≡ behind_of session mark own told
+    (own : Option OwnTransaction) (told : CoreReply) → own_behind own event told
+    ≡ behind_of session mark own told
 
 -- A session's event is lawful, and what the session has open behind it is as the mark says.
 pub record MayMake (trial : TrialState) (session : ℕ) (mark : Mark) (event : CoreEvent) : Type 0 where

@@ -1,5 +1,6 @@
 //! Trials of the core as a whole: lists of events of several sessions and of upkeep on a core of
-//! one table. A trial keeps what each session has open, so that each event which it makes is lawful.
+//! one table. A trial keeps what each session has open, so that each event which it makes is
+//! lawful.
 #![tactic(auto)]
 
 mod asked;

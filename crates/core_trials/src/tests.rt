@@ -21,10 +21,10 @@ mod told;
 use cases::{CASES, Event, Turn};
 use told::text_of;
 
-// Rows in a block.
+/// Rows in a block.
 const SLOTS: u32 = 8;
 
-// The columns `key:i64 v:utf8?`.
+/// The columns `key:i64 v:utf8?`.
 fn columns(alloc: Global) -> Result<Vec<Column>, Fail>
     ensures { IfOk result (λ columns. columns.items ≡
         record { name = codes "key"; kind = I64; nullable = false }
@@ -65,7 +65,7 @@ fn row_of(alloc: Global, key: i64, value: Option<&str>) -> Result<Row, Fail> {
     Ok(Row::from(vec![in alloc; Cell::Num(i128::from(key)), text]?))
 }
 
-// A pair of a move: a key, and the block and the slot that its row leaves and comes to.
+/// A pair of a move: a key, and the block and the slot that its row leaves and comes to.
 fn pair_of(pair: (i64, (u32, u32), (u32, u32))) -> MovePair {
     let (key, source, target) = pair;
     MovePair {
@@ -105,7 +105,7 @@ fn made<R: Threads + Sync, L: Ledger>(
     }
 }
 
-// The first event whose reply is another than it is to be, by its place, with that reply.
+/// The first event whose reply is another than it is to be, by its place, with that reply.
 fn first_other<R: Threads + Sync, L: Ledger>(
     rt: &R,
     alloc: Global,

@@ -17,7 +17,7 @@ use std::test::Fail;
 /// Sessions of a trial.
 pub const SESSIONS: u32 = 2;
 
-// An event raises the newest stamp by one at most, so the stamps of a trial stay below this.
+/// An event raises the newest stamp by one at most, so the stamps of a trial stay below this.
 const MOST_EVENTS: u64 = 1 << 62;
 
 /// A core of one table, for two sessions.
@@ -25,15 +25,15 @@ const MOST_EVENTS: u64 = 1 << 62;
 pub struct Trial {
     alloc: Global,
     pub(crate) core: Core,
-    // The table's columns, and its size.
+    /// The table's columns, and its size.
     pub(crate) schema: Schema,
     pub(crate) slots: u32,
     pub(crate) blocks: u32,
-    // What each session has open; the place 0 is nobody's.
+    /// What each session has open; the place 0 is nobody's.
     pub(crate) owns: Vec<Option<Own>>,
-    // How many events were made.
+    /// How many events were made.
     events: u64,
-    // A stamp that no live snapshot is below.
+    /// A stamp that no live snapshot is below.
     pub(crate) oldest: u64,
 }
 
@@ -80,8 +80,8 @@ pub struct Told {
 }
 
 impl Trial {
-    /// A trial before its first event, of a table with these columns, so many rows in a block and so
-    /// many blocks. The columns are handed in twice, for the core and for the trial.
+    /// A trial before its first event, of a table with these columns, so many rows in a block and
+    /// so many blocks. The columns are handed in twice, for the core and for the trial.
     pub fn new(
         alloc: Global,
         declared: Schema,

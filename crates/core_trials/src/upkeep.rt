@@ -10,7 +10,7 @@ use std::sync::ledger::Ledger;
 use std::test::Fail;
 use std::thread::Threads;
 
-// Whether two pairs of a move name four places.
+/// Whether two pairs of a move name four places.
 fn are_apart(one: MovePair, other: MovePair) -> bool
     ensures { IsTrue result → NoPlaceTwice (one ∷ other ∷ []) }
 {

@@ -102,7 +102,7 @@ impl Trial {
         self.make(session, Mark::Closes, Event::Abort { own }, steps)
     }
 
-    // Thaws the block that a change of a key would change, where it is imaged.
+    /// Thaws the block that a change of a key would change, where it is imaged.
     fn thawed<L: Ledger>(self, key: i64, steps: &mut Steps<L>) -> Result<Trial, Fail>
         ensures schema { IfOk result (λ trial. trial.schema ≡ self.schema) }
         ensures thawed { IfOk result (λ trial. IsThawed trial.shape 0 key trial.parts) }

@@ -6,7 +6,8 @@ use Rattle.event_spec.specs.declared.own.OwnKey.{OwnKey}
 use Rattle.event_spec.specs.declared.reply.Reply.TheVariants as reply
 use Rattle.event_spec.specs.Effects.{CoreEvent}
 use Rattle.event_spec.specs.Lawful.{HasTable, IsLawful}
-use Rattle.event_spec.specs.Parts.{Parts, Shape, below, blocks_of, body_at, head_at, is_head, slots_of}
+use Rattle.event_spec.specs.Parts.{Parts, Shape, below, blocks_of, body_at, head_at, is_head}
+use Rattle.event_spec.specs.Parts.{slots_of}
 use Rattle.event_spec.specs.Replay.{Made, after, opening, reply_after}
 use Rattle.event_spec.specs.Replies.{CoreReply}
 use Rattle.event_spec.specs.Sound.{IsShape, Sound}

@@ -1,5 +1,6 @@
 -- A block's stamps, by the replies to seals and images.
-use Rattle.std.specs.Prelude.{◌≡◌, ◌⊎◌, ℕ, ◌+◌, ◌≤◌, ◌==◌, ◌&&◌, true, false, List, Option, if◌then◌else◌}
+use Rattle.std.specs.Prelude.{◌≡◌, ◌⊎◌, ℕ, ◌+◌, ◌≤◌, ◌==◌, ◌&&◌, true, false, List, Option}
+use Rattle.std.specs.Prelude.{if◌then◌else◌}
 use Rattle.block_spec.specs.Bodies.{Body, is_loose, is_sealed}
 use Rattle.block_spec.specs.Slots.{Row}
 use Rattle.event_spec.specs.declared.event.Event.TheVariants as event

@@ -1,5 +1,6 @@
 -- The entries of all slots, by the replies to writes, commits, moves and prunings.
-use Rattle.std.specs.Prelude.{◌≡◌, ℕ, ◌+◌, ◌*◌, ◌≤◌, ◌==◌, Bool, None, is_some, sum_by, count_by, if◌then◌else◌}
+use Rattle.std.specs.Prelude.{◌≡◌, ℕ, ◌+◌, ◌*◌, ◌≤◌, ◌==◌, Bool, None, is_some, sum_by, count_by}
+use Rattle.std.specs.Prelude.{if◌then◌else◌}
 use Rattle.block_spec.specs.Bodies.{Body}
 use Rattle.block_spec.specs.declared.change.Before.{Before}
 use Rattle.event_spec.specs.declared.event.Event.TheVariants as event
@@ -83,7 +84,8 @@ stamped_by shape parts (event.Insert own table row) told = 0
 stamped_by shape parts (event.Update own table row) told = 0
 stamped_by shape parts (event.Delete own table key) told = 0
 stamped_by shape parts (event.Read own table block) told = 0
-stamped_by shape parts (event.Commit own) told = commits_told told (own_entries shape parts own.session)
+stamped_by shape parts (event.Commit own) told = commits_told told
+    (own_entries shape parts own.session)
 stamped_by shape parts (event.Abort own) told = 0
 stamped_by shape parts event.Oldest told = 0
 stamped_by shape parts (event.Observe table block) told = 0

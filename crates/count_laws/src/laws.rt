@@ -1,7 +1,8 @@
 //! Laws of counts: each function does nothing, and its contract is one of them.
 ghost use Rattle.count_laws.specs.Numbers.{NumbersAreNarrow, OpensNarrow};
 ghost use Rattle.count_laws.specs.Room.{FullIsFull, OpensEmpty, RoomIsCounted};
-ghost use Rattle.count_laws.specs.Stamps.{ImagesAreTold, OpensLoose, SealsAreTold, StampsAreCounted};
+ghost use Rattle.count_laws.specs.Stamps.{ImagesAreTold, OpensLoose, SealsAreTold};
+ghost use Rattle.count_laws.specs.Stamps.{StampsAreCounted};
 ghost use Rattle.count_laws.specs.Versions.{IdleOwnNone, OpensWithout, VersionsAreCounted};
 
 /// A block's last stamp counts its seals, and a block is sealed while they are one more than its

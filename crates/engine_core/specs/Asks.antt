@@ -5,7 +5,8 @@ use Rattle.block_spec.specs.Bodies.{is_imaged}
 use Rattle.core_parts.specs.Hands.{Has, Held}
 use Rattle.event_spec.specs.Judged.{current_place}
 use Rattle.event_spec.specs.Lawful.{Among}
-use Rattle.event_spec.specs.Parts.{Parts, Shape, ShardOf, BodyOf, body_at, places_at, shard_of, slot_at}
+use Rattle.event_spec.specs.Parts.{Parts, Shape, ShardOf, BodyOf, body_at, places_at, shard_of}
+use Rattle.event_spec.specs.Parts.{slot_at}
 use Rattle.frame_laws.specs.Shards.{CoreHolds}
 use Rattle.hall_rule.specs.Hands.{Agrees}
 use Rattle.key_events.specs.Candidates.{candidates_in}
@@ -16,7 +17,8 @@ pub record IsOfCore (shape : Shape) (hand : Held) : Type 0 where
   pub holds : CoreHolds shape parts
   pub agrees : Agrees hand parts
 
--- The hand has what tells where a key's row lies: the key's shard, and the bodies of its candidates.
+-- The hand has what tells where a key's row lies: the key's shard, and the bodies of its
+-- candidates.
 pub record HasKeyParts (shape : Shape) (hand : Held) (table : ℕ) (key : ℤ) : Type 0 where
   pub shard : Has shape hand (ShardOf table (shard_of key))
   pub bodies : (place : ℕ) → Among place (candidates_in shape hand table key)
@@ -25,5 +27,6 @@ pub record HasKeyParts (shape : Shape) (hand : Held) (table : ℕ) (key : ℤ) :
 -- the imaged block that a write of a key would change: that of the key's current row
 abbrev pub imaged_block : Shape → Parts → ℕ → ℤ → Option ℕ
 imaged_block shape parts table key = option_and_then
-    (λ place. if is_imaged (body_at shape parts table (block_of place)).phase then Some (block_of place) else None)
+    (λ place. if is_imaged (body_at shape parts table (block_of place)).phase
+    then Some (block_of place) else None)
     (current_place (slot_at shape parts table) (places_at shape parts table key))

@@ -6,13 +6,15 @@ use Rattle.event_spec.specs.Effects.{CoreEvent}
 use Rattle.event_spec.specs.Parts.{Parts, Shape, body_at, places_at, slots_of}
 use Rattle.isolation_spec.specs.Contents.{key_of}
 
--- An event on a key reads a row of each candidate at most, and of its own write, and an update the row that it changes; a
--- read of a block one for each slot, but none where the block is imaged.
+-- An event on a key reads a row of each candidate at most, and of its own write, and an update the
+-- row that it changes; a read of a block one for each slot, but none where the block is imaged.
 abbrev pub cost_of : Shape → CoreEvent → Parts → ℕ
 cost_of shape (event.Begin session) parts = 0
 cost_of shape (event.Get own table key) parts = length (places_at shape parts table key) + 1
-cost_of shape (event.Insert own table row) parts = length (places_at shape parts table (key_of row)) + 1
-cost_of shape (event.Update own table row) parts = length (places_at shape parts table (key_of row)) + 2
+cost_of shape (event.Insert own table row) parts = length (places_at shape parts table (key_of row))
+    + 1
+cost_of shape (event.Update own table row) parts = length (places_at shape parts table (key_of row))
+    + 2
 cost_of shape (event.Delete own table key) parts = length (places_at shape parts table key) + 1
 cost_of shape (event.Read own table block) parts =
     if is_imaged (body_at shape parts table block).phase then 0 else slots_of shape table

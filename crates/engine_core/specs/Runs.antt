@@ -7,8 +7,9 @@ use Rattle.event_spec.specs.Lawful.{takes_memory}
 use Rattle.event_spec.specs.Parts.{Shape}
 use Rattle.event_spec.specs.Replies.{CoreReply}
 
--- Where memory is refused the hand stays as it was, and the event is one that takes memory. Else the hand and the reply
--- are the event's.
+-- Where memory is refused the hand stays as it was, and the event is one that takes memory. Else
+-- the hand and the reply are the event's.
 abbrev pub Runs : Shape → CoreEvent → Held → Held → CoreReply → Type 0
 Runs shape event old new said =
-    MatchBool (is_memory said) ((new ≡ old) × (takes_memory event ≡ true)) (Makes shape event old new said)
+    MatchBool (is_memory said) ((new ≡ old) × (takes_memory event ≡ true))
+    (Makes shape event old new said)

@@ -17,13 +17,14 @@ use key_judge::current;
 use std::alloc::AllocError;
 use std::thread::Threads;
 
-/// The imaged block that a write of the key would change: that of the key's current row, where it has
-/// one. Such a block is to be thawed before the write.
+/// The imaged block that a write of the key would change: that of the key's current row, where it
+/// has one. Such a block is to be thawed before the write.
 pub fn imaged(shape: &Shape, held: &Hand<CorePart>, table: u32, key: i64) -> Option<u32>
     requires core { IsOfCore shape.now held.now }
     requires parts { HasKeyParts shape.now held.now table key }
     ensures block { (s : Parts) → Agrees held.now s → result ≡ imaged_block shape.now s table key }
-    ensures thawed { result ≡ None → (s : Parts) → Agrees held.now s → IsThawed shape.now table key s }
+    ensures thawed { result ≡ None → (s : Parts) → Agrees held.now s
+        → IsThawed shape.now table key s }
 {
     let places = candidates(shape, held, table, key);
     let place = current(shape, held, table, places)?;
@@ -34,8 +35,8 @@ pub fn imaged(shape: &Shape, held: &Hand<CorePart>, table: u32, key: i64) -> Opt
     }
 }
 
-/// The image of a sealed body's rows, as the event that lays it into the block takes it; none where the
-/// body is not sealed.
+/// The image of a sealed body's rows, as the event that lays it into the block takes it; none where
+/// the body is not sealed.
 pub fn image_of<R: Threads + Sync>(
     rt: &R,
     shape: &Shape,

@@ -3,7 +3,8 @@ ghost use Rattle.std.specs.Prelude.{◌≡◌, ◌+◌, ◌≤◌, None, true, I
 ghost use Rattle.engine_core.specs.Asks.{imaged_block};
 ghost use Rattle.engine_core.specs.Core.{IsOpening, MayOpen, is_memory};
 ghost use Rattle.engine_core.specs.Costs.{cost_of};
-ghost use Rattle.event_spec.specs.Lawful.{HasBlock, HasTable, IsImageOf, IsLawful, IsThawed, takes_memory};
+ghost use Rattle.event_spec.specs.Lawful.{HasBlock, HasTable, IsImageOf, IsLawful, IsThawed};
+ghost use Rattle.event_spec.specs.Lawful.{takes_memory};
 ghost use Rattle.event_spec.specs.Parts.{body_at};
 ghost use Rattle.event_spec.specs.Replay.{after, reply_after};
 
@@ -24,7 +25,8 @@ impl Core {
     /// A core of these tables, for the sessions 1 to `passes`, before its first event.
     pub fn new(alloc: Global, tables: Vec<TableDecl>, passes: u32) -> Result<Core, AllocError>
         requires { MayOpen tables.items passes }
-        ensures shape { IfOk result (λ core. core.shape ≡ record { tables = tables.items; passes = passes }) }
+        ensures shape { IfOk result (λ core. core.shape
+            ≡ record { tables = tables.items; passes = passes }) }
         ensures opening { IfOk result (λ core. IsOpening core.shape core.parts) }
     {
         let shape = Shape::new(alloc, tables, passes)?;
@@ -32,23 +34,25 @@ impl Core {
         Ok(Core { shape, hand })
     }
 
-    /// Makes an event that is lawful, and tells its reply. Where memory is refused the core stays as it
-    /// was, and only an event that takes memory is refused so.
+    /// Makes an event that is lawful, and tells its reply. Where memory is refused the core stays
+    /// as it was, and only an event that takes memory is refused so.
     pub fn apply<L: Ledger>(&mut self, event: KeyedEvent, steps: &mut Steps<L>) -> CoreReply
         requires { IsLawful self.old.shape event self.old.parts }
         ensures shape { self.new.shape ≡ self.old.shape }
         ensures parts { self.new.parts ≡
-            after self.old.shape self.old.parts (record { event = event; refused = is_memory result }) }
+            after self.old.shape self.old.parts
+            (record { event = event; refused = is_memory result }) }
         ensures reply { result ≡
-            reply_after self.old.shape self.old.parts (record { event = event; refused = is_memory result }) }
+            reply_after self.old.shape self.old.parts
+            (record { event = event; refused = is_memory result }) }
         ensures refuses { is_memory result ≡ true → takes_memory event ≡ true }
         ensures steps { steps.new ≤ steps.old + cost_of self.old.shape event self.old.parts }
     {
         run(&self.shape, event, &mut self.hand, steps)
     }
 
-    /// The imaged block that a write of the key would change: that of the key's current row, where it
-    /// has one. Such a block is to be thawed before the write.
+    /// The imaged block that a write of the key would change: that of the key's current row, where
+    /// it has one. Such a block is to be thawed before the write.
     pub fn imaged(&self, table: u32, key: i64) -> Option<u32>
         requires { HasTable self.now.shape table }
         ensures block { result ≡ imaged_block self.now.shape self.now.parts table key }
@@ -57,8 +61,8 @@ impl Core {
         imaged(&self.shape, &self.hand, table, key)
     }
 
-    /// The image of a sealed body's rows, as the event that lays it into the block takes it; none where
-    /// the body is not sealed.
+    /// The image of a sealed body's rows, as the event that lays it into the block takes it; none
+    /// where the body is not sealed.
     pub fn image_of<R: Threads + Sync>(
         &self,
         rt: &R,
@@ -66,7 +70,8 @@ impl Core {
         block: u32,
     ) -> Result<Option<Gathered>, AllocError>
         requires { HasBlock self.now.shape table block }
-        ensures { IfOk result (λ image. IsImageOf image (body_at self.now.shape self.now.parts table block)
+        ensures { IfOk result (λ image. IsImageOf image
+            (body_at self.now.shape self.now.parts table block)
             (body_at self.now.shape self.now.parts table block).phase) }
     {
         image_of(rt, &self.shape, &self.hand, table, block)

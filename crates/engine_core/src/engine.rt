@@ -4,7 +4,8 @@ ghost use Rattle.engine_core.specs.Core.{IsOpening, is_memory};
 ghost use Rattle.engine_core.specs.Costs.{cost_of};
 ghost use Rattle.engine_core.specs.Laws.{holds_opening, rests_opening};
 ghost use Rattle.event_spec.specs.Effects.{effect};
-ghost use Rattle.event_spec.specs.Lawful.{FitsIn, IsOldest, Stands, Teaches, session_of, takes_memory, transaction};
+ghost use Rattle.event_spec.specs.Lawful.{FitsIn, IsOldest, Stands, Teaches, session_of};
+ghost use Rattle.event_spec.specs.Lawful.{takes_memory, transaction};
 ghost use Rattle.event_spec.specs.Replies.{reply_to};
 ghost use Rattle.event_spec.specs.Touched.{touching};
 ghost use Rattle.frame_laws.specs.Shards.{CoreHolds};
@@ -26,8 +27,8 @@ use std::sync::ledger::Ledger;
 /// What the core replies.
 pub type CoreReply = Reply<SharedRows, Look>;
 
-/// A core of tables: a hand that has all its parts. Contracts see its shape and its parts, which are
-/// those of a core that holds.
+/// A core of tables: a hand that has all its parts. Contracts see its shape and its parts, which
+/// are those of a core that holds.
 #[derive(Drop)]
 pub struct Core {
     pub(crate) shape: Shape,
@@ -106,24 +107,24 @@ impl Parts for Core {
 
     ghost teaches = { λ shape event said fact. Teaches event said fact };
 
-    // The desk is the last part, behind those of the tables.
+    /// The desk is the last part, behind those of the tables.
     fn parts(&self) -> u32 {
         let _tables = self.shape.tables();
         self.shape.desk() + 1
     }
 
-    // All parts lie in the core's hand already.
+    /// All parts lie in the core's hand already.
     fn into_parts(self) -> Result<(Shape, Hand<CorePart>), AllocError> {
         let Core { shape, hand } = self;
         Ok((shape, hand))
     }
 
-    // By the table, the key, the block or the places of the event, and the parts held before.
+    /// By the table, the key, the block or the places of the event, and the parts held before.
     fn touches(shape: &Shape, event: &KeyedEvent, held: &Hand<CorePart>, part: u32) -> bool {
         touches(shape, event, held, part)
     }
 
-    // The least of the parts that the event touches, from `from` on; no other part is looked at.
+    /// The least of the parts that the event touches, from `from` on; no other part is looked at.
     fn next_touched(
         shape: &Shape,
         event: &KeyedEvent,
@@ -133,7 +134,7 @@ impl Parts for Core {
         next_touched(shape, event, held, from)
     }
 
-    // Runs the event on the parts of the tables and the desk that it touches.
+    /// Runs the event on the parts of the tables and the desk that it touches.
     fn run<L: Ledger>(
         shape: &Shape,
         event: KeyedEvent,
@@ -147,21 +148,29 @@ impl Parts for Core {
 
     ghost rests = { λ shape parts session is. rests_opening shape parts session is };
 
-    ghost keeps = { λ shape event parts holds stands fits. (has_laws shape parts 0 0).keeps event parts holds stands fits };
+    ghost keeps = { λ shape event parts holds stands fits. (has_laws shape parts 0 0).keeps event
+        parts holds stands fits };
 
     ghost ascends = { λ shape event one other part same. ascends shape event one other part same };
 
-    ghost frame = { λ shape event hand parts holds covers agrees stands fits. (has_laws shape parts 0 0).frame event hand parts holds covers agrees stands fits };
+    ghost frame = { λ shape event hand parts holds covers agrees stands fits.
+        (has_laws shape parts 0 0).frame event hand parts holds covers agrees stands fits };
 
     ghost room = { λ shape event parts holds. (has_laws shape parts 0 0).room event parts holds };
 
-    ghost local = { λ shape event hand parts others holds also covers here there stands fits. (has_laws shape parts 0 0).local event hand parts others holds also covers here there stands fits };
+    ghost local = { λ shape event hand parts others holds also covers here there stands fits.
+        (has_laws shape parts 0 0).local event hand parts others holds also covers here there
+        stands fits };
 
-    ghost depends = { λ shape event parts others holds also same facts stands. (has_laws shape parts 0 0).depends event parts others holds also same facts stands };
+    ghost depends = { λ shape event parts others holds also same facts stands.
+        (has_laws shape parts 0 0).depends event parts others holds also same facts stands };
 
-    ghost leaves = { λ shape event parts session holds stands fits other. (has_laws shape parts 0 0).leaves event parts session holds stands fits other };
+    ghost leaves = { λ shape event parts session holds stands fits other.
+        (has_laws shape parts 0 0).leaves event parts session holds stands fits other };
 
-    ghost outlives = { λ shape event fact parts holds stands fits known. (has_laws shape parts 0 0).outlives event fact parts holds stands fits known };
+    ghost outlives = { λ shape event fact parts holds stands fits known.
+        (has_laws shape parts 0 0).outlives event fact parts holds stands fits known };
 
-    ghost learns = { λ shape event fact parts holds stands fits taught. learns shape event fact parts taught };
+    ghost learns = { λ shape event fact parts holds stands fits taught. learns shape event fact
+        parts taught };
 }

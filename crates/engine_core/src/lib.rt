@@ -1,5 +1,5 @@
-//! The core of the engine: tables in parts, and the sixteen events that work on them, on the parts in a
-//! hand or on a core as a whole.
+//! The core of the engine: tables in parts, and the sixteen events that work on them, on the parts
+//! in a hand or on a core as a whole.
 #![tactic(auto)]
 
 mod asks;

@@ -45,7 +45,8 @@ pub(crate) fn found<L: Ledger>(
 ) -> CoreReply
     requires { MayRun shape.now (event.Get own.now table key) held.now }
     ensures made { Runs shape.now (event.Get own.now table key) held.now held.now result }
-    ensures steps { (parts : CoreParts) → Agrees held.now parts → steps.new ≤ steps.old + cost_of shape.now (event.Get own.now table key) parts }
+    ensures steps { (parts : CoreParts) → Agrees held.now parts
+        → steps.new ≤ steps.old + cost_of shape.now (event.Get own.now table key) parts }
 {
     match get(shape, held, own, table, key, steps) {
         Ok(row) => Reply::Found(row),
@@ -64,7 +65,8 @@ pub(crate) fn inserted<L: Ledger>(
 ) -> CoreReply
     requires { MayRun shape.now (event.Insert own.now table row) held.old }
     ensures made { Runs shape.now (event.Insert own.now table row) held.old held.new result }
-    ensures steps { (parts : CoreParts) → Agrees held.old parts → steps.new ≤ steps.old + cost_of shape.now (event.Insert own.now table row) parts }
+    ensures steps { (parts : CoreParts) → Agrees held.old parts
+        → steps.new ≤ steps.old + cost_of shape.now (event.Insert own.now table row) parts }
 {
     told(insert(shape, held, own, table, row, steps))
 }
@@ -80,7 +82,8 @@ pub(crate) fn updated<L: Ledger>(
 ) -> CoreReply
     requires { MayRun shape.now (event.Update own.now table row) held.old }
     ensures made { Runs shape.now (event.Update own.now table row) held.old held.new result }
-    ensures steps { (parts : CoreParts) → Agrees held.old parts → steps.new ≤ steps.old + cost_of shape.now (event.Update own.now table row) parts }
+    ensures steps { (parts : CoreParts) → Agrees held.old parts
+        → steps.new ≤ steps.old + cost_of shape.now (event.Update own.now table row) parts }
 {
     told(update(shape, held, own, table, row, steps))
 }
@@ -96,7 +99,8 @@ pub(crate) fn deleted<L: Ledger>(
 ) -> CoreReply
     requires { MayRun shape.now (event.Delete own.now table key) held.old }
     ensures made { Runs shape.now (event.Delete own.now table key) held.old held.new result }
-    ensures steps { (parts : CoreParts) → Agrees held.old parts → steps.new ≤ steps.old + cost_of shape.now (event.Delete own.now table key) parts }
+    ensures steps { (parts : CoreParts) → Agrees held.old parts
+        → steps.new ≤ steps.old + cost_of shape.now (event.Delete own.now table key) parts }
 {
     told(delete(shape, held, own, table, key, steps))
 }
@@ -197,7 +201,8 @@ pub(crate) fn rows_read<L: Ledger>(
 ) -> CoreReply
     requires { MayRun shape.now (event.Read own.now table block) held.now }
     ensures made { Runs shape.now (event.Read own.now table block) held.now held.now result }
-    ensures steps { (parts : CoreParts) → Agrees held.now parts → steps.new ≤ steps.old + cost_of shape.now (event.Read own.now table block) parts }
+    ensures steps { (parts : CoreParts) → Agrees held.now parts
+        → steps.new ≤ steps.old + cost_of shape.now (event.Read own.now table block) parts }
 {
     match read(shape, held, own, table, block, steps) {
         Ok(BlockRows::Seen(rows)) => Reply::Rows(rows),
@@ -235,7 +240,7 @@ pub(crate) fn frozen(
     }
 }
 
-// What a write is replied.
+/// What a write is replied.
 fn told(judged: Result<Result<SlotId, WriteFault>, AllocError>) -> CoreReply
     ensures judged { IfOk judged (λ write. result ≡ reply_to_write write) }
     ensures refused { IfErr judged (λ fault. result ≡ reply.Memory) }

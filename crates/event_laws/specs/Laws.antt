@@ -32,7 +32,8 @@ outcome_of_fault fault.Missing = store.Answered answer.Missing
 outcome_of_fault (fault.Freezing block stamp) = store.Freezing
 outcome_of_fault (fault.Full inserts) = store.Full
 
--- What a reply to a session's command is to a store over the machine. A reply to any other event is nothing to it.
+-- What a reply to a session's command is to a store over the machine. A reply to any other event is
+-- nothing to it.
 abbrev pub outcome_of : CoreReply → Option Outcome
 outcome_of (reply.Begun snapshot) = Some (store.Answered (answer.At snapshot.number))
 outcome_of (reply.Found row) = Some (store.Answered (answer.Found row))
@@ -75,16 +76,19 @@ command_in (event.Thaw table block) = None
 
 -- ---- what an event is to the machine
 
--- A reply to a command is one that a store over the machine may give, which leaves the machine like this.
+-- A reply to a command is one that a store over the machine may give, which leaves the machine like
+-- this.
 abbrev pub IsTold : IsolationMachine → Command → CoreReply → IsolationMachine → Type 0
-IsTold machine command said next = IsSomeAnd (outcome_of said) (λ outcome. Allows machine command outcome next)
+IsTold machine command said next = IsSomeAnd (outcome_of said)
+    (λ outcome. Allows machine command outcome next)
 
 -- A command's event is answered by the machine, and any other leaves it as it is.
 abbrev pub IsStep : Option Command → IsolationMachine → CoreReply → IsolationMachine → Type 0
 IsStep None machine said next = next ≡ machine
 IsStep (Some command) machine said next = IsTold machine command said next
 
--- The event answers a command as the machine may, and the parts after it follow the machine after it.
+-- The event answers a command as the machine may, and the parts after it follow the machine after
+-- it.
 abbrev pub Serves : Shape → Parts → CoreEvent → Command → Type 0
 Serves shape parts event command = (machine : IsolationMachine) → FollowsMachine shape parts machine
     → (next : IsolationMachine)
@@ -93,22 +97,28 @@ Serves shape parts event command = (machine : IsolationMachine) → FollowsMachi
 
 -- An event keeps how many parts there are.
 abbrev pub KeepsRoom : Type 0
-KeepsRoom = (shape : Shape) (event : CoreEvent) (parts : Parts) → length (effect shape parts event) ≡ length parts
+KeepsRoom = (shape : Shape) (event : CoreEvent) (parts : Parts) → length (effect shape parts event)
+    ≡ length parts
 
--- A lawful event of a sound state is answered as the machine may, and the parts after it follow the machine after it.
+-- A lawful event of a sound state is answered as the machine may, and the parts after it follow the
+-- machine after it.
 abbrev pub Steps : Type 0
-Steps = (shape : Shape) (parts : Parts) (event : CoreEvent) → IsShape shape → Sound shape parts → IsLawful shape event parts
+Steps = (shape : Shape) (parts : Parts) (event : CoreEvent) → IsShape shape → Sound shape parts
+    → IsLawful shape event parts
     → (machine : IsolationMachine) → FollowsMachine shape parts machine
     → (next : IsolationMachine)
     × IsStep (command_in event) machine (reply_to shape parts event) next
     × FollowsMachine shape (effect shape parts event) next
 
--- In a sound state the transaction that an event is handed has the slots on which its session's entries stand.
+-- In a sound state the transaction that an event is handed has the slots on which its session's
+-- entries stand.
 pub record IsHandedIn (shape : Shape) (parts : Parts) (own : OwnTransaction) : Type 0 where
   pub is_open : HasOpen (desk_at shape parts) own.session own.snapshot
   pub slots : (table : ℕ) (key : ℤ)
-      → OwnSlot (slot_at shape parts) (places_at shape parts) own.session table key (at_place own.writes (place_at table key))
+      → OwnSlot (slot_at shape parts) (places_at shape parts) own.session table key
+      (at_place own.writes (place_at table key))
 
 abbrev pub HandsInWhatIsWritten : Type 0
-HandsInWhatIsWritten = (shape : Shape) (parts : Parts) (own : OwnTransaction) → Sound shape parts → OwnsAll shape own parts
+HandsInWhatIsWritten = (shape : Shape) (parts : Parts) (own : OwnTransaction) → Sound shape parts
+    → OwnsAll shape own parts
     → IsHandedIn shape parts own

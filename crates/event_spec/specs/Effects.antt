@@ -1,5 +1,7 @@
 -- What each event makes of the parts.
-use Rattle.std.specs.Prelude.{ℕ, ◌+◌, ◌-◌, ℤ, Bool, true, false, not, ◌&&◌, ◌==◌, List, [], ◌∷◌, ◌++◌, Option, None, Some, is_some, is_none, unwrap_or, nat_lt, filter, fold, slice_set, Result, Ok, Err, if◌then◌else◌}
+use Rattle.std.specs.Prelude.{ℕ, ◌+◌, ◌-◌, ℤ, Bool, true, false, not, ◌&&◌, ◌==◌, List, [], ◌∷◌}
+use Rattle.std.specs.Prelude.{◌++◌, Option, None, Some, is_some, is_none, unwrap_or, nat_lt, filter}
+use Rattle.std.specs.Prelude.{fold, slice_set, Result, Ok, Err, if◌then◌else◌}
 use Rattle.std.specs.List.{list_any}
 use Rattle.std.specs.Ordering.{int_eq}
 use Rattle.std.specs.FinMap as finite
@@ -7,7 +9,9 @@ use Rattle.block_layout.specs.Place.{block_of, slot_of}
 use Rattle.block_spec.specs.declared.change.Change.{Change}
 use Rattle.block_spec.specs.declared.change.Change.TheVariants as change
 use Rattle.block_spec.specs.Slots.{Row, is_bare, has_none, written, moved_out, moved_in}
-use Rattle.block_spec.specs.Bodies.{Body, is_loose, slot_in, has_row, is_empty, with_slot, committed_in, rolled_back_in, pruned_in, observed, seal_fault, sealed, imaged, thawed}
+use Rattle.block_spec.specs.Bodies.{Body, is_loose, slot_in, has_row, is_empty, with_slot}
+use Rattle.block_spec.specs.Bodies.{committed_in, rolled_back_in, pruned_in, observed, seal_fault}
+use Rattle.block_spec.specs.Bodies.{sealed, imaged, thawed}
 use Rattle.event_spec.specs.declared.event.Event.{Event}
 use Rattle.event_spec.specs.declared.event.Event.TheVariants as event
 use Rattle.event_spec.specs.declared.event.MovePair.{MovePair}
@@ -15,7 +19,9 @@ use Rattle.event_spec.specs.declared.own.OwnKey.{OwnKey}
 use Rattle.event_spec.specs.declared.own.OwnTransaction.{OwnTransaction}
 use Rattle.event_spec.specs.declared.part.Head.{Head}
 use Rattle.event_spec.specs.declared.reply.WriteFault.{WriteFault}
-use Rattle.event_spec.specs.Parts.{Parts, Shape, Changes, nothing, names, each_changed, head_at, body_at, desk_at, slot_at, places_at, is_head, shard_of, below, blocks_of, slots_of}
+use Rattle.event_spec.specs.Parts.{Parts, Shape, Changes, nothing, names, each_changed, head_at}
+use Rattle.event_spec.specs.Parts.{body_at, desk_at, slot_at, places_at, is_head, shard_of, below}
+use Rattle.event_spec.specs.Parts.{blocks_of, slots_of}
 use Rattle.event_spec.specs.Judged.{found_by, judged_insert, judged_change, differences}
 use Rattle.isolation_spec.specs.Contents.{PlaceMap, key_of}
 use Rattle.key_index.specs.Candidates.{Places, candidates_of, with_candidates}
@@ -30,7 +36,8 @@ abbrev pub at_table : {X : Type 0} → ℕ → (X → X) → ℕ → X → X
 at_table table change other x = if other == table then change x else x
 
 abbrev pub at_both : {X : Type 0} → ℕ → ℕ → (X → X) → ℕ → ℕ → X → X
-at_both table number change other another x = if (other == table) && (another == number) then change x else x
+at_both table number change other another x = if (other == table) && (another == number)
+    then change x else x
 
 -- ---- changes of one part
 
@@ -51,12 +58,20 @@ kept_places keep places =
 -- The least empty block becomes the head, and its first slot is taken.
 abbrev pub moved_on : List ℕ → Head → Head
 moved_on [] head = head
-moved_on (block ∷ blocks) head = record { block = block; taken = 1; inserts = head.inserts + 1; empty = blocks }
+moved_on (block ∷ blocks) head = record {
+  block = block;
+  taken = 1;
+  inserts = head.inserts + 1;
+  empty = blocks;
+}
 
 -- The head after an insert took the next slot.
 abbrev pub taken_by : ℕ → Head → Head
 taken_by slots head =
-    if nat_lt head.taken slots then record head { taken = head.taken + 1; inserts = head.inserts + 1 }
+    if nat_lt head.taken slots then record head {
+      taken = head.taken + 1;
+      inserts = head.inserts + 1;
+    }
     else moved_on head.empty head
 
 -- The head where blocks may have become empty: all slots of an empty block are unused again.
@@ -70,11 +85,13 @@ with_empty blocks empty head = record head {
 abbrev pub opened : ℕ → DeskState → DeskState
 opened session desk = record desk {
   open_snapshots =
-      slice_set desk.open_snapshots (session - 1) (Some (record { stamp = desk.newest; number = desk.commits }));
+      slice_set desk.open_snapshots (session - 1)
+      (Some (record { stamp = desk.newest; number = desk.commits }));
 }
 
 abbrev pub closed : ℕ → DeskState → DeskState
-closed session desk = record desk { open_snapshots = slice_set desk.open_snapshots (session - 1) None }
+closed session desk = record desk
+    { open_snapshots = slice_set desk.open_snapshots (session - 1) None }
 
 -- A commit of some writes takes the next stamp and the next number, and a move the next stamp.
 abbrev pub numbered : DeskState → DeskState
@@ -120,7 +137,8 @@ module _ (shape : Shape) (parts : Parts) where
       is_loose (body_at shape parts table block).phase && (body_at shape parts table block).cooling
       && not (is_head shape parts table block) && has_row (body_at shape parts table block)
 
-  -- A pair holds where both blocks may, the source has the key's row and no entry, and the target has neither.
+  -- A pair holds where both blocks may, the source has the key's row and no entry, and the target
+  -- has neither.
   abbrev pub holds : ℕ → MovePair → Bool
   holds table pair =
       may_move table (block_of pair.source) && may_move table (block_of pair.target)
@@ -138,19 +156,23 @@ module _ (shape : Shape) (parts : Parts) where
   -- a body after its halves of one pair: the row leaves the source, and comes to the target
   abbrev pub left_by : ℕ → ℕ → ℕ → MovePair → Body → Body
   left_by table stamp block pair body =
-      if block_of pair.source == block then with_slot (slot_of pair.source) (moved_out stamp (moved_row table pair)) body
+      if block_of pair.source == block
+      then with_slot (slot_of pair.source) (moved_out stamp (moved_row table pair)) body
       else body
 
   abbrev pub come_to_by : ℕ → ℕ → ℕ → MovePair → Body → Body
   come_to_by table stamp block pair body =
-      if block_of pair.target == block then with_slot (slot_of pair.target) (moved_in stamp (moved_row table pair)) body
+      if block_of pair.target == block
+      then with_slot (slot_of pair.target) (moved_in stamp (moved_row table pair)) body
       else body
 
   abbrev pub half_moved : ℕ → ℕ → ℕ → Body → MovePair → Body
-  half_moved table stamp block body pair = come_to_by table stamp block pair (left_by table stamp block pair body)
+  half_moved table stamp block body pair = come_to_by table stamp block pair
+      (left_by table stamp block pair body)
 
   abbrev pub places_moved : ℕ → Places → MovePair → Places
-  places_moved shard places pair = if shard_of pair.key == shard then with_place pair.key pair.target places else places
+  places_moved shard places pair = if shard_of pair.key == shard
+      then with_place pair.key pair.target places else places
 
   -- ---- the changes of each event
 
@@ -160,14 +182,16 @@ module _ (shape : Shape) (parts : Parts) where
     body = at_both table (block_of place) (with_slot (slot_of place) (written session new));
   }
 
-  -- An insert puts the row, adds the candidate where it is none yet, and takes the next slot where the transaction
-  -- did not write the key.
+  -- An insert puts the row, adds the candidate where it is none yet, and takes the next slot where
+  -- the transaction did not write the key.
   abbrev pub after_insert : OwnKey → ℕ → Row → Result ℕ WriteFault → Changes
   after_insert own table row (Err fault) = nothing
-  after_insert own table row (Ok place) = record (after_write table own.session place (change.Put row)) {
-    head = at_table table (if is_some own.written then (λ head. head) else taken_by (slots_of shape table));
-    shard = at_both table (shard_of (key_of row)) (with_place (key_of row) place);
-  }
+  after_insert own table row (Ok place)
+      = record (after_write table own.session place (change.Put row)) {
+        head = at_table table (if is_some own.written then (λ head. head)
+            else taken_by (slots_of shape table));
+        shard = at_both table (shard_of (key_of row)) (with_place (key_of row) place);
+      }
 
   -- An update or a delete changes the current row.
   abbrev pub after_change : OwnKey → ℕ → (Row → Change) → Result ℕ WriteFault → Changes
@@ -180,18 +204,21 @@ module _ (shape : Shape) (parts : Parts) where
   after_commit own = record nothing {
     body = λ table block.
         if is_some_write own.writes
-        then committed_in own.session ((desk_at shape parts).newest + 1) ((desk_at shape parts).commits + 1)
+        then committed_in own.session ((desk_at shape parts).newest + 1)
+        ((desk_at shape parts).commits + 1)
         else (λ body. body);
     desk = λ desk. closed own.session (if is_some_write own.writes then numbered desk else desk);
   }
 
-  -- A roll-back or a pruning: blocks that it leaves empty are the head's again, and slots that it leaves bare leave
-  -- the index.
+  -- A roll-back or a pruning: blocks that it leaves empty are the head's again, and slots that it
+  -- leaves bare leave the index.
   abbrev pub with_fewer : (ℕ → ℕ → Body → Body) → Changes
   with_fewer change = record nothing {
-    head = λ table. with_empty (blocks_of shape table) (λ block. is_empty (change table block (body_at shape parts table block)));
+    head = λ table. with_empty (blocks_of shape table)
+        (λ block. is_empty (change table block (body_at shape parts table block)));
     shard = λ table shard. kept_places (λ place.
-        not (is_bare (slot_in (change table (block_of place) (body_at shape parts table (block_of place))) (slot_of place))));
+        not (is_bare (slot_in (change table (block_of place)
+        (body_at shape parts table (block_of place))) (slot_of place))));
     body = change;
   }
 
@@ -199,18 +226,21 @@ module _ (shape : Shape) (parts : Parts) where
   abbrev pub of_table : ℕ → Changes → Changes
   of_table table changes = record changes {
     head = λ other head. if other == table then changes.head other head else head;
-    shard = λ other shard places. if other == table then changes.shard other shard places else places;
+    shard = λ other shard places. if other == table then changes.shard other shard places
+        else places;
   }
 
   -- An abort lays back what its session wrote, and closes it.
   abbrev pub after_abort : OwnTransaction → Changes
-  after_abort own = record (with_fewer (λ table block. rolled_back_in own.session)) { desk = closed own.session }
+  after_abort own = record (with_fewer (λ table block. rolled_back_in own.session))
+      { desk = closed own.session }
 
   -- A move gives the pairs that hold one stamp; where none holds, it takes none.
   abbrev pub after_move : ℕ → List MovePair → Changes
   after_move table [] = nothing
   after_move table (first ∷ rest) = record nothing {
-    shard = λ other shard places. if other == table then fold (places_moved shard) places (first ∷ rest) else places;
+    shard = λ other shard places. if other == table
+        then fold (places_moved shard) places (first ∷ rest) else places;
     body = λ other block body.
         if other == table
         then fold (half_moved table ((desk_at shape parts).newest + 1) block) body (first ∷ rest)
@@ -228,17 +258,21 @@ module _ (shape : Shape) (parts : Parts) where
   abbrev pub changes_of : CoreEvent → Changes
   changes_of (event.Begin session) = record nothing { desk = opened session }
   changes_of (event.Get own table key) = nothing
-  changes_of (event.Insert own table row) = after_insert own table row (insert_judged own table (key_of row))
+  changes_of (event.Insert own table row) = after_insert own table row
+      (insert_judged own table (key_of row))
   changes_of (event.Update own table row) =
-      after_change own table (λ old. change.Patch (differences 0 old row)) (change_judged own table (key_of row))
-  changes_of (event.Delete own table key) = after_change own table (λ old. change.Gone) (change_judged own table key)
+      after_change own table (λ old. change.Patch (differences 0 old row))
+      (change_judged own table (key_of row))
+  changes_of (event.Delete own table key) = after_change own table (λ old. change.Gone)
+      (change_judged own table key)
   changes_of (event.Read own table block) = nothing
   changes_of (event.Commit own) = after_commit own
   changes_of (event.Abort own) = after_abort own
   changes_of event.Oldest = nothing
   changes_of (event.Observe table block) =
       record nothing { body = at_both table block (observed (is_head shape parts table block)) }
-  changes_of (event.Prune table block oldest) = of_table table (with_fewer (at_both table block (pruned_in oldest)))
+  changes_of (event.Prune table block oldest) = of_table table
+      (with_fewer (at_both table block (pruned_in oldest)))
   changes_of (event.Look table block) = nothing
   changes_of (event.Move table moves) = after_move table (held_pairs table moves)
   changes_of (event.Seal table block) = after_seal table block

@@ -1,5 +1,8 @@
 -- What a session has open, and which events are lawful.
-use Rattle.std.specs.Prelude.{◌≡◌, ◌≢◌, ◌⊎◌, ◌↔◌, ⊤, ℕ, zero, suc, ◌+◌, ◌<◌, ◌≤◌, ◌^◌, ℤ, Bool, true, false, List, [], ◌∷◌, ◌++◌, Option, None, Some, IsSomeAnd, IfSome, option_map, map, length, slice_get, All, AllPairs, if◌then◌else◌}
+use Rattle.std.specs.Prelude.{◌≡◌, ◌≢◌, ◌⊎◌, ◌↔◌, ⊤, ℕ, zero, suc, ◌+◌, ◌<◌, ◌≤◌, ◌^◌, ℤ, Bool}
+use Rattle.std.specs.Prelude.{true, false, List, [], ◌∷◌, ◌++◌, Option, None, Some, IsSomeAnd}
+use Rattle.std.specs.Prelude.{IfSome, option_map, map, length, slice_get, All, AllPairs}
+use Rattle.std.specs.Prelude.{if◌then◌else◌}
 use Rattle.std.specs.List.{flat_map, filter_map}
 use Rattle.block_layout.specs.Place.{place_of, block_of, slot_of}
 use Rattle.block_spec.specs.declared.change.Before.{Before}
@@ -13,7 +16,8 @@ use Rattle.event_spec.specs.declared.event.MovePair.{MovePair}
 use Rattle.event_spec.specs.declared.own.OwnKey.{OwnKey}
 use Rattle.event_spec.specs.declared.own.OwnTransaction.{OwnTransaction}
 use Rattle.event_spec.specs.declared.reply.Reply.TheVariants as reply
-use Rattle.event_spec.specs.Parts.{Parts, Shape, body_at, desk_at, slot_at, places_at, blocks_of, slots_of, tables_of, below}
+use Rattle.event_spec.specs.Parts.{Parts, Shape, body_at, desk_at, slot_at, places_at, blocks_of}
+use Rattle.event_spec.specs.Parts.{slots_of, tables_of, below}
 use Rattle.event_spec.specs.Judged.{current_place}
 use Rattle.event_spec.specs.Effects.{CoreEvent}
 use Rattle.event_spec.specs.Replies.{CoreReply}
@@ -28,7 +32,8 @@ Among x (y ∷ ys) = (x ≡ y) ⊎ Among x ys
 
 -- ---- what a session has open
 
--- A row that a session wrote: its table, its key and the place of the slot on which the session's entries stand.
+-- A row that a session wrote: its table, its key and the place of the slot on which the session's
+-- entries stand.
 pub record Write : Type 0 where
   pub table : ℕ
   pub key : ℤ
@@ -58,30 +63,36 @@ module _ (shape : Shape) (parts : Parts) where
   -- What a session wrote, by tables, blocks and slots, whose numbers no event changes.
   abbrev pub writes_in : ℕ → ℕ → ℕ → List Write
   writes_in session table block = filter_map
-      (λ slot. write_on session table (place_of block slot) (slot_at shape parts table (place_of block slot)))
+      (λ slot. write_on session table (place_of block slot)
+      (slot_at shape parts table (place_of block slot)))
       (below (slots_of shape table))
 
   abbrev pub writes_of : ℕ → List Write
   writes_of session =
-      flat_map (λ table. flat_map (writes_in session table) (below (blocks_of shape table))) (tables_of shape)
+      flat_map (λ table. flat_map (writes_in session table) (below (blocks_of shape table)))
+      (tables_of shape)
 
   -- The open transaction of a session. Sessions are counted from 1, so 0 has none.
   abbrev pub transaction : ℕ → Option Opened
   transaction zero = None
   transaction (suc n) =
-      option_map (λ snapshot. record { snapshot = snapshot; writes = writes_of (suc n) }) (snapshot_of (desk_at shape parts) (suc n))
+      option_map (λ snapshot. record { snapshot = snapshot; writes = writes_of (suc n) })
+      (snapshot_of (desk_at shape parts) (suc n))
 
-  -- The transaction handed in for a key is what the session has open: its snapshot, and the place of its own write of
-  -- the key.
+  -- The transaction handed in for a key is what the session has open: its snapshot, and the place
+  -- of its own write of the key.
   pub record IsOwnKey (own : OwnKey) (table : ℕ) (key : ℤ) (has : Opened) : Type 0 where
     pub snapshot : own.snapshot ≡ has.snapshot
-    pub written : (place : ℕ) → (own.written ≡ Some place) ↔ Among (write_of table place key) has.writes
+    pub written : (place : ℕ) → (own.written ≡ Some place) ↔ Among (write_of table place key)
+        has.writes
 
-  -- The transaction handed in is what the session has open: its snapshot, and the place of each row that it wrote.
+  -- The transaction handed in is what the session has open: its snapshot, and the place of each row
+  -- that it wrote.
   pub record IsOwn (own : OwnTransaction) (has : Opened) : Type 0 where
     pub snapshot : own.snapshot ≡ has.snapshot
     pub writes : (table : ℕ) (key : ℤ) (place : ℕ)
-        → (at_place own.writes (place_at table key) ≡ Some place) ↔ Among (write_of table place key) has.writes
+        → (at_place own.writes (place_at table key) ≡ Some place) ↔ Among (write_of table place key)
+        has.writes
 
 -- ---- lawful events
 
@@ -95,7 +106,8 @@ abbrev pub HasBlock : Shape → ℕ → ℕ → Type 0
 HasBlock shape table block = HasTable shape table × (block < blocks_of shape table)
 
 abbrev pub HasPlace : Shape → ℕ → ℕ → Type 0
-HasPlace shape table place = HasBlock shape table (block_of place) × (slot_of place < slots_of shape table)
+HasPlace shape table place = HasBlock shape table (block_of place)
+    × (slot_of place < slots_of shape table)
 
 abbrev pub FitsTable : Shape → ℕ → Row → Type 0
 FitsTable shape table row = IfSome (slice_get shape.tables table) (λ decl. Fits decl.schema row)
@@ -103,13 +115,16 @@ FitsTable shape table row = IfSome (slice_get shape.tables table) (λ decl. Fits
 -- The event's session has a transaction open, and it is the one handed in.
 abbrev pub OwnsKey : Shape → OwnKey → ℕ → ℤ → Parts → Type 0
 OwnsKey shape own table key parts =
-    IsSession shape own.session × IsSomeAnd (transaction shape parts own.session) (IsOwnKey shape parts own table key)
+    IsSession shape own.session × IsSomeAnd (transaction shape parts own.session)
+    (IsOwnKey shape parts own table key)
 
 abbrev pub OwnsAll : Shape → OwnTransaction → Parts → Type 0
 OwnsAll shape own parts =
-    IsSession shape own.session × IsSomeAnd (transaction shape parts own.session) (IsOwn shape parts own)
+    IsSession shape own.session × IsSomeAnd (transaction shape parts own.session)
+    (IsOwn shape parts own)
 
--- No live snapshot is below a stamp, which then holds for ever. An `oldest` teaches it of its reply.
+-- No live snapshot is below a stamp, which then holds for ever. An `oldest` teaches it of its
+-- reply.
 abbrev pub IsOldest : Shape → ℕ → Parts → Type 0
 IsOldest shape oldest parts = oldest ≤ oldest_of (desk_at shape parts)
 
@@ -119,7 +134,8 @@ Teaches _ said fact = ⊥
 
 -- What an event asks of its session's open transaction and of lasting facts.
 abbrev pub Stands : Shape → CoreEvent → Parts → Type 0
-Stands shape (event.Begin session) parts = IsSession shape session × (transaction shape parts session ≡ None)
+Stands shape (event.Begin session) parts = IsSession shape session
+    × (transaction shape parts session ≡ None)
 Stands shape (event.Get own table key) parts = OwnsKey shape own table key parts
 Stands shape (event.Insert own table row) parts = OwnsKey shape own table (key_of row) parts
 Stands shape (event.Update own table row) parts = OwnsKey shape own table (key_of row) parts
@@ -139,7 +155,9 @@ Stands shape (event.Thaw table block) parts = ⊤
 -- no place stands in a list of pairs twice, be it left or filled
 abbrev pub NoPlaceTwice : List MovePair → Type 0
 NoPlaceTwice pairs =
-    AllPairs (λ one other. one ≢ other) (map (λ (pair : MovePair). pair.source) pairs ++ map (λ (pair : MovePair). pair.target) pairs)
+    AllPairs (λ one other. one ≢ other)
+    (map (λ (pair : MovePair). pair.source) pairs
+    ++ map (λ (pair : MovePair). pair.target) pairs)
 
 -- An image is of a sealed body's rows, and none is handed in where the body isn't sealed.
 abbrev pub IsImageOf : Option (List Row) → Body → Phase → Type 0
@@ -151,7 +169,8 @@ IsImageOf image body (Imaged stamp) = image ≡ None
 abbrev pub HasStamp : Shape → Parts → Type 0
 HasStamp shape parts = (desk_at shape parts).newest + 1 < 2 ^ 63
 
--- The block of the key's current row, where there is one, is not imaged: a write to it has to thaw it first.
+-- The block of the key's current row, where there is one, is not imaged: a write to it has to thaw
+-- it first.
 abbrev pub IsThawed : Shape → ℕ → ℤ → Parts → Type 0
 IsThawed shape table key parts = IfSome
     (current_place (slot_at shape parts table) (places_at shape parts table key))
@@ -164,7 +183,8 @@ FitsIn shape (event.Get own table key) parts = HasTable shape table
 FitsIn shape (event.Insert own table row) parts = HasTable shape table × FitsTable shape table row
 FitsIn shape (event.Update own table row) parts =
     HasTable shape table × FitsTable shape table row × IsThawed shape table (key_of row) parts
-FitsIn shape (event.Delete own table key) parts = HasTable shape table × IsThawed shape table key parts
+FitsIn shape (event.Delete own table key) parts = HasTable shape table
+    × IsThawed shape table key parts
 FitsIn shape (event.Read own table block) parts = HasBlock shape table block
 FitsIn shape (event.Commit own) parts = HasStamp shape parts
 FitsIn shape (event.Abort own) parts = ⊤
@@ -174,12 +194,14 @@ FitsIn shape (event.Prune table block oldest) parts = HasBlock shape table block
 FitsIn shape (event.Look table block) parts = HasBlock shape table block
 FitsIn shape (event.Move table moves) parts =
     HasTable shape table
-    × All (λ (pair : MovePair). HasPlace shape table pair.source × HasPlace shape table pair.target) moves
+    × All (λ (pair : MovePair). HasPlace shape table pair.source × HasPlace shape table pair.target)
+    moves
     × NoPlaceTwice moves
     × HasStamp shape parts
 FitsIn shape (event.Seal table block) parts = HasBlock shape table block
 FitsIn shape (event.Image table block image) parts =
-    HasBlock shape table block × IsImageOf image (body_at shape parts table block) (body_at shape parts table block).phase
+    HasBlock shape table block × IsImageOf image (body_at shape parts table block)
+    (body_at shape parts table block).phase
 FitsIn shape (event.Thaw table block) parts =
     HasBlock shape table block × (is_imaged (body_at shape parts table block).phase ≡ true)
 

@@ -1,5 +1,7 @@
 -- The core's state: a list of parts, in the order in which their latches are taken.
-use Rattle.std.specs.Prelude.{ℕ, ◌%◌, ◌-◌, ℤ, pos, negsuc, Bool, true, false, ◌&&◌, ◌==◌, List, [], ◌∷◌, ◌++◌, Option, None, Some, option_map, map, unwrap_or, slice_get, length, if◌then◌else◌}
+use Rattle.std.specs.Prelude.{ℕ, ◌%◌, ◌-◌, ℤ, pos, negsuc, Bool, true, false, ◌&&◌, ◌==◌, List, []}
+use Rattle.std.specs.Prelude.{◌∷◌, ◌++◌, Option, None, Some, option_map, map, unwrap_or, slice_get}
+use Rattle.std.specs.Prelude.{length, if◌then◌else◌}
 use Rattle.std.specs.List.{flat_map, range_with_len}
 use Rattle.std.specs.FinMap as finite
 use Rattle.block_layout.specs.Place.{block_of, slot_of}
@@ -19,12 +21,14 @@ CorePart = Part Head Places Body DeskState
 abbrev pub Parts : Type 0
 Parts = List CorePart
 
--- What numbers the parts: the tables, and for how many passes the core was made. No event changes it.
+-- What numbers the parts: the tables, and for how many passes the core was made. No event changes
+-- it.
 pub record Shape : Type 0 where
   pub tables : List TableDecl
   pub passes : ℕ
 
--- What each part is: a table's head, one of its eight index shards, one of its blocks' bodies, or the desk.
+-- What each part is: a table's head, one of its eight index shards, one of its blocks' bodies, or
+-- the desk.
 pub data Name : Type 0 where
   HeadOf : ℕ → Name
   ShardOf : ℕ → ℕ → Name
@@ -43,7 +47,8 @@ same_name TheDesk _ = false
 
 -- how many blocks a table has, how many slots a block of it has, and its columns
 abbrev pub blocks_of : Shape → ℕ → ℕ
-blocks_of shape table = unwrap_or (option_map (λ decl. decl.blocks) (slice_get shape.tables table)) 0
+blocks_of shape table = unwrap_or (option_map (λ decl. decl.blocks) (slice_get shape.tables table))
+    0
 
 abbrev pub slots_of : Shape → ℕ → ℕ
 slots_of shape table = unwrap_or (option_map (λ decl. decl.slots) (slice_get shape.tables table)) 0
@@ -55,8 +60,8 @@ below n = range_with_len 0 n
 abbrev pub tables_of : Shape → List ℕ
 tables_of shape = below (length shape.tables)
 
--- The parts in the order in which latches are taken: the heads, for each table its shards, for each table its bodies,
--- and the desk.
+-- The parts in the order in which latches are taken: the heads, for each table its shards, for each
+-- table its bodies, and the desk.
 abbrev pub names : Shape → List Name
 names shape =
     map HeadOf (tables_of shape)
@@ -73,13 +78,15 @@ shard_of (negsuc n) = 7 - n % 8
 abbrev pub part_named : List Name → Parts → Name → Option CorePart
 part_named [] parts name = None
 part_named (n ∷ ns) [] name = None
-part_named (n ∷ ns) (first ∷ parts) name = if same_name n name then Some first else part_named ns parts name
+part_named (n ∷ ns) (first ∷ parts) name = if same_name n name then Some first
+    else part_named ns parts name
 
 -- the same of a hand, whose places may be empty
 abbrev pub held_named : List Name → List (Option CorePart) → Name → Option CorePart
 held_named [] hand name = None
 held_named (n ∷ ns) [] name = None
-held_named (n ∷ ns) (place ∷ hand) name = if same_name n name then place else held_named ns hand name
+held_named (n ∷ ns) (place ∷ hand) name = if same_name n name then place
+    else held_named ns hand name
 
 -- what a part holds; where it is none of the kind, as much as a table without blocks has
 abbrev pub head_from : Option CorePart → Head
@@ -139,7 +146,8 @@ nothing = record {
 
 abbrev pub changed : Changes → Name → CorePart → CorePart
 changed changes (HeadOf table) (part.Head head) = part.Head (changes.head table head)
-changed changes (ShardOf table shard) (part.Shard places) = part.Shard (changes.shard table shard places)
+changed changes (ShardOf table shard) (part.Shard places) = part.Shard
+    (changes.shard table shard places)
 changed changes (BodyOf table block) (part.Body body) = part.Body (changes.body table block body)
 changed changes TheDesk (part.Desk desk) = part.Desk (changes.desk desk)
 changed changes _ other = other
@@ -148,4 +156,5 @@ changed changes _ other = other
 abbrev pub each_changed : Changes → List Name → Parts → Parts
 each_changed changes [] parts = parts
 each_changed changes (n ∷ ns) [] = []
-each_changed changes (n ∷ ns) (first ∷ parts) = changed changes n first ∷ each_changed changes ns parts
+each_changed changes (n ∷ ns) (first ∷ parts) = changed changes n first ∷ each_changed changes ns
+    parts

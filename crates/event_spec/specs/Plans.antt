@@ -27,10 +27,11 @@ gap_places seen = map (place_of seen.block) seen.look.gaps
 abbrev pub pair_of : (ℕ × MovableRow) × (ℕ × ℕ) → MovePair
 pair_of entry = record { key = entry.0.1.key; source = entry.1.0; target = entry.1.1 }
 
--- The pairs of some rows, with their places falling, and gaps, rising: the i-th row goes to the i-th gap while that lies
--- below the row, and at most 64 move.
+-- The pairs of some rows, with their places falling, and gaps, rising: the i-th row goes to the
+-- i-th gap while that lies below the row, and at most 64 move.
 abbrev pub pairs_of : List (ℕ × MovableRow) → List ℕ → List MovePair
-pairs_of rows gaps = map pair_of (zip rows (moves_of (map (λ (row : ℕ × MovableRow). row.0) rows) gaps))
+pairs_of rows gaps = map pair_of
+    (zip rows (moves_of (map (λ (row : ℕ × MovableRow). row.0) rows) gaps))
 
 -- What a compaction moves that looked at these blocks, in ascending order.
 abbrev pub plan_of : List BlockLook → List MovePair

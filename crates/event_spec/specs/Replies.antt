@@ -1,5 +1,6 @@
 -- What the core replies to each event.
-use Rattle.std.specs.Prelude.{ℕ, ◌+◌, Bool, false, not, ◌==◌, List, Option, None, Some, option_and_then, length, Result, Ok, Err, if◌then◌else◌}
+use Rattle.std.specs.Prelude.{ℕ, ◌+◌, Bool, false, not, ◌==◌, List, Option, None, Some}
+use Rattle.std.specs.Prelude.{option_and_then, length, Result, Ok, Err, if◌then◌else◌}
 use Rattle.std.specs.List.{filter_map}
 use Rattle.block_layout.specs.Place.{place_of}
 use Rattle.block_spec.specs.declared.phase.Phase.{Phase}
@@ -14,7 +15,8 @@ use Rattle.event_spec.specs.declared.reply.Reply.{Reply}
 use Rattle.event_spec.specs.declared.reply.Reply.TheVariants as reply
 use Rattle.event_spec.specs.declared.reply.WriteFault.{WriteFault}
 use Rattle.event_spec.specs.Parts.{Parts, Shape, body_at, desk_at, slot_at, is_head, below}
-use Rattle.event_spec.specs.Effects.{CoreEvent, is_some_write, found, insert_judged, change_judged, held_pairs}
+use Rattle.event_spec.specs.Effects.{CoreEvent, is_some_write, found, insert_judged, change_judged}
+use Rattle.event_spec.specs.Effects.{held_pairs}
 use Rattle.isolation_spec.specs.Contents.{at_place, place_at, key_of}
 use Rattle.txn_desk.specs.Oldest.{oldest_of}
 
@@ -44,36 +46,46 @@ module _ (shape : Shape) (parts : Parts) where
   -- A row that the session sees at a place, but for one whose key it wrote at another slot.
   abbrev pub row_read : OwnTransaction → ℕ → ℕ → Option Row
   row_read own table place = option_and_then
-      (λ row. if is_elsewhere (at_place own.writes (place_at table (key_of row))) place then None else Some row)
+      (λ row. if is_elsewhere (at_place own.writes (place_at table (key_of row))) place then None
+      else Some row)
       (seen (slot_at shape parts table place) own.snapshot.stamp own.session)
 
   -- the rows read in a block, in slot order
   abbrev pub rows_read : OwnTransaction → ℕ → ℕ → List Row
   rows_read own table block =
-      filter_map (λ slot. row_read own table (place_of block slot)) (below (length (body_at shape parts table block).slots))
+      filter_map (λ slot. row_read own table (place_of block slot))
+      (below (length (body_at shape parts table block).slots))
 
   -- An imaged block replies its shared image, which stands for all its rows.
   abbrev pub reply_to_read : OwnTransaction → ℕ → ℕ → CoreReply
   reply_to_read own table block =
-      if is_imaged (body_at shape parts table block).phase then reply.Shared (rows_of (body_at shape parts table block))
+      if is_imaged (body_at shape parts table block).phase
+      then reply.Shared (rows_of (body_at shape parts table block))
       else reply.Rows (rows_read own table block)
 
   -- The reply to an event.
   abbrev pub reply_to : CoreEvent → CoreReply
   reply_to (event.Begin session) =
-      reply.Begun (record { stamp = (desk_at shape parts).newest; number = (desk_at shape parts).commits })
+      reply.Begun (record {
+        stamp = (desk_at shape parts).newest;
+        number = (desk_at shape parts).commits;
+      })
   reply_to (event.Get own table key) = reply.Found (found shape parts own table key)
-  reply_to (event.Insert own table row) = reply_to_write (insert_judged shape parts own table (key_of row))
-  reply_to (event.Update own table row) = reply_to_write (change_judged shape parts own table (key_of row))
+  reply_to (event.Insert own table row) = reply_to_write
+      (insert_judged shape parts own table (key_of row))
+  reply_to (event.Update own table row) = reply_to_write
+      (change_judged shape parts own table (key_of row))
   reply_to (event.Delete own table key) = reply_to_write (change_judged shape parts own table key)
   reply_to (event.Read own table block) = reply_to_read own table block
   reply_to (event.Commit own) =
-      reply.Committed (if is_some_write own.writes then Some ((desk_at shape parts).commits + 1) else None)
+      reply.Committed (if is_some_write own.writes then Some ((desk_at shape parts).commits + 1)
+      else None)
   reply_to (event.Abort own) = reply.Aborted
   reply_to event.Oldest = reply.Oldest (oldest_of (desk_at shape parts))
   reply_to (event.Observe table block) =
       reply.Turned (turns (is_head shape parts table block) (body_at shape parts table block))
-  reply_to (event.Prune table block oldest) = reply.Dropped (dropped_from oldest (body_at shape parts table block))
+  reply_to (event.Prune table block oldest) = reply.Dropped
+      (dropped_from oldest (body_at shape parts table block))
   reply_to (event.Look table block) = reply.Looked (looked (body_at shape parts table block))
   reply_to (event.Move table moves) = reply.Moved (length (held_pairs shape parts table moves))
   reply_to (event.Seal table block) = reply_to_seal

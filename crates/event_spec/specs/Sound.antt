@@ -1,5 +1,6 @@
 -- What holds of every state that lawful events reach.
-use Rattle.std.specs.Prelude.{◌≡◌, ◌≢◌, ⊤, ℕ, ◌<◌, ◌≤◌, ◌^◌, true, false, not, ◌&&◌, ◌==◌, Option, Some, All, filter, length}
+use Rattle.std.specs.Prelude.{◌≡◌, ◌≢◌, ⊤, ℕ, ◌<◌, ◌≤◌, ◌^◌, true, false, not, ◌&&◌, ◌==◌, Option}
+use Rattle.std.specs.Prelude.{Some, All, filter, length}
 use Rattle.block_spec.specs.declared.phase.Phase.TheVariants.{Sealed, Imaged}
 use Rattle.block_spec.specs.Fitting.{columns_of}
 use Rattle.block_spec.specs.Slots.{Slot, is_bare}
@@ -7,7 +8,9 @@ use Rattle.block_spec.specs.Bodies.{Body, slot_in, has_row, is_loose, is_empty, 
 use Rattle.event_spec.specs.declared.part.Part.TheVariants as part
 use Rattle.event_spec.specs.Follows.{Follows}
 use Rattle.event_spec.specs.Lawful.{HasTable, HasBlock}
-use Rattle.event_spec.specs.Parts.{CorePart, Parts, Shape, Name, HeadOf, ShardOf, BodyOf, TheDesk, names, part_at, head_at, body_at, desk_at, slot_at, places_at, blocks_of, slots_of, below}
+use Rattle.event_spec.specs.Parts.{CorePart, Parts, Shape, Name, HeadOf, ShardOf, BodyOf, TheDesk}
+use Rattle.event_spec.specs.Parts.{names, part_at, head_at, body_at, desk_at, slot_at, places_at}
+use Rattle.event_spec.specs.Parts.{blocks_of, slots_of, below}
 use Rattle.event_spec.specs.Replay.{columns_in}
 use Rattle.event_spec.specs.SlotSound.{VersionsFit}
 use Rattle.isolation_spec.specs.Machine.{IsolationMachine}
@@ -20,8 +23,8 @@ IsOfKind (BodyOf table block) (Some (part.Body body)) = ⊤
 IsOfKind TheDesk (Some (part.Desk desk)) = ⊤
 IsOfKind _ _ = ⊥
 
--- A head: its block is loose, its slots from `taken` on are bare, none is taken where the block is empty, and it knows
--- the other empty blocks.
+-- A head: its block is loose, its slots from `taken` on are bare, none is taken where the block is
+-- empty, and it knows the other empty blocks.
 pub record HeadHolds (shape : Shape) (parts : Parts) (table : ℕ) : Type 0 where
   pub block : HasBlock shape table (head_at shape parts table).block
   pub taken : (head_at shape parts table).taken ≤ slots_of shape table
@@ -32,16 +35,18 @@ pub record HeadHolds (shape : Shape) (parts : Parts) (table : ℕ) : Type 0 wher
       → (head_at shape parts table).taken ≡ 0
   pub empty : (head_at shape parts table).empty
       ≡ filter
-      (λ block. is_empty (body_at shape parts table block) && not (block == (head_at shape parts table).block))
+      (λ block. is_empty (body_at shape parts table block)
+      && not (block == (head_at shape parts table).block))
       (below (blocks_of shape table))
 
--- A body of a table: its columns are the table's, it has as many slots as the table has in a block, and each version of
--- a row fits. Cooling it has a row, and two rounds without a modification. Sealed or imaged it has no entry, its rows are
--- a front of its slots, and its stamp is the last.
+-- A body of a table: its columns are the table's, it has as many slots as the table has in a block,
+-- and each version of a row fits. Cooling it has a row, and two rounds without a modification.
+-- Sealed or imaged it has no entry, its rows are a front of its slots, and its stamp is the last.
 pub record BodyHolds (shape : Shape) (table : ℕ) (body : Body) : Type 0 where
   pub columns : body.columns ≡ columns_of (columns_in shape table)
   pub slots : length body.slots ≡ slots_of shape table
-  pub versions : All (λ (slot : Slot). VersionsFit (columns_in shape table) slot.row slot.entries) body.slots
+  pub versions : All (λ (slot : Slot). VersionsFit (columns_in shape table) slot.row slot.entries)
+      body.slots
   pub cooling : body.cooling ≡ true → has_row body ≡ true
   pub rested : body.cooling ≡ true → body.rounds ≡ 2
   pub quiet : is_loose body.phase ≡ false → is_quiet body ≡ true
@@ -53,21 +58,26 @@ pub record BodyHolds (shape : Shape) (table : ℕ) (body : Body) : Type 0 where
 
 -- A block that is cooling, sealed or imaged is not the head.
 pub record IsNoHead (shape : Shape) (parts : Parts) (table block : ℕ) : Type 0 where
-  pub cooling : (body_at shape parts table block).cooling ≡ true → block ≢ (head_at shape parts table).block
-  pub phase : is_loose (body_at shape parts table block).phase ≡ false → block ≢ (head_at shape parts table).block
+  pub cooling : (body_at shape parts table block).cooling ≡ true → block
+      ≢ (head_at shape parts table).block
+  pub phase : is_loose (body_at shape parts table block).phase ≡ false → block
+      ≢ (head_at shape parts table).block
 
--- The invariant: each part is what its name says, the parts follow a machine, and heads and bodies hold.
+-- The invariant: each part is what its name says, the parts follow a machine, and heads and bodies
+-- hold.
 pub record Sound (shape : Shape) (parts : Parts) : Type 0 where
   pub follows : (machine : IsolationMachine)
       × Follows (slot_at shape parts) (places_at shape parts) (desk_at shape parts) machine
   pub count : length parts ≡ length (names shape)
   pub kinds : All (λ name. IsOfKind name (part_at shape parts name)) (names shape)
   pub heads : (table : ℕ) → HasTable shape table → HeadHolds shape parts table
-  pub bodies : (table block : ℕ) → HasBlock shape table block → BodyHolds shape table (body_at shape parts table block)
+  pub bodies : (table block : ℕ) → HasBlock shape table block
+      → BodyHolds shape table (body_at shape parts table block)
   pub no_head : (table block : ℕ) → HasBlock shape table block → IsNoHead shape parts table block
   pub sessions : length (desk_at shape parts).open_snapshots ≡ shape.passes
 
 -- Each table has a block, and between 1 and 2 ^ 15 slots in it.
 pub record IsShape (shape : Shape) : Type 0 where
   pub blocks : (table : ℕ) → HasTable shape table → 1 ≤ blocks_of shape table
-  pub slots : (table : ℕ) → HasTable shape table → (1 ≤ slots_of shape table) × (slots_of shape table ≤ 2 ^ 15)
+  pub slots : (table : ℕ) → HasTable shape table → (1 ≤ slots_of shape table)
+      × (slots_of shape table ≤ 2 ^ 15)

@@ -1,11 +1,14 @@
 -- Which parts an event touches, as the parts held before tell.
-use Rattle.std.specs.Prelude.{ℕ, ℤ, Bool, true, false, ◌&&◌, ◌||◌, ◌==◌, List, [], ◌∷◌, ◌++◌, Option, None, Some, option_to_list, slice_get}
+use Rattle.std.specs.Prelude.{ℕ, ℤ, Bool, true, false, ◌&&◌, ◌||◌, ◌==◌, List, [], ◌∷◌, ◌++◌}
+use Rattle.std.specs.Prelude.{Option, None, Some, option_to_list, slice_get}
 use Rattle.std.specs.List.{list_any}
 use Rattle.std.specs.Option.{option_or}
 use Rattle.block_layout.specs.Place.{block_of}
 use Rattle.event_spec.specs.declared.event.Event.TheVariants as event
 use Rattle.event_spec.specs.declared.event.MovePair.{MovePair}
-use Rattle.event_spec.specs.Parts.{CorePart, Shape, Name, HeadOf, ShardOf, BodyOf, TheDesk, same_name, names, held_named, head_from, shard_from, slots_of, shard_of}
+use Rattle.event_spec.specs.Parts.{CorePart, Shape, Name, HeadOf, ShardOf, BodyOf, TheDesk}
+use Rattle.event_spec.specs.Parts.{same_name, names, held_named, head_from, shard_from, slots_of}
+use Rattle.event_spec.specs.Parts.{shard_of}
 use Rattle.event_spec.specs.Judged.{next_place}
 use Rattle.event_spec.specs.Effects.{CoreEvent}
 use Rattle.isolation_spec.specs.Contents.{PlaceMap, key_of}
@@ -13,7 +16,8 @@ use Rattle.key_index.specs.Candidates.{candidates_of}
 
 -- the body of one of these places of a table
 abbrev pub is_body_of : ℕ → List ℕ → Name → Bool
-is_body_of table places (BodyOf other block) = (table == other) && list_any (λ place. block_of place == block) places
+is_body_of table places (BodyOf other block) = (table == other)
+    && list_any (λ place. block_of place == block) places
 is_body_of table places _ = false
 
 -- a body that the transaction wrote
@@ -38,18 +42,22 @@ is_shard_in table _ = false
 
 -- the shard of a pair's key
 abbrev pub is_shard_moved : ℕ → List MovePair → Name → Bool
-is_shard_moved table pairs (ShardOf other shard) = (table == other) && list_any (λ pair. shard_of pair.key == shard) pairs
+is_shard_moved table pairs (ShardOf other shard) = (table == other)
+    && list_any (λ pair. shard_of pair.key == shard) pairs
 is_shard_moved table pairs _ = false
 
 -- the bodies of a pair's two places
 abbrev pub is_body_moved : ℕ → List MovePair → Name → Bool
-is_body_moved table pairs name = list_any (λ pair. is_body_of table (pair.source ∷ pair.target ∷ []) name) pairs
+is_body_moved table pairs name = list_any
+    (λ pair. is_body_of table (pair.source ∷ pair.target ∷ []) name) pairs
 
 -- An event on a key touches the key's shard and the bodies of some places.
 abbrev pub touched_by_key : ℕ → ℤ → List ℕ → Name → Bool
-touched_by_key table key places name = same_name (ShardOf table (shard_of key)) name || is_body_of table places name
+touched_by_key table key places name = same_name (ShardOf table (shard_of key)) name
+    || is_body_of table places name
 
--- An insert touches besides the head and the body of its slot: that of the own write, else the head's next.
+-- An insert touches besides the head and the body of its slot: that of the own write, else the
+-- head's next.
 abbrev pub touched_by_insert : ℕ → ℤ → Option ℕ → List ℕ → Name → Bool
 touched_by_insert table key taken places name =
     same_name (HeadOf table) name || touched_by_key table key (option_to_list taken ++ places) name
@@ -59,7 +67,8 @@ abbrev pub touched_by_block : ℕ → ℕ → Name → Bool
 touched_by_block table block name = same_name (BodyOf table block) name
 
 abbrev pub touched_with_head : ℕ → ℕ → Name → Bool
-touched_with_head table block name = same_name (HeadOf table) name || touched_by_block table block name
+touched_with_head table block name = same_name (HeadOf table) name
+    || touched_by_block table block name
 
 -- `held` gives the parts held, by name
 module _ (shape : Shape) (held : Name → Option CorePart) where
@@ -80,19 +89,23 @@ module _ (shape : Shape) (held : Name → Option CorePart) where
       (held_places table (key_of row))
       name
   touched (event.Update own table row) name =
-      touched_by_key table (key_of row) (option_to_list own.written ++ held_places table (key_of row)) name
+      touched_by_key table (key_of row)
+      (option_to_list own.written ++ held_places table (key_of row)) name
   touched (event.Delete own table key) name =
       touched_by_key table key (option_to_list own.written ++ held_places table key) name
   touched (event.Read own table block) name = touched_by_block table block name
   touched (event.Commit own) name = is_body_written own.writes name || same_name TheDesk name
   touched (event.Abort own) name =
-      is_any_head name || is_shard_written own.writes name || is_body_written own.writes name || same_name TheDesk name
+      is_any_head name || is_shard_written own.writes name || is_body_written own.writes name
+      || same_name TheDesk name
   touched event.Oldest name = same_name TheDesk name
   touched (event.Observe table block) name = touched_with_head table block name
-  touched (event.Prune table block oldest) name = touched_with_head table block name || is_shard_in table name
+  touched (event.Prune table block oldest) name = touched_with_head table block name
+      || is_shard_in table name
   touched (event.Look table block) name = touched_by_block table block name
   touched (event.Move table moves) name =
-      same_name (HeadOf table) name || is_shard_moved table moves name || is_body_moved table moves name
+      same_name (HeadOf table) name || is_shard_moved table moves name
+      || is_body_moved table moves name
       || same_name TheDesk name
   touched (event.Seal table block) name = touched_with_head table block name
   touched (event.Image table block image) name = touched_by_block table block name
@@ -106,4 +119,5 @@ passes_test test (Some name) = test name
 -- Whether an event touches the part of a number, as the parts in a hand tell.
 abbrev pub touching : Shape → CoreEvent → List (Option CorePart) → ℕ → Bool
 touching shape event hand number =
-    passes_test (touched shape (held_named (names shape) hand) event) (slice_get (names shape) number)
+    passes_test (touched shape (held_named (names shape) hand) event)
+    (slice_get (names shape) number)

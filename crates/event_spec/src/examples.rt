@@ -1,5 +1,12 @@
 //! Worked examples of events: each is a fact that the definitions compute.
-ghost use Rattle.event_spec.specs.Examples.{HeadsTakeSlotsInOrder, EmptyBlocksAreTheHeads, ConflictsGoFirst, InsertsFindASlot, ChangesFindTheRow, MovedRowsAreFound, UpdatesChangeWhatDiffers, PlansFillFromBelow, PartsStandInOrder, EventsTouchParts, KeysTouchParts, TransactionsAreOpened, CommitsAreNumbered, AbortsLeaveNothing, ReadsSeeOwnWrites, MovesTakeOneStamp, FreezesGoInTurn, LogsAreReplayed};
+ghost use Rattle.event_spec.specs.Examples.{HeadsTakeSlotsInOrder, EmptyBlocksAreTheHeads};
+ghost use Rattle.event_spec.specs.Examples.{ConflictsGoFirst, InsertsFindASlot, ChangesFindTheRow};
+ghost use Rattle.event_spec.specs.Examples.{MovedRowsAreFound, UpdatesChangeWhatDiffers};
+ghost use Rattle.event_spec.specs.Examples.{PlansFillFromBelow, PartsStandInOrder};
+ghost use Rattle.event_spec.specs.Examples.{EventsTouchParts, KeysTouchParts};
+ghost use Rattle.event_spec.specs.Examples.{TransactionsAreOpened, CommitsAreNumbered};
+ghost use Rattle.event_spec.specs.Examples.{AbortsLeaveNothing, ReadsSeeOwnWrites};
+ghost use Rattle.event_spec.specs.Examples.{MovesTakeOneStamp, FreezesGoInTurn, LogsAreReplayed};
 
 /// Inserts take the head's slots in order, then the least empty block becomes the head.
 pub fn heads_take_slots_in_order()

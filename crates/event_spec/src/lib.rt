@@ -1,6 +1,7 @@
-//! The events of the core: what its parts are, what each event makes of them and replies, which parts
-//! an event touches, which events are lawful, and what holds of every state (`specs/`), with worked
-//! examples. It stands on what a slot and a block's body are, and knows no buffer, latch or thread.
+//! The events of the core: what its parts are, what each event makes of them and replies, which
+//! parts an event touches, which events are lawful, and what holds of every state (`specs/`), with
+//! worked examples. It stands on what a slot and a block's body are, and knows no buffer, latch or
+//! thread.
 #![tactic(auto)]
 
 pub mod event;

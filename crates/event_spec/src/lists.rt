@@ -23,7 +23,7 @@ impl From<Vec<u32>> for Blocks {
 
     ghost from_gives = { λ blocks b. b ≡ blocks.items };
 
-    // The vector as it is, without a copy.
+    /// The vector as it is, without a copy.
     fn from(blocks: Vec<u32>) -> Blocks {
         Blocks { blocks }
     }
@@ -70,7 +70,7 @@ impl From<Vec<MovePair>> for Moves {
 
     ghost from_gives = { λ pairs m. m ≡ pairs.items };
 
-    // The vector as it is, without a copy.
+    /// The vector as it is, without a copy.
     fn from(pairs: Vec<MovePair>) -> Moves {
         Moves { pairs }
     }

@@ -8,8 +8,8 @@ use std::marker::Model;
 use std::sync::Arc;
 use txn_desk::Snapshot;
 
-/// The rows that a transaction wrote, each with the place of the slot on which its entries stand. It is
-/// shared, so that to hand it in costs nothing.
+/// The rows that a transaction wrote, each with the place of the slot on which its entries stand.
+/// It is shared, so that to hand it in costs nothing.
 #[derive(Drop)]
 pub struct OwnWrites {
     by_row: Arc<BTreeMap<Place, SlotId>>,
@@ -35,7 +35,7 @@ impl From<Arc<BTreeMap<Place, SlotId>>> for OwnWrites {
 
     ghost from_gives = { λ by_row own. own ≡ (arc_value by_row).entries };
 
-    // The map as it is, shared with whoever holds it too.
+    /// The map as it is, shared with whoever holds it too.
     fn from(by_row: Arc<BTreeMap<Place, SlotId>>) -> OwnWrites {
         OwnWrites { by_row }
     }

@@ -15,8 +15,8 @@ pub struct Head {
     pub empty: Blocks,
 }
 
-/// A part of the core: a table's head, a shard of its index, a block's body, or the desk. How each is
-/// kept is the core's choice.
+/// A part of the core: a table's head, a shard of its index, a block's body, or the desk. How each
+/// is kept is the core's choice.
 #[derive(Debug, Drop)]
 pub enum Part<H, S, B, D> {
     Head(H),

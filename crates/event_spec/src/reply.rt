@@ -31,8 +31,8 @@ pub enum WriteFault {
     Full { inserts: u64 },
 }
 
-/// How many versions of one block were dropped: no more than 2^31 in each of its at most 2^15 slots. Contracts see the
-/// number.
+/// How many versions of one block were dropped: no more than 2^31 in each of its at most 2^15
+/// slots. Contracts see the number.
 #[derive(Clone, Copy, PartialEq, Eq, Debug)]
 pub struct VersionCount {
     count: u64,
@@ -79,7 +79,8 @@ pub enum Reply<I, L> {
     Written(SlotId),
     /// The write was refused, and nothing changed.
     Refused(WriteFault),
-    /// The rows that the session sees in the block, in slot order, without those whose key it wrote at another slot.
+    /// The rows that the session sees in the block, in slot order, without those whose key it wrote
+    /// at another slot.
     Rows(Rows),
     /// The shared image of the block's rows, of which none was read.
     Shared(I),

@@ -62,4 +62,5 @@ ReadsStand = (shape : Shape) (parts : Parts) (front : List Occurrence) (entry : 
     → IsShape shape → Sound shape parts → IsLawful shape entry.made.event parts
     → IsNamed entry
     → ReadsStandIn shape parts front
-    → ReadsStandIn shape (after shape parts entry.made) (front ++ occurrence_of shape parts entry ∷ [])
+    → ReadsStandIn shape (after shape parts entry.made)
+    (front ++ occurrence_of shape parts entry ∷ [])

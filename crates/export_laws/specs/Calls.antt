@@ -52,6 +52,7 @@ SomeReadsAreAnExport = (shape : Shape) (session : ℕ) (old new : List Logged) (
 
 -- Without a transaction, or with one that wrote the table, an export makes no event.
 abbrev pub RefusedExportsReadNothing : Type 0
-RefusedExportsReadNothing = (shape : Shape) (session : ℕ) (log : List Logged) (table : ℕ) (line : Said)
+RefusedExportsReadNothing = (shape : Shape) (session : ℕ) (log : List Logged) (table : ℕ)
+    (line : Said)
     → refusal_of (command.Export table) (own_after (own_in shape session log)) ≡ Some line
     → Called shape false session log log (export_call table [] line)

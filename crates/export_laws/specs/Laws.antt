@@ -33,7 +33,8 @@ ExportsAreSaid = (script : Script) (log : List Logged) (text : List ℕ) (bytes 
 
 -- Where no line of a script is an export, its run sent nothing.
 abbrev pub WithoutAnExportNothingIsSent : Type 0
-WithoutAnExportNothingIsSent = (script : Script) (log : List Logged) (text : List ℕ) (bytes : List ℕ)
+WithoutAnExportNothingIsSent = (script : Script) (log : List Logged) (text : List ℕ)
+    (bytes : List ℕ)
     → (ran : Ran script log text)
     → WereSent script.tables ran.rounds bytes
     → list_any (λ line. is_export line.command) (all_lines script) ≡ false

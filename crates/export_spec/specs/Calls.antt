@@ -1,5 +1,6 @@
 -- What the call of an export sends, by its reads and its line.
-use Rattle.std.specs.Prelude.{◌≡◌, ◌⊎◌, ℕ, false, List, [], ◌∷◌, ◌++◌, length, filter, map, flat_map, All, IfSome}
+use Rattle.std.specs.Prelude.{◌≡◌, ◌⊎◌, ℕ, false, List, [], ◌∷◌, ◌++◌, length, filter, map}
+use Rattle.std.specs.Prelude.{flat_map, All, IfSome}
 use Rattle.std.specs.List.{list_any}
 use Rattle.arrow_spec.specs.Streams.{batch_message, schema_message, stream_of}
 use Rattle.block_spec.specs.Slots.{Row}

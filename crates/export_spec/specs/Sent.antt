@@ -26,7 +26,8 @@ pub record AreBatchesOf (slots : ℕ) (contents : List (List Cell)) (groups : Li
   pub within : All (λ (group : List (List Cell)). length group ≤ slots) groups
   pub each_once : IsPermutation (all_rows groups) contents
 
--- The bytes are the canonical stream of these rows of a table, so many rows in so many batches, and read as just these.
+-- The bytes are the canonical stream of these rows of a table, so many rows in so many batches, and
+-- read as just these.
 pub record IsStreamOf (columns : List Column) (slots : ℕ) (contents : List (List Cell)) (rows batches : ℕ) (bytes : List ℕ) : Type 0 where
   pub groups : List (List (List Cell))
   pub stream : bytes ≡ stream_of columns groups
@@ -47,14 +48,16 @@ pub record IsFrontOf (columns : List Column) (slots : ℕ) (contents : List (Lis
 pub record IsFrontAt (run : Run) (entry : Entry) (table : ℕ) (bytes : List ℕ) : Type 0 where
   pub transaction : Span
   pub within : transaction_of run entry ≡ Some transaction
-  pub front : IsFrontOf (columns_at run.tables table) (slots_at run.tables table) (contents_of table (state_at run.history transaction.snapshot)) bytes
+  pub front : IsFrontOf (columns_at run.tables table) (slots_at run.tables table)
+      (contents_of table (state_at run.history transaction.snapshot)) bytes
 
 -- What the reply to an export says of the bytes that went out. `export n rows R batches B frozen
 -- F`: the canonical stream of the rows of the table after n commits, each once, R in all, in B
 -- batches of which none is empty. With refused memory a front of one. With any other reply nothing.
 abbrev pub SaysOfExport : Run → Entry → ℕ → Said → List ℕ → Type 0
 SaysOfExport run entry table (said.Exported number rows batches frozen) bytes =
-    IsStreamOf (columns_at run.tables table) (slots_at run.tables table) (contents_of table (state_at run.history number)) rows batches bytes
+    IsStreamOf (columns_at run.tables table) (slots_at run.tables table)
+    (contents_of table (state_at run.history number)) rows batches bytes
 SaysOfExport run entry table said.Memory bytes = IsFrontAt run entry table bytes
 SaysOfExport run entry table (said.At n) bytes = bytes ≡ []
 SaysOfExport run entry table said.InTransaction bytes = bytes ≡ []
@@ -82,7 +85,8 @@ SaysOfExport run entry table (said.Dirty key) bytes = bytes ≡ []
 
 -- what a reply says of them: none but the reply to an export says anything
 abbrev pub SaysOfBytes : Run → Entry → Command → List ℕ → Type 0
-SaysOfBytes run entry (command.Export table) bytes = SaysOfExport run entry table entry.reply.said bytes
+SaysOfBytes run entry (command.Export table) bytes = SaysOfExport run entry table entry.reply.said
+    bytes
 SaysOfBytes run entry command.Begin bytes = Unit {0}
 SaysOfBytes run entry (command.Get table key) bytes = Unit {0}
 SaysOfBytes run entry (command.Scan table) bytes = Unit {0}
@@ -100,14 +104,15 @@ SaysOfBytes run entry (command.Gather table block) bytes = Unit {0}
 -- each of these replies says what went out
 abbrev pub EachSays : Run → List ℕ → List Entry → Type 0
 EachSays run bytes [] = Unit {0}
-EachSays run bytes (entry ∷ entries) = SaysOfBytes run entry entry.command bytes × EachSays run bytes entries
+EachSays run bytes (entry ∷ entries) = SaysOfBytes run entry entry.command bytes
+    × EachSays run bytes entries
 
 -- a line of the workload exports a table
 abbrev pub has_export : Script → Bool
 has_export script = list_any (λ line. is_export line.command) (all_lines script)
 
--- The lines of this output say what was sent, which is nothing where no line of the workload exports
--- a table.
+-- The lines of this output say what was sent, which is nothing where no line of the workload
+-- exports a table.
 pub record SaysAllSent (script : Script) (output bytes : List ℕ) : Type 0 where
   pub says : EachSays (run_in script output) bytes (run_in script output).entries
   pub quiet : has_export script ≡ false → bytes ≡ []

@@ -6,10 +6,13 @@
 //! numbers are little-endian, and each place is one of a byte in the flatbuffer.
 #![tactic(auto)]
 
-ghost use Rattle.std.specs.Prelude.{◌≡◌, ◌+◌, ◌-◌, ◌*◌, ◌^◌, ◌<◌, ◌≤◌, length, slice_index, IfOk, OnOk, OnErr, IsOkAnd};
+ghost use Rattle.std.specs.Prelude.{◌≡◌, ◌+◌, ◌-◌, ◌*◌, ◌^◌, ◌<◌, ◌≤◌, length, slice_index, IfOk};
+ghost use Rattle.std.specs.Prelude.{OnOk, OnErr, IsOkAnd};
 ghost use Rattle.std.specs.List.{flat_map};
 ghost use Rattle.byteorder.specs.Endian.{little_bytes};
-ghost use Rattle.flat_build.specs.Layout.{empty_flatbuffer, table_place, table_end, length_place, vector_end, string_end, with_table, with_vector, with_string, overwritten};
+ghost use Rattle.flat_build.specs.Layout.{empty_flatbuffer, table_place, table_end, length_place};
+ghost use Rattle.flat_build.specs.Layout.{vector_end, string_end, with_table, with_vector};
+ghost use Rattle.flat_build.specs.Layout.{with_string, overwritten};
 
 use byteorder::{ByteOrder, LittleEndian};
 use std::alloc::{AllocError, Global};
@@ -70,7 +73,8 @@ impl FlatBuild {
         Ok(place as u32)
     }
 
-    /// Lays a vector of `count` elements of `width` zero bytes, and answers its length word's place.
+    /// Lays a vector of `count` elements of `width` zero bytes, and answers its length word's
+    /// place.
     ///
     /// On want of memory nothing is laid.
     pub fn vector(&mut self, count: u32, width: u32) -> Result<u32, AllocError>
@@ -138,7 +142,7 @@ impl FlatBuild {
         Ok(bytes)
     }
 
-    // The least place, from the end of the bytes on, that is 4 past a multiple of 8.
+    /// The least place, from the end of the bytes on, that is 4 past a multiple of 8.
     fn next_length_place(&self) -> usize
         requires { length self.now < 2 ^ 32 }
         ensures { result ≡ length_place self.now }
@@ -147,7 +151,7 @@ impl FlatBuild {
     }
 }
 
-// Writes a number of `width` bytes over those from `at` on.
+/// Writes a number of `width` bytes over those from `at` on.
 fn write_number(bytes: &mut [u8], at: usize, width: usize, value: u64)
     requires low { 1 ≤ width }
     requires high { width ≤ 8 }
@@ -158,7 +162,7 @@ fn write_number(bytes: &mut [u8], at: usize, width: usize, value: u64)
     LittleEndian::write_uint(&mut bytes[at..], value, width);
 }
 
-// Writes words of two bytes each over the bytes from `at` on.
+/// Writes words of two bytes each over the bytes from `at` on.
 fn write_words(bytes: &mut [u8], at: usize, words: &[u16])
     requires { at + 2 * length words.now ≤ length bytes.old }
     ensures { bytes.new ≡ overwritten bytes.old at (flat_map (little_bytes 2) words.now) }
@@ -166,7 +170,7 @@ fn write_words(bytes: &mut [u8], at: usize, words: &[u16])
     LittleEndian::write_u16_into(words, &mut bytes[at..at + 2 * words.len()]);
 }
 
-// Writes a piece over the bytes from `at` on.
+/// Writes a piece over the bytes from `at` on.
 fn write_bytes(bytes: &mut [u8], at: usize, piece: &[u8])
     requires { at + length piece.now ≤ length bytes.old }
     ensures { bytes.new ≡ overwritten bytes.old at piece.now }

@@ -3,7 +3,7 @@ use super::*;
 use std::process::Abort;
 use std::test::Fail;
 
-// An object to lay.
+/// An object to lay.
 #[derive(Clone, Copy)]
 enum Object {
     Table(&'static [u16]),
@@ -11,7 +11,7 @@ enum Object {
     Text(&'static [u8]),
 }
 
-// A place to fill once all objects are laid.
+/// A place to fill once all objects are laid.
 #[derive(Clone, Copy)]
 enum Fill {
     Number(u32, u32, u64),
@@ -20,7 +20,7 @@ enum Fill {
 
 const MESSAGE: Object = Object::Table(&[12, 20, 16, 18, 4, 8]);
 
-// The objects of a flatbuffer with their places, what fills them, its root and its bytes.
+/// The objects of a flatbuffer with their places, what fills them, its root and its bytes.
 struct Case {
     name: &'static str,
     objects: &'static [(Object, u32)],
@@ -125,7 +125,7 @@ const CASES: [Case; 3] = [
     },
 ];
 
-// Lays an object, once what the call asks for is checked.
+/// Lays an object, once what the call asks for is checked.
 fn lay(rt: &impl Abort, build: &mut FlatBuild, object: Object) -> Result<u32, AllocError> {
     assert!(rt; build.laid() < 1 << 20);
     match object {
@@ -146,7 +146,7 @@ fn lay(rt: &impl Abort, build: &mut FlatBuild, object: Object) -> Result<u32, Al
     }
 }
 
-// Fills a place, once what the call asks for is checked.
+/// Fills a place, once what the call asks for is checked.
 fn write(rt: &impl Abort, build: &mut FlatBuild, fill: Fill) {
     match fill {
         Fill::Number(at, width, value) => {

@@ -1,5 +1,7 @@
 -- Numbers of a width and the bytes that hold them.
-use Rattle.std.specs.Prelude.{◌≡◌, ℕ, ◌==◌, ◌-◌, ◌*◌, ◌/◌, ◌^◌, ◌≤ℤ◌, ◌<ℤ◌, ◌⊎◌, Bool, true, false, nat_lt, if◌then◌else◌, ℤ, pos, negsuc, neg_ℤ, suc, List, length, map, drop}
+use Rattle.std.specs.Prelude.{◌≡◌, ℕ, ◌==◌, ◌-◌, ◌*◌, ◌/◌, ◌^◌, ◌≤ℤ◌, ◌<ℤ◌, ◌⊎◌, Bool, true, false}
+use Rattle.std.specs.Prelude.{nat_lt, if◌then◌else◌, ℤ, pos, negsuc, neg_ℤ, suc, List, length, map}
+use Rattle.std.specs.Prelude.{drop}
 use Rattle.std.specs.Int.{Width, w8, w16, w32, w64}
 use Rattle.std.specs.List.{All, flat_map, range_with_len}
 use Rattle.byteorder.specs.Endian.{little_number}
@@ -17,12 +19,14 @@ IsWidth width = (width ≡ 8) ⊎ (width ≡ 16) ⊎ (width ≡ 32) ⊎ (width �
 
 -- a number that a width holds, signed or not
 abbrev pub IsInRange : ℕ → Bool → ℤ → Type 0
-IsInRange width true value = (neg_ℤ (pos (2 ^ (width - 1))) ≤ℤ value) × (value <ℤ pos (2 ^ (width - 1)))
+IsInRange width true value = (neg_ℤ (pos (2 ^ (width - 1))) ≤ℤ value)
+    × (value <ℤ pos (2 ^ (width - 1)))
 IsInRange width false value = (pos 0 ≤ℤ value) × (value <ℤ pos (2 ^ width))
 
 -- the width of so many bits
 abbrev pub width_of : ℕ → Width
-width_of width = if width == 8 then w8 else if width == 16 then w16 else if width == 32 then w32 else w64
+width_of width = if width == 8 then w8 else if width == 16 then w16 else if width == 32 then w32
+    else w64
 
 -- the bytes of a list of numbers, one after the other
 abbrev pub numbers_bytes : ℕ → List ℤ → List ℕ
@@ -40,7 +44,8 @@ first_value width signed bytes = value_of width signed (little_number (width / 8
 -- the numbers that bytes hold, one after the other
 abbrev pub values_in : ℕ → Bool → List ℕ → List ℤ
 values_in width signed bytes =
-    map (λ i. first_value width signed (drop (width / 8 * i) bytes)) (range_with_len 0 (length bytes / (width / 8)))
+    map (λ i. first_value width signed (drop (width / 8 * i) bytes))
+    (range_with_len 0 (length bytes / (width / 8)))
 
 -- bytes are those of the numbers that they hold, and each is in range
 pub record IsStored (width : ℕ) (signed : Bool) (bytes : List ℕ) : Type 0 where

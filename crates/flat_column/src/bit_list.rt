@@ -1,6 +1,8 @@
 //! A list of bits as an Arrow bitmap.
 
-ghost use Rattle.std.specs.Prelude.{◌≡◌, ◌*◌, ℕ, [], slice_index_or, ◌<◌, ◌≤◌, ◌^◌, ◌++◌, ◌↔◌, false, IfOk, IsTrue, OnErr, OnOk, Some, count_ones, length, replicate, slice_get, slice_set, take};
+ghost use Rattle.std.specs.Prelude.{◌≡◌, ◌*◌, ℕ, [], slice_index_or, ◌<◌, ◌≤◌, ◌^◌, ◌++◌, ◌↔◌};
+ghost use Rattle.std.specs.Prelude.{false, IfOk, IsTrue, OnErr, OnOk, Some, count_ones, length};
+ghost use Rattle.std.specs.Prelude.{replicate, slice_get, slice_set, take};
 ghost use Rattle.std.specs.List.{All, count_by, sum_by};
 ghost use Rattle.flat_column.specs.Bitmap.{AreBytes, PutsBit, bitmap_bits};
 ghost use Rattle.arrow_spec.specs.Bytes.{bitmap};
@@ -126,7 +128,7 @@ impl Bits {
 impl Clone for Bits {
     ghost is_clone = { λ x y. y ≡ x };
 
-    // A copy in memory of the same allocator.
+    /// A copy in memory of the same allocator.
     fn clone(&self) -> Result<Bits, AllocError> {
         Ok(Bits {
             bytes: Vec::from_slice(*self.bytes.allocator(), self.bytes.as_slice())?,
@@ -135,7 +137,7 @@ impl Clone for Bits {
     }
 }
 
-// The byte with a bit put at a place.
+/// The byte with a bit put at a place.
 fn with_bit(byte: u8, place: usize, bit: bool) -> u8
     requires { place < 8 }
     ensures { PutsBit byte result place bit }
@@ -158,7 +160,7 @@ pub fn ones_among(bitmap: &[u8], n: usize) -> usize
     front + last.count_ones() as usize
 }
 
-// How many bits of all bytes are ones.
+/// How many bits of all bytes are ones.
 fn ones(bytes: &[u8]) -> usize
     requires { sum_by count_ones bytes.now < 2 ^ 64 }
     ensures { result ≡ sum_by count_ones bytes.now }
@@ -167,7 +169,7 @@ fn ones(bytes: &[u8]) -> usize
     ones_of_words(words) + ones_of_bytes(rest)
 }
 
-// How many bits of whole words are ones; they are counted eight bytes at a time.
+/// How many bits of whole words are ones; they are counted eight bytes at a time.
 fn ones_of_words(words: &[[u8; 8]]) -> usize
     requires bytes { (k : ℕ) → AreBytes (slice_index_or words.now k []) }
     requires fits { sum_by (sum_by count_ones) words.now < 2 ^ 64 }
@@ -180,7 +182,7 @@ fn ones_of_words(words: &[[u8; 8]]) -> usize
     count
 }
 
-// How many bits of bytes are ones; for what is left behind the last whole word.
+/// How many bits of bytes are ones; for what is left behind the last whole word.
 fn ones_of_bytes(bytes: &[u8]) -> usize
     requires { sum_by count_ones bytes.now < 2 ^ 64 }
     ensures { result ≡ sum_by count_ones bytes.now }

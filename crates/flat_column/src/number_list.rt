@@ -1,10 +1,13 @@
 //! A list of numbers of one width as Arrow data.
 
-ghost use Rattle.std.specs.Prelude.{◌≡◌, ◌+◌, ◌*◌, ◌<◌, ◌≤◌, ◌/◌, ◌++◌, ◌↔◌, pos, IfOk, IsTrue, OnErr, OnOk, Some, drop, length, replicate, slice_get, slice_set, take};
+ghost use Rattle.std.specs.Prelude.{◌≡◌, ◌+◌, ◌*◌, ◌<◌, ◌≤◌, ◌/◌, ◌++◌, ◌↔◌, pos, IfOk, IsTrue};
+ghost use Rattle.std.specs.Prelude.{OnErr, OnOk, Some, drop, length, replicate, slice_get};
+ghost use Rattle.std.specs.Prelude.{slice_set, take};
 ghost use Rattle.std.specs.Int.{Width, byte_len};
 ghost use Rattle.std.specs.List.{flat_map};
 ghost use Rattle.arrow_spec.specs.Bytes.{number_bytes};
-ghost use Rattle.flat_column.specs.Numbers.{IsInRange, IsWidth, first_value, numbers_bytes, width_of};
+ghost use Rattle.flat_column.specs.Numbers.{IsInRange, IsWidth, first_value, numbers_bytes};
+ghost use Rattle.flat_column.specs.Numbers.{width_of};
 
 use byteorder::{ByteOrder, LittleEndian};
 use std::alloc::{AllocError, Global};
@@ -153,7 +156,7 @@ impl Fixed {
         bytes
     }
 
-    // How many bytes a number has.
+    /// How many bytes a number has.
     fn size(&self) -> usize
         ensures { result ≡ self.now.width / 8 }
     {
@@ -164,7 +167,7 @@ impl Fixed {
 impl Clone for Fixed {
     ghost is_clone = { λ x y. y ≡ x };
 
-    // A copy in memory of the same allocator.
+    /// A copy in memory of the same allocator.
     fn clone(&self) -> Result<Fixed, AllocError> {
         Ok(Fixed {
             bytes: Vec::from_slice(*self.bytes.allocator(), self.bytes.as_slice())?,
@@ -174,7 +177,7 @@ impl Clone for Fixed {
     }
 }
 
-// The number of a width with which the bytes begin.
+/// The number of a width with which the bytes begin.
 fn first_number(bytes: &[u8], width: u32, signed: bool) -> i128
     requires known { IsWidth width }
     requires room { width / 8 ≤ length bytes.now }
@@ -192,18 +195,19 @@ fn first_number(bytes: &[u8], width: u32, signed: bool) -> i128
     }
 }
 
-// Puts a number of a width in the bytes from a place on. The others stay.
+/// Puts a number of a width in the bytes from a place on. The others stay.
 fn put_number_at(bytes: &mut [u8], at: usize, width: u32, signed: bool, value: i128)
     requires known { IsWidth width }
     requires room { at + width / 8 ≤ length bytes.old }
     requires in_range { IsInRange width signed value }
     ensures { bytes.new ≡
-        take at bytes.old ++ (number_bytes (width_of width) value ++ drop (width / 8) (drop at bytes.old)) }
+        take at bytes.old ++ (number_bytes (width_of width) value
+        ++ drop (width / 8) (drop at bytes.old)) }
 {
     put_number(&mut bytes[at..], width, signed, value);
 }
 
-// Puts a number of a width in the first bytes. The others stay.
+/// Puts a number of a width in the first bytes. The others stay.
 fn put_number(bytes: &mut [u8], width: u32, signed: bool, value: i128)
     requires known { IsWidth width }
     requires room { width / 8 ≤ length bytes.old }

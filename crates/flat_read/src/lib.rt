@@ -7,7 +7,8 @@
 //! No call allocates.
 #![tactic(auto)]
 
-ghost use Rattle.std.specs.Prelude.{◌≡◌, ◌+◌, ◌≤◌, ◌<◌, MatchResult, IfOk, IfErr, OnOk, OnErr, Ok, Err, length, take, drop};
+ghost use Rattle.std.specs.Prelude.{◌≡◌, ◌+◌, ◌≤◌, ◌<◌, MatchResult, IfOk, IfErr, OnOk, OnErr, Ok};
+ghost use Rattle.std.specs.Prelude.{Err, length, take, drop};
 ghost use Rattle.flat_read.specs.Reading.{number_at, target_at, vector_at, text_at, field_at};
 
 use byteorder::{ByteOrder, LittleEndian};
@@ -93,13 +94,14 @@ pub fn vector(bytes: &[u8], at: u64, width: u64) -> Result<(u64, u64), FlatFault
 
 /// The bytes of the string whose length word is at `at`, without its closing zero.
 pub fn text(bytes: &[u8], at: u64) -> Result<&[u8], FlatFault>
-    ensures { MatchResult result (λ t. text_at bytes.now at ≡ Ok t.now) (λ f. text_at bytes.now at ≡ Err f) }
+    ensures { MatchResult result (λ t. text_at bytes.now at ≡ Ok t.now)
+        (λ f. text_at bytes.now at ≡ Err f) }
 {
     let count = number(bytes, at, 4)?;
     bytes_at(bytes, at + 4, count)
 }
 
-// The `need` bytes from `place` on.
+/// The `need` bytes from `place` on.
 fn bytes_at(bytes: &[u8], place: u64, need: u64) -> Result<&[u8], FlatFault>
     ensures held { OnOk result (place + need ≤ length bytes.now) }
     ensures piece { IfOk result (λ t. t.now ≡ take need (drop place bytes.now)) }

@@ -2,7 +2,7 @@
 use super::*;
 use std::process::Abort;
 
-// One call, with its arguments after the bytes.
+/// One call, with its arguments after the bytes.
 #[derive(Clone, Copy)]
 enum Call {
     Root,
@@ -29,7 +29,7 @@ struct Case {
     answer: Answer,
 }
 
-// A schema with one column, `key`, of 64-bit integers that are not null.
+/// A schema with one column, `key`, of 64-bit integers that are not null.
 const SCHEMA: &[u8] = b"\x18\x00\x00\x00\x00\x00\x00\x00\
     \x0c\x00\x14\x00\x10\x00\x12\x00\
     \x04\x00\x08\x00\x00\x00\x00\x00\
@@ -50,7 +50,7 @@ const SCHEMA: &[u8] = b"\x18\x00\x00\x00\x00\x00\x00\x00\
     \x08\x00\x00\x00\x40\x00\x00\x00\
     \x01\x00\x00\x00\x00\x00\x00\x00";
 
-// A table at 0 whose vtable, of size 7, is at 4.
+/// A table at 0 whose vtable, of size 7, is at 4.
 const VTABLE_BEHIND: &[u8] = b"\xfc\xff\xff\xff\x07\x00\x0c\x00\x08\x00\x09";
 
 const CASES: [Case; 20] = [

@@ -1,5 +1,7 @@
 //! Laws of what follows the machine: each function does nothing, and its contract is one of them.
-ghost use Rattle.follow_laws.specs.Laws.{AbortFollows, BeginFollows, CommitFollows, EmptyCommitFollows, Judges, MoveFollows, PruneFollows, WriteFollows};
+ghost use Rattle.follow_laws.specs.Laws.{AbortFollows, BeginFollows, CommitFollows};
+ghost use Rattle.follow_laws.specs.Laws.{EmptyCommitFollows, Judges, MoveFollows, PruneFollows};
+ghost use Rattle.follow_laws.specs.Laws.{WriteFollows};
 
 /// What a session finds of a key, and what its write meets there, are the machine's.
 pub fn sessions_are_told_the_machines_rows_and_conflicts()

@@ -61,4 +61,5 @@ CoreOpens = (shape : Shape) → IsShape shape → CoreHolds shape (opening shape
 
 abbrev pub CoreKept : Type 0
 CoreKept = (shape : Shape) (event : CoreEvent) (parts : Parts)
-    → CoreHolds shape parts → IsLawful shape event parts → CoreHolds shape (effect shape parts event)
+    → CoreHolds shape parts → IsLawful shape event parts
+    → CoreHolds shape (effect shape parts event)

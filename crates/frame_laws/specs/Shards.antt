@@ -8,7 +8,8 @@ use Rattle.key_index.specs.Candidates.{Places}
 
 -- A shard has entries of its own keys alone, and each of them has a candidate.
 pub record ShardHolds (shard : ℕ) (places : Places) : Type 0 where
-  pub own : (key : ℤ) (candidates : List ℕ) → finite.get places key ≡ Some candidates → shard_of key ≡ shard
+  pub own : (key : ℤ) (candidates : List ℕ) → finite.get places key ≡ Some candidates → shard_of key
+      ≡ shard
   pub some : (key : ℤ) → finite.get places key ≢ Some []
 
 abbrev pub ShardsHold : Shape → Parts → Type 0

@@ -1,5 +1,6 @@
 //! Laws of an event's parts: each function does nothing, and its contract is one of them.
-ghost use Rattle.frame_laws.specs.Laws.{Ascends, CoreKept, CoreOpens, Frame, Local, Makes, Replies, ShardsKept, ShardsOpen};
+ghost use Rattle.frame_laws.specs.Laws.{Ascends, CoreKept, CoreOpens, Frame, Local, Makes, Replies};
+ghost use Rattle.frame_laws.specs.Laws.{ShardsKept, ShardsOpen};
 
 /// Whether an event touches a part hangs on the parts below it alone.
 pub fn events_ascend()

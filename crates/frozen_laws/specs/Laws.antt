@@ -17,8 +17,8 @@ stamp_of Loose = None
 stamp_of (Sealed stamp) = Some stamp
 stamp_of (Imaged stamp) = Some stamp
 
--- A block that is sealed or imaged has no entry, its rows are a front of its slots, it is not the head, and its stamp is
--- its last.
+-- A block that is sealed or imaged has no entry, its rows are a front of its slots, it is not the
+-- head, and its stamp is its last.
 pub record IsSettled (shape : Shape) (parts : Parts) (table block stamp : ℕ) : Type 0 where
   pub quiet : is_quiet (body_at shape parts table block) ≡ true
   pub dense : is_dense (body_at shape parts table block) ≡ true
@@ -26,13 +26,16 @@ pub record IsSettled (shape : Shape) (parts : Parts) (table block stamp : ℕ) :
   pub newest : stamp ≡ (body_at shape parts table block).last
 
 abbrev pub FrozenIsSettled : Type 0
-FrozenIsSettled = (shape : Shape) (parts : Parts) (table block stamp : ℕ) → Sound shape parts → HasBlock shape table block
-    → stamp_of (body_at shape parts table block).phase ≡ Some stamp → IsSettled shape parts table block stamp
+FrozenIsSettled = (shape : Shape) (parts : Parts) (table block stamp : ℕ) → Sound shape parts
+    → HasBlock shape table block
+    → stamp_of (body_at shape parts table block).phase ≡ Some stamp
+    → IsSettled shape parts table block stamp
 
 -- What a lawful event other than its thaw leaves of such a block: its slots and its stamp.
 pub record StaysAsItWas (shape : Shape) (parts after : Parts) (table block : ℕ) : Type 0 where
   pub slots : (body_at shape after table block).slots ≡ (body_at shape parts table block).slots
-  pub stamp : stamp_of (body_at shape after table block).phase ≡ stamp_of (body_at shape parts table block).phase
+  pub stamp : stamp_of (body_at shape after table block).phase
+      ≡ stamp_of (body_at shape parts table block).phase
 
 abbrev pub FrozenStays : Type 0
 FrozenStays = (shape : Shape) (parts : Parts) (made : CoreEvent) (table block stamp : ℕ)
@@ -40,11 +43,13 @@ FrozenStays = (shape : Shape) (parts : Parts) (made : CoreEvent) (table block st
     → made ≢ event.Thaw table block → stamp_of (body_at shape parts table block).phase ≡ Some stamp
     → StaysAsItWas shape parts (effect shape parts made) table block
 
--- A block's last stamp never falls, and a seal has one above it: so each stamp of a block comes once.
+-- A block's last stamp never falls, and a seal has one above it: so each stamp of a block comes
+-- once.
 abbrev pub StampsRise : Type 0
 StampsRise = (shape : Shape) (parts : Parts) (made : CoreEvent) (table block : ℕ)
     → IsShape shape → Sound shape parts → IsLawful shape made parts → HasBlock shape table block
-    → (body_at shape parts table block).last ≤ (body_at shape (effect shape parts made) table block).last
+    → (body_at shape parts table block).last
+    ≤ (body_at shape (effect shape parts made) table block).last
 
 abbrev pub SealsAreNew : Type 0
 SealsAreNew = (shape : Shape) (parts : Parts) (table block stamp : ℕ)

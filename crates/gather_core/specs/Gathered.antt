@@ -5,7 +5,8 @@ use Rattle.arrow_spec.specs.Arrays.{column_buffers}
 use Rattle.block_spec.specs.Slots.{Row}
 use Rattle.block_columns.specs.Columns.{cell_of}
 
--- the buffers of each column of these slots, from column number `at` on; a slot without a row counts as null
+-- the buffers of each column of these slots, from column number `at` on; a slot without a row
+-- counts as null
 abbrev pub buffers_from : ℕ → List Column → List (Option Row) → List (List (List ℕ))
 buffers_from at [] slots = []
 buffers_from at (column ∷ columns) slots =

@@ -1,5 +1,6 @@
 //! All columns of a block.
-ghost use Rattle.std.specs.Prelude.{◌≡◌, ℕ, ◌<◌, ◌≤◌, ◌^◌, Ok, IfOk, IsSome, None, length, map, slice_index_or, take};
+ghost use Rattle.std.specs.Prelude.{◌≡◌, ℕ, ◌<◌, ◌≤◌, ◌^◌, Ok, IfOk, IsSome, None, length, map};
+ghost use Rattle.std.specs.Prelude.{slice_index_or, take};
 ghost use Rattle.block_columns.specs.Images.{IsWhole};
 ghost use Rattle.gather_core.specs.Gathered.{buffers_from};
 
@@ -10,12 +11,12 @@ use std::alloc::{AllocError, Global};
 use std::thread;
 use std::thread::Threads;
 
-// How many bytes of a column make a thread of its own pay: numbers are copied sooner than a thread
-// starts, the values of a text of a whole block are not.
+/// How many bytes of a column make a thread of its own pay: numbers are copied sooner than a thread
+/// starts, the values of a text of a whole block are not.
 const LARGE: usize = 400_000;
 
-/// An image of a copy of the columns with the Arrow buffers of the first `rows` slots, each of which
-/// has a row: those of the batch of these rows. Only want of memory is refused.
+/// An image of a copy of the columns with the Arrow buffers of the first `rows` slots, each of
+/// which has a row: those of the batch of these rows. Only want of memory is refused.
 pub fn gather<R: Threads + Sync>(
     rt: &R,
     alloc: Global,
@@ -35,8 +36,8 @@ pub fn gather<R: Threads + Sync>(
     Ok(Image::of(columns.copy()?, rows, buffers))
 }
 
-/// The Arrow buffers of each column for the first `rows` slots, each of which has a row: those of the
-/// batch of these rows. Only want of memory is refused.
+/// The Arrow buffers of each column for the first `rows` slots, each of which has a row: those of
+/// the batch of these rows. Only want of memory is refused.
 ///
 /// Where a column is large, the columns are made side by side, else in turn.
 pub fn gather_buffers<R: Threads + Sync>(
@@ -81,7 +82,7 @@ pub fn gather_in_turn(
     in_turn(alloc, columns, rows as usize)
 }
 
-// The buffers of each column.
+/// The buffers of each column.
 fn gather_columns<R: Threads + Sync>(
     rt: &R,
     alloc: Global,
@@ -100,7 +101,7 @@ fn gather_columns<R: Threads + Sync>(
     }
 }
 
-// Whether the values of so many slots are large in a column.
+/// Whether the values of so many slots are large in a column.
 fn has_large(columns: &Columns, n: usize) -> bool
     requires { n ≤ 2 ^ 15 }
 {
@@ -112,7 +113,7 @@ fn has_large(columns: &Columns, n: usize) -> bool
     false
 }
 
-// The buffers of each column, one column after another.
+/// The buffers of each column, one column after another.
 fn in_turn(alloc: Global, columns: &Columns, n: usize) -> Result<Vec<Buffers>, AllocError>
     requires room { n ≤ columns.now.room }
     requires few { n ≤ 2 ^ 15 }
@@ -126,7 +127,7 @@ fn in_turn(alloc: Global, columns: &Columns, n: usize) -> Result<Vec<Buffers>, A
     Ok(buffers)
 }
 
-// The buffers of each column, each made by a thread of its own.
+/// The buffers of each column, each made by a thread of its own.
 fn side_by_side<R: Threads + Sync>(
     rt: &R,
     alloc: Global,
@@ -147,7 +148,7 @@ fn side_by_side<R: Threads + Sync>(
     all_made(alloc, made)
 }
 
-// What was made, where none of it wanted memory.
+/// What was made, where none of it wanted memory.
 fn all_made(
     alloc: Global,
     made: Vec<Result<Buffers, AllocError>>,
@@ -161,7 +162,7 @@ fn all_made(
     Ok(buffers)
 }
 
-// The buffers of one column.
+/// The buffers of one column.
 fn buffers_at(alloc: Global, columns: &Columns, at: usize, n: usize) -> Result<Buffers, AllocError>
     requires at { at < length columns.now.columns }
     requires room { n ≤ columns.now.room }

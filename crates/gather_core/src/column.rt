@@ -7,7 +7,7 @@ use block_columns::ColumnCells;
 use cell_model::{Buffers, Bytes, Kind};
 use std::alloc::{AllocError, Global};
 
-// The Arrow buffers of the first cells of a column.
+/// The Arrow buffers of the first cells of a column.
 pub fn gather_column(alloc: Global, column: &ColumnCells, n: usize) -> Result<Buffers, AllocError>
     requires room { n ≤ length column.now.cells }
     requires few { n ≤ 2 ^ 15 }
@@ -20,7 +20,7 @@ pub fn gather_column(alloc: Global, column: &ColumnCells, n: usize) -> Result<Bu
     Ok(Buffers::from(buffers))
 }
 
-// The validity: nothing where no cell is null (Arrow columnar format, "Validity bitmaps").
+/// The validity: nothing where no cell is null (Arrow columnar format, "Validity bitmaps").
 fn validity(alloc: Global, column: &ColumnCells, n: usize) -> Result<Vec<u8>, AllocError>
     requires { n ≤ length column.now.cells }
     ensures { IfOk result (λ bytes. bytes.items ≡ validity (take n column.now.cells)) }
@@ -32,7 +32,7 @@ fn validity(alloc: Global, column: &ColumnCells, n: usize) -> Result<Vec<u8>, Al
     Ok(bytes)
 }
 
-// Adds the buffers behind the validity.
+/// Adds the buffers behind the validity.
 fn add_data(
     alloc: Global,
     buffers: &mut Vec<Bytes>,
@@ -42,7 +42,8 @@ fn add_data(
     requires room { n ≤ length column.now.cells }
     requires few { n ≤ 2 ^ 15 }
     ensures { OnOk result (buffers.new.items ≡
-        buffers.old.items ++ data_buffers (layout_of column.now.column.kind) (take n column.now.cells)) }
+        buffers.old.items ++ data_buffers (layout_of column.now.column.kind)
+        (take n column.now.cells)) }
 {
     match column.kind() {
         Kind::Bool => {

@@ -39,7 +39,7 @@ fn is_row_of(schema: &Schema, row: &Row) -> bool
     }
 }
 
-// Columns with these rows in their first slots.
+/// Columns with these rows in their first slots.
 fn filled(alloc: Global, schema: &Schema, rows: &[Row]) -> Result<Columns, Fail> {
     let mut columns = Columns::new(alloc, schema, 32_768)?;
     for (slot, row) in rows.iter().enumerate() {
@@ -52,7 +52,8 @@ fn filled(alloc: Global, schema: &Schema, rows: &[Row]) -> Result<Columns, Fail>
 }
 
 fn all_held(columns: &Columns, n: u32) -> bool
-    ensures { IsTrue result → (slot : ℕ) → slot < n → IsSome (slice_index_or columns.now.rows slot None) }
+    ensures { IsTrue result → (slot : ℕ) → slot < n
+        → IsSome (slice_index_or columns.now.rows slot None) }
 {
     for slot in 0..n {
         if !columns.has_row(slot) {
@@ -122,7 +123,7 @@ const KINDS: [Kind; 11] = [
     Kind::Binary,
 ];
 
-// A cell of the kind, of which every seventh is null.
+/// A cell of the kind, of which every seventh is null.
 fn cell_of(alloc: Global, kind: Kind, at: u32) -> Result<Cell, Fail> {
     if at % 7 == 0 {
         return Ok(Cell::Null);
@@ -149,7 +150,7 @@ fn cell_of(alloc: Global, kind: Kind, at: u32) -> Result<Cell, Fail> {
     })
 }
 
-// A key and a cell of each kind.
+/// A key and a cell of each kind.
 fn row_of(alloc: Global, key: u32) -> Result<Row, Fail> {
     let mut cells = Vec::new(alloc);
     cells.push(Cell::Num(i128::from(key)))?;
@@ -159,7 +160,7 @@ fn row_of(alloc: Global, key: u32) -> Result<Row, Fail> {
     Ok(Row::from(cells))
 }
 
-// The kinds' columns behind a key.
+/// The kinds' columns behind a key.
 fn whole_schema(alloc: Global) -> Result<Schema, Fail> {
     let names = ["a", "b", "c", "d", "e", "f", "g", "h", "i", "j", "k"];
     let mut declared = Vec::new(alloc);

@@ -8,14 +8,14 @@ use block_columns::ColumnCells;
 use byteorder::{ByteOrder, LittleEndian};
 use std::alloc::{AllocError, Global};
 
-// Where the values of a column end among their bytes.
+/// Where the values of a column end among their bytes.
 #[derive(Drop)]
 pub struct Ends {
     pub offsets: Vec<u8>,
     pub last: u32,
 }
 
-// The offsets of the first cells, one more than there are.
+/// The offsets of the first cells, one more than there are.
 pub fn offsets(alloc: Global, column: &ColumnCells, n: usize) -> Result<Ends, AllocError>
     requires room { n ≤ length column.now.cells }
     requires few { n ≤ 2 ^ 15 }
@@ -35,7 +35,7 @@ pub fn offsets(alloc: Global, column: &ColumnCells, n: usize) -> Result<Ends, Al
     })
 }
 
-// The bytes of the first cells, one after another, of which there are about `len`.
+/// The bytes of the first cells, one after another, of which there are about `len`.
 pub fn values(
     alloc: Global,
     column: &ColumnCells,
@@ -56,7 +56,7 @@ pub fn values(
     Ok(bytes)
 }
 
-// Adds a number of four bytes, the lowest first.
+/// Adds a number of four bytes, the lowest first.
 fn add_u32(bytes: &mut Vec<u8>, number: u32) -> Result<(), AllocError>
     ensures { OnOk result (bytes.new.items ≡ bytes.old.items ++ to_le_bytes w32 number) }
 {

@@ -8,7 +8,8 @@ use Rattle.hall_rule.specs.declared.view.Entry.{Entry}
 use Rattle.hall_rule.specs.declared.view.View.{View}
 
 module _ (M : Meaning ℕ Deed ℕ Least) where
-  -- One event more was made, this deed, and the log ends with it. What is said holds of the state before it.
+  -- One event more was made, this deed, and the log ends with it. What is said holds of the state
+  -- before it.
   pub record MakesDeed (deed : Deed) (said : List ℕ → Type 0) (v w : View Deed) : Type 0 where
     pub before : List (Entry Deed)
     pub entry : Entry Deed

@@ -1,5 +1,7 @@
--- Marks: the part 0 is the session whose transaction is open, 0 where none is. Each other part is a number that only grows.
-use Rattle.std.specs.Prelude.{◌≡◌, ℕ, zero, suc, ◌+◌, ◌<◌, ◌≤◌, ◌^◌, ◌==◌, ◌++◌, Bool, true, false, cond, List, Option, None, Some, length, slice_index, slice_set}
+-- Marks: the part 0 is the session whose transaction is open, 0 where none is. Each other part is a
+-- number that only grows.
+use Rattle.std.specs.Prelude.{◌≡◌, ℕ, zero, suc, ◌+◌, ◌<◌, ◌≤◌, ◌^◌, ◌==◌, ◌++◌, Bool, true, false}
+use Rattle.std.specs.Prelude.{cond, List, Option, None, Some, length, slice_index, slice_set}
 use Rattle.hall_cells.specs.declared.deed.Deed.{Deed}
 use Rattle.hall_cells.specs.declared.deed.Deed.TheVariants.{Begin, End, Raise}
 use Rattle.hall_cells.specs.declared.deed.Least.{Least}
@@ -19,7 +21,8 @@ session_of (End q) = Some q
 session_of (Raise zero p by) = None
 session_of (Raise (suc q) p by) = Some (suc q)
 
--- A session raises a mark, and ends its transaction, only while that is open. The session 0 is none.
+-- A session raises a mark, and ends its transaction, only while that is open. The session 0 is
+-- none.
 abbrev pub Stands : ℕ → Deed → List ℕ → Type 0
 Stands sh (Begin q) s = Unit {0}
 Stands sh (End zero) s = ⊥

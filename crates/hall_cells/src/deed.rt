@@ -7,7 +7,8 @@ pub enum Deed {
     Begin { session: u64 },
     /// A session ends its open transaction.
     End { session: u64 },
-    /// A mark is raised, by the session with the open transaction or by none, which is 0. The reply is the mark before.
+    /// A mark is raised, by the session with the open transaction or by none, which is 0. The reply
+    /// is the mark before.
     Raise { session: u64, part: u32, by: u64 },
 }
 

@@ -1,7 +1,10 @@
 //! The marks as a core.
-ghost use Rattle.std.specs.Prelude.{◌≡◌, ◌^◌, ◌<◌, false, IfOk, Some, length, map, replicate, vec_len};
-ghost use Rattle.hall_cells.specs.Marks.{Fits, IsLeast, IsOpening, Stands, Teaches, after_deed, open_of, reply_of, session_of, touches_part};
-ghost use Rattle.hall_cells.specs.Laws.{ascends, depends, frame, learns, leaves, local, outlives, rests, sized};
+ghost use Rattle.std.specs.Prelude.{◌≡◌, ◌^◌, ◌<◌, false, IfOk, Some, length, map, replicate};
+ghost use Rattle.std.specs.Prelude.{vec_len};
+ghost use Rattle.hall_cells.specs.Marks.{Fits, IsLeast, IsOpening, Stands, Teaches, after_deed};
+ghost use Rattle.hall_cells.specs.Marks.{open_of, reply_of, session_of, touches_part};
+ghost use Rattle.hall_cells.specs.Laws.{ascends, depends, frame, learns, leaves, local, outlives};
+ghost use Rattle.hall_cells.specs.Laws.{rests, sized};
 ghost use Rattle.std.proofs.Common.{◌∙◌};
 
 use crate::deed::{Deed, Least};
@@ -27,7 +30,7 @@ impl Marks {
     }
 }
 
-// The marks in their places.
+/// The marks in their places.
 fn places_of(alloc: Global, marks: &[u64]) -> Result<Vec<Option<u64>>, AllocError>
     ensures { IfOk result (λ v. v.items ≡ map (λ mark. Some mark) marks.now) }
 {
@@ -79,20 +82,20 @@ impl Parts for Marks {
 
     ghost teaches = { Teaches };
 
-    // A part is a mark.
+    /// A part is a mark.
     fn parts(&self) -> u32 {
         self.marks.len() as u32
     }
 
-    // Each mark is laid in the place of its number.
+    /// Each mark is laid in the place of its number.
     fn into_parts(self) -> Result<(u32, Hand<u64>), AllocError> {
         let parts = self.marks.len() as u32;
         let places = places_of(self.alloc, self.marks.as_slice())?;
         Ok((parts, Hand::of(self.alloc, places)?))
     }
 
-    // The mark 0, the session that began, is touched by a begin and an end; a raise touches its
-    // mark.
+    /// The mark 0, the session that began, is touched by a begin and an end; a raise touches its
+    /// mark.
     fn touches(_shape: &u32, event: &Deed, _held: &Hand<u64>, part: u32) -> bool {
         match event {
             Deed::Begin { .. } | Deed::End { .. } => part == 0,
@@ -100,7 +103,7 @@ impl Parts for Marks {
         }
     }
 
-    // A raise replies what its mark was, the others 0.
+    /// A raise replies what its mark was, the others 0.
     fn run<L: Ledger>(
         _shape: &u32,
         event: Deed,
@@ -137,7 +140,8 @@ impl Parts for Marks {
 
     ghost room = { sized };
 
-    ghost local = { λ sh e h s t ok ok' covers a b stands fits. local sh e h s t ok covers a b fits };
+    ghost local = { λ sh e h s t ok ok' covers a b stands fits.
+        local sh e h s t ok covers a b fits };
 
     ghost depends = { λ sh e s t ok ok' same facts stands. depends sh e s t same stands };
 

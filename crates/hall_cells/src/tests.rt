@@ -10,8 +10,8 @@ struct Case {
     marks: [u64; 3],
 }
 
-// The mark 0 is the session that began, and the mark 2 counts the other pass's raises. A raise that would pass
-// 2^64 - 1 is not made.
+/// The mark 0 is the session that began, and the mark 2 counts the other pass's raises. A raise
+/// that would pass 2^64 - 1 is not made.
 const CASES: [Case; 3] = [
     Case {
         turns: [(0, Some(0)), (5, Some(0)), (7, Some(5))],
@@ -27,7 +27,8 @@ const CASES: [Case; 3] = [
     },
 ];
 
-// Each call with ample memory, one after another: a note, a split, joins, begins, raises and the end.
+/// Each call with ample memory, one after another: a note, a split, joins, begins, raises and the
+/// end.
 #[test]
 fn one_pass_begins_and_raises_in_turn(rt: HostRuntime) -> Result<(), Fail> {
     for case in &CASES {
@@ -36,7 +37,7 @@ fn one_pass_begins_and_raises_in_turn(rt: HostRuntime) -> Result<(), Fail> {
     Ok(())
 }
 
-// Two threads raise one mark, and the parts at the end are what both made.
+/// Two threads raise one mark, and the parts at the end are what both made.
 #[test]
 fn two_threads_raise_one_mark(rt: HostRuntime) -> Result<(), Fail> {
     for times in [0, 1, 1000, 50000] {
@@ -45,7 +46,8 @@ fn two_threads_raise_one_mark(rt: HostRuntime) -> Result<(), Fail> {
     Ok(())
 }
 
-// An event on one part is made while another pass holds a second: with one latch for all it never is.
+/// An event on one part is made while another pass holds a second: with one latch for all it never
+/// is.
 #[test]
 fn a_part_is_raised_while_another_is_held(rt: HostRuntime) -> Result<(), Fail> {
     assert!(rt; raised_while_held(&rt, rt.alloc())?);

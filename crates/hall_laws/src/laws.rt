@@ -1,4 +1,5 @@
-//! What a hall may rely on, of the core's events. The functions do nothing; their contracts are the laws.
+//! What a hall may rely on, of the core's events. The functions do nothing; their contracts are the
+//! laws.
 ghost use Rattle.hall_laws.specs.Hall.{HasHallLaws, StartsAtRest};
 
 /// What the core's events mean has all laws that a hall rests on.

@@ -1,15 +1,19 @@
--- What holds of a hall between any two atomic steps.
--- The words are the event word, a latch word for each part, and then the block words; a slot for each part; and the view of each seat, whose number is the pass's.
-use Rattle.std.specs.Prelude.{◌≡◌, ◌≢◌, ℕ, suc, ◌+◌, ◌*◌, ◌^◌, ◌<◌, ◌≤◌, true, false, List, [], ◌∷◌, ◌++◌, Option, None, Some, length, drop, slice_get, slice_index}
+-- What holds of a hall between any two atomic steps. The words are the event word, a latch word for
+-- each part, and then the block words; a slot for each part; and the view of each seat, whose
+-- number is the pass's.
+use Rattle.std.specs.Prelude.{◌≡◌, ◌≢◌, ℕ, suc, ◌+◌, ◌*◌, ◌^◌, ◌<◌, ◌≤◌, true, false, List, [], ◌∷◌}
+use Rattle.std.specs.Prelude.{◌++◌, Option, None, Some, length, drop, slice_get, slice_index}
 use mathlib.Core.Option as maybe
 use lib.ListN.{get_elem?}
 use Rattle.atomic_table.specs.Table.{State}
-use Rattle.hall_rule.specs.EventLog.{Distinct, LawfulFrom, MadeBelow, Spares, Tied, Untouched, has, own, replay}
+use Rattle.hall_rule.specs.EventLog.{Distinct, LawfulFrom, MadeBelow, Spares, Tied, Untouched, has}
+use Rattle.hall_rule.specs.EventLog.{own, replay}
 use Rattle.hall_rule.specs.Meaning.{Meaning}
 use Rattle.hall_rule.specs.declared.view.Entry.{Entry}
 use Rattle.hall_rule.specs.declared.view.View.{View}
 
--- Who has what: the seat that holds a part, the seat that a number was joined into, and the seat of a session.
+-- Who has what: the seat that holds a part, the seat that a number was joined into, and the seat of
+-- a session.
 pub record Owners : Type 0 where
   pub part : ℕ → ℕ
   pub number : ℕ → ℕ
@@ -41,14 +45,17 @@ module _ {E : Type 0} where
 
   -- It holds of each seat and its view, but for views that were joined into another.
   abbrev pub EachLive : (ℕ → View E → Type 0) → List (View E) → Type 0
-  EachLive holds views = (j : ℕ) (v : View E) → get_elem? views j ≡ maybe.some v → v.spent ≡ false → holds j v
+  EachLive holds views = (j : ℕ) (v : View E) → get_elem? views j ≡ maybe.some v → v.spent ≡ false
+      → holds j v
 
 module _ {P E T F : Type 0} (M : Meaning P E T F) (log : List (Entry E)) where
   -- The slot k has that part of what the log leaves.
   abbrev pub AtHome : List (maybe.Option (Option P)) → ℕ → Type 0
-  AtHome homes k = (p : P) × (slice_get (replay M log) k ≡ Some p) × (get_elem? homes k ≡ maybe.some (maybe.some (Some p)))
+  AtHome homes k = (p : P) × (slice_get (replay M log) k ≡ Some p)
+      × (get_elem? homes k ≡ maybe.some (maybe.some (Some p)))
 
-  -- The view's log is a beginning of the log, and so is what it heard; its own entries are exactly those of its numbers.
+  -- The view's log is a beginning of the log, and so is what it heard; its own entries are exactly
+  -- those of its numbers.
   pub record SeesLog (number : ℕ → ℕ) (seats : ℕ) (j : ℕ) (v : View E) : Type 0 where
     pub goes_on : GoesOn v log
     pub before : log ≡ v.before ++ drop (length v.before) log
@@ -58,20 +65,26 @@ module _ {P E T F : Type 0} (M : Meaning P E T F) (log : List (Entry E)) where
     pub total : length v.mine ≡ v.made
     pub numbers : (i : ℕ) → has i (j ∷ v.joined) ≡ true → (number i ≡ j) × (i < seats)
 
-  -- One log, as long as the event word says. Each entry names a pass that was made, and no number stands in two views.
+  -- One log, as long as the event word says. Each entry names a pass that was made, and no number
+  -- stands in two views.
   pub record OneLog (owners : Owners) (s : State (Option P) (View E)) : Type 0 where
     pub counted : slice_index s.words 0 ≡ length log
     pub made : MadeBelow (length s.views) log
     pub each : EachLive (SeesLog owners.number (length s.views)) s.views
 
-  -- A part that the view holds is latched, this seat alone holds it, and it is among those that it ever took. Until the event word is loaded it is at home.
-  -- From then on no entry that the view has not seen changes it, nor one since the last call that changed the hand; and its value is in the hand, or out on the way there or back.
+  -- A part that the view holds is latched, this seat alone holds it, and it is among those that it
+  -- ever took. Until the event word is loaded it is at home. From then on no entry that the view
+  -- has not seen changes it, nor one since the last call that changed the hand; and its value is in
+  -- the hand, or out on the way there or back.
   pub record HoldsParts (part : ℕ → ℕ) (words : List ℕ) (homes : List (maybe.Option (Option P))) (j : ℕ) (v : View E) : Type 0 where
-    pub holds : (k : ℕ) → stage v k ≢ 0 → (k < length M.start) × (slice_index words (suc k) ≡ 1) × (part k ≡ j)
+    pub holds : (k : ℕ) → stage v k ≢ 0 → (k < length M.start) × (slice_index words (suc k) ≡ 1)
+        × (part k ≡ j)
     pub taken : (k : ℕ) → stage v k ≡ 1 → AtHome homes k
     pub loaded : (k : ℕ) → stage v k ≡ 2 → Untouched M k (replay M v.log) (since v log)
-    pub kept : (k : ℕ) → stage v k ≡ 2 → Untouched M k (replay M v.before) (drop (length v.before) log)
-    pub in_hand : (k : ℕ) → stage v k ≡ 2 → v.out ≢ suc k → get_elem? homes k ≡ maybe.some (maybe.some None)
+    pub kept : (k : ℕ) → stage v k ≡ 2
+        → Untouched M k (replay M v.before) (drop (length v.before) log)
+    pub in_hand : (k : ℕ) → stage v k ≡ 2 → v.out ≢ suc k → get_elem? homes k
+        ≡ maybe.some (maybe.some None)
     pub out : (k : ℕ) → v.out ≡ suc k → stage v k ≡ 2
     pub ever : (k : ℕ) → stage v k ≢ 0 → has k v.taken ≡ true
 
@@ -80,18 +93,24 @@ module _ {P E T F : Type 0} (M : Meaning P E T F) (log : List (Entry E)) where
     pub wide : length s.words ≡ suc (length M.start + M.blocks)
     pub deep : length s.homes ≡ length M.start
     pub free : (k : ℕ) → k < length M.start → slice_index s.words (suc k) ≡ 0 → AtHome s.homes k
-    pub latched : (k : ℕ) → k < length M.start → slice_index s.words (suc k) ≢ 0 → (v : View E) × (get_elem? s.views (owners.part k) ≡ maybe.some v) × (v.spent ≡ false) × (stage v k ≢ 0)
+    pub latched : (k : ℕ) → k < length M.start → slice_index s.words (suc k) ≢ 0 → (v : View E)
+        × (get_elem? s.views (owners.part k) ≡ maybe.some v) × (v.spent ≡ false) × (stage v k ≢ 0)
     pub each : EachLive (HoldsParts owners.part s.words s.homes) s.views
 
-  -- No other view has a session of the view's, no entry that it has not seen is of one, and the transactions of its sessions are as it knows them.
-  -- Its entries are tied to it. Of a session that it had at its last join no entry is since its own log then, and of one that came with the other pass none since that pass's log.
+  -- No other view has a session of the view's, no entry that it has not seen is of one, and the
+  -- transactions of its sessions are as it knows them. Its entries are tied to it. Of a session
+  -- that it had at its last join no entry is since its own log then, and of one that came with the
+  -- other pass none since that pass's log.
   pub record OwnsSessions (session : ℕ → ℕ) (j : ℕ) (v : View E) : Type 0 where
     pub sessions : (q : ℕ) → has q v.sessions ≡ true → session q ≡ j
     pub distinct : Distinct v.sessions
     pub spared : (q : ℕ) → has q v.sessions ≡ true → Spares M q (since v log)
-    pub transactions : (q : ℕ) → has q v.sessions ≡ true → M.transaction (replay M log) q ≡ M.transaction (replay M v.log) q
-    pub stood : (q : ℕ) → has q v.stood ≡ true → has q v.sessions ≡ true → Spares M q (drop (length v.before) log)
-    pub came : (q : ℕ) → has q v.came ≡ true → has q v.sessions ≡ true → Spares M q (drop (length v.heard) log)
+    pub transactions : (q : ℕ) → has q v.sessions ≡ true → M.transaction (replay M log) q
+        ≡ M.transaction (replay M v.log) q
+    pub stood : (q : ℕ) → has q v.stood ≡ true → has q v.sessions ≡ true
+        → Spares M q (drop (length v.before) log)
+    pub came : (q : ℕ) → has q v.came ≡ true → has q v.sessions ≡ true
+        → Spares M q (drop (length v.heard) log)
     pub tied : Tied M.passes (j ∷ v.joined) v.sessions v.sole log
 
   -- The log is lawful, and each transaction is in one view.
@@ -102,15 +121,19 @@ module _ {P E T F : Type 0} (M : Meaning P E T F) (log : List (Entry E)) where
 
   -- What a view learned holds of what the log leaves.
   pub record LastingFacts (s : State (Option P) (View E)) : Type 0 where
-    pub each : EachLive (λ j v. (f : F) → M.fact f (replay M v.log) → M.fact f (replay M log)) s.views
+    pub each : EachLive (λ j v. (f : F) → M.fact f (replay M v.log) → M.fact f (replay M log))
+        s.views
 
-  -- The hands are no more than were made, a view has few entries for each hand, and one without a hand holds no part. The entries are those of the views.
+  -- The hands are no more than were made, a view has few entries for each hand, and one without a
+  -- hand holds no part. The entries are those of the views.
   pub record Hands (s : State (Option P) (View E)) : Type 0 where
     pub limit : M.passes ≤ 128
     pub handed : total_of hands_of s.views ≤ M.passes
     pub entries : length log ≡ total_of entries_of s.views
-    pub few : (j : ℕ) (v : View E) → get_elem? s.views j ≡ maybe.some v → entries_of v ≤ 2 ^ 56 * hands_of v
-    pub idle : (j : ℕ) (v : View E) → get_elem? s.views j ≡ maybe.some v → hands_of v ≡ 0 → (k : ℕ) → stage v k ≡ 0
+    pub few : (j : ℕ) (v : View E) → get_elem? s.views j ≡ maybe.some v
+        → entries_of v ≤ 2 ^ 56 * hands_of v
+    pub idle : (j : ℕ) (v : View E) → get_elem? s.views j ≡ maybe.some v → hands_of v ≡ 0 → (k : ℕ)
+        → stage v k ≡ 0
 
   -- The invariant of a hall, for its log and for who has what.
   pub record HallInvariant (owners : Owners) (s : State (Option P) (View E)) : Type 0 where
@@ -120,6 +143,7 @@ module _ {P E T F : Type 0} (M : Meaning P E T F) (log : List (Entry E)) where
     pub facts : LastingFacts s
     pub hands : Hands s
 
--- The rule of the table: the invariant holds for some log and owners. What is said of block words, by the same log, goes beside it.
+-- The rule of the table: the invariant holds for some log and owners. What is said of block words,
+-- by the same log, goes beside it.
 abbrev pub Rule : {P E T F : Type 0} → Meaning P E T F → State (Option P) (View E) → Type 0
 Rule {P} {E} {T} {F} M s = (log : List (Entry E)) × (owners : Owners) × HallInvariant M log owners s

@@ -4,7 +4,8 @@ use Rattle.hall_rule.specs.Hands.{Agrees, Covers, OnlyHeld}
 use Rattle.hall_rule.specs.declared.parts.Parts.{Ghosts}
 use Rattle.hall_rule.specs.declared.rule.Plan.{Plan}
 
--- The parts at the start, and what events mean, over parts P, events E, transactions T and lasting facts F.
+-- The parts at the start, and what events mean, over parts P, events E, transactions T and lasting
+-- facts F.
 pub record Meaning (P E T F : Type 0) : Type 1 where
   pub start : List P
   pub sound : List P → Type 0
@@ -21,7 +22,8 @@ pub record Meaning (P E T F : Type 0) : Type 1 where
   -- how many words stand behind the latch words
   pub blocks : ℕ
 
--- What a core means to a hall that is made for a number of passes. No word stands behind the latch words yet.
+-- What a core means to a hall that is made for a number of passes. No word stands behind the latch
+-- words yet.
 abbrev pub meaning : {C P E R S T F : Type 0} → Ghosts C P E R S T F → C → ℕ → Meaning P E T F
 meaning core_type core passes = let shape = core_type.shape_of core in record {
   start = core_type.state_of core;
@@ -45,9 +47,15 @@ planned core_type plan = meaning core_type plan.core.value plan.passes
 -- The laws that the trait's laws give.
 pub record Laws {P E T F : Type 0} (M : Meaning P E T F) : Type 0 where
   pub keeps : (e : E) (s : List P) → M.sound s → M.stands e s → M.fits e s → M.sound (M.effect e s)
-  pub frame : (e : E) (h : List (Option P)) (s : List P) → M.sound s → Covers (M.touching e) h → Agrees h s → M.stands e s → M.fits e s → OnlyHeld h s (M.effect e s)
+  pub frame : (e : E) (h : List (Option P)) (s : List P) → M.sound s → Covers (M.touching e) h
+      → Agrees h s → M.stands e s → M.fits e s → OnlyHeld h s (M.effect e s)
   pub room : (e : E) (s : List P) → M.sound s → length (M.effect e s) ≡ length s
-  pub local : (e : E) (h : List (Option P)) (s t : List P) → M.sound s → M.sound t → Covers (M.touching e) h → Agrees h s → Agrees h t → M.stands e s → M.fits e s → M.fits e t
-  pub depends : (e : E) (s t : List P) → M.sound s → M.sound t → ((q : ℕ) → M.names e ≡ Some q → M.transaction t q ≡ M.transaction s q) → ((f : F) → M.fact f s → M.fact f t) → M.stands e s → M.stands e t
-  pub leaves : (e : E) (s : List P) (q : ℕ) → M.sound s → M.stands e s → M.fits e s → M.names e ≢ Some q → M.transaction (M.effect e s) q ≡ M.transaction s q
-  pub outlives : (e : E) (f : F) (s : List P) → M.sound s → M.stands e s → M.fits e s → M.fact f s → M.fact f (M.effect e s)
+  pub local : (e : E) (h : List (Option P)) (s t : List P) → M.sound s → M.sound t
+      → Covers (M.touching e) h → Agrees h s → Agrees h t → M.stands e s → M.fits e s → M.fits e t
+  pub depends : (e : E) (s t : List P) → M.sound s → M.sound t
+      → ((q : ℕ) → M.names e ≡ Some q → M.transaction t q ≡ M.transaction s q)
+      → ((f : F) → M.fact f s → M.fact f t) → M.stands e s → M.stands e t
+  pub leaves : (e : E) (s : List P) (q : ℕ) → M.sound s → M.stands e s → M.fits e s → M.names e
+      ≢ Some q → M.transaction (M.effect e s) q ≡ M.transaction s q
+  pub outlives : (e : E) (f : F) (s : List P) → M.sound s → M.stands e s → M.fits e s → M.fact f s
+      → M.fact f (M.effect e s)

@@ -1,7 +1,10 @@
 -- How a view changes by each kind of step, and what the step tells.
-use Rattle.std.specs.Prelude.{◌≡◌, ℕ, suc, ◌+◌, ◌*◌, ◌^◌, ◌≤◌, ◌==◌, ◌&&◌, min, max, Bool, true, false, cond, List, [], ◌∷◌, ◌++◌, Option, None, Some, drop, length, fold, replicate, slice_get, slice_set, ltb}
+use Rattle.std.specs.Prelude.{◌≡◌, ℕ, suc, ◌+◌, ◌*◌, ◌^◌, ◌≤◌, ◌==◌, ◌&&◌, min, max, Bool, true}
+use Rattle.std.specs.Prelude.{false, cond, List, [], ◌∷◌, ◌++◌, Option, None, Some, drop, length}
+use Rattle.std.specs.Prelude.{fold, replicate, slice_get, slice_set, ltb}
 use Rattle.atomic_table.specs.Table.{Me}
-use Rattle.hall_rule.specs.EventLog.{Distinct, LawfulFrom, Spares, Tied, has, is_unnamed, own, replay}
+use Rattle.hall_rule.specs.EventLog.{Distinct, LawfulFrom, Spares, Tied, has, is_unnamed, own}
+use Rattle.hall_rule.specs.EventLog.{replay}
 use Rattle.hall_rule.specs.HallInvariant.{GoesOn, hands_of, since, stage}
 use Rattle.hall_rule.specs.Meaning.{Meaning}
 use Rattle.hall_rule.specs.declared.view.Entry.{Entry}
@@ -34,7 +37,12 @@ module _ {E : Type 0} where
 
   -- The whole log is seen, and the slot of the part k goes out.
   abbrev pub loaded : View E → ℕ → List (Entry E) → View E
-  loaded v k log = record v { log = log; before = log; stages = slice_set v.stages k 2; out = suc k }
+  loaded v k log = record v {
+    log = log;
+    before = log;
+    stages = slice_set v.stages k 2;
+    out = suc k;
+  }
 
   -- The slot that is out is given home.
   abbrev pub homed : View E → View E
@@ -54,11 +62,23 @@ module _ {E : Type 0} where
 
   -- An event of a pass: its entry.
   abbrev pub entry_of : ℕ → View E → Bool → E → Entry E
-  entry_of id v refused event = record { pass = id; session = least v.sessions; count = length v.mine; refused = refused; event = event }
+  entry_of id v refused event = record {
+    pass = id;
+    session = least v.sessions;
+    count = length v.mine;
+    refused = refused;
+    event = event;
+  }
 
   -- The log was seen up to `before`, and an entry was added to it.
   abbrev pub added : View E → List (Entry E) → Entry E → View E
-  added v before e = record v { log = before ++ e ∷ []; before = before ++ e ∷ []; mine = v.mine ++ e ∷ []; made = v.made + 1; came = [] }
+  added v before e = record v {
+    log = before ++ e ∷ [];
+    before = before ++ e ∷ [];
+    mine = v.mine ++ e ∷ [];
+    made = v.made + 1;
+    came = [];
+  }
 
   -- Those of some sessions under which no entry stands, as a view knows.
   abbrev pub fresh : View E → List ℕ → List ℕ
@@ -109,11 +129,27 @@ module _ {E : Type 0} where
 
   -- What is left of a pass that was joined into another.
   abbrev pub spent_view : View E
-  spent_view = record { joined = []; log = []; before = []; heard = []; mine = []; made = 0; stages = []; out = 0; sessions = []; stood = []; came = []; sole = []; taken = []; spent = true }
+  spent_view = record {
+    joined = [];
+    log = [];
+    before = [];
+    heard = [];
+    mine = [];
+    made = 0;
+    stages = [];
+    out = 0;
+    sessions = [];
+    stood = [];
+    came = [];
+    sole = [];
+    taken = [];
+    spent = true;
+  }
 
 module _ {P E T F : Type 0} (M : Meaning P E T F) where
-  -- What a pass learns when it sees a longer log: that it is lawful, has of the pass's events those that it made,
-  -- and leaves the parts in its hand, the transactions of its sessions and all lasting facts as they were.
+  -- What a pass learns when it sees a longer log: that it is lawful, has of the pass's events those
+  -- that it made, and leaves the parts in its hand, the transactions of its sessions and all
+  -- lasting facts as they were.
   pub record Learned (id : ℕ) (v : View E) (log : List (Entry E)) : Type 0 where
     pub goes_on : GoesOn v log
     pub before : log ≡ v.before ++ drop (length v.before) log
@@ -125,15 +161,20 @@ module _ {P E T F : Type 0} (M : Meaning P E T F) where
     pub lawful : LawfulFrom M M.start log
     pub spared : (q : ℕ) → has q v.sessions ≡ true → Spares M q (since v log)
     pub parts : (k : ℕ) → stage v k ≡ 2 → slice_get (replay M log) k ≡ slice_get (replay M v.log) k
-    pub kept : (k : ℕ) → stage v k ≡ 2 → slice_get (replay M log) k ≡ slice_get (replay M v.before) k
+    pub kept : (k : ℕ) → stage v k ≡ 2 → slice_get (replay M log) k
+        ≡ slice_get (replay M v.before) k
     pub few_hands : length v.sessions ≤ 128
-    pub transactions : (q : ℕ) → has q v.sessions ≡ true → M.transaction (replay M log) q ≡ M.transaction (replay M v.log) q
+    pub transactions : (q : ℕ) → has q v.sessions ≡ true → M.transaction (replay M log) q
+        ≡ M.transaction (replay M v.log) q
     pub distinct : Distinct v.sessions
     pub facts : (f : F) → M.fact f (replay M v.log) → M.fact f (replay M log)
     pub room : length (replay M log) ≡ length M.start
-    -- no entry since its log at its last join is of a session that it had then, nor one since the other's log of a session that came
-    pub stood : (q : ℕ) → has q v.stood ≡ true → has q v.sessions ≡ true → Spares M q (drop (length v.before) log)
-    pub came : (q : ℕ) → has q v.came ≡ true → has q v.sessions ≡ true → Spares M q (drop (length v.heard) log)
+    -- no entry since its log at its last join is of a session that it had then, nor one since the
+    -- other's log of a session that came
+    pub stood : (q : ℕ) → has q v.stood ≡ true → has q v.sessions ≡ true
+        → Spares M q (drop (length v.before) log)
+    pub came : (q : ℕ) → has q v.came ≡ true → has q v.sessions ≡ true
+        → Spares M q (drop (length v.heard) log)
     -- each entry stands under a session, and those under its own sessions are its own
     pub tied : Tied M.passes (id ∷ v.joined) v.sessions v.sole log
     -- it made few events for each of its hands, and so did all other passes together
@@ -141,11 +182,13 @@ module _ {P E T F : Type 0} (M : Meaning P E T F) where
     pub budget : length log + 2 ^ 56 * hands_of v ≤ 2 ^ 56 * M.passes + length v.mine
     pub limit : M.passes ≤ 128
 
-  -- From one log to a later one: no entry since is of these sessions, so that their transactions are as they were; and lasting facts still hold.
+  -- From one log to a later one: no entry since is of these sessions, so that their transactions
+  -- are as they were; and lasting facts still hold.
   pub record Stays (sessions : List ℕ) (earlier later : List (Entry E)) : Type 0 where
     pub goes_on : later ≡ earlier ++ drop (length earlier) later
     pub spared : (q : ℕ) → has q sessions ≡ true → Spares M q (drop (length earlier) later)
-    pub transactions : (q : ℕ) → has q sessions ≡ true → M.transaction (replay M later) q ≡ M.transaction (replay M earlier) q
+    pub transactions : (q : ℕ) → has q sessions ≡ true → M.transaction (replay M later) q
+        ≡ M.transaction (replay M earlier) q
     pub facts : (f : F) → M.fact f (replay M earlier) → M.fact f (replay M later)
 
   -- A try at the latch of the part k found the number n there.
@@ -154,7 +197,8 @@ module _ {P E T F : Type 0} (M : Meaning P E T F) where
 
   -- The log was seen, and the part k, as it leaves it, is out.
   abbrev pub Loads : ℕ → View E → ℕ → ℕ → Me (Option P) (View E) → Type 0
-  Loads id v k n me = (log : List (Entry E)) × (p : P) × Learned id v log × (slice_get (replay M log) k ≡ Some p) × (me.0 ≡ loaded v k log) × (me.1 ≡ (k, Some p) ∷ [])
+  Loads id v k n me = (log : List (Entry E)) × (p : P) × Learned id v log
+      × (slice_get (replay M log) k ≡ Some p) × (me.0 ≡ loaded v k log) × (me.1 ≡ (k, Some p) ∷ [])
 
   -- The slot that was out is home.
   abbrev pub Homes : View E → ℕ → Me (Option P) (View E) → Type 0
@@ -170,8 +214,10 @@ module _ {P E T F : Type 0} (M : Meaning P E T F) where
 
   -- The log was seen, and an event is its last entry now.
   abbrev pub Adds : ℕ → View E → Entry E → ℕ → Me (Option P) (View E) → Type 0
-  Adds id v e n me = (before : List (Entry E)) × Learned id v before × (me.0 ≡ added v before e) × (me.1 ≡ [])
+  Adds id v e n me = (before : List (Entry E)) × Learned id v before × (me.0 ≡ added v before e)
+      × (me.1 ≡ [])
 
   -- The log was seen.
   abbrev pub Sees : ℕ → View E → ℕ → Me (Option P) (View E) → Type 0
-  Sees id v n me = (log : List (Entry E)) × Learned id v log × (me.0 ≡ record v { log = log }) × (me.1 ≡ [])
+  Sees id v n me = (log : List (Entry E)) × Learned id v log × (me.0 ≡ record v { log = log })
+      × (me.1 ≡ [])

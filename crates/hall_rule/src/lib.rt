@@ -1,4 +1,5 @@
-//! The rule of a hall: what parts of a core are, what threads know of them, and what holds between any two steps.
+//! The rule of a hall: what parts of a core are, what threads know of them, and what holds between
+//! any two steps.
 #![tactic(auto)]
 
 mod hand;

@@ -1,5 +1,6 @@
 //! A core in parts, on which a hall lets threads work.
-ghost use Rattle.std.specs.Prelude.{◌≡◌, ◌≢◌, ◌+◌, ◌^◌, ◌<◌, ◌≤◌, ℕ, Bool, true, List, Option, None, Some, MatchBool, IfOk, length, slice_get};
+ghost use Rattle.std.specs.Prelude.{◌≡◌, ◌≢◌, ◌+◌, ◌^◌, ◌<◌, ◌≤◌, ℕ, Bool, true, List, Option};
+ghost use Rattle.std.specs.Prelude.{None, Some, MatchBool, IfOk, length, slice_get};
 ghost use Rattle.hall_rule.specs.Hands.{Agrees, Covers, IsNext, OnlyHeld, SameRoom, all_in};
 
 use crate::hand::Hand;
@@ -9,9 +10,9 @@ use steps::Steps;
 
 /// A core whose state is a list of parts, and whose events each work on a few of them.
 ///
-/// The laws speak of sound states alone: an opening state is sound, and a lawful event leaves a sound state sound.
-/// An event is lawful where it stands and fits: it *stands* by its session's open transaction and by lasting facts,
-/// and *fits* by the parts that it touches.
+/// The laws speak of sound states alone: an opening state is sound, and a lawful event leaves a
+/// sound state sound. An event is lawful where it stands and fits: it *stands* by its session's
+/// open transaction and by lasting facts, and *fits* by the parts that it touches.
 pub trait Parts: Sized {
     /// What one thread holds at a time.
     type Part: Send + Drop;
@@ -84,8 +85,8 @@ pub trait Parts: Sized {
         requires { part < length held.now }
         ensures { result ≡ touching shape.now event.now held.now part };
 
-    /// The least part from `from` on that the event touches, as the parts held before it tell. A core that knows which
-    /// comes next need not ask for each.
+    /// The least part from `from` on that the event touches, as the parts held before it tell. A
+    /// core that knows which comes next need not ask for each.
     fn next_touched(
         shape: &Self::Shape,
         event: &Self::Event,
@@ -105,9 +106,10 @@ pub trait Parts: Sized {
         None
     }
 
-    /// Runs an event on the parts in the hand, which has each part that it touches. What it makes of
-    /// them and what it replies is the same for every sound state that has these parts. Where memory
-    /// is refused the hand stays as it was, and only an event that takes memory is refused so.
+    /// Runs an event on the parts in the hand, which has each part that it touches. What it makes
+    /// of them and what it replies is the same for every sound state that has these parts. Where
+    /// memory is refused the hand stays as it was, and only an event that takes memory is refused
+    /// so.
     fn run<L: Ledger>(
         shape: &Self::Shape,
         event: Self::Event,
@@ -115,41 +117,62 @@ pub trait Parts: Sized {
         steps: &mut Steps<L>,
     ) -> Self::Reply
         requires covered { Covers (touching shape.now event) held.old }
-        requires lawful { (s : List Self.Part) × sound shape.now s × Agrees held.old s × stands shape.now event s × fits shape.now event s }
+        requires lawful { (s : List Self.Part) × sound shape.now s × Agrees held.old s
+            × stands shape.now event s × fits shape.now event s }
         ensures room { SameRoom held.old held.new }
-        ensures meets { (s : List Self.Part) → sound shape.now s → Agrees held.old s → stands shape.now event s → fits shape.now event s
-            → MatchBool (refused result) (held.new ≡ held.old) (Agrees held.new (effect shape.now event s) × (result ≡ reply shape.now event s)) }
+        ensures meets { (s : List Self.Part) → sound shape.now s → Agrees held.old s
+            → stands shape.now event s → fits shape.now event s
+            → MatchBool (refused result) (held.new ≡ held.old)
+            (Agrees held.new (effect shape.now event s) × (result ≡ reply shape.now event s)) }
         ensures refuses { refused result ≡ true → takes_memory event ≡ true }
-        ensures steps { (s : List Self.Part) → sound shape.now s → Agrees held.old s → stands shape.now event s → fits shape.now event s → steps.new ≤ steps.old + cost shape.now event s };
+        ensures steps { (s : List Self.Part) → sound shape.now s → Agrees held.old s
+            → stands shape.now event s → fits shape.now event s
+            → steps.new ≤ steps.old + cost shape.now event s };
 
     // An opening state is sound, and no session has a transaction in it.
     ghost opens: { (sh : Self.Shape) (s : List Self.Part) → opening sh s → sound sh s };
 
-    ghost rests: { (sh : Self.Shape) (s : List Self.Part) (q : ℕ) → opening sh s → transaction sh s q ≡ None };
+    ghost rests: { (sh : Self.Shape) (s : List Self.Part) (q : ℕ) → opening sh s
+        → transaction sh s q ≡ None };
 
     // A lawful event leaves a sound state sound.
-    ghost keeps: { (sh : Self.Shape) (e : Self.Event) (s : List Self.Part) → sound sh s → stands sh e s → fits sh e s → sound sh (effect sh e s) };
+    ghost keeps: { (sh : Self.Shape) (e : Self.Event) (s : List Self.Part) → sound sh s
+        → stands sh e s → fits sh e s → sound sh (effect sh e s) };
 
     // Whether an event touches a part the parts before it tell.
-    ghost ascends: { (sh : Self.Shape) (e : Self.Event) (h i : List (Option Self.Part)) (k : ℕ) → ((j : ℕ) → j < k → slice_get h j ≡ slice_get i j) → touching sh e h k ≡ touching sh e i k };
+    ghost ascends: { (sh : Self.Shape) (e : Self.Event) (h i : List (Option Self.Part)) (k : ℕ)
+        → ((j : ℕ) → j < k → slice_get h j ≡ slice_get i j) → touching sh e h k
+        ≡ touching sh e i k };
 
     // It changes only the parts that it touches, and never how many there are.
-    ghost frame: { (sh : Self.Shape) (e : Self.Event) (h : List (Option Self.Part)) (s : List Self.Part) → sound sh s → Covers (touching sh e) h → Agrees h s → stands sh e s → fits sh e s → OnlyHeld h s (effect sh e s) };
+    ghost frame: { (sh : Self.Shape) (e : Self.Event) (h : List (Option Self.Part))
+        (s : List Self.Part) → sound sh s → Covers (touching sh e) h → Agrees h s
+        → stands sh e s → fits sh e s → OnlyHeld h s (effect sh e s) };
 
-    ghost room: { (sh : Self.Shape) (e : Self.Event) (s : List Self.Part) → sound sh s → length (effect sh e s) ≡ length s };
+    ghost room: { (sh : Self.Shape) (e : Self.Event) (s : List Self.Part) → sound sh s
+        → length (effect sh e s) ≡ length s };
 
     // What it asks of its parts depends on these alone.
-    ghost local: { (sh : Self.Shape) (e : Self.Event) (h : List (Option Self.Part)) (s t : List Self.Part) → sound sh s → sound sh t → Covers (touching sh e) h → Agrees h s → Agrees h t → stands sh e s → fits sh e s → fits sh e t };
+    ghost local: { (sh : Self.Shape) (e : Self.Event) (h : List (Option Self.Part))
+        (s t : List Self.Part) → sound sh s → sound sh t → Covers (touching sh e) h → Agrees h s
+        → Agrees h t → stands sh e s → fits sh e s → fits sh e t };
 
     // What it asks besides depends on its session's open transaction and on lasting facts alone.
-    ghost depends: { (sh : Self.Shape) (e : Self.Event) (s t : List Self.Part) → sound sh s → sound sh t
-        → ((q : ℕ) → names e ≡ Some q → transaction sh t q ≡ transaction sh s q) → ((f : Self.Fact) → fact sh f s → fact sh f t) → stands sh e s → stands sh e t };
+    ghost depends: { (sh : Self.Shape) (e : Self.Event) (s t : List Self.Part) → sound sh s
+        → sound sh t
+        → ((q : ℕ) → names e ≡ Some q → transaction sh t q ≡ transaction sh s q)
+        → ((f : Self.Fact) → fact sh f s → fact sh f t) → stands sh e s → stands sh e t };
 
     // It leaves every other session's transaction as it was.
-    ghost leaves: { (sh : Self.Shape) (e : Self.Event) (s : List Self.Part) (q : ℕ) → sound sh s → stands sh e s → fits sh e s → names e ≢ Some q → transaction sh (effect sh e s) q ≡ transaction sh s q };
+    ghost leaves: { (sh : Self.Shape) (e : Self.Event) (s : List Self.Part) (q : ℕ) → sound sh s
+        → stands sh e s → fits sh e s → names e ≢ Some q → transaction sh (effect sh e s) q
+        ≡ transaction sh s q };
 
     // A lasting fact outlives every lawful event, and what a reply teaches holds after it.
-    ghost outlives: { (sh : Self.Shape) (e : Self.Event) (f : Self.Fact) (s : List Self.Part) → sound sh s → stands sh e s → fits sh e s → fact sh f s → fact sh f (effect sh e s) };
+    ghost outlives: { (sh : Self.Shape) (e : Self.Event) (f : Self.Fact) (s : List Self.Part)
+        → sound sh s → stands sh e s → fits sh e s → fact sh f s → fact sh f (effect sh e s) };
 
-    ghost learns: { (sh : Self.Shape) (e : Self.Event) (f : Self.Fact) (s : List Self.Part) → sound sh s → stands sh e s → fits sh e s → teaches sh e (reply sh e s) f → fact sh f (effect sh e s) };
+    ghost learns: { (sh : Self.Shape) (e : Self.Event) (f : Self.Fact) (s : List Self.Part)
+        → sound sh s → stands sh e s → fits sh e s → teaches sh e (reply sh e s) f
+        → fact sh f (effect sh e s) };
 }

@@ -27,7 +27,7 @@ impl<C: Parts> TableRule<Option<C::Part>, View<C::Event>, Plan<C>> for HallRule<
 }
 
 impl<C> Drop for Plan<C> {
-    // The core is dropped with the plan.
+    /// The core is dropped with the plan.
     fn drop(self) {
         let Plan { core, passes: _ } = self;
         drop(core);

@@ -28,7 +28,8 @@ pub struct View<E> {
     pub mine: LinkedList<Entry<E>>,
     /// How many these are.
     pub made: u64,
-    /// Of each part: 0 where it is not held, 1 from its take, and 2 once the event word was loaded since.
+    /// Of each part: 0 where it is not held, 1 from its take, and 2 once the event word was loaded
+    /// since.
     pub stages: LinkedList<u64>,
     /// One more than the number of the slot that is out with the pass, 0 where none is.
     pub out: u64,

@@ -1,5 +1,6 @@
 -- What a pass is to its hall, and what the calls tell.
-use Rattle.std.specs.Prelude.{◌≡◌, ℕ, suc, ◌+◌, ◌*◌, ◌^◌, ◌<◌, ◌≤◌, true, false, List, [], ◌∷◌, ◌++◌, Option, Some, length, slice_get}
+use Rattle.std.specs.Prelude.{◌≡◌, ℕ, suc, ◌+◌, ◌*◌, ◌^◌, ◌<◌, ◌≤◌, true, false, List, [], ◌∷◌}
+use Rattle.std.specs.Prelude.{◌++◌, Option, Some, length, slice_get}
 use Rattle.atomic_table.specs.Seated.{TableId}
 use Rattle.atomic_table.specs.Table.{Me}
 use Rattle.atomic_table.specs.declared.shared.Seat.{Seat}
@@ -16,7 +17,8 @@ use Rattle.hall_rule.specs.declared.view.View.{View}
 abbrev pub IsSameSeat : {S V : Type 0} → Seat S V → Seat S V → Type 0
 IsSameSeat s t = (t.table_id ≡ s.table_id) × (t.id ≡ s.id)
 
--- The first of a pass's hands, in which its parts lie. A pass without a hand has one without places.
+-- The first of a pass's hands, in which its parts lie. A pass without a hand has one without
+-- places.
 abbrev pub first_of : {P : Type 0} → List (List (Option P)) → List (Option P)
 first_of [] = []
 first_of (hand ∷ hands) = hand
@@ -31,7 +33,8 @@ abbrev pub spares_of : {P : Type 0} → List (List (Option P)) → List (List (O
 spares_of [] = []
 spares_of (hand ∷ hands) = hands
 
--- What contracts see of a hall: the core that it was built of and for how many passes, which table it is, and the core's shape.
+-- What contracts see of a hall: the core that it was built of and for how many passes, which table
+-- it is, and the core's shape.
 pub record HallView (C S : Type 0) : Type 0 where
   pub core : C
   pub passes : ℕ
@@ -56,8 +59,8 @@ module _ {P E T F : Type 0} (M : Meaning P E T F) where
     pub below : k < length M.start
     pub room : k < length seat.me.0.stages
 
-  -- What the pass id knows between two calls, whose first hand this is: its log is lawful, has of its events exactly those that it made,
-  -- and leaves the parts in the hand as they are there.
+  -- What the pass id knows between two calls, whose first hand this is: its log is lawful, has of
+  -- its events exactly those that it made, and leaves the parts in the hand as they are there.
   pub record Knows (id : ℕ) (me : Me (Option P) (View E)) (hand : List (Option P)) : Type 0 where
     pub none_out : me.1 ≡ []
     pub home : me.0.out ≡ 0
@@ -71,7 +74,8 @@ module _ {P E T F : Type 0} (M : Meaning P E T F) where
     pub total : length me.0.mine ≡ me.0.made
     pub distinct : Distinct me.0.sessions
     pub room : length (replay M me.0.log) ≡ length M.start
-    pub agrees : (k : ℕ) (p : P) → slice_get hand k ≡ Some (Some p) → slice_get (replay M me.0.log) k ≡ Some p
+    pub agrees : (k : ℕ) (p : P) → slice_get hand k ≡ Some (Some p)
+        → slice_get (replay M me.0.log) k ≡ Some p
     pub held : (k : ℕ) → Holds hand k → stage me.0 k ≡ 2
     pub away : (k : ℕ) → ¬ Holds hand k → stage me.0 k ≡ 0
     -- it made few events for each of its hands, and so did all other passes together
@@ -85,7 +89,8 @@ module _ {P E T F : Type 0} (M : Meaning P E T F) where
   abbrev pub IsOf : TableId → Seat (Option P) (View E) → List (Option P) → Type 0
   IsOf z seat hand = (seat.table_id ≡ z) × Knows seat.id seat.me hand
 
-  -- A pass of the table z with these hands: each has a place for every part, and only the first has parts.
+  -- A pass of the table z with these hands: each has a place for every part, and only the first has
+  -- parts.
   pub record IsPass (z : TableId) (seat : Seat (Option P) (View E)) (hands : List (List (Option P))) : Type 0 where
     pub of : IsOf z seat (first_of hands)
     pub count : length hands ≡ hands_of seat.me.0
@@ -104,7 +109,8 @@ module _ {P E T F : Type 0} (M : Meaning P E T F) where
   abbrev pub Looks : Seat (Option P) (View E) → Seat (Option P) (View E) → Type 0
   Looks s t = IsSameSeat s t × LooksOn s.id s.me.0 t.me.0
 
-  -- The same pass, which has seen no less and made no event. What it knew of its sessions, and for good, still stands.
+  -- The same pass, which has seen no less and made no event. What it knew of its sessions, and for
+  -- good, still stands.
   pub record SeesMore (v w : View E) : Type 0 where
     pub joined : w.joined ≡ v.joined
     pub sessions : w.sessions ≡ v.sessions
@@ -112,7 +118,8 @@ module _ {P E T F : Type 0} (M : Meaning P E T F) where
     pub sole : w.sole ≡ v.sole
     pub stays : Stays M v.sessions v.log w.log
 
-  -- The view's log goes on from all that was seen, up to `before`, and ends with the entry, which is one more of the pass's.
+  -- The view's log goes on from all that was seen, up to `before`, and ends with the entry, which
+  -- is one more of the pass's.
   pub record EndsWith (id : ℕ) (v : View E) (before : List (Entry E)) (e : Entry E) (w : View E) : Type 0 where
     pub joined : w.joined ≡ v.joined
     pub sessions : w.sessions ≡ v.sessions
@@ -123,10 +130,12 @@ module _ {P E T F : Type 0} (M : Meaning P E T F) where
     pub taken : w.taken ≡ v.taken
 
   -- The same pass, whose log ends with one event more.
-  abbrev pub Extends : Seat (Option P) (View E) → List (Entry E) → Entry E → Seat (Option P) (View E) → Type 0
+  abbrev pub Extends : Seat (Option P) (View E) → List (Entry E) → Entry E
+      → Seat (Option P) (View E) → Type 0
   Extends s before e t = IsSameSeat s t × EndsWith s.id s.me.0 before e t.me.0
 
-  -- A new pass with these sessions, which has seen no less than another and made no event. What that knew of these sessions still stands.
+  -- A new pass with these sessions, which has seen no less than another and made no event. What
+  -- that knew of these sessions still stands.
   pub record IsNew (v w : View E) (sessions : List ℕ) : Type 0 where
     pub joined : w.joined ≡ []
     pub mine : w.mine ≡ []
@@ -136,7 +145,8 @@ module _ {P E T F : Type 0} (M : Meaning P E T F) where
     pub goes_on : GoesOn v w.log
     pub stays : Stays M sessions v.log w.log
 
-  -- Two passes became one: it has the numbers, the entries and the hands of both, and has seen no less than either. What each knew of its own sessions, and for good, still stands.
+  -- Two passes became one: it has the numbers, the entries and the hands of both, and has seen no
+  -- less than either. What each knew of its own sessions, and for good, still stands.
   pub record Joined (id other : ℕ) (v u w : View E) : Type 0 where
     pub joined : w.joined ≡ v.joined ++ other ∷ u.joined
     pub sessions : w.sessions ≡ v.sessions ++ u.sessions

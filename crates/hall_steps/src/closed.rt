@@ -40,7 +40,7 @@ impl<P> Closed<P> {
 }
 
 impl<P: Drop> Drop for Closed<P> {
-    // Each part is taken out and dropped, and then the table's memory is given back.
+    /// Each part is taken out and dropped, and then the table's memory is given back.
     fn drop(self) {
         let Closed { mut table } = self;
         let mut at = 0;
@@ -53,7 +53,8 @@ impl<P: Drop> Drop for Closed<P> {
 }
 
 impl<C: Parts> Hall<C> {
-    /// Ends the hall, with the pass that has all hands and holds no part. The parts are those that the pass's log leaves.
+    /// Ends the hall, with the pass that has all hands and holds no part. The parts are those that
+    /// the pass's log leaves.
     pub fn close(self, pass: Pass<C>) -> Closed<C::Part>
         requires pass { IsPass (means C.Parts self) self.id pass.seat pass.hands }
         requires all { hands_of pass.seat.me.0 ≡ self.passes }

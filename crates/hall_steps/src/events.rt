@@ -1,5 +1,6 @@
 //! Making an event.
-ghost use Rattle.std.specs.Prelude.{◌≡◌, ℕ, ◌+◌, ◌*◌, ◌^◌, ◌<◌, ◌≤◌, true, List, Some, MatchBool, length};
+ghost use Rattle.std.specs.Prelude.{◌≡◌, ℕ, ◌+◌, ◌*◌, ◌^◌, ◌<◌, ◌≤◌, true, List, Some, MatchBool};
+ghost use Rattle.std.specs.Prelude.{length};
 ghost use Rattle.hall_rule.specs.EventLog.{has, replay};
 ghost use Rattle.hall_rule.specs.HallInvariant.{hands_of};
 ghost use Rattle.hall_rule.specs.Hands.{Covers, SameRoom};
@@ -28,15 +29,21 @@ pub(crate) fn make<C: Parts, L: Ledger>(
     requires pass { IsOf (planned C.Parts board.now.key) board.now.table_id seat.old hand.old }
     requires room { length hand.old ≡ length (C.state_of board.now.key.core.value) }
     requires covered { Covers (C.touching shape.now event) hand.old }
-    requires stands { C.stands shape.now event (replay (planned C.Parts board.now.key) seat.old.me.0.log) }
-    requires fits { C.fits shape.now event (replay (planned C.Parts board.now.key) seat.old.me.0.log) }
+    requires stands { C.stands shape.now event
+        (replay (planned C.Parts board.now.key) seat.old.me.0.log) }
+    requires fits { C.fits shape.now event
+        (replay (planned C.Parts board.now.key) seat.old.me.0.log) }
     requires named { (q : ℕ) → C.names event ≡ Some q → has q seat.old.me.0.sessions ≡ true }
     requires few { length seat.old.me.0.mine < 2 ^ 56 * hands_of seat.old.me.0 }
     ensures pass { IsOf (planned C.Parts board.now.key) board.now.table_id seat.new hand.new }
     ensures room { SameRoom hand.old hand.new }
-    ensures log { (before : List (Entry C.Event)) × Extends (planned C.Parts board.now.key) seat.old before (entry_of seat.old.id seat.old.me.0 (C.refused result) event) seat.new
-        × MatchBool (C.refused result) (hand.new ≡ hand.old) (result ≡ C.reply shape.now event (replay (planned C.Parts board.now.key) before))
-        × (steps.new ≤ steps.old + C.cost shape.now event (replay (planned C.Parts board.now.key) before)) }
+    ensures log { (before : List (Entry C.Event))
+        × Extends (planned C.Parts board.now.key) seat.old before
+        (entry_of seat.old.id seat.old.me.0 (C.refused result) event) seat.new
+        × MatchBool (C.refused result) (hand.new ≡ hand.old)
+        (result ≡ C.reply shape.now event (replay (planned C.Parts board.now.key) before))
+        × (steps.new ≤ steps.old + C.cost shape.now event
+        (replay (planned C.Parts board.now.key) before)) }
 {
     let told = Snapshot::of(&event);
     let reply = C::run(shape, event, hand, steps);

@@ -1,5 +1,6 @@
 //! The hall and its passes.
-ghost use Rattle.std.specs.Prelude.{◌≡◌, ℕ, ◌+◌, ◌*◌, ◌^◌, ◌<◌, ◌≤◌, true, List, [], ◌∷◌, ◌++◌, None, Some, MatchBool, length, slice_get, slice_set};
+ghost use Rattle.std.specs.Prelude.{◌≡◌, ℕ, ◌+◌, ◌*◌, ◌^◌, ◌<◌, ◌≤◌, true, List, [], ◌∷◌, ◌++◌};
+ghost use Rattle.std.specs.Prelude.{None, Some, MatchBool, length, slice_get, slice_set};
 ghost use Rattle.hall_rule.specs.EventLog.{has, replay};
 ghost use Rattle.hall_rule.specs.HallInvariant.{hands_of};
 ghost use Rattle.hall_rule.specs.Hands.{Covers, Holds, IsAboveAll, SameRoom};
@@ -20,14 +21,16 @@ use std::sync::Wait;
 use std::sync::atomic::AtomicU64;
 use std::sync::ledger::Ledger;
 
-/// The parts of a core, each behind a latch, and the word that counts the events. Threads share it by reference.
+/// The parts of a core, each behind a latch, and the word that counts the events. Threads share it
+/// by reference.
 ///
-/// Contracts see the core and the number of passes that it was built for, which table it is, and the core's shape.
+/// Contracts see the core and the number of passes that it was built for, which table it is, and
+/// the core's shape.
 #[derive(Drop)]
 pub struct Hall<C: Parts> {
     pub(crate) table: Table<Option<C::Part>, View<C::Event>, Plan<C>, HallRule<C>, Global>,
     pub(crate) shape: C::Shape,
-    // How many threads wait for each part.
+    /// How many threads wait for each part.
     pub(crate) waiting: Vec<AtomicU64>,
     pub(crate) alloc: Global,
 }
@@ -39,10 +42,19 @@ impl<C: Parts> Model for Hall<C> {
 
     ghost Value = { HallView C C.Shape };
 
-    ghost view = { λ hall. record { core = hall.table.shared.key.core.value; passes = hall.table.shared.key.passes; id = hall.table.shared.table_id; shape = hall.shape } };
+    ghost view = { λ hall. record {
+      core = hall.table.shared.key.core.value;
+      passes = hall.table.shared.key.passes;
+      id = hall.table.shared.table_id;
+      shape = hall.shape;
+    } };
 
-    ghost invariant = { λ hall. IsSized (meaning C.Parts hall.table.shared.key.core.value hall.table.shared.key.passes) hall.table.shared.table_id
-        × (hall.shape ≡ C.shape_of hall.table.shared.key.core.value) × (vec_len hall.waiting ≡ length (C.state_of hall.table.shared.key.core.value)) × (length (C.state_of hall.table.shared.key.core.value) < 2 ^ 32) };
+    ghost invariant = { λ hall. IsSized
+        (meaning C.Parts hall.table.shared.key.core.value hall.table.shared.key.passes)
+        hall.table.shared.table_id
+        × (hall.shape ≡ C.shape_of hall.table.shared.key.core.value)
+        × (vec_len hall.waiting ≡ length (C.state_of hall.table.shared.key.core.value))
+        × (length (C.state_of hall.table.shared.key.core.value) < 2 ^ 32) };
 }
 
 /// What one thread works with: its seat at the hall's table, and its hands.
@@ -78,7 +90,8 @@ impl<C: Parts> Hall<C> {
         &self.shape
     }
 
-    /// Takes a part into the hand, and waits until no other pass holds it. The part is above all that are held.
+    /// Takes a part into the hand, and waits until no other pass holds it. The part is above all
+    /// that are held.
     pub fn take<R: Wait>(&self, rt: &R, pass: &mut Pass<C>, part: u32)
         requires pass { IsPass (means C.Parts self.now) self.now.id pass.old.seat pass.old.hands }
         requires part { part < length (C.state_of self.now.core) }
@@ -86,7 +99,8 @@ impl<C: Parts> Hall<C> {
         requires hand { 0 < hands_of pass.old.seat.me.0 }
         ensures pass { IsPass (means C.Parts self.now) self.now.id pass.new.seat pass.new.hands }
         ensures seen { Looks (means C.Parts self.now) pass.old.seat pass.new.seat }
-        ensures hand { (p : C.Part) × (first_of pass.new.hands ≡ slice_set (first_of pass.old.hands) part (Some p)) }
+        ensures hand { (p : C.Part) × (first_of pass.new.hands
+            ≡ slice_set (first_of pass.old.hands) part (Some p)) }
         ensures taken { pass.new.seat.me.0.taken ≡ pass.old.seat.me.0.taken ++ part ∷ [] }
     {
         let Some(hand) = pass.hands.list.front_mut() else {
@@ -123,9 +137,9 @@ impl<C: Parts> Hall<C> {
         );
     }
 
-    /// Makes an event on parts that are held, and replies. The log goes on from all that the pass had seen and ends
-    /// with this event. The reply is that of the state which the log before it leaves. Where memory is refused
-    /// the parts stay as they were.
+    /// Makes an event on parts that are held, and replies. The log goes on from all that the pass
+    /// had seen and ends with this event. The reply is that of the state which the log before it
+    /// leaves. Where memory is refused the parts stay as they were.
     pub fn event<L: Ledger>(
         &self,
         pass: &mut Pass<C>,
@@ -134,15 +148,23 @@ impl<C: Parts> Hall<C> {
     ) -> C::Reply
         requires pass { IsPass (means C.Parts self.now) self.now.id pass.old.seat pass.old.hands }
         requires covered { Covers (C.touching self.now.shape event) (first_of pass.old.hands) }
-        requires stands { C.stands self.now.shape event (replay (means C.Parts self.now) pass.old.seat.me.0.log) }
-        requires fits { C.fits self.now.shape event (replay (means C.Parts self.now) pass.old.seat.me.0.log) }
-        requires named { (q : ℕ) → C.names event ≡ Some q → has q pass.old.seat.me.0.sessions ≡ true }
+        requires stands { C.stands self.now.shape event
+            (replay (means C.Parts self.now) pass.old.seat.me.0.log) }
+        requires fits { C.fits self.now.shape event
+            (replay (means C.Parts self.now) pass.old.seat.me.0.log) }
+        requires named { (q : ℕ) → C.names event ≡ Some q → has q pass.old.seat.me.0.sessions
+            ≡ true }
         requires few { length pass.old.seat.me.0.mine < 2 ^ 56 * hands_of pass.old.seat.me.0 }
         ensures pass { IsPass (means C.Parts self.now) self.now.id pass.new.seat pass.new.hands }
         ensures room { SameRoom (first_of pass.old.hands) (first_of pass.new.hands) }
-        ensures log { (before : List (Entry C.Event)) × Extends (means C.Parts self.now) pass.old.seat before (entry_of pass.old.seat.id pass.old.seat.me.0 (C.refused result) event) pass.new.seat
-            × MatchBool (C.refused result) (first_of pass.new.hands ≡ first_of pass.old.hands) (result ≡ C.reply self.now.shape event (replay (means C.Parts self.now) before))
-            × (steps.new ≤ steps.old + C.cost self.now.shape event (replay (means C.Parts self.now) before)) }
+        ensures log { (before : List (Entry C.Event))
+            × Extends (means C.Parts self.now) pass.old.seat before
+            (entry_of pass.old.seat.id pass.old.seat.me.0 (C.refused result) event)
+            pass.new.seat
+            × MatchBool (C.refused result) (first_of pass.new.hands ≡ first_of pass.old.hands)
+            (result ≡ C.reply self.now.shape event (replay (means C.Parts self.now) before))
+            × (steps.new ≤ steps.old + C.cost self.now.shape event
+            (replay (means C.Parts self.now) before)) }
     {
         let Some(hand) = pass.hands.list.front_mut() else {
             unreachable!()

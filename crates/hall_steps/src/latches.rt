@@ -1,5 +1,6 @@
 //! Taking a part and giving it back.
-ghost use Rattle.std.specs.Prelude.{◌≡◌, ◌≢◌, ℕ, ◌+◌, ◌<◌, ◌==◌, List, [], ◌∷◌, ◌++◌, None, Some, cond, length, slice_get, slice_set};
+ghost use Rattle.std.specs.Prelude.{◌≡◌, ◌≢◌, ℕ, ◌+◌, ◌<◌, ◌==◌, List, [], ◌∷◌, ◌++◌, None, Some};
+ghost use Rattle.std.specs.Prelude.{cond, length, slice_get, slice_set};
 ghost use Rattle.hall_rule.specs.HallInvariant.{hands_of, stage};
 ghost use Rattle.hall_rule.specs.EventLog.{replay};
 ghost use Rattle.hall_rule.specs.Hands.{Holds};
@@ -22,7 +23,7 @@ const TRIES: u32 = 2048;
 /// How many pauses the processor makes between two tries.
 const PAUSES: u32 = 2;
 
-// Tries the latch of a part once.
+/// Tries the latch of a part once.
 fn try_latch<C: Parts>(board: &Board<C>, seat: &mut Place<C>, part: u32) -> bool
     requires at { IsAt (planned C.Parts board.now.key) board.now.table_id seat.old part }
     requires none_out { seat.old.me.1 ≡ [] }
@@ -34,15 +35,15 @@ fn try_latch<C: Parts>(board: &Board<C>, seat: &mut Place<C>, part: u32) -> bool
     latch_as::<C, Brand>(board, seat, part) == 0
 }
 
-// Waits a little, without sleeping.
+/// Waits a little, without sleeping.
 fn pause() {
     for _ in 0..PAUSES {
         spin_loop();
     }
 }
 
-// Tries the latch of a part again for as long as a part is held by most events, and tells whether it
-// was taken.
+/// Tries the latch of a part again for as long as a part is held by most events, and tells whether
+/// it was taken.
 fn try_again<C: Parts>(board: &Board<C>, seat: &mut Place<C>, part: u32) -> bool
     requires at { IsAt (planned C.Parts board.now.key) board.now.table_id seat.old part }
     requires none_out { seat.old.me.1 ≡ [] }
@@ -60,7 +61,7 @@ fn try_again<C: Parts>(board: &Board<C>, seat: &mut Place<C>, part: u32) -> bool
     false
 }
 
-// Sleeps until the latch of a part is taken.
+/// Sleeps until the latch of a part is taken.
 fn wait_latch<C: Parts, R: Wait>(rt: &R, board: &Board<C>, seat: &mut Place<C>, part: u32)
     requires at { IsAt (planned C.Parts board.now.key) board.now.table_id seat.old part }
     requires none_out { seat.old.me.1 ≡ [] }
@@ -78,8 +79,8 @@ fn wait_latch<C: Parts, R: Wait>(rt: &R, board: &Board<C>, seat: &mut Place<C>, 
     unreachable!()
 }
 
-// Takes the latch of a part. Who has to wait for it is counted from before its first try, so that who gives
-// the part back after that try sees the count.
+/// Takes the latch of a part. Who has to wait for it is counted from before its first try, so that
+/// who gives the part back after that try sees the count.
 fn latch<C: Parts, R: Wait>(
     rt: &R,
     board: &Board<C>,
@@ -103,18 +104,19 @@ fn latch<C: Parts, R: Wait>(
     waiting[part as usize].fetch_sub(1, Ordering::SeqCst);
 }
 
-// Loads the event word, and takes out the slot of a part whose latch is taken.
+/// Loads the event word, and takes out the slot of a part whose latch is taken.
 fn learn<C: Parts>(board: &Board<C>, seat: &mut Place<C>, part: u32)
     requires at { IsAt (planned C.Parts board.now.key) board.now.table_id seat.old part }
     requires none_out { seat.old.me.1 ≡ [] }
     requires taken { (stage seat.old.me.0 part ≡ 1) × (seat.old.me.0.out ≡ 0) }
     ensures seat { IsSameSeat seat.old seat.new }
-    ensures learned { (n : ℕ) × Loads (planned C.Parts board.now.key) seat.old.id seat.old.me.0 part n seat.new.me }
+    ensures learned { (n : ℕ) × Loads (planned C.Parts board.now.key) seat.old.id seat.old.me.0 part
+        n seat.new.me }
 {
     load_as::<C, Brand>(board, seat, 0, part);
 }
 
-// Gives the empty slot of a part home.
+/// Gives the empty slot of a part home.
 fn put_back<C: Parts>(board: &Board<C>, seat: &mut Place<C>, part: u32)
     requires at { IsAt (planned C.Parts board.now.key) board.now.table_id seat.old part }
     requires empty { seat.old.me.1 ≡ (part, None) ∷ [] }
@@ -125,8 +127,9 @@ fn put_back<C: Parts>(board: &Board<C>, seat: &mut Place<C>, part: u32)
     load_as::<C, Brand>(board, seat, 0, part);
 }
 
-// Takes out the empty slot of a part that is held. The word that is loaded is the part's latch: a load of the event
-// word right behind the `fetch_add` that counted an event takes as long as a locked step.
+/// Takes out the empty slot of a part that is held. The word that is loaded is the part's latch: a
+/// load of the event word right behind the `fetch_add` that counted an event takes as long as a
+/// locked step.
 fn draw<C: Parts>(board: &Board<C>, seat: &mut Place<C>, part: u32)
     requires at { IsAt (planned C.Parts board.now.key) board.now.table_id seat.old part }
     requires none_out { seat.old.me.1 ≡ [] }
@@ -137,10 +140,11 @@ fn draw<C: Parts>(board: &Board<C>, seat: &mut Place<C>, part: u32)
     load_as::<C, Brand>(board, seat, part as usize + 1, part);
 }
 
-// Gives the slot of a part home, with the part in it, and frees its latch.
+/// Gives the slot of a part home, with the part in it, and frees its latch.
 fn release<C: Parts>(board: &Board<C>, seat: &mut Place<C>, part: u32)
     requires at { IsAt (planned C.Parts board.now.key) board.now.table_id seat.old part }
-    requires value { (p : C.Part) × (seat.old.me.1 ≡ (part, Some p) ∷ []) × (slice_get (replay (planned C.Parts board.now.key) seat.old.me.0.log) part ≡ Some p) }
+    requires value { (p : C.Part) × (seat.old.me.1 ≡ (part, Some p) ∷ [])
+        × (slice_get (replay (planned C.Parts board.now.key) seat.old.me.0.log) part ≡ Some p) }
     requires held { (stage seat.old.me.0 part ≡ 2) × (seat.old.me.0.out ≡ part + 1) }
     ensures seat { IsSameSeat seat.old seat.new }
     ensures given { seat.new.me ≡ (given seat.old.me.0 part, []) }
@@ -148,14 +152,17 @@ fn release<C: Parts>(board: &Board<C>, seat: &mut Place<C>, part: u32)
     free_as::<C, Brand>(board, seat, part);
 }
 
-// Loads the event word and carries a part, whose latch is taken, out of its slot, which goes home empty.
+/// Loads the event word and carries a part, whose latch is taken, out of its slot, which goes home
+/// empty.
 fn carry_out<C: Parts>(board: &Board<C>, seat: &mut Place<C>, part: u32) -> C::Part
     requires at { IsAt (planned C.Parts board.now.key) board.now.table_id seat.old part }
     requires none_out { seat.old.me.1 ≡ [] }
     requires taken { (stage seat.old.me.0 part ≡ 1) × (seat.old.me.0.out ≡ 0) }
     ensures seat { IsSameSeat seat.old seat.new }
-    ensures learned { (log : List (Entry C.Event)) × Learned (planned C.Parts board.now.key) seat.old.id seat.old.me.0 log
-        × (slice_get (replay (planned C.Parts board.now.key) log) part ≡ Some result) × (seat.new.me ≡ (homed (loaded seat.old.me.0 part log), [])) }
+    ensures learned { (log : List (Entry C.Event))
+        × Learned (planned C.Parts board.now.key) seat.old.id seat.old.me.0 log
+        × (slice_get (replay (planned C.Parts board.now.key) log) part ≡ Some result)
+        × (seat.new.me ≡ (homed (loaded seat.old.me.0 part log), [])) }
 {
     learn(board, seat, part);
     let out = board.exchange(seat, part as usize, None);
@@ -166,12 +173,13 @@ fn carry_out<C: Parts>(board: &Board<C>, seat: &mut Place<C>, part: u32) -> C::P
     }
 }
 
-// Carries a part back into its slot, and frees its latch.
+/// Carries a part back into its slot, and frees its latch.
 fn carry_in<C: Parts>(board: &Board<C>, seat: &mut Place<C>, part: u32, held: C::Part)
     requires at { IsAt (planned C.Parts board.now.key) board.now.table_id seat.old part }
     requires none_out { seat.old.me.1 ≡ [] }
     requires held { (stage seat.old.me.0 part ≡ 2) × (seat.old.me.0.out ≡ 0) }
-    requires value { slice_get (replay (planned C.Parts board.now.key) seat.old.me.0.log) part ≡ Some held }
+    requires value { slice_get (replay (planned C.Parts board.now.key) seat.old.me.0.log) part
+        ≡ Some held }
     ensures seat { IsSameSeat seat.old seat.new }
     ensures given { seat.new.me ≡ (given seat.old.me.0 part, []) }
 {

@@ -1,4 +1,5 @@
-//! What a step tells, picked by each call: a `Play` can name neither the event nor the number of the pass.
+//! What a step tells, picked by each call: a `Play` can name neither the event nor the number of
+//! the pass.
 ghost use Rattle.std.specs.Prelude.{◌≡◌, ℕ, [], ◌∷◌, ◌+◌, ◌<◌, ◌%◌, ◌^◌, ◌==◌};
 ghost use mathlib.Core.Option.{none};
 ghost use prog.Atomic.{either};
@@ -90,10 +91,13 @@ pub(crate) fn load_as<C: Parts, D: Telling<Option<C::Part>, View<C::Event>>>(
 )
     requires table { seat.old.table_id ≡ board.now.table_id }
     requires words { word < board.now.table_id.words }
-    requires keeps { Allows (Rule (planned C.Parts board.now.key)) board.now.table_id.slots seat.old.id seat.old.me word (λ n. n) (D.tells (step board.now.table_id.slots word 0 0 none) seat.old.me) }
+    requires keeps { Allows (Rule (planned C.Parts board.now.key)) board.now.table_id.slots
+        seat.old.id seat.old.me word (λ n. n)
+        (D.tells (step board.now.table_id.slots word 0 0 none) seat.old.me) }
     ensures table { seat.new.table_id ≡ seat.old.table_id }
     ensures id { seat.new.id ≡ seat.old.id }
-    ensures told { (n : ℕ) × D.tells (step board.now.table_id.slots word 0 0 none) seat.old.me n seat.new.me }
+    ensures told { (n : ℕ) × D.tells (step board.now.table_id.slots word 0 0 none) seat.old.me n
+        seat.new.me }
 {
     board.load::<Told<D>>(seat, word);
 }
@@ -106,10 +110,13 @@ pub(crate) fn latch_as<C: Parts, D: Telling<Option<C::Part>, View<C::Event>>>(
 ) -> u64
     requires table { seat.old.table_id ≡ board.now.table_id }
     requires words { part + 1 < board.now.table_id.words }
-    requires keeps { Allows (Rule (planned C.Parts board.now.key)) board.now.table_id.slots seat.old.id seat.old.me (part + 1) (λ n. either (n == 0) 1 n) (D.tells (step board.now.table_id.slots (part + 1) 0 1 none) seat.old.me) }
+    requires keeps { Allows (Rule (planned C.Parts board.now.key)) board.now.table_id.slots
+        seat.old.id seat.old.me (part + 1) (λ n. either (n == 0) 1 n)
+        (D.tells (step board.now.table_id.slots (part + 1) 0 1 none) seat.old.me) }
     ensures table { seat.new.table_id ≡ seat.old.table_id }
     ensures id { seat.new.id ≡ seat.old.id }
-    ensures told { D.tells (step board.now.table_id.slots (part + 1) 0 1 none) seat.old.me result seat.new.me }
+    ensures told { D.tells (step board.now.table_id.slots (part + 1) 0 1 none) seat.old.me result
+        seat.new.me }
 {
     board.compare_exchange::<Told<D>>(seat, part as usize + 1, 0, 1)
 }
@@ -122,10 +129,13 @@ pub(crate) fn free_as<C: Parts, D: Telling<Option<C::Part>, View<C::Event>>>(
 )
     requires table { seat.old.table_id ≡ board.now.table_id }
     requires words { part + 1 < board.now.table_id.words }
-    requires keeps { Allows (Rule (planned C.Parts board.now.key)) board.now.table_id.slots seat.old.id seat.old.me (part + 1) (λ _. 0) (λ _. D.tells (step board.now.table_id.slots (part + 1) 0 0 none) seat.old.me 0) }
+    requires keeps { Allows (Rule (planned C.Parts board.now.key)) board.now.table_id.slots
+        seat.old.id seat.old.me (part + 1) (λ _. 0)
+        (λ _. D.tells (step board.now.table_id.slots (part + 1) 0 0 none) seat.old.me 0) }
     ensures table { seat.new.table_id ≡ seat.old.table_id }
     ensures id { seat.new.id ≡ seat.old.id }
-    ensures told { D.tells (step board.now.table_id.slots (part + 1) 0 0 none) seat.old.me 0 seat.new.me }
+    ensures told { D.tells (step board.now.table_id.slots (part + 1) 0 0 none) seat.old.me 0
+        seat.new.me }
 {
     board.store::<Told<D>>(seat, part as usize + 1, 0);
 }
@@ -139,10 +149,13 @@ pub(crate) fn count_as<C: Parts, D: Telling<Option<C::Part>, View<C::Event>>>(
 )
     requires table { seat.old.table_id ≡ board.now.table_id }
     requires words { 0 < board.now.table_id.words }
-    requires keeps { Allows (Rule (planned C.Parts board.now.key)) board.now.table_id.slots seat.old.id seat.old.me 0 (λ n. (n + 1) % 2 ^ 64) (D.tells (step board.now.table_id.slots 0 1 0 none) seat.old.me) }
+    requires keeps { Allows (Rule (planned C.Parts board.now.key)) board.now.table_id.slots
+        seat.old.id seat.old.me 0 (λ n. (n + 1) % 2 ^ 64)
+        (D.tells (step board.now.table_id.slots 0 1 0 none) seat.old.me) }
     ensures table { seat.new.table_id ≡ seat.old.table_id }
     ensures id { seat.new.id ≡ seat.old.id }
-    ensures told { (n : ℕ) × D.tells (step board.now.table_id.slots 0 1 0 none) seat.old.me n seat.new.me }
+    ensures told { (n : ℕ) × D.tells (step board.now.table_id.slots 0 1 0 none) seat.old.me n
+        seat.new.me }
 {
     board.fetch_add::<Told<D>>(seat, 0, 1);
 }
@@ -153,9 +166,11 @@ pub(crate) fn join_as<C: Parts, D: Joining<View<C::Event>>>(
     seat: &mut Place<C>,
     other: Place<C>,
 )
-    requires tables { (seat.old.table_id ≡ board.now.table_id) × (other.table_id ≡ board.now.table_id) × (other.me.1 ≡ []) }
+    requires tables { (seat.old.table_id ≡ board.now.table_id)
+        × (other.table_id ≡ board.now.table_id) × (other.me.1 ≡ []) }
     requires words { 0 < board.now.table_id.words }
-    requires keeps { Joins (Rule (planned C.Parts board.now.key)) seat.old.id seat.old.me.0 other.id other.me.0 (D.both seat.old.me.0 other.me.0) D.spent }
+    requires keeps { Joins (Rule (planned C.Parts board.now.key)) seat.old.id seat.old.me.0 other.id
+        other.me.0 (D.both seat.old.me.0 other.me.0) D.spent }
     ensures table { seat.new.table_id ≡ seat.old.table_id }
     ensures id { seat.new.id ≡ seat.old.id }
     ensures me { seat.new.me ≡ (D.both seat.old.me.0 other.me.0, seat.old.me.1) }

@@ -1,10 +1,12 @@
 -- A column of a batch as the reader has it: its buffers, lent from the body.
-use Rattle.std.specs.Prelude.{◌≡◌, ℕ, Bool, true, ◌&&◌, ◌||◌, map, ◌==◌, nat_le, List, [], ◌∷◌, length, take, slice_index, unsigned_abs}
+use Rattle.std.specs.Prelude.{◌≡◌, ℕ, Bool, true, ◌&&◌, ◌||◌, map, ◌==◌, nat_le, List, [], ◌∷◌}
+use Rattle.std.specs.Prelude.{length, take, slice_index, unsigned_abs}
 use Rattle.cell_model.specs.Kinds.{values_of}
 use Rattle.cell_model.specs.declared.cell.Cell.{Cell}
 use Rattle.cell_model.specs.declared.kind.Kind.{Kind}
 use Rattle.stream_spec.specs.declared.message.BufferPlace.{BufferPlace}
-use Rattle.stream_spec.specs.Columns.{are_buffers, bytes_of, cell_at, cells_of, data_count, data_needs, is_buffer, is_validity, lies_in}
+use Rattle.stream_spec.specs.Columns.{are_buffers, bytes_of, cell_at, cells_of, data_count}
+use Rattle.stream_spec.specs.Columns.{data_needs, is_buffer, is_validity, lies_in}
 use Rattle.ipc_read.specs.declared.views.View.{View}
 
 -- The buffer lies in the body, and these are its bytes.
@@ -17,7 +19,8 @@ pub record Lies (body : List ℕ) (buffer : BufferPlace) (bytes : List ℕ) : Ty
 abbrev pub need_of : Kind → ℕ → ℕ
 need_of kind rows = slice_index (data_needs (values_of kind) rows) 0
 
--- The first buffer behind the validity lies in the body and is long enough, and these are its bytes.
+-- The first buffer behind the validity lies in the body and is long enough, and these are its
+-- bytes.
 pub record IsData (body : List ℕ) (kind : Kind) (rows : ℕ) (buffer : BufferPlace) (bytes : List ℕ) : Type 0 where
   pub inside : is_buffer body rows (need_of kind rows) buffer ≡ true
   pub bytes_are : bytes ≡ bytes_of body buffer
@@ -41,7 +44,8 @@ has_room rows view = rows == 0 || nat_le (need_of view.kind rows) (length view.d
 
 -- the buffers lie in the body and are long enough
 abbrev pub have_buffers : List ℕ → ℕ → Kind → BufferPlace → List BufferPlace → Bool
-have_buffers body rows kind validity buffers = is_validity body rows validity && are_buffers body rows (data_needs (values_of kind) rows) buffers
+have_buffers body rows kind validity buffers = is_validity body rows validity
+    && are_buffers body rows (data_needs (values_of kind) rows) buffers
 
 -- The view is that of a column's buffers, which lie in the body and are long enough.
 pub record IsView (body : List ℕ) (rows : ℕ) (kind : Kind) (validity : BufferPlace) (buffers : List BufferPlace) (view : View) : Type 0 where

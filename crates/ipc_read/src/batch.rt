@@ -1,5 +1,6 @@
 //! A record batch, lent from its message's body (IPC format, "RecordBatch message").
-ghost use Rattle.std.specs.Prelude.{◌≡◌, ◌+◌, ◌<◌, ◌^◌, ◌==◌, true, map, IfOk, IsErrOf, Ok, Err, Some, length, pos, slice_get};
+ghost use Rattle.std.specs.Prelude.{◌≡◌, ◌+◌, ◌<◌, ◌^◌, ◌==◌, true, map, IfOk, IsErrOf, Ok, Err};
+ghost use Rattle.std.specs.Prelude.{Some, length, pos, slice_get};
 ghost use Rattle.std.specs.List.{list_all};
 ghost use Rattle.std.specs.Ordering.{int_eq};
 ghost use Rattle.ipc_read.specs.Batches.{have_room, have_slot, row_in, rows_in};
@@ -73,7 +74,7 @@ impl<'a> Batch<'a> {
     }
 }
 
-// So many rows.
+/// So many rows.
 fn rows_of(alloc: Global, views: &[View<'_>], count: usize) -> Result<Rows, AllocError>
     requires { have_room count views.now ≡ true }
     ensures { IfOk result (λ rows. rows ≡ rows_in count views.now) }
@@ -85,7 +86,7 @@ fn rows_of(alloc: Global, views: &[View<'_>], count: usize) -> Result<Rows, Allo
     Ok(Rows::from(rows))
 }
 
-// The row in a slot.
+/// The row in a slot.
 fn row_of(alloc: Global, views: &[View<'_>], i: usize) -> Result<Row, AllocError>
     requires { have_slot i views.now ≡ true }
     ensures { IfOk result (λ row. row ≡ row_in views.now i) }
@@ -97,7 +98,7 @@ fn row_of(alloc: Global, views: &[View<'_>], i: usize) -> Result<Row, AllocError
     Ok(Row::from(cells))
 }
 
-// Whether so many buffers are those of the columns.
+/// Whether so many buffers are those of the columns.
 fn are_buffers_of(columns: &[Column], count: usize) -> bool
     ensures { result ≡ (count == buffer_count columns.now) }
 {
@@ -112,7 +113,7 @@ fn are_buffers_of(columns: &[Column], count: usize) -> bool
     left == 0
 }
 
-// Whether each node has so many slots.
+/// Whether each node has so many slots.
 fn have_slots(nodes: &[FieldNode], rows: u64) -> bool
     ensures { result ≡ list_all (λ node. int_eq node.length (pos rows)) nodes.now }
 {
@@ -121,7 +122,7 @@ fn have_slots(nodes: &[FieldNode], rows: u64) -> bool
         .all(|node| i128::from(node.length) == i128::from(rows))
 }
 
-// The columns of a batch of so many rows, each with its node and its buffers; or the first fault.
+/// The columns of a batch of so many rows, each with its node and its buffers; or the first fault.
 fn views_of<'a>(
     alloc: Global,
     columns: &[Column],
@@ -133,9 +134,11 @@ fn views_of<'a>(
     requires fits { rows < 2 ^ 63 }
     requires a_node_each { length nodes.now ≡ length columns.now }
     requires their_buffers { length buffers.now ≡ buffer_count columns.now }
-    ensures ok { IfOk result (λ views. columns_of body.now rows columns.now nodes.now buffers.now ≡ Ok (map (cells_in rows) views.items)) }
+    ensures ok { IfOk result (λ views. columns_of body.now rows columns.now nodes.now buffers.now
+        ≡ Ok (map (cells_in rows) views.items)) }
     ensures room { IfOk result (λ views. have_room rows views.items ≡ true) }
-    ensures fault { (cause : CauseValue) → IsErrOf result (NotRead.Fault cause) → columns_of body.now rows columns.now nodes.now buffers.now ≡ Err cause }
+    ensures fault { (cause : CauseValue) → IsErrOf result (NotRead.Fault cause)
+        → columns_of body.now rows columns.now nodes.now buffers.now ≡ Err cause }
 {
     let mut views = Vec::with_capacity(alloc, columns.len())?;
     let mut left = buffers;
@@ -162,7 +165,8 @@ pub fn batch_of<'a>(
     requires { meta.now.rows < 2 ^ 63 }
     ensures ok { IfOk result (λ batch. rows_of columns.now meta.now body.now ≡ Ok batch.rows) }
     ensures size { IfOk result (λ batch. batch.size ≡ size) }
-    ensures fault { (cause : CauseValue) → IsErrOf result (NotRead.Fault cause) → rows_of columns.now meta.now body.now ≡ Err cause }
+    ensures fault { (cause : CauseValue) → IsErrOf result (NotRead.Fault cause)
+        → rows_of columns.now meta.now body.now ≡ Err cause }
 {
     let (rows, nodes, buffers) = (meta.rows(), meta.nodes(), meta.buffers());
     if nodes.len() != columns.len() {

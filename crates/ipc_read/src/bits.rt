@@ -5,7 +5,7 @@ ghost use Rattle.stream_spec.specs.Columns.{bit_of, is_valid, null_count_of};
 
 use flat_column::ones_among;
 
-// A bit of a bitmap, 0 behind its end.
+/// A bit of a bitmap, 0 behind its end.
 pub fn bit(bitmap: &[u8], i: usize) -> bool
     ensures { result ≡ bit_of bitmap.now i }
 {
@@ -15,15 +15,15 @@ pub fn bit(bitmap: &[u8], i: usize) -> bool
     }
 }
 
-// Whether the slot has a value.
+/// Whether the slot has a value.
 pub fn is_valid(validity: &[u8], i: usize) -> bool
     ensures { result ≡ is_valid validity.now i }
 {
     validity.is_empty() || bit(validity, i)
 }
 
-// How many slots have none. A bitmap that is long enough is counted by words; behind the end of another no slot has a
-// value.
+/// How many slots have none. A bitmap that is long enough is counted by words; behind the end of
+/// another no slot has a value.
 pub fn null_count(validity: &[u8], rows: usize) -> usize
     ensures { result ≡ null_count_of validity.now rows }
 {

@@ -20,7 +20,7 @@ impl From<Cause> for NotRead {
 
     ghost from_gives = { λ cause e. e ≡ not_read.Fault cause };
 
-    // A fault of the bytes, which `?` hands on.
+    /// A fault of the bytes, which `?` hands on.
     fn from(cause: Cause) -> NotRead {
         NotRead::Fault(cause)
     }
@@ -32,7 +32,7 @@ impl From<AllocError> for NotRead {
 
     ghost from_gives = { λ _ e. e ≡ not_read.Memory };
 
-    // Refused memory, which `?` hands on.
+    /// Refused memory, which `?` hands on.
     fn from(_refused: AllocError) -> NotRead {
         NotRead::Memory
     }
@@ -44,7 +44,7 @@ impl<T: Drop> From<AllocFailed<T>> for NotRead {
 
     ghost from_gives = { λ _ e. e ≡ not_read.Memory };
 
-    // Refused memory of a call that gives its value back, which is dropped here.
+    /// Refused memory of a call that gives its value back, which is dropped here.
     fn from(_refused: AllocFailed<T>) -> NotRead {
         NotRead::Memory
     }
@@ -56,7 +56,7 @@ impl From<arrow_meta::NotRead> for NotRead {
 
     ghost from_gives = { λ met e. e ≡ not_read_of met };
 
-    // What stood in the way of reading the metadata, as that of the message.
+    /// What stood in the way of reading the metadata, as that of the message.
     fn from(met: arrow_meta::NotRead) -> NotRead {
         match met {
             arrow_meta::NotRead::Fault(fault) => NotRead::Fault(cause_of(fault)),
@@ -65,7 +65,7 @@ impl From<arrow_meta::NotRead> for NotRead {
     }
 }
 
-// A fault of the metadata as a stream's cause.
+/// A fault of the metadata as a stream's cause.
 pub fn cause_of(fault: MetaFault) -> Cause
     ensures { result ≡ cause_of fault }
 {

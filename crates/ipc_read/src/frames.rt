@@ -8,19 +8,20 @@ use arrow_meta::read_head;
 use byteorder::{ByteOrder, LittleEndian};
 use stream_spec::{Cause, Head, HeadKind};
 
-// A message: its metadata, and the bytes behind that, with which its body begins; or none, at the
-// end.
+/// A message: its metadata, and the bytes behind that, with which its body begins; or none, at the
+/// end.
 #[derive(Clone, Copy)]
 pub enum Frame<'a> {
     Ended,
     Framed { metadata: &'a [u8], rest: &'a [u8] },
 }
 
-// What stands behind a message's first eight bytes, whose size word this is.
+/// What stands behind a message's first eight bytes, whose size word this is.
 fn sized_frame(first: bool, size: u32, rest: &[u8]) -> Result<Frame<'_>, Cause>
     ensures short { IfOk result (λ f. length (metadata_of f) < 2 ^ 31) }
     ensures whole { IfOk result (Fills (8 + length rest.now)) }
-    ensures frame { MatchResult result (λ f. sized first size rest.now ≡ Ok (frame_value f)) (λ c. sized first size rest.now ≡ Err c) }
+    ensures frame { MatchResult result (λ f. sized first size rest.now ≡ Ok (frame_value f))
+        (λ c. sized first size rest.now ≡ Err c) }
 {
     if size == 0 {
         return if first {
@@ -42,12 +43,13 @@ fn sized_frame(first: bool, size: u32, rest: &[u8]) -> Result<Frame<'_>, Cause>
     })
 }
 
-// The next message. The stream ends with the input or with a size of 0, but not before its first
-// message.
+/// The next message. The stream ends with the input or with a size of 0, but not before its first
+/// message.
 pub fn next_frame(first: bool, bytes: &[u8]) -> Result<Frame<'_>, Cause>
     ensures short { IfOk result (λ f. length (metadata_of f) < 2 ^ 31) }
     ensures whole { IfOk result (Fills (length bytes.now)) }
-    ensures frame { MatchResult result (λ f. frame_of first bytes.now ≡ Ok (frame_value f)) (λ c. frame_of first bytes.now ≡ Err c) }
+    ensures frame { MatchResult result (λ f. frame_of first bytes.now ≡ Ok (frame_value f))
+        (λ c. frame_of first bytes.now ≡ Err c) }
 {
     if bytes.is_empty() {
         return if first {
@@ -68,7 +70,7 @@ pub fn next_frame(first: bool, bytes: &[u8]) -> Result<Frame<'_>, Cause>
     sized_frame(first, LittleEndian::read_u32(&bytes[4..]), &bytes[8..])
 }
 
-// The head is of this kind.
+/// The head is of this kind.
 fn is_of_kind(due: HeadKind, kind: HeadKind) -> bool
     ensures { result ≡ is_of_kind due kind }
 {
@@ -78,7 +80,7 @@ fn is_of_kind(due: HeadKind, kind: HeadKind) -> bool
     }
 }
 
-// A message's head, of the kind that is due, with its body whole.
+/// A message's head, of the kind that is due, with its body whole.
 pub fn due_head(due: HeadKind, metadata: &[u8], rest: &[u8]) -> Result<Head, Cause>
     ensures head { result ≡ due_head due metadata.now rest.now }
     ensures whole { IfOk result (λ h. h.body ≤ length rest.now) }

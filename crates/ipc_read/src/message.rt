@@ -23,15 +23,17 @@ pub enum Next<'a> {
     Fault(Cause),
 }
 
-// The record batch of these columns with which the bytes begin, none where the stream ends.
+/// The record batch of these columns with which the bytes begin, none where the stream ends.
 fn batch_message<'a>(
     alloc: Global,
     columns: &[Column],
     bytes: &'a [u8],
 ) -> Result<Option<Batch<'a>>, NotRead>
     ensures ok { IfOk result (λ batch. next_batch columns.now bytes.now ≡ Ok batch) }
-    ensures inside { IfOk result (λ batch. IfSome batch (λ b. (8 ≤ b.size) × (b.size ≤ length bytes.now))) }
-    ensures fault { (cause : CauseValue) → IsErrOf result (NotRead.Fault cause) → next_batch columns.now bytes.now ≡ Err cause }
+    ensures inside { IfOk result (λ batch. IfSome batch
+        (λ b. (8 ≤ b.size) × (b.size ≤ length bytes.now))) }
+    ensures fault { (cause : CauseValue) → IsErrOf result (NotRead.Fault cause)
+        → next_batch columns.now bytes.now ≡ Err cause }
 {
     let Frame::Framed { metadata, rest } = next_frame(false, bytes)? else {
         return Ok(None);

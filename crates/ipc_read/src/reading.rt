@@ -26,7 +26,11 @@ impl Model for Reading {
 
     ghost Value = { ReadingValue };
 
-    ghost view = { λ r. record { schema = option_map (λ columns. columns.items) r.columns; batches = r.batches.items; fault = r.fault } };
+    ghost view = { λ r. record {
+      schema = option_map (λ columns. columns.items) r.columns;
+      batches = r.batches.items;
+      fault = r.fault;
+    } };
 }
 
 impl Reading {
@@ -71,7 +75,7 @@ pub fn read(alloc: Global, bytes: &[u8]) -> Result<Reading, AllocError>
     }
 }
 
-// What the bytes read as whose schema this is.
+/// What the bytes read as whose schema this is.
 fn with_batches(alloc: Global, schema: SchemaMessage, bytes: &[u8]) -> Result<Reading, AllocError>
     requires schema { first_schema bytes.now ≡ Ok schema }
     requires inside { schema.size ≤ length bytes.now }

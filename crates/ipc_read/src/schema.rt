@@ -54,7 +54,8 @@ impl SchemaMessage {
 pub fn first_schema(alloc: Global, bytes: &[u8]) -> Result<SchemaMessage, NotRead>
     ensures ok { IfOk result (λ schema. first_schema bytes.now ≡ Ok schema) }
     ensures inside { IfOk result (λ schema. schema.size ≤ length bytes.now) }
-    ensures fault { (cause : CauseValue) → IsErrOf result (NotRead.Fault cause) → first_schema bytes.now ≡ Err cause }
+    ensures fault { (cause : CauseValue) → IsErrOf result (NotRead.Fault cause)
+        → first_schema bytes.now ≡ Err cause }
 {
     let Frame::Framed { metadata, rest } = next_frame(true, bytes)? else {
         return Err(NotRead::Fault(Cause::Short));

@@ -6,7 +6,7 @@ use std::process::Abort;
 use std::test::Fail;
 use stream_spec::{Cause, StreamFault};
 
-// The keys 1, 2 and 3 of a table of that one column.
+/// The keys 1, 2 and 3 of a table of that one column.
 const THREE_KEYS: &[u8; 344] = b"\xff\xff\xff\xff\x98\x00\x00\x00\
     \x18\x00\x00\x00\x00\x00\x00\x00\
     \x0c\x00\x14\x00\x10\x00\x12\x00\
@@ -51,8 +51,8 @@ const THREE_KEYS: &[u8; 344] = b"\xff\xff\xff\xff\x98\x00\x00\x00\
     \x03\x00\x00\x00\x00\x00\x00\x00\
     \xff\xff\xff\xff\x00\x00\x00\x00";
 
-// How many of the bytes there are, which of them is another, whether the columns are read, how many
-// batches are, and the fault.
+/// How many of the bytes there are, which of them is another, whether the columns are read, how
+/// many batches are, and the fault.
 #[derive(Drop)]
 struct Case {
     kept: usize,

@@ -1,11 +1,15 @@
 //! A column of a batch, lent from the body (Arrow columnar format, "Buffer Listing for Each
 //! Layout").
-ghost use Rattle.std.specs.Prelude.{◌≡◌, ◌+◌, ◌^◌, ◌≤◌, ◌<◌, false, true, nat_le, IfOk, IsTrue, MatchOption, MatchResult, None, Some, Ok, Err, length, pos};
+ghost use Rattle.std.specs.Prelude.{◌≡◌, ◌+◌, ◌^◌, ◌≤◌, ◌<◌, false, true, nat_le, IfOk, IsTrue};
+ghost use Rattle.std.specs.Prelude.{MatchOption, MatchResult, None, Some, Ok, Err, length, pos};
 ghost use Rattle.std.specs.List.{list_all};
 ghost use Rattle.std.specs.Ordering.{int_eq};
 ghost use Rattle.std.specs.Str.{is_utf8};
-ghost use Rattle.ipc_read.specs.Views.{IsData, IsView, Lies, cell_in, cells_in, data_of, has_room, have_buffers, need_of};
-ghost use Rattle.stream_spec.specs.Columns.{bytes_of, column_of, data_count, has_offsets, is_buffer, is_text, is_validity, lies_in, null_count_of, value_at};
+ghost use Rattle.ipc_read.specs.Views.{IsData, IsView, Lies, cell_in, cells_in, data_of, has_room};
+ghost use Rattle.ipc_read.specs.Views.{have_buffers, need_of};
+ghost use Rattle.stream_spec.specs.Columns.{bytes_of, column_of, data_count, has_offsets};
+ghost use Rattle.stream_spec.specs.Columns.{is_buffer, is_text, is_validity, lies_in};
+ghost use Rattle.stream_spec.specs.Columns.{null_count_of, value_at};
 ghost use Rattle.cell_model.specs.Kinds.{values_of};
 
 use crate::bits::{bit, is_valid, null_count};
@@ -15,7 +19,7 @@ use cell_model::{Bytes, Cell, Kind};
 use std::alloc::{AllocError, Global};
 use stream_spec::{BufferPlace, Cause, FieldNode};
 
-// A column's buffers. Values of any length have their offsets as `data`; others have no `values`.
+/// A column's buffers. Values of any length have their offsets as `data`; others have no `values`.
 #[derive(Clone, Copy)]
 pub struct View<'a> {
     pub kind: Kind,
@@ -24,9 +28,10 @@ pub struct View<'a> {
     pub values: &'a [u8],
 }
 
-// The bytes of a buffer, where it lies in the body.
+/// The bytes of a buffer, where it lies in the body.
 fn piece<'a>(body: &'a [u8], buffer: &BufferPlace) -> Option<&'a [u8]>
-    ensures { MatchOption result (lies_in body.now buffer.now ≡ false) (λ p. Lies body.now buffer.now p.now) }
+    ensures { MatchOption result (lies_in body.now buffer.now ≡ false)
+        (λ p. Lies body.now buffer.now p.now) }
 {
     if buffer.offset < 0 || buffer.length < 0 {
         return None;
@@ -38,10 +43,12 @@ fn piece<'a>(body: &'a [u8], buffer: &BufferPlace) -> Option<&'a [u8]>
     Some(&body[start..start + length])
 }
 
-// A validity, where it lies in the body and is long enough or empty.
+/// A validity, where it lies in the body and is long enough or empty.
 fn validity_piece<'a>(body: &'a [u8], rows: usize, buffer: &BufferPlace) -> Option<&'a [u8]>
     requires { rows < 2 ^ 63 }
-    ensures { MatchOption result (is_validity body.now rows buffer.now ≡ false) (λ p. (is_validity body.now rows buffer.now ≡ true) × (p.now ≡ bytes_of body.now buffer.now)) }
+    ensures { MatchOption result (is_validity body.now rows buffer.now ≡ false)
+        (λ p. (is_validity body.now rows buffer.now ≡ true)
+        × (p.now ≡ bytes_of body.now buffer.now)) }
 {
     let piece = piece(body, buffer)?;
     if rows > 0 && !piece.is_empty() && piece.len() < rows.div_ceil(8) {
@@ -50,7 +57,7 @@ fn validity_piece<'a>(body: &'a [u8], rows: usize, buffer: &BufferPlace) -> Opti
     Some(piece)
 }
 
-// Whether so many bytes are enough for the data of so many rows.
+/// Whether so many bytes are enough for the data of so many rows.
 fn is_enough(kind: Kind, rows: usize, length: usize) -> bool
     requires { rows < 2 ^ 63 }
     ensures { result ≡ nat_le (need_of kind rows) length }
@@ -65,10 +72,11 @@ fn is_enough(kind: Kind, rows: usize, length: usize) -> bool
     }
 }
 
-// The first buffer behind the validity, where it lies in the body and is long enough.
+/// The first buffer behind the validity, where it lies in the body and is long enough.
 fn data_piece<'a>(body: &'a [u8], kind: Kind, rows: usize, buffer: &BufferPlace) -> Option<&'a [u8]>
     requires { rows < 2 ^ 63 }
-    ensures { MatchOption result (is_buffer body.now rows (need_of kind rows) buffer.now ≡ false) (λ p. IsData body.now kind rows buffer.now p.now) }
+    ensures { MatchOption result (is_buffer body.now rows (need_of kind rows) buffer.now ≡ false)
+        (λ p. IsData body.now kind rows buffer.now p.now) }
 {
     let piece = piece(body, buffer)?;
     if rows > 0 && !is_enough(kind, rows, piece.len()) {
@@ -77,7 +85,7 @@ fn data_piece<'a>(body: &'a [u8], kind: Kind, rows: usize, buffer: &BufferPlace)
     Some(piece)
 }
 
-// A column's buffers, where they lie in the body and are long enough for so many rows.
+/// A column's buffers, where they lie in the body and are long enough for so many rows.
 fn lend<'a>(
     body: &'a [u8],
     kind: Kind,
@@ -87,7 +95,8 @@ fn lend<'a>(
 ) -> Option<View<'a>>
     requires fits { rows < 2 ^ 63 }
     requires count { length buffers.now ≡ data_count (values_of kind) }
-    ensures { MatchOption result (have_buffers body.now rows kind validity.now buffers.now ≡ false) (λ v. IsView body.now rows kind validity.now buffers.now v) }
+    ensures { MatchOption result (have_buffers body.now rows kind validity.now buffers.now ≡ false)
+        (λ v. IsView body.now rows kind validity.now buffers.now v) }
 {
     let validity = validity_piece(body, rows, validity)?;
     let data = data_piece(body, kind, rows, &buffers[0])?;
@@ -103,7 +112,7 @@ fn lend<'a>(
     })
 }
 
-// How many buffers stand behind the validity.
+/// How many buffers stand behind the validity.
 pub fn data_count(kind: Kind) -> usize
     ensures { result ≡ data_count (values_of kind) }
 {
@@ -113,7 +122,7 @@ pub fn data_count(kind: Kind) -> usize
     }
 }
 
-// The value in a slot.
+/// The value in a slot.
 fn value_at(alloc: Global, view: &View<'_>, i: usize) -> Result<Cell, AllocError>
     requires { need_of view.now.kind (i + 1) ≤ length view.now.data.now }
     ensures { IfOk result (λ cell. cell ≡ value_at (values_of view.now.kind) (data_of view.now) i) }
@@ -134,7 +143,7 @@ fn value_at(alloc: Global, view: &View<'_>, i: usize) -> Result<Cell, AllocError
     }
 }
 
-// The cell in a slot.
+/// The cell in a slot.
 pub fn cell_at(alloc: Global, view: &View<'_>, i: usize) -> Result<Cell, AllocError>
     requires { need_of view.now.kind (i + 1) ≤ length view.now.data.now }
     ensures { IfOk result (λ cell. cell ≡ cell_in view.now i) }
@@ -146,7 +155,7 @@ pub fn cell_at(alloc: Global, view: &View<'_>, i: usize) -> Result<Cell, AllocEr
     }
 }
 
-// Whether the slot's value is a text where it has to be one.
+/// Whether the slot's value is a text where it has to be one.
 fn is_text_at(view: &View<'_>, i: usize) -> bool
     requires { need_of view.now.kind (i + 1) ≤ length view.now.data.now }
     ensures { result ≡ is_text (cell_in view.now i) }
@@ -157,7 +166,7 @@ fn is_text_at(view: &View<'_>, i: usize) -> bool
     }
 }
 
-// Whether each value is a text where it has to be one.
+/// Whether each value is a text where it has to be one.
 fn are_texts(view: &View<'_>, rows: usize) -> bool
     requires { IsTrue (has_room rows view.now) }
     ensures { result ≡ list_all is_text (cells_in rows view.now) }
@@ -170,7 +179,7 @@ fn are_texts(view: &View<'_>, rows: usize) -> bool
     true
 }
 
-// Whether the offsets are lawful, where the values have any length.
+/// Whether the offsets are lawful, where the values have any length.
 fn has_offsets(view: &View<'_>, rows: usize) -> bool
     requires { IsTrue (has_room rows view.now) }
     ensures { result ≡ has_offsets (values_of view.now.kind) (data_of view.now) rows }
@@ -181,16 +190,16 @@ fn has_offsets(view: &View<'_>, rows: usize) -> bool
     }
 }
 
-// Whether the node counts the slots without a value.
+/// Whether the node counts the slots without a value.
 fn counts_nulls(node: &FieldNode, validity: &[u8], rows: usize) -> bool
     ensures { result ≡ int_eq node.now.null_count (pos (null_count_of validity.now rows)) }
 {
     i128::from(node.null_count) == null_count(validity, rows) as i128
 }
 
-// The column of so many rows with this node and these buffers, lent from the body; or the first
-// fault of the column: a buffer that is not inside the body or too short, a false null count, an
-// unlawful offset, a text that is none.
+/// The column of so many rows with this node and these buffers, lent from the body; or the first
+/// fault of the column: a buffer that is not inside the body or too short, a false null count, an
+/// unlawful offset, a text that is none.
 pub fn column<'a>(
     body: &'a [u8],
     kind: Kind,
@@ -201,7 +210,11 @@ pub fn column<'a>(
 ) -> Result<View<'a>, Cause>
     requires fits { rows < 2 ^ 63 }
     requires count { length buffers.now ≡ data_count (values_of kind) }
-    ensures column { MatchResult result (λ v. column_of body.now rows (values_of kind) node.now.null_count validity.now buffers.now ≡ Ok (cells_in rows v)) (λ cause. column_of body.now rows (values_of kind) node.now.null_count validity.now buffers.now ≡ Err cause) }
+    ensures column { MatchResult result
+        (λ v. column_of body.now rows (values_of kind) node.now.null_count validity.now
+        buffers.now ≡ Ok (cells_in rows v))
+        (λ cause. column_of body.now rows (values_of kind) node.now.null_count validity.now
+        buffers.now ≡ Err cause) }
     ensures room { IfOk result (λ v. IsTrue (has_room rows v)) }
 {
     let Some(view) = lend(body, kind, rows, validity, buffers) else {
@@ -219,7 +232,7 @@ pub fn column<'a>(
     Ok(view)
 }
 
-// Whether the bytes are a text.
+/// Whether the bytes are a text.
 fn is_utf8(bytes: &[u8]) -> bool
     ensures { result ≡ is_utf8 bytes.now }
 {

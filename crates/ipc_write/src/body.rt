@@ -1,6 +1,7 @@
 //! Where the buffers of a record batch lie in its body (Arrow columnar format, "RecordBatch
 //! message").
-ghost use Rattle.std.specs.Prelude.{◌≡◌, ◌<◌, ◌^◌, ◌+◌, ◌++◌, ◌∷◌, [], pos, IfOk, OnOk, length, flat_map};
+ghost use Rattle.std.specs.Prelude.{◌≡◌, ◌<◌, ◌^◌, ◌+◌, ◌++◌, ◌∷◌, [], pos, IfOk, OnOk, length};
+ghost use Rattle.std.specs.Prelude.{flat_map};
 ghost use Rattle.arrow_spec.specs.Batches.{buffer_places};
 ghost use Rattle.arrow_spec.specs.Bytes.{padded};
 
@@ -8,8 +9,8 @@ use crate::lent::LentArray;
 use cell_model::Bytes;
 use std::alloc::{AllocError, Global};
 
-// Buffers one after another, each padded: the place and the length of each, and how many bytes they
-// all have, which are fewer than 2^63.
+/// Buffers one after another, each padded: the place and the length of each, and how many bytes
+/// they all have, which are fewer than 2^63.
 #[derive(Drop)]
 pub struct Body {
     pub places: Vec<(i64, i64)>,
@@ -17,7 +18,7 @@ pub struct Body {
 }
 
 impl Body {
-    // The body of these columns. There is no memory for one of 2^63 bytes or more.
+    /// The body of these columns. There is no memory for one of 2^63 bytes or more.
     pub fn of_arrays(alloc: Global, arrays: &[LentArray<'_>]) -> Result<Body, AllocError>
         ensures places { IfOk result (λ body. body.places.items
             ≡ buffer_places 0 (flat_map (λ array. array.buffers) arrays.now)) }
@@ -35,12 +36,13 @@ impl Body {
         Ok(body)
     }
 
-    // Puts the buffers of a column behind those that are there.
+    /// Puts the buffers of a column behind those that are there.
     fn add_buffers(&mut self, buffers: &[Bytes]) -> Result<(), AllocError>
         requires { self.old.size < 2 ^ 63 }
         ensures places { OnOk result (self.new.places.items
             ≡ self.old.places.items ++ buffer_places self.old.size buffers.now) }
-        ensures size { OnOk result (self.new.size ≡ self.old.size + length (flat_map padded buffers.now)) }
+        ensures size { OnOk result (self.new.size
+            ≡ self.old.size + length (flat_map padded buffers.now)) }
         ensures below { self.new.size < 2 ^ 63 }
     {
         for buffer in buffers {
@@ -49,8 +51,8 @@ impl Body {
         Ok(())
     }
 
-    // Puts a buffer behind those that are there. There is no memory for a body of 2^63 bytes or
-    // more.
+    /// Puts a buffer behind those that are there. There is no memory for a body of 2^63 bytes or
+    /// more.
     fn add_buffer(&mut self, buffer: &[u8]) -> Result<(), AllocError>
         requires { self.old.size < 2 ^ 63 }
         ensures places { OnOk result (self.new.places.items

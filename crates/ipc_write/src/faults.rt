@@ -24,7 +24,7 @@ impl From<SinkFault> for PieceFault {
 
     ghost from_gives = { λ sink f. f ≡ fault.Sink sink };
 
-    // A failed call of the sink, which `?` hands on.
+    /// A failed call of the sink, which `?` hands on.
     fn from(fault: SinkFault) -> PieceFault {
         PieceFault::Sink(fault)
     }
@@ -36,7 +36,7 @@ impl From<AllocError> for PieceFault {
 
     ghost from_gives = { λ refused f. f ≡ fault.Memory refused };
 
-    // Refused memory, which `?` hands on.
+    /// Refused memory, which `?` hands on.
     fn from(refused: AllocError) -> PieceFault {
         PieceFault::Memory(refused)
     }

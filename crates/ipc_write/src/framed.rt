@@ -7,7 +7,7 @@ ghost use Rattle.arrow_spec.specs.Streams.{continuation};
 use byteorder::{ByteOrder, LittleEndian};
 use std::alloc::{AllocError, Global};
 
-// Four bytes FF, the size of the metadata with its padding, and the metadata with its padding.
+/// Four bytes FF, the size of the metadata with its padding, and the metadata with its padding.
 pub fn framed(alloc: Global, metadata: &[u8]) -> Result<Vec<u8>, AllocError>
     requires { length metadata.now < 2 ^ 31 }
     ensures { IfOk result (λ bytes. bytes.items
@@ -22,7 +22,7 @@ pub fn framed(alloc: Global, metadata: &[u8]) -> Result<Vec<u8>, AllocError>
     Ok(bytes)
 }
 
-// Adds a number of four bytes, the lowest first.
+/// Adds a number of four bytes, the lowest first.
 fn add_u32(bytes: &mut Vec<u8>, number: u32) -> Result<(), AllocError>
     ensures { OnOk result (bytes.new.items ≡ bytes.old.items ++ to_le_bytes w32 number) }
 {

@@ -10,7 +10,7 @@ use cell_model::{Buffers, Bytes};
 use std::alloc::{AllocError, Global};
 use std::marker::Model;
 
-// A column of a batch, lent: how many of its slots are null, and its buffers.
+/// A column of a batch, lent: how many of its slots are null, and its buffers.
 #[derive(Drop)]
 pub struct LentArray<'a> {
     nulls: u32,
@@ -26,14 +26,14 @@ impl<'a> Model for LentArray<'a> {
 }
 
 impl<'a> LentArray<'a> {
-    // How many slots are null.
+    /// How many slots are null.
     pub fn nulls(&self) -> u32
         ensures { result ≡ self.now.nulls }
     {
         self.nulls
     }
 
-    // The validity, then the data.
+    /// The validity, then the data.
     pub fn buffers(&self) -> &[Bytes]
         ensures { result.now ≡ self.now.buffers }
     {
@@ -41,7 +41,7 @@ impl<'a> LentArray<'a> {
     }
 }
 
-// The columns of a batch.
+/// The columns of a batch.
 pub fn of_batch<'a>(alloc: Global, arrays: &'a [Array]) -> Result<Vec<LentArray<'a>>, AllocError>
     ensures { IfOk result (λ lent. lent.items ≡ arrays.now) }
 {
@@ -55,7 +55,7 @@ pub fn of_batch<'a>(alloc: Global, arrays: &'a [Array]) -> Result<Vec<LentArray<
     Ok(lent)
 }
 
-// The columns of the batch of an image's rows.
+/// The columns of the batch of an image's rows.
 pub fn of_image<'a>(alloc: Global, image: &'a Image) -> Result<Vec<LentArray<'a>>, AllocError>
     requires { IsWhole image.now }
     ensures { IfOk result (λ lent. lent.items ≡ arrays_of image.now.columns (rows_of image.now)) }
@@ -68,7 +68,7 @@ pub fn of_image<'a>(alloc: Global, image: &'a Image) -> Result<Vec<LentArray<'a>
     Ok(lent)
 }
 
-// A column of an image.
+/// A column of an image.
 fn lent_at<'a>(image: &'a Image, at: usize) -> LentArray<'a>
     requires whole { IsWhole image.now }
     requires at { at < length image.now.columns }

@@ -1,4 +1,5 @@
-//! Writes an Arrow stream to a sink, piece by piece (Arrow columnar format, "IPC Streaming Format").
+//! Writes an Arrow stream to a sink, piece by piece (Arrow columnar format, "IPC Streaming
+//! Format").
 #![tactic(auto)]
 
 mod body;

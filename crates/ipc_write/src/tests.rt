@@ -10,7 +10,7 @@ use cell_model::{Bytes, Cell, Column, Kind, Row, Schema, are_named};
 use std::alloc::Global;
 use std::test::Fail;
 
-// The schema of `key:i64 v:utf8?`, and the end word.
+/// The schema of `key:i64 v:utf8?`, and the end word.
 const STREAM: &[u8; 232] = b"\xff\xff\xff\xff\xd8\x00\x00\x00\
     \x18\x00\x00\x00\x00\x00\x00\x00\
     \x0c\x00\x14\x00\x10\x00\x12\x00\
@@ -41,7 +41,7 @@ const STREAM: &[u8; 232] = b"\xff\xff\xff\xff\xd8\x00\x00\x00\
     \x08\x00\x00\x00\x00\x00\x00\x00\
     \xff\xff\xff\xff\x00\x00\x00\x00";
 
-// The keys 1, 2 and 3 of a table of that one column.
+/// The keys 1, 2 and 3 of a table of that one column.
 const THREE_KEYS: &[u8; 344] = b"\xff\xff\xff\xff\x98\x00\x00\x00\
     \x18\x00\x00\x00\x00\x00\x00\x00\
     \x0c\x00\x14\x00\x10\x00\x12\x00\
@@ -86,7 +86,8 @@ const THREE_KEYS: &[u8; 344] = b"\xff\xff\xff\xff\x98\x00\x00\x00\
     \x03\x00\x00\x00\x00\x00\x00\x00\
     \xff\xff\xff\xff\x00\x00\x00\x00";
 
-// The body of the rows `1 -3 true x00ff` and `2 null null null` of `key:i64 p:i8? q:bool? r:binary?`.
+/// The body of the rows `1 -3 true x00ff` and `2 null null null` of `key:i64 p:i8? q:bool?
+/// r:binary?`.
 const MIXED_BODY: &[u8; 80] = b"\x01\x00\x00\x00\x00\x00\x00\x00\
     \x02\x00\x00\x00\x00\x00\x00\x00\
     \x01\x00\x00\x00\x00\x00\x00\x00\
@@ -98,8 +99,8 @@ const MIXED_BODY: &[u8; 80] = b"\x01\x00\x00\x00\x00\x00\x00\x00\
     \x02\x00\x00\x00\x00\x00\x00\x00\
     \x00\xff\x00\x00\x00\x00\x00\x00";
 
-// Which calls of the sink fail, what the calls `schema`, `rows` and `finish` answer, and how many bytes
-// went out.
+/// Which calls of the sink fail, what the calls `schema`, `rows` and `finish` answer, and how many
+/// bytes went out.
 struct Case {
     failing: &'static [u64],
     schema: Result<(), PieceFault>,
@@ -258,7 +259,7 @@ fn schema(alloc: Global, columns: &[(&'static str, Kind, bool)]) -> Result<Schem
     }
 }
 
-// The columns `key:i64 p:i8? q:bool? r:binary?`.
+/// The columns `key:i64 p:i8? q:bool? r:binary?`.
 fn mixed_schema(alloc: Global) -> Result<Schema, Fail> {
     let columns = [
         ("key", Kind::I64, false),
@@ -269,7 +270,7 @@ fn mixed_schema(alloc: Global) -> Result<Schema, Fail> {
     schema(alloc, columns.as_slice())
 }
 
-// The rows `1 -3 true x00ff` and `2 null null null`.
+/// The rows `1 -3 true x00ff` and `2 null null null`.
 fn mixed_rows(alloc: Global) -> Result<Vec<Row>, Fail> {
     let blob = Cell::Blob(Bytes::from_slice(alloc, [0x00, 0xff].as_slice())?);
     let first = vec![in alloc; Cell::Num(1), Cell::Num(-3), Cell::Truth(true), blob]?;
@@ -285,7 +286,7 @@ fn key_rows(alloc: Global, keys: &[i64]) -> Result<Vec<Row>, Fail> {
     Ok(rows)
 }
 
-// Rows of these keys, each with the text "x".
+/// Rows of these keys, each with the text "x".
 fn x_rows(alloc: Global, keys: &[i128]) -> Result<Vec<Row>, Fail> {
     let mut rows = Vec::new(alloc);
     for key in keys {

@@ -1,8 +1,10 @@
 //! The writer of a stream, piece by piece, to a sink of which a call may fail.
-ghost use Rattle.std.specs.Prelude.{◌≡◌, ◌++◌, ◌+◌, ◌<◌, ◌≤◌, ◌^◌, false, pos, All, IfOk, length, map, flat_map};
+ghost use Rattle.std.specs.Prelude.{◌≡◌, ◌++◌, ◌+◌, ◌<◌, ◌≤◌, ◌^◌, false, pos, All, IfOk, length};
+ghost use Rattle.std.specs.Prelude.{map, flat_map};
 ghost use Rattle.arrow_spec.specs.Batches.{batch_of_arrays};
 ghost use Rattle.arrow_spec.specs.Bytes.{padded};
-ghost use Rattle.arrow_spec.specs.Streams.{schema_message, message_of_batch, batch_message, end_word};
+ghost use Rattle.arrow_spec.specs.Streams.{schema_message, message_of_batch, batch_message};
+ghost use Rattle.arrow_spec.specs.Streams.{end_word};
 ghost use Rattle.byte_ports.specs.Calls.{TellsAlike};
 ghost use Rattle.cell_model.specs.Rows.{Fits};
 ghost use Rattle.arrow_array.specs.Batches.{AreFew};
@@ -21,8 +23,8 @@ use cell_model::{Bytes, Row, Schema};
 use std::alloc::{AllocError, Global};
 use std::marker::Model;
 
-/// Writes the pieces of a stream to a sink: the message of a schema, those of record batches, and the
-/// end word (Arrow columnar format, "IPC Streaming Format").
+/// Writes the pieces of a stream to a sink: the message of a schema, those of record batches, and
+/// the end word (Arrow columnar format, "IPC Streaming Format").
 ///
 /// Once a call of the sink has failed, each call answers `SinkFault { earlier: true }` and writes
 /// nothing.
@@ -61,7 +63,8 @@ impl<W: Sink> Writer<W> {
 
     /// Writes the message of a schema, with which a stream begins.
     pub fn schema(&mut self, alloc: Global, schema: &Schema) -> Result<(), PieceFault>
-        ensures answer { MakesPiece W.written W.faults self.old self.new (schema_message schema.now) result }
+        ensures answer { MakesPiece W.written W.faults self.old self.new (schema_message schema.now)
+            result }
         ensures told { TellsAlike (W.written self.old.0) (W.written self.new.0) }
         ensures started { W.started self.new.0 ≡ W.started self.old.0 }
         ensures loan { W.loan self.new.0 ≡ W.loan self.old.0 }
@@ -159,7 +162,7 @@ impl<W: Sink> Writer<W> {
         self.write(&[0xff, 0xff, 0xff, 0xff, 0, 0, 0, 0])
     }
 
-    // Writes the message of a record batch of so many rows with these columns.
+    /// Writes the message of a record batch of so many rows with these columns.
     fn arrays(
         &mut self,
         alloc: Global,
@@ -187,7 +190,7 @@ impl<W: Sink> Writer<W> {
         }
     }
 
-    // Writes what stands before a body, and then the body of these columns.
+    /// Writes what stands before a body, and then the body of these columns.
     fn message(&mut self, head: &[u8], arrays: &[LentArray<'_>]) -> Result<(), SinkFault>
         requires { self.old.1 ≡ false }
         ensures answer { WritesPiece
@@ -208,7 +211,7 @@ impl<W: Sink> Writer<W> {
         }
     }
 
-    // Writes the body of these columns.
+    /// Writes the body of these columns.
     fn body(&mut self, arrays: &[LentArray<'_>]) -> Result<(), SinkFault>
         requires { self.old.1 ≡ false }
         ensures answer { WritesPiece
@@ -232,10 +235,11 @@ impl<W: Sink> Writer<W> {
         Ok(())
     }
 
-    // Writes buffers one after another, each padded.
+    /// Writes buffers one after another, each padded.
     fn buffers(&mut self, buffers: &[Bytes]) -> Result<(), SinkFault>
         requires { self.old.1 ≡ false }
-        ensures answer { WritesPiece W.written W.faults self.old self.new (flat_map padded buffers.now) result }
+        ensures answer { WritesPiece W.written W.faults self.old self.new
+            (flat_map padded buffers.now) result }
         ensures told { TellsAlike (W.written self.old.0) (W.written self.new.0) }
         ensures started { W.started self.new.0 ≡ W.started self.old.0 }
         ensures loan { W.loan self.new.0 ≡ W.loan self.old.0 }
@@ -250,9 +254,10 @@ impl<W: Sink> Writer<W> {
         Ok(())
     }
 
-    // Writes a buffer and its padding.
+    /// Writes a buffer and its padding.
     fn padded(&mut self, buffer: &[u8]) -> Result<(), SinkFault>
-        ensures answer { WritesPiece W.written W.faults self.old self.new (padded buffer.now) result }
+        ensures answer { WritesPiece W.written W.faults self.old self.new (padded buffer.now)
+            result }
         ensures told { TellsAlike (W.written self.old.0) (W.written self.new.0) }
         ensures started { W.started self.new.0 ≡ W.started self.old.0 }
         ensures loan { W.loan self.new.0 ≡ W.loan self.old.0 }
@@ -266,7 +271,7 @@ impl<W: Sink> Writer<W> {
         }
     }
 
-    // Writes a piece, unless a call of the sink has failed.
+    /// Writes a piece, unless a call of the sink has failed.
     fn write(&mut self, piece: &[u8]) -> Result<(), SinkFault>
         ensures answer { WritesPiece W.written W.faults self.old self.new piece.now result }
         ensures told { TellsAlike (W.written self.old.0) (W.written self.new.0) }
@@ -287,7 +292,7 @@ impl<W: Sink> Writer<W> {
     }
 }
 
-// The message of a schema.
+/// The message of a schema.
 fn schema_piece(alloc: Global, schema: &Schema) -> Result<Vec<u8>, AllocError>
     ensures { IfOk result (λ bytes. bytes.items ≡ schema_message schema.now) }
 {
@@ -295,7 +300,7 @@ fn schema_piece(alloc: Global, schema: &Schema) -> Result<Vec<u8>, AllocError>
     framed(alloc, metadata.as_slice())
 }
 
-// What stands before the body in the message of a record batch.
+/// What stands before the body in the message of a record batch.
 fn batch_head(alloc: Global, rows: u32, arrays: &[LentArray<'_>]) -> Result<Vec<u8>, AllocError>
     requires { AreFew arrays.now }
     ensures { IfOk result (λ head.
@@ -314,9 +319,10 @@ fn batch_head(alloc: Global, rows: u32, arrays: &[LentArray<'_>]) -> Result<Vec<
     framed(alloc, metadata.as_slice())
 }
 
-// A node for each column: the rows and the nulls.
+/// A node for each column: the rows and the nulls.
 fn nodes(alloc: Global, rows: u32, arrays: &[LentArray<'_>]) -> Result<Vec<(i64, i64)>, AllocError>
-    ensures { IfOk result (λ nodes. nodes.items ≡ map (λ array. (pos rows, pos array.nulls)) arrays.now) }
+    ensures { IfOk result (λ nodes. nodes.items
+        ≡ map (λ array. (pos rows, pos array.nulls)) arrays.now) }
 {
     arrays
         .iter()

@@ -1,11 +1,14 @@
--- Rows that are only inserted, into one table: what the inserts write, and the commits of nothing else.
-use Rattle.std.specs.Prelude.{ℕ, Bool, true, not, ◌&&◌, List, [], ◌∷◌, map, fold, flat_map, find, length, ℤ, Option, None, Some}
+-- Rows that are only inserted, into one table: what the inserts write, and the commits of nothing
+-- else.
+use Rattle.std.specs.Prelude.{ℕ, Bool, true, not, ◌&&◌, List, [], ◌∷◌, map, fold, flat_map, find}
+use Rattle.std.specs.Prelude.{length, ℤ, Option, None, Some}
 use Rattle.std.specs.BTreeMap.{insert_entry}
 use Rattle.std.specs.Int.{int_min}
 use Rattle.std.specs.List.{list_any}
 use Rattle.std.specs.Ordering.{int_eq}
 use Rattle.cell_model.specs.declared.cell.Cell.{Cell}
-use Rattle.isolation_spec.specs.Contents.{place_cmp, State, WriteSet, History, state_at, key_of, place_of}
+use Rattle.isolation_spec.specs.Contents.{place_cmp, State, WriteSet, History, state_at, key_of}
+use Rattle.isolation_spec.specs.Contents.{place_of}
 
 -- one of the rows has the key
 abbrev pub has_key : ℤ → List (List Cell) → Bool
@@ -22,7 +25,8 @@ row_at key rows = find (λ row. int_eq (key_of row) key) rows
 
 -- the write set of inserts of these rows into a table
 abbrev pub writes_of : ℕ → List (List Cell) → WriteSet
-writes_of table rows = fold (λ own row. insert_entry place_cmp own (place_of table row) (Some row)) [] rows
+writes_of table rows = fold (λ own row. insert_entry place_cmp own (place_of table row) (Some row))
+    [] rows
 
 -- the history of commits, each of inserts of one group of rows
 abbrev pub history_of : ℕ → List (List (List Cell)) → History

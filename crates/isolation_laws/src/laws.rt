@@ -1,5 +1,10 @@
 //! Laws of inserts.
-ghost use Rattle.isolation_laws.specs.Laws.{CommitsOneMore, DistinctWithOneMore, FindsTheRow, FindsWhereThereIsOne, FrontIsDistinct, HoldsAsMany, HoldsTheRows, KeysOfBoth, LeastIsAtMostEach, LeastOfOneMore, LeavesOtherTables, MissesWhereThereIsNone, StateAfterTheHistory, WritesOneMore, WritesSomething, WritesTheLeastKey};
+ghost use Rattle.isolation_laws.specs.Laws.{CommitsOneMore, DistinctWithOneMore, FindsTheRow};
+ghost use Rattle.isolation_laws.specs.Laws.{FindsWhereThereIsOne, FrontIsDistinct, HoldsAsMany};
+ghost use Rattle.isolation_laws.specs.Laws.{HoldsTheRows, KeysOfBoth, LeastIsAtMostEach};
+ghost use Rattle.isolation_laws.specs.Laws.{LeastOfOneMore, LeavesOtherTables};
+ghost use Rattle.isolation_laws.specs.Laws.{MissesWhereThereIsNone, StateAfterTheHistory};
+ghost use Rattle.isolation_laws.specs.Laws.{WritesOneMore, WritesSomething, WritesTheLeastKey};
 
 /// At each key is seen the row that has it, of those committed and of the transaction's own.
 pub fn the_row_of_a_key_is_found()
@@ -30,7 +35,8 @@ pub fn each_row_is_written()
     ensures some { WritesSomething }
 {}
 
-/// One more commit is one more write set, and the state after the whole history is that after all of them.
+/// One more commit is one more write set, and the state after the whole history is that after all
+/// of them.
 pub fn each_commit_is_a_write_set()
     ensures more { CommitsOneMore }
     ensures whole { StateAfterTheHistory }

@@ -1,4 +1,5 @@
-//! Laws of snapshot isolation: what is seen of a table that only takes inserts of rows with distinct keys.
+//! Laws of snapshot isolation: what is seen of a table that only takes inserts of rows with
+//! distinct keys.
 #![tactic(auto)]
 
 pub mod laws;

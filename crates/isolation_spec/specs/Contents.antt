@@ -1,5 +1,6 @@
 -- State of several tables as finite maps, and what write sets make of them.
-use Rattle.std.specs.Prelude.{ℕ, Bool, ◌==◌, List, [], ◌∷◌, ℤ, pos, take, fold, filter_map, if◌then◌else◌, Option, None, Some}
+use Rattle.std.specs.Prelude.{ℕ, Bool, ◌==◌, List, [], ◌∷◌, ℤ, pos, take, fold, filter_map}
+use Rattle.std.specs.Prelude.{if◌then◌else◌, Option, None, Some}
 use Rattle.std.specs.Ordering.{nat_cmp, int_cmp, ordering_then, is_eq}
 use Rattle.std.specs.declared.cmp.Ordering.{Ordering}
 use Rattle.std.specs.BTreeMap.{insert_entry}
@@ -28,7 +29,8 @@ at_place entries place = lookup (is_place place) entries
 abbrev pub State : Type 0
 State = PlaceMap (List Cell)
 
--- A write set: at each place that a transaction wrote, the row that it left there, or none where the row is gone.
+-- A write set: at each place that a transaction wrote, the row that it left there, or none where
+-- the row is gone.
 abbrev pub WriteSet : Type 0
 WriteSet = PlaceMap (Option (List Cell))
 
@@ -51,7 +53,8 @@ state_at history n = fold laid_over [] (take n history)
 
 -- The contents of a table: its rows, in the order of their keys.
 abbrev pub contents_of : ℕ → State → List (List Cell)
-contents_of table rows = filter_map (λ entry. if entry.0.table == table then Some entry.1 else None) rows
+contents_of table rows = filter_map (λ entry. if entry.0.table == table then Some entry.1 else None)
+    rows
 
 -- the key of a row, the number in its first cell
 abbrev pub key_of : List Cell → ℤ

@@ -49,69 +49,94 @@ Answers commands answers = answers_from opening commands ≡ answers
 abbrev pub OlderSnapshot : Type 0
 OlderSnapshot = Answers
     (begin 1 ∷ begin 2 ∷ insert 2 5 (codes "x") ∷ commit 2 ∷ get 1 5 ∷ [])
-    (answer.At 0 ∷ answer.At 0 ∷ answer.Accepted ∷ answer.Committed (Some 1) ∷ answer.Found None ∷ [])
+    (answer.At 0 ∷ answer.At 0 ∷ answer.Accepted ∷ answer.Committed (Some 1) ∷ answer.Found None
+    ∷ [])
 
 abbrev pub OpenRival : Type 0
 OpenRival = Answers
-    (begin 1 ∷ insert 1 7 (codes "x") ∷ begin 2 ∷ insert 2 7 (codes "y") ∷ abort 1 ∷ insert 2 7 (codes "y") ∷ [])
-    (answer.At 0 ∷ answer.Accepted ∷ answer.At 0 ∷ answer.ConflictSession 1 ∷ answer.Aborted ∷ answer.Accepted ∷ [])
+    (begin 1 ∷ insert 1 7 (codes "x") ∷ begin 2 ∷ insert 2 7 (codes "y") ∷ abort 1 ∷ insert 2 7
+    (codes "y") ∷ [])
+    (answer.At 0 ∷ answer.Accepted ∷ answer.At 0 ∷ answer.ConflictSession 1 ∷ answer.Aborted
+    ∷ answer.Accepted ∷ [])
 
 -- although the key is missing at the snapshot
 abbrev pub LaterCommit : Type 0
 LaterCommit = Answers
     (begin 1 ∷ begin 2 ∷ insert 2 5 (codes "x") ∷ commit 2 ∷ update 1 5 (codes "z") ∷ [])
-    (answer.At 0 ∷ answer.At 0 ∷ answer.Accepted ∷ answer.Committed (Some 1) ∷ answer.ConflictCommit 1 ∷ [])
+    (answer.At 0 ∷ answer.At 0 ∷ answer.Accepted ∷ answer.Committed (Some 1) ∷ answer.ConflictCommit
+    1 ∷ [])
 
 abbrev pub LastCommit : Type 0
 LastCommit = Answers
-    (begin 1 ∷ begin 2 ∷ insert 2 5 (codes "x") ∷ commit 2 ∷ begin 2 ∷ delete 2 5 ∷ commit 2 ∷ begin 2 ∷ insert 2 6 (codes "x") ∷ commit 2 ∷ insert 1 5 (codes "z") ∷ [])
-    (answer.At 0 ∷ answer.At 0 ∷ answer.Accepted ∷ answer.Committed (Some 1) ∷ answer.At 1 ∷ answer.Accepted ∷ answer.Committed (Some 2) ∷ answer.At 2 ∷ answer.Accepted ∷ answer.Committed (Some 3) ∷ answer.ConflictCommit 2 ∷ [])
+    (begin 1 ∷ begin 2 ∷ insert 2 5 (codes "x") ∷ commit 2 ∷ begin 2 ∷ delete 2 5 ∷ commit 2 ∷ begin
+    2 ∷ insert 2 6 (codes "x") ∷ commit 2 ∷ insert 1 5 (codes "z") ∷ [])
+    (answer.At 0 ∷ answer.At 0 ∷ answer.Accepted ∷ answer.Committed (Some 1) ∷ answer.At 1
+    ∷ answer.Accepted ∷ answer.Committed (Some 2) ∷ answer.At 2 ∷ answer.Accepted
+    ∷ answer.Committed (Some 3) ∷ answer.ConflictCommit 2 ∷ [])
 
 abbrev pub SessionFirst : Type 0
 SessionFirst = Answers
-    (begin 1 ∷ begin 2 ∷ insert 2 5 (codes "x") ∷ commit 2 ∷ begin 3 ∷ update 3 5 (codes "y") ∷ update 1 5 (codes "z") ∷ [])
-    (answer.At 0 ∷ answer.At 0 ∷ answer.Accepted ∷ answer.Committed (Some 1) ∷ answer.At 1 ∷ answer.Accepted ∷ answer.ConflictSession 3 ∷ [])
+    (begin 1 ∷ begin 2 ∷ insert 2 5 (codes "x") ∷ commit 2 ∷ begin 3 ∷ update 3 5 (codes "y")
+    ∷ update 1 5 (codes "z") ∷ [])
+    (answer.At 0 ∷ answer.At 0 ∷ answer.Accepted ∷ answer.Committed (Some 1) ∷ answer.At 1
+    ∷ answer.Accepted ∷ answer.ConflictSession 3 ∷ [])
 
 abbrev pub GoneIsAWrite : Type 0
 GoneIsAWrite = Answers
-    (begin 1 ∷ insert 1 7 (codes "x") ∷ delete 1 7 ∷ begin 2 ∷ insert 2 7 (codes "y") ∷ commit 1 ∷ insert 2 7 (codes "y") ∷ [])
-    (answer.At 0 ∷ answer.Accepted ∷ answer.Accepted ∷ answer.At 0 ∷ answer.ConflictSession 1 ∷ answer.Committed (Some 1) ∷ answer.ConflictCommit 1 ∷ [])
+    (begin 1 ∷ insert 1 7 (codes "x") ∷ delete 1 7 ∷ begin 2 ∷ insert 2 7 (codes "y") ∷ commit 1
+    ∷ insert 2 7 (codes "y") ∷ [])
+    (answer.At 0 ∷ answer.Accepted ∷ answer.Accepted ∷ answer.At 0 ∷ answer.ConflictSession 1
+    ∷ answer.Committed (Some 1) ∷ answer.ConflictCommit 1 ∷ [])
 
 abbrev pub OneKeyThrice : Type 0
 OneKeyThrice = Answers
-    (begin 1 ∷ insert 1 3 (codes "x") ∷ insert 1 3 (codes "w") ∷ delete 1 3 ∷ delete 1 3 ∷ insert 1 3 (codes "y") ∷ commit 1 ∷ begin 1 ∷ get 1 3 ∷ [])
-    (answer.At 0 ∷ answer.Accepted ∷ answer.Exists ∷ answer.Accepted ∷ answer.Missing ∷ answer.Accepted ∷ answer.Committed (Some 1) ∷ answer.At 1 ∷ answer.Found (Some (row_of 3 (codes "y"))) ∷ [])
+    (begin 1 ∷ insert 1 3 (codes "x") ∷ insert 1 3 (codes "w") ∷ delete 1 3 ∷ delete 1 3 ∷ insert 1
+    3 (codes "y") ∷ commit 1 ∷ begin 1 ∷ get 1 3 ∷ [])
+    (answer.At 0 ∷ answer.Accepted ∷ answer.Exists ∷ answer.Accepted ∷ answer.Missing
+    ∷ answer.Accepted ∷ answer.Committed (Some 1) ∷ answer.At 1 ∷ answer.Found
+    (Some (row_of 3 (codes "y"))) ∷ [])
 
 abbrev pub OwnWrites : Type 0
 OwnWrites = Answers
-    (begin 1 ∷ insert 1 2 (codes "x") ∷ insert 1 1 (codes "y") ∷ commit 1 ∷ begin 1 ∷ delete 1 2 ∷ insert 1 3 (codes "z") ∷ scan 1 ∷ abort 1 ∷ begin 1 ∷ scan 1 ∷ [])
-    (answer.At 0 ∷ answer.Accepted ∷ answer.Accepted ∷ answer.Committed (Some 1) ∷ answer.At 1 ∷ answer.Accepted ∷ answer.Accepted
+    (begin 1 ∷ insert 1 2 (codes "x") ∷ insert 1 1 (codes "y") ∷ commit 1 ∷ begin 1 ∷ delete 1 2
+    ∷ insert 1 3 (codes "z") ∷ scan 1 ∷ abort 1 ∷ begin 1 ∷ scan 1 ∷ [])
+    (answer.At 0 ∷ answer.Accepted ∷ answer.Accepted ∷ answer.Committed (Some 1) ∷ answer.At 1
+    ∷ answer.Accepted ∷ answer.Accepted
     ∷ answer.Rows (row_of 1 (codes "y") ∷ row_of 3 (codes "z") ∷ []) ∷ answer.Aborted ∷ answer.At 1
     ∷ answer.Rows (row_of 1 (codes "y") ∷ row_of 2 (codes "x") ∷ []) ∷ [])
 
 abbrev pub NoTransaction : Type 0
 NoTransaction = Answers
     (get 1 1 ∷ begin 1 ∷ begin 1 ∷ commit 1 ∷ begin 1 ∷ abort 1 ∷ commit 1 ∷ [])
-    (answer.NoTransaction ∷ answer.At 0 ∷ answer.InTransaction ∷ answer.Committed None ∷ answer.At 0 ∷ answer.Aborted ∷ answer.NoTransaction ∷ [])
+    (answer.NoTransaction ∷ answer.At 0 ∷ answer.InTransaction ∷ answer.Committed None ∷ answer.At 0
+    ∷ answer.Aborted ∷ answer.NoTransaction ∷ [])
 
 -- an update stands until it is committed, and an older snapshot scans the row as it was
 abbrev pub OlderScan : Type 0
 OlderScan = Answers
-    (begin 1 ∷ insert 1 5 (codes "x") ∷ commit 1 ∷ begin 1 ∷ begin 2 ∷ update 2 5 (codes "y") ∷ get 2 5 ∷ commit 2 ∷ scan 1 ∷ commit 1 ∷ begin 1 ∷ get 1 5 ∷ [])
-    (answer.At 0 ∷ answer.Accepted ∷ answer.Committed (Some 1) ∷ answer.At 1 ∷ answer.At 1 ∷ answer.Accepted ∷ answer.Found (Some (row_of 5 (codes "y")))
-    ∷ answer.Committed (Some 2) ∷ answer.Rows (row_of 5 (codes "x") ∷ []) ∷ answer.Committed None ∷ answer.At 2 ∷ answer.Found (Some (row_of 5 (codes "y"))) ∷ [])
+    (begin 1 ∷ insert 1 5 (codes "x") ∷ commit 1 ∷ begin 1 ∷ begin 2 ∷ update 2 5 (codes "y") ∷ get
+    2 5 ∷ commit 2 ∷ scan 1 ∷ commit 1 ∷ begin 1 ∷ get 1 5 ∷ [])
+    (answer.At 0 ∷ answer.Accepted ∷ answer.Committed (Some 1) ∷ answer.At 1 ∷ answer.At 1
+    ∷ answer.Accepted ∷ answer.Found (Some (row_of 5 (codes "y")))
+    ∷ answer.Committed (Some 2) ∷ answer.Rows (row_of 5 (codes "x") ∷ []) ∷ answer.Committed None
+    ∷ answer.At 2 ∷ answer.Found (Some (row_of 5 (codes "y"))) ∷ [])
 
 -- although the key has a row at the snapshot
 abbrev pub ConflictBeforeExists : Type 0
 ConflictBeforeExists = Answers
-    (begin 1 ∷ insert 1 5 (codes "x") ∷ commit 1 ∷ begin 1 ∷ begin 2 ∷ update 2 5 (codes "y") ∷ insert 1 5 (codes "z") ∷ [])
-    (answer.At 0 ∷ answer.Accepted ∷ answer.Committed (Some 1) ∷ answer.At 1 ∷ answer.At 1 ∷ answer.Accepted ∷ answer.ConflictSession 2 ∷ [])
+    (begin 1 ∷ insert 1 5 (codes "x") ∷ commit 1 ∷ begin 1 ∷ begin 2 ∷ update 2 5 (codes "y")
+    ∷ insert 1 5 (codes "z") ∷ [])
+    (answer.At 0 ∷ answer.Accepted ∷ answer.Committed (Some 1) ∷ answer.At 1 ∷ answer.At 1
+    ∷ answer.Accepted ∷ answer.ConflictSession 2 ∷ [])
 
 -- one key in two tables
 abbrev pub TwoTables : Type 0
 TwoTables = Answers
-    (begin 1 ∷ insert 1 5 (codes "x") ∷ asks 1 (act.Insert 1 (row_of 5 (codes "y"))) ∷ commit 1 ∷ begin 1 ∷ scan 1 ∷ asks 1 (act.Scan 1) ∷ asks 1 (act.Delete 1 (pos 5)) ∷ scan 1 ∷ asks 1 (act.Scan 1) ∷ [])
-    (answer.At 0 ∷ answer.Accepted ∷ answer.Accepted ∷ answer.Committed (Some 1) ∷ answer.At 1 ∷ answer.Rows (row_of 5 (codes "x") ∷ []) ∷ answer.Rows (row_of 5 (codes "y") ∷ [])
+    (begin 1 ∷ insert 1 5 (codes "x") ∷ asks 1 (act.Insert 1 (row_of 5 (codes "y"))) ∷ commit 1
+    ∷ begin 1 ∷ scan 1 ∷ asks 1 (act.Scan 1) ∷ asks 1 (act.Delete 1 (pos 5)) ∷ scan 1 ∷ asks 1
+    (act.Scan 1) ∷ [])
+    (answer.At 0 ∷ answer.Accepted ∷ answer.Accepted ∷ answer.Committed (Some 1) ∷ answer.At 1
+    ∷ answer.Rows (row_of 5 (codes "x") ∷ []) ∷ answer.Rows (row_of 5 (codes "y") ∷ [])
     ∷ answer.Accepted ∷ answer.Rows (row_of 5 (codes "x") ∷ []) ∷ answer.Rows [] ∷ [])
 
 -- the machine after a command
@@ -120,7 +145,8 @@ after command machine = (step machine command).1
 
 -- a store that has answered `begin` may be full, or refuse memory to an insert, and nothing changes
 abbrev pub FullIsAllowed : Type 0
-FullIsAllowed = Allows (after (begin 1) opening) (insert 1 5 (codes "x")) Full (after (begin 1) opening)
+FullIsAllowed = Allows (after (begin 1) opening) (insert 1 5 (codes "x")) Full
+    (after (begin 1) opening)
 
 abbrev pub MemoryIsAllowed : Type 0
 MemoryIsAllowed = Allows (after (begin 1) opening) (get 1 5) Memory (after (begin 1) opening)
@@ -133,8 +159,9 @@ holding = after (insert 1 5 (codes "x")) (after (begin 1) opening)
 abbrev pub FreezingIsAllowed : Type 0
 FreezingIsAllowed = Allows holding (update 1 5 (codes "y")) Freezing holding
 
--- without a transaction there is no want of memory, and none at a commit; an insert is not refused as freezing, and
--- what is missing not; only an insert that would be accepted is refused as full; and nothing changes
+-- without a transaction there is no want of memory, and none at a commit; an insert is not refused
+-- as freezing, and what is missing not; only an insert that would be accepted is refused as full;
+-- and nothing changes
 abbrev pub OthersAreNot : Type 0
 OthersAreNot =
     ¬ Allows opening (get 1 5) Memory opening

@@ -1,11 +1,14 @@
--- The snapshot-isolation machine: transactions that see the commits before them and their own writes, where
--- the first to write a key wins.
-use Rattle.std.specs.Prelude.{ℕ, ◌+◌, ◌-◌, Bool, ◌&&◌, not, ◌==◌, nat_lt, List, [], ◌∷◌, ◌++◌, map, length, filter, find, slice_index_or, if◌then◌else◌, Option, None, Some, is_some, is_none, unwrap_or, option_map}
+-- The snapshot-isolation machine: transactions that see the commits before them and their own
+-- writes, where the first to write a key wins.
+use Rattle.std.specs.Prelude.{ℕ, ◌+◌, ◌-◌, Bool, ◌&&◌, not, ◌==◌, nat_lt, List, [], ◌∷◌, ◌++◌, map}
+use Rattle.std.specs.Prelude.{length, filter, find, slice_index_or, if◌then◌else◌, Option, None}
+use Rattle.std.specs.Prelude.{Some, is_some, is_none, unwrap_or, option_map}
 use Rattle.std.specs.List.{last_or, range_with_len}
 use Rattle.std.specs.Option.{option_or}
 use Rattle.std.specs.BTreeMap.{insert_entry}
 use Rattle.cell_model.specs.declared.cell.Cell.{Cell}
-use Rattle.isolation_spec.specs.Contents.{place_cmp, at_place, State, WriteSet, History, laid_over, state_at, contents_of, place_at, place_of}
+use Rattle.isolation_spec.specs.Contents.{place_cmp, at_place, State, WriteSet, History, laid_over}
+use Rattle.isolation_spec.specs.Contents.{state_at, contents_of, place_at, place_of}
 use Rattle.isolation_spec.specs.declared.place.Place.{Place}
 use Rattle.isolation_spec.specs.declared.command.Command.{Command}
 use Rattle.isolation_spec.specs.declared.command.Act.{Act}
@@ -42,7 +45,8 @@ writes_place place writes = is_some (at_place writes place)
 
 -- another session's open transaction that wrote the place
 abbrev pub rival_of : IsolationMachine → ℕ → Place → Option Transaction
-rival_of machine session place = find (λ t. not (t.session == session) && writes_place place t.own) machine.open_transactions
+rival_of machine session place = find (λ t. not (t.session == session) && writes_place place t.own)
+    machine.open_transactions
 
 -- the write set of a commit number, counted from 1
 abbrev pub write_set_at : History → ℕ → WriteSet
@@ -51,16 +55,19 @@ write_set_at history number = slice_index_or history (number - 1) []
 -- The numbers of the commits after a snapshot whose write sets have the place, in order.
 abbrev pub later_writers : History → ℕ → Place → List ℕ
 later_writers history snapshot place =
-    filter (λ number. nat_lt snapshot number && writes_place place (write_set_at history number)) (range_with_len 1 (length history))
+    filter (λ number. nat_lt snapshot number && writes_place place (write_set_at history number))
+    (range_with_len 1 (length history))
 
--- A write conflict: another open transaction wrote the place, else a commit after the snapshot did, the
--- last of which is named.
+-- A write conflict: another open transaction wrote the place, else a commit after the snapshot did,
+-- the last of which is named.
 abbrev pub conflict_of : IsolationMachine → Transaction → Place → Option Answer
 conflict_of machine t place = option_or
     (option_map (λ rival. answer.ConflictSession rival.session) (rival_of machine t.session place))
-    (option_map (λ number. answer.ConflictCommit number) (last_or None (later_writers machine.history t.snapshot place)))
+    (option_map (λ number. answer.ConflictCommit number)
+    (last_or None (later_writers machine.history t.snapshot place)))
 
--- Why a write is refused: a conflict goes first, then an insert finds the row there, or another write finds none.
+-- Why a write is refused: a conflict goes first, then an insert finds the row there, or another
+-- write finds none.
 abbrev pub refusal_of_insert : IsolationMachine → Transaction → Place → Option Answer
 refusal_of_insert machine t place = option_or (conflict_of machine t place)
     (if is_some (at_place (seen_rows machine t) place) then Some answer.Exists else None)
@@ -72,7 +79,8 @@ refusal_of_change machine t place = option_or (conflict_of machine t place)
 
 -- the machine without the transaction of a session
 abbrev pub without : ℕ → IsolationMachine → IsolationMachine
-without session machine = record machine { open_transactions = filter (λ t. not (t.session == session)) machine.open_transactions }
+without session machine = record machine
+    { open_transactions = filter (λ t. not (t.session == session)) machine.open_transactions }
 
 -- the transaction with a write entered into its own
 abbrev pub entered : Place → Option (List Cell) → Transaction → Transaction
@@ -82,41 +90,59 @@ entered place change t = record t { own = insert_entry place_cmp t.own place cha
 abbrev pub with_own : ℕ → Place → Option (List Cell) → IsolationMachine → IsolationMachine
 with_own session place change machine = record machine {
   open_transactions =
-      map (λ t. if t.session == session then entered place change t else t) machine.open_transactions;
+      map (λ t. if t.session == session then entered place change t else t)
+      machine.open_transactions;
 }
 
--- a write that may be refused: if it is, nothing changes, and else the write enters the transaction's own
-abbrev pub write : IsolationMachine → Transaction → Place → Option (List Cell) → Option Answer → Answer × IsolationMachine
-write machine t place change refusal =
-    (unwrap_or refusal answer.Accepted, (if is_some refusal then machine else with_own t.session place change machine))
+-- a write that may be refused: if it is, nothing changes, and else the write enters the
+-- transaction's own
+abbrev pub write : IsolationMachine → Transaction → Place → Option (List Cell) → Option Answer
+    → Answer × IsolationMachine
+write machine t place change refusal = (
+  unwrap_or refusal answer.Accepted,
+  (if is_some refusal then machine else with_own t.session place change machine),
+)
 
--- a commit appends what the transaction wrote to the history, and answers its number; where it wrote nothing, no number
+-- a commit appends what the transaction wrote to the history, and answers its number; where it
+-- wrote nothing, no number
 abbrev pub commit : IsolationMachine → Transaction → WriteSet → Answer × IsolationMachine
 commit machine t [] = (answer.Committed None, without t.session machine)
-commit machine t (first ∷ rest) =
-    (answer.Committed (Some (length machine.history + 1)), record (without t.session machine) { history = machine.history ++ t.own ∷ [] })
+commit machine t (first ∷ rest) = (
+  answer.Committed (Some (length machine.history + 1)),
+  record (without t.session machine)
+      { history = machine.history ++ t.own ∷ [] },
+)
 
 -- what a session with an open transaction is answered, and the machine after it
 abbrev pub step_within : IsolationMachine → Transaction → Act → Answer × IsolationMachine
 step_within machine t act.Begin = (answer.InTransaction, machine)
-step_within machine t (act.Get table key) = (answer.Found (at_place (seen_rows machine t) (place_at table key)), machine)
-step_within machine t (act.Scan table) = (answer.Rows (contents_of table (seen_rows machine t)), machine)
+step_within machine t (act.Get table key)
+    = (answer.Found (at_place (seen_rows machine t) (place_at table key)), machine)
+step_within machine t (act.Scan table)
+    = (answer.Rows (contents_of table (seen_rows machine t)), machine)
 step_within machine t (act.Insert table row) =
-    write machine t (place_of table row) (Some row) (refusal_of_insert machine t (place_of table row))
+    write machine t (place_of table row) (Some row)
+    (refusal_of_insert machine t (place_of table row))
 step_within machine t (act.Update table row) =
-    write machine t (place_of table row) (Some row) (refusal_of_change machine t (place_of table row))
+    write machine t (place_of table row) (Some row)
+    (refusal_of_change machine t (place_of table row))
 step_within machine t (act.Delete table key) =
     write machine t (place_at table key) None (refusal_of_change machine t (place_at table key))
 step_within machine t act.Commit = commit machine t t.own
 step_within machine t act.Abort = (answer.Aborted, without t.session machine)
 
--- what a session without one is answered: it begins one, which sees all commits, and else nothing happens
+-- what a session without one is answered: it begins one, which sees all commits, and else nothing
+-- happens
 abbrev pub step_without : IsolationMachine → ℕ → Act → Answer × IsolationMachine
 step_without machine session act.Begin = (
   answer.At (length machine.history),
   record machine {
     open_transactions =
-        machine.open_transactions ++ record { session = session; snapshot = length machine.history; own = [] } ∷ [];
+        machine.open_transactions ++ record {
+          session = session;
+          snapshot = length machine.history;
+          own = [];
+        } ∷ [];
   },
 )
 step_without machine session (act.Get table key) = (answer.NoTransaction, machine)
@@ -139,4 +165,5 @@ step machine command = step_of machine command (transaction_of command.session m
 -- the answers to commands in order
 abbrev pub answers_from : IsolationMachine → List Command → List Answer
 answers_from machine [] = []
-answers_from machine (command ∷ commands) = (step machine command).0 ∷ answers_from (step machine command).1 commands
+answers_from machine (command ∷ commands) = (step machine command).0 ∷ answers_from
+    (step machine command).1 commands

@@ -52,13 +52,15 @@ IsRead act.Abort = ⊥
 abbrev pub IsAccepted : IsolationMachine → Command → Type 0
 IsAccepted machine command = (step machine command).0 ≡ answer.Accepted
 
--- What a store over the machine may say to a command, and the machine after it: the machine's answer and
--- step; or `Freezing` to a change and `Full` to an insert that the machine accepts, or `Memory` to a read or
--- a write of an open transaction, and then nothing changes.
+-- What a store over the machine may say to a command, and the machine after it: the machine's
+-- answer and step; or `Freezing` to a change and `Full` to an insert that the machine accepts, or
+-- `Memory` to a read or a write of an open transaction, and then nothing changes.
 abbrev pub Allows : IsolationMachine → Command → Outcome → IsolationMachine → Type 0
 Allows machine command (Answered said) after = step machine command ≡ (said, after)
-Allows machine command Freezing after = IsChange command.act × IsAccepted machine command × (after ≡ machine)
-Allows machine command Full after = IsInsert command.act × IsAccepted machine command × (after ≡ machine)
+Allows machine command Freezing after = IsChange command.act × IsAccepted machine command
+    × (after ≡ machine)
+Allows machine command Full after = IsInsert command.act × IsAccepted machine command
+    × (after ≡ machine)
 Allows machine command Memory after =
     (IsRead command.act ⊎ IsChange command.act ⊎ IsInsert command.act)
     × IsSome (transaction_of command.session machine)

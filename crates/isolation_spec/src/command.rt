@@ -58,6 +58,7 @@ pub enum Answer {
     Committed(Option<u64>),
     /// The transaction was dropped.
     Aborted,
-    /// A program that runs the machine was refused memory, and nothing has changed. The machine itself never answers so.
+    /// A program that runs the machine was refused memory, and nothing has changed. The machine
+    /// itself never answers so.
     Memory,
 }

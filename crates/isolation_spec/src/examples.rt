@@ -1,5 +1,9 @@
 //! Worked examples of the machine: each is a fact that its definitions compute.
-ghost use Rattle.isolation_spec.specs.Examples.{OlderSnapshot, OpenRival, LaterCommit, LastCommit, SessionFirst, GoneIsAWrite, OneKeyThrice, OwnWrites, NoTransaction, OlderScan, ConflictBeforeExists, TwoTables, FullIsAllowed, FreezingIsAllowed, MemoryIsAllowed, OthersAreNot};
+ghost use Rattle.isolation_spec.specs.Examples.{OlderSnapshot, OpenRival, LaterCommit, LastCommit};
+ghost use Rattle.isolation_spec.specs.Examples.{SessionFirst, GoneIsAWrite, OneKeyThrice};
+ghost use Rattle.isolation_spec.specs.Examples.{OwnWrites, NoTransaction, OlderScan};
+ghost use Rattle.isolation_spec.specs.Examples.{ConflictBeforeExists, TwoTables, FullIsAllowed};
+ghost use Rattle.isolation_spec.specs.Examples.{FreezingIsAllowed, MemoryIsAllowed, OthersAreNot};
 
 /// An older snapshot does not see a later commit.
 pub fn an_older_snapshot_does_not_see_a_later_commit()
@@ -36,17 +40,20 @@ pub fn one_key_is_inserted_deleted_and_inserted()
     ensures { OneKeyThrice }
 {}
 
-/// A scan gives the own writes laid over the snapshot, in the order of the keys; an abort drops them.
+/// A scan gives the own writes laid over the snapshot, in the order of the keys; an abort drops
+/// them.
 pub fn a_scan_lays_own_writes_over_the_snapshot()
     ensures { OwnWrites }
 {}
 
-/// Commands without a transaction, and a second begin, change nothing; a commit without a write has no number.
+/// Commands without a transaction, and a second begin, change nothing; a commit without a write has
+/// no number.
 pub fn misuse_changes_nothing()
     ensures { NoTransaction }
 {}
 
-/// An older snapshot scans the row as it was before a later update; the update is read by its own transaction and by later ones.
+/// An older snapshot scans the row as it was before a later update; the update is read by its own
+/// transaction and by later ones.
 pub fn an_older_snapshot_scans_the_row_as_it_was()
     ensures { OlderScan }
 {}
@@ -76,8 +83,8 @@ pub fn a_store_may_want_memory()
     ensures { MemoryIsAllowed }
 {}
 
-/// A store refuses no memory without a transaction or at a commit, freezes neither inserts nor what is missing, is full to
-/// no update and to no row that stands; and a refusal changes nothing.
+/// A store refuses no memory without a transaction or at a commit, freezes neither inserts nor what
+/// is missing, is full to no update and to no row that stands; and a refusal changes nothing.
 pub fn a_store_refuses_nothing_else()
     ensures { OthersAreNot }
 {}

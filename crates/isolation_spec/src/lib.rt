@@ -1,5 +1,5 @@
-//! Snapshot isolation over keys and values: what each answer of a transactional store has to be. It knows
-//! no block, version, stamp, thread or byte.
+//! Snapshot isolation over keys and values: what each answer of a transactional store has to be. It
+//! knows no block, version, stamp, thread or byte.
 #![tactic(auto)]
 
 pub mod command;

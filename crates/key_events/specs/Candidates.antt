@@ -5,4 +5,5 @@ use Rattle.event_spec.specs.Parts.{Shape, ShardOf, shard_from, shard_of}
 use Rattle.key_index.specs.Candidates.{candidates_of}
 
 abbrev pub candidates_in : Shape → Held → ℕ → ℤ → List ℕ
-candidates_in shape hand table key = candidates_of (shard_from (in_hand shape hand (ShardOf table (shard_of key)))) key
+candidates_in shape hand table key = candidates_of
+    (shard_from (in_hand shape hand (ShardOf table (shard_of key)))) key

@@ -12,12 +12,14 @@ use Rattle.slot_writes.specs.Writes.{of_body}
 -- its slot and its candidate
 abbrev pub row_changes : ℕ → ℕ → ℤ → ℕ → Row → Changes
 row_changes session table key place row =
-    record (of_body table (block_of place) (with_slot (slot_of place) (written session (change.Put row)))) {
+    record (of_body table (block_of place)
+    (with_slot (slot_of place) (written session (change.Put row)))) {
       shard = at_both table (shard_of key) (with_place key place);
     }
 
 -- and the slot that the head gives, where the transaction did not write the key
 abbrev pub put_changes : Shape → OwnKey → ℕ → ℤ → ℕ → Row → Changes
 put_changes shape own table key place row = record (row_changes own.session table key place row) {
-  head = at_table table (if is_some own.written then (λ head. head) else taken_by (slots_of shape table));
+  head = at_table table (if is_some own.written then (λ head. head)
+      else taken_by (slots_of shape table));
 }

@@ -22,7 +22,7 @@ use std::alloc::AllocError;
 use std::sync::ledger::Ledger;
 use steps::Steps;
 
-// What an update changes of the row in a slot.
+/// What an update changes of the row in a slot.
 fn changed_at<L: Ledger>(
     shape: &Shape,
     held: &Hand<CorePart>,
@@ -54,9 +54,11 @@ pub fn update<L: Ledger>(
     steps: &mut Steps<L>,
 ) -> Result<Result<SlotId, WriteFault>, AllocError>
     requires { MayRun shape.now (event.Update own.now table row) held.old }
-    ensures ok { IfOk result (λ judged. Makes shape.now (event.Update own.now table row) held.old held.new (reply_to_write judged)) }
+    ensures ok { IfOk result (λ judged. Makes shape.now (event.Update own.now table row) held.old
+        held.new (reply_to_write judged)) }
     ensures err { OnErr result (held.new ≡ held.old) }
-    ensures steps { (s : Parts) → Agrees held.old s → steps.new ≤ steps.old + (length (places_at shape.now s table (key_of row)) + 2) }
+    ensures steps { (s : Parts) → Agrees held.old s
+        → steps.new ≤ steps.old + (length (places_at shape.now s table (key_of row)) + 2) }
 {
     // The row fits the table's columns, which begin with the key.
     let _schema = shape.schema(table).columns();
@@ -81,9 +83,11 @@ pub fn delete<L: Ledger>(
     steps: &mut Steps<L>,
 ) -> Result<Result<SlotId, WriteFault>, AllocError>
     requires { MayRun shape.now (event.Delete own.now table key) held.old }
-    ensures ok { IfOk result (λ judged. Makes shape.now (event.Delete own.now table key) held.old held.new (reply_to_write judged)) }
+    ensures ok { IfOk result (λ judged. Makes shape.now (event.Delete own.now table key) held.old
+        held.new (reply_to_write judged)) }
     ensures err { OnErr result (held.new ≡ held.old) }
-    ensures steps { (s : Parts) → Agrees held.old s → steps.new ≤ steps.old + (length (places_at shape.now s table key) + 1) }
+    ensures steps { (s : Parts) → Agrees held.old s
+        → steps.new ≤ steps.old + (length (places_at shape.now s table key) + 1) }
 {
     let places = candidates(shape, held, table, key);
     let place = match judge_change(shape, held, own, table, places, steps)? {

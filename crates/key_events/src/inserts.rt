@@ -1,9 +1,11 @@
 //! Adding a row whose key has none.
-ghost use Rattle.std.specs.Prelude.{◌≡◌, ◌+◌, ◌≤◌, ◌<◌, ◌^◌, None, IfOk, IsTrue, OnOk, OnErr, length};
+ghost use Rattle.std.specs.Prelude.{◌≡◌, ◌+◌, ◌≤◌, ◌<◌, ◌^◌, None, IfOk, IsTrue, OnOk, OnErr};
+ghost use Rattle.std.specs.Prelude.{length};
 ghost use Rattle.block_spec.specs.declared.change.Change.TheVariants as change;
 ghost use Rattle.core_parts.specs.Hands.{Has, Makes, MayRun, after, in_hand};
 ghost use Rattle.event_spec.specs.declared.event.Event.TheVariants as event;
-ghost use Rattle.event_spec.specs.Parts.{HeadOf, Parts, ShardOf, head_from, names, places_at, shard_from, shard_of};
+ghost use Rattle.event_spec.specs.Parts.{HeadOf, Parts, ShardOf, head_from, names, places_at};
+ghost use Rattle.event_spec.specs.Parts.{shard_from, shard_of};
 ghost use Rattle.event_spec.specs.Replies.{reply_to_write};
 ghost use Rattle.frame_laws.specs.Shards.{ShardHolds};
 ghost use Rattle.hall_rule.specs.Hands.{Agrees};
@@ -24,7 +26,8 @@ use std::alloc::AllocError;
 use std::sync::ledger::Ledger;
 use steps::Steps;
 
-// Puts a row in a slot, and adds the slot to the key's candidates before. Without memory the hand stays.
+/// Puts a row in a slot, and adds the slot to the key's candidates before. Without memory the hand
+/// stays.
 fn put_row(
     shape: &Shape,
     held: &mut Hand<CorePart>,
@@ -36,9 +39,11 @@ fn put_row(
 ) -> Result<(), AllocError>
     requires room { length held.old ≡ length (names shape.now) }
     requires shard { Has shape.now held.old (ShardOf table (shard_of key)) }
-    requires order { ShardHolds (shard_of key) (shard_from (in_hand shape.now held.old (ShardOf table (shard_of key)))) }
+    requires order { ShardHolds (shard_of key)
+        (shard_from (in_hand shape.now held.old (ShardOf table (shard_of key)))) }
     requires takes { TakesAt shape.now held.old table place session (change.Put row) }
-    ensures ok { OnOk result (held.new ≡ after shape.now (row_changes session table key place row) held.old) }
+    ensures ok { OnOk result (held.new
+        ≡ after shape.now (row_changes session table key place row) held.old) }
     ensures err { OnErr result (held.new ≡ held.old) }
 {
     let added = add_candidate(shape, held, table, key, place)?;
@@ -53,16 +58,17 @@ fn put_row(
     }
 }
 
-// Whether a table's head can count one more insert.
+/// Whether a table's head can count one more insert.
 fn counts_on(shape: &Shape, held: &Hand<CorePart>, table: u32) -> bool
     requires { Has shape.now held.now (HeadOf table) }
-    ensures { IsTrue result → (head_from (in_hand shape.now held.now (HeadOf table))).inserts + 1 < 2 ^ 64 }
+    ensures { IsTrue result → (head_from (in_hand shape.now held.now (HeadOf table))).inserts + 1
+        < 2 ^ 64 }
 {
     head(shape, held, table).inserts() < u64::MAX
 }
 
-// Puts a row of a key that the transaction did not write in the head's next slot. Without memory, and where
-// the count of inserts is at its end, the hand stays.
+/// Puts a row of a key that the transaction did not write in the head's next slot. Without memory,
+/// and where the count of inserts is at its end, the hand stays.
 fn put_next(
     shape: &Shape,
     held: &mut Hand<CorePart>,
@@ -74,11 +80,13 @@ fn put_next(
 ) -> Result<(), AllocError>
     requires room { length held.old ≡ length (names shape.now) }
     requires shard { Has shape.now held.old (ShardOf table (shard_of key)) }
-    requires order { ShardHolds (shard_of key) (shard_from (in_hand shape.now held.old (ShardOf table (shard_of key)))) }
+    requires order { ShardHolds (shard_of key)
+        (shard_from (in_hand shape.now held.old (ShardOf table (shard_of key)))) }
     requires takes { TakesAt shape.now held.old table place own.now.session (change.Put row) }
     requires head { Has shape.now held.old (HeadOf table) }
     requires fresh { own.now.written ≡ None }
-    ensures ok { OnOk result (held.new ≡ after shape.now (put_changes shape.now own.now table key place row) held.old) }
+    ensures ok { OnOk result (held.new
+        ≡ after shape.now (put_changes shape.now own.now table key place row) held.old) }
     ensures err { OnErr result (held.new ≡ held.old) }
 {
     if !counts_on(shape, held, table) {
@@ -89,7 +97,7 @@ fn put_next(
     Ok(())
 }
 
-// Puts a row in the slot that an insert goes to. Without memory the hand stays.
+/// Puts a row in the slot that an insert goes to. Without memory the hand stays.
 fn put(
     shape: &Shape,
     held: &mut Hand<CorePart>,
@@ -101,10 +109,12 @@ fn put(
 ) -> Result<(), AllocError>
     requires room { length held.old ≡ length (names shape.now) }
     requires shard { Has shape.now held.old (ShardOf table (shard_of key)) }
-    requires order { ShardHolds (shard_of key) (shard_from (in_hand shape.now held.old (ShardOf table (shard_of key)))) }
+    requires order { ShardHolds (shard_of key)
+        (shard_from (in_hand shape.now held.old (ShardOf table (shard_of key)))) }
     requires takes { TakesAt shape.now held.old table place own.now.session (change.Put row) }
     requires head { Has shape.now held.old (HeadOf table) }
-    ensures ok { OnOk result (held.new ≡ after shape.now (put_changes shape.now own.now table key place row) held.old) }
+    ensures ok { OnOk result (held.new
+        ≡ after shape.now (put_changes shape.now own.now table key place row) held.old) }
     ensures err { OnErr result (held.new ≡ held.old) }
 {
     if own.written.is_none() {
@@ -113,8 +123,8 @@ fn put(
     put_row(shape, held, own.session, table, key, place, row)
 }
 
-/// Adds a row whose key has none. Without memory, and where the table's count of inserts is at its end,
-/// the hand stays.
+/// Adds a row whose key has none. Without memory, and where the table's count of inserts is at its
+/// end, the hand stays.
 pub fn insert<L: Ledger>(
     shape: &Shape,
     held: &mut Hand<CorePart>,
@@ -124,9 +134,11 @@ pub fn insert<L: Ledger>(
     steps: &mut Steps<L>,
 ) -> Result<Result<SlotId, WriteFault>, AllocError>
     requires { MayRun shape.now (event.Insert own.now table row) held.old }
-    ensures ok { IfOk result (λ judged. Makes shape.now (event.Insert own.now table row) held.old held.new (reply_to_write judged)) }
+    ensures ok { IfOk result (λ judged. Makes shape.now (event.Insert own.now table row) held.old
+        held.new (reply_to_write judged)) }
     ensures err { OnErr result (held.new ≡ held.old) }
-    ensures steps { (s : Parts) → Agrees held.old s → steps.new ≤ steps.old + (length (places_at shape.now s table (key_of row)) + 1) }
+    ensures steps { (s : Parts) → Agrees held.old s
+        → steps.new ≤ steps.old + (length (places_at shape.now s table (key_of row)) + 1) }
 {
     // The row fits the table's columns, which begin with the key.
     let _schema = shape.schema(table).columns();

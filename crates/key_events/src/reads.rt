@@ -26,8 +26,10 @@ pub fn get<L: Ledger>(
     steps: &mut Steps<L>,
 ) -> Result<Option<Row>, AllocError>
     requires { MayRun shape.now (event.Get own.now table key) held.now }
-    ensures reply { IfOk result (λ row. Makes shape.now (event.Get own.now table key) held.now held.now (reply.Found row)) }
-    ensures steps { (s : Parts) → Agrees held.now s → steps.new ≤ steps.old + (length (places_at shape.now s table key) + 1) }
+    ensures reply { IfOk result (λ row. Makes shape.now (event.Get own.now table key) held.now
+        held.now (reply.Found row)) }
+    ensures steps { (s : Parts) → Agrees held.now s
+        → steps.new ≤ steps.old + (length (places_at shape.now s table key) + 1) }
 {
     let places = candidates(shape, held, table, key);
     found(shape, held, own, table, places, steps)

@@ -18,4 +18,5 @@ with_candidates index key (place ∷ places) = map.insert index key (place ∷ p
 
 -- The places without the first that is a given one, or all of them where none is.
 abbrev pub without : ℕ → List ℕ → List ℕ
-without place places = unwrap_or (option_map (remove places) (position (λ other. other == place) places)) places
+without place places = unwrap_or
+    (option_map (remove places) (position (λ other. other == place) places)) places

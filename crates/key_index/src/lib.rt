@@ -1,7 +1,9 @@
-//! Where the rows of a key may lie: an ordered map from each key to the slots that are its candidates.
+//! Where the rows of a key may lie: an ordered map from each key to the slots that are its
+//! candidates.
 #![tactic(auto)]
 
-ghost use Rattle.std.specs.Prelude.{◌≡◌, ◌<◌, ◌==◌, ◌∷◌, ◌++◌, [], IfSome, OnOk, OnErr, length, position};
+ghost use Rattle.std.specs.Prelude.{◌≡◌, ◌<◌, ◌==◌, ◌∷◌, ◌++◌, [], IfSome, OnOk, OnErr, length};
+ghost use Rattle.std.specs.Prelude.{position};
 ghost use Rattle.std.specs.FinMap as map;
 ghost use Rattle.key_index.specs.Candidates.{candidates_of, with_candidates, without};
 
@@ -11,8 +13,9 @@ use std::collections::BTreeMap;
 use std::collections::btree_map::Entry;
 use std::marker::Model;
 
-/// The candidates of each key: the slots where a version of a row with the key may lie. A key leaves the
-/// map with its last candidate. A contract sees a finite map from keys to their candidates' places.
+/// The candidates of each key: the slots where a version of a row with the key may lie. A key
+/// leaves the map with its last candidate. A contract sees a finite map from keys to their
+/// candidates' places.
 #[derive(Drop)]
 pub struct Index {
     alloc: Global,
@@ -72,7 +75,8 @@ impl Index {
 
     /// Drops a candidate of a key, once. Where it is no candidate, nothing changes.
     pub fn drop_one(&mut self, key: i64, place: SlotId)
-        ensures { self.new ≡ with_candidates self.old key (without place (candidates_of self.old key)) }
+        ensures { self.new ≡ with_candidates self.old key
+            (without place (candidates_of self.old key)) }
     {
         let Some(places) = self.by_key.get_mut(&key) else {
             return;
@@ -84,7 +88,7 @@ impl Index {
     }
 }
 
-// Drops the first of the places that is a given one, if any is.
+/// Drops the first of the places that is a given one, if any is.
 fn drop_first(places: &mut Vec<SlotId>, place: SlotId)
     ensures { places.new.items ≡ without place places.old.items }
 {
@@ -93,7 +97,7 @@ fn drop_first(places: &mut Vec<SlotId>, place: SlotId)
     }
 }
 
-// Where the first of the places that is a given one stands.
+/// Where the first of the places that is a given one stands.
 fn position_of(places: &[SlotId], place: SlotId) -> Option<usize>
     ensures place { result ≡ position (λ other. other == place) places.now }
     ensures range { IfSome result (λ at. at < length places.now) }

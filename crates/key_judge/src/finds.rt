@@ -15,7 +15,7 @@ use std::alloc::AllocError;
 use std::sync::ledger::Ledger;
 use steps::Steps;
 
-// The row that the session sees at a place.
+/// The row that the session sees at a place.
 fn seen_at<L: Ledger>(
     shape: &Shape,
     held: &Hand<CorePart>,
@@ -33,7 +33,7 @@ fn seen_at<L: Ledger>(
     body.read(place.slot(), own.snapshot.stamp, own.session, steps)
 }
 
-// The first row that the session sees at some places.
+/// The first row that the session sees at some places.
 fn first_seen<L: Ledger>(
     shape: &Shape,
     held: &Hand<CorePart>,
@@ -44,7 +44,8 @@ fn first_seen<L: Ledger>(
 ) -> Result<Option<Row>, AllocError>
     requires { HasSlots shape.now held.now table places.now }
     ensures row { IfOk result (λ row. (s : Parts) → Agrees held.now s →
-        row ≡ first_at (λ place. seen (slot_at shape.now s table place) own.now.snapshot.stamp own.now.session) places.now) }
+        row ≡ first_at (λ place. seen (slot_at shape.now s table place) own.now.snapshot.stamp
+        own.now.session) places.now) }
     ensures steps { steps.new ≤ steps.old + length places.now }
 {
     for place in places {
@@ -77,10 +78,11 @@ pub fn found<L: Ledger>(
     }
 }
 
-// Whether a place has a row.
+/// Whether a place has a row.
 fn has_row(shape: &Shape, held: &Hand<CorePart>, table: u32, place: SlotId) -> bool
     requires { HasSlot shape.now held.now table place }
-    ensures { (s : Parts) → Agrees held.now s → result ≡ is_some (slot_at shape.now s table place).row }
+    ensures { (s : Parts) → Agrees held.now s → result
+        ≡ is_some (slot_at shape.now s table place).row }
 {
     body(shape, held, table, place.block())
         .columns()
@@ -95,7 +97,8 @@ pub fn current(
     places: &[SlotId],
 ) -> Option<SlotId>
     requires { HasSlots shape.now held.now table places.now }
-    ensures place { (s : Parts) → Agrees held.now s → result ≡ current_place (slot_at shape.now s table) places.now }
+    ensures place { (s : Parts) → Agrees held.now s → result
+        ≡ current_place (slot_at shape.now s table) places.now }
     ensures there { IfSome result (HasSlot shape.now held.now table) }
 {
     for place in places {

@@ -13,8 +13,8 @@ use event_spec::OwnKey;
 use hall_rule::Hand;
 use undo_chain::Newer;
 
-// Of what a write meets at two slots, what goes first: another session's write, and of two numbers the
-// larger.
+/// Of what a write meets at two slots, what goes first: another session's write, and of two numbers
+/// the larger.
 fn combine(one: Newer, other: Newer) -> Newer
     ensures { result ≡ combined one other }
 {
@@ -29,11 +29,12 @@ fn combine(one: Newer, other: Newer) -> Newer
     }
 }
 
-// What a write meets at a place.
+/// What a write meets at a place.
 fn newer_at(shape: &Shape, held: &Hand<CorePart>, own: &OwnKey, table: u32, place: SlotId) -> Newer
     requires { HasSlot shape.now held.now table place }
     ensures { (s : Parts) → Agrees held.now s →
-        result ≡ conflict_of (slot_at shape.now s table place).entries own.now.snapshot.stamp own.now.session }
+        result ≡ conflict_of (slot_at shape.now s table place).entries own.now.snapshot.stamp
+        own.now.session }
 {
     body(shape, held, table, place.block()).newer(place.slot(), own.snapshot.stamp, own.session)
 }
@@ -48,7 +49,8 @@ pub fn newer(
     places: &[SlotId],
 ) -> Newer
     requires { HasSlots shape.now held.now table places.now }
-    ensures { (s : Parts) → Agrees held.now s → result ≡ newer_by (slot_at shape.now s table) places.now own.now }
+    ensures { (s : Parts) → Agrees held.now s → result
+        ≡ newer_by (slot_at shape.now s table) places.now own.now }
 {
     let mut newer = Newer::Nothing;
     for place in places {

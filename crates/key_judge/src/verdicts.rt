@@ -3,7 +3,8 @@ ghost use Rattle.std.specs.Prelude.{◌≡◌, ◌+◌, ◌≤◌, None, IfOk, I
 ghost use Rattle.std.specs.Option.{option_or};
 ghost use Rattle.block_layout.specs.Place.{block_of};
 ghost use Rattle.core_parts.specs.Hands.{Has};
-ghost use Rattle.event_spec.specs.Judged.{current_place, fault_of, freezing_of, judged, judged_change, judged_insert, next_place};
+ghost use Rattle.event_spec.specs.Judged.{current_place, fault_of, freezing_of, judged};
+ghost use Rattle.event_spec.specs.Judged.{judged_change, judged_insert, next_place};
 ghost use Rattle.event_spec.specs.Lawful.{HasTable};
 ghost use Rattle.event_spec.specs.declared.reply.WriteFault.TheVariants.{Full, Missing};
 ghost use Rattle.event_spec.specs.Parts.{HeadOf, Parts, body_at, head_at, slot_at, slots_of};
@@ -22,7 +23,7 @@ use std::sync::ledger::Ledger;
 use steps::Steps;
 use undo_chain::Newer;
 
-// What a write is refused for by what it meets.
+/// What a write is refused for by what it meets.
 fn fault_of(newer: Newer) -> Option<WriteFault>
     ensures { result ≡ fault_of newer }
 {
@@ -33,7 +34,8 @@ fn fault_of(newer: Newer) -> Option<WriteFault>
     }
 }
 
-// The slot that an insert takes where the transaction did not write the key, or that the table is full.
+/// The slot that an insert takes where the transaction did not write the key, or that the table is
+/// full.
 fn next_slot(
     shape: &Shape,
     held: &Hand<CorePart>,
@@ -43,7 +45,8 @@ fn next_slot(
     requires table { HasTable shape.now table }
     requires head { own.now.written ≡ None → Has shape.now held.now (HeadOf table) }
     ensures { (s : Parts) → Agrees held.now s → result ≡ judged None
-        (option_or own.now.written (next_place (head_at shape.now s table) (slots_of shape.now table)))
+        (option_or own.now.written (next_place (head_at shape.now s table)
+        (slots_of shape.now table)))
         (Full (head_at shape.now s table).inserts) }
 {
     if let Some(place) = own.written {
@@ -72,7 +75,8 @@ pub fn judge_insert<L: Ledger>(
     requires places { HasSlots shape.now held.now table places.now }
     requires own { IfSome own.now.written (HasSlot shape.now held.now table) }
     ensures judged { IfOk result (λ judged. (s : Parts) → Agrees held.now s → judged ≡
-        judged_insert (slot_at shape.now s table) places.now (head_at shape.now s table) (slots_of shape.now table) own.now) }
+        judged_insert (slot_at shape.now s table) places.now (head_at shape.now s table)
+        (slots_of shape.now table) own.now) }
     ensures steps { steps.new ≤ steps.old + (length places.now + 1) }
 {
     if let Some(fault) = fault_of(newer(shape, held, own, table, places)) {
@@ -84,7 +88,7 @@ pub fn judge_insert<L: Ledger>(
     Ok(next_slot(shape, held, own, table))
 }
 
-// Where a change of a found row goes, or that its block is sealed.
+/// Where a change of a found row goes, or that its block is sealed.
 fn current_slot(
     shape: &Shape,
     held: &Hand<CorePart>,
@@ -93,7 +97,8 @@ fn current_slot(
 ) -> Result<SlotId, WriteFault>
     requires { HasSlots shape.now held.now table places.now }
     ensures { (s : Parts) → Agrees held.now s → result ≡ judged
-        (option_and_then (λ place. freezing_of (block_of place) (body_at shape.now s table (block_of place)).phase)
+        (option_and_then (λ place. freezing_of (block_of place)
+        (body_at shape.now s table (block_of place)).phase)
         (current_place (slot_at shape.now s table) places.now))
         (current_place (slot_at shape.now s table) places.now) Missing }
 {
@@ -109,8 +114,8 @@ fn current_slot(
     }
 }
 
-/// Where an update or a delete of a key with these candidates goes, or the first thing that is against
-/// it.
+/// Where an update or a delete of a key with these candidates goes, or the first thing that is
+/// against it.
 pub fn judge_change<L: Ledger>(
     shape: &Shape,
     held: &Hand<CorePart>,
@@ -122,7 +127,8 @@ pub fn judge_change<L: Ledger>(
     requires places { HasSlots shape.now held.now table places.now }
     requires own { IfSome own.now.written (HasSlot shape.now held.now table) }
     ensures judged { IfOk result (λ judged. (s : Parts) → Agrees held.now s → judged ≡
-        judged_change (slot_at shape.now s table) places.now (λ block. (body_at shape.now s table block).phase) own.now) }
+        judged_change (slot_at shape.now s table) places.now
+        (λ block. (body_at shape.now s table block).phase) own.now) }
     ensures steps { steps.new ≤ steps.old + (length places.now + 1) }
 {
     if let Some(fault) = fault_of(newer(shape, held, own, table, places)) {

@@ -1,5 +1,7 @@
 -- How a run of the program ends: what each status says of what was read, printed and sent.
-use Rattle.std.specs.Prelude.{◌≡◌, ◌≢◌, ◌<◌, ◌^◌, ◌⊎◌, ℕ, true, length, List, [], ◌∷◌, ◌++◌, Option, None, Some, option_map, codes, decimal, Ok, Err, IsSome, if◌then◌else◌}
+use Rattle.std.specs.Prelude.{◌≡◌, ◌≢◌, ◌<◌, ◌^◌, ◌⊎◌, ℕ, true, length, List, [], ◌∷◌, ◌++◌, Option}
+use Rattle.std.specs.Prelude.{None, Some, option_map, codes, decimal, Ok, Err, IsSome}
+use Rattle.std.specs.Prelude.{if◌then◌else◌}
 use Rattle.std.specs.Io.KnownBytes.{Appends, Consumes, IsAtEnd}
 use Rattle.byte_ports.specs.Calls.{AppendsFront, ConsumesAtLeast, Rose}
 use Rattle.stream_spec.specs.Streams.{reading_of}
@@ -42,8 +44,14 @@ pub record Outside : Type 0 where
   pub exported : Option (List ℕ)
   pub started : Option (List (List ℕ))
 
-abbrev pub outside : Option (List ℕ) → Option (List ℕ) → Option (List ℕ) → Option (List (List ℕ)) → Outside
-outside left printed exported started = record { left = left; printed = printed; exported = exported; started = started }
+abbrev pub outside : Option (List ℕ) → Option (List ℕ) → Option (List ℕ) → Option (List (List ℕ))
+    → Outside
+outside left printed exported started = record {
+  left = left;
+  printed = printed;
+  exported = exported;
+  started = started;
+}
 
 -- nothing was written to the outlet, and it was not started
 pub record LeavesOutlet (before now : Outside) : Type 0 where
@@ -66,7 +74,8 @@ started_by path script names =
 abbrev pub Delivers : Option (List ℕ) → Script → Script → List ℕ → Outside → Outside → Type 0
 Delivers None script ran output before now = LeavesOutlet before now
 Delivers (Some path) script ran output before now =
-    (now.started ≡ started_by path script before.started) × Sends ran output before.exported now.exported
+    (now.started ≡ started_by path script before.started)
+    × Sends ran output before.exported now.exported
 
 -- ---- the input
 
@@ -171,11 +180,13 @@ RunEnds path status.Done before now = IsRunOf path status.Done before now
 RunEnds path status.Usage before now = ⊥
 RunEnds path status.Refused before now = IsRefused Appends before now
 RunEnds path status.ReadFault before now = IsSilent before now
-RunEnds path status.OutFault before now = IsRefused AppendsFront before now ⊎ IsRunOf path status.OutFault before now
+RunEnds path status.OutFault before now = IsRefused AppendsFront before now
+    ⊎ IsRunOf path status.OutFault before now
 RunEnds path status.ExportFault before now = IsRunOf path status.ExportFault before now
 RunEnds path status.Memory before now = IsSilent before now ⊎ IsRunOf path status.Memory before now
 RunEnds path status.NotAStream before now = ⊥
-RunEnds path status.TooLong before now = ConsumesAtLeast before.left now.left (2 ^ 32) × IsSilent before now
+RunEnds path status.TooLong before now = ConsumesAtLeast before.left now.left (2 ^ 32)
+    × IsSilent before now
 
 -- The input was read to its end, and the text of what it reads as is printed: the columns, the rows
 -- and their count, or what stands in front of the first fault, and that fault.
@@ -245,7 +256,8 @@ CheckEnds status.Done before now = IsJudged Appends before now
 CheckEnds status.Usage before now = ⊥
 CheckEnds status.Refused before now = IsNoneToCheck Appends before now
 CheckEnds status.ReadFault before now = IsSilent before now
-CheckEnds status.OutFault before now = IsJudged AppendsFront before now ⊎ IsNoneToCheck AppendsFront before now
+CheckEnds status.OutFault before now = IsJudged AppendsFront before now
+    ⊎ IsNoneToCheck AppendsFront before now
 CheckEnds status.ExportFault before now = ⊥
 CheckEnds status.Memory before now = IsSilent before now
 CheckEnds status.NotAStream before now = ⊥
@@ -257,7 +269,8 @@ CheckEnds status.TooLong before now =
 -- The workload that the seed and the size generate ran, and what was counted of its replies is
 -- printed. Nothing is read, and its export is dropped.
 pub record IsBenched
-    (Prints : Option (List ℕ) → Option (List ℕ) → List ℕ → Type 0) (seed size : ℕ) (before now : Outside)
+    (Prints : Option (List ℕ) → Option (List ℕ) → List ℕ → Type 0) (seed size : ℕ)
+    (before now : Outside)
     : Type 0 where
   pub left : now.left ≡ before.left
   pub counts : Counts

@@ -14,7 +14,8 @@ use Rattle.mainline.specs.declared.status.Status.TheVariants as status
 -- How the rounds of a workload end, where `Goes asked text` says that rounds of these lines ran and
 -- had this text.
 abbrev pub PlayEnds
-    : (List (List Line) → List ℕ → Type 0) → Script → Status → Option (List ℕ) → Option (List ℕ) → Type 0
+    : (List (List Line) → List ℕ → Type 0) → Script → Status → Option (List ℕ) → Option (List ℕ)
+    → Type 0
 PlayEnds Goes script status.Done before now = GoesWhole Goes script before now
 PlayEnds Goes script status.Usage before now = ⊥
 PlayEnds Goes script status.Refused before now = ⊥
@@ -26,8 +27,10 @@ PlayEnds Goes script status.NotAStream before now = ⊥
 PlayEnds Goes script status.TooLong before now = ⊥
 
 -- The line of a refusal is printed: the bad line and its cause. Want of memory is told by no line.
-abbrev pub TellsFault : (Option (List ℕ) → Option (List ℕ) → List ℕ → Type 0) → ScriptFault → Option (List ℕ) → Option (List ℕ) → Type 0
-TellsFault Prints (script_fault.Bad line cause) before now = Prints before now (refused_text (record { line = line; cause = cause }))
+abbrev pub TellsFault : (Option (List ℕ) → Option (List ℕ) → List ℕ → Type 0) → ScriptFault
+    → Option (List ℕ) → Option (List ℕ) → Type 0
+TellsFault Prints (script_fault.Bad line cause) before now = Prints before now
+    (refused_text (record { line = line; cause = cause }))
 TellsFault Prints (script_fault.Memory refused) before now = ⊥
 
 -- How the line of a refusal ends.

@@ -1,10 +1,13 @@
 -- What the words of the command line ask for.
-use Rattle.std.specs.Prelude.{ℕ, ◌-◌, ◌^◌, pos, Bool, true, ◌&&◌, nat_lt, nat_le, ◌≤◌, List, [], ◌∷◌, length, Option, None, Some, bytes_eq, codes, if◌then◌else◌, option_and_then, option_map}
+use Rattle.std.specs.Prelude.{ℕ, ◌-◌, ◌^◌, pos, Bool, true, ◌&&◌, nat_lt, nat_le, ◌≤◌, List, []}
+use Rattle.std.specs.Prelude.{◌∷◌, length, Option, None, Some, bytes_eq, codes, if◌then◌else◌}
+use Rattle.std.specs.Prelude.{option_and_then, option_map}
 use Rattle.std.specs.Char.{digit_value}
 use Rattle.std.specs.List.{list_all}
 use Rattle.std.specs.Str.Parse.{digits_value, without_leading_plus}
 use Rattle.bench_script.specs.Laws.{most_size}
-use Rattle.clap.specs.Words.{App, Kinds, Row, Rule, Text, fault_of, first_of, new_app, new_rule, subcommand_of, with_rule, with_subcommand}
+use Rattle.clap.specs.Words.{App, Kinds, Row, Rule, Text, fault_of, first_of, new_app, new_rule}
+use Rattle.clap.specs.Words.{subcommand_of, with_rule, with_subcommand}
 use Rattle.clap.specs.declared.builder.value_parser.ValueParser.TheVariants as parser
 use Rattle.mainline.specs.declared.words.Work.{Work}
 use Rattle.mainline.specs.declared.words.Work.TheVariants as work
@@ -23,10 +26,16 @@ abbrev pub export_rule : Rule
 export_rule = record (new_rule (codes "export")) { long = Some (codes "export") }
 
 abbrev pub seed_rule : Rule
-seed_rule = record (new_rule (codes "seed")) { required = true; parser = Some (parser.Unsigned 0 (2 ^ 64 - 1)) }
+seed_rule = record (new_rule (codes "seed")) {
+  required = true;
+  parser = Some (parser.Unsigned 0 (2 ^ 64 - 1));
+}
 
 abbrev pub size_rule : Rule
-size_rule = record (new_rule (codes "size")) { required = true; parser = Some (parser.Signed (pos 1) (pos most_size)) }
+size_rule = record (new_rule (codes "size")) {
+  required = true;
+  parser = Some (parser.Signed (pos 1) (pos most_size));
+}
 
 abbrev pub run_app : App
 run_app = with_rule (new_app (codes "run")) export_rule
@@ -51,7 +60,8 @@ within low high number = if nat_le low number && nat_le number high then Some nu
 -- front or without
 abbrev pub number_in : ℕ → ℕ → Text → Option ℕ
 number_in low high word =
-    if are_digits (without_leading_plus word) then within low high (digits_value 10 (without_leading_plus word)) else None
+    if are_digits (without_leading_plus word)
+    then within low high (digits_value 10 (without_leading_plus word)) else None
 
 -- the number that the first word under a name gives
 abbrev pub number_at : Text → ℕ → ℕ → List Row → Option ℕ
@@ -82,7 +92,8 @@ unless_faulty (kind ∷ kinds) asked = None
 -- What the words ask for, the first of which is the program's name: nothing where `clap` finds a
 -- fault in them for this command, or where they name no subcommand.
 abbrev pub asked_by : List Text → Option Asked
-asked_by words = unless_faulty (fault_of mainline_app words) (asked_of (subcommand_of mainline_app words))
+asked_by words = unless_faulty (fault_of mainline_app words)
+    (asked_of (subcommand_of mainline_app words))
 
 -- what a work is
 abbrev pub meaning : Work → Asked

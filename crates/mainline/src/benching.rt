@@ -27,7 +27,8 @@ pub(crate) fn bench<R: Wait + Threads + Sync, O: Sink, G: Gate + Sync>(
     gate: &G,
 ) -> Status
     requires { size ≤ most_size }
-    ensures ends { (left exported : Option (List ℕ)) (started : Option (List (List ℕ))) → BenchEnds seed size result
+    ensures ends { (left exported : Option (List ℕ)) (started : Option (List (List ℕ)))
+        → BenchEnds seed size result
         (outside left (O.written out.old) exported started)
         (outside left (O.written out.new) exported started) }
     ensures read_faults { result ≢ Status.ReadFault }

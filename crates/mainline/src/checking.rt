@@ -1,6 +1,7 @@
 //! Checks the output of a run: `mainline check` reads a workload, a line `====` and an output, and
 //! prints whether snapshot isolation explains the output.
-ghost use Rattle.std.specs.Prelude.{◌≡◌, ◌≢◌, ◌++◌, ℕ, List, Option, None, Some, IfOk, OnOk, option_map, true};
+ghost use Rattle.std.specs.Prelude.{◌≡◌, ◌≢◌, ◌++◌, ℕ, List, Option, None, Some, IfOk, OnOk};
+ghost use Rattle.std.specs.Prelude.{option_map, true};
 ghost use Rattle.workload_spec.specs.Valid.{is_valid};
 ghost use Rattle.workload_spec.specs.Grammar.{checked_of};
 ghost use Rattle.script_text.specs.Answers.{LineGives};
@@ -18,10 +19,12 @@ use workload_spec::{Extent, Script};
 
 /// Checks the output that stands behind a workload in what is read from the source to its end.
 pub(crate) fn check<S: Source, O: Sink>(alloc: Global, source: &mut S, out: &mut O) -> Status
-    ensures ends { (exported : Option (List ℕ)) (started : Option (List (List ℕ))) → CheckEnds result
+    ensures ends { (exported : Option (List ℕ)) (started : Option (List (List ℕ)))
+        → CheckEnds result
         (outside (S.left source.old) (O.written out.old) exported started)
         (outside (S.left source.new) (O.written out.new) exported started) }
-    ensures read_faults { TellsFaults Status.ReadFault result (S.faults source.old) (S.faults source.new) }
+    ensures read_faults { TellsFaults Status.ReadFault result (S.faults source.old)
+        (S.faults source.new) }
     ensures out_faults { TellsFaults Status.OutFault result (O.faults out.old) (O.faults out.new) }
     ensures export_faults { result ≢ Status.ExportFault }
 {
@@ -63,7 +66,8 @@ fn parse_apart(alloc: Global, bytes: Vec<u8>) -> Result<(Script, Vec<u8>), Scrip
 /// Prints whether the output is explained.
 fn tell_verdict<O: Sink>(alloc: Global, script: &Script, output: &[u8], out: &mut O) -> Status
     requires { is_valid script.now ≡ true }
-    ensures ends { VerdictEnds script.now output.now result (O.written out.old) (O.written out.new) }
+    ensures ends { VerdictEnds script.now output.now result (O.written out.old)
+        (O.written out.new) }
     ensures out_faults { TellsFaults Status.OutFault result (O.faults out.old) (O.faults out.new) }
 {
     let failing = match explained(alloc, script, output) {
@@ -84,7 +88,8 @@ fn tell_verdict<O: Sink>(alloc: Global, script: &Script, output: &[u8], out: &mu
 /// Puts the line of a verdict behind `out`: `explained`, or `not explained` and the first line at
 /// which an output fails, counted from 1.
 fn put_verdict(out: &mut Vec<u8>, failing: Option<u64>) -> Result<(), AllocError>
-    ensures { OnOk result (out.new.items ≡ out.old.items ++ verdict_text (option_map (λ line. line) failing)) }
+    ensures { OnOk result (out.new.items ≡ out.old.items
+        ++ verdict_text (option_map (λ line. line) failing)) }
 {
     match failing {
         None => out.extend_from_slice(b"explained")?,

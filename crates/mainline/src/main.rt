@@ -19,7 +19,7 @@ use std::env;
 use std::io::ErrorKind;
 use std::process::ExitCode;
 
-// Does what the words ask for, over the standard streams and files, and ends with its status.
+/// Does what the words ask for, over the standard streams and files, and ends with its status.
 fn main(rt: HostRuntime) -> ExitCode {
     let alloc = rt.alloc();
     let Ok(words) = told_words(&rt) else {

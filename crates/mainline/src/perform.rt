@@ -1,5 +1,7 @@
 //! What the program does with its words, its input, its output and its outlet.
-ghost use Rattle.std.specs.Prelude.{◌≡◌, ◌≢◌, ◌<◌, ◌^◌, ℕ, List, Option, None, IsSome, length, map, true, string_bytes, option_map, IfOk, OnOk, OnErr, if◌then◌else◌};
+ghost use Rattle.std.specs.Prelude.{◌≡◌, ◌≢◌, ◌<◌, ◌^◌, ℕ, List, Option, None, IsSome, length, map};
+ghost use Rattle.std.specs.Prelude.{true, string_bytes, option_map, IfOk, OnOk, OnErr};
+ghost use Rattle.std.specs.Prelude.{if◌then◌else◌};
 ghost use Rattle.std.specs.List.{list_any};
 ghost use Rattle.byte_ports.specs.Calls.{Rose};
 ghost use Rattle.workload_spec.specs.Valid.{is_valid, is_export};
@@ -9,7 +11,8 @@ ghost use Rattle.script_text.specs.Answers.{LineGives};
 ghost use Rattle.export_spec.specs.Sent.{has_export};
 ghost use Rattle.workload_spec.specs.ScriptText.{script_text};
 ghost use Rattle.store_rounds.specs.Workloads.{WentBy};
-ghost use Rattle.mainline.specs.Outcome.{Ends, RunEnds, ScriptEnds, ShowEnds, UsageEnds, TellsFaults, outside, started_by};
+ghost use Rattle.mainline.specs.Outcome.{Ends, RunEnds, ScriptEnds, ShowEnds, UsageEnds};
+ghost use Rattle.mainline.specs.Outcome.{TellsFaults, outside, started_by};
 ghost use Rattle.mainline.specs.Played.{RefusalEnds, PlayEnds};
 ghost use Rattle.mainline.specs.Words.{asked_by};
 
@@ -54,11 +57,15 @@ pub fn perform<R: Wait + Threads + Sync, S: Source, O: Sink, X: Outlet + Send, G
     gate: &G,
 ) -> Status
     ensures ends { Ends (asked_by (map string_bytes words.items)) result
-        (outside (S.left source.old) (O.written out.old) (X.written export.old) (X.started export.old))
-        (outside (S.left source.new) (O.written out.new) (X.written export.new) (X.started export.new)) }
-    ensures read_faults { TellsFaults Status.ReadFault result (S.faults source.old) (S.faults source.new) }
+        (outside (S.left source.old) (O.written out.old) (X.written export.old)
+        (X.started export.old))
+        (outside (S.left source.new) (O.written out.new) (X.written export.new)
+        (X.started export.new)) }
+    ensures read_faults { TellsFaults Status.ReadFault result (S.faults source.old)
+        (S.faults source.new) }
     ensures out_faults { TellsFaults Status.OutFault result (O.faults out.old) (O.faults out.new) }
-    ensures export_faults { TellsFaults Status.ExportFault result (X.faults export.old) (X.faults export.new) }
+    ensures export_faults { TellsFaults Status.ExportFault result (X.faults export.old)
+        (X.faults export.new) }
 {
     match work_of(alloc, &words) {
         Ok(Work::Run(path)) => run(rt, alloc, path, source, out, export, gate),
@@ -72,7 +79,8 @@ pub fn perform<R: Wait + Threads + Sync, S: Source, O: Sink, X: Outlet + Send, G
 
 /// Prints how the program is used.
 fn tell_usage<O: Sink>(out: &mut O) -> Status
-    ensures ends { (left exported : Option (List ℕ)) (started : Option (List (List ℕ))) → UsageEnds result
+    ensures ends { (left exported : Option (List ℕ)) (started : Option (List (List ℕ)))
+        → UsageEnds result
         (outside left (O.written out.old) exported started)
         (outside left (O.written out.new) exported started) }
     ensures read_faults { result ≢ Status.ReadFault }
@@ -90,7 +98,8 @@ fn show<S: Source, O: Sink>(alloc: Global, source: &mut S, out: &mut O) -> Statu
     ensures ends { (exported : Option (List ℕ)) (started : Option (List (List ℕ))) → ShowEnds result
         (outside (S.left source.old) (O.written out.old) exported started)
         (outside (S.left source.new) (O.written out.new) exported started) }
-    ensures read_faults { TellsFaults Status.ReadFault result (S.faults source.old) (S.faults source.new) }
+    ensures read_faults { TellsFaults Status.ReadFault result (S.faults source.old)
+        (S.faults source.new) }
     ensures out_faults { TellsFaults Status.OutFault result (O.faults out.old) (O.faults out.new) }
     ensures export_faults { result ≢ Status.ExportFault }
 {
@@ -131,11 +140,15 @@ fn run<R: Wait + Threads + Sync, S: Source, O: Sink, X: Outlet, G: Gate + Sync>(
     gate: &G,
 ) -> Status
     ensures ends { RunEnds (option_map (λ p. p.now) path.entry) result
-        (outside (S.left source.old) (O.written out.old) (X.written export.old) (X.started export.old))
-        (outside (S.left source.new) (O.written out.new) (X.written export.new) (X.started export.new)) }
-    ensures read_faults { TellsFaults Status.ReadFault result (S.faults source.old) (S.faults source.new) }
+        (outside (S.left source.old) (O.written out.old) (X.written export.old)
+        (X.started export.old))
+        (outside (S.left source.new) (O.written out.new) (X.written export.new)
+        (X.started export.new)) }
+    ensures read_faults { TellsFaults Status.ReadFault result (S.faults source.old)
+        (S.faults source.new) }
     ensures out_faults { TellsFaults Status.OutFault result (O.faults out.old) (O.faults out.new) }
-    ensures export_faults { TellsFaults Status.ExportFault result (X.faults export.old) (X.faults export.new) }
+    ensures export_faults { TellsFaults Status.ExportFault result (X.faults export.old)
+        (X.faults export.new) }
 {
     let bytes = match read_to_end(alloc, source, MOST_BYTES) {
         Ok(bytes) => bytes,
@@ -192,11 +205,13 @@ fn run_script<R: Wait + Threads + Sync, O: Sink, X: Outlet, G: Gate + Sync>(
 ) -> Status
     requires valid { is_valid script ≡ true }
     requires short { length (script_text script) < 2 ^ 32 }
-    ensures ends { (left_old left_new : Option (List ℕ)) → ScriptEnds (option_map (λ p. p.now) path.entry) script result
+    ensures ends { (left_old left_new : Option (List ℕ))
+        → ScriptEnds (option_map (λ p. p.now) path.entry) script result
         (outside left_old (O.written out.old) (X.written export.old) (X.started export.old))
         (outside left_new (O.written out.new) (X.written export.new) (X.started export.new)) }
     ensures out_faults { TellsFaults Status.OutFault result (O.faults out.old) (O.faults out.new) }
-    ensures export_faults { TellsFaults Status.ExportFault result (X.faults export.old) (X.faults export.new) }
+    ensures export_faults { TellsFaults Status.ExportFault result (X.faults export.old)
+        (X.faults export.new) }
 {
     let Some(path) = path else {
         return play(rt, alloc, script, out, &mut PureOutlet, gate);
@@ -222,7 +237,8 @@ fn play<R: Wait + Threads + Sync, O: Sink, X: Outlet, G: Gate + Sync>(
         script result (O.written out.old) (O.written out.new) }
     ensures started { X.started export.new ≡ X.started export.old }
     ensures out_faults { TellsFaults Status.OutFault result (O.faults out.old) (O.faults out.new) }
-    ensures export_faults { TellsFaults Status.ExportFault result (X.faults export.old) (X.faults export.new) }
+    ensures export_faults { TellsFaults Status.ExportFault result (X.faults export.old)
+        (X.faults export.new) }
 {
     match run_workload(rt, alloc, gate, script, out, export) {
         Ok(()) => Status::Done,
@@ -235,7 +251,8 @@ fn play<R: Wait + Threads + Sync, O: Sink, X: Outlet, G: Gate + Sync>(
 /// Starts the outlet with the path where the workload has an export.
 fn start_export<X: Outlet>(script: &Script, path: &str, export: &mut X) -> Result<(), Failed>
     ensures written { X.written export.new ≡ X.written export.old }
-    ensures started { OnOk result (X.started export.new ≡ started_by path.now script.now (X.started export.old)) }
+    ensures started { OnOk result
+        (X.started export.new ≡ started_by path.now script.now (X.started export.old)) }
     ensures left { OnErr result (X.started export.new ≡ X.started export.old) }
     ensures cause { OnErr result (Rose (X.faults export.old) (X.faults export.new)) }
     ensures kept { OnOk result (X.faults export.new ≡ X.faults export.old) }
@@ -257,7 +274,8 @@ fn has_export(script: &Script) -> bool
 
 /// Whether a line of the rounds exports a table.
 fn any_exports(rounds: &[Round]) -> bool
-    ensures { result ≡ list_any (λ lines. list_any (λ line. is_export line.command) lines) rounds.now }
+    ensures { result ≡ list_any (λ lines. list_any (λ line. is_export line.command) lines)
+        rounds.now }
 {
     rounds.iter().any(exports)
 }

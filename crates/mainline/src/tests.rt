@@ -16,14 +16,14 @@ use std::sync::Wait;
 use std::test::Fail;
 use std::thread::Threads;
 
-// A workload with this text behind `go`, over a table of one block of eight rows.
+/// A workload with this text behind `go`, over a table of one block of eight rows.
 const HEAD: &str = "store 1\ntable b key:i64 slots 8 blocks 1\nsessions 1\nworkers 0 0\ngo\n";
 
 const RUN: [&str; 4] = ["mainline", "run", "--export", "e"];
 
 const USAGE: &str = "usage: mainline run [--export PATH] | show | check | bench SEED SIZE\n";
 
-// A round over the table, what it prints, and how many bytes its export sends.
+/// A round over the table, what it prints, and how many bytes its export sends.
 struct Round {
     commands: &'static str,
     printed: &'static str,
@@ -91,7 +91,7 @@ const ROUNDS: [Round; 10] = [
     },
 ];
 
-// An input, and its refusal.
+/// An input, and its refusal.
 const REFUSALS: [(&str, &str); 14] = [
     ("", "refused 1 version\n"),
     ("store 9\n", "refused 1 version\n"),
@@ -146,7 +146,7 @@ const EXPORT: &str = "1 begin\n1 export b\n";
 
 const EXPORTED: &str = "1 1 1 at 0\n1 1 2 export 0 rows 0 batches 0 frozen 0\n";
 
-// The calls of the source, of the output and of the outlet that fail.
+/// The calls of the source, of the output and of the outlet that fail.
 #[derive(Clone, Copy)]
 struct Failing {
     source: &'static [u64],
@@ -160,8 +160,8 @@ const NOTHING_FAILS: Failing = Failing {
     outlet: &[],
 };
 
-// Words, commands, and what fails; the status, what was printed, how many names the outlet was
-// started with, and how many bytes it was sent.
+/// Words, commands, and what fails; the status, what was printed, how many names the outlet was
+/// started with, and how many bytes it was sent.
 struct Fault {
     words: &'static [&'static str],
     commands: &'static str,
@@ -360,7 +360,7 @@ fn workload(alloc: Global, commands: &str) -> Result<String, AllocError> {
     Ok(text)
 }
 
-// How a run ended, and what it printed and sent.
+/// How a run ended, and what it printed and sent.
 #[derive(Drop)]
 struct Ended {
     status: Status,
@@ -426,7 +426,7 @@ fn inputs_are_refused(rt: HostRuntime) -> Result<(), Fail> {
     Ok(())
 }
 
-// A workload over several tables or kinds, and what it prints.
+/// A workload over several tables or kinds, and what it prints.
 const WORKLOADS: [(&str, &str); 2] = [
     (
         "store 1\ntable b key:i64 slots 8 blocks 1\ntable c key:i64 n:u16? t:utf8 slots 8 blocks 2\nsessions 1\n\
@@ -452,9 +452,9 @@ fn tables_are_told_apart(rt: HostRuntime) -> Result<(), Fail> {
     Ok(())
 }
 
-// The body of the batch of the rows `1 -3 true x00ff` and `2 null null null`: the keys from place
-// 0, of `p` the validity from 16 and the numbers from 24, of `q` the validity from 32 and the bits
-// from 40, of `r` the validity from 48, the offsets from 56 and the bytes from 72.
+/// The body of the batch of the rows `1 -3 true x00ff` and `2 null null null`: the keys from place
+/// 0, of `p` the validity from 16 and the numbers from 24, of `q` the validity from 32 and the bits
+/// from 40, of `r` the validity from 48, the offsets from 56 and the bytes from 72.
 const MIXED_BODY: &[u8; 80] = b"\x01\x00\x00\x00\x00\x00\x00\x00\
     \x02\x00\x00\x00\x00\x00\x00\x00\
     \x01\x00\x00\x00\x00\x00\x00\x00\
@@ -466,7 +466,7 @@ const MIXED_BODY: &[u8; 80] = b"\x01\x00\x00\x00\x00\x00\x00\x00\
     \x02\x00\x00\x00\x00\x00\x00\x00\
     \x00\xff\x00\x00\x00\x00\x00\x00";
 
-// Where its buffers lie and how long they are, in the order of the columns.
+/// Where its buffers lie and how long they are, in the order of the columns.
 const MIXED_BUFFERS: [(u64, u64); 9] = [
     (0, 0),
     (0, 16),
@@ -515,7 +515,7 @@ fn kinds_are_mixed_in_a_batch(rt: HostRuntime) -> Result<(), Fail> {
     Ok(())
 }
 
-// A workload of one table of the key and so many texts, with so many slots.
+/// A workload of one table of the key and so many texts, with so many slots.
 fn wide(alloc: Global, texts: u32, slots: u32) -> Result<String, AllocError> {
     let mut text = String::from_str(alloc, "store 1\ntable b key:i64")?;
     for column in 0..texts {
@@ -527,7 +527,7 @@ fn wide(alloc: Global, texts: u32, slots: u32) -> Result<String, AllocError> {
     Ok(text)
 }
 
-// A workload of so many tables.
+/// A workload of so many tables.
 fn many(alloc: Global, tables: u32) -> Result<String, AllocError> {
     let mut text = String::from_str(alloc, "store 1\n")?;
     for table in 0..tables {
@@ -604,7 +604,7 @@ fn blocks_are_batches(rt: HostRuntime) -> Result<(), Fail> {
     Ok(())
 }
 
-// The keys 1, 2 and 3 of a table of that one column.
+/// The keys 1, 2 and 3 of a table of that one column.
 const THREE_KEYS: &[u8; 344] = b"\xff\xff\xff\xff\x98\x00\x00\x00\
     \x18\x00\x00\x00\x00\x00\x00\x00\
     \x0c\x00\x14\x00\x10\x00\x12\x00\

@@ -1,8 +1,10 @@
 //! The words of the command line.
-ghost use Rattle.std.specs.Prelude.{◌≡◌, ◌≢◌, ◌≤◌, None, IsErrOf, IfOk, IfSome, Some, false, map, option_map, string_bytes};
+ghost use Rattle.std.specs.Prelude.{◌≡◌, ◌≢◌, ◌≤◌, None, IsErrOf, IfOk, IfSome, Some, false, map};
+ghost use Rattle.std.specs.Prelude.{option_map, string_bytes};
 ghost use Rattle.clap.specs.Words.{app_of, found_of, kind_of, rows_of};
 ghost use Rattle.clap.specs.declared.builder.command.Command.TheViews.{out-Command};
-ghost use Rattle.mainline.specs.Words.{IsSized, asked_by, bench_app, bench_asks, command_asks, mainline_app, meaning, number_at, number_in, run_app};
+ghost use Rattle.mainline.specs.Words.{IsSized, asked_by, bench_app, bench_asks, command_asks};
+ghost use Rattle.mainline.specs.Words.{mainline_app, meaning, number_at, number_in, run_app};
 
 use clap::error::ErrorKind;
 use clap::{Arg, ArgMatches, Command, Error};
@@ -35,9 +37,11 @@ pub enum WordsFault {
 
 /// What the words ask for: the program's name, and then what its command takes.
 pub fn work_of<'a>(alloc: Global, words: &'a [String]) -> Result<Work<'a>, WordsFault>
-    ensures ok { IfOk result (λ work. asked_by (map string_bytes words.entry.now) ≡ Some (meaning work)) }
+    ensures ok { IfOk result (λ work. asked_by (map string_bytes words.entry.now)
+        ≡ Some (meaning work)) }
     ensures sized { IfOk result IsSized }
-    ensures usage { IsErrOf result WordsFault.Usage → asked_by (map string_bytes words.entry.now) ≡ None }
+    ensures usage { IsErrOf result WordsFault.Usage → asked_by (map string_bytes words.entry.now)
+        ≡ None }
 {
     let Ok(command) = command(alloc) else {
         return Err(WordsFault::Memory);
@@ -54,7 +58,7 @@ pub fn work_of<'a>(alloc: Global, words: &'a [String]) -> Result<Work<'a>, Words
     }
 }
 
-// Whether words were refused for want of memory or for what they are.
+/// Whether words were refused for want of memory or for what they are.
 fn words_fault(fault: &Error) -> WordsFault
     ensures { result ≡ WordsFault.Usage → kind_of fault.now ≢ ErrorKind.OutOfMemory }
 {
@@ -66,7 +70,8 @@ fn words_fault(fault: &Error) -> WordsFault
 
 /// What the subcommand of this name asks for.
 fn named<'a>(name: &str, matches: &ArgMatches<'a>) -> Option<Work<'a>>
-    ensures asked { option_map meaning result ≡ command_asks name.now (rows_of (found_of matches.now)) }
+    ensures asked { option_map meaning result
+        ≡ command_asks name.now (rows_of (found_of matches.now)) }
     ensures sized { IfSome result IsSized }
 {
     if name == "run" {
@@ -128,7 +133,7 @@ fn command<'a>(alloc: Global) -> Result<Command<'a>, AllocError>
         .subcommand(bench_command(alloc)?)
 }
 
-// The command to run a workload, with the path of its export if it is given one.
+/// The command to run a workload, with the path of its export if it is given one.
 fn run_command<'a>(alloc: Global) -> Result<Command<'a>, AllocError>
     ensures app { IfOk result (λ command. app_of command ≡ run_app) }
     ensures plain { IfOk result (λ command. (out-Command command).has_globals ≡ false) }
@@ -136,7 +141,7 @@ fn run_command<'a>(alloc: Global) -> Result<Command<'a>, AllocError>
     Command::new(alloc, "run").arg(Arg::new(alloc, "export").long("export"))
 }
 
-// The command to run a generated workload of a seed and a size.
+/// The command to run a generated workload of a seed and a size.
 fn bench_command<'a>(alloc: Global) -> Result<Command<'a>, AllocError>
     ensures app { IfOk result (λ command. app_of command ≡ bench_app) }
     ensures plain { IfOk result (λ command. (out-Command command).has_globals ≡ false) }

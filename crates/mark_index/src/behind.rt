@@ -33,7 +33,9 @@ impl<K: Ord + Drop> MarkIndex<K, u64> {
     /// Puts a number behind those of a key, unless it is the last there.
     pub fn push_number(&mut self, alloc: Global, key: K, number: u64) -> Result<(), AllocError>
         ensures { OnOk result ((other : K) → marks_at K.cmp self.new other
-            ≡ with_mark (is_eq (K.cmp key other) && not (is_last (λ its. its == number) (marks_at K.cmp self.old key))) number (marks_at K.cmp self.old other)) }
+            ≡ with_mark (is_eq (K.cmp key other)
+            && not (is_last (λ its. its == number) (marks_at K.cmp self.old key))) number
+            (marks_at K.cmp self.old other)) }
     {
         let numbers = self.lists.entry(key)?.or_insert(Vec::new(alloc));
         if is_last_number(numbers.as_slice(), number) {
@@ -57,7 +59,9 @@ impl<K: Ord + Drop> MarkIndex<K, Peak> {
     ) -> Result<(), AllocError>
         requires { IsNonDecreasingBy (λ peak. peak.place) (marks_at K.cmp self.old key) }
         ensures { OnOk result ((other : K) → marks_at K.cmp self.new other
-            ≡ with_mark (is_eq (K.cmp key other)) (next_peak (marks_at K.cmp self.old key) place start value) (marks_at K.cmp self.old other)) }
+            ≡ with_mark (is_eq (K.cmp key other))
+            (next_peak (marks_at K.cmp self.old key) place start value)
+            (marks_at K.cmp self.old other)) }
     {
         let peaks = self.lists.entry(key)?.or_insert(Vec::new(alloc));
         let peak = next_peak(peaks.as_slice(), place, start, value);
@@ -77,8 +81,10 @@ impl<K: Ord + Drop> MarkIndex<K, Peak> {
     ) -> Result<(), AllocError>
         requires { IsNonDecreasingBy (λ peak. peak.place) (marks_at K.cmp self.old key) }
         ensures { OnOk result ((other : K) → marks_at K.cmp self.new other
-            ≡ with_mark (is_eq (K.cmp key other) && not (is_last (λ its. its.place == place) (marks_at K.cmp self.old key)))
-            (next_peak (marks_at K.cmp self.old key) place start value) (marks_at K.cmp self.old other)) }
+            ≡ with_mark (is_eq (K.cmp key other)
+            && not (is_last (λ its. its.place == place) (marks_at K.cmp self.old key)))
+            (next_peak (marks_at K.cmp self.old key) place start value)
+            (marks_at K.cmp self.old other)) }
     {
         let peaks = self.lists.entry(key)?.or_insert(Vec::new(alloc));
         let known = peaks.as_slice();

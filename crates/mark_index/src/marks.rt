@@ -2,7 +2,8 @@
 ghost use Rattle.std.specs.Prelude.{◌≡◌, ◌*◌, ◌^◌, ◌<◌, ◌≤◌, max, nat_lt, if◌then◌else◌};
 ghost use Rattle.std.specs.List.Sorted.{IsNonDecreasing, IsNonDecreasingBy};
 ghost use Rattle.std.specs.Option.{option_map_or};
-ghost use Rattle.mark_index.specs.Marks.{count_below, last_below, last_sum, most_below, next_peak, next_sum, own_below, total_below};
+ghost use Rattle.mark_index.specs.Marks.{count_below, last_below, last_sum, most_below, next_peak};
+ghost use Rattle.mark_index.specs.Marks.{next_sum, own_below, total_below};
 
 /// How many of the places, which rise, are below one.
 pub fn count_below(places: &[usize], place: usize) -> usize
@@ -41,7 +42,8 @@ fn most_of(last: Option<Peak>) -> u128
 
 /// The highest value that a peak tells from a start on.
 fn own_of(last: Option<Peak>, start: usize) -> u128
-    ensures { result ≡ option_map_or (λ peak. if nat_lt peak.place start then 0 else peak.own) last 0 }
+    ensures { result ≡ option_map_or (λ peak. if nat_lt peak.place start then 0 else peak.own) last
+        0 }
 {
     match last {
         None => 0,

@@ -1,5 +1,6 @@
 -- What the moments of a run are.
-use Rattle.std.specs.Prelude.{◌≡◌, ⊤, ℕ, nat_le, ◌+◌, ◌≤◌, List, [], ◌∷◌, ◌++◌, Option, None, Some, IfSome, option_to_list, if◌then◌else◌}
+use Rattle.std.specs.Prelude.{◌≡◌, ⊤, ℕ, nat_le, ◌+◌, ◌≤◌, List, [], ◌∷◌, ◌++◌, Option, None, Some}
+use Rattle.std.specs.Prelude.{IfSome, option_to_list, if◌then◌else◌}
 use Rattle.event_spec.specs.Lawful.{Among}
 use Rattle.outcome_spec.specs.Entries.{Entry, thread}
 use Rattle.outcome_spec.specs.Forms.{commands_of, is_worker}
@@ -43,7 +44,8 @@ IsPrinted who call (Some entry) =
 -- A call ends: one's events in front are those before the call and the call's, but for the event of
 -- this moment, if it has one.
 pub record Ends
-    (script : Script) (front : List Occurrence) (seat : ℕ) (event : Option Occurrence) (line : Lined)
+    (script : Script) (front : List Occurrence) (seat : ℕ) (event : Option Occurrence)
+    (line : Lined)
     : Type 0 where
   pub began : List Occurrence
   pub done : List Occurrence

@@ -1,5 +1,6 @@
 -- The moments of a run: those of its rounds, with the printed reply of each call.
-use Rattle.std.specs.Prelude.{ℕ, ◌+◌, ◌-◌, nat_le, ◌==◌, List, [], ◌∷◌, ◌++◌, map, filter_map, Option, None, Some, option_and_then, if◌then◌else◌}
+use Rattle.std.specs.Prelude.{ℕ, ◌+◌, ◌-◌, nat_le, ◌==◌, List, [], ◌∷◌, ◌++◌, map, filter_map}
+use Rattle.std.specs.Prelude.{Option, None, Some, option_and_then, if◌then◌else◌}
 use Rattle.std.specs.List.{flat_map, range_with_len}
 use Rattle.cell_model.specs.declared.table.TableDecl.{TableDecl}
 use Rattle.outcome_spec.specs.Entries.{Entry}

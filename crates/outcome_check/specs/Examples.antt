@@ -18,6 +18,7 @@ reply_at round who index = record {
 -- Two sessions and a worker in the second of three rounds, about the second session's second reply.
 abbrev pub RepliesOfThreeRounds : Type 0
 RepliesOfThreeRounds = Sides
-    (reply_at 1 (Session 2) 1 ∷ reply_at 2 (Session 1) 1 ∷ reply_at 2 (Session 2) 1 ∷ reply_at 2 (Session 2) 2
+    (reply_at 1 (Session 2) 1 ∷ reply_at 2 (Session 1) 1 ∷ reply_at 2 (Session 2) 1 ∷ reply_at 2
+    (Session 2) 2
     ∷ reply_at 2 (Session 2) 3 ∷ reply_at 2 (Worker 2) 2 ∷ reply_at 3 (Session 1) 1 ∷ [])
     (reply_at 2 (Session 2) 2)

@@ -1,6 +1,7 @@
--- The places of an output's replies: between which places stand those of a reply's round, and those of its round that are
--- its own session's or worker's.
-use Rattle.std.specs.Prelude.{◌≡◌, ℕ, ◌+◌, Bool, true, false, ◌&&◌, ◌||◌, ◌==◌, nat_lt, nat_le, List, [], ◌∷◌, ◌++◌, take, drop, length, count_by}
+-- The places of an output's replies: between which places stand those of a reply's round, and those
+-- of its round that are its own session's or worker's.
+use Rattle.std.specs.Prelude.{◌≡◌, ℕ, ◌+◌, Bool, true, false, ◌&&◌, ◌||◌, ◌==◌, nat_lt, nat_le}
+use Rattle.std.specs.Prelude.{List, [], ◌∷◌, ◌++◌, take, drop, length, count_by}
 use Rattle.std.specs.List.{list_all}
 use Rattle.workload_spec.specs.declared.reply.Who.{Who}
 use Rattle.workload_spec.specs.declared.reply.Who.TheVariants.{Session, Worker}
@@ -20,9 +21,11 @@ is_up_to a b = is_earlier a b || is_same a b
 
 -- the other is of an earlier round, or of the reply's round and to one of these
 abbrev pub is_among : (Who → Bool) → Entry → Entry → Bool
-is_among chosen entry other = is_past entry other || other.reply.round == entry.reply.round && chosen other.reply.who
+is_among chosen entry other = is_past entry other || other.reply.round == entry.reply.round
+    && chosen other.reply.who
 
--- the other is of an earlier round, or of the reply's round and to one that stands in front of its session or worker
+-- the other is of an earlier round, or of the reply's round and to one that stands in front of its
+-- session or worker
 abbrev pub is_in_front : Entry → Entry → Bool
 is_in_front entry other = is_among (λ who. is_earlier who entry.reply.who) entry other
 
@@ -39,7 +42,8 @@ abbrev pub Rises : List Entry → Type 0
 Rises [] = Unit {0}
 Rises (entry ∷ entries) = (list_all (is_ahead entry) entries ≡ true) × Rises entries
 
--- where the round of a reply begins among the replies, where its own in the round begin and end, and where the round ends
+-- where the round of a reply begins among the replies, where its own in the round begin and end,
+-- and where the round ends
 abbrev pub round_start : List Entry → Entry → ℕ
 round_start entries entry = count_by (is_past entry) entries
 
@@ -56,10 +60,15 @@ round_end entries entry = count_by (λ other. nat_le other.reply.round entry.rep
 abbrev pub between : ℕ → ℕ → List Entry → List Entry
 between from to entries = drop from (take to entries)
 
--- Before a reply are the replies up to its round, and its own of the round up to it; not after it are those up to it and it,
--- and those of its round behind its own; after it are its own behind it, and those behind its round.
+-- Before a reply are the replies up to its round, and its own of the round up to it; not after it
+-- are those up to it and it, and those of its round behind its own; after it are its own behind it,
+-- and those behind its round.
 abbrev pub PlacesAreBeforeAndAfter : Type 0
-PlacesAreBeforeAndAfter = (front : List Entry) (entry : Entry) (rest entries : List Entry) → entries ≡ front ++ entry ∷ rest → Rises entries
-    → (before entries entry ≡ take (round_start entries entry) entries ++ between (own_start entries entry) (length front) entries)
-    × (not_after entries entry ≡ take (length front + 1) entries ++ between (own_end entries entry) (round_end entries entry) entries)
-    × (after entries entry ≡ between (length front + 1) (own_end entries entry) entries ++ drop (round_end entries entry) entries)
+PlacesAreBeforeAndAfter = (front : List Entry) (entry : Entry) (rest entries : List Entry) → entries
+    ≡ front ++ entry ∷ rest → Rises entries
+    → (before entries entry ≡ take (round_start entries entry) entries
+    ++ between (own_start entries entry) (length front) entries)
+    × (not_after entries entry ≡ take (length front + 1) entries
+    ++ between (own_end entries entry) (round_end entries entry) entries)
+    × (after entries entry ≡ between (length front + 1) (own_end entries entry) entries
+    ++ drop (round_end entries entry) entries)

@@ -4,7 +4,8 @@ use Rattle.std.specs.Option.{option_map_or}
 use Rattle.isolation_spec.specs.declared.place.Place.{Place}
 use Rattle.workload_spec.specs.declared.reply.Said.{Said}
 use Rattle.workload_spec.specs.declared.reply.Said.TheVariants as said
-use Rattle.outcome_spec.specs.Conflicts.{is_committed_not_after, is_first_updater, names_session, passes_no_commit, passes_no_session}
+use Rattle.outcome_spec.specs.Conflicts.{is_committed_not_after, is_first_updater, names_session}
+use Rattle.outcome_spec.specs.Conflicts.{passes_no_commit, passes_no_session}
 use Rattle.outcome_spec.specs.Entries.{Entry, before}
 use Rattle.outcome_spec.specs.Runs.{Run, Span, transaction_of, write_of}
 use Rattle.mark_index.specs.Marks.{highest}
@@ -20,14 +21,17 @@ shown_in (said.ConflictCommit number) = shown.Commit number
 shown_in said.Accepted = shown.Accepted
 shown_in _ = shown.Other
 
--- the commit number is above the snapshot, its write set has the place, and its line isn't after the reply
+-- the commit number is above the snapshot, its write set has the place, and its line isn't after
+-- the reply
 abbrev pub is_named : Run → Span → Place → Entry → ℕ → Bool
 is_named run t place entry number =
-    (nat_lt t.snapshot number && is_number_in (numbers_of run.entries place) number) && is_committed_not_after run entry number
+    (nat_lt t.snapshot number && is_number_in (numbers_of run.entries place) number)
+    && is_committed_not_after run entry number
 
 -- none above it that wrote the place has its line before the reply
 abbrev pub is_highest : List Entry → Place → Entry → ℕ → Bool
-is_highest entries place entry number = nat_le (highest (number_told entries (numbers_of entries place)) (before entries entry)) number
+is_highest entries place entry number = nat_le
+    (highest (number_told entries (numbers_of entries place)) (before entries entry)) number
 
 -- what it asks of sessions, of the numbers of commits, and of how high they are
 abbrev pub session_rule : Run → Span → Place → Entry → Shown → Bool
@@ -54,15 +58,18 @@ height_rule run t place entry shown.Other = passes_no_commit run t place entry
 -- The three parts of the condition on conflicts.
 abbrev pub sessions_hold : Run → Entry → Bool
 sessions_hold run entry = option_map_or
-    (λ t. option_map_or (λ write. session_rule run t write.0 entry (shown_in entry.reply.said)) (write_of entry.command) true)
+    (λ t. option_map_or (λ write. session_rule run t write.0 entry (shown_in entry.reply.said))
+    (write_of entry.command) true)
     (transaction_of run entry) true
 
 abbrev pub numbers_hold : Run → Entry → Bool
 numbers_hold run entry = option_map_or
-    (λ t. option_map_or (λ write. number_rule run t write.0 entry (shown_in entry.reply.said)) (write_of entry.command) true)
+    (λ t. option_map_or (λ write. number_rule run t write.0 entry (shown_in entry.reply.said))
+    (write_of entry.command) true)
     (transaction_of run entry) true
 
 abbrev pub heights_hold : Run → Entry → Bool
 heights_hold run entry = option_map_or
-    (λ t. option_map_or (λ write. height_rule run t write.0 entry (shown_in entry.reply.said)) (write_of entry.command) true)
+    (λ t. option_map_or (λ write. height_rule run t write.0 entry (shown_in entry.reply.said))
+    (write_of entry.command) true)
     (transaction_of run entry) true

@@ -9,9 +9,11 @@ use Rattle.outcome_spec.specs.Forms.{is_within}
 abbrev pub never : ℕ
 never = 2 ^ 33
 
--- one more than the round of the first of these replies that ends a transaction, `never` where none does
+-- one more than the round of the first of these replies that ends a transaction, `never` where none
+-- does
 abbrev pub stop_in : List Entry → ℕ
-stop_in entries = option_map_or (λ ending. ending.reply.round + 1) (find (λ entry. is_end entry.reply.said) entries) never
+stop_in entries = option_map_or (λ ending. ending.reply.round + 1)
+    (find (λ entry. is_end entry.reply.said) entries) never
 
 -- that of a session or worker
 abbrev pub stop_of : Who → List Entry → ℕ
@@ -22,8 +24,8 @@ abbrev pub stops_of : List Entry → List ℕ
 stops_of [] = []
 stops_of (entry ∷ entries) = stop_of entry.reply.who (entry ∷ entries) ∷ stops_of entries
 
--- A reply, and one more than the round up to which its transaction lasts: `never` where nothing ends it, and 0 where the
--- reply is in none.
+-- A reply, and one more than the round up to which its transaction lasts: `never` where nothing
+-- ends it, and 0 where the reply is in none.
 pub record Held : Type 0 where
   pub entry : Entry
   pub until : ℕ
@@ -37,7 +39,8 @@ held_at front entry rest = record {
 -- each of the replies that follow others
 abbrev pub held_behind : List Entry → List Entry → List Held
 held_behind front [] = []
-held_behind front (entry ∷ entries) = held_at front entry entries ∷ held_behind (front ++ entry ∷ []) entries
+held_behind front (entry ∷ entries) = held_at front entry entries ∷ held_behind
+    (front ++ entry ∷ []) entries
 
 abbrev pub held_in : List Entry → List Held
 held_in entries = held_behind [] entries

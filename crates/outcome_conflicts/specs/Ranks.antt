@@ -19,4 +19,5 @@ rank_of (Worker number) = record { is_worker = true; number = number }
 
 -- what is kept for one, or else what is taken for it
 abbrev pub kept_for : {T : Type 0} → ByWho T → Who → T → T
-kept_for kept who otherwise = option_map_or (λ value. value) (get rank_cmp kept.values (rank_of who)) otherwise
+kept_for kept who otherwise = option_map_or (λ value. value)
+    (get rank_cmp kept.values (rank_of who)) otherwise

@@ -60,7 +60,8 @@ impl<T: Copy> ByWho<T> {
     /// Keeps a value for one.
     pub(crate) fn set(&mut self, who: Who, value: T) -> Result<(), AllocError>
         ensures { OnOk result ((other : Whom) (otherwise : T) → kept_for self.new other otherwise
-            ≡ (if is_eq (rank_cmp (rank_of who) (rank_of other)) then value else kept_for self.old other otherwise)) }
+            ≡ (if is_eq (rank_cmp (rank_of who) (rank_of other)) then value
+            else kept_for self.old other otherwise)) }
     {
         self.values.insert(rank_of(who), value)?;
         Ok(())

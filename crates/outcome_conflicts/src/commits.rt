@@ -6,11 +6,14 @@ ghost use Rattle.mark_index.specs.Marks.{count_below, highest};
 ghost use Rattle.output_read.specs.Kept.{entries_of, entry_of};
 ghost use Rattle.output_read.specs.declared.kept.KeptReply.{KeptReply as Kept};
 ghost use Rattle.outcome_counts.specs.Asked.{IsAsked, asked_at};
-ghost use Rattle.outcome_spec.specs.Conflicts.{is_committed_not_after, is_first_updater, passes_no_commit};
+ghost use Rattle.outcome_spec.specs.Conflicts.{is_committed_not_after, is_first_updater};
+ghost use Rattle.outcome_spec.specs.Conflicts.{passes_no_commit};
 ghost use Rattle.outcome_spec.specs.Entries.{before, is_before};
 ghost use Rattle.outcome_spec.specs.Runs.{Span, run_of};
 ghost use Rattle.outcome_conflicts.specs.Conflicts.{is_highest, is_named};
-ghost use Rattle.outcome_conflicts.specs.Writers.{AreHeights, AreNumbered, count_up_to, is_number_in, number_told, numbers_of, transaction_told};
+ghost use Rattle.outcome_conflicts.specs.Writers.{AreHeights, AreNumbered, count_up_to};
+ghost use Rattle.outcome_conflicts.specs.Writers.{is_number_in, number_told, numbers_of};
+ghost use Rattle.outcome_conflicts.specs.Writers.{transaction_told};
 ghost use Rattle.outcome_history.specs.Kept.{place_in};
 
 use mark_index::MarkIndex;
@@ -35,8 +38,8 @@ pub struct Numbers {
     pub(crate) lines: BTreeMap<u64, usize>,
 }
 
-/// For each place the highest of the numbers of the commits that wrote it, of those whose lines stand
-/// up to a place of the output.
+/// For each place the highest of the numbers of the commits that wrote it, of those whose lines
+/// stand up to a place of the output.
 #[derive(Drop)]
 pub struct Heights {
     pub(crate) peaks: MarkIndex<RowKey, Peak>,
@@ -83,7 +86,9 @@ impl Heights {
     ) -> u128
         requires written { AreHeights (entries_of replies.now) self.now }
         requires asked { IsAsked replies.now at stretch.now }
-        ensures { (none : Kept) → result ≡ highest (number_told (entries_of replies.now) (numbers_of (entries_of replies.now) (place_in of)))
+        ensures { (none : Kept) → result
+            ≡ highest (number_told (entries_of replies.now)
+            (numbers_of (entries_of replies.now) (place_in of)))
             (before (entries_of replies.now) (asked_at replies.now at none)) }
     {
         let _ = replies;
@@ -102,7 +107,8 @@ impl Heights {
         requires written { AreHeights (entries_of replies.now) self.now }
         requires asked { IsAsked replies.now at stretch.now }
         ensures { (none : Kept) (tables : List TableDecl) (t : Span) → t.snapshot ≡ snapshot
-            → result ≡ passes_no_commit (run_of tables (entries_of replies.now)) t (place_in of) (asked_at replies.now at none) }
+            → result ≡ passes_no_commit (run_of tables (entries_of replies.now)) t (place_in of)
+            (asked_at replies.now at none) }
     {
         self.highest_before(replies, at, stretch, of) <= u128::from(snapshot)
     }
@@ -118,7 +124,9 @@ impl Heights {
     ) -> bool
         requires written { AreHeights (entries_of replies.now) self.now }
         requires asked { IsAsked replies.now at stretch.now }
-        ensures { (none : Kept) → result ≡ is_highest (entries_of replies.now) (place_in of) (asked_at replies.now at none) number }
+        ensures { (none : Kept) → result
+            ≡ is_highest (entries_of replies.now) (place_in of) (asked_at replies.now at none)
+            number }
     {
         self.highest_before(replies, at, stretch, of) <= u128::from(number)
     }
@@ -130,7 +138,8 @@ impl Numbers {
         requires written { AreNumbered (entries_of replies.now) self.now }
         requires inside { at < length replies.now }
         ensures { (none : Kept) (tables : List TableDecl) → result
-            ≡ is_committed_not_after (run_of tables (entries_of replies.now)) (asked_at replies.now at none) number }
+            ≡ is_committed_not_after (run_of tables (entries_of replies.now))
+            (asked_at replies.now at none) number }
     {
         match self.lines.get(&number) {
             None => false,
@@ -151,7 +160,8 @@ impl Numbers {
         count_below(numbers, number) < count_up_to(numbers, number)
     }
 
-    /// Whether the commit number is above the snapshot, wrote the place, and is not after the reply.
+    /// Whether the commit number is above the snapshot, wrote the place, and is not after the
+    /// reply.
     pub(crate) fn is_named(
         &self,
         replies: &[KeptReply<'_>],
@@ -163,7 +173,8 @@ impl Numbers {
         requires written { AreNumbered (entries_of replies.now) self.now }
         requires inside { at < length replies.now }
         ensures { (none : Kept) (tables : List TableDecl) (t : Span) → t.snapshot ≡ snapshot
-            → result ≡ is_named (run_of tables (entries_of replies.now)) t (place_in of) (asked_at replies.now at none) number }
+            → result ≡ is_named (run_of tables (entries_of replies.now)) t (place_in of)
+            (asked_at replies.now at none) number }
     {
         let wrote = self.wrote(replies, of, number);
         let is_not_after = self.is_not_after(replies, at, number);
@@ -174,7 +185,8 @@ impl Numbers {
     pub fn is_first_updater(&self, replies: &[KeptReply<'_>], of: RowKey, t: Transaction) -> bool
         requires { AreNumbered (entries_of replies.now) self.now }
         ensures { (tables : List TableDecl) (span : Span) → transaction_told span ≡ t
-            → result ≡ is_first_updater (run_of tables (entries_of replies.now)) span (place_in of) }
+            → result ≡ is_first_updater (run_of tables (entries_of replies.now)) span
+            (place_in of) }
     {
         let _ = replies;
         match t.committed {

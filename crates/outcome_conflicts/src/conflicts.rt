@@ -6,7 +6,9 @@ ghost use Rattle.output_read.specs.Kept.{entries_of, entry_of};
 ghost use Rattle.output_read.specs.declared.kept.KeptReply.{KeptReply as Kept};
 ghost use Rattle.outcome_counts.specs.Asked.{IsAsked, IsJudgedBy, asked_at};
 ghost use Rattle.outcome_spec.specs.Runs.{Span, run_of, transaction_of};
-ghost use Rattle.outcome_conflicts.specs.Conflicts.{height_rule, heights_hold, number_rule, numbers_hold, session_rule, sessions_hold, shown_in};
+ghost use Rattle.outcome_conflicts.specs.Conflicts.{height_rule, heights_hold, number_rule};
+ghost use Rattle.outcome_conflicts.specs.Conflicts.{numbers_hold, session_rule, sessions_hold};
+ghost use Rattle.outcome_conflicts.specs.Conflicts.{shown_in};
 ghost use Rattle.outcome_conflicts.specs.Rivals.{AreRivals};
 ghost use Rattle.outcome_conflicts.specs.Writers.{AreHeights, AreNumbered, transaction_told};
 ghost use Rattle.outcome_conflicts.specs.Written.{place_written};
@@ -68,8 +70,10 @@ impl Rivals {
     ) -> bool
         requires held { AreRivals (entries_of replies.now) (length replies.now) self.now }
         requires asked { IsAsked replies.now at stretch.now }
-        ensures { (none : Kept) (tables : List TableDecl) (span : Span) → let entry = asked_at replies.now at none in span.who ≡ entry.reply.who
-            → result ≡ session_rule (run_of tables (entries_of replies.now)) span (place_in of) entry (shown_in entry.reply.said) }
+        ensures { (none : Kept) (tables : List TableDecl) (span : Span)
+            → let entry = asked_at replies.now at none in span.who ≡ entry.reply.who
+            → result ≡ session_rule (run_of tables (entries_of replies.now)) span (place_in of)
+            entry (shown_in entry.reply.said) }
     {
         match shown_in(&replies[at]) {
             Shown::Refused => true,
@@ -91,8 +95,12 @@ impl Rivals {
         requires held { AreRivals (entries_of replies.now) (length replies.now) self.now }
         requires asked { IsAsked replies.now at stretch.now }
         requires own { (none : Kept) (tables : List TableDecl)
-            → option_map transaction_told (transaction_of (run_of tables (entries_of replies.now)) (asked_at replies.now at none)) ≡ transaction }
-        ensures { (tables : List TableDecl) → IsJudgedBy (sessions_hold (run_of tables (entries_of replies.now))) replies.now at result }
+            → option_map transaction_told
+            (transaction_of (run_of tables (entries_of replies.now))
+            (asked_at replies.now at none)) ≡ transaction }
+        ensures { (tables : List TableDecl)
+            → IsJudgedBy (sessions_hold (run_of tables (entries_of replies.now))) replies.now at
+            result }
     {
         let Some(own) = transaction else {
             return true;
@@ -106,13 +114,15 @@ impl Rivals {
 }
 
 impl Numbers {
-    /// Whether the reply to a write of the place, in the transaction, keeps what its rule asks of the
-    /// numbers of commits.
+    /// Whether the reply to a write of the place, in the transaction, keeps what its rule asks of
+    /// the numbers of commits.
     fn number_rule(&self, replies: &[KeptReply<'_>], at: usize, of: RowKey, t: Transaction) -> bool
         requires written { AreNumbered (entries_of replies.now) self.now }
         requires inside { at < length replies.now }
-        ensures { (none : Kept) (tables : List TableDecl) (span : Span) → let entry = asked_at replies.now at none in transaction_told span ≡ t
-            → result ≡ number_rule (run_of tables (entries_of replies.now)) span (place_in of) entry (shown_in entry.reply.said) }
+        ensures { (none : Kept) (tables : List TableDecl) (span : Span)
+            → let entry = asked_at replies.now at none in transaction_told span ≡ t
+            → result ≡ number_rule (run_of tables (entries_of replies.now)) span (place_in of) entry
+            (shown_in entry.reply.said) }
     {
         match shown_in(&replies[at]) {
             Shown::Refused => true,
@@ -123,8 +133,8 @@ impl Numbers {
         }
     }
 
-    /// Whether the reply, in its transaction if it is in one, keeps what its rule asks of the numbers
-    /// of commits.
+    /// Whether the reply, in its transaction if it is in one, keeps what its rule asks of the
+    /// numbers of commits.
     pub fn numbers_hold(
         &self,
         replies: &[KeptReply<'_>],
@@ -134,8 +144,12 @@ impl Numbers {
         requires written { AreNumbered (entries_of replies.now) self.now }
         requires inside { at < length replies.now }
         requires own { (none : Kept) (tables : List TableDecl)
-            → option_map transaction_told (transaction_of (run_of tables (entries_of replies.now)) (asked_at replies.now at none)) ≡ transaction }
-        ensures { (tables : List TableDecl) → IsJudgedBy (numbers_hold (run_of tables (entries_of replies.now))) replies.now at result }
+            → option_map transaction_told
+            (transaction_of (run_of tables (entries_of replies.now))
+            (asked_at replies.now at none)) ≡ transaction }
+        ensures { (tables : List TableDecl)
+            → IsJudgedBy (numbers_hold (run_of tables (entries_of replies.now))) replies.now at
+            result }
     {
         let Some(t) = transaction else {
             return true;
@@ -148,8 +162,8 @@ impl Numbers {
 }
 
 impl Heights {
-    /// Whether the reply to a write of the place, in the transaction, keeps what its rule asks of how
-    /// high commits are.
+    /// Whether the reply to a write of the place, in the transaction, keeps what its rule asks of
+    /// how high commits are.
     fn height_rule(
         &self,
         replies: &[KeptReply<'_>],
@@ -160,8 +174,10 @@ impl Heights {
     ) -> bool
         requires written { AreHeights (entries_of replies.now) self.now }
         requires asked { IsAsked replies.now at stretch.now }
-        ensures { (none : Kept) (tables : List TableDecl) (span : Span) → let entry = asked_at replies.now at none in transaction_told span ≡ t
-            → result ≡ height_rule (run_of tables (entries_of replies.now)) span (place_in of) entry (shown_in entry.reply.said) }
+        ensures { (none : Kept) (tables : List TableDecl) (span : Span)
+            → let entry = asked_at replies.now at none in transaction_told span ≡ t
+            → result ≡ height_rule (run_of tables (entries_of replies.now)) span (place_in of) entry
+            (shown_in entry.reply.said) }
     {
         match shown_in(&replies[at]) {
             Shown::Refused => true,
@@ -184,8 +200,12 @@ impl Heights {
         requires written { AreHeights (entries_of replies.now) self.now }
         requires asked { IsAsked replies.now at stretch.now }
         requires own { (none : Kept) (tables : List TableDecl)
-            → option_map transaction_told (transaction_of (run_of tables (entries_of replies.now)) (asked_at replies.now at none)) ≡ transaction }
-        ensures { (tables : List TableDecl) → IsJudgedBy (heights_hold (run_of tables (entries_of replies.now))) replies.now at result }
+            → option_map transaction_told
+            (transaction_of (run_of tables (entries_of replies.now))
+            (asked_at replies.now at none)) ≡ transaction }
+        ensures { (tables : List TableDecl)
+            → IsJudgedBy (heights_hold (run_of tables (entries_of replies.now))) replies.now at
+            result }
     {
         let Some(t) = transaction else {
             return true;

@@ -30,9 +30,11 @@ fn is_opening(reply: &KeptReply<'_>) -> bool
 
 /// Notes where the reply's session or worker next ends a transaction, seen from the reply on.
 fn pass_end(next: &mut ByWho<u64>, reply: &KeptReply<'_>) -> Result<(), AllocError>
-    ensures { let entry = entry_of reply.now in OnOk result ((who : Whom) → kept_for next.new who never
+    ensures { let entry = entry_of reply.now in OnOk result
+        ((who : Whom) → kept_for next.new who never
         ≡ (if is_same entry.reply.who who
-        then (if is_end entry.reply.said then entry.reply.round + 1 else kept_for next.old who never)
+        then (if is_end entry.reply.said then entry.reply.round + 1
+        else kept_for next.old who never)
         else kept_for next.old who never)) }
 {
     if !is_end(reply) {
@@ -58,8 +60,10 @@ fn stops_of(alloc: Global, replies: &[KeptReply<'_>]) -> Result<Vec<u64>, AllocE
 
 /// Notes whether the reply's session or worker is in a transaction behind the reply.
 fn pass_bound(within: &mut ByWho<bool>, reply: &KeptReply<'_>) -> Result<(), AllocError>
-    ensures { let entry = entry_of reply.now in OnOk result ((who : Whom) → kept_for within.new who false
-        ≡ (if is_same entry.reply.who who then within_behind (kept_for within.old who false) entry.reply.said
+    ensures { let entry = entry_of reply.now in OnOk result
+        ((who : Whom) → kept_for within.new who false
+        ≡ (if is_same entry.reply.who who
+        then within_behind (kept_for within.old who false) entry.reply.said
         else kept_for within.old who false)) }
 {
     if is_opening(reply) {
@@ -80,7 +84,8 @@ fn held_to(is_within: bool, stop: u64) -> u64
 
 /// For each reply one more than the round up to which its transaction lasts, 0 where it is in none.
 pub(crate) fn held_until(alloc: Global, replies: &[KeptReply<'_>]) -> Result<Vec<u64>, AllocError>
-    ensures { IfOk result (λ untils. untils.items ≡ map (λ held. held.until) (held_in (entries_of replies.now))) }
+    ensures { IfOk result (λ untils. untils.items
+        ≡ map (λ held. held.until) (held_in (entries_of replies.now))) }
 {
     let stops = stops_of(alloc, replies)?;
     let mut within = ByWho::new(alloc);

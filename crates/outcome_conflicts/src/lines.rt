@@ -1,5 +1,6 @@
 //! Where the line of each commit number stands.
-ghost use Rattle.std.specs.Prelude.{◌≡◌, IfOk, None, OnOk, Some, option_and_then, if◌then◌else◌, slice_get, ℕ};
+ghost use Rattle.std.specs.Prelude.{◌≡◌, IfOk, None, OnOk, Some, option_and_then, if◌then◌else◌};
+ghost use Rattle.std.specs.Prelude.{slice_get, ℕ};
 ghost use Rattle.std.specs.BTreeMap.{get};
 ghost use Rattle.std.specs.Option.{option_or};
 ghost use Rattle.std.specs.Ordering.{nat_cmp};
@@ -29,7 +30,8 @@ fn note_line(
     place: usize,
 ) -> Result<(), AllocError>
     ensures { OnOk result ((other : ℕ) → get nat_cmp lines.new other
-        ≡ option_or (get nat_cmp lines.old other) (if is_keyed nat_cmp other number then Some place else None)) }
+        ≡ option_or (get nat_cmp lines.old other)
+        (if is_keyed nat_cmp other number then Some place else None)) }
 {
     let Some(number) = number else {
         return Ok(());
@@ -46,7 +48,8 @@ pub(crate) fn lines_of(
     alloc: Global,
     replies: &[KeptReply<'_>],
 ) -> Result<BTreeMap<u64, usize>, AllocError>
-    ensures { IfOk result (λ lines. (number : ℕ) → option_and_then (slice_get (entries_of replies.now)) (get nat_cmp lines number)
+    ensures { IfOk result (λ lines. (number : ℕ)
+        → option_and_then (slice_get (entries_of replies.now)) (get nat_cmp lines number)
         ≡ commit_line (entries_of replies.now) number) }
 {
     let mut lines = BTreeMap::new(alloc);

@@ -9,7 +9,8 @@ ghost use Rattle.outcome_spec.specs.Entries.{is_same};
 ghost use Rattle.output_read.specs.Kept.{entries_of, entry_of};
 ghost use Rattle.outcome_counts.specs.Keys.{is_keyed};
 ghost use Rattle.outcome_conflicts.specs.Leads.{AreFollowed, is_ordered};
-ghost use Rattle.outcome_conflicts.specs.Rivals.{AreRivals, IsMarked, row_of, writer_at, writer_cmp};
+ghost use Rattle.outcome_conflicts.specs.Rivals.{AreRivals, IsMarked, row_of, writer_at};
+ghost use Rattle.outcome_conflicts.specs.Rivals.{writer_cmp};
 ghost use Rattle.outcome_history.specs.Kept.{key_cmp};
 ghost use Rattle.outcome_conflicts.specs.declared.rivals.Writer.{Writer as Whom};
 ghost use Rattle.outcome_history.specs.declared.keys.RowKey.{RowKey as Where};
@@ -32,7 +33,8 @@ pub(crate) struct Writer {
     pub(crate) key: i128,
 }
 
-/// For each place and session that writes it, and for each place among all, for how long it is held.
+/// For each place and session that writes it, and for each place among all, for how long it is
+/// held.
 #[derive(Drop)]
 pub struct Rivals {
     pub(crate) writers: MarkIndex<Writer, Peak>,
@@ -47,7 +49,8 @@ fn note_writer(
     place: usize,
     until: u64,
 ) -> Result<(), AllocError>
-    requires { (other : Whom) → IsNonDecreasingBy (λ peak. peak.place) (marks_at writer_cmp writers.old other) }
+    requires { (other : Whom) → IsNonDecreasingBy (λ peak. peak.place)
+        (marks_at writer_cmp writers.old other) }
     ensures { OnOk result ((other : Whom) → marks_at writer_cmp writers.new other
         ≡ with_mark (is_keyed writer_cmp other writer)
         (next_peak (marks_at writer_cmp writers.old other) place place until)
@@ -93,7 +96,8 @@ pub(crate) fn writer_at(of: RowKey, session: u32) -> Writer
 /// Who accepts a write, if a session does.
 fn writer_of(reply: &KeptReply<'_>, of: Option<RowKey>) -> Option<Writer>
     ensures { (other : Whom) → is_keyed writer_cmp other result
-        ≡ (is_same (entry_of reply.now).reply.who (Session other.session) && is_keyed key_cmp (row_of other) of) }
+        ≡ (is_same (entry_of reply.now).reply.who (Session other.session)
+        && is_keyed key_cmp (row_of other) of) }
 {
     match (reply.who, of) {
         (Who::Session(session), Some(of)) => Some(writer_at(of, session)),
@@ -121,9 +125,12 @@ impl Rivals {
         place: usize,
         until: u64,
     ) -> Result<(), AllocError>
-        requires rise { (writer : Whom) → IsNonDecreasingBy (λ peak. peak.place) (marks_at writer_cmp self.old.writers writer) }
-        requires ordered { (of : Where) → list_all is_ordered (marks_at key_cmp self.old.leads of) ≡ true }
-        ensures { OnOk result (IsMarked (record { entry = entry_of reply.now; until = until }) place self.old self.new) }
+        requires rise { (writer : Whom)
+            → IsNonDecreasingBy (λ peak. peak.place) (marks_at writer_cmp self.old.writers writer) }
+        requires ordered { (of : Where) → list_all is_ordered (marks_at key_cmp self.old.leads of)
+            ≡ true }
+        ensures { OnOk result (IsMarked (record { entry = entry_of reply.now; until = until }) place
+            self.old self.new) }
     {
         let of = written_by(reply);
         note_writer(alloc, &mut self.writers, writer_of(reply, of), place, until)?;
@@ -132,7 +139,8 @@ impl Rivals {
 
     /// What all replies hold.
     pub fn of(alloc: Global, replies: &[KeptReply<'_>]) -> Result<Rivals, AllocError>
-        ensures { IfOk result (λ rivals. AreRivals (entries_of replies.now) (length replies.now) rivals) }
+        ensures { IfOk result (λ rivals. AreRivals (entries_of replies.now) (length replies.now)
+            rivals) }
     {
         let untils = held_until(alloc, replies)?;
         let mut rivals = Rivals::new(alloc);

@@ -26,8 +26,8 @@ fn round_of(reply: &KeptReply<'_>) -> u64
 }
 
 impl Rivals {
-    /// Whether a session, not the reply's own, has a transaction with an accepted write of the place
-    /// that is not after the reply, whose end is not before it.
+    /// Whether a session, not the reply's own, has a transaction with an accepted write of the
+    /// place that is not after the reply, whose end is not before it.
     pub fn names_session(
         &self,
         replies: &[KeptReply<'_>],
@@ -38,8 +38,10 @@ impl Rivals {
     ) -> bool
         requires held { AreRivals (entries_of replies.now) (length replies.now) self.now }
         requires asked { IsAsked replies.now at stretch.now }
-        ensures { (none : Kept) (tables : List TableDecl) (t : Span) → t.who ≡ (asked_at replies.now at none).reply.who
-            → result ≡ names_session (run_of tables (entries_of replies.now)) t (place_in of) (asked_at replies.now at none) session }
+        ensures { (none : Kept) (tables : List TableDecl) (t : Span) → t.who
+            ≡ (asked_at replies.now at none).reply.who
+            → result ≡ names_session (run_of tables (entries_of replies.now)) t (place_in of)
+            (asked_at replies.now at none) session }
     {
         let reply = &replies[at];
         if is_one(reply.who, Who::Session(session)) {
@@ -61,8 +63,10 @@ impl Rivals {
     ) -> bool
         requires held { AreRivals (entries_of replies.now) (length replies.now) self.now }
         requires asked { IsAsked replies.now at stretch.now }
-        ensures { (none : Kept) (tables : List TableDecl) (t : Span) → t.who ≡ (asked_at replies.now at none).reply.who
-            → result ≡ passes_no_session (run_of tables (entries_of replies.now)) t (place_in of) (asked_at replies.now at none) }
+        ensures { (none : Kept) (tables : List TableDecl) (t : Span) → t.who
+            ≡ (asked_at replies.now at none).reply.who
+            → result ≡ passes_no_session (run_of tables (entries_of replies.now)) t (place_in of)
+            (asked_at replies.now at none) }
     {
         let reply = &replies[at];
         let until = most_but(self.leads.at(&of), stretch.round_start, reply.who);

@@ -19,7 +19,9 @@ pub fn transaction_at(spans: &Spans, replies: &[KeptReply<'_>], at: usize) -> Op
     requires outside { OpensOutside (entries_of replies.now) }
     requires inside { at < length replies.now }
     ensures { (none : Kept) (tables : List TableDecl)
-        → option_map transaction_told (transaction_of (run_of tables (entries_of replies.now)) (asked_at replies.now at none)) ≡ result }
+        → option_map transaction_told
+        (transaction_of (run_of tables (entries_of replies.now)) (asked_at replies.now at none))
+        ≡ result }
 {
     match spans.opening_of(replies, at) {
         None => None,

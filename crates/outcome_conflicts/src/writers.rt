@@ -1,6 +1,7 @@
 //! What the commits of an output wrote, by place: their numbers, and how high these are up to each
 //! place of the output.
-ghost use Rattle.std.specs.Prelude.{◌≡◌, ◌==◌, ◌&&◌, ◌<◌, false, not, true, IfOk, OnOk, length, nat_lt};
+ghost use Rattle.std.specs.Prelude.{◌≡◌, ◌==◌, ◌&&◌, ◌<◌, false, not, true, IfOk, OnOk, length};
+ghost use Rattle.std.specs.Prelude.{nat_lt};
 ghost use Rattle.std.specs.List.{list_all};
 ghost use Rattle.std.specs.List.Sorted.{IsNonDecreasingBy};
 ghost use Rattle.std.specs.Option.{option_map_or};
@@ -15,7 +16,9 @@ ghost use Rattle.outcome_counts.specs.BlockMarks.{starts_in};
 ghost use Rattle.outcome_spec.specs.Runs.{commit_count, committed_writes, transactions_of};
 ghost use Rattle.outcome_history.specs.Kept.{key_cmp, place_in};
 ghost use Rattle.outcome_history.specs.declared.keys.RowKey.{RowKey as Where};
-ghost use Rattle.outcome_conflicts.specs.Writers.{AreHeights, AreNumbered, AreNumbers, ArePeaksUpTo, IsWritten, is_line_at, is_written, line_told, value_at};
+ghost use Rattle.outcome_conflicts.specs.Writers.{AreHeights, AreNumbered, AreNumbers};
+ghost use Rattle.outcome_conflicts.specs.Writers.{ArePeaksUpTo, IsWritten, is_line_at, is_written};
+ghost use Rattle.outcome_conflicts.specs.Writers.{line_told, value_at};
 
 use crate::commits::{Heights, Numbers};
 use crate::lines::lines_of;
@@ -34,7 +37,8 @@ fn note_numbers(
     bound: u64,
     number: u64,
 ) -> Result<(), AllocError>
-    requires { (of : Where) → list_all (λ its. nat_lt its number) (marks_at key_cmp numbers.old of) ≡ true }
+    requires { (of : Where) → list_all (λ its. nat_lt its number) (marks_at key_cmp numbers.old of)
+        ≡ true }
     ensures { OnOk result ((of : Where) → marks_at key_cmp numbers.new of
         ≡ with_mark (is_written of bound own.now) number (marks_at key_cmp numbers.old of)) }
 {
@@ -56,10 +60,13 @@ fn note_peak(
     start: usize,
     number: u64,
 ) -> Result<(), AllocError>
-    requires { (other : Where) → IsNonDecreasingBy (λ peak. peak.place) (marks_at key_cmp peaks.old other) }
+    requires { (other : Where) → IsNonDecreasingBy (λ peak. peak.place)
+        (marks_at key_cmp peaks.old other) }
     ensures { OnOk result ((other : Where) → marks_at key_cmp peaks.new other
-        ≡ with_mark (is_eq (key_cmp of other) && not (is_last (λ its. its.place == place) (marks_at key_cmp peaks.old of)))
-        (next_peak (marks_at key_cmp peaks.old of) place start number) (marks_at key_cmp peaks.old other)) }
+        ≡ with_mark (is_eq (key_cmp of other)
+        && not (is_last (λ its. its.place == place) (marks_at key_cmp peaks.old of)))
+        (next_peak (marks_at key_cmp peaks.old of) place start number)
+        (marks_at key_cmp peaks.old other)) }
 {
     peaks.push_peak_once(alloc, of, place, start, u128::from(number))
 }
@@ -73,10 +80,14 @@ fn note_peaks(
     start: usize,
     number: u64,
 ) -> Result<(), AllocError>
-    requires rise { (of : Where) → IsNonDecreasingBy (λ peak. peak.place) (marks_at key_cmp peaks.old of) }
-    requires below { (of : Where) → list_all (λ peak. nat_lt peak.place place) (marks_at key_cmp peaks.old of) ≡ true }
+    requires rise { (of : Where) → IsNonDecreasingBy (λ peak. peak.place)
+        (marks_at key_cmp peaks.old of) }
+    requires below { (of : Where)
+        → list_all (λ peak. nat_lt peak.place place) (marks_at key_cmp peaks.old of) ≡ true }
     ensures { OnOk result ((of : Where) → marks_at key_cmp peaks.new of
-        ≡ with_mark (is_written of place own.now) (next_peak (marks_at key_cmp peaks.old of) place start number) (marks_at key_cmp peaks.old of)) }
+        ≡ with_mark (is_written of place own.now)
+        (next_peak (marks_at key_cmp peaks.old of) place start number)
+        (marks_at key_cmp peaks.old of)) }
 {
     for change in own.iter() {
         if change.left.time <= place as u64 {
@@ -124,9 +135,13 @@ impl<'w, 'a> Written<'w, 'a> {
         number: u64,
     ) -> Result<(), AllocError>
         requires written { IsWritten (entries_of replies.now) self.now }
-        requires below { (of : Where) → list_all (λ its. nat_lt its number) (marks_at key_cmp numbers.old of) ≡ true }
+        requires below { (of : Where)
+            → list_all (λ its. nat_lt its number) (marks_at key_cmp numbers.old of) ≡ true }
         ensures { OnOk result ((of : Where) → marks_at key_cmp numbers.new of
-            ≡ with_mark (writes_place (place_in of) (committed_writes (entries_of replies.now) (transactions_of (entries_of replies.now)) number)) number (marks_at key_cmp numbers.old of)) }
+            ≡ with_mark (writes_place (place_in of)
+            (committed_writes (entries_of replies.now)
+            (transactions_of (entries_of replies.now)) number)) number
+            (marks_at key_cmp numbers.old of)) }
     {
         let _ = replies;
         let Some(place) = self.places.first(number) else {
@@ -166,7 +181,8 @@ impl<'w, 'a> Written<'w, 'a> {
     fn line_at(&self, replies: &[KeptReply<'a>], place: usize, count: usize) -> Option<u64>
         requires written { IsWritten (entries_of replies.now) self.now }
         requires inside { place < length replies.now }
-        ensures { (none : Kept) → result ≡ line_told (entries_of replies.now) count place (asked_at replies.now place none) }
+        ensures { (none : Kept) → result
+            ≡ line_told (entries_of replies.now) count place (asked_at replies.now place none) }
     {
         match commit_told(&replies[place]) {
             Some(number) if self.is_line(replies, number, place, count) => Some(number),
@@ -174,8 +190,8 @@ impl<'w, 'a> Written<'w, 'a> {
         }
     }
 
-    /// Puts the number of which the reply at a place is the line, among so many, behind the others of
-    /// each place that its transaction wrote.
+    /// Puts the number of which the reply at a place is the line, among so many, behind the others
+    /// of each place that its transaction wrote.
     fn note_line(
         &self,
         alloc: Global,
@@ -187,11 +203,15 @@ impl<'w, 'a> Written<'w, 'a> {
         requires written { IsWritten (entries_of replies.now) self.now }
         requires count { count ≡ commit_count (entries_of replies.now) }
         requires inside { place < length replies.now }
-        requires rise { (of : Where) → IsNonDecreasingBy (λ peak. peak.place) (marks_at key_cmp peaks.old of) }
-        requires below { (of : Where) → list_all (λ peak. nat_lt peak.place place) (marks_at key_cmp peaks.old of) ≡ true }
-        ensures { OnOk result ((none : Kept) (of : Where) → let value = value_at (entries_of replies.now) of (asked_at replies.now place none) in
+        requires rise { (of : Where) → IsNonDecreasingBy (λ peak. peak.place)
+            (marks_at key_cmp peaks.old of) }
+        requires below { (of : Where)
+            → list_all (λ peak. nat_lt peak.place place) (marks_at key_cmp peaks.old of) ≡ true }
+        ensures { OnOk result ((none : Kept) (of : Where)
+            → let value = value_at (entries_of replies.now) of (asked_at replies.now place none) in
             marks_at key_cmp peaks.new of ≡ with_mark (nat_lt 0 value)
-            (next_peak (marks_at key_cmp peaks.old of) place (starts_in (entries_of replies.now) place) value) (marks_at key_cmp peaks.old of)) }
+            (next_peak (marks_at key_cmp peaks.old of) place
+            (starts_in (entries_of replies.now) place) value) (marks_at key_cmp peaks.old of)) }
     {
         let Some(number) = self.line_at(replies, place, count) else {
             return Ok(());
@@ -203,8 +223,8 @@ impl<'w, 'a> Written<'w, 'a> {
         note_peaks(alloc, peaks, self.changes.at(opening), place, start, number)
     }
 
-    /// For each place the highest numbers of the commits that wrote it, of so many, up to each place of
-    /// the output.
+    /// For each place the highest numbers of the commits that wrote it, of so many, up to each
+    /// place of the output.
     fn peaks(
         &self,
         alloc: Global,
@@ -213,7 +233,8 @@ impl<'w, 'a> Written<'w, 'a> {
     ) -> Result<MarkIndex<RowKey, Peak>, AllocError>
         requires written { IsWritten (entries_of replies.now) self.now }
         requires count { count ≡ commit_count (entries_of replies.now) }
-        ensures { IfOk result (λ peaks. ArePeaksUpTo (entries_of replies.now) (length replies.now) peaks) }
+        ensures { IfOk result (λ peaks. ArePeaksUpTo (entries_of replies.now) (length replies.now)
+            peaks) }
     {
         let mut peaks = MarkIndex::new(alloc);
         for place in 0..replies.len() {

@@ -17,7 +17,8 @@ asked_at replies at none = entry_of (slice_index_or replies at none)
 pub record IsAsked (replies : List KeptReply) (at : ℕ) (stretch : Stretch) : Type 0 where
   pub rises : Rises (entries_of replies)
   pub inside : at < length replies
-  pub places : (none : KeptReply) → stretch ≡ stretch_of (entries_of replies) (asked_at replies at none)
+  pub places : (none : KeptReply) → stretch
+      ≡ stretch_of (entries_of replies) (asked_at replies at none)
 
 -- the answer is what the test is of the reply that is judged
 abbrev pub IsJudgedBy : (Entry → Bool) → List KeptReply → ℕ → Bool → Type 0
@@ -26,12 +27,15 @@ IsJudgedBy test replies at answer = (none : KeptReply) → answer ≡ test (aske
 -- how many of the places are before the reply, and how many not after it
 abbrev pub count_before : List ℕ → ℕ → Stretch → ℕ
 count_before places at stretch =
-    count_below stretch.round_start places + (count_below at places - count_below stretch.own_start places)
+    count_below stretch.round_start places
+    + (count_below at places - count_below stretch.own_start places)
 
 abbrev pub count_not_after : List ℕ → ℕ → Stretch → ℕ
 count_not_after places at stretch =
-    count_below (at + 1) places + (count_below stretch.round_end places - count_below stretch.own_end places)
+    count_below (at + 1) places + (count_below stretch.round_end places - count_below
+    stretch.own_end places)
 
 -- the highest of the peaks before the reply
 abbrev pub peak_before : List Peak → ℕ → Stretch → ℕ
-peak_before peaks at stretch = max (most_below stretch.round_start peaks) (own_below stretch.own_start at peaks)
+peak_before peaks at stretch = max (most_below stretch.round_start peaks)
+    (own_below stretch.own_start at peaks)

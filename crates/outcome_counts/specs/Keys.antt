@@ -26,7 +26,8 @@ inserted_into entry = if is_accepted entry.reply.said then inserted_table entry.
 
 -- the block that a reply seals, with its stamp; and the one that it says was frozen
 abbrev pub stamp_told : Said → Option Stamp
-stamp_told (said.Sealed table block stamp) = Some (record { of = record { table = table; block = block }; stamp = stamp })
+stamp_told (said.Sealed table block stamp) = Some
+    (record { of = record { table = table; block = block }; stamp = stamp })
 stamp_told _ = None
 
 abbrev pub block_sealed : Said → Option Block
@@ -38,7 +39,8 @@ block_frozen _ = None
 
 -- the stamp under which a reply says that a block is freezing
 abbrev pub freezing_told : Said → Option Stamp
-freezing_told (said.Freezing table block stamp) = Some (record { of = record { table = table; block = block }; stamp = stamp })
+freezing_told (said.Freezing table block stamp) = Some
+    (record { of = record { table = table; block = block }; stamp = stamp })
 freezing_told _ = None
 
 -- the table that a reply to an insert says is full
@@ -48,7 +50,8 @@ full_told asked _ = None
 
 -- the rows with which a reply says that a block was frozen
 abbrev pub freeze_told : Said → Option Frozen
-freeze_told (said.Frozen table block rows) = Some (record { of = record { table = table; block = block }; rows = rows })
+freeze_told (said.Frozen table block rows) = Some
+    (record { of = record { table = table; block = block }; rows = rows })
 freeze_told _ = None
 
 -- the block that a gather finds not sealed
@@ -66,4 +69,5 @@ is_keyed cmp key told = option_map_or (λ its. is_eq (cmp its key)) told false
 
 -- one more than a stamp of the block, 0 where it is of another
 abbrev pub above_told : Block → Option Stamp → ℕ
-above_told block told = option_map_or (λ stamp. if is_eq (block_cmp stamp.of block) then stamp.stamp + 1 else 0) told 0
+above_told block told = option_map_or
+    (λ stamp. if is_eq (block_cmp stamp.of block) then stamp.stamp + 1 else 0) told 0

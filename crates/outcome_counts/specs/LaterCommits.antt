@@ -16,7 +16,8 @@ below_commit entry = below (commit_in entry.reply.said)
 
 -- where the own replies of the one at a place from the end begin, also from the end
 abbrev pub ends_in : List Entry → ℕ → ℕ
-ends_in entries back = length entries - option_map_or (own_end entries) (slice_get (reverse entries) back) 0
+ends_in entries back = length entries - option_map_or (own_end entries)
+    (slice_get (reverse entries) back) 0
 
 -- The peaks are those of the last so many replies, from the end.
 abbrev pub AreLater : List Entry → ℕ → List Peak → Type 0
@@ -24,4 +25,5 @@ AreLater entries taken peaks = ArePeaks below_commit (ends_in entries) (reverse 
 
 -- the peaks with that of a number at a place, if there is one
 abbrev pub with_low : Option ℕ → ℕ → ℕ → List Peak → List Peak
-with_low number place start peaks = with_mark (is_some number) (next_peak peaks place start (below number)) peaks
+with_low number place start peaks = with_mark (is_some number)
+    (next_peak peaks place start (below number)) peaks

@@ -5,7 +5,8 @@ use Rattle.outcome_spec.specs.Entries.{Entry, before, after, shown_in, commit_in
 use Rattle.outcome_spec.specs.Numbers.{number_shown}
 use Rattle.outcome_spec.specs.Runs.{commit_count}
 
--- the number is at most the count of commit numbers, at least each number shown before, and below each commit number after
+-- the number is at most the count of commit numbers, at least each number shown before, and below
+-- each commit number after
 abbrev pub is_snapshot : List Entry → ℕ → Entry → Bool
 is_snapshot entries number entry =
     nat_le number (commit_count entries)

@@ -24,7 +24,9 @@ impl BlockMarks {
     ) -> usize
         requires marked { AreBlockMarks (entries_of replies.now) (length replies.now) self.now }
         requires asked { IsAsked replies.now at stretch.now }
-        ensures { (none : Kept) → result ≡ seals_in block.table block.block (before (entries_of replies.now) (asked_at replies.now at none)) }
+        ensures { (none : Kept) → result
+            ≡ seals_in block.table block.block
+            (before (entries_of replies.now) (asked_at replies.now at none)) }
     {
         count_before(self.seals.at(&block), at, stretch)
     }
@@ -39,7 +41,9 @@ impl BlockMarks {
     ) -> usize
         requires marked { AreBlockMarks (entries_of replies.now) (length replies.now) self.now }
         requires asked { IsAsked replies.now at stretch.now }
-        ensures { (none : Kept) → result ≡ seals_in block.table block.block (not_after (entries_of replies.now) (asked_at replies.now at none)) }
+        ensures { (none : Kept) → result
+            ≡ seals_in block.table block.block
+            (not_after (entries_of replies.now) (asked_at replies.now at none)) }
     {
         count_not_after(self.seals.at(&block), at, stretch)
     }
@@ -54,7 +58,9 @@ impl BlockMarks {
     ) -> usize
         requires marked { AreBlockMarks (entries_of replies.now) (length replies.now) self.now }
         requires asked { IsAsked replies.now at stretch.now }
-        ensures { (none : Kept) → result ≡ freezes_in block.table block.block (before (entries_of replies.now) (asked_at replies.now at none)) }
+        ensures { (none : Kept) → result
+            ≡ freezes_in block.table block.block
+            (before (entries_of replies.now) (asked_at replies.now at none)) }
     {
         count_before(self.freezes.at(&block), at, stretch)
     }
@@ -69,7 +75,9 @@ impl BlockMarks {
     ) -> usize
         requires marked { AreBlockMarks (entries_of replies.now) (length replies.now) self.now }
         requires asked { IsAsked replies.now at stretch.now }
-        ensures { (none : Kept) → result ≡ freezes_in block.table block.block (not_after (entries_of replies.now) (asked_at replies.now at none)) }
+        ensures { (none : Kept) → result
+            ≡ freezes_in block.table block.block
+            (not_after (entries_of replies.now) (asked_at replies.now at none)) }
     {
         count_not_after(self.freezes.at(&block), at, stretch)
     }
@@ -84,7 +92,8 @@ impl BlockMarks {
     ) -> usize
         requires marked { AreBlockMarks (entries_of replies.now) (length replies.now) self.now }
         requires asked { IsAsked replies.now at stretch.now }
-        ensures { (none : Kept) → result ≡ inserts_in table (not_after (entries_of replies.now) (asked_at replies.now at none)) }
+        ensures { (none : Kept) → result
+            ≡ inserts_in table (not_after (entries_of replies.now) (asked_at replies.now at none)) }
     {
         count_not_after(self.inserts.at(&table), at, stretch)
     }
@@ -99,7 +108,9 @@ impl BlockMarks {
     ) -> usize
         requires marked { AreBlockMarks (entries_of replies.now) (length replies.now) self.now }
         requires asked { IsAsked replies.now at stretch.now }
-        ensures { (none : Kept) → result ≡ stamp_count stamp.of.table stamp.of.block stamp.stamp (not_after (entries_of replies.now) (asked_at replies.now at none)) }
+        ensures { (none : Kept) → result
+            ≡ stamp_count stamp.of.table stamp.of.block stamp.stamp
+            (not_after (entries_of replies.now) (asked_at replies.now at none)) }
     {
         count_not_after(self.stamps.at(&stamp), at, stretch)
     }
@@ -116,13 +127,15 @@ impl BlockMarks {
     /// How many seals under the stamp there are.
     pub(crate) fn stamps_of(&self, replies: &[KeptReply<'_>], stamp: Stamp) -> usize
         requires { AreBlockMarks (entries_of replies.now) (length replies.now) self.now }
-        ensures { result ≡ stamp_count stamp.of.table stamp.of.block stamp.stamp (entries_of replies.now) }
+        ensures { result ≡ stamp_count stamp.of.table stamp.of.block stamp.stamp
+            (entries_of replies.now) }
     {
         let _ = replies;
         self.stamps.at(&stamp).len()
     }
 
-    /// One more than the highest stamp of the block's seals before the reply, 0 where there is none.
+    /// One more than the highest stamp of the block's seals before the reply, 0 where there is
+    /// none.
     pub(crate) fn above_stamps_before(
         &self,
         replies: &[KeptReply<'_>],
@@ -132,7 +145,9 @@ impl BlockMarks {
     ) -> u128
         requires marked { AreBlockMarks (entries_of replies.now) (length replies.now) self.now }
         requires asked { IsAsked replies.now at stretch.now }
-        ensures { (none : Kept) → result ≡ highest (above_stamp block) (before (entries_of replies.now) (asked_at replies.now at none)) }
+        ensures { (none : Kept) → result
+            ≡ highest (above_stamp block)
+            (before (entries_of replies.now) (asked_at replies.now at none)) }
     {
         peak_before(self.peaks.at(&block), at, stretch)
     }

@@ -19,8 +19,8 @@ use mark_index::marks::{Peak, next_peak};
 use output_read::KeptReply;
 use std::alloc::{AllocError, Global};
 
-/// For each table the places of accepted inserts; for each block those of its seals and freezes, and
-/// how high its stamps are; and for each stamp the places where it is shown.
+/// For each table the places of accepted inserts; for each block those of its seals and freezes,
+/// and how high its stamps are; and for each stamp the places where it is shown.
 #[derive(Drop)]
 pub struct BlockMarks {
     pub(crate) inserts: MarkIndex<u32, usize>,
@@ -30,7 +30,8 @@ pub struct BlockMarks {
     pub(crate) peaks: MarkIndex<Block, Peak>,
 }
 
-/// Puts what is above a stamp behind the others of its block; the part at the place begins at a start.
+/// Puts what is above a stamp behind the others of its block; the part at the place begins at a
+/// start.
 fn note_peak(
     alloc: Global,
     index: &mut MarkIndex<Block, Peak>,
@@ -38,7 +39,8 @@ fn note_peak(
     place: usize,
     start: usize,
 ) -> Result<(), AllocError>
-    requires { (block : Of) → IsNonDecreasingBy (λ peak. peak.place) (marks_at block_cmp index.old block) }
+    requires { (block : Of) → IsNonDecreasingBy (λ peak. peak.place)
+        (marks_at block_cmp index.old block) }
     ensures { OnOk result ((block : Of) → marks_at block_cmp index.new block
         ≡ with_mark (is_keyed block_cmp block (option_map (λ told. told.of) stamp))
         (next_peak (marks_at block_cmp index.old block) place start (above_told block stamp))
@@ -77,7 +79,8 @@ impl BlockMarks {
         place: usize,
         start: usize,
     ) -> Result<(), AllocError>
-        requires { (block : Of) → IsNonDecreasingBy (λ peak. peak.place) (marks_at block_cmp self.old.peaks block) }
+        requires { (block : Of) → IsNonDecreasingBy (λ peak. peak.place)
+            (marks_at block_cmp self.old.peaks block) }
         ensures { OnOk result (IsNoted (entry_of reply.now) place start self.old self.new) }
     {
         let stamp = stamp_told(reply);
@@ -91,7 +94,8 @@ impl BlockMarks {
     /// The marks of all replies, which rise.
     pub fn of(alloc: Global, replies: &[KeptReply<'_>]) -> Result<BlockMarks, AllocError>
         requires { Rises (entries_of replies.now) }
-        ensures { IfOk result (λ marks. AreBlockMarks (entries_of replies.now) (length replies.now) marks) }
+        ensures { IfOk result (λ marks. AreBlockMarks (entries_of replies.now) (length replies.now)
+            marks) }
     {
         let mut marks = BlockMarks::new(alloc);
         let mut known = None;

@@ -9,7 +9,8 @@ ghost use Rattle.output_read.specs.Kept.{entries_of};
 ghost use Rattle.output_read.specs.declared.kept.KeptReply.{KeptReply as Kept};
 ghost use Rattle.outcome_counts.specs.Asked.{IsAsked, IsJudgedBy, asked_at};
 ghost use Rattle.outcome_counts.specs.BlockMarks.{AreBlockMarks};
-ghost use Rattle.outcome_counts.specs.Blocks.{block_upkeep_holds, is_freeze, is_freezing, is_full, is_idle, is_seal};
+ghost use Rattle.outcome_counts.specs.Blocks.{block_upkeep_holds, is_freeze, is_freezing, is_full};
+ghost use Rattle.outcome_counts.specs.Blocks.{is_idle, is_seal};
 
 use crate::block_marks::BlockMarks;
 use crate::keys::{
@@ -19,7 +20,8 @@ use crate::stretch::Stretch;
 use cell_model::TableDecl;
 use output_read::KeptReply;
 
-/// Whether a seal is one line, which is not after a reply, and fewer freezes than its stamp are before.
+/// Whether a seal is one line, which is not after a reply, and fewer freezes than its stamp are
+/// before.
 fn is_freezing_by(seals: usize, seals_not_after: usize, freezes: usize, stamp: u32) -> bool
     ensures { result ≡ (seals == 1 && seals_not_after == 1 && nat_lt freezes stamp) }
 {
@@ -53,7 +55,8 @@ pub fn blocks_at(tables: &[TableDecl], table: u32) -> u32
     }
 }
 
-/// Whether a stamp is 1 to the count of seals, on one line, and not below what is above those before.
+/// Whether a stamp is 1 to the count of seals, on one line, and not below what is above those
+/// before.
 fn is_seal_by(stamp: u32, seals: usize, lines: usize, above: u128) -> bool
     ensures { result ≡ (nat_le 1 stamp && nat_le stamp seals && lines == 1 && nat_le above stamp) }
 {
@@ -103,7 +106,8 @@ impl BlockMarks {
     ) -> bool
         requires marked { AreBlockMarks (entries_of replies.now) (length replies.now) self.now }
         requires asked { IsAsked replies.now at stretch.now }
-        ensures { IsJudgedBy (is_full tables.now (entries_of replies.now) table) replies.now at result }
+        ensures { IsJudgedBy (is_full tables.now (entries_of replies.now) table) replies.now at
+            result }
     {
         let capacity = u64::from(blocks_at(tables, table)) * u64::from(slots_at(tables, table));
         capacity <= self.inserts_not_after(replies, at, stretch, table) as u64
@@ -120,7 +124,8 @@ impl BlockMarks {
     ) -> bool
         requires marked { AreBlockMarks (entries_of replies.now) (length replies.now) self.now }
         requires asked { IsAsked replies.now at stretch.now }
-        ensures { IsJudgedBy (is_freeze tables.now (entries_of replies.now) frozen.of frozen.rows) replies.now at result }
+        ensures { IsJudgedBy (is_freeze tables.now (entries_of replies.now) frozen.of frozen.rows)
+            replies.now at result }
     {
         let freezes = self.freezes_before(replies, at, stretch, frozen.of);
         let seals = self.seals_not_after(replies, at, stretch, frozen.of);
@@ -146,7 +151,9 @@ impl BlockMarks {
     pub fn freezing_holds(&self, replies: &[KeptReply<'_>], at: usize, stretch: &Stretch) -> bool
         requires marked { AreBlockMarks (entries_of replies.now) (length replies.now) self.now }
         requires asked { IsAsked replies.now at stretch.now }
-        ensures { (tables : List Table) → IsJudgedBy (freezing_holds (run_of tables (entries_of replies.now))) replies.now at result }
+        ensures { (tables : List Table)
+            → IsJudgedBy (freezing_holds (run_of tables (entries_of replies.now))) replies.now at
+            result }
     {
         match freezing_told(&replies[at]) {
             Some(stamp) => self.is_freezing(replies, at, stretch, stamp),
@@ -164,7 +171,8 @@ impl BlockMarks {
     ) -> bool
         requires marked { AreBlockMarks (entries_of replies.now) (length replies.now) self.now }
         requires asked { IsAsked replies.now at stretch.now }
-        ensures { IsJudgedBy (full_holds (run_of tables.now (entries_of replies.now))) replies.now at result }
+        ensures { IsJudgedBy (full_holds (run_of tables.now (entries_of replies.now))) replies.now
+            at result }
     {
         match full_told(&replies[at]) {
             Some(table) => self.is_full(tables, replies, at, stretch, table),
@@ -182,7 +190,8 @@ impl BlockMarks {
     ) -> bool
         requires marked { AreBlockMarks (entries_of replies.now) (length replies.now) self.now }
         requires asked { IsAsked replies.now at stretch.now }
-        ensures { IsJudgedBy (block_upkeep_holds tables.now (entries_of replies.now)) replies.now at result }
+        ensures { IsJudgedBy (block_upkeep_holds tables.now (entries_of replies.now)) replies.now at
+            result }
     {
         let reply = &replies[at];
         if let Some(stamp) = stamp_told(reply) {
@@ -211,7 +220,9 @@ impl BlockMarks {
     ) -> u32
         requires marked { AreBlockMarks (entries_of replies.now) (length replies.now) self.now }
         requires asked { IsAsked replies.now at stretch.now }
-        ensures { (none : Kept) → result ≡ frozen_blocks tables.now table (not_after (entries_of replies.now) (asked_at replies.now at none)) }
+        ensures { (none : Kept) → result
+            ≡ frozen_blocks tables.now table
+            (not_after (entries_of replies.now) (asked_at replies.now at none)) }
     {
         let mut count = 0;
         for block in 0..blocks_at(tables, table) {

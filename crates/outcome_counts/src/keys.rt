@@ -4,7 +4,8 @@ ghost use Rattle.outcome_spec.specs.Entries.{commit_in, snapshot_in};
 ghost use Rattle.outcome_spec.specs.Numbers.{number_shown};
 ghost use Rattle.outcome_spec.specs.Upkeep.{moved_in};
 ghost use Rattle.output_read.specs.Kept.{entry_of};
-ghost use Rattle.outcome_counts.specs.Keys.{block_frozen, freeze_told, freezing_told, full_told, idle_told, inserted_into, stamp_told};
+ghost use Rattle.outcome_counts.specs.Keys.{block_frozen, freeze_told, freezing_told, full_told};
+ghost use Rattle.outcome_counts.specs.Keys.{idle_told, inserted_into, stamp_told};
 
 use output_read::{KeptReply, Told};
 use workload_spec::Command;

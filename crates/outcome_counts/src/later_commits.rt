@@ -25,7 +25,8 @@ pub struct LaterCommits {
     pub(crate) peaks: Vec<Peak>,
 }
 
-/// Puts how low a number is behind others, if there is one; the part at the place begins at a start.
+/// Puts how low a number is behind others, if there is one; the part at the place begins at a
+/// start.
 fn note_low(
     peaks: &mut Vec<Peak>,
     number: Option<u64>,
@@ -46,7 +47,8 @@ impl LaterCommits {
     /// Those of all replies, which rise.
     pub fn of(alloc: Global, replies: &[KeptReply<'_>]) -> Result<LaterCommits, AllocError>
         requires { Rises (entries_of replies.now) }
-        ensures { IfOk result (λ later. AreLater (entries_of replies.now) (length replies.now) later.peaks.items) }
+        ensures { IfOk result (λ later. AreLater (entries_of replies.now) (length replies.now)
+            later.peaks.items) }
     {
         let mut peaks = Vec::new(alloc);
         let mut known = None;
@@ -67,9 +69,11 @@ impl LaterCommits {
         at: usize,
         stretch: &Stretch,
     ) -> u128
-        requires later { AreLater (entries_of replies.now) (length replies.now) self.now.peaks.items }
+        requires later { AreLater (entries_of replies.now) (length replies.now)
+            self.now.peaks.items }
         requires asked { IsAsked replies.now at stretch.now }
-        ensures { (none : Kept) → result ≡ highest below_commit (after (entries_of replies.now) (asked_at replies.now at none)) }
+        ensures { (none : Kept) → result
+            ≡ highest below_commit (after (entries_of replies.now) (asked_at replies.now at none)) }
     {
         let peaks = self.peaks.as_slice();
         let count = replies.len();

@@ -35,7 +35,8 @@ fn note_place(places: &mut Vec<usize>, number: Option<u64>, place: usize) -> Res
     Ok(())
 }
 
-/// Puts what is above a number behind others, if there is one; the part at the place begins at a start.
+/// Puts what is above a number behind others, if there is one; the part at the place begins at a
+/// start.
 fn note_number(
     peaks: &mut Vec<Peak>,
     number: Option<u64>,
@@ -90,7 +91,8 @@ impl NumberMarks {
     /// The marks of all replies, which rise.
     pub fn of(alloc: Global, replies: &[KeptReply<'_>]) -> Result<NumberMarks, AllocError>
         requires { Rises (entries_of replies.now) }
-        ensures { IfOk result (λ marks. AreNumberMarks (entries_of replies.now) (length replies.now) marks) }
+        ensures { IfOk result (λ marks. AreNumberMarks (entries_of replies.now) (length replies.now)
+            marks) }
     {
         let mut marks = NumberMarks::new(alloc);
         let mut known = None;

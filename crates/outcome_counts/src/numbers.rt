@@ -1,5 +1,6 @@
 //! Which commit numbers and which snapshots may be shown.
-ghost use Rattle.std.specs.Prelude.{◌≡◌, ◌+◌, ◌-◌, ◌^◌, ◌&&◌, ◌==◌, List, length, nat_le, nat_lt, count_by};
+ghost use Rattle.std.specs.Prelude.{◌≡◌, ◌+◌, ◌-◌, ◌^◌, ◌&&◌, ◌==◌, List, length, nat_le, nat_lt};
+ghost use Rattle.std.specs.Prelude.{count_by};
 ghost use Rattle.cell_model.specs.declared.table.TableDecl.{TableDecl as Table};
 ghost use Rattle.mark_index.specs.Marks.{highest};
 ghost use Rattle.outcome_spec.specs.Entries.{before};
@@ -18,16 +19,19 @@ use crate::number_marks::NumberMarks;
 use crate::stretch::{Stretch, peak_before};
 use output_read::KeptReply;
 
-/// Whether a commit number is 1 to the count of them, on one line, and not below what is above those before.
+/// Whether a commit number is 1 to the count of them, on one line, and not below what is above
+/// those before.
 fn is_commit_by(number: u64, count: usize, lines: usize, above: u128) -> bool
-    ensures { result ≡ (nat_le 1 number && nat_le number count && lines == 1 && nat_le above number) }
+    ensures { result ≡ (nat_le 1 number && nat_le number count && lines == 1
+        && nat_le above number) }
 {
     1 <= number && number <= count as u64 && lines == 1 && above <= u128::from(number)
 }
 
 /// Whether a snapshot is at most the count of commit numbers, with what is shown about it.
 fn is_snapshot_by(number: u64, count: usize, above: u128, below: u128) -> bool
-    ensures { result ≡ (nat_le number count && nat_le above (number + 1) && nat_lt below (2 ^ 64 - number)) }
+    ensures { result ≡ (nat_le number count && nat_le above (number + 1)
+        && nat_lt below (2 ^ 64 - number)) }
 {
     number <= count as u64 && above <= u128::from(number) + 1 && below < PAST - u128::from(number)
 }
@@ -55,7 +59,9 @@ impl NumberMarks {
     fn above_commits_before(&self, replies: &[KeptReply<'_>], at: usize, stretch: &Stretch) -> u128
         requires marked { AreNumberMarks (entries_of replies.now) (length replies.now) self.now }
         requires asked { IsAsked replies.now at stretch.now }
-        ensures { (none : Kept) → result ≡ highest above_commit (before (entries_of replies.now) (asked_at replies.now at none)) }
+        ensures { (none : Kept) → result
+            ≡ highest above_commit (before (entries_of replies.now)
+            (asked_at replies.now at none)) }
     {
         peak_before(self.committed.as_slice(), at, stretch)
     }
@@ -64,7 +70,8 @@ impl NumberMarks {
     fn above_shown_before(&self, replies: &[KeptReply<'_>], at: usize, stretch: &Stretch) -> u128
         requires marked { AreNumberMarks (entries_of replies.now) (length replies.now) self.now }
         requires asked { IsAsked replies.now at stretch.now }
-        ensures { (none : Kept) → result ≡ highest above_shown (before (entries_of replies.now) (asked_at replies.now at none)) }
+        ensures { (none : Kept) → result
+            ≡ highest above_shown (before (entries_of replies.now) (asked_at replies.now at none)) }
     {
         peak_before(self.shown.as_slice(), at, stretch)
     }
@@ -79,7 +86,9 @@ impl NumberMarks {
     ) -> bool
         requires marked { AreNumberMarks (entries_of replies.now) (length replies.now) self.now }
         requires asked { IsAsked replies.now at stretch.now }
-        ensures { (tables : List Table) → IsJudgedBy (λ entry. is_commit_number (run_of tables (entries_of replies.now)) entry number) replies.now at result }
+        ensures { (tables : List Table)
+            → IsJudgedBy (λ entry. is_commit_number (run_of tables (entries_of replies.now)) entry
+            number) replies.now at result }
     {
         let count = self.commit_count(replies);
         let lines = self.lines_of(replies, number);
@@ -97,7 +106,8 @@ impl NumberMarks {
         number: u64,
     ) -> bool
         requires marked { AreNumberMarks (entries_of replies.now) (length replies.now) self.now }
-        requires later { AreLater (entries_of replies.now) (length replies.now) later.now.peaks.items }
+        requires later { AreLater (entries_of replies.now) (length replies.now)
+            later.now.peaks.items }
         requires asked { IsAsked replies.now at stretch.now }
         ensures { IsJudgedBy (is_snapshot (entries_of replies.now) number) replies.now at result }
     {
@@ -116,9 +126,12 @@ impl NumberMarks {
         stretch: &Stretch,
     ) -> bool
         requires marked { AreNumberMarks (entries_of replies.now) (length replies.now) self.now }
-        requires later { AreLater (entries_of replies.now) (length replies.now) later.now.peaks.items }
+        requires later { AreLater (entries_of replies.now) (length replies.now)
+            later.now.peaks.items }
         requires asked { IsAsked replies.now at stretch.now }
-        ensures { (tables : List Table) → IsJudgedBy (snapshot_numbers_hold (run_of tables (entries_of replies.now))) replies.now at result }
+        ensures { (tables : List Table)
+            → IsJudgedBy (snapshot_numbers_hold (run_of tables (entries_of replies.now)))
+            replies.now at result }
     {
         match snapshot_told(&replies[at]) {
             Some(number) => self.is_snapshot(later, replies, at, stretch, number),

@@ -1,5 +1,6 @@
 //! The places about a reply, among replies in the order of their lines.
-ghost use Rattle.std.specs.Prelude.{◌≡◌, ◌+◌, ◌-◌, ◌<◌, IfSome, ◌≤◌, ◌^◌, drop, length, nat_le, not, slice_index_or, take, true};
+ghost use Rattle.std.specs.Prelude.{◌≡◌, ◌+◌, ◌-◌, ◌<◌, IfSome, ◌≤◌, ◌^◌, drop, length, nat_le};
+ghost use Rattle.std.specs.Prelude.{not, slice_index_or, take, true};
 ghost use Rattle.std.specs.List.{list_all};
 ghost use Rattle.outcome_check.specs.Sides.{is_past};
 ghost use Rattle.outcome_check.specs.Places.{Rises, is_earlier, is_in_front, is_up_to_own};
@@ -64,7 +65,9 @@ pub(crate) struct Around {
 fn is_behind_others(replies: &[KeptReply<'_>], reply: &KeptReply<'_>, place: usize) -> bool
     requires rises { Rises (entries_of replies.now) }
     requires inside { place ≤ length replies.now }
-    ensures { result ≡ true → list_all (λ (kept : Kept). is_past (entry_of reply.now) (entry_of kept)) (take place replies.now) ≡ true }
+    ensures { result ≡ true → list_all
+        (λ (kept : Kept). is_past (entry_of reply.now) (entry_of kept)) (take place replies.now)
+        ≡ true }
 {
     if place == 0 {
         return true;
@@ -76,7 +79,8 @@ fn is_behind_others(replies: &[KeptReply<'_>], reply: &KeptReply<'_>, place: usi
 fn is_in_front_of_others(replies: &[KeptReply<'_>], reply: &KeptReply<'_>, place: usize) -> bool
     requires rises { Rises (entries_of replies.now) }
     requires inside { place ≤ length replies.now }
-    ensures { result ≡ true → list_all (λ (kept : Kept). not (nat_le kept.round reply.now.round)) (drop place replies.now) ≡ true }
+    ensures { result ≡ true → list_all (λ (kept : Kept). not (nat_le kept.round reply.now.round))
+        (drop place replies.now) ≡ true }
 {
     if place == replies.len() {
         return true;
@@ -91,8 +95,10 @@ fn part_about(replies: &[KeptReply<'_>], reply: &KeptReply<'_>, at: usize) -> Ar
     requires inside { at < length replies.now }
     ensures order { result.from ≤ result.to }
     ensures inside { result.to ≤ length replies.now }
-    ensures front { list_all (λ (kept : Kept). is_past (entry_of reply.now) (entry_of kept)) (take result.from replies.now) ≡ true }
-    ensures back { list_all (λ (kept : Kept). not (nat_le kept.round reply.now.round)) (drop result.to replies.now) ≡ true }
+    ensures front { list_all (λ (kept : Kept). is_past (entry_of reply.now) (entry_of kept))
+        (take result.from replies.now) ≡ true }
+    ensures back { list_all (λ (kept : Kept). not (nat_le kept.round reply.now.round))
+        (drop result.to replies.now) ≡ true }
 {
     let count = replies.len();
     let from = at.saturating_sub(NEAR);

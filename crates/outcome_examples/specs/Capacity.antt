@@ -1,6 +1,7 @@
 -- Full tables and exports: outputs with their answers.
 use Rattle.std.specs.Prelude.{codes, List, [], ◌∷◌}
-use Rattle.outcome_examples.specs.Cases.{Case, AreJudged, explained, fails_at, keys, one_block, two_tables}
+use Rattle.outcome_examples.specs.Cases.{Case, AreJudged, explained, fails_at, keys, one_block}
+use Rattle.outcome_examples.specs.Cases.{two_tables}
 
 abbrev pub capacities_cases : List Case
 capacities_cases =
@@ -13,15 +14,20 @@ capacities_cases =
     -- full of a key that stands
     fails_at 10 one_block (codes "1 begin\n1 insert a 1\n1 insert a 2\n1 insert a 3\n1 insert a 4\n1 insert a 5\n1 insert a 6\n1 insert a 7\n1 insert a 8\n1 insert a 1\n") (codes "1 1 1 at 0\n1 1 2 ok\n1 1 3 ok\n1 1 4 ok\n1 1 5 ok\n1 1 6 ok\n1 1 7 ok\n1 1 8 ok\n1 1 9 ok\n1 1 10 full\n") ∷
     -- dirty of an aborted write
-    fails_at 5 keys (codes "1 begin\n1 insert a 1\n1 abort\n1 begin\n1 export a\n") (codes "1 1 1 at 0\n1 1 2 ok\n1 1 3 aborted\n1 1 4 at 0\n1 1 5 dirty 1\n") ∷
+    fails_at 5 keys (codes "1 begin\n1 insert a 1\n1 abort\n1 begin\n1 export a\n")
+    (codes "1 1 1 at 0\n1 1 2 ok\n1 1 3 aborted\n1 1 4 at 0\n1 1 5 dirty 1\n") ∷
     -- export beside a write of another table
-    explained two_tables (codes "1 begin\n1 insert b 1\n1 export a\n") (codes "1 1 1 at 0\n1 1 2 ok\n1 1 3 export 0 rows 0 batches 0 frozen 0\n") ∷
+    explained two_tables (codes "1 begin\n1 insert b 1\n1 export a\n")
+    (codes "1 1 1 at 0\n1 1 2 ok\n1 1 3 export 0 rows 0 batches 0 frozen 0\n") ∷
     -- dirty of a deleted key
-    explained keys (codes "1 begin\n1 insert a 1\n1 delete a 1\n1 export a\n") (codes "1 1 1 at 0\n1 1 2 ok\n1 1 3 ok\n1 1 4 dirty 1\n") ∷
+    explained keys (codes "1 begin\n1 insert a 1\n1 delete a 1\n1 export a\n")
+    (codes "1 1 1 at 0\n1 1 2 ok\n1 1 3 ok\n1 1 4 dirty 1\n") ∷
     -- dirty of a key below 0
-    explained keys (codes "1 begin\n1 insert a -3\n1 insert a 2\n1 export a\n") (codes "1 1 1 at 0\n1 1 2 ok\n1 1 3 ok\n1 1 4 dirty -3\n") ∷
+    explained keys (codes "1 begin\n1 insert a -3\n1 insert a 2\n1 export a\n")
+    (codes "1 1 1 at 0\n1 1 2 ok\n1 1 3 ok\n1 1 4 dirty -3\n") ∷
     -- dirty by two tables
-    explained two_tables (codes "1 begin\n1 insert a 7\n1 insert b 3\n1 insert b 5\n1 export b\n") (codes "1 1 1 at 0\n1 1 2 ok\n1 1 3 ok\n1 1 4 ok\n1 1 5 dirty 3\n") ∷ []
+    explained two_tables (codes "1 begin\n1 insert a 7\n1 insert b 3\n1 insert b 5\n1 export b\n")
+    (codes "1 1 1 at 0\n1 1 2 ok\n1 1 3 ok\n1 1 4 ok\n1 1 5 dirty 3\n") ∷ []
 
 abbrev pub CapacityAreJudged : Type 0
 CapacityAreJudged = AreJudged capacities_cases

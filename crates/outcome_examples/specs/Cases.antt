@@ -14,15 +14,21 @@ abbrev pub explained : List ℕ → List ℕ → List ℕ → Case
 explained head lines output = record { workload = head ++ lines; output = output; line = None }
 
 abbrev pub fails_at : ℕ → List ℕ → List ℕ → List ℕ → Case
-fails_at number head lines output = record { workload = head ++ lines; output = output; line = Some number }
+fails_at number head lines output = record {
+  workload = head ++ lines;
+  output = output;
+  line = Some number;
+}
 
 -- what is found: the workload's fault, or the output's line
 abbrev pub judged : List ℕ → Result (Option ℕ) Fault
-judged text = elim (checked_of text) [ Ok checked ↦ Ok (failing_line checked.0 checked.1) | Err fault ↦ Err fault ]
+judged text = elim (checked_of text)
+    [ Ok checked ↦ Ok (failing_line checked.0 checked.1) | Err fault ↦ Err fault ]
 
 -- Each case is judged as it says.
 abbrev pub AreJudged : List Case → Type 0
-AreJudged cases = map (λ case. judged (case.workload ++ codes "====\n" ++ case.output)) cases ≡ map (λ case. Ok case.line) cases
+AreJudged cases = map (λ case. judged (case.workload ++ codes "====\n" ++ case.output)) cases
+    ≡ map (λ case. Ok case.line) cases
 
 -- heads of workloads
 abbrev pub keys : List ℕ

@@ -15,7 +15,8 @@ lines_cases =
     -- no LF at 2
     fails_at 2 keys (codes "1 begin\n1 get a 1\n") (codes "1 1 1 at 0\n1 1 2 none") ∷
     -- open | line
-    fails_at 6 keys (codes "1 begin\n1 insert a 1\n1 insert a 12\n1 scan a\n") (codes "1 1 1 at 0\n1 1 2 ok\n1 1 3 ok\n1 1 4 rows 2\n| 1\n| 12") ∷
+    fails_at 6 keys (codes "1 begin\n1 insert a 1\n1 insert a 12\n1 scan a\n")
+    (codes "1 1 1 at 0\n1 1 2 ok\n1 1 3 ok\n1 1 4 rows 2\n| 1\n| 12") ∷
     -- two spaces
     fails_at 1 keys (codes "1 begin\n") (codes "1 1 1  at 0\n") ∷
     -- space at end

@@ -1,6 +1,7 @@
 -- Turns of workers: outputs with their answers.
 use Rattle.std.specs.Prelude.{codes, List, [], ◌∷◌}
-use Rattle.outcome_examples.specs.Cases.{Case, AreJudged, explained, fails_at, one_worker, three_idle_workers, two_turns, two_workers}
+use Rattle.outcome_examples.specs.Cases.{Case, AreJudged, explained, fails_at, one_worker}
+use Rattle.outcome_examples.specs.Cases.{three_idle_workers, two_turns, two_workers}
 
 abbrev pub turns_cases : List Case
 turns_cases =
@@ -13,7 +14,8 @@ turns_cases =
     -- memory 1 then none
     fails_at 4 one_worker [] (codes "1 w1 1 cooling 0\n1 w1 2 pruned 0\n1 w1 3 memory\n") ∷
     -- moved thrice
-    fails_at 5 one_worker [] (codes "1 w1 1 cooling 0\n1 w1 2 pruned 0\n1 w1 3 moved 0\n1 w1 4 moved 0\n1 w1 5 moved 0\n") ∷
+    fails_at 5 one_worker [] (codes
+    "1 w1 1 cooling 0\n1 w1 2 pruned 0\n1 w1 3 moved 0\n1 w1 4 moved 0\n1 w1 5 moved 0\n") ∷
     -- memory after the last moved
     fails_at 6 one_worker [] (codes "1 w1 1 cooling 0\n1 w1 2 pruned 0\n1 w1 3 moved 0\n1 w1 4 moved 0\n1 w1 5 memory\n1 w1 6 memory\n") ∷
     -- memory for a seal
@@ -21,11 +23,13 @@ turns_cases =
     -- not frozen by a worker
     fails_at 4 one_worker [] (codes "1 w1 1 cooling 0\n1 w1 2 pruned 0\n1 w1 3 moved 0\n1 w1 4 not frozen\n1 w1 5 moved 0\n") ∷
     -- not sealed by a worker
-    fails_at 4 one_worker [] (codes "1 w1 1 cooling 0\n1 w1 2 pruned 0\n1 w1 3 moved 0\n1 w1 4 not sealed head\n") ∷
+    fails_at 4 one_worker [] (codes
+    "1 w1 1 cooling 0\n1 w1 2 pruned 0\n1 w1 3 moved 0\n1 w1 4 not sealed head\n") ∷
     -- memory at cooling
     fails_at 1 one_worker [] (codes "1 w1 1 memory\n") ∷
     -- turn missing
-    fails_at 5 two_turns [] (codes "1 w1 1 cooling 0\n1 w1 2 pruned 0\n1 w1 3 moved 0\n1 w1 4 moved 0\n") ∷
+    fails_at 5 two_turns [] (codes
+    "1 w1 1 cooling 0\n1 w1 2 pruned 0\n1 w1 3 moved 0\n1 w1 4 moved 0\n") ∷
     -- two turns
     explained two_turns [] (codes "1 w1 1 cooling 0\n1 w1 2 pruned 0\n1 w1 3 moved 0\n1 w1 4 memory\n1 w1 5 cooling 0\n1 w1 6 pruned 0\n1 w1 7 memory\n1 w1 8 memory\n1 w1 9 memory\n") ∷
     -- no turns

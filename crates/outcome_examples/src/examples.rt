@@ -1,5 +1,5 @@
-//! Worked examples of outputs beside their workloads: each tells one false reading of what an output must be from the
-//! true one, and is a fact that the definitions compute.
+//! Worked examples of outputs beside their workloads: each tells one false reading of what an
+//! output must be from the true one, and is a fact that the definitions compute.
 #![tactic(auto, unfolding(crate::specs::Opened::digits, crate::specs::Opened::is_utf8, crate::specs::Opened::chars, crate::specs::Opened::encode))]
 
 ghost use Rattle.outcome_examples.specs.Lines.{LinesAreJudged};
@@ -22,7 +22,8 @@ pub fn cells_are_judged()
     ensures { CellsAreJudged }
 {}
 
-/// Rows of a scan: as many as its first line says, with keys that rise; the line at which they fail.
+/// Rows of a scan: as many as its first line says, with keys that rise; the line at which they
+/// fail.
 pub fn rows_are_judged()
     ensures { RowsAreJudged }
 {}

@@ -1,5 +1,6 @@
 -- What the commits of an output wrote, each write made at its commit's number.
-use Rattle.std.specs.Prelude.{◌≡◌, ℕ, ◌+◌, Bool, true, nat_le, zero, suc, List, [], ◌∷◌, ◌++◌, slice_get, Option, if◌then◌else◌}
+use Rattle.std.specs.Prelude.{◌≡◌, ℕ, ◌+◌, Bool, true, nat_le, zero, suc, List, [], ◌∷◌, ◌++◌}
+use Rattle.std.specs.Prelude.{slice_get, Option, if◌then◌else◌}
 use Rattle.std.specs.List.{list_all}
 use Rattle.std.specs.Option.{option_map_or}
 use Rattle.outcome_spec.specs.Entries.{Entry}
@@ -13,14 +14,16 @@ use Rattle.outcome_history.specs.declared.writes.Writes.{Writes}
 -- the places of the replies that pass a test, where the first reply has this place
 abbrev pub places_of : (Entry → Bool) → ℕ → List Entry → List ℕ
 places_of test place [] = []
-places_of test place (entry ∷ entries) = if test entry then place ∷ places_of test (place + 1) entries else places_of test (place + 1) entries
+places_of test place (entry ∷ entries) = if test entry
+    then place ∷ places_of test (place + 1) entries else places_of test (place + 1) entries
 
 abbrev pub first_of : (Entry → Bool) → List Entry → Option ℕ
 first_of test entries = slice_get (places_of test 0 entries) 0
 
 -- what a transaction that is opened at a place has written up to another, made at a number
 abbrev pub made_of : List (Option ℕ) → List Entry → ℕ → ℕ → ℕ → List TimedWrite
-made_of openings entries number place owner = timed number (changes_of (up_to place (own_writes owner 0 openings entries)))
+made_of openings entries number place owner = timed number
+    (changes_of (up_to place (own_writes owner 0 openings entries)))
 
 -- the writes of a commit: those of the transaction of the first reply that shows its number
 abbrev pub commit_writes : List (Option ℕ) → List Entry → ℕ → List TimedWrite
@@ -31,7 +34,8 @@ commit_writes openings entries number = option_map_or
 -- the writes of so many commits from a number on, in order
 abbrev pub commits_from : List (Option ℕ) → List Entry → ℕ → ℕ → List TimedWrite
 commits_from openings entries number zero = []
-commits_from openings entries number (suc count) = commit_writes openings entries number ++ commits_from openings entries (number + 1) count
+commits_from openings entries number (suc count) = commit_writes openings entries number
+    ++ commits_from openings entries (number + 1) count
 
 -- a write, made at another time
 abbrev pub made_at : ℕ → TimedWrite → TimedWrite

@@ -1,5 +1,6 @@
 -- What is said of an export, and by what it is judged.
-use Rattle.std.specs.Prelude.{◌≡◌, ℕ, ◌*◌, ℤ, Bool, true, false, ◌&&◌, ◌==◌, nat_le, int_lt, List, length, fold, Option, None, Some, is_none, if◌then◌else◌}
+use Rattle.std.specs.Prelude.{◌≡◌, ℕ, ◌*◌, ℤ, Bool, true, false, ◌&&◌, ◌==◌, nat_le, int_lt, List}
+use Rattle.std.specs.Prelude.{length, fold, Option, None, Some, is_none, if◌then◌else◌}
 use Rattle.std.specs.Option.{option_map_or}
 use Rattle.std.specs.Ordering.{int_eq}
 use Rattle.isolation_spec.specs.declared.place.Place.{Place}
@@ -34,7 +35,8 @@ least_written table writes = fold (λ least write. least_with table least write.
 
 -- the same among changes up to a time
 abbrev pub least_next : ℕ → ℕ → Option ℤ → Change → Option ℤ
-least_next table bound least change = if nat_le change.left.time bound then least_with table least (place_in change.of) else least
+least_next table bound least change = if nat_le change.left.time bound
+    then least_with table least (place_in change.of) else least
 
 abbrev pub least_in : ℕ → ℕ → List Change → Option ℤ
 least_in table bound own = fold (least_next table bound) None own
@@ -43,23 +45,27 @@ least_in table bound own = fold (least_next table bound) None own
 abbrev pub is_within : Summary → Bounds → Bool
 is_within summary bounds =
     summary.number == bounds.number && summary.rows == bounds.rows
-    && nat_le summary.frozen summary.batches && nat_le summary.batches summary.rows && nat_le summary.rows (summary.batches * bounds.slots)
+    && nat_le summary.frozen summary.batches && nat_le summary.batches summary.rows
+    && nat_le summary.rows (summary.batches * bounds.slots)
     && nat_le summary.batches bounds.blocks
     && nat_le summary.frozen bounds.frozen
 
--- an export that was done is summed up so where nothing of the table was written, and a refused one names the least key
+-- an export that was done is summed up so where nothing of the table was written, and a refused one
+-- names the least key
 abbrev pub export_by : Run → Span → Entry → Export → Bool
 export_by run t entry export.Nothing = true
 export_by run t entry (export.Done table summary) =
     is_none (least_key table (writes_in (before t.replies entry)))
     && summary_holds run t entry table summary.number summary.rows summary.batches summary.frozen
-export_by run t entry (export.Dirty of) = option_map_or (int_eq of.key) (least_key of.table (writes_in (before t.replies entry))) false
+export_by run t entry (export.Dirty of) = option_map_or (int_eq of.key)
+    (least_key of.table (writes_in (before t.replies entry))) false
 
--- What is kept tells of the transaction that is opened at a place: its snapshot, and the least key of each table among
--- what it wrote before the reply at another.
+-- What is kept tells of the transaction that is opened at a place: its snapshot, and the least key
+-- of each table among what it wrote before the reply at another.
 pub record IsKnown (openings : List (Option ℕ)) (entries : List Entry) (opening at : ℕ) (entry : Entry) (t : Span) : Type 0 where
   pub snapshot : snapshot_at entries opening ≡ t.snapshot
-  pub least : (table : ℕ) → least_written table (up_to at (own_writes opening 0 openings entries)) ≡ least_key table (writes_in (before t.replies entry))
+  pub least : (table : ℕ) → least_written table (up_to at (own_writes opening 0 openings entries))
+      ≡ least_key table (writes_in (before t.replies entry))
 
 -- What exports are judged by is what is kept of the replies.
 pub record AreExports (openings : List (Option ℕ)) (entries : List Entry) (exports : Exports) : Type 0 where

@@ -1,5 +1,6 @@
 -- How replies are judged by what is seen.
-use Rattle.std.specs.Prelude.{ℕ, ℤ, Bool, true, false, ◌&&◌, int_lt, List, [], ◌∷◌, Option, None, Some, is_none, is_some, not, unwrap_or, if◌then◌else◌}
+use Rattle.std.specs.Prelude.{ℕ, ℤ, Bool, true, false, ◌&&◌, int_lt, List, [], ◌∷◌, Option, None}
+use Rattle.std.specs.Prelude.{Some, is_none, is_some, not, unwrap_or, if◌then◌else◌}
 use Rattle.std.specs.Cmp.Lexicographic.{pointwise}
 use Rattle.std.specs.Option.{option_map_or}
 use Rattle.cell_model.specs.declared.cell.Cell.{Cell}
@@ -32,11 +33,14 @@ is_above (Some low) key = int_lt low key
 -- the keys of the rows rise from one on, and each row is that of its key
 abbrev pub are_found : ℕ → State → Option ℤ → List (List Cell) → Bool
 are_found table seen last [] = true
-are_found table seen last (row ∷ rows) = is_above last (key_of row) && (is_found table seen row && are_found table seen (Some (key_of row)) rows)
+are_found table seen last (row ∷ rows) = is_above last (key_of row)
+    && (is_found table seen row && are_found table seen (Some (key_of row)) rows)
 
 -- what is said of what is seen holds
 abbrev pub read_by : State → Read → Bool
 read_by seen read.Nothing = true
-read_by seen (read.Row of words) = option_map_or (is_row (unwrap_or (row_in words.now) [])) (at_place seen (place_in of)) false
+read_by seen (read.Row of words) = option_map_or (is_row (unwrap_or (row_in words.now) []))
+    (at_place seen (place_in of)) false
 read_by seen (read.NoRow of) = is_none (at_place seen (place_in of))
-read_by seen (read.Rows table lines) = pointwise is_row (unwrap_or (rows_in (parts line_feed lines.now)) []) (contents_of table seen)
+read_by seen (read.Rows table lines) = pointwise is_row
+    (unwrap_or (rows_in (parts line_feed lines.now)) []) (contents_of table seen)

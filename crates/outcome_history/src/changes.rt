@@ -68,7 +68,8 @@ fn change_of<'a>(command: &'a Command, time: u64) -> Option<Change<'a>>
 
 /// The write that a reply accepts, made at a time.
 pub(crate) fn change_told<'a>(reply: &KeptReply<'a>, time: u64) -> Option<Change<'a>>
-    ensures { option_map written_by result ≡ option_map (timed_one time) (accepted_write (entry_of reply.now)) }
+    ensures { option_map written_by result
+        ≡ option_map (timed_one time) (accepted_write (entry_of reply.now)) }
 {
     match (&reply.told, reply.command) {
         (Told::Accepted, Some(command)) => change_of(command, time),
@@ -117,7 +118,8 @@ impl<'a> Changes<'a> {
         openings: &[Option<u32>],
     ) -> Result<Changes<'a>, AllocError>
         requires { length openings.now ≡ length replies.now }
-        ensures { IfOk result (λ changes. AreChanges openings.now (entries_of replies.now) (length replies.now) changes) }
+        ensures { IfOk result (λ changes. AreChanges openings.now (entries_of replies.now)
+            (length replies.now) changes) }
     {
         let mut changes = Changes {
             own: MarkIndex::new(alloc),

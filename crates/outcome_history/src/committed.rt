@@ -1,12 +1,14 @@
 //! What the commits wrote, by their numbers.
-ghost use Rattle.std.specs.Prelude.{◌≡◌, ◌++◌, ◌∷◌, [], ℕ, List, IfOk, None, OnOk, Some, length, map, if◌then◌else◌};
+ghost use Rattle.std.specs.Prelude.{◌≡◌, ◌++◌, ◌∷◌, [], ℕ, List, IfOk, None, OnOk, Some, length};
+ghost use Rattle.std.specs.Prelude.{map, if◌then◌else◌};
 ghost use Rattle.std.specs.BTreeMap.{get};
 ghost use Rattle.std.specs.Option.{option_or};
 ghost use Rattle.std.specs.Ordering.{nat_cmp};
 ghost use Rattle.output_read.specs.Kept.{entries_of};
 ghost use Rattle.outcome_counts.specs.Keys.{is_keyed};
 ghost use Rattle.outcome_spec.specs.Runs.{commits_as};
-ghost use Rattle.outcome_history.specs.Commits.{AreCommits, AreLater, CanLay, IsLaid, commit_writes, first_of, made_at};
+ghost use Rattle.outcome_history.specs.Commits.{AreCommits, AreLater, CanLay, IsLaid};
+ghost use Rattle.outcome_history.specs.Commits.{commit_writes, first_of, made_at};
 ghost use Rattle.outcome_history.specs.Own.{AreChanges, changes_of, written_by};
 ghost use Rattle.outcome_history.specs.Timed.{TimedWrite as Timed, timed, up_to};
 
@@ -28,7 +30,8 @@ impl CommitPlaces {
     /// Notes where a number is shown, if there is one and it isn't noted yet.
     fn note(&mut self, number: Option<u64>, place: usize) -> Result<(), AllocError>
         ensures { OnOk result ((other : ℕ) → get nat_cmp self.new.places other
-            ≡ option_or (get nat_cmp self.old.places other) (if is_keyed nat_cmp other number then Some place else None)) }
+            ≡ option_or (get nat_cmp self.old.places other)
+            (if is_keyed nat_cmp other number then Some place else None)) }
     {
         let Some(number) = number else {
             return Ok(());
@@ -93,7 +96,8 @@ fn lay<'a>(
 ) -> Result<(), AllocError>
     requires { CanLay number writes.old }
     ensures { (front : List Timed) → IsLaid front writes.old → AreLater number front
-        → OnOk result (IsLaid (front ++ timed number (changes_of (up_to bound (map written_by own.now)))) writes.new) }
+        → OnOk result (IsLaid (front ++ timed number
+        (changes_of (up_to bound (map written_by own.now)))) writes.new) }
 {
     for change in own.iter() {
         if change.left.time <= bound {
@@ -120,12 +124,15 @@ impl<'a> Committed<'a> {
         places: &CommitPlaces,
         number: u64,
     ) -> Result<(), AllocError>
-        requires changed { AreChanges openings.now (entries_of replies.now) (length replies.now) changes.now }
-        requires placed { get nat_cmp places.now.places number ≡ first_of (commits_as number) (entries_of replies.now) }
+        requires changed { AreChanges openings.now (entries_of replies.now) (length replies.now)
+            changes.now }
+        requires placed { get nat_cmp places.now.places number
+            ≡ first_of (commits_as number) (entries_of replies.now) }
         requires can { CanLay number self.old.writes }
         requires long { length openings.now ≡ length replies.now }
         ensures { (front : List Timed) → IsLaid front self.old.writes → AreLater number front
-            → OnOk result (IsLaid (front ++ commit_writes openings.now (entries_of replies.now) number) self.new.writes) }
+            → OnOk result (IsLaid (front ++ commit_writes openings.now (entries_of replies.now)
+            number) self.new.writes) }
     {
         let _ = replies;
         let Some(place) = places.first(number) else {
@@ -152,10 +159,13 @@ impl<'a> Committed<'a> {
         places: &CommitPlaces,
         count: usize,
     ) -> Result<Committed<'a>, AllocError>
-        requires changed { AreChanges openings.now (entries_of replies.now) (length replies.now) changes.now }
-        requires placed { (number : ℕ) → get nat_cmp places.now.places number ≡ first_of (commits_as number) (entries_of replies.now) }
+        requires changed { AreChanges openings.now (entries_of replies.now) (length replies.now)
+            changes.now }
+        requires placed { (number : ℕ) → get nat_cmp places.now.places number
+            ≡ first_of (commits_as number) (entries_of replies.now) }
         requires long { length openings.now ≡ length replies.now }
-        ensures { IfOk result (λ committed. AreCommits openings.now (entries_of replies.now) count committed.writes) }
+        ensures { IfOk result (λ committed. AreCommits openings.now (entries_of replies.now) count
+            committed.writes) }
     {
         let mut committed = Committed {
             writes: Writes::new(alloc),

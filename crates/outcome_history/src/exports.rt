@@ -4,10 +4,12 @@ ghost use Rattle.std.specs.Option.{option_map_or};
 ghost use Rattle.std.specs.Ordering.{int_eq};
 ghost use Rattle.outcome_counts.specs.Asked.{IsAsked, IsJudgedBy, asked_at};
 ghost use Rattle.outcome_spec.specs.Runs.{Run as Shown, Span, run_of};
-ghost use Rattle.outcome_spec.specs.Upkeep.{export_reply_holds, exported_table, exports_hold, summary_holds};
+ghost use Rattle.outcome_spec.specs.Upkeep.{export_reply_holds, exported_table, exports_hold};
+ghost use Rattle.outcome_spec.specs.Upkeep.{summary_holds};
 ghost use Rattle.output_read.specs.Kept.{entries_of, entry_of};
 ghost use Rattle.output_read.specs.declared.kept.KeptReply.{KeptReply as Kept};
-ghost use Rattle.outcome_history.specs.Exports.{AreExports, IsKnown, export_by, is_within, least_in, least_next, least_written, lesser};
+ghost use Rattle.outcome_history.specs.Exports.{AreExports, IsKnown, export_by, is_within};
+ghost use Rattle.outcome_history.specs.Exports.{least_in, least_next, least_written, lesser};
 ghost use Rattle.outcome_history.specs.Own.{own_writes};
 ghost use Rattle.outcome_history.specs.Seen.{IsOutput, snapshot_at};
 ghost use Rattle.outcome_history.specs.Timed.{up_to};
@@ -31,7 +33,8 @@ pub(crate) struct Summary {
     pub(crate) frozen: u32,
 }
 
-/// What a reply says of an export: nothing, that the table was exported, or the key that was in the way.
+/// What a reply says of an export: nothing, that the table was exported, or the key that was in the
+/// way.
 #[derive(Clone, Copy, Debug, Drop)]
 pub(crate) enum Export {
     Nothing,
@@ -42,7 +45,8 @@ pub(crate) enum Export {
 /// What the reply says of an export.
 fn export_told(reply: &KeptReply<'_>) -> Export
     ensures { (run : Shown) (t : Span) → let entry = entry_of reply.now in
-        option_map_or (λ table. export_reply_holds run t entry table entry.reply.said) (exported_table entry.command) true ≡ export_by run t entry result }
+        option_map_or (λ table. export_reply_holds run t entry table entry.reply.said)
+        (exported_table entry.command) true ≡ export_by run t entry result }
 {
     match (&reply.told, reply.command) {
         (Told::Exported(told), Some(Command::Export { table })) => Export::Done(
@@ -154,8 +158,11 @@ impl<'e, 'a> Exports<'e, 'a> {
         requires output { IsOutput openings.now (entries_of replies.now) }
         requires kept { AreExports openings.now (entries_of replies.now) self.now }
         requires asked { IsAsked replies.now at stretch.now }
-        ensures { (none : Kept) (t : Span) → snapshot_at (entries_of replies.now) opening ≡ t.snapshot → let told = summary.now in result
-            ≡ summary_holds (run_of self.now.tables.now (entries_of replies.now)) t (asked_at replies.now at none) table told.number told.rows told.batches told.frozen }
+        ensures { (none : Kept) (t : Span) → snapshot_at (entries_of replies.now) opening
+            ≡ t.snapshot → let told = summary.now in result
+            ≡ summary_holds (run_of self.now.tables.now (entries_of replies.now)) t
+            (asked_at replies.now at none) table told.number told.rows told.batches
+            told.frozen }
     {
         let committed = self.committed;
         summary.is_within(&Bounds {
@@ -180,14 +187,16 @@ impl<'e, 'a> Exports<'e, 'a> {
     ) -> Option<i128>
         requires output { IsOutput openings.now (entries_of replies.now) }
         requires kept { AreExports openings.now (entries_of replies.now) self.now }
-        ensures { result ≡ least_written table (up_to at (own_writes opening 0 openings.now (entries_of replies.now))) }
+        ensures { result ≡ least_written table
+            (up_to at (own_writes opening 0 openings.now (entries_of replies.now))) }
     {
         let _ = replies;
         let _ = openings;
         least_key(self.changes.at(opening), table, at as u64)
     }
 
-    /// Whether the reply at a place, if it is one to an export, is as the transaction opened at another sees.
+    /// Whether the reply at a place, if it is one to an export, is as the transaction opened at
+    /// another sees.
     fn export_holds(
         &self,
         replies: &[KeptReply<'a>],
@@ -199,9 +208,12 @@ impl<'e, 'a> Exports<'e, 'a> {
         requires output { IsOutput openings.now (entries_of replies.now) }
         requires kept { AreExports openings.now (entries_of replies.now) self.now }
         requires asked { IsAsked replies.now at stretch.now }
-        ensures { (none : Kept) (t : Span) → let entry = asked_at replies.now at none in let run = run_of self.now.tables.now (entries_of replies.now) in
+        ensures { (none : Kept) (t : Span)
+            → let entry = asked_at replies.now at none in let run = run_of self.now.tables.now
+            (entries_of replies.now) in
             IsKnown openings.now (entries_of replies.now) opening at entry t
-            → result ≡ option_map_or (λ table. export_reply_holds run t entry table entry.reply.said) (exported_table entry.command) true }
+            → result ≡ option_map_or (λ table. export_reply_holds run t entry table
+            entry.reply.said) (exported_table entry.command) true }
     {
         match export_told(&replies[at]) {
             Export::Nothing => true,
@@ -231,7 +243,8 @@ impl<'e, 'a> Exports<'e, 'a> {
         requires output { IsOutput openings.now (entries_of replies.now) }
         requires kept { AreExports openings.now (entries_of replies.now) self.now }
         requires asked { IsAsked replies.now at stretch.now }
-        ensures { IsJudgedBy (exports_hold (run_of self.now.tables.now (entries_of replies.now))) replies.now at result }
+        ensures { IsJudgedBy (exports_hold (run_of self.now.tables.now (entries_of replies.now)))
+            replies.now at result }
     {
         match opening_at(openings, at) {
             None => true,

@@ -5,7 +5,8 @@ ghost use Rattle.cell_model.specs.declared.table.TableDecl.{TableDecl as Table};
 ghost use Rattle.std.specs.Cmp.Lexicographic.{pointwise};
 ghost use Rattle.isolation_spec.specs.Contents.{State as Seen, at_place, contents_of};
 ghost use Rattle.outcome_counts.specs.Asked.{IsJudgedBy, asked_at};
-ghost use Rattle.outcome_spec.specs.Answers.{is_acceptable, is_row, read_holds, reads_hold, write_holds, writes_hold};
+ghost use Rattle.outcome_spec.specs.Answers.{is_acceptable, is_row, read_holds, reads_hold};
+ghost use Rattle.outcome_spec.specs.Answers.{write_holds, writes_hold};
 ghost use Rattle.outcome_spec.specs.Runs.{run_of};
 ghost use Rattle.output_read.specs.Kept.{are_told, entries_of, entry_of, is_told};
 ghost use Rattle.output_read.specs.declared.kept.KeptReply.{KeptReply as Kept};
@@ -33,7 +34,8 @@ pub(crate) struct Needed {
 /// What a command needs, if it writes.
 fn write_needs(command: &Command) -> Option<Needed>
     ensures { (seen : Seen) → is_acceptable seen command.now
-        ≡ option_map_or (λ needed. is_met needed.row (at_place seen (place_in needed.of))) result true }
+        ≡ option_map_or (λ needed. is_met needed.row (at_place seen (place_in needed.of))) result
+        true }
 {
     match command {
         Command::Insert { table, row } => Some(Needed {
@@ -73,7 +75,8 @@ fn acceptance_told(reply: &KeptReply<'_>) -> Option<bool>
     }
 }
 
-/// What a reply says of what is seen: nothing, the row of a key, that there is none, or the rows of a table.
+/// What a reply says of what is seen: nothing, the row of a key, that there is none, or the rows of
+/// a table.
 #[derive(Clone, Copy, Debug, Drop)]
 pub(crate) enum Read<'a> {
     Nothing,
@@ -85,7 +88,8 @@ pub(crate) enum Read<'a> {
 /// What the reply says of what is seen.
 fn read_told<'a>(reply: &KeptReply<'a>) -> Read<'a>
     requires { is_told reply.now.told ≡ true }
-    ensures { (seen : Seen) → read_holds seen (entry_of reply.now).command (entry_of reply.now).reply.said ≡ read_by seen result }
+    ensures { (seen : Seen) → read_holds seen (entry_of reply.now).command
+        (entry_of reply.now).reply.said ≡ read_by seen result }
 {
     match (&reply.told, reply.command) {
         (Told::Found(words), Some(Command::Get { table, key })) => Read::Row(
@@ -124,10 +128,12 @@ impl<'a> Sights<'a> {
         at: usize,
     ) -> bool
         requires output { IsOutput openings.now (entries_of replies.now) }
-        requires sights { AreSights openings.now (entries_of replies.now) (length replies.now) self.now }
+        requires sights { AreSights openings.now (entries_of replies.now) (length replies.now)
+            self.now }
         requires inside { at < length replies.now }
         ensures { (none : Kept) → result
-            ≡ is_acceptable (seen_up_to openings.now (entries_of replies.now) (length replies.now) opening at) (asked_at replies.now at none).command }
+            ≡ is_acceptable (seen_up_to openings.now (entries_of replies.now) (length replies.now)
+            opening at) (asked_at replies.now at none).command }
     {
         let Some(command) = replies[at].command else {
             return true;
@@ -145,7 +151,8 @@ impl<'a> Sights<'a> {
         }
     }
 
-    /// Whether the reply at a place, if it is one to a write, is as the transaction opened at another sees.
+    /// Whether the reply at a place, if it is one to a write, is as the transaction opened at
+    /// another sees.
     fn write_holds(
         &self,
         replies: &[KeptReply<'a>],
@@ -154,10 +161,12 @@ impl<'a> Sights<'a> {
         at: usize,
     ) -> bool
         requires output { IsOutput openings.now (entries_of replies.now) }
-        requires sights { AreSights openings.now (entries_of replies.now) (length replies.now) self.now }
+        requires sights { AreSights openings.now (entries_of replies.now) (length replies.now)
+            self.now }
         requires inside { at < length replies.now }
         ensures { (none : Kept) → let entry = asked_at replies.now at none in result
-            ≡ write_holds (is_acceptable (seen_up_to openings.now (entries_of replies.now) (length replies.now) opening at) entry.command) entry.reply.said }
+            ≡ write_holds (is_acceptable (seen_up_to openings.now (entries_of replies.now)
+            (length replies.now) opening at) entry.command) entry.reply.said }
     {
         match acceptance_told(&replies[at]) {
             None => true,
@@ -176,9 +185,12 @@ impl<'a> Sights<'a> {
         at: usize,
     ) -> bool
         requires output { IsOutput openings.now (entries_of replies.now) }
-        requires sights { AreSights openings.now (entries_of replies.now) (length replies.now) self.now }
+        requires sights { AreSights openings.now (entries_of replies.now) (length replies.now)
+            self.now }
         requires inside { at < length replies.now }
-        ensures { (tables : List Table) → IsJudgedBy (writes_hold (run_of tables (entries_of replies.now))) replies.now at result }
+        ensures { (tables : List Table)
+            → IsJudgedBy (writes_hold (run_of tables (entries_of replies.now))) replies.now at
+            result }
     {
         match opening_at(openings, at) {
             None => true,
@@ -197,9 +209,11 @@ impl<'a> Sights<'a> {
         row: &Row,
     ) -> bool
         requires output { IsOutput openings.now (entries_of replies.now) }
-        requires sights { AreSights openings.now (entries_of replies.now) (length replies.now) self.now }
+        requires sights { AreSights openings.now (entries_of replies.now) (length replies.now)
+            self.now }
         ensures { result ≡ option_map_or (is_row row.now)
-            (at_place (seen_up_to openings.now (entries_of replies.now) (length replies.now) opening at) (place_in of)) false }
+            (at_place (seen_up_to openings.now (entries_of replies.now) (length replies.now) opening
+            at) (place_in of)) false }
     {
         match self.seen(replies, openings, opening, at, of) {
             None => false,
@@ -218,8 +232,11 @@ impl<'a> Sights<'a> {
         rows: &[Row],
     ) -> bool
         requires output { IsOutput openings.now (entries_of replies.now) }
-        requires sights { AreSights openings.now (entries_of replies.now) (length replies.now) self.now }
-        ensures { result ≡ are_found table (seen_up_to openings.now (entries_of replies.now) (length replies.now) opening at) None rows.now }
+        requires sights { AreSights openings.now (entries_of replies.now) (length replies.now)
+            self.now }
+        ensures { result ≡ are_found table
+            (seen_up_to openings.now (entries_of replies.now) (length replies.now) opening at)
+            None rows.now }
     {
         let mut last = None;
         for row in rows.iter() {
@@ -248,16 +265,19 @@ impl<'a> Sights<'a> {
         rows: &[Row],
     ) -> bool
         requires output { IsOutput openings.now (entries_of replies.now) }
-        requires sights { AreSights openings.now (entries_of replies.now) (length replies.now) self.now }
+        requires sights { AreSights openings.now (entries_of replies.now) (length replies.now)
+            self.now }
         ensures { result ≡ pointwise is_row rows.now
-            (contents_of table (seen_up_to openings.now (entries_of replies.now) (length replies.now) opening at)) }
+            (contents_of table (seen_up_to openings.now (entries_of replies.now)
+            (length replies.now) opening at)) }
     {
         let count = self.rows_seen(replies, openings, opening, at, table);
         let found = self.are_found(replies, openings, opening, at, table, rows);
         rows.len() as u128 == count && found
     }
 
-    /// Whether the reply at a place, if it is one to a read, is as the transaction opened at another sees.
+    /// Whether the reply at a place, if it is one to a read, is as the transaction opened at
+    /// another sees.
     fn read_holds(
         &self,
         alloc: Global,
@@ -267,11 +287,14 @@ impl<'a> Sights<'a> {
         at: usize,
     ) -> Result<bool, AllocError>
         requires output { IsOutput openings.now (entries_of replies.now) }
-        requires sights { AreSights openings.now (entries_of replies.now) (length replies.now) self.now }
+        requires sights { AreSights openings.now (entries_of replies.now) (length replies.now)
+            self.now }
         requires inside { at < length replies.now }
         requires told { are_told replies.now ≡ true }
         ensures { (none : Kept) → IfOk result (λ answer. answer
-            ≡ read_holds (seen_up_to openings.now (entries_of replies.now) (length replies.now) opening at) (asked_at replies.now at none).command (asked_at replies.now at none).reply.said) }
+            ≡ read_holds (seen_up_to openings.now (entries_of replies.now) (length replies.now)
+            opening at) (asked_at replies.now at none).command
+            (asked_at replies.now at none).reply.said) }
     {
         match read_told(&replies[at]) {
             Read::Nothing => Ok(true),
@@ -296,10 +319,13 @@ impl<'a> Sights<'a> {
         at: usize,
     ) -> Result<bool, AllocError>
         requires output { IsOutput openings.now (entries_of replies.now) }
-        requires sights { AreSights openings.now (entries_of replies.now) (length replies.now) self.now }
+        requires sights { AreSights openings.now (entries_of replies.now) (length replies.now)
+            self.now }
         requires inside { at < length replies.now }
         requires told { are_told replies.now ≡ true }
-        ensures { (tables : List Table) → IfOk result (λ answer. IsJudgedBy (reads_hold (run_of tables (entries_of replies.now))) replies.now at answer) }
+        ensures { (tables : List Table)
+            → IfOk result (λ answer. IsJudgedBy
+            (reads_hold (run_of tables (entries_of replies.now))) replies.now at answer) }
     {
         match opening_at(openings, at) {
             None => Ok(true),

@@ -9,8 +9,8 @@ pub struct RowKey {
     pub key: i128,
 }
 
-/// A place of one owner's writes: the commits are one owner, and each transaction is. They go by key
-/// first: owners come in order, and a map whose keys come so is left half empty.
+/// A place of one owner's writes: the commits are one owner, and each transaction is. They go by
+/// key first: owners come in order, and a map whose keys come so is left half empty.
 #[derive(Clone, Copy, Debug, PartialEq, Eq, PartialOrd, Ord)]
 pub struct Spot {
     pub key: i128,

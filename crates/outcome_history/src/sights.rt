@@ -7,7 +7,8 @@ ghost use Rattle.outcome_spans.specs.Openings.{opening_of};
 ghost use Rattle.outcome_history.specs.Commits.{AreCommits};
 ghost use Rattle.outcome_history.specs.Kept.{place_in};
 ghost use Rattle.outcome_history.specs.Timed.{rows_in};
-ghost use Rattle.outcome_history.specs.Seen.{AreOwn, AreSights, IsOutput, AreSomeSights, history_of, seen_up_to, snapshot_at};
+ghost use Rattle.outcome_history.specs.Seen.{AreOwn, AreSights, IsOutput, AreSomeSights};
+ghost use Rattle.outcome_history.specs.Seen.{history_of, seen_up_to, snapshot_at};
 
 use crate::changes::{change_told, opening_at};
 use crate::committed::Committed;
@@ -45,8 +46,10 @@ impl<'a> Committed<'a> {
         number: u64,
     ) -> Option<&'a Row>
         requires output { IsOutput openings.now (entries_of replies.now) }
-        requires commits { AreCommits openings.now (entries_of replies.now) (commit_count (entries_of replies.now)) self.now.writes }
-        ensures { option_map (λ its. its.now) result ≡ at_place (state_at (history_of (entries_of replies.now)) number) (place_in of) }
+        requires commits { AreCommits openings.now (entries_of replies.now)
+            (commit_count (entries_of replies.now)) self.now.writes }
+        ensures { option_map (λ its. its.now) result
+            ≡ at_place (state_at (history_of (entries_of replies.now)) number) (place_in of) }
     {
         let _ = replies;
         let _ = openings;
@@ -65,7 +68,8 @@ impl<'a> Committed<'a> {
         number: u64,
     ) -> usize
         requires output { IsOutput openings.now (entries_of replies.now) }
-        requires commits { AreCommits openings.now (entries_of replies.now) (commit_count (entries_of replies.now)) self.now.writes }
+        requires commits { AreCommits openings.now (entries_of replies.now)
+            (commit_count (entries_of replies.now)) self.now.writes }
         ensures { result ≡ rows_in table (state_at (history_of (entries_of replies.now)) number) }
     {
         let _ = replies;
@@ -89,7 +93,9 @@ impl<'a> Sights<'a> {
         requires output { IsOutput openings.now (entries_of replies.now) }
         requires sights { AreSomeSights openings.now (entries_of replies.now) self.now }
         ensures { (taken : ℕ) → AreOwn openings.now (entries_of replies.now) taken self.now.own
-            → option_map (λ its. its.now) result ≡ at_place (seen_up_to openings.now (entries_of replies.now) taken opening at) (place_in of) }
+            → option_map (λ its. its.now) result
+            ≡ at_place (seen_up_to openings.now (entries_of replies.now) taken opening at)
+            (place_in of) }
     {
         let spot = spot_at(opening, of);
         match self.own.left_at(&spot, at as u64) {
@@ -110,8 +116,10 @@ impl<'a> Sights<'a> {
         table: u32,
     ) -> u128
         requires output { IsOutput openings.now (entries_of replies.now) }
-        requires sights { AreSights openings.now (entries_of replies.now) (length replies.now) self.now }
-        ensures { result ≡ rows_in table (seen_up_to openings.now (entries_of replies.now) (length replies.now) opening at) }
+        requires sights { AreSights openings.now (entries_of replies.now) (length replies.now)
+            self.now }
+        ensures { result ≡ rows_in table
+            (seen_up_to openings.now (entries_of replies.now) (length replies.now) opening at) }
     {
         let shelf = Shelf {
             owner: opening,
@@ -139,7 +147,8 @@ impl<'a> Sights<'a> {
         requires inside { place < length replies.now }
         requires opened { opening_of openings.now place ≡ Some opening }
         ensures committed { self.new.committed ≡ self.old.committed }
-        ensures own { OnOk result (AreOwn openings.now (entries_of replies.now) (place + 1) self.new.own) }
+        ensures own { OnOk result (AreOwn openings.now (entries_of replies.now) (place + 1)
+            self.new.own) }
     {
         match change_told(&replies[place], place as u64 + 1) {
             None => Ok(()),
@@ -164,7 +173,8 @@ impl<'a> Sights<'a> {
         requires sights { AreSights openings.now (entries_of replies.now) place self.old }
         requires long { length openings.now ≡ length replies.now }
         requires inside { place < length replies.now }
-        ensures { OnOk result (AreSights openings.now (entries_of replies.now) (place + 1) self.new) }
+        ensures { OnOk result (AreSights openings.now (entries_of replies.now) (place + 1)
+            self.new) }
     {
         match opening_at(openings, place) {
             None => Ok(()),
@@ -180,9 +190,11 @@ impl<'a> Sights<'a> {
         committed: Committed<'a>,
     ) -> Result<Sights<'a>, AllocError>
         requires output { IsOutput openings.now (entries_of replies.now) }
-        requires commits { AreCommits openings.now (entries_of replies.now) (commit_count (entries_of replies.now)) committed.writes }
+        requires commits { AreCommits openings.now (entries_of replies.now)
+            (commit_count (entries_of replies.now)) committed.writes }
         requires long { length openings.now ≡ length replies.now }
-        ensures { IfOk result (λ sights. AreSights openings.now (entries_of replies.now) (length replies.now) sights) }
+        ensures { IfOk result (λ sights. AreSights openings.now (entries_of replies.now)
+            (length replies.now) sights) }
     {
         let mut sights = Sights {
             committed,

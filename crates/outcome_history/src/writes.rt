@@ -3,7 +3,8 @@
 ghost use Rattle.std.specs.Prelude.{◌≡◌, [], OnOk, None, option_map, unwrap_or};
 ghost use Rattle.std.specs.List.Sorted.{IsNonDecreasing, IsNonDecreasingBy};
 ghost use Rattle.mark_index.specs.Lists.{marks_at};
-ghost use Rattle.outcome_history.specs.Kept.{IsNoted, count_up_to, last_up_to, row_up_to, shelf_cmp, spot_cmp, with_time};
+ghost use Rattle.outcome_history.specs.Kept.{IsNoted, count_up_to, last_up_to, row_up_to};
+ghost use Rattle.outcome_history.specs.Kept.{shelf_cmp, spot_cmp, with_time};
 ghost use Rattle.outcome_history.specs.declared.keys.Spot.{Spot as Where};
 ghost use Rattle.outcome_history.specs.declared.keys.Shelf.{Shelf as Which};
 
@@ -97,9 +98,11 @@ impl<'a> Writes<'a> {
         self.left.push(alloc, spot, *left)
     }
 
-    /// What the last of an owner's writes at a place up to a bound left; none where it has none there.
+    /// What the last of an owner's writes at a place up to a bound left; none where it has none
+    /// there.
     pub fn left_at(&self, spot: &Spot, bound: u64) -> Option<Option<&'a Row>>
-        requires { IsNonDecreasingBy (λ left. left.time) (marks_at spot_cmp self.now.left spot.now) }
+        requires { IsNonDecreasingBy (λ left. left.time)
+            (marks_at spot_cmp self.now.left spot.now) }
         ensures { option_map (λ row. option_map (λ its. its.now) row) result
             ≡ row_up_to bound (marks_at spot_cmp self.now.left spot.now) }
     {
@@ -111,7 +114,8 @@ impl<'a> Writes<'a> {
 
     /// The row that the last of an owner's writes at a place up to a bound left, if any.
     pub fn row_at(&self, spot: &Spot, bound: u64) -> Option<&'a Row>
-        requires { IsNonDecreasingBy (λ left. left.time) (marks_at spot_cmp self.now.left spot.now) }
+        requires { IsNonDecreasingBy (λ left. left.time)
+            (marks_at spot_cmp self.now.left spot.now) }
         ensures { option_map (λ its. its.now) result
             ≡ unwrap_or (row_up_to bound (marks_at spot_cmp self.now.left spot.now)) None }
     {

@@ -1,5 +1,5 @@
--- The conditions of a sound reply, in three parts: by counts, by who else writes, and by what transactions see; and up to
--- which place replies meet one.
+-- The conditions of a sound reply, in three parts: by counts, by who else writes, and by what
+-- transactions see; and up to which place replies meet one.
 use Rattle.std.specs.Prelude.{◌≡◌, ℕ, ◌<◌, ◌≤◌, Bool, true, false, ◌&&◌, List, take}
 use Rattle.std.specs.List.{list_all}
 use Rattle.outcome_spec.specs.Answers.{reads_hold, writes_hold}
@@ -16,7 +16,8 @@ use Rattle.output_read.specs.declared.kept.KeptReply.{KeptReply}
 -- those that count what is shown about a reply
 abbrev pub counts_hold : Run → Entry → Bool
 counts_hold run entry =
-    commit_numbers_hold run entry && snapshot_numbers_hold run entry && freezing_holds run entry && full_holds run entry && upkeep_holds run entry
+    commit_numbers_hold run entry && snapshot_numbers_hold run entry && freezing_holds run entry
+    && full_holds run entry && upkeep_holds run entry
 
 -- those that ask what its transaction sees
 abbrev pub views_hold : Run → Entry → Bool
@@ -34,7 +35,8 @@ accesses_hold run entry = reads_hold run entry && writes_hold run entry
 abbrev pub conflicts_and_views_hold : Run → Entry → Bool
 conflicts_and_views_hold run entry = conflicts_hold run entry && views_hold run entry
 
--- The replies in front of the place pass the test; the one at it does not, where it is in front of a bound.
+-- The replies in front of the place pass the test; the one at it does not, where it is in front of
+-- a bound.
 pub record EndsAt (test : Entry → Bool) (replies : List KeptReply) (until place : ℕ) : Type 0 where
   pub within : place ≤ until
   pub front : list_all test (take place (entries_of replies)) ≡ true

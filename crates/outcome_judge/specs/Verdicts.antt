@@ -5,7 +5,8 @@ use Rattle.output_read.specs.declared.fault.ReadFault.TheVariants as read
 use Rattle.outcome_judge.specs.declared.fault.ExplainFault.{ExplainFault}
 use Rattle.outcome_judge.specs.declared.fault.ExplainFault.TheVariants as fault
 
--- An output that fails at no line is explained, one that fails at a line is not, at that line; or memory was refused.
+-- An output that fails at no line is explained, one that fails at a line is not, at that line; or
+-- memory was refused.
 abbrev pub Explains : {U : Type 0} → Option ℕ → Result U ExplainFault → Type 0
 Explains failing (Ok nothing) = failing ≡ None
 Explains failing (Err (fault.NotExplained line)) = failing ≡ Some line

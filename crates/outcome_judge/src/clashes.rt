@@ -29,7 +29,8 @@ pub(crate) fn sessions_end(
     requires rises { Rises (entries_of replies.now) }
     requires outside { OpensOutside (entries_of replies.now) }
     requires within { until ≤ length replies.now }
-    ensures { (tables : List TableDecl) → EndsAt (sessions_hold (run_of tables (entries_of replies.now))) replies.now until result }
+    ensures { (tables : List TableDecl)
+        → EndsAt (sessions_hold (run_of tables (entries_of replies.now))) replies.now until result }
 {
     let mut known = None;
     for at in 0..until {
@@ -43,8 +44,8 @@ pub(crate) fn sessions_end(
     until
 }
 
-/// Where the first reply stands, in front of a place, that passes over a higher commit, or else that
-/// place.
+/// Where the first reply stands, in front of a place, that passes over a higher commit, or else
+/// that place.
 pub(crate) fn heights_end(
     heights: &Heights,
     spans: &Spans,
@@ -56,7 +57,8 @@ pub(crate) fn heights_end(
     requires rises { Rises (entries_of replies.now) }
     requires outside { OpensOutside (entries_of replies.now) }
     requires within { until ≤ length replies.now }
-    ensures { (tables : List TableDecl) → EndsAt (heights_hold (run_of tables (entries_of replies.now))) replies.now until result }
+    ensures { (tables : List TableDecl)
+        → EndsAt (heights_hold (run_of tables (entries_of replies.now))) replies.now until result }
 {
     let mut known = None;
     for at in 0..until {
@@ -82,7 +84,8 @@ pub(crate) fn numbers_end(
     requires spans { AreSpans (entries_of replies.now) (length replies.now) spans.now }
     requires outside { OpensOutside (entries_of replies.now) }
     requires within { until ≤ length replies.now }
-    ensures { (tables : List TableDecl) → EndsAt (numbers_hold (run_of tables (entries_of replies.now))) replies.now until result }
+    ensures { (tables : List TableDecl)
+        → EndsAt (numbers_hold (run_of tables (entries_of replies.now))) replies.now until result }
 {
     for at in 0..until {
         let transaction = transaction_at(spans, replies, at);

@@ -37,7 +37,8 @@ impl<'s> Counts<'s> {
         requires outside { OpensOutside (entries_of replies.now) }
         requires shared { AreShared (entries_of replies.now) (length replies.now) shared.now }
         requires numbers { AreNumberMarks (entries_of replies.now) (length replies.now) numbers }
-        ensures { IfOk result (λ counts. AreCounts (entries_of replies.now) (length replies.now) counts) }
+        ensures { IfOk result (λ counts. AreCounts (entries_of replies.now) (length replies.now)
+            counts) }
     {
         let prunes = Prunes::of(alloc, &shared.spans, replies)?;
         let later = LaterCommits::of(alloc, replies)?;
@@ -60,7 +61,8 @@ impl<'s> Counts<'s> {
         requires counts { AreCounts (entries_of replies.now) (length replies.now) self.now }
         requires outside { OpensOutside (entries_of replies.now) }
         requires asked { IsAsked replies.now at stretch.now }
-        ensures { IsJudgedBy (counts_hold (run_of tables.now (entries_of replies.now))) replies.now at result }
+        ensures { IsJudgedBy (counts_hold (run_of tables.now (entries_of replies.now))) replies.now
+            at result }
     {
         let spans = &self.shared.spans;
         let numbers = &self.numbers;
@@ -87,7 +89,8 @@ impl<'s> Counts<'s> {
         requires counts { AreCounts (entries_of replies.now) (length replies.now) self.now }
         requires rises { Rises (entries_of replies.now) }
         requires outside { OpensOutside (entries_of replies.now) }
-        ensures { EndsAt (counts_hold (run_of tables.now (entries_of replies.now))) replies.now (length replies.now) result }
+        ensures { EndsAt (counts_hold (run_of tables.now (entries_of replies.now))) replies.now
+            (length replies.now) result }
     {
         let mut known = None;
         for at in 0..replies.len() {

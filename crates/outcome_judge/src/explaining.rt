@@ -11,8 +11,8 @@ use reading_laws::laws::{replies_that_are_read_open_outside, replies_that_are_re
 use std::alloc::Global;
 use workload_spec::Script;
 
-/// Whether an output is explained by its script: its lines are those of the replies that are due, and each
-/// reply is what snapshot isolation and the counts of blocks allow.
+/// Whether an output is explained by its script: its lines are those of the replies that are due,
+/// and each reply is what snapshot isolation and the counts of blocks allow.
 pub fn explained(alloc: Global, script: &Script, text: &[u8]) -> Result<(), ExplainFault>
     requires { is_valid script.now ≡ true }
     ensures { Explains (failing_line script.now text.now) result }

@@ -20,7 +20,7 @@ impl From<AllocError> for ExplainFault {
 
     ghost from_gives = { λ a e. e ≡ fault.Memory a };
 
-    // Refused memory, which `?` hands on.
+    /// Refused memory, which `?` hands on.
     fn from(refused: AllocError) -> ExplainFault {
         ExplainFault::Memory(refused)
     }
@@ -31,7 +31,7 @@ impl From<ReadFault> for ExplainFault {
 
     ghost from_gives = { λ a e. e ≡ fault_of a };
 
-    // A line that is not read is one at which the output is not explained.
+    /// A line that is not read is one at which the output is not explained.
     fn from(fault: ReadFault) -> ExplainFault {
         match fault {
             ReadFault::Line(line) => ExplainFault::NotExplained(line),

@@ -11,7 +11,8 @@ ghost use Rattle.outcome_spans.specs.Openings.{openings_in};
 ghost use Rattle.outcome_spec.specs.Explained.{is_sound, unsound_line};
 ghost use Rattle.outcome_spec.specs.Runs.{commit_count, run_of};
 ghost use Rattle.output_read.specs.Kept.{are_told, entries_of};
-ghost use Rattle.outcome_judge.specs.Judged.{EndsAt, commits_hold, conflicts_and_views_hold, views_hold};
+ghost use Rattle.outcome_judge.specs.Judged.{EndsAt, commits_hold, conflicts_and_views_hold};
+ghost use Rattle.outcome_judge.specs.Judged.{views_hold};
 ghost use Rattle.outcome_judge.specs.Kept.{AreShared};
 
 use crate::clashes::{heights_end, numbers_end, sessions_end};
@@ -25,7 +26,8 @@ use outcome_history::{Changes, CommitPlaces, Committed, Exports, Sights};
 use output_read::KeptReply;
 use std::alloc::{AllocError, Global};
 
-/// Where the first reply stands, in front of a place, that sessions do not allow, or else that place.
+/// Where the first reply stands, in front of a place, that sessions do not allow, or else that
+/// place.
 fn free_end(
     alloc: Global,
     shared: &Shared,
@@ -36,13 +38,16 @@ fn free_end(
     requires rises { Rises (entries_of replies.now) }
     requires outside { OpensOutside (entries_of replies.now) }
     requires within { until ≤ length replies.now }
-    ensures { (tables : List TableValue) → IfOk result (EndsAt (sessions_hold (run_of tables (entries_of replies.now))) replies.now until) }
+    ensures { (tables : List TableValue)
+        → IfOk result (EndsAt (sessions_hold (run_of tables (entries_of replies.now))) replies.now
+        until) }
 {
     let rivals = Rivals::of(alloc, replies)?;
     Ok(sessions_end(&rivals, &shared.spans, replies, until))
 }
 
-/// Where the first reply stands, in front of a place, that commits do not allow, or else that place.
+/// Where the first reply stands, in front of a place, that commits do not allow, or else that
+/// place.
 fn clear_end<'a>(
     alloc: Global,
     shared: &Shared,
@@ -57,7 +62,9 @@ fn clear_end<'a>(
     requires rises { Rises (entries_of replies.now) }
     requires outside { OpensOutside (entries_of replies.now) }
     requires within { until ≤ length replies.now }
-    ensures { (tables : List TableValue) → IfOk result (EndsAt (commits_hold (run_of tables (entries_of replies.now))) replies.now until) }
+    ensures { (tables : List TableValue)
+        → IfOk result (EndsAt (commits_hold (run_of tables (entries_of replies.now))) replies.now
+        until) }
 {
     let heights = Heights::of(alloc, replies, written, count)?;
     let low = heights_end(&heights, &shared.spans, replies, until);
@@ -66,8 +73,8 @@ fn clear_end<'a>(
     Ok(numbers_end(&numbers, &shared.spans, replies, low))
 }
 
-/// Where the first reply stands, in front of a place, that what its transaction sees does not allow,
-/// or else that place. What reads and writes are judged by is made once exports are.
+/// Where the first reply stands, in front of a place, that what its transaction sees does not
+/// allow, or else that place. What reads and writes are judged by is made once exports are.
 fn seen_end<'a>(
     alloc: Global,
     shared: Shared,
@@ -78,13 +85,16 @@ fn seen_end<'a>(
     until: usize,
 ) -> Result<usize, AllocError>
     requires shared { AreShared (entries_of replies.now) (length replies.now) shared }
-    requires changes { AreChanges (openings_in (entries_of replies.now)) (entries_of replies.now) (length replies.now) changes }
-    requires committed { AreCommits (openings_in (entries_of replies.now)) (entries_of replies.now) (commit_count (entries_of replies.now)) committed.writes }
+    requires changes { AreChanges (openings_in (entries_of replies.now)) (entries_of replies.now)
+        (length replies.now) changes }
+    requires committed { AreCommits (openings_in (entries_of replies.now)) (entries_of replies.now)
+        (commit_count (entries_of replies.now)) committed.writes }
     requires rises { Rises (entries_of replies.now) }
     requires outside { OpensOutside (entries_of replies.now) }
     requires told { are_told replies.now ≡ true }
     requires within { until ≤ length replies.now }
-    ensures { IfOk result (EndsAt (views_hold (run_of tables.now (entries_of replies.now))) replies.now until) }
+    ensures { IfOk result (EndsAt (views_hold (run_of tables.now (entries_of replies.now)))
+        replies.now until) }
 {
     let Shared { blocks, spans } = shared;
     let openings = spans.into_openings(replies);
@@ -102,9 +112,9 @@ fn seen_end<'a>(
     accesses_end(alloc, &sights, replies, openings, told)
 }
 
-/// Where the first reply stands, in front of a place, that conflicts or what its transaction sees do
-/// not allow, or else that place. What one condition is judged by is let go before that of the next
-/// is made.
+/// Where the first reply stands, in front of a place, that conflicts or what its transaction sees
+/// do not allow, or else that place. What one condition is judged by is let go before that of the
+/// next is made.
 fn written_end<'a>(
     alloc: Global,
     shared: Shared,
@@ -119,7 +129,9 @@ fn written_end<'a>(
     requires told { are_told replies.now ≡ true }
     requires count { count ≡ commit_count (entries_of replies.now) }
     requires within { until ≤ length replies.now }
-    ensures { IfOk result (EndsAt (conflicts_and_views_hold (run_of tables.now (entries_of replies.now))) replies.now until) }
+    ensures { IfOk result (EndsAt
+        (conflicts_and_views_hold (run_of tables.now (entries_of replies.now))) replies.now
+        until) }
 {
     let free = free_end(alloc, &shared, replies, until)?;
     let openings = shared.spans.openings(replies);
@@ -145,7 +157,8 @@ fn sound_end(
     requires rises { Rises (entries_of replies.now) }
     requires outside { OpensOutside (entries_of replies.now) }
     requires told { are_told replies.now ≡ true }
-    ensures { IfOk result (EndsAt (is_sound (run_of tables.now (entries_of replies.now))) replies.now (length replies.now)) }
+    ensures { IfOk result (EndsAt (is_sound (run_of tables.now (entries_of replies.now)))
+        replies.now (length replies.now)) }
 {
     let shared = Shared::of(alloc, replies)?;
     let numbers = NumberMarks::of(alloc, replies)?;
@@ -156,8 +169,8 @@ fn sound_end(
     written_end(alloc, shared, tables, replies, count, until)
 }
 
-/// The line of the first reply that is not sound. What each condition is judged by is made in its turn
-/// and then let go, so that memory never holds all of it.
+/// The line of the first reply that is not sound. What each condition is judged by is made in its
+/// turn and then let go, so that memory never holds all of it.
 pub(crate) fn unsound_line(
     alloc: Global,
     tables: &[TableDecl],
@@ -166,7 +179,8 @@ pub(crate) fn unsound_line(
     requires rises { Rises (entries_of replies.now) }
     requires outside { OpensOutside (entries_of replies.now) }
     requires told { are_told replies.now ≡ true }
-    ensures { IfOk result (λ line. line ≡ unsound_line (run_of tables.now (entries_of replies.now))) }
+    ensures { IfOk result (λ line. line
+        ≡ unsound_line (run_of tables.now (entries_of replies.now))) }
 {
     let end = sound_end(alloc, tables, replies)?;
     if end < replies.len() {

@@ -22,7 +22,8 @@ impl Shared {
     pub(crate) fn of(alloc: Global, replies: &[KeptReply<'_>]) -> Result<Shared, AllocError>
         requires rises { Rises (entries_of replies.now) }
         requires outside { OpensOutside (entries_of replies.now) }
-        ensures { IfOk result (λ shared. AreShared (entries_of replies.now) (length replies.now) shared) }
+        ensures { IfOk result (λ shared. AreShared (entries_of replies.now) (length replies.now)
+            shared) }
     {
         Ok(Shared {
             blocks: BlockMarks::of(alloc, replies)?,

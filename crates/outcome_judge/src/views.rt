@@ -14,8 +14,8 @@ use outcome_history::{Exports, Sights};
 use output_read::KeptReply;
 use std::alloc::{AllocError, Global};
 
-/// Where the first reply stands, in front of a place, that is one to an export which its transaction
-/// does not see so, or else that place.
+/// Where the first reply stands, in front of a place, that is one to an export which its
+/// transaction does not see so, or else that place.
 pub(crate) fn exports_end<'a>(
     exports: &Exports<'_, 'a>,
     replies: &[KeptReply<'a>],
@@ -25,7 +25,8 @@ pub(crate) fn exports_end<'a>(
     requires output { IsOutput openings.now (entries_of replies.now) }
     requires kept { AreExports openings.now (entries_of replies.now) exports.now }
     requires within { until ≤ length replies.now }
-    ensures { EndsAt (exports_hold (run_of exports.now.tables.now (entries_of replies.now))) replies.now until result }
+    ensures { EndsAt (exports_hold (run_of exports.now.tables.now (entries_of replies.now)))
+        replies.now until result }
 {
     let mut known = None;
     for at in 0..until {
@@ -47,10 +48,13 @@ fn accesses_hold<'a>(
     at: usize,
 ) -> Result<bool, AllocError>
     requires output { IsOutput openings.now (entries_of replies.now) }
-    requires sights { AreSights openings.now (entries_of replies.now) (length replies.now) sights.now }
+    requires sights { AreSights openings.now (entries_of replies.now) (length replies.now)
+        sights.now }
     requires inside { at < length replies.now }
     requires told { are_told replies.now ≡ true }
-    ensures { (tables : List TableDecl) → IfOk result (λ answer. IsJudgedBy (accesses_hold (run_of tables (entries_of replies.now))) replies.now at answer) }
+    ensures { (tables : List TableDecl)
+        → IfOk result (λ answer. IsJudgedBy (accesses_hold (run_of tables (entries_of replies.now)))
+        replies.now at answer) }
 {
     let reads = sights.reads_hold(alloc, replies, openings, at)?;
     if !reads {
@@ -69,10 +73,13 @@ pub(crate) fn accesses_end<'a>(
     until: usize,
 ) -> Result<usize, AllocError>
     requires output { IsOutput openings.now (entries_of replies.now) }
-    requires sights { AreSights openings.now (entries_of replies.now) (length replies.now) sights.now }
+    requires sights { AreSights openings.now (entries_of replies.now) (length replies.now)
+        sights.now }
     requires told { are_told replies.now ≡ true }
     requires within { until ≤ length replies.now }
-    ensures { (tables : List TableDecl) → IfOk result (EndsAt (accesses_hold (run_of tables (entries_of replies.now))) replies.now until) }
+    ensures { (tables : List TableDecl)
+        → IfOk result (EndsAt (accesses_hold (run_of tables (entries_of replies.now))) replies.now
+        until) }
 {
     for at in 0..until {
         if !accesses_hold(alloc, sights, replies, openings, at)? {

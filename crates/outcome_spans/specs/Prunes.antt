@@ -14,7 +14,9 @@ pub record ArePrunes (entries : List Entry) (taken : ℕ) (prunes : Prunes) : Ty
 
 -- the sum before the reply at a place, and that not after it
 abbrev pub sum_before : List Sum → ℕ → Stretch → ℕ
-sum_before sums at stretch = total_below at sums - (total_below stretch.own_start sums - total_below stretch.round_start sums)
+sum_before sums at stretch = total_below at sums -
+    (total_below stretch.own_start sums - total_below stretch.round_start sums)
 
 abbrev pub sum_not_after : List Sum → ℕ → Stretch → ℕ
-sum_not_after sums at stretch = total_below stretch.round_end sums - (total_below stretch.own_end sums - total_below (at + 1) sums)
+sum_not_after sums at stretch = total_below stretch.round_end sums -
+    (total_below stretch.own_end sums - total_below (at + 1) sums)

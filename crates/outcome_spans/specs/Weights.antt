@@ -15,4 +15,5 @@ moved_by entry = unwrap_or (moved_in entry.reply.said) 0
 -- the accepted writes of the transaction that the reply commits
 abbrev pub committed_by : List Entry → Entry → ℕ
 committed_by entries entry =
-    if is_commit entry.reply.said then option_map_or writes_of (transaction_with (transactions_of entries) entry) 0 else 0
+    if is_commit entry.reply.said
+    then option_map_or writes_of (transaction_with (transactions_of entries) entry) 0 else 0

@@ -1,5 +1,6 @@
 -- What transactions wrote, counted.
-use Rattle.std.specs.Prelude.{◌≡◌, ℕ, Bool, List, count_by, is_some, if◌then◌else◌, Option, None, Some}
+use Rattle.std.specs.Prelude.{◌≡◌, ℕ, Bool, List, count_by, is_some, if◌then◌else◌, Option, None}
+use Rattle.std.specs.Prelude.{Some}
 use Rattle.std.specs.Ordering.{nat_cmp}
 use Rattle.workload_spec.specs.declared.reply.Who.{Who}
 use Rattle.workload_spec.specs.declared.reply.Who.TheVariants.{Session, Worker}
@@ -36,4 +37,5 @@ pub record AreSpans (entries : List Entry) (taken : ℕ) (spans : Spans) : Type 
   pub openings : AreOpenings entries spans.openings.items
   pub each : spans.openings.items ≡ openings_in entries
   pub ends : AreEnds entries taken spans.ends.backs.items
-  pub writes : (session : ℕ) → AreCounted (is_write_by session) entries taken (marks_at nat_cmp spans.writes session)
+  pub writes : (session : ℕ) → AreCounted (is_write_by session) entries taken
+      (marks_at nat_cmp spans.writes session)

@@ -38,7 +38,9 @@ impl Spans {
         requires marked { AreNumberMarks (entries_of replies.now) (length replies.now) marks.now }
         requires outside { OpensOutside (entries_of replies.now) }
         requires asked { IsAsked replies.now at stretch.now }
-        ensures { (tables : List Table) → IsJudgedBy (λ entry. may_show (run_of tables (entries_of replies.now)) entry number) replies.now at result }
+        ensures { (tables : List Table)
+            → IsJudgedBy (λ entry. may_show (run_of tables (entries_of replies.now)) entry number)
+            replies.now at result }
     {
         let written = self.has_written(replies, at);
         match number {
@@ -59,7 +61,9 @@ impl Spans {
         requires marked { AreNumberMarks (entries_of replies.now) (length replies.now) marks.now }
         requires outside { OpensOutside (entries_of replies.now) }
         requires asked { IsAsked replies.now at stretch.now }
-        ensures { (tables : List Table) → IsJudgedBy (commit_numbers_hold (run_of tables (entries_of replies.now))) replies.now at result }
+        ensures { (tables : List Table)
+            → IsJudgedBy (commit_numbers_hold (run_of tables (entries_of replies.now))) replies.now
+            at result }
     {
         match committed(&replies[at]) {
             None => true,

@@ -54,7 +54,8 @@ pub struct Ends {
 impl Ends {
     /// Those of all replies.
     pub fn of(alloc: Global, replies: &[KeptReply<'_>]) -> Result<Ends, AllocError>
-        ensures { IfOk result (λ ends. AreEnds (entries_of replies.now) (length replies.now) ends.backs.items) }
+        ensures { IfOk result (λ ends. AreEnds (entries_of replies.now) (length replies.now)
+            ends.backs.items) }
     {
         let count = narrow(replies.len() as u64)?;
         let mut ended = Ended {
@@ -74,8 +75,10 @@ impl Ends {
     pub fn end_of(&self, replies: &[KeptReply<'_>], place: usize) -> usize
         requires ends { AreEnds (entries_of replies.now) (length replies.now) self.now.backs.items }
         requires inside { place < length replies.now }
-        ensures { (front : List Reply) (entry : Reply) (rest : List Reply) → entries_of replies.now ≡ front ++ entry ∷ rest
-            → length front ≡ place → is_worker entry.reply.who ≡ false → result ≡ length front + next_end entry.reply.who (entry ∷ rest) }
+        ensures { (front : List Reply) (entry : Reply) (rest : List Reply) → entries_of replies.now
+            ≡ front ++ entry ∷ rest
+            → length front ≡ place → is_worker entry.reply.who ≡ false → result
+            ≡ length front + next_end entry.reply.who (entry ∷ rest) }
     {
         self.backs[replies.len() - 1 - place] as usize
     }

@@ -4,7 +4,8 @@ ghost use Rattle.outcome_check.specs.Opened.{OpensOutside};
 ghost use Rattle.outcome_check.specs.Places.{Rises};
 ghost use Rattle.outcome_spec.specs.Entries.{is_end};
 ghost use Rattle.output_read.specs.Kept.{entries_of, entry_of};
-ghost use Rattle.outcome_spans.specs.Openings.{AreOpenings, open_next, open_of, opening_next, openings_in};
+ghost use Rattle.outcome_spans.specs.Openings.{AreOpenings, open_next, open_of, opening_next};
+ghost use Rattle.outcome_spans.specs.Openings.{openings_in};
 ghost use Rattle.workload_spec.specs.declared.reply.Who.{Who as Whom};
 
 use outcome_counts::snapshot_told;
@@ -29,7 +30,8 @@ pub(crate) struct Opened {
 impl Opened {
     /// Where the transaction of a reply at a place is opened.
     fn opening_at(&self, reply: &KeptReply<'_>, place: usize) -> Result<Option<u32>, AllocError>
-        ensures { IfOk result (λ opening. opening ≡ opening_next (entry_of reply.now) place (open_of self.now)) }
+        ensures { IfOk result (λ opening. opening
+            ≡ opening_next (entry_of reply.now) place (open_of self.now)) }
     {
         if snapshot_told(reply).is_some() {
             return Ok(Some(narrow(place as u64)?));

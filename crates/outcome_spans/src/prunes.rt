@@ -1,5 +1,6 @@
 //! What is pruned, what is moved, and which writes are committed, in sum.
-ghost use Rattle.std.specs.Prelude.{◌≡◌, ◌+◌, ◌*◌, ◌^◌, ◌<◌, ◌≤◌, IfOk, List, OnOk, length, nat_le, nat_lt};
+ghost use Rattle.std.specs.Prelude.{◌≡◌, ◌+◌, ◌*◌, ◌^◌, ◌<◌, ◌≤◌, IfOk, List, OnOk, length, nat_le};
+ghost use Rattle.std.specs.Prelude.{nat_lt};
 ghost use Rattle.std.specs.Option.{option_map_or};
 ghost use Rattle.std.specs.List.Sorted.{IsNonDecreasingBy};
 ghost use Rattle.cell_model.specs.declared.table.TableDecl.{TableDecl as Table};
@@ -24,7 +25,8 @@ use outcome_counts::{BlockMarks, Stretch};
 use output_read::{KeptReply, Told};
 use std::alloc::{AllocError, Global};
 
-/// Sums up to each place of what was pruned, of what was moved, and of the writes that were committed.
+/// Sums up to each place of what was pruned, of what was moved, and of the writes that were
+/// committed.
 #[derive(Drop)]
 pub struct Prunes {
     pub(crate) pruned: Vec<Sum>,
@@ -56,7 +58,8 @@ fn moved_by(reply: &KeptReply<'_>) -> u64
 fn note_sum(sums: &mut Vec<Sum>, place: usize, value: u64) -> Result<(), AllocError>
     requires rise { IsNonDecreasingBy (λ sum. sum.place) sums.old.items }
     requires small { total_below place sums.old.items ≤ place * 2 ^ 64 }
-    ensures { OnOk result (sums.new.items ≡ with_mark (nat_lt 0 value) (next_sum sums.old.items place value) sums.old.items) }
+    ensures { OnOk result (sums.new.items
+        ≡ with_mark (nat_lt 0 value) (next_sum sums.old.items place value) sums.old.items) }
 {
     if value > 0 {
         let sum = next_sum(sums.as_slice(), place, value);
@@ -110,7 +113,9 @@ impl Spans {
         requires spans { AreSpans (entries_of replies.now) (length replies.now) self.now }
         requires outside { OpensOutside (entries_of replies.now) }
         requires inside { at < length replies.now }
-        ensures { (none : Kept) → result ≡ option_map_or writes_of (transaction_with (transactions_of (entries_of replies.now)) (asked_at replies.now at none)) 0 }
+        ensures { (none : Kept) → result
+            ≡ option_map_or writes_of (transaction_with (transactions_of (entries_of replies.now))
+            (asked_at replies.now at none)) 0 }
     {
         match self.opening_of(replies, at) {
             Some(opening) => self.writes_of(replies, opening) as u64,
@@ -123,7 +128,8 @@ impl Spans {
         requires spans { AreSpans (entries_of replies.now) (length replies.now) self.now }
         requires outside { OpensOutside (entries_of replies.now) }
         requires inside { at < length replies.now }
-        ensures { (none : Kept) → result ≡ committed_by (entries_of replies.now) (asked_at replies.now at none) }
+        ensures { (none : Kept) → result
+            ≡ committed_by (entries_of replies.now) (asked_at replies.now at none) }
     {
         if is_commit(&replies[at]) {
             self.own_writes(replies, at)
@@ -138,7 +144,8 @@ impl Prunes {
     pub fn of(alloc: Global, spans: &Spans, replies: &[KeptReply<'_>]) -> Result<Prunes, AllocError>
         requires spans { AreSpans (entries_of replies.now) (length replies.now) spans.now }
         requires outside { OpensOutside (entries_of replies.now) }
-        ensures { IfOk result (λ prunes. ArePrunes (entries_of replies.now) (length replies.now) prunes) }
+        ensures { IfOk result (λ prunes. ArePrunes (entries_of replies.now) (length replies.now)
+            prunes) }
     {
         let mut pruned = Vec::new(alloc);
         let mut moved = Vec::new(alloc);
@@ -166,7 +173,9 @@ impl Prunes {
         requires prunes { ArePrunes (entries_of replies.now) (length replies.now) self.now }
         requires outside { OpensOutside (entries_of replies.now) }
         requires asked { IsAsked replies.now at stretch.now }
-        ensures { (tables : List Table) → IsJudgedBy (λ entry. prune_holds (run_of tables (entries_of replies.now)) entry count) replies.now at result }
+        ensures { (tables : List Table)
+            → IsJudgedBy (λ entry. prune_holds (run_of tables (entries_of replies.now)) entry count)
+            replies.now at result }
     {
         let _ = replies;
         let pruned = sum_before(self.pruned.as_slice(), at, stretch);
@@ -188,7 +197,8 @@ impl Prunes {
         requires marked { AreBlockMarks (entries_of replies.now) (length replies.now) marks.now }
         requires outside { OpensOutside (entries_of replies.now) }
         requires asked { IsAsked replies.now at stretch.now }
-        ensures { IsJudgedBy (upkeep_holds (run_of tables.now (entries_of replies.now))) replies.now at result }
+        ensures { IsJudgedBy (upkeep_holds (run_of tables.now (entries_of replies.now))) replies.now
+            at result }
     {
         match pruned_told(&replies[at]) {
             Some(count) => self.may_prune(replies, at, stretch, count),

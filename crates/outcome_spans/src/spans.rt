@@ -1,5 +1,6 @@
 //! The transactions of an output, by the places of their replies.
-ghost use Rattle.std.specs.Prelude.{◌≡◌, ◌+◌, ◌<◌, IfOk, IfSome, List, Some, false, length, min, option_and_then, ℕ};
+ghost use Rattle.std.specs.Prelude.{◌≡◌, ◌+◌, ◌<◌, IfOk, IfSome, List, Some, false, length, min};
+ghost use Rattle.std.specs.Prelude.{option_and_then, ℕ};
 ghost use Rattle.std.specs.Ordering.{nat_cmp};
 ghost use Rattle.cell_model.specs.declared.table.TableDecl.{TableDecl as Table};
 ghost use Rattle.mark_index.specs.Lists.{marks_at};
@@ -24,8 +25,8 @@ use output_read::{KeptReply, Told};
 use std::alloc::{AllocError, Global};
 use workload_spec::{Command, Who};
 
-/// For each reply where its transaction is opened and ends, and for each session where its writes are
-/// that were accepted.
+/// For each reply where its transaction is opened and ends, and for each session where its writes
+/// are that were accepted.
 #[derive(Drop)]
 pub struct Spans {
     pub(crate) openings: Vec<Option<u32>>,
@@ -56,7 +57,9 @@ fn behind(end: usize, count: usize) -> usize
 
 /// For each session the places of its accepted writes.
 fn writes_by(alloc: Global, replies: &[KeptReply<'_>]) -> Result<MarkIndex<u32, usize>, AllocError>
-    ensures { IfOk result (λ writes. (session : ℕ) → AreCounted (is_write_by session) (entries_of replies.now) (length replies.now) (marks_at nat_cmp writes session)) }
+    ensures { IfOk result (λ writes. (session : ℕ)
+        → AreCounted (is_write_by session) (entries_of replies.now) (length replies.now)
+        (marks_at nat_cmp writes session)) }
 {
     let mut writes = MarkIndex::new(alloc);
     for (place, reply) in replies.iter().enumerate() {
@@ -70,7 +73,8 @@ impl Spans {
     pub fn of(alloc: Global, replies: &[KeptReply<'_>]) -> Result<Spans, AllocError>
         requires rises { Rises (entries_of replies.now) }
         requires outside { OpensOutside (entries_of replies.now) }
-        ensures { IfOk result (λ spans. AreSpans (entries_of replies.now) (length replies.now) spans) }
+        ensures { IfOk result (λ spans. AreSpans (entries_of replies.now) (length replies.now)
+            spans) }
     {
         Ok(Spans {
             openings: openings_of(alloc, replies)?,
@@ -105,7 +109,8 @@ impl Spans {
         requires spans { AreSpans (entries_of replies.now) (length replies.now) self.now }
         requires outside { OpensOutside (entries_of replies.now) }
         requires inside { opening < length replies.now }
-        ensures { (t : Transaction) → opened_at opening (entries_of replies.now) ≡ Some t → result ≡ writes_of t }
+        ensures { (t : Transaction) → opened_at opening (entries_of replies.now) ≡ Some t → result
+            ≡ writes_of t }
     {
         let reply = &replies[opening];
         let Who::Session(session) = reply.who else {
@@ -134,7 +139,9 @@ impl Spans {
         requires spans { AreSpans (entries_of replies.now) (length replies.now) self.now }
         requires outside { OpensOutside (entries_of replies.now) }
         requires inside { at < length replies.now }
-        ensures { (tables : List Table) → IsJudgedBy (has_written (run_of tables (entries_of replies.now))) replies.now at result }
+        ensures { (tables : List Table)
+            → IsJudgedBy (has_written (run_of tables (entries_of replies.now))) replies.now at
+            result }
     {
         match self.opening_of(replies, at) {
             Some(opening) => self.writes_of(replies, opening) > 0,
@@ -148,7 +155,8 @@ impl Spans {
     pub fn snapshot_of(&self, replies: &[KeptReply<'_>], opening: usize) -> u64
         requires outside { OpensOutside (entries_of replies.now) }
         requires inside { opening < length replies.now }
-        ensures { (t : Transaction) → opened_at opening (entries_of replies.now) ≡ Some t → result ≡ t.snapshot }
+        ensures { (t : Transaction) → opened_at opening (entries_of replies.now) ≡ Some t → result
+            ≡ t.snapshot }
     {
         let _ = self;
         snapshot_told(&replies[opening]).unwrap_or(0)

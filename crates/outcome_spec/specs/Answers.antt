@@ -1,6 +1,7 @@
--- What reads and writes are answered: what snapshot isolation gives at the transaction's snapshot, with its own
--- writes laid over it.
-use Rattle.std.specs.Prelude.{ℕ, Bool, true, false, not, List, Option, None, Some, is_some, is_none, bytes_eq}
+-- What reads and writes are answered: what snapshot isolation gives at the transaction's snapshot,
+-- with its own writes laid over it.
+use Rattle.std.specs.Prelude.{ℕ, Bool, true, false, not, List, Option, None, Some, is_some, is_none}
+use Rattle.std.specs.Prelude.{bytes_eq}
 use Rattle.std.specs.Bool.{beq}
 use Rattle.std.specs.Cmp.Lexicographic.{pointwise}
 use Rattle.std.specs.Option.{option_map_or}
@@ -56,15 +57,18 @@ abbrev pub scanned_table : Command → Option ℕ
 scanned_table (command.Scan table) = Some table
 scanned_table _ = None
 
--- What a read shows of the rows that are seen: a get the row of its key or that there is none, a scan all rows of
--- its table in the order of their keys.
+-- What a read shows of the rows that are seen: a get the row of its key or that there is none, a
+-- scan all rows of its table in the order of their keys.
 abbrev pub read_holds : State → Command → Said → Bool
 read_holds seen asked (said.At number) = true
 read_holds seen asked said.InTransaction = true
 read_holds seen asked said.NoTransaction = true
-read_holds seen asked (said.Found row) = option_map_or (λ place. option_map_or (is_row row) (at_place seen place) false) (got_place asked) true
-read_holds seen asked said.Absent = option_map_or (λ place. is_none (at_place seen place)) (got_place asked) true
-read_holds seen asked (said.Scanned rows) = option_map_or (λ table. pointwise is_row rows (contents_of table seen)) (scanned_table asked) true
+read_holds seen asked (said.Found row) = option_map_or
+    (λ place. option_map_or (is_row row) (at_place seen place) false) (got_place asked) true
+read_holds seen asked said.Absent = option_map_or (λ place. is_none (at_place seen place))
+    (got_place asked) true
+read_holds seen asked (said.Scanned rows) = option_map_or
+    (λ table. pointwise is_row rows (contents_of table seen)) (scanned_table asked) true
 read_holds seen asked said.Accepted = true
 read_holds seen asked (said.ConflictSession session) = true
 read_holds seen asked (said.ConflictCommit number) = true
@@ -87,9 +91,12 @@ read_holds seen asked said.Memory = true
 
 -- Reads.
 abbrev pub reads_hold : Run → Entry → Bool
-reads_hold run entry = option_map_or (λ t. read_holds (seen_at run t entry) entry.command entry.reply.said) (transaction_of run entry) true
+reads_hold run entry = option_map_or
+    (λ t. read_holds (seen_at run t entry) entry.command entry.reply.said)
+    (transaction_of run entry) true
 
--- Conflicts aside, snapshot isolation accepts an insert where its key has no row, and an update or a delete where it has one.
+-- Conflicts aside, snapshot isolation accepts an insert where its key has no row, and an update or
+-- a delete where it has one.
 abbrev pub is_acceptable : State → Command → Bool
 is_acceptable seen (command.Insert table row) = is_none (at_place seen (place_of table row))
 is_acceptable seen (command.Update table row) = is_some (at_place seen (place_of table row))
@@ -136,4 +143,6 @@ write_holds acceptable said.Memory = true
 
 -- Writes.
 abbrev pub writes_hold : Run → Entry → Bool
-writes_hold run entry = option_map_or (λ t. write_holds (is_acceptable (seen_at run t entry) entry.command) entry.reply.said) (transaction_of run entry) true
+writes_hold run entry = option_map_or
+    (λ t. write_holds (is_acceptable (seen_at run t entry) entry.command) entry.reply.said)
+    (transaction_of run entry) true

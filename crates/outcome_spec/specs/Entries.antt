@@ -1,5 +1,6 @@
 -- The replies of an output, and which of them stand before which.
-use Rattle.std.specs.Prelude.{ℕ, Bool, true, false, ◌&&◌, ◌||◌, not, ◌==◌, nat_lt, List, filter, filter_map, Option, None, Some}
+use Rattle.std.specs.Prelude.{ℕ, Bool, true, false, ◌&&◌, ◌||◌, not, ◌==◌, nat_lt, List, filter}
+use Rattle.std.specs.Prelude.{filter_map, Option, None, Some}
 use Rattle.workload_spec.specs.declared.command.Command.{Command}
 use Rattle.workload_spec.specs.declared.reply.ReplyLine.{ReplyLine}
 use Rattle.workload_spec.specs.declared.reply.Who.{Who}
@@ -7,9 +8,9 @@ use Rattle.workload_spec.specs.declared.reply.Who.TheVariants.{Session, Worker}
 use Rattle.workload_spec.specs.declared.reply.Said.{Said}
 use Rattle.workload_spec.specs.declared.reply.Said.TheVariants as said
 
--- A reply in an output: what stands in its lines, the command that it answers, and the number of its first line,
--- counted from 1, by which a line that fails is named. A worker's line doesn't tell which step of its turn it
--- answers, so here each of them has the same one, the first.
+-- A reply in an output: what stands in its lines, the command that it answers, and the number of
+-- its first line, counted from 1, by which a line that fails is named. A worker's line doesn't tell
+-- which step of its turn it answers, so here each of them has the same one, the first.
 pub record Entry : Type 0 where
   pub number : ℕ
   pub command : Command
@@ -28,13 +29,16 @@ thread who entries = filter (λ entry. is_same entry.reply.who who) entries
 
 -- The two are one reply: they have the same round, session or worker, and index.
 abbrev pub is_reply : Entry → Entry → Bool
-is_reply a b = a.reply.round == b.reply.round && is_same a.reply.who b.reply.who && a.reply.index == b.reply.index
+is_reply a b = a.reply.round == b.reply.round && is_same a.reply.who b.reply.who
+    && a.reply.index == b.reply.index
 
--- A reply is before another in an earlier round, or in the same round, of the same session or worker, with a smaller index.
+-- A reply is before another in an earlier round, or in the same round, of the same session or
+-- worker, with a smaller index.
 abbrev pub is_before : Entry → Entry → Bool
 is_before a b =
     nat_lt a.reply.round b.reply.round
-    || a.reply.round == b.reply.round && is_same a.reply.who b.reply.who && nat_lt a.reply.index b.reply.index
+    || a.reply.round == b.reply.round && is_same a.reply.who b.reply.who
+    && nat_lt a.reply.index b.reply.index
 
 -- A reply is not after another where the other isn't before it.
 abbrev pub is_not_after : Entry → Entry → Bool

@@ -1,5 +1,8 @@
 -- Which lines an output has: whom each of them answers, in which order, and what it may say.
-use Rattle.std.specs.Prelude.{ℕ, ◌+◌, max, Bool, true, false, ◌&&◌, ◌||◌, not, ◌==◌, List, [], ◌∷◌, ◌++◌, map, filter, filter_map, flat_map, length, take, drop, find, count_by, sum_by, fold, ℤ, bytes_eq, codes, decimal, if◌then◌else◌, Option, None, Some, Result, Ok, Err}
+use Rattle.std.specs.Prelude.{ℕ, ◌+◌, max, Bool, true, false, ◌&&◌, ◌||◌, not, ◌==◌, List, [], ◌∷◌}
+use Rattle.std.specs.Prelude.{◌++◌, map, filter, filter_map, flat_map, length, take, drop, find}
+use Rattle.std.specs.Prelude.{count_by, sum_by, fold, ℤ, bytes_eq, codes, decimal, if◌then◌else◌}
+use Rattle.std.specs.Prelude.{Option, None, Some, Result, Ok, Err}
 use Rattle.std.specs.List.{list_all, starts_with, enumerate_from, range_with_len}
 use Rattle.std.specs.Option.{option_map_or}
 use Rattle.std.specs.Ordering.{int_eq}
@@ -16,12 +19,14 @@ use Rattle.workload_spec.specs.declared.reply.Who.{Who}
 use Rattle.workload_spec.specs.declared.reply.Who.TheVariants.{Session, Worker}
 use Rattle.workload_spec.specs.declared.reply.Said.{Said}
 use Rattle.workload_spec.specs.declared.reply.Said.TheVariants as said
-use Rattle.workload_spec.specs.declared.reply.SealCause.TheVariants.{Phase, Head, Empty, Gaps, Versions, Hot, Last}
+use Rattle.workload_spec.specs.declared.reply.SealCause.TheVariants.{Phase, Head, Empty, Gaps}
+use Rattle.workload_spec.specs.declared.reply.SealCause.TheVariants.{Versions, Hot, Last}
 use Rattle.workload_spec.specs.Words.{line_feed, spaced}
 use Rattle.workload_spec.specs.declared.reply.ReplyLine.{ReplyLine}
 use Rattle.workload_spec.specs.ReplyText.{reply_text, reply_lines, who_text}
 use Rattle.outcome_spec.specs.Lines.{lines_of}
-use Rattle.outcome_spec.specs.Reading.{words_in, row_of, rows_above, integer_at, u32_at, u64_at, tagged_u64_at}
+use Rattle.outcome_spec.specs.Reading.{words_in, row_of, rows_above, integer_at, u32_at, u64_at}
+use Rattle.outcome_spec.specs.Reading.{tagged_u64_at}
 use Rattle.outcome_spec.specs.Entries.{Entry, is_same}
 use Rattle.outcome_spec.specs.Tables.{columns_at}
 
@@ -33,23 +38,31 @@ pub record Due : Type 0 where
 
 -- the commands of a session among a round's lines, in order
 abbrev pub commands_of : ℕ → List Line → List Command
-commands_of session lines = filter_map (λ line. if line.session == session then Some line.command else None) lines
+commands_of session lines = filter_map
+    (λ line. if line.session == session then Some line.command else None) lines
 
--- A worker's turn: observe and prune, and for each table in order compact, and for each of its blocks seal and gather.
+-- A worker's turn: observe and prune, and for each table in order compact, and for each of its
+-- blocks seal and gather.
 abbrev pub turn_of : List TableDecl → List Command
 turn_of tables = command.Observe ∷ command.Prune ∷ flat_map
-    (λ entry. command.Compact entry.0 ∷ flat_map (λ block. command.Seal entry.0 block ∷ command.Gather entry.0 block ∷ []) (range_with_len 0 entry.1.blocks))
+    (λ entry. command.Compact entry.0 ∷ flat_map
+    (λ block. command.Seal entry.0 block ∷ command.Gather entry.0 block ∷ [])
+    (range_with_len 0 entry.1.blocks))
     (enumerate_from 0 tables)
 
 -- what is due to one in a round
 abbrev pub dues_to : ℕ → Who → List Command → List Due
-dues_to round who commands = map (λ asked. record { round = round; who = who; command = asked }) commands
+dues_to round who commands = map (λ asked. record { round = round; who = who; command = asked })
+    commands
 
 -- the replies that are due in a round: to its sessions in order, and then to its workers
 abbrev pub dues_in : Script → ℕ → List Line → List Due
 dues_in script round lines =
-    flat_map (λ session. dues_to round (Session session) (commands_of session lines)) (range_with_len 1 script.sessions)
-    ++ flat_map (λ worker. dues_to round (Worker worker) (flat_map (λ turn. turn_of script.tables) (range_with_len 1 script.turns))) (range_with_len 1 script.workers)
+    flat_map (λ session. dues_to round (Session session) (commands_of session lines))
+    (range_with_len 1 script.sessions)
+    ++ flat_map (λ worker. dues_to round (Worker worker)
+    (flat_map (λ turn. turn_of script.tables) (range_with_len 1 script.turns)))
+    (range_with_len 1 script.workers)
 
 -- The replies that are due, in the order of their lines: round by round.
 abbrev pub dues_of : Script → List Due
@@ -108,11 +121,14 @@ may_be_silent due = is_worker due.who && is_seal_or_gather due.command
 
 -- a scan's reply: the rows of the lines behind its first, as many as that says
 abbrev pub scan_replies : List Column → List (List ℕ) → List (List ℕ) → List Said
-scan_replies columns words behind = said.Scanned (rows_above columns None (take (u64_at words 1) behind)) ∷ []
+scan_replies columns words behind = said.Scanned
+    (rows_above columns None (take (u64_at words 1) behind)) ∷ []
 
 -- a get's row: one of the table that has the key
 abbrev pub row_replies : List Column → ℤ → List (List ℕ) → List Said
-row_replies columns key words = option_map_or (λ row. if int_eq (key_of row) key then said.Found row ∷ [] else []) (row_of columns (drop 1 words)) []
+row_replies columns key words = option_map_or
+    (λ row. if int_eq (key_of row) key then said.Found row ∷ [] else [])
+    (row_of columns (drop 1 words)) []
 
 -- an export that is refused for a key, which is an i64
 abbrev pub dirty_replies : ℤ → List Said
@@ -120,32 +136,42 @@ dirty_replies key = if is_integer_of kind.I64 key then said.Dirty key ∷ [] els
 
 -- a write's conflict
 abbrev pub conflict_replies : List (List ℕ) → List Said
-conflict_replies words = said.ConflictSession (u32_at words 2) ∷ said.ConflictCommit (tagged_u64_at words 1) ∷ []
+conflict_replies words = said.ConflictSession (u32_at words 2) ∷ said.ConflictCommit
+    (tagged_u64_at words 1) ∷ []
 
 -- what an update or a delete may be told
 abbrev pub change_replies : ℕ → List (List ℕ) → List Said
 change_replies table words =
-    said.Accepted ∷ said.Missing ∷ said.Memory ∷ said.Freezing table (u32_at words 2) (u32_at words 3) ∷ conflict_replies words
+    said.Accepted ∷ said.Missing ∷ said.Memory ∷ said.Freezing table (u32_at words 2)
+    (u32_at words 3) ∷ conflict_replies words
 
--- What a command may be told that needs no transaction or has one. The numbers and rows are those of the
--- line's words, `behind` are the lines that follow it.
+-- What a command may be told that needs no transaction or has one. The numbers and rows are those
+-- of the line's words, `behind` are the lines that follow it.
 abbrev pub replies_within : List TableDecl → List (List ℕ) → List (List ℕ) → Command → List Said
 replies_within tables words behind command.Begin = said.InTransaction ∷ []
-replies_within tables words behind (command.Get table key) = said.Absent ∷ said.Memory ∷ row_replies (columns_at tables table) key words
-replies_within tables words behind (command.Scan table) = said.Memory ∷ scan_replies (columns_at tables table) words behind
-replies_within tables words behind (command.Insert table row) = said.Accepted ∷ said.Exists ∷ said.Full ∷ said.Memory ∷ conflict_replies words
+replies_within tables words behind (command.Get table key) = said.Absent ∷ said.Memory ∷ row_replies
+    (columns_at tables table) key words
+replies_within tables words behind (command.Scan table) = said.Memory ∷ scan_replies
+    (columns_at tables table) words behind
+replies_within tables words behind (command.Insert table row) = said.Accepted ∷ said.Exists
+    ∷ said.Full ∷ said.Memory ∷ conflict_replies words
 replies_within tables words behind (command.Update table row) = change_replies table words
 replies_within tables words behind (command.Delete table key) = change_replies table words
-replies_within tables words behind command.Commit = said.Committed None ∷ said.Committed (Some (u64_at words 1)) ∷ []
+replies_within tables words behind command.Commit = said.Committed None ∷ said.Committed
+    (Some (u64_at words 1)) ∷ []
 replies_within tables words behind command.Abort = said.Aborted ∷ []
 replies_within tables words behind command.Observe = said.Cooling (u64_at words 1) ∷ []
 replies_within tables words behind command.Prune = said.Pruned (u64_at words 1) ∷ []
-replies_within tables words behind (command.Compact table) = said.Moved (u64_at words 1) ∷ said.Memory ∷ []
+replies_within tables words behind (command.Compact table) = said.Moved (u64_at words 1)
+    ∷ said.Memory ∷ []
 replies_within tables words behind (command.Seal table block) =
-    said.Sealed table block (u32_at words 3) ∷ map (λ cause. said.NotSealed cause) (Phase ∷ Head ∷ Empty ∷ Gaps ∷ Versions ∷ Hot ∷ Last ∷ [])
-replies_within tables words behind (command.Gather table block) = said.Frozen table block (u32_at words 3) ∷ said.NotFrozen ∷ said.Memory ∷ []
+    said.Sealed table block (u32_at words 3) ∷ map (λ cause. said.NotSealed cause)
+    (Phase ∷ Head ∷ Empty ∷ Gaps ∷ Versions ∷ Hot ∷ Last ∷ [])
+replies_within tables words behind (command.Gather table block) = said.Frozen table block
+    (u32_at words 3) ∷ said.NotFrozen ∷ said.Memory ∷ []
 replies_within tables words behind (command.Export table) =
-    said.Exported (u64_at words 1) (u64_at words 3) (u32_at words 5) (u32_at words 7) ∷ said.Memory ∷ dirty_replies (integer_at words 1)
+    said.Exported (u64_at words 1) (u64_at words 3) (u32_at words 5) (u32_at words 7) ∷ said.Memory
+    ∷ dirty_replies (integer_at words 1)
 
 -- upkeep needs no transaction
 abbrev pub is_upkeep : Command → Bool
@@ -211,13 +237,17 @@ within_behind within said.Memory = within
 
 -- Whether a session is in a transaction behind these replies, as its own among them say.
 abbrev pub is_within : Who → List Entry → Bool
-is_within who entries = fold within_behind false (map (λ entry. entry.reply.said) (filter (λ entry. is_same entry.reply.who who) entries))
+is_within who entries = fold within_behind false
+    (map (λ entry. entry.reply.said) (filter (λ entry. is_same entry.reply.who who) entries))
 
--- What may stand behind these replies where one is due: a session's depends on whether it is in a transaction,
--- and a worker's is never silent.
-abbrev pub replies_due : List TableDecl → List Entry → Due → List (List ℕ) → List (List ℕ) → List Said
-replies_due tables earlier due words behind = filter (λ told. not (is_worker due.who && is_silent told))
-    (if is_within due.who earlier || is_upkeep due.command then replies_within tables words behind due.command else replies_without words due.command)
+-- What may stand behind these replies where one is due: a session's depends on whether it is in a
+-- transaction, and a worker's is never silent.
+abbrev pub replies_due : List TableDecl → List Entry → Due → List (List ℕ) → List (List ℕ)
+    → List Said
+replies_due tables earlier due words behind = filter
+    (λ told. not (is_worker due.who && is_silent told))
+    (if is_within due.who earlier || is_upkeep due.command
+    then replies_within tables words behind due.command else replies_without words due.command)
 
 -- how many lines a reply has
 abbrev pub line_count : List TableDecl → Entry → ℕ
@@ -231,8 +261,8 @@ next_line tables earlier = 1 + sum_by (line_count tables) earlier
 abbrev pub command_shown : Due → Command
 command_shown due = if is_worker due.who then command.Observe else due.command
 
--- The reply behind these that answers what is due and says this: its index counts the replies of the round to the same
--- session or worker.
+-- The reply behind these that answers what is due and says this: its index counts the replies of
+-- the round to the same session or worker.
 abbrev pub entry_behind : List TableDecl → List Entry → Due → Said → Entry
 entry_behind tables earlier due told = record {
   number = next_line tables earlier;
@@ -240,19 +270,22 @@ entry_behind tables earlier due told = record {
   reply = record {
     round = due.round;
     who = due.who;
-    index = 1 + count_by (λ entry. entry.reply.round == due.round && is_same entry.reply.who due.who) earlier;
+    index = 1 + count_by (λ entry. entry.reply.round == due.round
+        && is_same entry.reply.who due.who) earlier;
     said = told;
   };
 }
 
 -- the lines begin with those of the reply's text
 abbrev pub begins_with : List TableDecl → List (List ℕ) → Entry → Bool
-begins_with tables lines entry = starts_with bytes_eq lines (lines_of (reply_text tables entry.reply))
+begins_with tables lines entry = starts_with bytes_eq lines
+    (lines_of (reply_text tables entry.reply))
 
 -- The reply at the front of a line and those behind it, where it is one that is due.
 abbrev pub reply_at : List TableDecl → List Entry → Due → List ℕ → List (List ℕ) → Option Entry
 reply_at tables earlier due line behind = find (begins_with tables (line ∷ behind))
-    (map (entry_behind tables earlier due) (replies_due tables earlier due (drop 3 (words_in line)) behind))
+    (map (entry_behind tables earlier due)
+    (replies_due tables earlier due (drop 3 (words_in line)) behind))
 
 -- the table that a command scans in a transaction
 abbrev pub scanned_by : Bool → Command → Option ℕ
@@ -262,14 +295,16 @@ scanned_by within _ = None
 -- the first line of a scan of so many rows
 abbrev pub scan_line : ReplyLine → ℕ → List ℕ
 scan_line reply count =
-    spaced (decimal reply.round ∷ who_text reply.who ∷ decimal reply.index ∷ codes "rows" ∷ decimal count ∷ []) ++ line_feed ∷ []
+    spaced (decimal reply.round ∷ who_text reply.who ∷ decimal reply.index ∷ codes "rows" ∷ decimal
+    count ∷ []) ++ line_feed ∷ []
 
--- how many lines of a scan that lacks rows stand at the front of these: its first, and the rows behind it up to the
--- first line that is none
+-- how many lines of a scan that lacks rows stand at the front of these: its first, and the rows
+-- behind it up to the first line that is none
 abbrev pub lines_of_scan : List TableDecl → ReplyLine → List ℕ → List (List ℕ) → ℕ → ℕ
 lines_of_scan tables reply line behind table =
     if bytes_eq line (scan_line reply (u64_at (drop 3 (words_in line)) 1))
-    then 1 + length (rows_above (columns_at tables table) None (take (u64_at (drop 3 (words_in line)) 1) behind)) else 0
+    then 1 + length (rows_above (columns_at tables table) None
+    (take (u64_at (drop 3 (words_in line)) 1) behind)) else 0
 
 -- how many lines at the front of these may be those of what is due, where not all of it is there
 abbrev pub lines_begun : List TableDecl → List Entry → Due → List ℕ → List (List ℕ) → ℕ
@@ -277,30 +312,34 @@ lines_begun tables earlier due line behind = option_map_or
     (lines_of_scan tables (entry_behind tables earlier due said.Memory).reply line behind)
     (scanned_by (is_within due.who earlier) due.command) 0
 
--- Of two readings the one that comes to the end, the first one if both do, or else the later of the lines at which they fail.
+-- Of two readings the one that comes to the end, the first one if both do, or else the later of the
+-- lines at which they fail.
 abbrev pub further : Result (List Entry) ℕ → Result (List Entry) ℕ → Result (List Entry) ℕ
 further (Ok entries) other = Ok entries
 further (Err line) (Ok entries) = Ok entries
 further (Err line) (Err other) = Err (max line other)
 
--- The replies of lines that follow earlier replies, with these. Each due reply has its lines, in order, but for those
--- that may be silent, and no line is left. Where the lines can't be read so, the first line that no way of reading them
--- gets past; a line that is missing is the one after the last. A worker's `memory` may be its answer to the compaction
--- that is due or to any gathering before the next compaction, or before its turn's end: whatever lets the lines behind
--- it be read.
+-- The replies of lines that follow earlier replies, with these. Each due reply has its lines, in
+-- order, but for those that may be silent, and no line is left. Where the lines can't be read so,
+-- the first line that no way of reading them gets past; a line that is missing is the one after the
+-- last. A worker's `memory` may be its answer to the compaction that is due or to any gathering
+-- before the next compaction, or before its turn's end: whatever lets the lines behind it be read.
 abbrev pub reading : List TableDecl → List Due → List Entry → List (List ℕ) → Result (List Entry) ℕ
 reading tables [] earlier [] = Ok earlier
 reading tables [] earlier (line ∷ behind) = Err (next_line tables earlier)
-reading tables (due ∷ dues) earlier [] = if list_all may_be_silent (due ∷ dues) then Ok earlier else Err (next_line tables earlier)
+reading tables (due ∷ dues) earlier [] = if list_all may_be_silent (due ∷ dues) then Ok earlier
+    else Err (next_line tables earlier)
 reading tables (due ∷ dues) earlier (line ∷ behind) = elim (may_be_silent due) [
   | true ↦ further
       (elim (reply_at tables earlier due line behind) [
-        | Some entry ↦ reading tables dues (earlier ++ entry ∷ []) (drop (line_count tables entry) (line ∷ behind))
+        | Some entry ↦ reading tables dues (earlier ++ entry ∷ [])
+            (drop (line_count tables entry) (line ∷ behind))
         | None ↦ Err (next_line tables earlier + lines_begun tables earlier due line behind)
       ])
       (reading tables dues earlier (line ∷ behind))
   | false ↦ elim (reply_at tables earlier due line behind) [
-    | Some entry ↦ reading tables dues (earlier ++ entry ∷ []) (drop (line_count tables entry) (line ∷ behind))
+    | Some entry ↦ reading tables dues (earlier ++ entry ∷ [])
+        (drop (line_count tables entry) (line ∷ behind))
     | None ↦ Err (next_line tables earlier + lines_begun tables earlier due line behind)
   ]
 ]

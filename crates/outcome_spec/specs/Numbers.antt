@@ -1,5 +1,6 @@
 -- Which commit numbers and which snapshots may be shown where.
-use Rattle.std.specs.Prelude.{ℕ, Bool, true, false, ◌&&◌, not, ◌==◌, nat_lt, nat_le, count_by, Option, None, Some, is_some}
+use Rattle.std.specs.Prelude.{ℕ, Bool, true, false, ◌&&◌, not, ◌==◌, nat_lt, nat_le, count_by}
+use Rattle.std.specs.Prelude.{Option, None, Some, is_some}
 use Rattle.std.specs.List.{list_all, list_any}
 use Rattle.std.specs.Option.{option_map_or}
 use Rattle.workload_spec.specs.declared.reply.Said.{Said}
@@ -9,7 +10,9 @@ use Rattle.outcome_spec.specs.Runs.{Run, transaction_of, commits_as, commit_coun
 
 -- the reply's transaction has an accepted write
 abbrev pub has_written : Run → Entry → Bool
-has_written run entry = option_map_or (λ t. list_any (λ other. is_some (accepted_write other)) t.replies) (transaction_of run entry) false
+has_written run entry = option_map_or
+    (λ t. list_any (λ other. is_some (accepted_write other)) t.replies)
+    (transaction_of run entry) false
 
 -- `committed k`: k is 1 to the count of commit numbers shown, on no other line, and above each commit number before.
 abbrev pub is_commit_number : Run → Entry → ℕ → Bool
@@ -18,10 +21,12 @@ is_commit_number run entry number =
     && count_by (commits_as number) run.entries == 1
     && list_all (λ earlier. nat_lt earlier number) (shown_in commit_in (before run.entries entry))
 
--- a commit shows such a number where its transaction has an accepted write, and `-` exactly where it has none
+-- a commit shows such a number where its transaction has an accepted write, and `-` exactly where
+-- it has none
 abbrev pub commit_holds : Run → Entry → Said → Bool
 commit_holds run entry (said.Committed None) = not (has_written run entry)
-commit_holds run entry (said.Committed (Some number)) = has_written run entry && is_commit_number run entry number
+commit_holds run entry (said.Committed (Some number)) = has_written run entry
+    && is_commit_number run entry number
 commit_holds run entry (said.At number) = true
 commit_holds run entry said.InTransaction = true
 commit_holds run entry said.NoTransaction = true
@@ -51,7 +56,8 @@ commit_holds run entry said.Memory = true
 abbrev pub commit_numbers_hold : Run → Entry → Bool
 commit_numbers_hold run entry = commit_holds run entry entry.reply.said
 
--- the number that a reply shows: a snapshot's, a commit's, that of a conflict with a commit, or an export's
+-- the number that a reply shows: a snapshot's, a commit's, that of a conflict with a commit, or an
+-- export's
 abbrev pub number_shown : Said → Option ℕ
 number_shown (said.At number) = Some number
 number_shown (said.Committed number) = number
@@ -83,7 +89,8 @@ number_shown said.Memory = None
 abbrev pub snapshot_holds : Run → Entry → Said → Bool
 snapshot_holds run entry (said.At number) =
     nat_le number (commit_count run.entries)
-    && list_all (λ earlier. nat_le earlier number) (shown_in number_shown (before run.entries entry))
+    && list_all (λ earlier. nat_le earlier number)
+    (shown_in number_shown (before run.entries entry))
     && list_all (λ later. nat_lt number later) (shown_in commit_in (after run.entries entry))
 snapshot_holds run entry said.InTransaction = true
 snapshot_holds run entry said.NoTransaction = true

@@ -1,6 +1,9 @@
--- The words, numbers and rows of a line, by the readers of workloads. A number that is not there is read as 0, whose
--- own spelling is another then: what is read counts only where its own text is the line.
-use Rattle.std.specs.Prelude.{ℕ, ◌-◌, ◌^◌, true, ◌==◌, int_lt, List, [], ◌∷◌, ◌++◌, length, take, drop, slice_index_or, ℤ, pos, bytes_eq, unwrap_or, if◌then◌else◌, Option, None, Some, option_and_then}
+-- The words, numbers and rows of a line, by the readers of workloads. A number that is not there is
+-- read as 0, whose own spelling is another then: what is read counts only where its own text is the
+-- line.
+use Rattle.std.specs.Prelude.{ℕ, ◌-◌, ◌^◌, true, ◌==◌, int_lt, List, [], ◌∷◌, ◌++◌, length, take}
+use Rattle.std.specs.Prelude.{drop, slice_index_or, ℤ, pos, bytes_eq, unwrap_or, if◌then◌else◌}
+use Rattle.std.specs.Prelude.{Option, None, Some, option_and_then}
 use Rattle.std.specs.Option.{option_map_or}
 use Rattle.std.specs.Result.{result_ok}
 use Rattle.cell_model.specs.declared.cell.Cell.{Cell}
@@ -35,7 +38,8 @@ integer_at words at = unwrap_or (integer_of (word_at words at)) (pos 0)
 
 -- The row that words spell: a cell of each column.
 abbrev pub row_of : List Column → List (List ℕ) → Option (List Cell)
-row_of columns words = if length words == length columns then result_ok (cells_of columns words) else None
+row_of columns words = if length words == length columns then result_ok (cells_of columns words)
+    else None
 
 -- the row of a line behind a scan's first
 abbrev pub row_at : List Column → List ℕ → Option (List Cell)
@@ -43,10 +47,12 @@ row_at columns line = option_and_then
     (λ row. if bytes_eq (row_line row ++ line_feed ∷ []) line then Some row else None)
     (row_of columns (drop 1 (words_in line)))
 
--- The rows of the lines at the front of these, with keys that rise, the first of them above this key.
+-- The rows of the lines at the front of these, with keys that rise, the first of them above this
+-- key.
 abbrev pub rows_above : List Column → Option ℤ → List (List ℕ) → List (List Cell)
 rows_above columns key [] = []
 rows_above columns key (line ∷ lines) = elim (row_at columns line) [
-  | Some row ↦ if option_map_or (λ below. int_lt below (key_of row)) key true then row ∷ rows_above columns (Some (key_of row)) lines else []
+  | Some row ↦ if option_map_or (λ below. int_lt below (key_of row)) key true
+      then row ∷ rows_above columns (Some (key_of row)) lines else []
   | None ↦ []
 ]

@@ -1,19 +1,23 @@
 -- The transactions of an output, what they wrote, and what the printed commit numbers make of it.
-use Rattle.std.specs.Prelude.{ℕ, Bool, false, ◌==◌, List, [], ◌∷◌, map, length, filter_map, find, fold, sum_by, if◌then◌else◌, Option, None, Some, option_map, option_and_then}
+use Rattle.std.specs.Prelude.{ℕ, Bool, false, ◌==◌, List, [], ◌∷◌, map, length, filter_map, find}
+use Rattle.std.specs.Prelude.{fold, sum_by, if◌then◌else◌, Option, None, Some, option_map}
+use Rattle.std.specs.Prelude.{option_and_then}
 use Rattle.std.specs.List.{list_any, range_with_len, cons_option}
 use Rattle.std.specs.Option.{option_map_or}
 use Rattle.std.specs.BTreeMap.{insert_entry}
 use Rattle.cell_model.specs.declared.cell.Cell.{Cell}
 use Rattle.cell_model.specs.declared.table.TableDecl.{TableDecl}
-use Rattle.isolation_spec.specs.Contents.{place_cmp, place_at, place_of, State, WriteSet, History, laid_over, state_at}
+use Rattle.isolation_spec.specs.Contents.{place_cmp, place_at, place_of, State, WriteSet, History}
+use Rattle.isolation_spec.specs.Contents.{laid_over, state_at}
 use Rattle.isolation_spec.specs.declared.place.Place.{Place}
 use Rattle.workload_spec.specs.declared.command.Command.{Command}
 use Rattle.workload_spec.specs.declared.command.Command.TheVariants as command
 use Rattle.workload_spec.specs.declared.reply.Who.{Who}
-use Rattle.outcome_spec.specs.Entries.{Entry, thread, is_reply, before, shown_in, snapshot_in, commit_in, is_commit, is_end, is_accepted}
+use Rattle.outcome_spec.specs.Entries.{Entry, thread, is_reply, before, shown_in, snapshot_in}
+use Rattle.outcome_spec.specs.Entries.{commit_in, is_commit, is_end, is_accepted}
 
--- A transaction as it is printed: its session, the snapshot that its `at` shows, and its session's replies from that
--- one to its `committed` or `aborted`, or to the last where it has none.
+-- A transaction as it is printed: its session, the snapshot that its `at` shows, and its session's
+-- replies from that one to its `committed` or `aborted`, or to the last where it has none.
 pub record Span : Type 0 where
   pub who : Who
   pub snapshot : ℕ
@@ -22,9 +26,11 @@ pub record Span : Type 0 where
 -- the replies up to the first that ends a transaction, with that one
 abbrev pub up_to_end : List Entry → List Entry
 up_to_end [] = []
-up_to_end (entry ∷ entries) = if is_end entry.reply.said then entry ∷ [] else entry ∷ up_to_end entries
+up_to_end (entry ∷ entries) = if is_end entry.reply.said then entry ∷ []
+    else entry ∷ up_to_end entries
 
--- the transaction that the reply opens, with this snapshot: it, and of the replies behind it its own session's
+-- the transaction that the reply opens, with this snapshot: it, and of the replies behind it its
+-- own session's
 abbrev pub span_from : Entry → List Entry → ℕ → Span
 span_from opening behind snapshot = record {
   who = opening.reply.who;
@@ -35,7 +41,9 @@ span_from opening behind snapshot = record {
 -- The transactions, in the order of their first lines: each reply that shows a snapshot opens one.
 abbrev pub transactions_of : List Entry → List Span
 transactions_of [] = []
-transactions_of (entry ∷ entries) = cons_option (option_map (span_from entry entries) (snapshot_in entry.reply.said)) (transactions_of entries)
+transactions_of (entry ∷ entries) = cons_option
+    (option_map (span_from entry entries) (snapshot_in entry.reply.said))
+    (transactions_of entries)
 
 -- the transaction that the reply belongs to
 abbrev pub transaction_with : List Span → Entry → Option Span
@@ -68,7 +76,8 @@ accepted_write entry = if is_accepted entry.reply.said then write_of entry.comma
 
 -- how many accepted writes a transaction has that commits, and none where it doesn't
 abbrev pub writes_committed : Span → ℕ
-writes_committed t = if option_map_or (λ ending. is_commit ending.reply.said) (ending_of t) false then length (filter_map accepted_write t.replies) else 0
+writes_committed t = if option_map_or (λ ending. is_commit ending.reply.said) (ending_of t) false
+    then length (filter_map accepted_write t.replies) else 0
 
 -- how many accepted writes have the transactions that commit among these replies
 abbrev pub writes_committed_in : List Entry → ℕ
@@ -76,7 +85,8 @@ writes_committed_in entries = sum_by writes_committed (transactions_of entries)
 
 -- the last accepted write of each key among these replies
 abbrev pub writes_in : List Entry → WriteSet
-writes_in entries = fold (λ writes write. insert_entry place_cmp writes write.0 write.1) [] (filter_map accepted_write entries)
+writes_in entries = fold (λ writes write. insert_entry place_cmp writes write.0 write.1) []
+    (filter_map accepted_write entries)
 
 -- how many lines `committed k` show a number
 abbrev pub commit_count : List Entry → ℕ
@@ -84,18 +94,22 @@ commit_count entries = length (shown_in commit_in entries)
 
 -- the reply commits with this number
 abbrev pub commits_as : ℕ → Entry → Bool
-commits_as number entry = option_map_or (λ shown. shown == number) (commit_in entry.reply.said) false
+commits_as number entry = option_map_or (λ shown. shown == number) (commit_in entry.reply.said)
+    false
 
 -- the line `committed k`: the first with that k
 abbrev pub commit_line : List Entry → ℕ → Option Entry
 commit_line entries number = find (commits_as number) entries
 
--- the write set of a commit number: that of the first transaction that showed it, and empty where none did
+-- the write set of a commit number: that of the first transaction that showed it, and empty where
+-- none did
 abbrev pub committed_writes : List Entry → List Span → ℕ → WriteSet
 committed_writes entries transactions number =
-    option_map_or (λ t. writes_in t.replies) (option_and_then (transaction_with transactions) (commit_line entries number)) []
+    option_map_or (λ t. writes_in t.replies)
+    (option_and_then (transaction_with transactions) (commit_line entries number)) []
 
--- What the replies tell: the transactions, and the history by the commit numbers 1 to the count of those shown.
+-- What the replies tell: the transactions, and the history by the commit numbers 1 to the count of
+-- those shown.
 pub record Run : Type 0 where
   pub tables : List TableDecl
   pub entries : List Entry
@@ -107,13 +121,16 @@ run_of tables entries = record {
   tables = tables;
   entries = entries;
   transactions = transactions_of entries;
-  history = map (committed_writes entries (transactions_of entries)) (range_with_len 1 (commit_count entries));
+  history = map (committed_writes entries (transactions_of entries))
+      (range_with_len 1 (commit_count entries));
 }
 
 -- the transaction that a reply belongs to
 abbrev pub transaction_of : Run → Entry → Option Span
 transaction_of run entry = transaction_with run.transactions entry
 
--- What a transaction sees at a reply: its accepted writes before it laid over the state at its snapshot.
+-- What a transaction sees at a reply: its accepted writes before it laid over the state at its
+-- snapshot.
 abbrev pub seen_at : Run → Span → Entry → State
-seen_at run t entry = laid_over (state_at run.history t.snapshot) (writes_in (before t.replies entry))
+seen_at run t entry = laid_over (state_at run.history t.snapshot)
+    (writes_in (before t.replies entry))

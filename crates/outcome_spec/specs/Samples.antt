@@ -21,17 +21,36 @@ text_column = record { name = codes "v"; kind = kind.Utf8; nullable = true }
 
 -- a table of keys and texts, and one of keys alone, with 8 slots in each of so many blocks
 abbrev pub texts : ℕ → TableDecl
-texts blocks = record { name = codes "a"; schema = key_column ∷ text_column ∷ []; slots = 8; blocks = blocks }
+texts blocks = record {
+  name = codes "a";
+  schema = key_column ∷ text_column ∷ [];
+  slots = 8;
+  blocks = blocks;
+}
 
 abbrev pub keys : ℕ → TableDecl
 keys blocks = record { name = codes "a"; schema = key_column ∷ []; slots = 8; blocks = blocks }
 
 -- two sessions and no worker over a table; one session and one worker of one turn
 abbrev pub sessions : TableDecl → List (List Line) → Script
-sessions table rounds = record { version = 1; tables = table ∷ []; sessions = 2; workers = 0; turns = 0; rounds = rounds }
+sessions table rounds = record {
+  version = 1;
+  tables = table ∷ [];
+  sessions = 2;
+  workers = 0;
+  turns = 0;
+  rounds = rounds;
+}
 
 abbrev pub with_worker : TableDecl → List (List Line) → Script
-with_worker table rounds = record { version = 1; tables = table ∷ []; sessions = 1; workers = 1; turns = 1; rounds = rounds }
+with_worker table rounds = record {
+  version = 1;
+  tables = table ∷ [];
+  sessions = 1;
+  workers = 1;
+  turns = 1;
+  rounds = rounds;
+}
 
 -- the row of a key and a text, and of a key alone
 abbrev pub text_row : ℕ → List ℕ → List Cell
@@ -100,14 +119,17 @@ gather session block = asks session (command.Gather 0 block)
 abbrev pub export : ℕ → Line
 export session = asks session (command.Export 0)
 
--- a transaction inserts the keys 1 to 9, of which the last stands in the second block; then the first block is cold
+-- a transaction inserts the keys 1 to 9, of which the last stands in the second block; then the
+-- first block is cold
 abbrev pub nine_rows : List Line
 nine_rows = begin 1 ∷ (puts 1 9 ++ commit 1 ∷ prune 1 ∷ observe 1 ∷ observe 1 ∷ [])
 
 abbrev pub nine_replies : List (List ℕ)
 nine_replies =
-    codes "1 1 1 at 0" ∷ codes "1 1 2 ok" ∷ codes "1 1 3 ok" ∷ codes "1 1 4 ok" ∷ codes "1 1 5 ok" ∷ codes "1 1 6 ok" ∷ codes "1 1 7 ok"
-    ∷ codes "1 1 8 ok" ∷ codes "1 1 9 ok" ∷ codes "1 1 10 ok" ∷ codes "1 1 11 committed 1" ∷ codes "1 1 12 pruned 9"
+    codes "1 1 1 at 0" ∷ codes "1 1 2 ok" ∷ codes "1 1 3 ok" ∷ codes "1 1 4 ok" ∷ codes "1 1 5 ok"
+    ∷ codes "1 1 6 ok" ∷ codes "1 1 7 ok"
+    ∷ codes "1 1 8 ok" ∷ codes "1 1 9 ok" ∷ codes "1 1 10 ok" ∷ codes "1 1 11 committed 1" ∷ codes
+    "1 1 12 pruned 9"
     ∷ codes "1 1 13 cooling 0" ∷ codes "1 1 14 cooling 1" ∷ []
 
 -- the output of these lines is explained

@@ -1,5 +1,7 @@
 -- What may be said of blocks: freezing, full tables, exports and upkeep.
-use Rattle.std.specs.Prelude.{ℕ, ◌+◌, ◌*◌, Bool, true, false, ◌&&◌, ◌==◌, nat_lt, nat_le, List, length, find, count_by, sum, if◌then◌else◌, ℤ, Option, None, Some, is_none, option_map}
+use Rattle.std.specs.Prelude.{ℕ, ◌+◌, ◌*◌, Bool, true, false, ◌&&◌, ◌==◌, nat_lt, nat_le, List}
+use Rattle.std.specs.Prelude.{length, find, count_by, sum, if◌then◌else◌, ℤ, Option, None, Some}
+use Rattle.std.specs.Prelude.{is_none, option_map}
 use Rattle.std.specs.List.{list_all, range_with_len}
 use Rattle.std.specs.Option.{option_map_or}
 use Rattle.std.specs.Ordering.{int_eq}
@@ -15,12 +17,14 @@ use Rattle.outcome_spec.specs.Tables.{slots_at, blocks_at}
 
 -- the stamp of a line `sealed` of this block
 abbrev pub stamp_in : ℕ → ℕ → Said → Option ℕ
-stamp_in table block (said.Sealed of_table of_block stamp) = if of_table == table && of_block == block then Some stamp else None
+stamp_in table block (said.Sealed of_table of_block stamp) = if of_table == table
+    && of_block == block then Some stamp else None
 stamp_in table block _ = None
 
 -- the rows of a line `frozen` of this block
 abbrev pub rows_in : ℕ → ℕ → Said → Option ℕ
-rows_in table block (said.Frozen of_table of_block rows) = if of_table == table && of_block == block then Some rows else None
+rows_in table block (said.Frozen of_table of_block rows) = if of_table == table && of_block == block
+    then Some rows else None
 rows_in table block _ = None
 
 -- how many lines `sealed`, and `frozen`, of the block are among these
@@ -32,7 +36,8 @@ freezes_in table block entries = length (shown_in (rows_in table block) entries)
 
 -- how many lines `sealed` of the block have the stamp
 abbrev pub stamp_count : ℕ → ℕ → ℕ → List Entry → ℕ
-stamp_count table block stamp entries = count_by (λ shown. shown == stamp) (shown_in (stamp_in table block) entries)
+stamp_count table block stamp entries = count_by (λ shown. shown == stamp)
+    (shown_in (stamp_in table block) entries)
 
 -- `freezing T b g`: `sealed T b g` is one line, not after this reply, and fewer than g lines `frozen T b` are before it.
 abbrev pub freezing_reply_holds : Run → Entry → Said → Bool
@@ -81,7 +86,8 @@ inserted_table _ = None
 
 -- how many accepted inserts into the table are among these
 abbrev pub inserts_in : ℕ → List Entry → ℕ
-inserts_in table entries = count_by (λ entry. is_accepted_insert table entry.command entry.reply.said) entries
+inserts_in table entries = count_by
+    (λ entry. is_accepted_insert table entry.command entry.reply.said) entries
 
 -- how many rows the blocks of the table take
 abbrev pub capacity_at : List TableDecl → ℕ → ℕ
@@ -101,7 +107,8 @@ full_reply_holds run entry (said.ConflictCommit number) = true
 full_reply_holds run entry said.Exists = true
 full_reply_holds run entry said.Missing = true
 full_reply_holds run entry said.Full =
-    option_map_or (λ table. nat_le (capacity_at run.tables table) (inserts_in table (not_after run.entries entry))) (inserted_table entry.command) true
+    option_map_or (λ table. nat_le (capacity_at run.tables table)
+    (inserts_in table (not_after run.entries entry))) (inserted_table entry.command) true
 full_reply_holds run entry (said.Freezing table block stamp) = true
 full_reply_holds run entry (said.Committed number) = true
 full_reply_holds run entry said.Aborted = true
@@ -122,18 +129,22 @@ full_holds run entry = full_reply_holds run entry entry.reply.said
 
 -- the least key of the table in a write set
 abbrev pub least_key : ℕ → WriteSet → Option ℤ
-least_key table writes = option_map (λ write. write.0.key) (find (λ write. write.0.table == table) writes)
+least_key table writes = option_map (λ write. write.0.key)
+    (find (λ write. write.0.table == table) writes)
 
 -- how many of the table's blocks have a line `frozen` among these
 abbrev pub frozen_blocks : List TableDecl → ℕ → List Entry → ℕ
-frozen_blocks tables table entries = count_by (λ block. nat_lt 0 (freezes_in table block entries)) (range_with_len 0 (blocks_at tables table))
+frozen_blocks tables table entries = count_by (λ block. nat_lt 0 (freezes_in table block entries))
+    (range_with_len 0 (blocks_at tables table))
 
 -- `export n rows R batches B frozen F`: n is the transaction's, R the rows of the table at n, F at most B, B at most
--- R, R at most B times the slots, B at most the table's blocks, and F at most those with a `frozen` not after.
+-- R, R at most B times the slots, B at most the table's blocks, and F at most those with a `frozen`
+-- not after.
 abbrev pub summary_holds : Run → Span → Entry → ℕ → ℕ → ℕ → ℕ → ℕ → Bool
 summary_holds run t entry table number rows batches frozen =
     number == t.snapshot && rows == length (contents_of table (state_at run.history number))
-    && nat_le frozen batches && nat_le batches rows && nat_le rows (batches * slots_at run.tables table)
+    && nat_le frozen batches && nat_le batches rows
+    && nat_le rows (batches * slots_at run.tables table)
     && nat_le batches (blocks_at run.tables table)
     && nat_le frozen (frozen_blocks run.tables table (not_after run.entries entry))
 
@@ -142,7 +153,8 @@ abbrev pub exported_table : Command → Option ℕ
 exported_table (command.Export table) = Some table
 exported_table _ = None
 
--- an export is done where the transaction has no accepted write in the table before it, and else shows the least key of these
+-- an export is done where the transaction has no accepted write in the table before it, and else
+-- shows the least key of these
 abbrev pub export_reply_holds : Run → Span → Entry → ℕ → Said → Bool
 export_reply_holds run t entry table (said.At number) = true
 export_reply_holds run t entry table said.InTransaction = true
@@ -167,14 +179,17 @@ export_reply_holds run t entry table (said.NotSealed cause) = true
 export_reply_holds run t entry table (said.Frozen of_table block rows) = true
 export_reply_holds run t entry table said.NotFrozen = true
 export_reply_holds run t entry table (said.Exported number rows batches frozen) =
-    is_none (least_key table (writes_in (before t.replies entry))) && summary_holds run t entry table number rows batches frozen
-export_reply_holds run t entry table (said.Dirty key) = option_map_or (int_eq key) (least_key table (writes_in (before t.replies entry))) false
+    is_none (least_key table (writes_in (before t.replies entry)))
+    && summary_holds run t entry table number rows batches frozen
+export_reply_holds run t entry table (said.Dirty key) = option_map_or (int_eq key)
+    (least_key table (writes_in (before t.replies entry))) false
 export_reply_holds run t entry table said.Memory = true
 
 -- Exports.
 abbrev pub exports_hold : Run → Entry → Bool
 exports_hold run entry = option_map_or
-    (λ t. option_map_or (λ table. export_reply_holds run t entry table entry.reply.said) (exported_table entry.command) true)
+    (λ t. option_map_or (λ table. export_reply_holds run t entry table entry.reply.said)
+    (exported_table entry.command) true)
     (transaction_of run entry) true
 
 -- `sealed T b g`: g is 1 to the count of lines `sealed T b`, on no other of them, and above that of each of them before.
@@ -182,13 +197,15 @@ abbrev pub seal_holds : Run → Entry → ℕ → ℕ → ℕ → Bool
 seal_holds run entry table block stamp =
     nat_le 1 stamp && nat_le stamp (seals_in table block run.entries)
     && stamp_count table block stamp run.entries == 1
-    && list_all (λ earlier. nat_lt earlier stamp) (shown_in (stamp_in table block) (before run.entries entry))
+    && list_all (λ earlier. nat_lt earlier stamp)
+    (shown_in (stamp_in table block) (before run.entries entry))
 
 -- `frozen T b rows`: 1 to so many rows as a block has slots; it and the `frozen T b` before it are no more than the `sealed T b` not after.
 abbrev pub freeze_holds : Run → Entry → ℕ → ℕ → ℕ → Bool
 freeze_holds run entry table block rows =
     nat_le 1 rows && nat_le rows (slots_at run.tables table)
-    && nat_le (1 + freezes_in table block (before run.entries entry)) (seals_in table block (not_after run.entries entry))
+    && nat_le (1 + freezes_in table block (before run.entries entry))
+    (seals_in table block (not_after run.entries entry))
 
 -- the block that a command gathers
 abbrev pub gathered_block : Command → Option (ℕ × ℕ)
@@ -198,7 +215,8 @@ gathered_block _ = None
 -- `not frozen` of T b: the `frozen T b` not after are no fewer than the `sealed T b` before.
 abbrev pub idle_gather_holds : Run → Entry → Bool
 idle_gather_holds run entry = option_map_or
-    (λ block. nat_le (seals_in block.0 block.1 (before run.entries entry)) (freezes_in block.0 block.1 (not_after run.entries entry)))
+    (λ block. nat_le (seals_in block.0 block.1 (before run.entries entry))
+    (freezes_in block.0 block.1 (not_after run.entries entry)))
     (gathered_block entry.command) true
 
 -- the count that a line `pruned` shows, and that a line `moved` does
@@ -214,7 +232,8 @@ moved_in _ = None
 -- after, and twice the moved not after.
 abbrev pub prune_holds : Run → Entry → ℕ → Bool
 prune_holds run entry count = nat_le (count + sum (shown_in pruned_in (before run.entries entry)))
-    (writes_committed_in (not_after run.entries entry) + 2 * sum (shown_in moved_in (not_after run.entries entry)))
+    (writes_committed_in (not_after run.entries entry) + 2 * sum
+    (shown_in moved_in (not_after run.entries entry)))
 
 -- the most rows that one compaction may move
 abbrev pub most_moved : ℕ
@@ -222,8 +241,10 @@ most_moved = 64
 
 -- what each reply to upkeep shows; `moved c` shows at most 64
 abbrev pub upkeep_reply_holds : Run → Entry → Said → Bool
-upkeep_reply_holds run entry (said.Sealed table block stamp) = seal_holds run entry table block stamp
-upkeep_reply_holds run entry (said.Frozen table block rows) = freeze_holds run entry table block rows
+upkeep_reply_holds run entry (said.Sealed table block stamp) = seal_holds run entry table block
+    stamp
+upkeep_reply_holds run entry (said.Frozen table block rows) = freeze_holds run entry table block
+    rows
 upkeep_reply_holds run entry said.NotFrozen = idle_gather_holds run entry
 upkeep_reply_holds run entry (said.Moved count) = nat_le count most_moved
 upkeep_reply_holds run entry (said.Pruned count) = prune_holds run entry count

@@ -1,8 +1,33 @@
 //! Worked examples of outputs, explained and not: each is a fact that the definitions compute.
 #![tactic(auto, unfolding(crate::specs::Opened::digits, crate::specs::Opened::is_utf8, crate::specs::Opened::chars, crate::specs::Opened::encode))]
 
-ghost use Rattle.outcome_spec.specs.Examples.{one_session, older_snapshot, later_commit, open_rival, either_wins, first_committer, one_key_thrice, old_version, misuse, seal_and_gather, frozen_export, dirty_export, full_table, moved_rows, idle_worker, busy_worker, last_commit_named};
-ghost use Rattle.outcome_spec.specs.Refusals.{other_index, missing_line, line_without_end, line_too_many, other_key, leading_zero, wide_number, full_update, memory_at_commit, no_transaction, falling_keys, row_missing, rows_without_number, other_block, worker_skips, memory_too_many, commit_above_count, commit_without_number, falling_commits, commit_number_twice, empty_commit_numbered, snapshot_of_the_future, snapshot_too_new, snapshot_too_old, newest_row, own_write_unseen, aborted_write_seen, exists_nowhere, inserted_twice, updated_nothing, conflict_passed_over, conflict_with_none, conflict_with_nobody, conflict_with_itself, conflict_with_no_commit, first_commit_named, open_writer_passed_over, open_session_passed_over, lost_update, never_sealed, other_stamp, frozen_already, full_too_early, too_few_rows, other_snapshot, crowded_batch, too_many_batches, never_frozen, not_the_least_key, dirty_and_exported, stamp_from_nothing, same_stamp, gathered_unsealed, too_many_frozen_rows, sealed_not_gathered, moved_too_many, pruned_too_many, pruned_uncommitted};
+ghost use Rattle.outcome_spec.specs.Examples.{one_session, older_snapshot, later_commit};
+ghost use Rattle.outcome_spec.specs.Examples.{open_rival, either_wins, first_committer};
+ghost use Rattle.outcome_spec.specs.Examples.{one_key_thrice, old_version, misuse, seal_and_gather};
+ghost use Rattle.outcome_spec.specs.Examples.{frozen_export, dirty_export, full_table, moved_rows};
+ghost use Rattle.outcome_spec.specs.Examples.{idle_worker, busy_worker, last_commit_named};
+ghost use Rattle.outcome_spec.specs.Refusals.{other_index, missing_line, line_without_end};
+ghost use Rattle.outcome_spec.specs.Refusals.{line_too_many, other_key, leading_zero, wide_number};
+ghost use Rattle.outcome_spec.specs.Refusals.{full_update, memory_at_commit, no_transaction};
+ghost use Rattle.outcome_spec.specs.Refusals.{falling_keys, row_missing, rows_without_number};
+ghost use Rattle.outcome_spec.specs.Refusals.{other_block, worker_skips, memory_too_many};
+ghost use Rattle.outcome_spec.specs.Refusals.{commit_above_count, commit_without_number};
+ghost use Rattle.outcome_spec.specs.Refusals.{falling_commits, commit_number_twice};
+ghost use Rattle.outcome_spec.specs.Refusals.{empty_commit_numbered, snapshot_of_the_future};
+ghost use Rattle.outcome_spec.specs.Refusals.{snapshot_too_new, snapshot_too_old, newest_row};
+ghost use Rattle.outcome_spec.specs.Refusals.{own_write_unseen, aborted_write_seen, exists_nowhere};
+ghost use Rattle.outcome_spec.specs.Refusals.{inserted_twice, updated_nothing};
+ghost use Rattle.outcome_spec.specs.Refusals.{conflict_passed_over, conflict_with_none};
+ghost use Rattle.outcome_spec.specs.Refusals.{conflict_with_nobody, conflict_with_itself};
+ghost use Rattle.outcome_spec.specs.Refusals.{conflict_with_no_commit, first_commit_named};
+ghost use Rattle.outcome_spec.specs.Refusals.{open_writer_passed_over, open_session_passed_over};
+ghost use Rattle.outcome_spec.specs.Refusals.{lost_update, never_sealed, other_stamp};
+ghost use Rattle.outcome_spec.specs.Refusals.{frozen_already, full_too_early, too_few_rows};
+ghost use Rattle.outcome_spec.specs.Refusals.{other_snapshot, crowded_batch, too_many_batches};
+ghost use Rattle.outcome_spec.specs.Refusals.{never_frozen, not_the_least_key, dirty_and_exported};
+ghost use Rattle.outcome_spec.specs.Refusals.{stamp_from_nothing, same_stamp, gathered_unsealed};
+ghost use Rattle.outcome_spec.specs.Refusals.{too_many_frozen_rows, sealed_not_gathered};
+ghost use Rattle.outcome_spec.specs.Refusals.{moved_too_many, pruned_too_many, pruned_uncommitted};
 
 /// One session inserts a row, commits and reads it.
 pub fn one_session_writes_and_reads()
@@ -49,7 +74,8 @@ pub fn misuse_is_told()
     ensures { misuse }
 {}
 
-/// A sealed block refuses a change until it is gathered; the head is not sealed, and a block that is not sealed not gathered.
+/// A sealed block refuses a change until it is gathered; the head is not sealed, and a block that
+/// is not sealed not gathered.
 pub fn a_sealed_block_is_freezing_until_gathered()
     ensures { seal_and_gather }
 {}
@@ -64,7 +90,8 @@ pub fn an_export_after_a_write_is_dirty()
     ensures { dirty_export }
 {}
 
-/// A table of one block is full after eight inserts, also of an aborted transaction until it is aborted.
+/// A table of one block is full after eight inserts, also of an aborted transaction until it is
+/// aborted.
 pub fn a_full_table_takes_no_insert()
     ensures { full_table }
 {}

@@ -128,8 +128,10 @@ answers_without (command.Export table) told = is_without told
 
 -- The command may be told this, in a transaction or without one.
 abbrev pub answers : List TableDecl → Bool → Command → Said → Bool
-answers tables within asked told = if within || is_upkeep asked then answers_within tables asked told else answers_without asked told
+answers tables within asked told = if within || is_upkeep asked
+    then answers_within tables asked told else answers_without asked told
 
 -- What is due may be told this, in a line.
 abbrev pub may_say : List TableDecl → Bool → Due → Said → Bool
-may_say tables within due told = not (is_worker due.who && is_silent told) && answers tables within due.command told
+may_say tables within due told = not (is_worker due.who && is_silent told)
+    && answers tables within due.command told

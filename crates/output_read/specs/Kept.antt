@@ -20,7 +20,8 @@ said_of told.InTransaction = said.InTransaction
 said_of told.NoTransaction = said.NoTransaction
 said_of (told.Found words) = said.Found (unwrap_or (row_in words.now) [])
 said_of told.Absent = said.Absent
-said_of (told.Scanned count lines) = said.Scanned (unwrap_or (rows_in (parts line_feed lines.now)) [])
+said_of (told.Scanned count lines) = said.Scanned
+    (unwrap_or (rows_in (parts line_feed lines.now)) [])
 said_of told.Accepted = said.Accepted
 said_of (told.ConflictSession session) = said.ConflictSession session
 said_of (told.ConflictCommit number) = said.ConflictCommit number
@@ -37,22 +38,30 @@ said_of (told.Sealed table block stamp) = said.Sealed table block stamp
 said_of (told.NotSealed cause) = said.NotSealed cause
 said_of (told.Frozen table block rows) = said.Frozen table block rows
 said_of told.NotFrozen = said.NotFrozen
-said_of (told.Exported export) = said.Exported export.value.number export.value.rows export.value.batches export.value.frozen
+said_of (told.Exported export) = said.Exported export.value.number export.value.rows
+    export.value.batches export.value.frozen
 said_of (told.Dirty key) = said.Dirty key
 said_of told.Memory = said.Memory
 
 -- What is kept says something: its words spell a row, and its lines are as many rows as it counts.
 abbrev pub is_told : Told → Bool
 is_told (told.Found words) = is_some (row_in words.now)
-is_told (told.Scanned count lines) = option_map_or (λ rows. length rows == count) (rows_in (parts line_feed lines.now)) false
+is_told (told.Scanned count lines) = option_map_or (λ rows. length rows == count)
+    (rows_in (parts line_feed lines.now)) false
 is_told _ = true
 
--- The reply that a kept one is. It keeps no command where it is a worker's, which is taken for the first of its turn.
+-- The reply that a kept one is. It keeps no command where it is a worker's, which is taken for the
+-- first of its turn.
 abbrev pub entry_of : KeptReply → Entry
 entry_of kept = record {
   number = kept.number;
   command = option_map_or (λ asked. asked.now) kept.command command.Observe;
-  reply = record { round = kept.round; who = kept.who; index = kept.index; said = said_of kept.told };
+  reply = record {
+    round = kept.round;
+    who = kept.who;
+    index = kept.index;
+    said = said_of kept.told;
+  };
 }
 
 -- the replies that kept ones are

@@ -16,7 +16,8 @@ comes_before (Worker a) (Worker b) = nat_lt a b
 
 -- the reply is of an earlier round, or to one before this one in the round
 abbrev pub is_ahead : ℕ → Who → Entry → Bool
-is_ahead round who entry = nat_lt entry.reply.round round || entry.reply.round == round && comes_before entry.reply.who who
+is_ahead round who entry = nat_lt entry.reply.round round || entry.reply.round == round
+    && comes_before entry.reply.who who
 
 abbrev pub are_ahead : ℕ → Who → List Entry → Bool
 are_ahead round who entries = list_all (is_ahead round who) entries

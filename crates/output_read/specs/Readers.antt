@@ -1,5 +1,6 @@
 -- How far an output was read, and what is read from there on.
-use Rattle.std.specs.Prelude.{ℕ, ◌+◌, ◌^◌, ◌<◌, ◌≤◌, ◌≡◌, Bool, true, ◌&&◌, ◌==◌, List, ◌++◌, length, count_by, Result, Ok, Err}
+use Rattle.std.specs.Prelude.{ℕ, ◌+◌, ◌^◌, ◌<◌, ◌≤◌, ◌≡◌, Bool, true, ◌&&◌, ◌==◌, List, ◌++◌}
+use Rattle.std.specs.Prelude.{length, count_by, Result, Ok, Err}
 use Rattle.workload_spec.specs.declared.reply.Who.{Who}
 use Rattle.outcome_spec.specs.Entries.{Entry, is_same}
 use Rattle.outcome_spec.specs.Lines.{lines_of}
@@ -29,9 +30,11 @@ pub record IsReading (reader : Reader) : Type 0 where
   pub room : reader.line + length reader.rest.now ≤ 2 ^ 63
   pub few : length reader.replies.items < reader.line
 
--- What was due was read: from here on the rest is read as from there with it, if the rest begins anew.
+-- What was due was read: from here on the rest is read as from there with it, if the rest begins
+-- anew.
 abbrev pub Passes : Reader → Reader → List Due → Type 0
-Passes old new passed = (dues : List Due) → begins_anew dues ≡ true → reads old (passed ++ dues) ≡ reads new dues
+Passes old new passed = (dues : List Due) → begins_anew dues ≡ true → reads old (passed ++ dues)
+    ≡ reads new dues
 
 -- the same, whatever the rest
 abbrev pub PassesAll : Reader → Reader → List Due → Type 0
@@ -42,7 +45,8 @@ FailsAll old passed line = (dues : List Due) → reads old (passed ++ dues) ≡ 
 
 -- With these dues it fails at this line.
 abbrev pub FailsAt : Reader → List Due → ℕ → Type 0
-FailsAt old passed line = (dues : List Due) → begins_anew dues ≡ true → reads old (passed ++ dues) ≡ Err line
+FailsAt old passed line = (dues : List Due) → begins_anew dues ≡ true → reads old (passed ++ dues)
+    ≡ Err line
 
 -- the answer names a line, and this holds of it
 abbrev pub OnLine : {X : Type 0} → Result X ReadFault → (ℕ → Type 0) → Type 0

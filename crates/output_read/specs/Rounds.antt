@@ -14,7 +14,8 @@ use Rattle.output_read.specs.Readers.{IsReading, read_by}
 -- Of each session whether it is in a transaction.
 pub record AreWithin (sessions : ℕ) (within : List Bool) (entries : List Entry) : Type 0 where
   pub many : length within ≡ sessions
-  pub are : (at : ℕ) (other : Bool) → at < sessions → slice_index_or within at other ≡ is_within (Session (at + 1)) entries
+  pub are : (at : ℕ) (other : Bool) → at < sessions → slice_index_or within at other
+      ≡ is_within (Session (at + 1)) entries
 
 -- All replies in front of those to this one in this round were read.
 pub record Stands (script : Script) (round : ℕ) (next : Who) (reader : Reader) (within : List Bool) : Type 0 where
@@ -25,11 +26,15 @@ pub record Stands (script : Script) (round : ℕ) (next : Who) (reader : Reader)
 
 -- what is due to the first sessions in a round, and to the first workers
 abbrev pub session_part : ℕ → List Line → ℕ → List Due
-session_part round lines sessions = flat_map (λ session. dues_to round (Session session) (commands_of session lines)) (range_with_len 1 sessions)
+session_part round lines sessions = flat_map
+    (λ session. dues_to round (Session session) (commands_of session lines))
+    (range_with_len 1 sessions)
 
 abbrev pub worker_part : Script → ℕ → ℕ → List Due
 worker_part script round workers =
-    flat_map (λ worker. dues_to round (Worker worker) (flat_map (λ turn. turn_of script.tables) (range_with_len 1 script.turns))) (range_with_len 1 workers)
+    flat_map (λ worker. dues_to round (Worker worker)
+    (flat_map (λ turn. turn_of script.tables) (range_with_len 1 script.turns)))
+    (range_with_len 1 workers)
 
 -- nothing of the text was read yet
 pub record Starts (script : Script) (reader : Reader) : Type 0 where

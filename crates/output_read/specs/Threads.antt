@@ -1,5 +1,6 @@
 -- The replies to one session in a round, one after the other.
-use Rattle.std.specs.Prelude.{ℕ, ◌+◌, ◌<◌, ◌^◌, ◌≡◌, Bool, true, List, [], ◌∷◌, ◌++◌, Option, None, Some}
+use Rattle.std.specs.Prelude.{ℕ, ◌+◌, ◌<◌, ◌^◌, ◌≡◌, Bool, true, List, [], ◌∷◌, ◌++◌, Option, None}
+use Rattle.std.specs.Prelude.{Some}
 use Rattle.workload_spec.specs.declared.command.Command.{Command}
 use Rattle.workload_spec.specs.declared.reply.Who.{Who}
 use Rattle.workload_spec.specs.declared.reply.Who.TheVariants.{Session}
@@ -13,9 +14,14 @@ use Rattle.output_read.specs.Readers.{IsReading, Passes, is_of, next_index, read
 
 -- what is due to a session
 abbrev pub session_due : Thread → Command → Due
-session_due thread asked = record { round = thread.round; who = Session thread.session; command = asked }
+session_due thread asked = record {
+  round = thread.round;
+  who = Session thread.session;
+  command = asked;
+}
 
--- The replies to a session were read so far: so many in this round, and whether it is in a transaction.
+-- The replies to a session were read so far: so many in this round, and whether it is in a
+-- transaction.
 pub record IsThread (thread : Thread) (entries : List Entry) : Type 0 where
   pub round : thread.round < 2 ^ 32
   pub session : thread.session < 2 ^ 32
@@ -44,7 +50,8 @@ pub record ThreadGoes (old new : Reader) (thread after : Thread) (asked : Comman
 
 -- what is due of a line of the round
 abbrev pub line_dues : Thread → Line → List Due
-line_dues thread line = dues_to thread.round (Session thread.session) (commands_of thread.session (line ∷ []))
+line_dues thread line = dues_to thread.round (Session thread.session)
+    (commands_of thread.session (line ∷ []))
 
 -- What was due of a line was read.
 pub record LineGoes (old new : Reader) (thread after : Thread) (line : Line) : Type 0 where

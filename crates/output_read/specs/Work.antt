@@ -1,5 +1,6 @@
 -- A worker's turn, read step by step.
-use Rattle.std.specs.Prelude.{ℕ, ◌+◌, ◌<◌, ◌≤◌, ◌^◌, drop, length, ◌≡◌, true, List, [], ◌∷◌, ◌++◌, flat_map, Option, None, Some}
+use Rattle.std.specs.Prelude.{ℕ, ◌+◌, ◌<◌, ◌≤◌, ◌^◌, drop, length, ◌≡◌, true, List, [], ◌∷◌, ◌++◌}
+use Rattle.std.specs.Prelude.{flat_map, Option, None, Some}
 use Rattle.std.specs.List.{range_with_len}
 use Rattle.cell_model.specs.declared.table.TableDecl.{TableDecl}
 use Rattle.workload_spec.specs.declared.command.Command.{Command}
@@ -76,12 +77,21 @@ pub record WorkGoes (old new : Reader) (round worker : ℕ) (steps : List Comman
 -- The line of one of the steps that may be next was kept.
 pub record StepKept (old new : Reader) (shift : Shift) (steps after : NextSteps) : Type 0 where
   pub told : Said
-  pub says : Some told ≡ said_first old.tables.now shift.round (Worker shift.worker) (shift.index + 1) (lines_left old)
+  pub says : Some told ≡ said_first old.tables.now shift.round (Worker shift.worker)
+      (shift.index + 1) (lines_left old)
   pub on : next_steps old.tables.now steps told ≡ Some after
   pub kept : Told
   pub said_is : said_of kept ≡ told
   pub told_ok : is_told kept ≡ true
-  pub items : new.replies.items ≡ old.replies.items ++ record { number = old.line; command = None; round = shift.round; who = Worker shift.worker; index = shift.index + 1; told = kept } ∷ []
+  pub items : new.replies.items ≡ old.replies.items
+      ++ record {
+        number = old.line;
+        command = None;
+        round = shift.round;
+        who = Worker shift.worker;
+        index = shift.index + 1;
+        told = kept;
+      } ∷ []
   pub line : new.line ≡ old.line + 1
   pub rest : lines_left new ≡ drop 1 (lines_left old)
   pub shorter : length new.rest.now + 1 ≤ length old.rest.now
@@ -90,4 +100,6 @@ pub record StepKept (old new : Reader) (shift : Shift) (steps after : NextSteps)
 abbrev pub StepGoes : Reader → Reader → Shift → NextSteps → Option NextSteps → Type 0
 StepGoes old new shift steps (Some after) = StepKept old new shift steps after
 StepGoes old new shift steps None =
-    (new ≡ old) × ((told : Said) → Some told ≡ said_first old.tables.now shift.round (Worker shift.worker) (shift.index + 1) (lines_left old) → next_steps old.tables.now steps told ≡ None)
+    (new ≡ old) × ((told : Said) → Some told
+    ≡ said_first old.tables.now shift.round (Worker shift.worker) (shift.index + 1)
+    (lines_left old) → next_steps old.tables.now steps told ≡ None)

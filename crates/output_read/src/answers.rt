@@ -4,7 +4,9 @@ ghost use Rattle.workload_spec.specs.Valid.{is_command, is_table_place};
 ghost use Rattle.isolation_spec.specs.Contents.{key_of};
 ghost use Rattle.outcome_spec.specs.Tables.{columns_at};
 ghost use Rattle.outcome_spec.specs.Forms.{is_upkeep};
-ghost use Rattle.output_read.specs.Answers.{answers, answers_change, answers_gather, answers_get, answers_insert, answers_seal, answers_within, answers_without};
+ghost use Rattle.output_read.specs.Answers.{answers, answers_change, answers_gather, answers_get};
+ghost use Rattle.output_read.specs.Answers.{answers_insert, answers_seal, answers_within};
+ghost use Rattle.output_read.specs.Answers.{answers_without};
 
 use cell_model::{Cell, Row, TableDecl};
 use workload_spec::{Command, Said};
@@ -21,7 +23,7 @@ pub fn answers(tables: &[TableDecl], within: bool, command: &Command, said: &Sai
     }
 }
 
-// Whether the command is one of upkeep, which is told the same in a transaction and without one.
+/// Whether the command is one of upkeep, which is told the same in a transaction and without one.
 fn is_upkeep(command: &Command) -> bool
     ensures { result ≡ is_upkeep command.now }
 {
@@ -96,7 +98,7 @@ pub fn key_of(row: &Row) -> i128
     }
 }
 
-// What an insert may be told.
+/// What an insert may be told.
 fn answers_insert(said: &Said) -> bool
     ensures { result ≡ answers_insert said.now }
 {
@@ -128,7 +130,7 @@ fn answers_change(table: u32, said: &Said) -> bool
     }
 }
 
-// What the sealing of the block may be told.
+/// What the sealing of the block may be told.
 fn answers_seal(table: u32, block: u32, said: &Said) -> bool
     ensures { result ≡ answers_seal table block said.now }
 {
@@ -142,7 +144,7 @@ fn answers_seal(table: u32, block: u32, said: &Said) -> bool
     }
 }
 
-// What the gathering of the block may be told.
+/// What the gathering of the block may be told.
 fn answers_gather(table: u32, block: u32, said: &Said) -> bool
     ensures { result ≡ answers_gather table block said.now }
 {

@@ -19,7 +19,7 @@ impl From<AllocError> for ReadFault {
 
     ghost from_gives = { λ a e. e ≡ fault.Memory a };
 
-    // Refused memory, which `?` hands on.
+    /// Refused memory, which `?` hands on.
     fn from(refused: AllocError) -> ReadFault {
         ReadFault::Memory(refused)
     }
@@ -31,7 +31,7 @@ impl<T: Drop> From<AllocFailed<T>> for ReadFault {
 
     ghost from_gives = { λ _ e. e ≡ fault.Memory alloc_error };
 
-    // Refused memory of a call that gives its value back, which is dropped here.
+    /// Refused memory of a call that gives its value back, which is dropped here.
     fn from(_refused: AllocFailed<T>) -> ReadFault {
         ReadFault::Memory(AllocError)
     }

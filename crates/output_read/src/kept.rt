@@ -59,8 +59,8 @@ pub struct KeptReply<'a> {
     pub told: Told<'a>,
 }
 
-/// A count of lines or of what stands on them, in half its width: an output that has 2^32 of them is
-/// answered as refused memory.
+/// A count of lines or of what stands on them, in half its width: an output that has 2^32 of them
+/// is answered as refused memory.
 pub fn narrow(count: u64) -> Result<u32, AllocError>
     ensures { IfOk result (λ narrow. narrow ≡ count) }
 {

@@ -1,8 +1,10 @@
 //! How far an output was read.
-ghost use Rattle.std.specs.Prelude.{◌≡◌, ◌+◌, ◌<◌, ◌^◌, ◌++◌, ◌∷◌, [], true, length, drop, option_map, OnOk, IfOk, IfSome, None};
+ghost use Rattle.std.specs.Prelude.{◌≡◌, ◌+◌, ◌<◌, ◌^◌, ◌++◌, ◌∷◌, [], true, length, drop};
+ghost use Rattle.std.specs.Prelude.{option_map, OnOk, IfOk, IfSome, None};
 ghost use Rattle.outcome_spec.specs.Entries.{is_same};
 ghost use Rattle.outcome_spec.specs.Lines.{lines_of};
-ghost use Rattle.output_read.specs.Fronts.{IsSaidBy, count_first, is_of_block, is_plain, is_single, said_first, words_behind, words_first};
+ghost use Rattle.output_read.specs.Fronts.{IsSaidBy, count_first, is_of_block, is_plain, is_single};
+ghost use Rattle.output_read.specs.Fronts.{said_first, words_behind, words_first};
 ghost use Rattle.output_read.specs.Kept.{is_told, said_of};
 
 use crate::kept::{Exported, KeptReply, Told, narrow};
@@ -50,7 +52,8 @@ fn is_same(a: Who, b: Who) -> bool
 
 /// The words of the line behind this heading.
 fn words_behind(heading: Heading, line: &[u8]) -> Option<&[u8]>
-    ensures { option_map (λ words. words.now) result ≡ words_behind heading.round heading.who heading.index line.now }
+    ensures { option_map (λ words. words.now) result
+        ≡ words_behind heading.round heading.who heading.index line.now }
 {
     match head_in(line) {
         Some((round, who, index, words))
@@ -63,7 +66,8 @@ fn words_behind(heading: Heading, line: &[u8]) -> Option<&[u8]>
 
 /// The words of the first line behind this heading, and what stands behind the line.
 pub fn words_first<'a>(heading: Heading, text: &'a [u8]) -> Option<(&'a [u8], &'a [u8])>
-    ensures words { option_map (λ x. x.0.now) result ≡ words_first heading.round heading.who heading.index (lines_of text.now) }
+    ensures words { option_map (λ x. x.0.now) result
+        ≡ words_first heading.round heading.who heading.index (lines_of text.now) }
     ensures behind { IfSome result (λ x. drop 1 (lines_of text.now) ≡ lines_of x.1.now) }
     ensures shorter { IfSome result (λ x. length x.1.now < length text.now) }
 {
@@ -84,10 +88,13 @@ pub fn said_first<'a>(
     text: &'a [u8],
 ) -> Result<Option<Front<'a>>, AllocError>
     requires { length tables.now < 2 ^ 32 }
-    ensures said { IfOk result (λ front. option_map (λ x. x.said) front ≡ said_first tables.now heading.round heading.who heading.index (lines_of text.now)) }
+    ensures said { IfOk result (λ front. option_map (λ x. x.said) front
+        ≡ said_first tables.now heading.round heading.who heading.index (lines_of text.now)) }
     ensures words { IfOk result (λ front. IfSome front (λ x. IsSaidBy x.words.now x.said)) }
-    ensures behind { IfOk result (λ front. IfSome front (λ x. drop 1 (lines_of text.now) ≡ lines_of x.behind.now)) }
-    ensures shorter { IfOk result (λ front. IfSome front (λ x. length x.behind.now < length text.now)) }
+    ensures behind { IfOk result (λ front. IfSome front
+        (λ x. drop 1 (lines_of text.now) ≡ lines_of x.behind.now)) }
+    ensures shorter { IfOk result
+        (λ front. IfSome front (λ x. length x.behind.now < length text.now)) }
 {
     let Some((words, behind)) = words_first(heading, text) else {
         return Ok(None);
@@ -104,7 +111,8 @@ pub fn said_first<'a>(
 
 /// How many rows the first line says behind this heading that follow it, and what stands behind it.
 pub fn count_first<'a>(heading: Heading, text: &'a [u8]) -> Option<(u64, &'a [u8])>
-    ensures count { option_map (λ x. x.0) result ≡ count_first heading.round heading.who heading.index (lines_of text.now) }
+    ensures count { option_map (λ x. x.0) result
+        ≡ count_first heading.round heading.who heading.index (lines_of text.now) }
     ensures behind { IfSome result (λ x. drop 1 (lines_of text.now) ≡ lines_of x.1.now) }
     ensures shorter { IfSome result (λ x. length x.1.now < length text.now) }
 {
@@ -223,7 +231,15 @@ impl<'a> Reader<'a> {
         ensures tables { self.new.tables.now ≡ self.old.tables.now }
         ensures rest { OnOk result (self.new.rest.now ≡ behind.now) }
         ensures line { OnOk result (self.new.line ≡ self.old.line + lines) }
-        ensures kept { OnOk result (self.new.replies.items ≡ self.old.replies.items ++ record { number = self.old.line; command = command.entry; round = heading.round; who = heading.who; index = heading.index; told = told.entry } ∷ []) }
+        ensures kept { OnOk result (self.new.replies.items ≡ self.old.replies.items
+            ++ record {
+              number = self.old.line;
+              command = command.entry;
+              round = heading.round;
+              who = heading.who;
+              index = heading.index;
+              told = told.entry;
+            } ∷ []) }
     {
         self.replies.push(KeptReply {
             number: narrow(self.line)?,

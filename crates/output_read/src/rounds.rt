@@ -1,8 +1,10 @@
 //! The lines of an output, round by round.
-ghost use Rattle.std.specs.Prelude.{◌≡◌, ◌+◌, ◌<◌, ◌^◌, Bool, List, length, replicate, true, false, IfOk, OnOk, Ok, Err};
+ghost use Rattle.std.specs.Prelude.{◌≡◌, ◌+◌, ◌<◌, ◌^◌, Bool, List, length, replicate, true, false};
+ghost use Rattle.std.specs.Prelude.{IfOk, OnOk, Ok, Err};
 ghost use Rattle.std.specs.List.{list_all};
 ghost use Rattle.workload_spec.specs.Valid.{is_line, is_valid};
-ghost use Rattle.workload_spec.specs.declared.reply.Who.TheVariants.{Session as SessionWho, Worker as WorkerWho};
+ghost use Rattle.workload_spec.specs.declared.reply.Who.TheVariants.{Session as SessionWho};
+ghost use Rattle.workload_spec.specs.declared.reply.Who.TheVariants.{Worker as WorkerWho};
 ghost use Rattle.outcome_spec.specs.Explained.{replies_of};
 ghost use Rattle.outcome_spec.specs.Forms.{dues_in, dues_of};
 ghost use Rattle.output_read.specs.Kept.{are_told, entries_of};
@@ -16,15 +18,16 @@ use crate::reader::Reader;
 use std::alloc::{AllocError, Global};
 use workload_spec::{Line, Script};
 
-/// The replies that the output's lines are, or the first line, counted from 1, at which they fail to
-/// be those that are due. A script of 2^32 rounds or more is answered as refused memory.
+/// The replies that the output's lines are, or the first line, counted from 1, at which they fail
+/// to be those that are due. A script of 2^32 rounds or more is answered as refused memory.
 pub fn read_output<'a>(
     alloc: Global,
     script: &'a Script,
     text: &'a [u8],
 ) -> Result<Vec<KeptReply<'a>>, ReadFault>
     requires { is_valid script.now ≡ true }
-    ensures read { IfOk result (λ kept. replies_of script.now text.now ≡ Ok (entries_of kept.items)) }
+    ensures read { IfOk result (λ kept. replies_of script.now text.now
+        ≡ Ok (entries_of kept.items)) }
     ensures told { IfOk result (λ kept. are_told kept.items ≡ true) }
     ensures failed { OnLine result (λ line. replies_of script.now text.now ≡ Err line) }
 {
@@ -97,8 +100,10 @@ impl<'a> Reader<'a> {
         requires lines { list_all (is_line script.now) lines.now ≡ true }
         requires before { Stands script.now round (SessionWho 1) self.old within.old.items }
         ensures tables { self.new.tables.now ≡ self.old.tables.now }
-        ensures read { OnOk result (Stands script.now (round + 1) (SessionWho 1) self.new within.new.items) }
-        ensures passed { OnOk result (Passes self.old self.new (dues_in script.now round lines.now)) }
+        ensures read { OnOk result (Stands script.now (round + 1) (SessionWho 1) self.new
+            within.new.items) }
+        ensures passed { OnOk result (Passes self.old self.new
+            (dues_in script.now round lines.now)) }
         ensures failed { OnLine result (FailsAt self.old (dues_in script.now round lines.now)) }
     {
         self.session_lines(alloc, script, round, lines, within)?;
@@ -118,9 +123,12 @@ impl<'a> Reader<'a> {
         requires lines { list_all (is_line script.now) lines.now ≡ true }
         requires before { Stands script.now round (SessionWho 1) self.old within.old.items }
         ensures tables { self.new.tables.now ≡ self.old.tables.now }
-        ensures read { OnOk result (Stands script.now round (WorkerWho 1) self.new within.new.items) }
-        ensures passed { OnOk result (Passes self.old self.new (session_part round lines.now script.now.sessions)) }
-        ensures failed { OnLine result (FailsAt self.old (session_part round lines.now script.now.sessions)) }
+        ensures read { OnOk result (Stands script.now round (WorkerWho 1) self.new
+            within.new.items) }
+        ensures passed { OnOk result (Passes self.old self.new
+            (session_part round lines.now script.now.sessions)) }
+        ensures failed { OnLine result
+            (FailsAt self.old (session_part round lines.now script.now.sessions)) }
     {
         for at in 0..script.sessions {
             let before = within[at as usize];
@@ -138,10 +146,15 @@ impl<'a> Reader<'a> {
         requires ahead { are_ahead round (WorkerWho 1) (read_by self.old) ≡ true }
         ensures tables { self.new.tables.now ≡ self.old.tables.now }
         ensures read { OnOk result (IsReading self.new) }
-        ensures ahead { OnOk result (are_ahead (round + 1) (SessionWho 1) (read_by self.new) ≡ true) }
-        ensures within { OnOk result ((within : List Bool) → AreWithin script.now.sessions within (read_by self.old) → AreWithin script.now.sessions within (read_by self.new)) }
-        ensures passed { OnOk result (Passes self.old self.new (worker_part script.now round script.now.workers)) }
-        ensures failed { OnLine result (FailsAt self.old (worker_part script.now round script.now.workers)) }
+        ensures ahead { OnOk result (are_ahead (round + 1) (SessionWho 1) (read_by self.new)
+            ≡ true) }
+        ensures within { OnOk result ((within : List Bool)
+            → AreWithin script.now.sessions within (read_by self.old)
+            → AreWithin script.now.sessions within (read_by self.new)) }
+        ensures passed { OnOk result (Passes self.old self.new
+            (worker_part script.now round script.now.workers)) }
+        ensures failed { OnLine result
+            (FailsAt self.old (worker_part script.now round script.now.workers)) }
     {
         for at in 0..script.workers {
             self.turn_lines(alloc, round, at + 1, script.turns)?;

@@ -29,7 +29,7 @@ fn key_above(
     }
 }
 
-// Whether the key is above the last one, as the keys of a scan have to rise; any is above none.
+/// Whether the key is above the last one, as the keys of a scan have to rise; any is above none.
 fn is_above(below: Option<i128>, key: i128) -> bool
     ensures { result ≡ is_above below key }
 {

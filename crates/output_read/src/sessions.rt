@@ -3,10 +3,12 @@ ghost use Rattle.std.specs.Prelude.{◌≡◌, ◌<◌, ◌+◌, ◌^◌, [], �
 ghost use Rattle.workload_spec.specs.Valid.{is_command};
 ghost use Rattle.workload_spec.specs.declared.reply.Who.TheVariants.{Session as SessionWho};
 ghost use Rattle.reply_text.specs.Shown.{are_tables};
-ghost use Rattle.outcome_spec.specs.Forms.{commands_of, dues_to, is_within, scanned_by, within_behind};
+ghost use Rattle.outcome_spec.specs.Forms.{commands_of, dues_to, is_within, scanned_by};
+ghost use Rattle.outcome_spec.specs.Forms.{within_behind};
 ghost use Rattle.output_read.specs.Fronts.{count_first};
 ghost use Rattle.output_read.specs.Readers.{FailsAt, IsReading, OnLine, lines_left, read_by};
-ghost use Rattle.output_read.specs.Threads.{IsThread, NoCount, LineGoes, SessionGoes, ThreadGoes, line_dues, session_due};
+ghost use Rattle.output_read.specs.Threads.{IsThread, NoCount, LineGoes, SessionGoes, ThreadGoes};
+ghost use Rattle.output_read.specs.Threads.{line_dues, session_due};
 ghost use Rattle.output_read.specs.Order.{are_ahead};
 ghost use Rattle.std.specs.List.{list_all};
 
@@ -64,10 +66,14 @@ impl<'a> Reader<'a> {
         requires reading { IsReading self.old }
         requires ahead { are_ahead round (SessionWho session) (read_by self.old) ≡ true }
         requires within { within ≡ is_within (SessionWho session) (read_by self.old) }
-        requires lines { list_all (λ line. is_command self.old.tables.now line.command) lines.now ≡ true }
+        requires lines { list_all (λ line. is_command self.old.tables.now line.command) lines.now
+            ≡ true }
         ensures tables { self.new.tables.now ≡ self.old.tables.now }
-        ensures read { IfOk result (λ after. SessionGoes self.old self.new round session after lines.now) }
-        ensures failed { OnLine result (FailsAt self.old (dues_to round (SessionWho session) (commands_of session lines.now))) }
+        ensures read { IfOk result (λ after. SessionGoes self.old self.new round session after
+            lines.now) }
+        ensures failed { OnLine result
+            (FailsAt self.old (dues_to round (SessionWho session)
+            (commands_of session lines.now))) }
     {
         let mut thread = Thread {
             round,
@@ -117,7 +123,8 @@ impl<'a> Reader<'a> {
         requires thread { IsThread thread (read_by self.old) }
         requires command { is_command self.old.tables.now command.now ≡ true }
         ensures tables { self.new.tables.now ≡ self.old.tables.now }
-        ensures read { IfOk result (λ after. ThreadGoes self.old self.new thread after command.now) }
+        ensures read { IfOk result (λ after. ThreadGoes self.old self.new thread after
+            command.now) }
         ensures failed { OnLine result (FailsAt self.old (session_due thread command.now ∷ [])) }
     {
         match scanned_by(thread.within, command) {
@@ -141,7 +148,8 @@ impl<'a> Reader<'a> {
         requires command { is_command self.old.tables.now command.now ≡ true }
         requires scan { scanned_by thread.within command.now ≡ Some table }
         ensures tables { self.new.tables.now ≡ self.old.tables.now }
-        ensures read { IfOk result (λ after. ThreadGoes self.old self.new thread after command.now) }
+        ensures read { IfOk result (λ after. ThreadGoes self.old self.new thread after
+            command.now) }
         ensures failed { OnLine result (FailsAt self.old (session_due thread command.now ∷ [])) }
     {
         let heading = thread.next_heading();
@@ -176,9 +184,12 @@ impl<'a> Reader<'a> {
         requires reading { IsReading self.old }
         requires thread { IsThread thread (read_by self.old) }
         requires command { is_command self.old.tables.now command.now ≡ true }
-        requires count { NoCount (scanned_by thread.within command.now) (count_first thread.round (SessionWho thread.session) (thread.index + 1) (lines_left self.old)) }
+        requires count { NoCount (scanned_by thread.within command.now)
+            (count_first thread.round (SessionWho thread.session) (thread.index + 1)
+            (lines_left self.old)) }
         ensures tables { self.new.tables.now ≡ self.old.tables.now }
-        ensures read { IfOk result (λ after. ThreadGoes self.old self.new thread after command.now) }
+        ensures read { IfOk result (λ after. ThreadGoes self.old self.new thread after
+            command.now) }
         ensures failed { OnLine result (FailsAt self.old (session_due thread command.now ∷ [])) }
     {
         let heading = thread.next_heading();
@@ -203,7 +214,11 @@ impl Thread {
     /// The heading of the next reply.
     fn next_heading(self) -> Heading
         requires { self.index + 1 < 2 ^ 64 }
-        ensures { result ≡ record { round = self.round; who = SessionWho self.session; index = self.index + 1 } }
+        ensures { result ≡ record {
+          round = self.round;
+          who = SessionWho self.session;
+          index = self.index + 1;
+        } }
     {
         Heading {
             round: self.round,

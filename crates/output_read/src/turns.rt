@@ -1,14 +1,16 @@
 //! Which steps of a worker's turn may be next.
 ghost use Rattle.std.specs.Prelude.{◌≡◌, ◌+◌, ◌^◌, ◌<◌, true, length};
-ghost use Rattle.output_read.specs.Turns.{after_memory, may_gather, may_seal, next_steps, next_table, one_more};
+ghost use Rattle.output_read.specs.Turns.{after_memory, may_gather, may_seal, next_steps};
+ghost use Rattle.output_read.specs.Turns.{next_table, one_more};
 ghost use Rattle.outcome_spec.specs.Tables.{blocks_at};
 
 use cell_model::TableDecl;
 use workload_spec::Said;
 
-/// The steps that may be next in a turn, behind the compaction of the first table: those of a table from
-/// the seal of a block on, or from its gather where it was sealed; and those of further tables from their
-/// first block on, up to the compaction of the table `until`, or to the turn's end where there is none.
+/// The steps that may be next in a turn, behind the compaction of the first table: those of a table
+/// from the seal of a block on, or from its gather where it was sealed; and those of further tables
+/// from their first block on, up to the compaction of the table `until`, or to the turn's end where
+/// there is none.
 #[derive(Clone, Copy)]
 pub struct NextSteps {
     pub table: u32,

@@ -6,7 +6,8 @@ ghost use Rattle.reply_text.specs.Shown.{are_tables};
 ghost use Rattle.outcome_spec.specs.Forms.{dues_to, turn_of};
 ghost use Rattle.output_read.specs.Order.{are_ahead};
 ghost use Rattle.output_read.specs.Readers.{FailsAll, FailsAt, IsReading, OnLine, read_by};
-ghost use Rattle.output_read.specs.Work.{IsFew, IsShift, IsSpoken, Never, ShiftGoes, StepGoes, StepRead, WorkGoes, steps_behind, turns_of, work_dues};
+ghost use Rattle.output_read.specs.Work.{IsFew, IsShift, IsSpoken, Never, ShiftGoes, StepGoes};
+ghost use Rattle.output_read.specs.Work.{StepRead, WorkGoes, steps_behind, turns_of, work_dues};
 
 use crate::answers::answers;
 use crate::fault::ReadFault;
@@ -37,8 +38,11 @@ impl<'a> Reader<'a> {
         requires reading { IsReading self.old }
         requires ahead { are_ahead round (WorkerWho worker) (read_by self.old) ≡ true }
         ensures tables { self.new.tables.now ≡ self.old.tables.now }
-        ensures read { OnOk result (WorkGoes self.old self.new round worker (turns_of turns self.old.tables.now)) }
-        ensures failed { OnLine result (FailsAt self.old (dues_to round (WorkerWho worker) (turns_of turns self.old.tables.now))) }
+        ensures read { OnOk result (WorkGoes self.old self.new round worker
+            (turns_of turns self.old.tables.now)) }
+        ensures failed { OnLine result
+            (FailsAt self.old (dues_to round (WorkerWho worker)
+            (turns_of turns self.old.tables.now))) }
     {
         let mut shift = Shift {
             round,
@@ -58,8 +62,10 @@ impl<'a> Reader<'a> {
         requires reading { IsReading self.old }
         requires shift { IsShift shift self.old }
         ensures tables { self.new.tables.now ≡ self.old.tables.now }
-        ensures read { IfOk result (λ after. ShiftGoes self.old self.new shift after (work_dues shift (turn_of self.old.tables.now))) }
-        ensures failed { OnLine result (FailsAt self.old (work_dues shift (turn_of self.old.tables.now))) }
+        ensures read { IfOk result (λ after. ShiftGoes self.old self.new shift after
+            (work_dues shift (turn_of self.old.tables.now))) }
+        ensures failed { OnLine result
+            (FailsAt self.old (work_dues shift (turn_of self.old.tables.now))) }
     {
         let shift = self.work_line(alloc, shift, &Command::Observe)?;
         let shift = self.work_line(alloc, shift, &Command::Prune)?;
@@ -106,8 +112,10 @@ impl<'a> Reader<'a> {
         requires reading { IsReading self.old }
         requires shift { IsShift shift self.old }
         ensures tables { self.new.tables.now ≡ self.old.tables.now }
-        ensures read { IfOk result (λ after. ShiftGoes self.old self.new shift after (work_dues shift (steps_behind self.old.tables.now))) }
-        ensures failed { OnLine result (FailsAt self.old (work_dues shift (steps_behind self.old.tables.now))) }
+        ensures read { IfOk result (λ after. ShiftGoes self.old self.new shift after
+            (work_dues shift (steps_behind self.old.tables.now))) }
+        ensures failed { OnLine result
+            (FailsAt self.old (work_dues shift (steps_behind self.old.tables.now))) }
     {
         let mut shift = shift;
         let mut steps = NextSteps {
@@ -161,7 +169,11 @@ impl Shift {
     /// The heading of the next line.
     fn next_heading(self) -> Heading
         requires { self.index + 1 < 2 ^ 64 }
-        ensures { result ≡ record { round = self.round; who = WorkerWho self.worker; index = self.index + 1 } }
+        ensures { result ≡ record {
+          round = self.round;
+          who = WorkerWho self.worker;
+          index = self.index + 1;
+        } }
     {
         Heading {
             round: self.round,

@@ -16,18 +16,22 @@ HasOpened shape parts session None = transaction shape parts session ≡ None
 HasOpened shape parts session (Some own) = (own.session ≡ session) × OwnsAll shape own parts
 
 abbrev pub RestsAtFirst : Type 0
-RestsAtFirst = (shape : Shape) (session : ℕ) → IsShape shape → HasOpened shape (opening shape) session None
+RestsAtFirst = (shape : Shape) (session : ℕ) → IsShape shape
+    → HasOpened shape (opening shape) session None
 
 -- Behind a lawful event of its own it has open what the event and its reply tell.
 abbrev pub OwnGoesOn : Type 0
-OwnGoesOn = (shape : Shape) (parts : Parts) (event : CoreEvent) (session : ℕ) (own : Option OwnTransaction)
+OwnGoesOn = (shape : Shape) (parts : Parts) (event : CoreEvent) (session : ℕ)
+    (own : Option OwnTransaction)
     → CoreHolds shape parts → IsLawful shape event parts → session_of event ≡ Some session
     → HasOpened shape parts session own
-    → HasOpened shape (effect shape parts event) session (own_behind own event (reply_to shape parts event))
+    → HasOpened shape (effect shape parts event) session
+    (own_behind own event (reply_to shape parts event))
 
 -- Behind any other lawful event it has open what it had.
 abbrev pub OwnStays : Type 0
-OwnStays = (shape : Shape) (parts : Parts) (event : CoreEvent) (session : ℕ) (own : Option OwnTransaction)
+OwnStays = (shape : Shape) (parts : Parts) (event : CoreEvent) (session : ℕ)
+    (own : Option OwnTransaction)
     → CoreHolds shape parts → IsLawful shape event parts → session_of event ≢ Some session
     → HasOpened shape parts session own → HasOpened shape (effect shape parts event) session own
 

@@ -9,7 +9,8 @@ pub fn nothing_is_open_at_first()
     ensures { RestsAtFirst }
 {}
 
-/// A session has open what its own lawful events and their replies tell, and no other event changes it.
+/// A session has open what its own lawful events and their replies tell, and no other event changes
+/// it.
 pub fn replies_tell_what_is_open()
     ensures goes_on { OwnGoesOn }
     ensures stays { OwnStays }

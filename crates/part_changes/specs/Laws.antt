@@ -10,7 +10,8 @@ use Rattle.key_index.specs.Candidates.{Places, candidates_of}
 use Rattle.part_changes.specs.Heads.{Knows, gained}
 use Rattle.part_changes.specs.Shards.{without_place}
 
--- A head that knows the empty blocks and gains one knows them all again, as if it went over all blocks.
+-- A head that knows the empty blocks and gains one knows them all again, as if it went over all
+-- blocks.
 abbrev pub GainsGoOn : Type 0
 GainsGoOn = (blocks block : ℕ) (empty after : ℕ → Bool) (head : Head)
     → Knows blocks empty head → block < blocks
@@ -27,14 +28,17 @@ KnowingRests = (blocks : ℕ) (empty after : ℕ → Bool) (head : Head)
 
 -- A head knows the empty blocks after it went over all.
 abbrev pub SweptKnows : Type 0
-SweptKnows = (blocks : ℕ) (empty : ℕ → Bool) (head : Head) → Knows blocks empty (with_empty blocks empty head)
+SweptKnows = (blocks : ℕ) (empty : ℕ → Bool) (head : Head)
+    → Knows blocks empty (with_empty blocks empty head)
 
 -- A shard after a sweep loses one candidate more as if the sweep had not kept it.
 abbrev pub DropsGoOn : Type 0
 DropsGoOn = (shard : ℕ) (places : Places) (keep after : ℕ → Bool) (key : ℤ) (place : ℕ)
     → ShardHolds shard places → shard_of key ≡ shard
-    → ((one : ℕ) → Among one (candidates_of places key) → after one ≡ (keep one && not (one == place)))
-    → ((other : ℤ) (one : ℕ) → other ≢ key → Among one (candidates_of places other) → after one ≡ keep one)
+    → ((one : ℕ) → Among one (candidates_of places key) → after one
+    ≡ (keep one && not (one == place)))
+    → ((other : ℤ) (one : ℕ) → other ≢ key → Among one (candidates_of places other) → after one
+    ≡ keep one)
     → without_place key place (kept_places keep places) ≡ kept_places after places
 
 -- Sweeps that keep the same candidates are one.

@@ -20,7 +20,7 @@ pub struct TableHead {
     block: u32,
     taken: u32,
     inserts: u64,
-    // Ascending.
+    /// Ascending.
     empty: Vec<u32>,
 }
 
@@ -85,8 +85,8 @@ impl TableHead {
         Some(SlotId::join(self.block, self.taken))
     }
 
-    /// Takes the next slot, if one is left: the least empty block becomes the head where its own block
-    /// has none.
+    /// Takes the next slot, if one is left: the least empty block becomes the head where its own
+    /// block has none.
     pub fn take(&mut self, slots: u32)
         requires { self.old.inserts + 1 < 2 ^ 64 }
         ensures { self.new ≡ taken_by slots self.old }
@@ -119,7 +119,7 @@ impl TableHead {
     }
 }
 
-// Where a block goes into ascending ones, if it is not there.
+/// Where a block goes into ascending ones, if it is not there.
 fn gap_for(blocks: &[u32], block: u32) -> Option<usize>
     requires { Rises 0 (2 ^ 10) blocks.now }
     ensures some { IfSome result (λ at. insert blocks.now at block ≡ with_block block blocks.now) }

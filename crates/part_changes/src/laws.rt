@@ -1,5 +1,6 @@
 //! Laws of the changes: each function does nothing, and its contract is one of them.
-ghost use Rattle.part_changes.specs.Laws.{AddedIsDropped, DropsGoOn, GainsGoOn, KnowingRests, SweepRests, SweepsAgree, SweptKnows};
+ghost use Rattle.part_changes.specs.Laws.{AddedIsDropped, DropsGoOn, GainsGoOn, KnowingRests};
+ghost use Rattle.part_changes.specs.Laws.{SweepRests, SweepsAgree, SweptKnows};
 
 /// A head told of each block that became empty is as if it went over all blocks.
 pub fn heads_learn_of_empty_blocks()

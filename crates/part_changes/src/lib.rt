@@ -1,5 +1,5 @@
-//! The changes that events make of a table's head and of the shards of its index, part by part: where
-//! a definition goes over all blocks or all entries, these go over those alone that change.
+//! The changes that events make of a table's head and of the shards of its index, part by part:
+//! where a definition goes over all blocks or all entries, these go over those alone that change.
 #![tactic(auto)]
 
 mod head;

@@ -9,8 +9,8 @@ use block_layout::SlotId;
 use key_index::Index;
 use std::alloc::AllocError;
 
-/// Adds a place to a key's candidates where it is none yet, and tells whether it did. Without memory
-/// nothing changes.
+/// Adds a place to a key's candidates where it is none yet, and tells whether it did. Without
+/// memory nothing changes.
 pub fn add_place(index: &mut Index, key: i64, place: SlotId) -> Result<bool, AllocError>
     ensures ok { OnOk result (index.new ≡ with_place key place index.old) }
     ensures added { IfOk result (λ added. added ≡

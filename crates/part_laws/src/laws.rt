@@ -1,4 +1,5 @@
-//! Laws of transactions and lasting facts: each function does nothing, and its contract is one of them.
+//! Laws of transactions and lasting facts: each function does nothing, and its contract is one of
+//! them.
 ghost use Rattle.part_laws.specs.Laws.{Depends, Learns, Leaves, Outlives, Rests};
 
 /// What an event asks besides its parts is its session's transaction and lasting facts.

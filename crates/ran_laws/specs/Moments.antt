@@ -1,5 +1,6 @@
 -- The calls of a round in the order in which they came about: each at the last of its events.
-use Rattle.std.specs.Prelude.{◌≡◌, ℕ, ◌==◌, List, [], ◌∷◌, ◌++◌, map, filter, Option, None, Some, if◌then◌else◌}
+use Rattle.std.specs.Prelude.{◌≡◌, ℕ, ◌==◌, List, [], ◌∷◌, ◌++◌, map, filter, Option, None, Some}
+use Rattle.std.specs.Prelude.{if◌then◌else◌}
 use Rattle.std.specs.List.{filter_map, flat_map}
 use Rattle.outcome_spec.specs.Entries.{Entry}
 use Rattle.run_spec.specs.Calls.{Call}

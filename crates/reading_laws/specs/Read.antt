@@ -8,8 +8,10 @@ use Rattle.outcome_check.specs.Places.{Rises}
 
 -- The replies of a text that was read stand in the order of their lines.
 abbrev pub ReadRepliesRise : Type 0
-ReadRepliesRise = (script : Script) (text : List ℕ) (entries : List Entry) → replies_of script text ≡ Ok entries → Rises entries
+ReadRepliesRise = (script : Script) (text : List ℕ) (entries : List Entry) → replies_of script text
+    ≡ Ok entries → Rises entries
 
 -- They open transactions only where their session is in none.
 abbrev pub ReadRepliesOpenOutside : Type 0
-ReadRepliesOpenOutside = (script : Script) (text : List ℕ) (entries : List Entry) → replies_of script text ≡ Ok entries → OpensOutside entries
+ReadRepliesOpenOutside = (script : Script) (text : List ℕ) (entries : List Entry)
+    → replies_of script text ≡ Ok entries → OpensOutside entries

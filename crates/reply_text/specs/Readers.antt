@@ -1,5 +1,7 @@
 -- What bytes are read as, from left to right.
-use Rattle.std.specs.Prelude.{ℕ, ◌^◌, ◌-◌, Bool, true, false, ◌==◌, List, [], ◌∷◌, length, take, drop, find, position, ℤ, Option, None, Some, option_map, bytes_eq, codes, if◌then◌else◌}
+use Rattle.std.specs.Prelude.{ℕ, ◌^◌, ◌-◌, Bool, true, false, ◌==◌, List, [], ◌∷◌, length, take}
+use Rattle.std.specs.Prelude.{drop, find, position, ℤ, Option, None, Some, option_map, bytes_eq}
+use Rattle.std.specs.Prelude.{codes, if◌then◌else◌}
 use Rattle.cell_model.specs.declared.cell.Cell.{Cell}
 use Rattle.cell_model.specs.declared.cell.Cell.TheVariants.{Null, Num, Truth, Text, Blob}
 use Rattle.cell_model.specs.declared.table.TableDecl.{TableDecl}
@@ -8,7 +10,8 @@ use Rattle.workload_spec.specs.declared.reply.Who.{Who}
 use Rattle.workload_spec.specs.declared.reply.Who.TheVariants.{Session, Worker}
 use Rattle.workload_spec.specs.declared.reply.Said.{Said}
 use Rattle.workload_spec.specs.declared.reply.Said.TheVariants as said
-use Rattle.workload_spec.specs.declared.reply.SealCause.TheVariants.{Phase, Head, Empty, Gaps, Versions, Hot, Last}
+use Rattle.workload_spec.specs.declared.reply.SealCause.TheVariants.{Phase, Head, Empty, Gaps}
+use Rattle.workload_spec.specs.declared.reply.SealCause.TheVariants.{Versions, Hot, Last}
 use Rattle.workload_spec.specs.Words.{space, line_feed, spaced}
 use Rattle.workload_spec.specs.Reading.{parts, words_of, natural_of, natural_within, integer_of}
 use Rattle.workload_spec.specs.Valid.{is_key_number}
@@ -29,12 +32,14 @@ where_true false value = None
 
 -- what stands behind these bytes
 abbrev pub behind : List ℕ → List ℕ → Option (List ℕ)
-behind front bytes = where_true (bytes_eq (take (length front) bytes) front) (drop (length front) bytes)
+behind front bytes = where_true (bytes_eq (take (length front) bytes) front)
+    (drop (length front) bytes)
 
 -- the bytes before the first such byte, and those behind it
 abbrev pub cut : ℕ → List ℕ → Option (List ℕ × List ℕ)
 cut separator [] = None
-cut separator (byte ∷ bytes) = if byte == separator then Some ([], bytes) else option_map (λ both. (byte ∷ both.0, both.1)) (cut separator bytes)
+cut separator (byte ∷ bytes) = if byte == separator then Some ([], bytes)
+    else option_map (λ both. (byte ∷ both.0, both.1)) (cut separator bytes)
 
 abbrev pub u64_in : List ℕ → Option ℕ
 u64_in word = small_natural (natural_of word)
@@ -58,7 +63,8 @@ value_from None None None number = number
 
 -- the cell that a word spells
 abbrev pub value_in : List ℕ → Option Cell
-value_in word = value_from (truth_of word) (text_of word) (blob_of word) (option_map Num (small_integer (integer_of word)))
+value_in word = value_from (truth_of word) (text_of word) (blob_of word)
+    (option_map Num (small_integer (integer_of word)))
 
 abbrev pub cell_in : List ℕ → Option Cell
 cell_in word = if bytes_eq word (codes "null") then Some Null else value_in word
@@ -76,14 +82,17 @@ abbrev pub rows_in : List (List ℕ) → Option (List (List Cell))
 rows_in [] = None
 rows_in ([] ∷ []) = Some []
 rows_in ((byte ∷ bytes) ∷ []) = None
-rows_in (line ∷ next ∷ rest) = behind (codes "| ") line >>= row_in >>= λ row. rows_in (next ∷ rest) >>= λ rows. Some (row ∷ rows)
+rows_in (line ∷ next ∷ rest) = behind (codes "| ") line >>= row_in >>= λ row. rows_in (next ∷ rest)
+    >>= λ rows. Some (row ∷ rows)
 
 -- the replies that have no number, table or row
 abbrev pub answers : List Said
-answers = said.InTransaction ∷ said.NoTransaction ∷ said.Absent ∷ said.Accepted ∷ said.Exists ∷ said.Missing ∷ said.Full ∷ said.Committed None ∷ said.Aborted ∷ said.Memory ∷ []
+answers = said.InTransaction ∷ said.NoTransaction ∷ said.Absent ∷ said.Accepted ∷ said.Exists
+    ∷ said.Missing ∷ said.Full ∷ said.Committed None ∷ said.Aborted ∷ said.Memory ∷ []
 
 abbrev pub refusals : List Said
-refusals = said.NotSealed Phase ∷ said.NotSealed Head ∷ said.NotSealed Empty ∷ said.NotSealed Gaps ∷ said.NotSealed Versions ∷ said.NotSealed Hot ∷ said.NotSealed Last
+refusals = said.NotSealed Phase ∷ said.NotSealed Head ∷ said.NotSealed Empty ∷ said.NotSealed Gaps
+    ∷ said.NotSealed Versions ∷ said.NotSealed Hot ∷ said.NotSealed Last
     ∷ said.NotFrozen ∷ []
 
 abbrev pub answer_in : List ℕ → Option Said
@@ -95,16 +104,20 @@ refusal_in bytes = find (λ told. bytes_eq (spaced (said_words [] told)) bytes) 
 -- a table, a block, and the block's stamp or rows
 abbrev pub block_in : List TableDecl → (ℕ → ℕ → ℕ → Said) → List ℕ → Option Said
 block_in tables make bytes =
-    cut space bytes >>= λ name. table_in tables name.0 >>= λ table. cut space name.1 >>= λ block. u32_in block.0 >>= λ place. u32_in block.1 >>= λ number. Some (make table place number)
+    cut space bytes >>= λ name. table_in tables name.0 >>= λ table. cut space name.1 >>= λ block.
+    u32_in block.0 >>= λ place. u32_in block.1 >>= λ number. Some (make table place number)
 
 -- the numbers of an export
 abbrev pub exported_in : List ℕ → Option Said
 exported_in bytes =
-    cut space bytes >>= λ first. u64_in first.0 >>= λ number. behind (codes "rows ") first.1 >>= λ from. cut space from >>= λ second. u64_in second.0 >>= λ rows.
-    behind (codes "batches ") second.1 >>= λ more. cut space more >>= λ third. u32_in third.0 >>= λ batches. behind (codes "frozen ") third.1 >>= λ last.
+    cut space bytes >>= λ first. u64_in first.0 >>= λ number. behind (codes "rows ") first.1 >>=
+    λ from. cut space from >>= λ second. u64_in second.0 >>= λ rows.
+    behind (codes "batches ") second.1 >>= λ more. cut space more >>= λ third. u32_in third.0 >>=
+    λ batches. behind (codes "frozen ") third.1 >>= λ last.
     u32_in last >>= λ frozen. Some (said.Exported number rows batches frozen)
 
--- the replies of one number, or of a table's block: the bytes with which each begins, and what the bytes behind them are
+-- the replies of one number, or of a table's block: the bytes with which each begins, and what the
+-- bytes behind them are
 abbrev pub Openings : Type 0
 Openings = List (List ℕ × (List ℕ → Option Said))
 
@@ -112,7 +125,11 @@ abbrev pub counts : Openings
 counts = (codes "at ", λ word. option_map said.At (u64_in word))
     ∷ (codes "conflict session ", λ word. option_map said.ConflictSession (u32_in word))
     ∷ (codes "conflict #", λ word. option_map said.ConflictCommit (u64_in word))
-    ∷ (codes "committed ", λ word. option_map (λ number. said.Committed (Some number)) (u64_in word))
+    ∷ (
+      codes "committed ",
+      λ word. option_map (λ number. said.Committed (Some number))
+          (u64_in word),
+    )
     ∷ (codes "cooling ", λ word. option_map said.Cooling (u64_in word))
     ∷ (codes "pruned ", λ word. option_map said.Pruned (u64_in word))
     ∷ (codes "moved ", λ word. option_map said.Moved (u64_in word))
@@ -129,7 +146,8 @@ places tables = (codes "freezing ", block_in tables said.Freezing)
 -- by the first of the openings with which the bytes begin
 abbrev pub opened_in : Openings → List ℕ → Option Said
 opened_in [] bytes = None
-opened_in (opening ∷ others) bytes = elim (behind opening.0 bytes) [ Some rest ↦ opening.1 rest | None ↦ opened_in others bytes ]
+opened_in (opening ∷ others) bytes = elim (behind opening.0 bytes)
+    [ Some rest ↦ opening.1 rest | None ↦ opened_in others bytes ]
 
 abbrev pub found_in : List ℕ → Option Said
 found_in bytes = behind (codes "row ") bytes >>= λ cells. option_map said.Found (row_in cells)
@@ -141,11 +159,14 @@ first_of None other = other
 
 -- a reply of one line
 abbrev pub said_in : List TableDecl → List ℕ → Option Said
-said_in tables bytes = first_of (answer_in bytes) (first_of (refusal_in bytes) (first_of (opened_in counts bytes) (first_of (opened_in (places tables) bytes) (found_in bytes))))
+said_in tables bytes = first_of (answer_in bytes)
+    (first_of (refusal_in bytes) (first_of (opened_in counts bytes)
+    (first_of (opened_in (places tables) bytes) (found_in bytes))))
 
 -- a scan's reply: as many rows as its first line says
 abbrev pub scanned_in : List ℕ → List ℕ → Option Said
-scanned_in word others = u64_in word >>= λ count. rows_in (parts line_feed others) >>= λ rows. where_true (length rows == count) (said.Scanned rows)
+scanned_in word others = u64_in word >>= λ count. rows_in (parts line_feed others) >>= λ rows.
+    where_true (length rows == count) (said.Scanned rows)
 
 -- a reply whose first line says this, with what stands behind that line
 abbrev pub told_in : List TableDecl → List ℕ → List ℕ → Option Said
@@ -156,7 +177,10 @@ told_in tables bytes others = elim (behind (codes "rows ") bytes) [
 
 -- whom a word names: a session's number, or a worker's behind a `w`
 abbrev pub who_in : List ℕ → Option Who
-who_in word = elim (behind (codes "w") word) [ Some digits ↦ option_map Worker (u32_in digits) | None ↦ option_map Session (u32_in word) ]
+who_in word = elim (behind (codes "w") word) [
+  | Some digits ↦ option_map Worker (u32_in digits)
+  | None ↦ option_map Session (u32_in word)
+]
 
 -- what stands before a reply's words, and the words
 pub record Heading : Type 0 where
@@ -167,11 +191,13 @@ pub record Heading : Type 0 where
 
 abbrev pub head_in : List ℕ → Option Heading
 head_in line =
-    cut space line >>= λ first. u32_in first.0 >>= λ round. cut space first.1 >>= λ second. who_in second.0 >>= λ who. cut space second.1 >>= λ third. u64_in third.0 >>= λ index.
+    cut space line >>= λ first. u32_in first.0 >>= λ round. cut space first.1 >>= λ second. who_in
+    second.0 >>= λ who. cut space second.1 >>= λ third. u64_in third.0 >>= λ index.
     Some (record { round = round; who = who; index = index; words = third.1 })
 
 -- the reply that bytes are
 abbrev pub reply_in : List TableDecl → List ℕ → Option ReplyLine
 reply_in tables bytes =
-    cut line_feed bytes >>= λ lines. head_in lines.0 >>= λ head. told_in tables head.words lines.1 >>= λ told.
+    cut line_feed bytes >>= λ lines. head_in lines.0 >>= λ head. told_in tables head.words lines.1
+    >>= λ told.
     Some (record { round = head.round; who = head.who; index = head.index; said = told })

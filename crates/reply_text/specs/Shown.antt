@@ -1,5 +1,7 @@
--- Which replies there are over tables: numbers of their types, tables and causes that there are, and rows with a key.
-use Rattle.std.specs.Prelude.{ℕ, ◌^◌, Bool, true, false, ◌&&◌, nat_lt, List, [], ◌∷◌, length, None, Some}
+-- Which replies there are over tables: numbers of their types, tables and causes that there are,
+-- and rows with a key.
+use Rattle.std.specs.Prelude.{ℕ, ◌^◌, Bool, true, false, ◌&&◌, nat_lt, List, [], ◌∷◌, length, None}
+use Rattle.std.specs.Prelude.{Some}
 use Rattle.std.specs.List.{list_all}
 use Rattle.cell_model.specs.declared.cell.Cell.{Cell}
 use Rattle.cell_model.specs.declared.cell.Cell.TheVariants.{Null, Num, Truth, Text, Blob}
@@ -49,18 +51,22 @@ is_said tables (said.ConflictCommit number) = is_u64 number
 is_said tables said.Exists = true
 is_said tables said.Missing = true
 is_said tables said.Full = true
-is_said tables (said.Freezing table block stamp) = is_table_place tables table && is_u32 block && is_u32 stamp
+is_said tables (said.Freezing table block stamp) = is_table_place tables table && is_u32 block
+    && is_u32 stamp
 is_said tables (said.Committed None) = true
 is_said tables (said.Committed (Some number)) = is_u64 number
 is_said tables said.Aborted = true
 is_said tables (said.Cooling count) = is_u64 count
 is_said tables (said.Pruned count) = is_u64 count
 is_said tables (said.Moved count) = is_u64 count
-is_said tables (said.Sealed table block stamp) = is_table_place tables table && is_u32 block && is_u32 stamp
+is_said tables (said.Sealed table block stamp) = is_table_place tables table && is_u32 block
+    && is_u32 stamp
 is_said tables (said.NotSealed cause) = true
-is_said tables (said.Frozen table block rows) = is_table_place tables table && is_u32 block && is_u32 rows
+is_said tables (said.Frozen table block rows) = is_table_place tables table && is_u32 block
+    && is_u32 rows
 is_said tables said.NotFrozen = true
-is_said tables (said.Exported number rows batches frozen) = is_u64 number && is_u64 rows && is_u32 batches && is_u32 frozen
+is_said tables (said.Exported number rows batches frozen) = is_u64 number && is_u64 rows
+    && is_u32 batches && is_u32 frozen
 is_said tables (said.Dirty key) = is_key_number key
 is_said tables said.Memory = true
 
@@ -69,4 +75,5 @@ is_who (Session number) = is_u32 number
 is_who (Worker number) = is_u32 number
 
 abbrev pub is_reply : List TableDecl → ReplyLine → Bool
-is_reply tables reply = is_u32 reply.round && is_who reply.who && is_u64 reply.index && is_said tables reply.said
+is_reply tables reply = is_u32 reply.round && is_who reply.who && is_u64 reply.index
+    && is_said tables reply.said

@@ -1,5 +1,6 @@
 //! Worked examples of replies over tables: each is a fact that the definitions compute.
-ghost use Rattle.reply_text.specs.Examples.{TablesAreJudged, NumbersAreJudged, ReceiversAreJudged, RowsAreJudged, BlocksAreJudged};
+ghost use Rattle.reply_text.specs.Examples.{TablesAreJudged, NumbersAreJudged, ReceiversAreJudged};
+ghost use Rattle.reply_text.specs.Examples.{RowsAreJudged, BlocksAreJudged};
 
 /// No tables and one table are tables; two of one name are not.
 pub fn tables_have_names_of_their_own()

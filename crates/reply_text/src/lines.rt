@@ -47,7 +47,7 @@ fn put_who(out: &mut Vec<u8>, who: Who) -> Result<(), AllocError>
     }
 }
 
-// The lines behind a reply's first: a scan's rows, and none of another reply.
+/// The lines behind a reply's first: a scan's rows, and none of another reply.
 fn put_lines_behind(out: &mut Vec<u8>, said: &Said) -> Result<(), AllocError>
     ensures { OnOk result (out.new.items ≡ out.old.items ++ lines_text (lines_behind said.now)) }
 {
@@ -57,7 +57,7 @@ fn put_lines_behind(out: &mut Vec<u8>, said: &Said) -> Result<(), AllocError>
     }
 }
 
-// The lines of scanned rows.
+/// The lines of scanned rows.
 fn put_rows(out: &mut Vec<u8>, rows: &[Row]) -> Result<(), AllocError>
     ensures { OnOk result (out.new.items ≡ out.old.items ++ lines_text (map row_line rows.now)) }
 {

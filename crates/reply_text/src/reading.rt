@@ -42,7 +42,8 @@ pub fn read_line(
 
 /// The round, whom it answers, the index, and the words behind them.
 pub fn head_in(line: &[u8]) -> Option<(u32, Who, u64, &[u8])>
-    ensures { option_map (λ x. record { round = x.0; who = x.1; index = x.2; words = x.3.now }) result ≡ head_in line.now }
+    ensures { option_map (λ x. record { round = x.0; who = x.1; index = x.2; words = x.3.now })
+        result ≡ head_in line.now }
 {
     let (round, rest) = cut(line, b' ')?;
     let round = natural_within(0, u32::MAX, round)?;

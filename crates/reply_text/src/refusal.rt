@@ -9,7 +9,8 @@ use workload_spec::Cause;
 /// Puts the line of a refusal behind `out`: `refused`, the first line that is none of a workload,
 /// counted from 1, and why.
 pub fn put_refusal(out: &mut Vec<u8>, line: u64, cause: Cause) -> Result<(), AllocError>
-    ensures { OnOk result (out.new.items ≡ out.old.items ++ refused_text (record { line = line; cause = cause })) }
+    ensures { OnOk result (out.new.items ≡ out.old.items
+        ++ refused_text (record { line = line; cause = cause })) }
 {
     out.extend_from_slice(b"refused")?;
     put_number(out, line)?;
@@ -19,7 +20,7 @@ pub fn put_refusal(out: &mut Vec<u8>, line: u64, cause: Cause) -> Result<(), All
     Ok(())
 }
 
-// The name of a cause.
+/// The name of a cause.
 fn cause_word(cause: Cause) -> &'static [u8]
     ensures { result.now ≡ cause_word cause }
 {

@@ -14,7 +14,8 @@ use workload_spec::{Said, SealCause};
 
 /// The words of a reply; those of a scan are its first line's.
 pub fn put_said(out: &mut Vec<u8>, tables: &[TableDecl], said: &Said) -> Result<(), AllocError>
-    ensures { OnOk result (out.new.items ≡ out.old.items ++ behind_spaces (said_words tables.now said.now)) }
+    ensures { OnOk result (out.new.items ≡ out.old.items
+        ++ behind_spaces (said_words tables.now said.now)) }
 {
     match said {
         Said::At(number) => put_with_number(out, b" at ", *number),
@@ -56,7 +57,8 @@ pub fn put_said(out: &mut Vec<u8>, tables: &[TableDecl], said: &Said) -> Result<
 /// The words of a reply to upkeep.
 fn put_upkeep(out: &mut Vec<u8>, tables: &[TableDecl], said: &Said) -> Result<(), AllocError>
     requires { is_upkeep said.now ≡ true }
-    ensures { OnOk result (out.new.items ≡ out.old.items ++ behind_spaces (said_words tables.now said.now)) }
+    ensures { OnOk result (out.new.items ≡ out.old.items
+        ++ behind_spaces (said_words tables.now said.now)) }
 {
     match said {
         Said::Cooling(count) => put_with_number(out, b" cooling ", *count),
@@ -84,17 +86,19 @@ fn put_with_number(out: &mut Vec<u8>, text: &[u8], number: u64) -> Result<(), Al
     put_natural(out, number)
 }
 
-// The words that tell a row that was found.
+/// The words that tell a row that was found.
 fn put_found(out: &mut Vec<u8>, row: &Row) -> Result<(), AllocError>
-    ensures { OnOk result (out.new.items ≡ out.old.items ++ (codes " row" ++ behind_spaces (cell_words row.now))) }
+    ensures { OnOk result (out.new.items ≡ out.old.items
+        ++ (codes " row" ++ behind_spaces (cell_words row.now))) }
 {
     out.extend_from_slice(b" row")?;
     put_cells(out, row.as_slice())
 }
 
-// The words that tell that the transaction wrote the table to be exported, and the least key.
+/// The words that tell that the transaction wrote the table to be exported, and the least key.
 fn put_dirty(out: &mut Vec<u8>, key: i64) -> Result<(), AllocError>
-    ensures { OnOk result (out.new.items ≡ out.old.items ++ (codes " dirty " ++ signed_decimal key)) }
+    ensures { OnOk result (out.new.items ≡ out.old.items
+        ++ (codes " dirty " ++ signed_decimal key)) }
 {
     out.extend_from_slice(b" dirty")?;
     put_key(out, key)
@@ -110,7 +114,9 @@ fn put_block(
     block: u32,
     number: u32,
 ) -> Result<(), AllocError>
-    ensures { OnOk result (out.new.items ≡ out.old.items ++ (words.now ++ behind_spaces (name_of_table tables.now table ∷ decimal block ∷ decimal number ∷ []))) }
+    ensures { OnOk result (out.new.items ≡ out.old.items
+        ++ (words.now ++ behind_spaces
+        (name_of_table tables.now table ∷ decimal block ∷ decimal number ∷ []))) }
 {
     out.extend_from_slice(words)?;
     put_table_name(out, tables, table)?;
@@ -118,7 +124,7 @@ fn put_block(
     put_number(out, number as u64)
 }
 
-// The words that tell the numbers of an export.
+/// The words that tell the numbers of an export.
 fn put_exported(
     out: &mut Vec<u8>,
     number: u64,
@@ -126,7 +132,9 @@ fn put_exported(
     batches: u32,
     frozen: u32,
 ) -> Result<(), AllocError>
-    ensures { OnOk result (out.new.items ≡ out.old.items ++ behind_spaces (codes "export" ∷ decimal number ∷ codes "rows" ∷ decimal rows ∷ codes "batches" ∷ decimal batches ∷ codes "frozen" ∷ decimal frozen ∷ [])) }
+    ensures { OnOk result (out.new.items ≡ out.old.items
+        ++ behind_spaces (codes "export" ∷ decimal number ∷ codes "rows" ∷ decimal rows ∷ codes
+        "batches" ∷ decimal batches ∷ codes "frozen" ∷ decimal frozen ∷ [])) }
 {
     put_with_number(out, b" export ", number)?;
     put_with_number(out, b" rows ", rows)?;
@@ -142,7 +150,7 @@ fn put_with_word(out: &mut Vec<u8>, text: &[u8], word: &[u8]) -> Result<(), Allo
     out.extend_from_slice(word)
 }
 
-// The word of why a block was not sealed.
+/// The word of why a block was not sealed.
 fn cause_text(cause: SealCause) -> &'static [u8]
     ensures { result.now ≡ cause_text cause }
 {

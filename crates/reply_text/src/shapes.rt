@@ -1,6 +1,7 @@
 //! Replies of one line, read from the bytes behind their index.
 ghost use Rattle.std.specs.Prelude.{◌≡◌, ℕ, ◌<◌, ◌^◌, length, option_map, IfOk, IfSome};
-ghost use Rattle.reply_text.specs.Readers.{answer_in, refusal_in, opened_in, counts, places, block_in, exported_in, key_in, table_in, said_in};
+ghost use Rattle.reply_text.specs.Readers.{answer_in, refusal_in, opened_in, counts, places};
+ghost use Rattle.reply_text.specs.Readers.{block_in, exported_in, key_in, table_in, said_in};
 ghost use Rattle.workload_spec.specs.declared.reply.Said.{Said as SaidValue};
 
 use crate::pieces::{behind, cut};
@@ -156,7 +157,8 @@ fn place_in(tables: &[TableDecl], bytes: &[u8]) -> Option<Said>
 /// A table, a block, and the block's stamp or rows.
 fn block_in(tables: &[TableDecl], words: &[u8]) -> Option<(u32, u32, u32)>
     requires { length tables.now < 2 ^ 32 }
-    ensures { (make : ℕ → ℕ → ℕ → SaidValue) → option_map (λ x. make x.0 x.1 x.2) result ≡ block_in tables.now make words.now }
+    ensures { (make : ℕ → ℕ → ℕ → SaidValue) → option_map (λ x. make x.0 x.1 x.2) result
+        ≡ block_in tables.now make words.now }
 {
     let (name, rest) = cut(words, b' ')?;
     let table = table_in(tables, name)?;
@@ -177,7 +179,7 @@ fn table_in(tables: &[TableDecl], name: &[u8]) -> Option<u32>
     }
 }
 
-// The place of the first table of this name in the list.
+/// The place of the first table of this name in the list.
 fn place_of(tables: &[TableDecl], name: &[u8]) -> Option<usize>
     ensures place { result ≡ table_in tables.now name.now }
     ensures below { IfSome result (λ place. place < length tables.now) }

@@ -1,5 +1,6 @@
 -- The front of a round, by how many of its commands each session carried out.
-use Rattle.std.specs.Prelude.{◌≡◌, ℕ, ◌==◌, nat_lt, ◌-◌, true, List, [], ◌∷◌, ◌++◌, filter, take, if◌then◌else◌}
+use Rattle.std.specs.Prelude.{◌≡◌, ℕ, ◌==◌, nat_lt, ◌-◌, true, List, [], ◌∷◌, ◌++◌, filter, take}
+use Rattle.std.specs.Prelude.{if◌then◌else◌}
 use Rattle.outcome_spec.specs.Forms.{commands_of}
 use Rattle.workload_spec.specs.Valid.{is_valid}
 use Rattle.workload_spec.specs.declared.script.Line.{Line}
@@ -32,7 +33,8 @@ first_lines counts (line ∷ lines) =
 
 -- They are the first lines of each session, and ask each session its first so many commands.
 abbrev pub FirstLinesAreSo : Type 0
-FirstLinesAreSo = (counts : ℕ → ℕ) (lines : List Line) → AreFirstLines (first_lines counts lines) lines
+FirstLinesAreSo = (counts : ℕ → ℕ) (lines : List Line)
+    → AreFirstLines (first_lines counts lines) lines
 
 abbrev pub FirstLinesAsk : Type 0
 FirstLinesAsk = (counts : ℕ → ℕ) (lines : List Line) (session : ℕ)
@@ -48,7 +50,8 @@ FirstRoundsAreValid = (script : Script) (first : List Line) (whole rest : List (
     → is_valid (with_rounds (first ∷ whole) script) ≡ true
 
 abbrev pub FrontsAreValid : Type 0
-FrontsAreValid = (script : Script) (counts : ℕ → ℕ) (round : List Line) (whole rest : List (List Line))
+FrontsAreValid = (script : Script) (counts : ℕ → ℕ) (round : List Line)
+    (whole rest : List (List Line))
     → script.rounds ≡ whole ++ round ∷ rest
     → is_valid script ≡ true
     → is_valid (with_rounds (whole ++ first_lines counts round ∷ []) script) ≡ true

@@ -29,52 +29,65 @@ Opens = (shape : Shape) → IsShape shape → Sound shape (opening shape)
 
 -- So is each state that a lawful log reaches.
 abbrev pub Reaches : Type 0
-Reaches = (shape : Shape) (log : List Made) → IsShape shape → IsLawfulLog shape log → Sound shape (replay shape log)
+Reaches = (shape : Shape) (log : List Made) → IsShape shape → IsLawfulLog shape log
+    → Sound shape (replay shape log)
 
--- The machine goes with a log: each command is answered as it may answer, and moves it on, and no other event does.
+-- The machine goes with a log: each command is answered as it may answer, and moves it on, and no
+-- other event does.
 abbrev pub IsAnsweredFrom : Shape → Parts → IsolationMachine → List Made → Type 0
 IsAnsweredFrom shape parts before [] = ⊤
 IsAnsweredFrom shape parts before (made ∷ log) = (next : IsolationMachine)
     × IsStep (command_in made.event) before (reply_after shape parts made) next
     × IsAnsweredFrom shape (after shape parts made) next log
 
--- The replies of a lawful log to its sessions' commands are the machine's, on the log without the other events.
+-- The replies of a lawful log to its sessions' commands are the machine's, on the log without the
+-- other events.
 abbrev pub RepliesAsTheMachine : Type 0
 RepliesAsTheMachine = (shape : Shape) (log : List Made) → IsShape shape → IsLawfulLog shape log
     → IsAnsweredFrom shape (opening shape) machine.opening log
 
 -- ---- refusals of the core's own
 
--- The table has no room for a key that the session did not write: no slot of the head is unused, and no other block is
--- empty.
+-- The table has no room for a key that the session did not write: no slot of the head is unused,
+-- and no other block is empty.
 pub record HasNoRoom (shape : Shape) (parts : Parts) (own : OwnKey) (table : ℕ) : Type 0 where
   pub written : own.written ≡ None
   pub spent : slots_of shape table ≤ (head_at shape parts table).taken
-  pub others : (block : ℕ) → HasBlock shape table block → is_empty (body_at shape parts table block) ≡ true
+  pub others : (block : ℕ) → HasBlock shape table block → is_empty (body_at shape parts table block)
+      ≡ true
       → block ≡ (head_at shape parts table).block
 
 -- An insert that the machine accepts is refused exactly where there is no room.
 abbrev pub FullExactly : Type 0
-FullExactly = (shape : Shape) (parts : Parts) (own : OwnKey) (table : ℕ) (row : Row) (machine : IsolationMachine) (inserts : ℕ)
-    → IsShape shape → Sound shape parts → IsLawful shape (event.Insert own table row) parts → FollowsMachine shape parts machine
+FullExactly = (shape : Shape) (parts : Parts) (own : OwnKey) (table : ℕ) (row : Row)
+    (machine : IsolationMachine) (inserts : ℕ)
+    → IsShape shape → Sound shape parts → IsLawful shape (event.Insert own table row) parts
+    → FollowsMachine shape parts machine
     → (reply_to shape parts (event.Insert own table row) ≡ reply.Refused (fault.Full inserts))
-    ↔ (IsAccepted machine (command_of own.session (act.Insert table row)) × HasNoRoom shape parts own table
+    ↔ (IsAccepted machine (command_of own.session (act.Insert table row))
+    × HasNoRoom shape parts own table
     × (inserts ≡ (head_at shape parts table).inserts))
 
 -- The key's current row lies in a sealed block.
 pub record IsSealedIn (shape : Shape) (parts : Parts) (table : ℕ) (key : ℤ) (block stamp : ℕ) : Type 0 where
   pub place : ℕ
-  pub current : current_place (slot_at shape parts table) (places_at shape parts table key) ≡ Some place
+  pub current : current_place (slot_at shape parts table) (places_at shape parts table key)
+      ≡ Some place
   pub block_is : block ≡ block_of place
   pub sealed : (body_at shape parts table block).phase ≡ Sealed stamp
 
 -- An update or a delete that the machine accepts is refused exactly where its row's body is sealed.
 abbrev pub FreezesExactly : Type 0
-FreezesExactly = (shape : Shape) (parts : Parts) (own : OwnKey) (table : ℕ) (machine : IsolationMachine) (block stamp : ℕ)
+FreezesExactly = (shape : Shape) (parts : Parts) (own : OwnKey) (table : ℕ)
+    (machine : IsolationMachine) (block stamp : ℕ)
     → IsShape shape → Sound shape parts → FollowsMachine shape parts machine
     → ((row : Row) → IsLawful shape (event.Update own table row) parts
-    → (reply_to shape parts (event.Update own table row) ≡ reply.Refused (fault.Freezing block stamp))
-    ↔ (IsAccepted machine (command_of own.session (act.Update table row)) × IsSealedIn shape parts table (key_of row) block stamp))
+    → (reply_to shape parts (event.Update own table row)
+    ≡ reply.Refused (fault.Freezing block stamp))
+    ↔ (IsAccepted machine (command_of own.session (act.Update table row))
+    × IsSealedIn shape parts table (key_of row) block stamp))
     × ((key : ℤ) → IsLawful shape (event.Delete own table key) parts
-    → (reply_to shape parts (event.Delete own table key) ≡ reply.Refused (fault.Freezing block stamp))
-    ↔ (IsAccepted machine (command_of own.session (act.Delete table key)) × IsSealedIn shape parts table key block stamp))
+    → (reply_to shape parts (event.Delete own table key)
+    ≡ reply.Refused (fault.Freezing block stamp))
+    ↔ (IsAccepted machine (command_of own.session (act.Delete table key))
+    × IsSealedIn shape parts table key block stamp))

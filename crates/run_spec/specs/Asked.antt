@@ -1,5 +1,6 @@
 -- The events that a command makes, in order. One table lists them for all commands.
-use Rattle.std.specs.Prelude.{ℕ, ℤ, List, [], ◌∷◌, ◌++◌, map, Option, None, Some, option_and_then, option_to_list, if◌then◌else◌}
+use Rattle.std.specs.Prelude.{ℕ, ℤ, List, [], ◌∷◌, ◌++◌, map, Option, None, Some, option_and_then}
+use Rattle.std.specs.Prelude.{option_to_list, if◌then◌else◌}
 use Rattle.std.specs.List.{filter_map, flat_map}
 use Rattle.std.specs.Option.{option_map_or}
 use Rattle.block_layout.specs.Place.{block_of}
@@ -11,7 +12,8 @@ use Rattle.event_spec.specs.declared.own.OwnTransaction.{OwnTransaction}
 use Rattle.event_spec.specs.declared.reply.Reply.TheVariants as reply
 use Rattle.event_spec.specs.Effects.{CoreEvent}
 use Rattle.event_spec.specs.Judged.{current_place}
-use Rattle.event_spec.specs.Parts.{Parts, Shape, below, blocks_of, body_at, places_at, slot_at, tables_of}
+use Rattle.event_spec.specs.Parts.{Parts, Shape, below, blocks_of, body_at, places_at, slot_at}
+use Rattle.event_spec.specs.Parts.{tables_of}
 use Rattle.event_spec.specs.Plans.{BlockLook, plan_of}
 use Rattle.event_spec.specs.Replies.{CoreReply}
 use Rattle.isolation_spec.specs.Contents.{key_of}

@@ -1,6 +1,7 @@
 -- Worked examples of calls: the events and the lines of commands, and what they are not. Replies
 -- are written as data; what a key's candidates tell is a premise, since an index is not computed.
-use Rattle.std.specs.Prelude.{◌≡◌, ℕ, ◌+◌, ◌^◌, pos, true, false, Bool, List, [], ◌∷◌, ◌++◌, map, take, codes, Option, None, Some}
+use Rattle.std.specs.Prelude.{◌≡◌, ℕ, ◌+◌, ◌^◌, pos, true, false, Bool, List, [], ◌∷◌, ◌++◌, map}
+use Rattle.std.specs.Prelude.{take, codes, Option, None, Some}
 use Rattle.std.specs.List.{range_with_len, zip}
 use Rattle.block_spec.specs.declared.look.MovableRow.{MovableRow}
 use Rattle.block_spec.specs.declared.phase.Phase.TheVariants.{Loose}

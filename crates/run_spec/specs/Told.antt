@@ -1,5 +1,7 @@
 -- The line that is made of the replies to a command's events. One table lists it for all commands.
-use Rattle.std.specs.Prelude.{ℕ, Bool, true, false, List, [], ◌∷◌, count_by, sum_by, fold, length, Option, None, Some, is_none, option_map, option_and_then, if◌then◌else◌}
+use Rattle.std.specs.Prelude.{ℕ, Bool, true, false, List, [], ◌∷◌, count_by, sum_by, fold, length}
+use Rattle.std.specs.Prelude.{Option, None, Some, is_none, option_map, option_and_then}
+use Rattle.std.specs.Prelude.{if◌then◌else◌}
 use Rattle.std.specs.BTreeMap.{insert_entry}
 use Rattle.std.specs.List.{flat_map, last_or}
 use Rattle.block_spec.specs.declared.phase.SealFault.{SealFault}

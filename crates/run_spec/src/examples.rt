@@ -1,6 +1,9 @@
 //! Worked examples of calls: each is a fact that the definitions compute.
 ghost use Rattle.run_spec.specs.RunExamples.{ExportsBesideAWorker};
-ghost use Rattle.run_spec.specs.Examples.{GetsTellTheRow, WritesAreTheTransactions, ChangesThawFirst, OthersDoNot, ScansReadEachBlock, ExportsCountImages, PrunesGoBlockByBlock, CompactionsMoveAllPairs, WorkersTakeTurns};
+ghost use Rattle.run_spec.specs.Examples.{GetsTellTheRow, WritesAreTheTransactions};
+ghost use Rattle.run_spec.specs.Examples.{ChangesThawFirst, OthersDoNot, ScansReadEachBlock};
+ghost use Rattle.run_spec.specs.Examples.{ExportsCountImages, PrunesGoBlockByBlock};
+ghost use Rattle.run_spec.specs.Examples.{CompactionsMoveAllPairs, WorkersTakeTurns};
 
 /// A get is one event, and its line is the row or that there is none.
 pub fn gets_tell_the_row()

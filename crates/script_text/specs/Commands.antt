@@ -10,7 +10,8 @@ use Rattle.workload_spec.specs.declared.script.Cause.{Cause}
 use Rattle.workload_spec.specs.declared.script.Cause.TheVariants as cause
 use Rattle.workload_spec.specs.declared.script.Line.{Line}
 use Rattle.workload_spec.specs.Valid.{is_export}
-use Rattle.workload_spec.specs.Grammar.{◌>>=◌, or_cause, rule, word, no_word, number, key_in, cells_of, form_of, formed}
+use Rattle.workload_spec.specs.Grammar.{◌>>=◌, or_cause, rule, word, no_word, number, key_in}
+use Rattle.workload_spec.specs.Grammar.{cells_of, form_of, formed}
 
 -- the row of a key's cell and of the words of the further columns
 abbrev pub row_read : List Column → Cell → List (List ℕ) → Result (List Cell) Cause
@@ -26,7 +27,8 @@ alone_read command words = no_word cause.Command words >>= λ end. Ok command
 
 -- the command of a first word and those behind it
 abbrev pub command_read : Extent → List TableDecl → List ℕ → List (List ℕ) → Result Command Cause
-command_read extent tables first words = or_cause cause.Command (form_of extent first) >>= λ form. formed tables form words
+command_read extent tables first words = or_cause cause.Command (form_of extent first) >>= λ form.
+    formed tables form words
 
 -- the line of a session and a command
 abbrev pub line_read : Extent → List TableDecl → ℕ → Bool → List (List ℕ) → Result Line Cause

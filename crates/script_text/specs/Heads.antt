@@ -5,7 +5,8 @@ use Rattle.workload_spec.specs.declared.extent.Extent.{Extent}
 use Rattle.workload_spec.specs.declared.script.Cause.TheVariants as cause
 use Rattle.workload_spec.specs.declared.script.Script.{Script}
 use Rattle.workload_spec.specs.Reading.{words_of}
-use Rattle.workload_spec.specs.Grammar.{◌>>=◌, rule, Fault, on_line, next_line, is_table_line, tables_from, rounds_from, sessions_of, workers_of}
+use Rattle.workload_spec.specs.Grammar.{◌>>=◌, rule, Fault, on_line, next_line, is_table_line}
+use Rattle.workload_spec.specs.Grammar.{tables_from, rounds_from, sessions_of, workers_of}
 
 -- the lines behind `store 1`
 abbrev pub version_in : List (List ℕ) → Result (List (List ℕ)) Fault
@@ -52,4 +53,11 @@ script_read extent all = do
   workers ← workers_in extent (behind + 1) sessions.1
   go ← go_in (behind + 2) workers.1
   rounds ← rounds_from extent tables.0 sessions.0 (behind + 3) false go
-  Ok (record { version = 1; tables = tables.0; sessions = sessions.0; workers = workers.0.0; turns = workers.0.1; rounds = rounds })
+  Ok (record {
+    version = 1;
+    tables = tables.0;
+    sessions = sessions.0;
+    workers = workers.0.0;
+    turns = workers.0.1;
+    rounds = rounds;
+  })

@@ -8,4 +8,5 @@ use Rattle.workload_spec.specs.ScriptText.{line_text}
 -- the lines of rounds, each round behind a line `--`
 abbrev pub rounds_behind : List TableDecl → List (List Line) → List ℕ
 rounds_behind tables [] = []
-rounds_behind tables (round ∷ rounds) = codes "--\n" ++ (lines_text (map (line_text tables) round) ++ rounds_behind tables rounds)
+rounds_behind tables (round ∷ rounds) = codes "--\n"
+    ++ (lines_text (map (line_text tables) round) ++ rounds_behind tables rounds)

@@ -7,7 +7,8 @@ use Rattle.workload_spec.specs.declared.script.Cause.{Cause}
 use Rattle.workload_spec.specs.declared.script.Cause.TheVariants as cause
 use Rattle.workload_spec.specs.declared.extent.Extent.{Extent}
 use Rattle.workload_spec.specs.Valid.{most_blocks, least_slots, is_name, is_declared}
-use Rattle.workload_spec.specs.Grammar.{◌>>=◌, rule, word, no_word, keyword, number, key_column, columns_from}
+use Rattle.workload_spec.specs.Grammar.{◌>>=◌, rule, word, no_word, keyword, number, key_column}
+use Rattle.workload_spec.specs.Grammar.{columns_from}
 
 -- `slots` and `blocks` with their numbers, which end a table's line
 abbrev pub limits_of : List Column → List (List ℕ) → Result (ℕ × ℕ) Cause

@@ -7,7 +7,8 @@ use Rattle.script_text.specs.declared.verbs.Verb.{Verb}
 use Rattle.script_text.specs.declared.verbs.Verb.TheVariants as verb
 
 abbrev pub verbs : List Verb
-verbs = verb.Begin ∷ verb.Get ∷ verb.Scan ∷ verb.Insert ∷ verb.Update ∷ verb.Delete ∷ verb.Commit ∷ verb.Abort ∷ verb.Observe ∷ verb.Prune
+verbs = verb.Begin ∷ verb.Get ∷ verb.Scan ∷ verb.Insert ∷ verb.Update ∷ verb.Delete ∷ verb.Commit
+    ∷ verb.Abort ∷ verb.Observe ∷ verb.Prune
     ∷ verb.Compact ∷ verb.Seal ∷ verb.Gather ∷ verb.Export ∷ []
 
 abbrev pub verb_text : Verb → List ℕ

@@ -24,7 +24,8 @@ pub fn row_of<'a>(
     words: &'a [u8],
 ) -> Result<(Row, &'a [u8]), WordFault>
     ensures row { Gives (λ x. x.0) result (row_read columns.now key (words_behind words.now)) }
-    ensures taken { IfOk result (λ x. length x.0 + length (words_behind x.1.now) ≡ length (words_behind words.now) + 1) }
+    ensures taken { IfOk result (λ x. length x.0 + length (words_behind x.1.now)
+        ≡ length (words_behind words.now) + 1) }
 {
     let mut cells = Vec::with_capacity(alloc, columns.len() + 1)?;
     cells.push(key)?;
@@ -63,7 +64,8 @@ fn standing(column: &Column, cell: Cell) -> Result<Cell, WordFault>
     }
 }
 
-/// The value that the word spells for a kind; none where it spells none, or an integer that no kind has.
+/// The value that the word spells for a kind; none where it spells none, or an integer that no kind
+/// has.
 fn value_of(alloc: Global, kind: Kind, word: &[u8]) -> Result<Option<Cell>, AllocError>
     ensures { IfOk result (λ cell. cell ≡ value_spelled kind word.now) }
 {

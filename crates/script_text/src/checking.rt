@@ -13,8 +13,9 @@ use std::alloc::Global;
 use word_read::{part_count, split_line};
 use workload_spec::{Cause, Extent, Script};
 
-/// The workload within the extent before the first line `====`, and the bytes behind that line; else the first line
-/// that is none of a workload, and where there is none that the parting is wanting.
+/// The workload within the extent before the first line `====`, and the bytes behind that line;
+/// else the first line that is none of a workload, and where there is none that the parting is
+/// wanting.
 pub fn parse_checked<'a>(
     alloc: Global,
     extent: &Extent,

@@ -1,9 +1,11 @@
 //! Columns of a table line: `NAME:KIND`, as far as words have a colon.
-ghost use Rattle.std.specs.Prelude.{◌≡◌, ◌≤◌, ◌∷◌, [], false, length, map, take, bytes_eq, IfOk, true};
+ghost use Rattle.std.specs.Prelude.{◌≡◌, ◌≤◌, ◌∷◌, [], false, length, map, take, bytes_eq, IfOk};
+ghost use Rattle.std.specs.Prelude.{true};
 ghost use Rattle.std.specs.List.{list_all, list_any};
 ghost use Rattle.workload_spec.specs.Valid.{is_name, is_name_byte, is_lower_case};
 ghost use Rattle.workload_spec.specs.Extents.{is_extent};
-ghost use Rattle.workload_spec.specs.Grammar.{has_colon, before_colon, after_colon, column_of, columns_from, key_column};
+ghost use Rattle.workload_spec.specs.Grammar.{has_colon, before_colon, after_colon, column_of};
+ghost use Rattle.workload_spec.specs.Grammar.{columns_from, key_column};
 ghost use Rattle.word_read.specs.Cursor.{words_behind};
 ghost use Rattle.script_text.specs.Answers.{Gives};
 
@@ -15,7 +17,8 @@ use std::alloc::{AllocError, Global};
 use word_read::word_behind;
 use workload_spec::{Cause, Extent};
 
-/// Whether the bytes are a name: a lower-case letter, and then at most 31 lower-case letters, digits and underscores.
+/// Whether the bytes are a name: a lower-case letter, and then at most 31 lower-case letters,
+/// digits and underscores.
 pub fn is_name(bytes: &[u8]) -> bool
     ensures { result ≡ is_name bytes.now }
 {
@@ -25,21 +28,21 @@ pub fn is_name(bytes: &[u8]) -> bool
     }
 }
 
-// Whether each of the bytes may stand in a name.
+/// Whether each of the bytes may stand in a name.
 fn are_name_bytes(bytes: &[u8]) -> bool
     ensures { result ≡ list_all is_name_byte bytes.now }
 {
     bytes.iter().all(|byte| is_name_byte(*byte))
 }
 
-// Whether the byte is a lower-case letter, with which a name begins.
+/// Whether the byte is a lower-case letter, with which a name begins.
 fn is_lower_case(byte: u8) -> bool
     ensures { result ≡ is_lower_case byte }
 {
     b'a' <= byte && byte <= b'z'
 }
 
-// Whether the byte may stand in a name behind its first.
+/// Whether the byte may stand in a name behind its first.
 fn is_name_byte(byte: u8) -> bool
     ensures { result ≡ is_name_byte byte }
 {
@@ -65,7 +68,7 @@ fn split_colon(word: &[u8]) -> (&[u8], &[u8])
     }
 }
 
-// Where the word's first colon stands; its length where there is none.
+/// Where the word's first colon stands; its length where there is none.
 fn colon_place(word: &[u8]) -> usize
     ensures within { result ≤ length word.now }
     ensures before { before_colon word.now ≡ take result word.now }
@@ -78,8 +81,8 @@ fn colon_place(word: &[u8]) -> usize
     word.len()
 }
 
-/// A column behind others, which have these names, where there is room for it: a name that none of them has, a colon
-/// and a kind.
+/// A column behind others, which have these names, where there is room for it: a name that none of
+/// them has, a colon and a kind.
 fn column_of(
     alloc: Global,
     extent: &Extent,
@@ -89,7 +92,8 @@ fn column_of(
 ) -> Result<Column, WordFault>
     requires { names.now ≡ map (λ column. column.name) columns.now }
     ensures read { Gives (λ column. column) result (column_of extent.now columns.now word.now) }
-    ensures own { IfOk result (λ column. list_any (λ name. bytes_eq name column.name) names.now ≡ false) }
+    ensures own { IfOk result (λ column. list_any (λ name. bytes_eq name column.name) names.now
+        ≡ false) }
 {
     let (name, kind) = split_colon(word);
     if !is_name(name) {
@@ -111,14 +115,16 @@ fn column_of(
     })
 }
 
-/// The columns of a table, the key's and those of the words that have a colon, and what stands behind the last.
+/// The columns of a table, the key's and those of the words that have a colon, and what stands
+/// behind the last.
 pub fn schema_of<'a>(
     alloc: Global,
     extent: &Extent,
     words: &'a [u8],
 ) -> Result<(Schema, &'a [u8]), WordFault>
     requires { is_extent extent.now ≡ true }
-    ensures { Gives (λ x. (x.0, words_behind x.1.now)) result (columns_from extent.now (key_column ∷ []) (words_behind words.now)) }
+    ensures { Gives (λ x. (x.0, words_behind x.1.now)) result
+        (columns_from extent.now (key_column ∷ []) (words_behind words.now)) }
 {
     let (columns, rest) = columns_of(alloc, extent, words)?;
     match Schema::new(columns) {
@@ -133,7 +139,8 @@ fn columns_of<'a>(
     extent: &Extent,
     words: &'a [u8],
 ) -> Result<(Vec<Column>, &'a [u8]), WordFault>
-    ensures { Gives (λ x. (x.0.items, words_behind x.1.now)) result (columns_from extent.now (key_column ∷ []) (words_behind words.now)) }
+    ensures { Gives (λ x. (x.0.items, words_behind x.1.now)) result
+        (columns_from extent.now (key_column ∷ []) (words_behind words.now)) }
 {
     let mut columns = Vec::new(alloc);
     columns.push(key_column(alloc)?)?;

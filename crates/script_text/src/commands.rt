@@ -1,10 +1,12 @@
 //! The lines of a round: a session and a command.
-ghost use Rattle.std.specs.Prelude.{◌≡◌, ◌==◌, ◌+◌, ◌^◌, ◌<◌, ℕ, ℤ, List, IfOk, length, drop, nat_lt};
+ghost use Rattle.std.specs.Prelude.{◌≡◌, ◌==◌, ◌+◌, ◌^◌, ◌<◌, ℕ, ℤ, List, IfOk, length, drop};
+ghost use Rattle.std.specs.Prelude.{nat_lt};
 ghost use Rattle.cell_model.specs.declared.cell.Cell.{Cell as CellValue};
 ghost use Rattle.workload_spec.specs.declared.command.Command.{Command as CommandValue};
 ghost use Rattle.workload_spec.specs.Reading.{words_of};
 ghost use Rattle.workload_spec.specs.Valid.{is_export, is_block_of};
-ghost use Rattle.workload_spec.specs.Grammar.{table_named, schema_at, formed, line_of, OfTable, OfKey, OfRow, OfBlock};
+ghost use Rattle.workload_spec.specs.Grammar.{table_named, schema_at, formed, line_of, OfTable};
+ghost use Rattle.workload_spec.specs.Grammar.{OfKey, OfRow, OfBlock};
 ghost use Rattle.word_read.specs.Cursor.{words_behind};
 ghost use Rattle.script_text.specs.Commands.{command_read, alone_read, keyed_row};
 ghost use Rattle.script_text.specs.Verbs.{verb_form};
@@ -21,7 +23,8 @@ use std::alloc::Global;
 use word_read::{natural, word_count};
 use workload_spec::{Cause, Command, Extent, Line};
 
-/// The line of a round that the bytes are: one of so many sessions and a command; an export only where none was before.
+/// The line of a round that the bytes are: one of so many sessions and a command; an export only
+/// where none was before.
 pub fn line_of(
     alloc: Global,
     extent: &Extent,
@@ -31,7 +34,8 @@ pub fn line_of(
     line: &[u8],
 ) -> Result<Line, WordFault>
     requires { length tables.now < 2 ^ 32 }
-    ensures { Gives (λ read. read) result (line_of extent.now tables.now sessions exported (words_of line.now)) }
+    ensures { Gives (λ read. read) result
+        (line_of extent.now tables.now sessions exported (words_of line.now)) }
 {
     let (session, rest) = first_number(Cause::Session, 1, sessions, line)?;
     let (first, rest) = next_word(Cause::Command, rest)?;
@@ -59,7 +63,8 @@ fn command_of(
     words: &[u8],
 ) -> Result<Command, WordFault>
     requires { length tables.now < 2 ^ 32 }
-    ensures { Gives (λ command. command) result (command_read extent.now tables.now first.now (words_behind words.now)) }
+    ensures { Gives (λ command. command) result
+        (command_read extent.now tables.now first.now (words_behind words.now)) }
 {
     match verb_of(first) {
         Some(verb) if takes(&extent.commands, verb) => command_by(alloc, tables, verb, words),
@@ -75,7 +80,8 @@ fn command_by(
     words: &[u8],
 ) -> Result<Command, WordFault>
     requires { length tables.now < 2 ^ 32 }
-    ensures { Gives (λ command. command) result (formed tables.now (verb_form verb) (words_behind words.now)) }
+    ensures { Gives (λ command. command) result
+        (formed tables.now (verb_form verb) (words_behind words.now)) }
 {
     match verb {
         Verb::Begin => alone(Command::Begin, words),
@@ -124,7 +130,8 @@ fn alone(command: Command, words: &[u8]) -> Result<Command, WordFault>
 /// The table that the one word names.
 fn table_in(tables: &Declared, words: &[u8]) -> Result<u32, WordFault>
     requires { length tables.now < 2 ^ 32 }
-    ensures { (make : ℕ → CommandValue) → Gives make result (formed tables.now (OfTable make) (words_behind words.now)) }
+    ensures { (make : ℕ → CommandValue)
+        → Gives make result (formed tables.now (OfTable make) (words_behind words.now)) }
 {
     let (name, rest) = next_word(Cause::Command, words)?;
     no_word(Cause::Command, rest)?;
@@ -134,7 +141,9 @@ fn table_in(tables: &Declared, words: &[u8]) -> Result<u32, WordFault>
 /// The table and the key that the two words name.
 fn key_in(tables: &Declared, words: &[u8]) -> Result<(u32, i64), WordFault>
     requires { length tables.now < 2 ^ 32 }
-    ensures { (make : ℕ → ℤ → CommandValue) → Gives (λ x. make x.0 x.1) result (formed tables.now (OfKey make) (words_behind words.now)) }
+    ensures { (make : ℕ → ℤ → CommandValue)
+        → Gives (λ x. make x.0 x.1) result
+        (formed tables.now (OfKey make) (words_behind words.now)) }
 {
     let (name, rest) = next_word(Cause::Command, words)?;
     let (key_word, rest) = next_word(Cause::Command, rest)?;
@@ -147,7 +156,9 @@ fn key_in(tables: &Declared, words: &[u8]) -> Result<(u32, i64), WordFault>
 /// The table that the first word names, and the row of the others.
 fn row_in(alloc: Global, tables: &Declared, words: &[u8]) -> Result<(u32, Row), WordFault>
     requires { length tables.now < 2 ^ 32 }
-    ensures { (make : ℕ → List CellValue → CommandValue) → Gives (λ x. make x.0 x.1) result (formed tables.now (OfRow make) (words_behind words.now)) }
+    ensures { (make : ℕ → List CellValue → CommandValue)
+        → Gives (λ x. make x.0 x.1) result
+        (formed tables.now (OfRow make) (words_behind words.now)) }
 {
     let (name, rest) = next_word(Cause::Command, words)?;
     let (key_word, rest) = next_word(Cause::Command, rest)?;
@@ -169,8 +180,10 @@ fn keyed_row<'a>(
     columns: &[Column],
     words: &'a [u8],
 ) -> Result<(Row, &'a [u8]), WordFault>
-    ensures row { Gives (λ x. x.0) result (keyed_row columns.now key_word.now (words_behind words.now)) }
-    ensures taken { IfOk result (λ x. length x.0 + length (words_behind x.1.now) ≡ length (words_behind words.now) + 1) }
+    ensures row { Gives (λ x. x.0) result
+        (keyed_row columns.now key_word.now (words_behind words.now)) }
+    ensures taken { IfOk result (λ x. length x.0 + length (words_behind x.1.now)
+        ≡ length (words_behind words.now) + 1) }
 {
     let key = key(key_word)?;
     row_of(alloc, Cell::Num(key as i128), columns, words)
@@ -179,7 +192,8 @@ fn keyed_row<'a>(
 /// Whether there is a word for each column but the first. A row that was read tells it, so that the
 /// words are counted only where something is wrong.
 fn are_as_many(columns: &[Column], read: &Result<(Row, &[u8]), WordFault>, words: &[u8]) -> bool
-    requires { IfOk read.now (λ x. length x.0 + length (words_behind x.1.now) ≡ length (words_behind words.now) + 1) }
+    requires { IfOk read.now (λ x. length x.0 + length (words_behind x.1.now)
+        ≡ length (words_behind words.now) + 1) }
     ensures { result ≡ (length columns.now == length (words_behind words.now) + 1) }
 {
     match read {
@@ -191,7 +205,9 @@ fn are_as_many(columns: &[Column], read: &Result<(Row, &[u8]), WordFault>, words
 /// The table and the block that the two words name.
 fn block_in(tables: &Declared, words: &[u8]) -> Result<(u32, u32), WordFault>
     requires { length tables.now < 2 ^ 32 }
-    ensures { (make : ℕ → ℕ → CommandValue) → Gives (λ x. make x.0 x.1) result (formed tables.now (OfBlock make) (words_behind words.now)) }
+    ensures { (make : ℕ → ℕ → CommandValue)
+        → Gives (λ x. make x.0 x.1) result
+        (formed tables.now (OfBlock make) (words_behind words.now)) }
 {
     let (name, rest) = next_word(Cause::Command, words)?;
     let (block_word, rest) = next_word(Cause::Command, rest)?;

@@ -1,5 +1,6 @@
 //! The tables that a workload has declared so far.
-ghost use Rattle.std.specs.Prelude.{◌≡◌, ◌<◌, ◌∷◌, ◌++◌, [], false, length, position, bytes_eq, slice_get, IfSome, IfOk};
+ghost use Rattle.std.specs.Prelude.{◌≡◌, ◌<◌, ◌∷◌, ◌++◌, [], false, length, position, bytes_eq};
+ghost use Rattle.std.specs.Prelude.{slice_get, IfSome, IfOk};
 ghost use Rattle.std.specs.Option.{option_copied};
 ghost use Rattle.workload_spec.specs.Valid.{is_declared};
 

@@ -21,7 +21,7 @@ impl From<AllocError> for ScriptFault {
 
     ghost from_gives = { λ a e. e ≡ fault.Memory a };
 
-    // Refused memory, which `?` hands on.
+    /// Refused memory, which `?` hands on.
     fn from(refused: AllocError) -> ScriptFault {
         ScriptFault::Memory(refused)
     }
@@ -33,7 +33,7 @@ impl<T: Drop> From<AllocFailed<T>> for ScriptFault {
 
     ghost from_gives = { λ _ e. e ≡ fault.Memory alloc_error };
 
-    // Refused memory of a call that gives its value back, which is dropped here.
+    /// Refused memory of a call that gives its value back, which is dropped here.
     fn from(_refused: AllocFailed<T>) -> ScriptFault {
         ScriptFault::Memory(AllocError)
     }
@@ -63,7 +63,7 @@ impl From<Cause> for WordFault {
 
     ghost from_gives = { λ cause e. e ≡ fault.Bad cause };
 
-    // A fault of the words, which `?` hands on.
+    /// A fault of the words, which `?` hands on.
     fn from(cause: Cause) -> WordFault {
         WordFault::Bad(cause)
     }
@@ -74,7 +74,7 @@ impl From<AllocError> for WordFault {
 
     ghost from_gives = { λ a e. e ≡ fault.Memory a };
 
-    // Refused memory, which `?` hands on.
+    /// Refused memory, which `?` hands on.
     fn from(refused: AllocError) -> WordFault {
         WordFault::Memory(refused)
     }
@@ -86,7 +86,7 @@ impl<T: Drop> From<AllocFailed<T>> for WordFault {
 
     ghost from_gives = { λ _ e. e ≡ fault.Memory alloc_error };
 
-    // Refused memory of a call that gives its value back, which is dropped here.
+    /// Refused memory of a call that gives its value back, which is dropped here.
     fn from(_refused: AllocFailed<T>) -> WordFault {
         WordFault::Memory(AllocError)
     }

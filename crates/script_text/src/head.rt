@@ -19,7 +19,8 @@ pub fn sessions_of(extent: &Extent, line: &[u8]) -> Result<u32, WordFault>
     Ok(sessions)
 }
 
-/// How many workers the line declares and how many turns each makes in a round, at most as many as the extent has.
+/// How many workers the line declares and how many turns each makes in a round, at most as many as
+/// the extent has.
 pub fn workers_of(extent: &Extent, line: &[u8]) -> Result<(u32, u32), WordFault>
     ensures { Gives (λ x. (x.0, x.1)) result (workers_of extent.now (words_of line.now)) }
 {

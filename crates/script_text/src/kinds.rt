@@ -18,7 +18,7 @@ pub fn kind_of(word: &[u8]) -> Option<(Kind, bool)>
     }
 }
 
-// The kind of which the word is the name, if there is one.
+/// The kind of which the word is the name, if there is one.
 fn plain_kind(word: &[u8]) -> Option<Kind>
     ensures { result ≡ find (λ kind. bytes_eq (kind_text kind) word.now) kinds }
 {
@@ -49,7 +49,7 @@ fn plain_kind(word: &[u8]) -> Option<Kind>
     }
 }
 
-// The kind of which the word is the name with a question mark behind it, if there is one.
+/// The kind of which the word is the name with a question mark behind it, if there is one.
 fn nullable_kind(word: &[u8]) -> Option<Kind>
     ensures { result ≡ find (λ kind. bytes_eq (kind_text kind ++ codes "?") word.now) kinds }
 {

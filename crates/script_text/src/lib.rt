@@ -1,5 +1,5 @@
-//! The text of workloads: the script that bytes are, or the first line that is none of a workload and why, and the
-//! one text of a script.
+//! The text of workloads: the script that bytes are, or the first line that is none of a workload
+//! and why, and the one text of a script.
 #![tactic(auto)]
 
 mod cells;

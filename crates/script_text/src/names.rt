@@ -1,5 +1,6 @@
 //! Names in the order in which they were declared, found by their hash.
-ghost use Rattle.std.specs.Prelude.{◌≡◌, ◌<◌, ◌∷◌, ◌++◌, [], false, length, position, bytes_eq, IfSome, OnOk};
+ghost use Rattle.std.specs.Prelude.{◌≡◌, ◌<◌, ◌∷◌, ◌++◌, [], false, length, position, bytes_eq};
+ghost use Rattle.std.specs.Prelude.{IfSome, OnOk};
 ghost use Rattle.std.specs.List.{list_any};
 
 use indexmap::IndexSet;

@@ -12,7 +12,8 @@ use workload_spec::Cause;
 
 /// A number between two, both counted, as the next word; what stands behind it too.
 pub fn number(cause: Cause, low: u32, high: u32, words: &[u8]) -> Result<(u32, &[u8]), WordFault>
-    ensures { Gives (λ x. (x.0, words_behind x.1.now)) result (number cause low high (words_behind words.now)) }
+    ensures { Gives (λ x. (x.0, words_behind x.1.now)) result
+        (number cause low high (words_behind words.now)) }
 {
     let (word, rest) = next_word(cause, words)?;
     match natural_within(low, high, word) {
@@ -28,7 +29,8 @@ pub fn first_number(
     high: u32,
     line: &[u8],
 ) -> Result<(u32, &[u8]), WordFault>
-    ensures { Gives (λ x. (x.0, words_behind x.1.now)) result (number cause low high (words_of line.now)) }
+    ensures { Gives (λ x. (x.0, words_behind x.1.now)) result
+        (number cause low high (words_of line.now)) }
 {
     let (word, rest) = split_word(line);
     match natural_within(low, high, word) {

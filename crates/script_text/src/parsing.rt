@@ -17,8 +17,9 @@ use std::alloc::Global;
 use word_read::split_line;
 use workload_spec::{Cause, Extent, Rounds, Script};
 
-/// The workload within the extent that the bytes are, or the first line that is none of one, counted from 1, with the
-/// cause of the first word or rule on it that fails. An extent has room for a column, and no more than the whole format.
+/// The workload within the extent that the bytes are, or the first line that is none of one,
+/// counted from 1, with the cause of the first word or rule on it that fails. An extent has room
+/// for a column, and no more than the whole format.
 pub fn parse(alloc: Global, extent: &Extent, bytes: &[u8]) -> Result<Script, ScriptFault>
     requires { is_extent extent.now ≡ true }
     ensures { LineGives (λ script. script) result (read_with extent.now bytes.now) }
@@ -42,7 +43,8 @@ pub fn parse(alloc: Global, extent: &Extent, bytes: &[u8]) -> Result<Script, Scr
 
 /// What stands behind the line `store 1`.
 fn behind_version(bytes: &[u8]) -> Result<&[u8], ScriptFault>
-    ensures { LineGives (λ rest. parts line_feed rest.now) result (version_in (parts line_feed bytes.now)) }
+    ensures { LineGives (λ rest. parts line_feed rest.now) result
+        (version_in (parts line_feed bytes.now)) }
 {
     let (line, rest) = next_line(1, Cause::Version, bytes)?;
     if line == b"store 1".as_slice() {
@@ -62,7 +64,8 @@ fn tables_of<'a>(
     bytes: &'a [u8],
 ) -> Result<(Declared, &'a [u8]), ScriptFault>
     requires { is_extent extent.now ≡ true }
-    ensures read { LineGives (λ x. (x.0, parts line_feed x.1.now)) result (tables_in extent.now (parts line_feed bytes.now)) }
+    ensures read { LineGives (λ x. (x.0, parts line_feed x.1.now)) result
+        (tables_in extent.now (parts line_feed bytes.now)) }
     ensures few { IfOk result (λ x. length x.0 < 2 ^ 31) }
 {
     let (first, _) = next_line(2, Cause::Table, bytes)?;
@@ -82,7 +85,8 @@ fn further_tables<'a>(
     bytes: &'a [u8],
 ) -> Result<(Declared, &'a [u8]), ScriptFault>
     requires { is_extent extent.now ≡ true }
-    ensures read { LineGives (λ x. (x.0, parts line_feed x.1.now)) result (tables_from extent.now 2 [] (parts line_feed bytes.now)) }
+    ensures read { LineGives (λ x. (x.0, parts line_feed x.1.now)) result
+        (tables_from extent.now 2 [] (parts line_feed bytes.now)) }
     ensures few { IfOk result (λ x. length x.0 < 2 ^ 31) }
 {
     let mut tables = Declared::new(alloc);
@@ -113,7 +117,8 @@ fn sessions_in<'a>(
     at: u64,
     bytes: &'a [u8],
 ) -> Result<(u32, &'a [u8]), ScriptFault>
-    ensures { LineGives (λ x. (x.0, parts line_feed x.1.now)) result (sessions_in extent.now at (parts line_feed bytes.now)) }
+    ensures { LineGives (λ x. (x.0, parts line_feed x.1.now)) result
+        (sessions_in extent.now at (parts line_feed bytes.now)) }
 {
     let (line, rest) = next_line(at, Cause::Sessions, bytes)?;
     match sessions_of(extent, line) {
@@ -128,7 +133,8 @@ fn workers_in<'a>(
     at: u64,
     bytes: &'a [u8],
 ) -> Result<((u32, u32), &'a [u8]), ScriptFault>
-    ensures { LineGives (λ x. ((x.0.0, x.0.1), parts line_feed x.1.now)) result (workers_in extent.now at (parts line_feed bytes.now)) }
+    ensures { LineGives (λ x. ((x.0.0, x.0.1), parts line_feed x.1.now)) result
+        (workers_in extent.now at (parts line_feed bytes.now)) }
 {
     let (line, rest) = next_line(at, Cause::Workers, bytes)?;
     match workers_of(extent, line) {
@@ -139,7 +145,8 @@ fn workers_in<'a>(
 
 /// What stands behind the line `go`.
 fn behind_go(at: u64, bytes: &[u8]) -> Result<&[u8], ScriptFault>
-    ensures { LineGives (λ rest. parts line_feed rest.now) result (go_in at (parts line_feed bytes.now)) }
+    ensures { LineGives (λ rest. parts line_feed rest.now) result
+        (go_in at (parts line_feed bytes.now)) }
 {
     let (line, rest) = next_line(at, Cause::Go, bytes)?;
     if line == b"go".as_slice() {

@@ -2,7 +2,9 @@
 ghost use Rattle.std.specs.Prelude.{◌≡◌, ◌++◌, ◌∷◌, [], codes, decimal, map, OnOk, IfOk};
 ghost use Rattle.std.specs.Fmt.{signed_decimal};
 ghost use Rattle.workload_spec.specs.Words.{cell_words, spaced, lines_text};
-ghost use Rattle.workload_spec.specs.ScriptText.{column_text, table_text, name_of_table, command_words, line_text, round_lines, script_text};
+ghost use Rattle.workload_spec.specs.ScriptText.{column_text, table_text, name_of_table};
+ghost use Rattle.workload_spec.specs.ScriptText.{command_words, line_text, round_lines};
+ghost use Rattle.workload_spec.specs.ScriptText.{script_text};
 ghost use Rattle.script_text.specs.Rounds.{rounds_behind};
 ghost use Rattle.word_text.specs.Words.{behind_spaces};
 
@@ -11,20 +13,21 @@ use std::alloc::{AllocError, Global};
 use word_text::{kind_text, put_cells, put_key, put_natural, put_number, put_table_name, put_word};
 use workload_spec::{Command, Line, Round, Script};
 
-// The words of a command on a table.
+/// The words of a command on a table.
 fn put_of_table(
     out: &mut Vec<u8>,
     command: &[u8],
     tables: &[TableDecl],
     table: u32,
 ) -> Result<(), AllocError>
-    ensures { OnOk result (out.new.items ≡ out.old.items ++ behind_spaces (command.now ∷ name_of_table tables.now table ∷ [])) }
+    ensures { OnOk result (out.new.items ≡ out.old.items
+        ++ behind_spaces (command.now ∷ name_of_table tables.now table ∷ [])) }
 {
     put_word(out, command)?;
     put_table_name(out, tables, table)
 }
 
-// The words of a command on a key of a table.
+/// The words of a command on a key of a table.
 fn put_of_key(
     out: &mut Vec<u8>,
     command: &[u8],
@@ -32,14 +35,15 @@ fn put_of_key(
     table: u32,
     key: i64,
 ) -> Result<(), AllocError>
-    ensures { OnOk result (out.new.items ≡ out.old.items ++ behind_spaces (command.now ∷ name_of_table tables.now table ∷ signed_decimal key ∷ [])) }
+    ensures { OnOk result (out.new.items ≡ out.old.items
+        ++ behind_spaces (command.now ∷ name_of_table tables.now table ∷ signed_decimal key ∷ [])) }
 {
     put_word(out, command)?;
     put_table_name(out, tables, table)?;
     put_key(out, key)
 }
 
-// The words of a command on a row of a table.
+/// The words of a command on a row of a table.
 fn put_of_row(
     out: &mut Vec<u8>,
     command: &[u8],
@@ -47,14 +51,15 @@ fn put_of_row(
     table: u32,
     row: &Row,
 ) -> Result<(), AllocError>
-    ensures { OnOk result (out.new.items ≡ out.old.items ++ behind_spaces (command.now ∷ name_of_table tables.now table ∷ cell_words row.now)) }
+    ensures { OnOk result (out.new.items ≡ out.old.items
+        ++ behind_spaces (command.now ∷ name_of_table tables.now table ∷ cell_words row.now)) }
 {
     put_word(out, command)?;
     put_table_name(out, tables, table)?;
     put_cells(out, row.as_slice())
 }
 
-// The words of a command on a block of a table.
+/// The words of a command on a block of a table.
 fn put_of_block(
     out: &mut Vec<u8>,
     command: &[u8],
@@ -62,7 +67,8 @@ fn put_of_block(
     table: u32,
     block: u32,
 ) -> Result<(), AllocError>
-    ensures { OnOk result (out.new.items ≡ out.old.items ++ behind_spaces (command.now ∷ name_of_table tables.now table ∷ decimal block ∷ [])) }
+    ensures { OnOk result (out.new.items ≡ out.old.items
+        ++ behind_spaces (command.now ∷ name_of_table tables.now table ∷ decimal block ∷ [])) }
 {
     put_word(out, command)?;
     put_table_name(out, tables, table)?;
@@ -71,7 +77,8 @@ fn put_of_block(
 
 /// The words of a command, each behind a space.
 fn put_command(out: &mut Vec<u8>, tables: &[TableDecl], command: &Command) -> Result<(), AllocError>
-    ensures { OnOk result (out.new.items ≡ out.old.items ++ behind_spaces (command_words tables.now command.now)) }
+    ensures { OnOk result (out.new.items ≡ out.old.items
+        ++ behind_spaces (command_words tables.now command.now)) }
 {
     match command {
         Command::Begin => put_word(out, b"begin"),
@@ -91,9 +98,10 @@ fn put_command(out: &mut Vec<u8>, tables: &[TableDecl], command: &Command) -> Re
     }
 }
 
-// The line of a session's command.
+/// The line of a session's command.
 fn put_line(out: &mut Vec<u8>, tables: &[TableDecl], line: &Line) -> Result<(), AllocError>
-    ensures { OnOk result (out.new.items ≡ out.old.items ++ (line_text tables.now line.now ++ 10 ∷ [])) }
+    ensures { OnOk result (out.new.items ≡ out.old.items
+        ++ (line_text tables.now line.now ++ 10 ∷ [])) }
 {
     put_natural(out, line.session as u64)?;
     put_command(out, tables, &line.command)?;
@@ -101,9 +109,10 @@ fn put_line(out: &mut Vec<u8>, tables: &[TableDecl], line: &Line) -> Result<(), 
     Ok(())
 }
 
-// The lines of a round's commands.
+/// The lines of a round's commands.
 fn put_lines(out: &mut Vec<u8>, tables: &[TableDecl], lines: &[Line]) -> Result<(), AllocError>
-    ensures { OnOk result (out.new.items ≡ out.old.items ++ lines_text (map (line_text tables.now) lines.now)) }
+    ensures { OnOk result (out.new.items ≡ out.old.items
+        ++ lines_text (map (line_text tables.now) lines.now)) }
 {
     for line in lines {
         put_line(out, tables, line)?;
@@ -113,7 +122,8 @@ fn put_lines(out: &mut Vec<u8>, tables: &[TableDecl], lines: &[Line]) -> Result<
 
 /// The lines of rounds, a line `--` between each two.
 fn put_rounds(out: &mut Vec<u8>, tables: &[TableDecl], rounds: &[Round]) -> Result<(), AllocError>
-    ensures { OnOk result (out.new.items ≡ out.old.items ++ lines_text (round_lines tables.now rounds.now)) }
+    ensures { OnOk result (out.new.items ≡ out.old.items
+        ++ lines_text (round_lines tables.now rounds.now)) }
 {
     match rounds {
         [] => Ok(()),
@@ -139,7 +149,7 @@ fn put_further_rounds(
     Ok(())
 }
 
-// A column as a word: its name, a colon and its kind.
+/// A column as a word: its name, a colon and its kind.
 fn put_column(out: &mut Vec<u8>, column: &Column) -> Result<(), AllocError>
     ensures { OnOk result (out.new.items ≡ out.old.items ++ column_text column.now) }
 {
@@ -154,7 +164,8 @@ fn put_column(out: &mut Vec<u8>, column: &Column) -> Result<(), AllocError>
 
 /// The columns, each behind a space.
 fn put_columns(out: &mut Vec<u8>, columns: &[Column]) -> Result<(), AllocError>
-    ensures { OnOk result (out.new.items ≡ out.old.items ++ behind_spaces (map column_text columns.now)) }
+    ensures { OnOk result (out.new.items ≡ out.old.items
+        ++ behind_spaces (map column_text columns.now)) }
 {
     for column in columns {
         out.push(b' ')?;
@@ -163,7 +174,7 @@ fn put_columns(out: &mut Vec<u8>, columns: &[Column]) -> Result<(), AllocError>
     Ok(())
 }
 
-// The line of a table.
+/// The line of a table.
 fn put_table(out: &mut Vec<u8>, table: &TableDecl) -> Result<(), AllocError>
     ensures { OnOk result (out.new.items ≡ out.old.items ++ (table_text table.now ++ 10 ∷ [])) }
 {
@@ -175,9 +186,10 @@ fn put_table(out: &mut Vec<u8>, table: &TableDecl) -> Result<(), AllocError>
     Ok(())
 }
 
-// The words that bound a table: the slots of a block, and its blocks.
+/// The words that bound a table: the slots of a block, and its blocks.
 fn put_limits(out: &mut Vec<u8>, slots: u32, blocks: u32) -> Result<(), AllocError>
-    ensures { OnOk result (out.new.items ≡ out.old.items ++ behind_spaces (codes "slots" ∷ decimal slots ∷ codes "blocks" ∷ decimal blocks ∷ [])) }
+    ensures { OnOk result (out.new.items ≡ out.old.items
+        ++ behind_spaces (codes "slots" ∷ decimal slots ∷ codes "blocks" ∷ decimal blocks ∷ [])) }
 {
     put_word(out, b"slots")?;
     put_number(out, slots as u64)?;
@@ -185,9 +197,10 @@ fn put_limits(out: &mut Vec<u8>, slots: u32, blocks: u32) -> Result<(), AllocErr
     put_number(out, blocks as u64)
 }
 
-// The lines of the tables.
+/// The lines of the tables.
 fn put_tables(out: &mut Vec<u8>, tables: &[TableDecl]) -> Result<(), AllocError>
-    ensures { OnOk result (out.new.items ≡ out.old.items ++ lines_text (map table_text tables.now)) }
+    ensures { OnOk result (out.new.items ≡ out.old.items
+        ++ lines_text (map table_text tables.now)) }
 {
     for table in tables {
         put_table(out, table)?;
@@ -197,7 +210,8 @@ fn put_tables(out: &mut Vec<u8>, tables: &[TableDecl]) -> Result<(), AllocError>
 
 /// A line of a word and a number.
 fn put_count(out: &mut Vec<u8>, word: &[u8], count: u32) -> Result<(), AllocError>
-    ensures { OnOk result (out.new.items ≡ out.old.items ++ (spaced (word.now ∷ decimal count ∷ []) ++ 10 ∷ [])) }
+    ensures { OnOk result (out.new.items ≡ out.old.items
+        ++ (spaced (word.now ∷ decimal count ∷ []) ++ 10 ∷ [])) }
 {
     out.extend_from_slice(word)?;
     put_number(out, count as u64)?;
@@ -205,9 +219,10 @@ fn put_count(out: &mut Vec<u8>, word: &[u8], count: u32) -> Result<(), AllocErro
     Ok(())
 }
 
-// The line of the workers, with the turns of each in a round.
+/// The line of the workers, with the turns of each in a round.
 fn put_workers(out: &mut Vec<u8>, workers: u32, turns: u32) -> Result<(), AllocError>
-    ensures { OnOk result (out.new.items ≡ out.old.items ++ (spaced (codes "workers" ∷ decimal workers ∷ decimal turns ∷ []) ++ 10 ∷ [])) }
+    ensures { OnOk result (out.new.items ≡ out.old.items
+        ++ (spaced (codes "workers" ∷ decimal workers ∷ decimal turns ∷ []) ++ 10 ∷ [])) }
 {
     out.extend_from_slice(b"workers")?;
     put_number(out, workers as u64)?;

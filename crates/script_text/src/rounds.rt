@@ -23,7 +23,8 @@ pub fn rounds_of(
 ) -> Result<Vec<Round>, ScriptFault>
     requires few { length tables.now < 2 ^ 32 }
     requires early { first < 2 ^ 32 }
-    ensures { LineGives (λ rounds. rounds.items) result (rounds_from extent.now tables.now sessions first false (parts line_feed bytes.now)) }
+    ensures { LineGives (λ rounds. rounds.items) result
+        (rounds_from extent.now tables.now sessions first false (parts line_feed bytes.now)) }
 {
     let mut rounds = Vec::new(alloc);
     let mut lines = Vec::new(alloc);

@@ -39,7 +39,8 @@ pub fn table_of(
     line: &[u8],
 ) -> Result<TableDecl, WordFault>
     requires { is_extent extent.now ≡ true }
-    ensures read { Gives (λ table. table) result (table_of extent.now tables.now (words_of line.now)) }
+    ensures read { Gives (λ table. table) result
+        (table_of extent.now tables.now (words_of line.now)) }
     ensures own { IfOk result (λ table. is_declared table.name tables.now ≡ false) }
 {
     let rest = first_keyword(Cause::Table, b"table", line)?;

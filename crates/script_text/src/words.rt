@@ -8,9 +8,11 @@ use crate::fault::WordFault;
 use word_read::{split_word, word_behind};
 use workload_spec::Cause;
 
-/// The next of the words that stand behind a word, where one is to be there, and what stands behind it.
+/// The next of the words that stand behind a word, where one is to be there, and what stands behind
+/// it.
 pub fn next_word(cause: Cause, words: &[u8]) -> Result<(&[u8], &[u8]), WordFault>
-    ensures { Gives (λ x. (x.0.now, words_behind x.1.now)) result (word cause (words_behind words.now)) }
+    ensures { Gives (λ x. (x.0.now, words_behind x.1.now)) result
+        (word cause (words_behind words.now)) }
 {
     match word_behind(words) {
         Some((first, rest)) => Ok((first, rest)),
@@ -31,7 +33,8 @@ pub fn no_word(cause: Cause, words: &[u8]) -> Result<(), WordFault>
 
 /// What stands behind the next word, which is this one.
 pub fn keyword<'a>(cause: Cause, text: &[u8], words: &'a [u8]) -> Result<&'a [u8], WordFault>
-    ensures { Gives (λ x. words_behind x.now) result (keyword cause text.now (words_behind words.now)) }
+    ensures { Gives (λ x. words_behind x.now) result
+        (keyword cause text.now (words_behind words.now)) }
 {
     let (first, rest) = next_word(cause, words)?;
     if first == text {

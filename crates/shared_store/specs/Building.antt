@@ -7,7 +7,8 @@ use Rattle.hall_steps.specs.Hall.{IsPass, first_of}
 use Rattle.run_spec.specs.Handed.{own_in}
 use Rattle.store_laws.specs.Logs.{store_meaning}
 use Rattle.shared_store.specs.Making.{parts_seen}
-use Rattle.shared_store.specs.Store.{HandsView, IsSession, SeatView, StoreView, events_made, own_of, seen, shape_in, taken_by}
+use Rattle.shared_store.specs.Store.{HandsView, IsSession, SeatView, StoreView, events_made, own_of}
+use Rattle.shared_store.specs.Store.{seen, shape_in, taken_by}
 use Rattle.shared_store.specs.declared.session.Session.{Session}
 
 -- The first pass, while it has the sessions 1 to `count`: it made no event and took no part, and no

@@ -1,6 +1,7 @@
--- What changing a row asks of a session's pass, and what it tells: where the row's block is imaged it
--- is thawed before the change, on the same parts.
-use Rattle.std.specs.Prelude.{◌≡◌, ℕ, ◌+◌, ◌<◌, ◌^◌, true, false, List, [], ◌∷◌, ◌++◌, Option, None, Some, option_map, length}
+-- What changing a row asks of a session's pass, and what it tells: where the row's block is imaged
+-- it is thawed before the change, on the same parts.
+use Rattle.std.specs.Prelude.{◌≡◌, ℕ, ◌+◌, ◌<◌, ◌^◌, true, false, List, [], ◌∷◌, ◌++◌, Option, None}
+use Rattle.std.specs.Prelude.{Some, option_map, length}
 use Rattle.std.specs.List.{last_or, list_any}
 use Rattle.event_spec.specs.declared.event.Event.TheVariants as event
 use Rattle.event_spec.specs.declared.own.OwnKey.{OwnKey}
@@ -24,7 +25,8 @@ use Rattle.run_spec.specs.Told.{last_told, line_of, refusal_of}
 use Rattle.store_laws.specs.Laws.{IsOfSession}
 use Rattle.store_laws.specs.Logs.{log_of}
 use Rattle.workload_spec.specs.declared.command.Command.{Command}
-use Rattle.shared_store.specs.Store.{EndsWithLast, HandsView, IsAt, IsWithin, SeatView, StoreView, TookPartsOf, shape_in}
+use Rattle.shared_store.specs.Store.{EndsWithLast, HandsView, IsAt, IsWithin, SeatView, StoreView}
+use Rattle.shared_store.specs.Store.{TookPartsOf, shape_in}
 use Rattle.shared_store.specs.Writing.{IsWriteReply}
 
 -- ---- what is asked
@@ -107,7 +109,8 @@ pub record ChangesHeld
   pub taken : new.me.0.taken ≡ old.me.0.taken
 
 abbrev pub ChangesAnyHeld
-    : StoreView → SeatView → HandsView → SeatView → HandsView → Place → CoreEvent → CoreReply → Type 0
+    : StoreView → SeatView → HandsView → SeatView → HandsView → Place → CoreEvent → CoreReply
+    → Type 0
 ChangesAnyHeld store old hands new later place write told =
     (session : ℕ) (own : Option OwnTransaction)
     → IsWithin store session old hands own → IsChangeOf (shape_in store) session own place write
@@ -130,7 +133,8 @@ pub record Changes
       new.me.0.taken
 
 abbrev pub ChangesAny
-    : StoreView → SeatView → HandsView → SeatView → HandsView → Place → CoreEvent → CoreReply → Type 0
+    : StoreView → SeatView → HandsView → SeatView → HandsView → Place → CoreEvent → CoreReply
+    → Type 0
 ChangesAny store old hands new later place write told =
     (session : ℕ) (own : Option OwnTransaction)
     → IsAt store session old hands own → IsChangeOf (shape_in store) session own place write
@@ -149,4 +153,5 @@ pub record IsChangeBy
   pub events : (made : List Occurrence)
       → events_of shape own session command made
       ≡ thaws shape place.table place.key made ++ write ∷ []
-  pub line : (replies : List CoreReply) → line_of own command replies ≡ last_told place.table 0 replies
+  pub line : (replies : List CoreReply) → line_of own command replies
+      ≡ last_told place.table 0 replies

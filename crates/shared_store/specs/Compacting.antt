@@ -1,4 +1,5 @@
--- What a compaction makes: a look at each block of a table, and one move of the rows that these give.
+-- What a compaction makes: a look at each block of a table, and one move of the rows that these
+-- give.
 use Rattle.std.specs.Prelude.{◌≡◌, ℕ, List, [], ◌∷◌, ◌++◌, IfOk, OnOk, Result, Ok, Err, map, sum_by}
 use Rattle.block_spec.specs.Looks.{Look}
 use Rattle.compact_plan.specs.Laws.{IsFitting, IsLookAt}
@@ -85,9 +86,11 @@ pub record PlansMoves
   pub fits : IsFitting (shape_in store) table moves
 
 -- With Err the whole compaction found no memory.
-abbrev pub PlansTable : {E : Type 0} → StoreView → Session → Session → ℕ → Result (List MovePair) E → Type 0
+abbrev pub PlansTable : {E : Type 0} → StoreView → Session → Session → ℕ → Result (List MovePair) E
+    → Type 0
 PlansTable store old new table (Ok moves) = PlansMoves store old new table moves
-PlansTable store old new table (Err memory) = Answers store old new (command.Compact table) said.Memory
+PlansTable store old new table (Err memory) = Answers store old new (command.Compact table)
+    said.Memory
 
 -- the reply that a move's answer is
 abbrev pub move_reply : {E : Type 0} → Result ℕ E → CoreReply

@@ -1,5 +1,5 @@
--- What gathering a block asks of a session's pass, and what it tells: the block's image is made of the
--- parts that the pass holds, and laid into the block by one event.
+-- What gathering a block asks of a session's pass, and what it tells: the block's image is made of
+-- the parts that the pass holds, and laid into the block by one event.
 use Rattle.std.specs.Prelude.{◌≡◌, ℕ, List, [], ◌∷◌, Option, None, Some}
 use Rattle.block_spec.specs.Slots.{Row}
 use Rattle.event_spec.specs.declared.event.Event.TheVariants as event
@@ -16,7 +16,8 @@ use Rattle.store_laws.specs.Laws.{SeesOn}
 use Rattle.store_laws.specs.Logs.{log_of}
 use Rattle.store_laws.specs.Own.{parts_after}
 use Rattle.shared_store.specs.Making.{IsFew, Makes, MakesHeld}
-use Rattle.shared_store.specs.Store.{HandsView, IsAt, IsWithin, SeatView, StoreView, TookPartsOf, shape_in}
+use Rattle.shared_store.specs.Store.{HandsView, IsAt, IsWithin, SeatView, StoreView, TookPartsOf}
+use Rattle.shared_store.specs.Store.{shape_in}
 
 -- the event that lays an image, if there is one, into a block
 abbrev pub imaging : ℕ → ℕ → Option (List Row) → CoreEvent
@@ -73,8 +74,10 @@ ImagedHeld store session old new hands later own table block None = StaysHeld ol
 
 abbrev pub ImagesAnyHeld
     : StoreView → SeatView → HandsView → SeatView → HandsView → ℕ → ℕ → Option CoreReply → Type 0
-ImagesAnyHeld store old hands new later table block told = (session : ℕ) (own : Option OwnTransaction)
-    → IsWithin store session old hands own → ImagedHeld store session old new hands later own table block told
+ImagesAnyHeld store old hands new later table block told = (session : ℕ)
+    (own : Option OwnTransaction)
+    → IsWithin store session old hands own
+    → ImagedHeld store session old new hands later own table block told
 
 -- The session made the event, with the image of the block as it was before.
 pub record Images

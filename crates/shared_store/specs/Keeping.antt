@@ -1,10 +1,12 @@
--- What an event on a block asks of a pass that keeps parts from one block of a table to the next, and
--- what it tells.
-use Rattle.std.specs.Prelude.{◌≡◌, ℕ, ◌%◌, ◌||◌, Bool, true, false, List, Option, None, Some, map, slice_get}
+-- What an event on a block asks of a pass that keeps parts from one block of a table to the next,
+-- and what it tells.
+use Rattle.std.specs.Prelude.{◌≡◌, ℕ, ◌%◌, ◌||◌, Bool, true, false, List, Option, None, Some, map}
+use Rattle.std.specs.Prelude.{slice_get}
 use Rattle.event_spec.specs.declared.own.OwnTransaction.{OwnTransaction}
 use Rattle.event_spec.specs.Effects.{CoreEvent}
 use Rattle.event_spec.specs.Lawful.{HasBlock, Stands}
-use Rattle.event_spec.specs.Parts.{BodyOf, CorePart, HeadOf, Name, ShardOf, Shape, TheDesk, names, same_name}
+use Rattle.event_spec.specs.Parts.{BodyOf, CorePart, HeadOf, Name, ShardOf, Shape, TheDesk, names}
+use Rattle.event_spec.specs.Parts.{same_name}
 use Rattle.event_spec.specs.Replies.{CoreReply}
 use Rattle.event_spec.specs.Touched.{is_shard_in, passes_test, touched}
 use Rattle.hall_rule.specs.Hands.{Holds}
@@ -33,7 +35,8 @@ pub record IsOnBlock (shape : Shape) (common : Name → Bool) (table block : ℕ
 
 -- The parts that pass the test are in the hand, and no others.
 pub record Keeps (shape : Shape) (common : Name → Bool) (hand : List (Option CorePart)) : Type 0 where
-  pub all : (k : ℕ) (name : Name) → slice_get (names shape) k ≡ Some name → common name ≡ true → Holds hand k
+  pub all : (k : ℕ) (name : Name) → slice_get (names shape) k ≡ Some name → common name ≡ true
+      → Holds hand k
   pub only : (k : ℕ) → Holds hand k → passes_test common (slice_get (names shape) k) ≡ true
 
 -- what the events of a pruning, and those of an observation, touch beside a body
@@ -53,7 +56,12 @@ rested_hands hands = map emptied hands
 
 abbrev pub rested_seat : SeatView → SeatView
 rested_seat seat =
-    record seat { me = (record seat.me.0 { stages = map (λ stage. 0) seat.me.0.stages }, seat.me.1) }
+    record seat {
+      me = (
+        record seat.me.0 { stages = map (λ stage. 0) seat.me.0.stages },
+        seat.me.1,
+      );
+    }
 
 abbrev pub rested : Session → Session
 rested s = record {
@@ -71,8 +79,8 @@ pub record IsKeeping (store : StoreView) (common : Name → Bool) (block : ℕ) 
 
 -- ---- taking and giving back
 
--- The event is on the block of this body, and the other parts that it touches are kept, but where all
--- parts are given back before.
+-- The event is on the block of this body, and the other parts that it touches are kept, but where
+-- all parts are given back before.
 pub record MayTakeBeside
     (store : StoreView) (hands : HandsView) (event : CoreEvent) (block body : ℕ)
     : Type 0 where
@@ -84,7 +92,8 @@ pub record MayTakeBeside
   pub keeps : (block % 64 ≡ 0 → ⊥) → Keeps (shape_in store) common (first_of hands)
 
 -- Of whichever session the pass is, it took parts of the event.
-abbrev pub TakesBeside : StoreView → SeatView → HandsView → SeatView → HandsView → CoreEvent → Type 0
+abbrev pub TakesBeside : StoreView → SeatView → HandsView → SeatView → HandsView → CoreEvent
+    → Type 0
 TakesBeside store old hands new later event = (session : ℕ) (own : Option OwnTransaction)
     → IsWithin store session old hands own → Takes store session old new later own event
 
@@ -120,8 +129,8 @@ pub record MayMakeKeeping
   pub fits : FitsEach (shape_in store) event
   pub few : IsFew seat.me.0
 
--- The session made the event and was told the reply, as if it held no part before and behind. It took
--- the event's parts alone, and keeps those that are no body.
+-- The session made the event and was told the reply, as if it held no part before and behind. It
+-- took the event's parts alone, and keeps those that are no body.
 pub record MakesKeeping
     (store : StoreView) (session : ℕ) (old new : SeatView) (later : HandsView)
     (own : Option OwnTransaction) (common : Name → Bool) (event : CoreEvent) (told : CoreReply)
@@ -131,7 +140,8 @@ pub record MakesKeeping
   pub keeps : Keeps (shape_in store) common (first_of later)
 
 abbrev pub MakesAnyKeeping
-    : StoreView → SeatView → HandsView → SeatView → HandsView → ℕ → ℕ → CoreEvent → CoreReply → Type 0
+    : StoreView → SeatView → HandsView → SeatView → HandsView → ℕ → ℕ → CoreEvent → CoreReply
+    → Type 0
 MakesAnyKeeping store old hands new later table block event told =
     (session : ℕ) (own : Option OwnTransaction) (common : Name → Bool)
     → IsWithin store session old hands own → IsOfSession session event

@@ -1,6 +1,7 @@
--- What making an event asks of a session's pass, and what it tells: its parts are taken, the event is
--- made on them, and they are given back.
-use Rattle.std.specs.Prelude.{◌≡◌, ⊤, ℕ, ◌+◌, ◌<◌, ◌≤◌, ◌^◌, [], ◌∷◌, Option, MatchBool, true, length}
+-- What making an event asks of a session's pass, and what it tells: its parts are taken, the event
+-- is made on them, and they are given back.
+use Rattle.std.specs.Prelude.{◌≡◌, ⊤, ℕ, ◌+◌, ◌<◌, ◌≤◌, ◌^◌, [], ◌∷◌, Option, MatchBool, true}
+use Rattle.std.specs.Prelude.{length}
 use Rattle.engine_core.specs.Costs.{cost_of}
 use Rattle.event_spec.specs.declared.own.OwnTransaction.{OwnTransaction}
 use Rattle.event_spec.specs.Effects.{CoreEvent}
@@ -18,7 +19,8 @@ use Rattle.run_spec.specs.Opened.{own_behind}
 use Rattle.store_laws.specs.Laws.{IsOfSession, SeesOn}
 use Rattle.store_laws.specs.Logs.{log_of, store_meaning}
 use Rattle.store_laws.specs.Own.{MakesOne, parts_after}
-use Rattle.shared_store.specs.Store.{HandsView, IsAt, IsWithin, SeatView, StoreView, TookPartsOf, shape_in}
+use Rattle.shared_store.specs.Store.{HandsView, IsAt, IsWithin, SeatView, StoreView, TookPartsOf}
+use Rattle.shared_store.specs.Store.{shape_in}
 
 -- the parts that a view's log leaves
 abbrev pub parts_seen : Shape → View CoreEvent → Parts
@@ -81,7 +83,8 @@ pub record MakesHeld
     (own : Option OwnTransaction) (event : CoreEvent) (told : CoreReply)
     : Type 0 where
   pub within : IsWithin store session new later (own_behind own event told)
-  pub makes : MakesOne (shape_in store) session (log_of old.me.0.log) (log_of new.me.0.log) event told
+  pub makes : MakesOne (shape_in store) session (log_of old.me.0.log) (log_of new.me.0.log) event
+      told
   pub refuses : is_memory told ≡ true → takes_memory event ≡ true
   pub count : length new.me.0.mine ≡ length old.me.0.mine + 1
   pub taken : new.me.0.taken ≡ old.me.0.taken
@@ -136,13 +139,15 @@ pub record MayMake (store : StoreView) (seat : SeatView) (hands : HandsView) (ev
   pub fits : FitsEach (shape_in store) event
   pub few : IsFew seat.me.0
 
--- The session made the event and was told the reply. It took the event's parts alone and holds none.
+-- The session made the event and was told the reply. It took the event's parts alone and holds
+-- none.
 pub record Makes
     (store : StoreView) (session : ℕ) (old new : SeatView) (later : HandsView)
     (own : Option OwnTransaction) (event : CoreEvent) (told : CoreReply)
     : Type 0 where
   pub stands : IsAt store session new later (own_behind own event told)
-  pub makes : MakesOne (shape_in store) session (log_of old.me.0.log) (log_of new.me.0.log) event told
+  pub makes : MakesOne (shape_in store) session (log_of old.me.0.log) (log_of new.me.0.log) event
+      told
   pub refuses : is_memory told ≡ true → takes_memory event ≡ true
   pub count : length new.me.0.mine ≡ length old.me.0.mine + 1
   pub took : TookPartsOf

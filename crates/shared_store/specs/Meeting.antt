@@ -5,7 +5,8 @@ use Rattle.event_spec.specs.Effects.{CoreEvent}
 use Rattle.hall_rule.specs.declared.view.View.{View}
 use Rattle.run_spec.specs.Handed.{GoesOn, own_in}
 use Rattle.store_laws.specs.Laws.{SeesOn}
-use Rattle.shared_store.specs.Store.{HandsView, IsAt, IsSession, SeatView, StoreView, events_made, own_of, seen, shape_in, taken_by}
+use Rattle.shared_store.specs.Store.{HandsView, IsAt, IsSession, SeatView, StoreView, events_made}
+use Rattle.shared_store.specs.Store.{own_of, seen, shape_in, taken_by}
 use Rattle.shared_store.specs.declared.session.Session.{Session}
 
 -- ---- a pass

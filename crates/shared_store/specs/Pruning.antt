@@ -23,7 +23,8 @@ asked_by shape oldest = event.Oldest ∷ at_all_blocks shape (pruning oldest)
 
 -- No live snapshot is below the stamp, as the session has seen.
 abbrev pub KnowsOldest : StoreView → Session → ℕ → Type 0
-KnowsOldest store s oldest = IsOldest (shape_in store) oldest (parts_seen (shape_in store) s.pass.seat.me.0)
+KnowsOldest store s oldest = IsOldest (shape_in store) oldest
+    (parts_seen (shape_in store) s.pass.seat.me.0)
 
 -- This stamp alone was replied, and so many versions were dropped.
 pub record HaveDropped (oldest count : ℕ) (made : List Occurrence) : Type 0 where

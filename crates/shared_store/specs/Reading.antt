@@ -13,7 +13,8 @@ use Rattle.run_spec.specs.Handed.{GoesOn, own_in}
 use Rattle.run_spec.specs.Occurrences.{Occurrence}
 use Rattle.run_spec.specs.Told.{rows_told}
 use Rattle.store_laws.specs.Own.{MakesOne}
-use Rattle.shared_store.specs.Store.{EndsWithLast, IsSession, StoreView, TookPartsOf, events_made, own_of, seen, shape_in, taken_by}
+use Rattle.shared_store.specs.Store.{EndsWithLast, IsSession, StoreView, TookPartsOf, events_made}
+use Rattle.shared_store.specs.Store.{own_of, seen, shape_in, taken_by}
 use Rattle.shared_store.specs.declared.reading.BlockRows.{BlockRows}
 use Rattle.shared_store.specs.declared.reading.BlockRows.TheVariants as block
 use Rattle.shared_store.specs.declared.session.Session.{Session}
@@ -43,7 +44,8 @@ pub record ReadsBlock
   pub session : IsSession store new
   pub same : new.session ≡ old.session
   pub opened : own_of new ≡ own_of old
-  pub makes : MakesOne (shape_in store) old.session (seen old) (seen new) (event.Read own table at) told
+  pub makes : MakesOne (shape_in store) old.session (seen old) (seen new) (event.Read own table at)
+      told
   pub count : events_made new ≡ events_made old + 1
   pub took : TookPartsOf
       (shape_in store)
@@ -55,8 +57,8 @@ pub record ReadsBlock
   pub fits : All (Fits (columns_in (shape_in store) table)) (rows_told told)
   pub few : length (rows_told told) ≤ slots_of (shape_in store) table
 
--- The session made these events, which are among those of a command, one after another, and has open
--- what it had.
+-- The session made these events, which are among those of a command, one after another, and has
+-- open what it had.
 pub record Went
     (store : StoreView) (old new : Session) (events : List CoreEvent) (made : List Occurrence)
     : Type 0 where

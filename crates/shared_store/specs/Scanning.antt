@@ -17,7 +17,8 @@ use Rattle.shared_store.specs.declared.session.Session.{Session}
 
 -- rows of a table, each laid in the place of its key
 abbrev pub laid : ℕ → State → List Row → State
-laid table state rows = fold (λ state row. insert_entry place_cmp state (place_of table row) row) state rows
+laid table state rows = fold (λ state row. insert_entry place_cmp state (place_of table row) row)
+    state rows
 
 -- A block was read, and with Ok its rows were laid.
 pub record ReadsInto

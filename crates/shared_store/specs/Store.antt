@@ -1,5 +1,6 @@
 -- What a store and its sessions are, between two calls.
-use Rattle.std.specs.Prelude.{◌≡◌, ℕ, ◌+◌, ◌<◌, ◌≤◌, ◌^◌, true, false, List, [], ◌∷◌, ◌++◌, All, Option, Some, IfSome, None, length, map, option_map}
+use Rattle.std.specs.Prelude.{◌≡◌, ℕ, ◌+◌, ◌<◌, ◌≤◌, ◌^◌, true, false, List, [], ◌∷◌, ◌++◌, All}
+use Rattle.std.specs.Prelude.{Option, Some, IfSome, None, length, map, option_map}
 use Rattle.std.specs.List.{last_or}
 use Rattle.atomic_table.specs.declared.shared.Seat.{Seat}
 use Rattle.engine_core.specs.Core.{CoreState, IsOpening}

@@ -16,7 +16,8 @@ pub record MakesAlone
   pub session : IsSession store new
   pub same : new.session ≡ old.session
   pub opened : own_of new ≡ own_of old
-  pub makes : Makes store old.session old.pass.seat new.pass.seat new.pass.hands (own_of old) event told
+  pub makes : Makes store old.session old.pass.seat new.pass.seat new.pass.hands (own_of old) event
+      told
 
 -- The session made these events, which are among those that its call asks for. None was refused
 -- memory, and they tell what is to be told.

@@ -6,7 +6,8 @@ use Rattle.event_spec.specs.Replies.{CoreReply}
 use Rattle.isolation_spec.specs.declared.place.Place.{Place}
 use Rattle.isolation_spec.specs.Contents.{PlaceMap, at_place, place_cmp}
 
--- Before a write a row that has no entry yet gets one, so that none is wanting once the write was accepted.
+-- Before a write a row that has no entry yet gets one, so that none is wanting once the write was
+-- accepted.
 abbrev pub roomed : PlaceMap ℕ → Place → Bool → PlaceMap ℕ
 roomed writes place true = writes
 roomed writes place false = insert_entry place_cmp writes place 0

@@ -20,7 +20,7 @@ pub struct Built {
 }
 
 impl Session {
-    // A session with nothing open.
+    /// A session with nothing open.
     fn new(alloc: Global, pass: Pass<Core>, number: u32) -> Result<Session, AllocError>
         ensures { IfOk result (λ s.
             s ≡ record { pass = pass; session = number; snapshot = None; writes = [] }) }
@@ -36,7 +36,7 @@ impl Session {
 }
 
 impl Store {
-    // Gives the greatest session that a pass has a pass of its own.
+    /// Gives the greatest session that a pass has a pass of its own.
     fn open_last(
         &self,
         alloc: Global,
@@ -52,7 +52,7 @@ impl Store {
         Session::new(alloc, last, number)
     }
 
-    // The sessions 1 to `count`, which a pass has.
+    /// The sessions 1 to `count`, which a pass has.
     fn open_all(
         &self,
         alloc: Global,

@@ -26,7 +26,7 @@ use isolation_spec::Place;
 use std::sync::Wait;
 
 impl Store {
-    // The imaged block that a change of a row would change, as the parts that a pass holds tell.
+    /// The imaged block that a change of a row would change, as the parts that a pass holds tell.
     fn imaged_at(&self, pass: &Pass<Core>, place: Place) -> Option<u32>
         requires hand { 0 < length pass.now.hands }
         requires core { IsOfCore (shape_in self.now) (first_of pass.now.hands) }
@@ -38,8 +38,8 @@ impl Store {
         imaged(self.hall.shape(), pass.hand(), place.table, place.key)
     }
 
-    // Changes a row on the parts that a pass holds: its block is thawed where it is imaged, and the
-    // change is made. Where there is no memory for the thaw, nothing is changed.
+    /// Changes a row on the parts that a pass holds: its block is thawed where it is imaged, and
+    /// the change is made. Where there is no memory for the thaw, nothing is changed.
     fn change_held(&self, pass: &mut Pass<Core>, place: Place, event: KeyedEvent) -> CoreReply
         requires { MayChangeHeld self.now pass.old.seat pass.old.hands place event }
         ensures { ChangesAnyHeld self.now
@@ -58,7 +58,7 @@ impl Store {
         self.make_on(pass, event)
     }
 
-    // Changes a row for a pass that holds no part.
+    /// Changes a row for a pass that holds no part.
     fn change<R: Wait>(
         &self,
         rt: &R,
@@ -76,7 +76,7 @@ impl Store {
         told
     }
 
-    // Changes the row of a place for the session's transaction, which wrote it already or not.
+    /// Changes the row of a place for the session's transaction, which wrote it already or not.
     fn change_row<R: Wait>(
         &self,
         rt: &R,
@@ -108,8 +108,8 @@ impl Store {
     ///
     /// # Errors
     ///
-    /// The key has no row or meets a conflict, its block is being frozen, or there is no memory; the row
-    /// stays.
+    /// The key has no row or meets a conflict, its block is being frozen, or there is no memory;
+    /// the row stays.
     pub fn update<R: Wait>(
         &self,
         rt: &R,
@@ -137,8 +137,8 @@ impl Store {
     ///
     /// # Errors
     ///
-    /// The key has no row or meets a conflict, its block is being frozen, or there is no memory; the row
-    /// stays.
+    /// The key has no row or meets a conflict, its block is being frozen, or there is no memory;
+    /// the row stays.
     pub fn delete<R: Wait>(
         &self,
         rt: &R,

@@ -24,7 +24,7 @@ use std::alloc::AllocError;
 use std::sync::Wait;
 
 impl Store {
-    // Looks at a block: which of its rows may move, and into which slots.
+    /// Looks at a block: which of its rows may move, and into which slots.
     fn look<R: Wait>(
         &self,
         rt: &R,
@@ -45,7 +45,7 @@ impl Store {
         }
     }
 
-    // Looks at a block, and puts what was seen behind what was seen before.
+    /// Looks at a block, and puts what was seen behind what was seen before.
     fn look_into<R: Wait>(
         &self,
         rt: &R,
@@ -65,7 +65,7 @@ impl Store {
         Ok(())
     }
 
-    // Looks at all blocks of a table, and plans which of their rows move.
+    /// Looks at all blocks of a table, and plans which of their rows move.
     fn plan_table<R: Wait>(
         &self,
         rt: &R,
@@ -88,7 +88,7 @@ impl Store {
         plan(shape.alloc(), &looks)
     }
 
-    // Moves rows of a table together, and tells how many; nothing happens where there are none.
+    /// Moves rows of a table together, and tells how many; nothing happens where there are none.
     fn move_rows<R: Wait>(
         &self,
         rt: &R,

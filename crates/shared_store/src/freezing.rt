@@ -18,8 +18,8 @@ use std::sync::Wait;
 use std::thread::Threads;
 
 impl Store {
-    // Makes the image of a sealed block on the parts that a pass holds, and lays it into the block;
-    // nothing where there is no memory for the image.
+    /// Makes the image of a sealed block on the parts that a pass holds, and lays it into the
+    /// block; nothing where there is no memory for the image.
     fn image_held<R: Wait + Threads + Sync>(
         &self,
         rt: &R,
@@ -43,7 +43,7 @@ impl Store {
         Some(self.make_on(pass, event))
     }
 
-    // The same of a pass that holds no part.
+    /// The same of a pass that holds no part.
     fn image<R: Wait + Threads + Sync>(
         &self,
         rt: &R,

@@ -1,5 +1,5 @@
-//! Events on the blocks of a table one after another: the parts that all of them touch are kept from
-//! one block to the next.
+//! Events on the blocks of a table one after another: the parts that all of them touch are kept
+//! from one block to the next.
 ghost use Rattle.std.specs.Prelude.{◌≡◌, ℕ, true, None, slice_set};
 ghost use Rattle.event_spec.specs.Touched.{touching};
 ghost use Rattle.hall_rule.specs.Hands.{Holds};
@@ -18,8 +18,8 @@ use std::sync::Wait;
 const BLOCKS_AT_ONCE: u32 = 64;
 
 impl Store {
-    // Takes the parts of an event on a block of which the pass keeps all but the body, whose number
-    // is `body`. At each `BLOCKS_AT_ONCE`th block all is given back before, and taken anew.
+    /// Takes the parts of an event on a block of which the pass keeps all but the body, whose
+    /// number is `body`. At each `BLOCKS_AT_ONCE`th block all is given back before, and taken anew.
     fn take_beside<R: Wait>(
         &self,
         rt: &R,
@@ -43,7 +43,7 @@ impl Store {
         }
     }
 
-    // Gives one part back.
+    /// Gives one part back.
     fn give_part(&self, pass: &mut Pass<Core>, part: u32)
         requires pass { IsAnyWithin self.now pass.old.seat pass.old.hands }
         requires held { Holds (first_of pass.old.hands) part }

@@ -1,5 +1,6 @@
-//! A store that many sessions use from any thread, with one latch for each part. Each call makes the
-//! events that its command names, takes no part but those that they touch, and tells what they reply.
+//! A store that many sessions use from any thread, with one latch for each part. Each call makes
+//! the events that its command names, takes no part but those that they touch, and tells what they
+//! reply.
 #![tactic(auto)]
 
 pub mod building;

@@ -43,7 +43,7 @@ impl Store {
         self.hall.event(pass, event, steps)
     }
 
-    // Makes an event on parts that a pass holds, with a count of steps of its own.
+    /// Makes an event on parts that a pass holds, with a count of steps of its own.
     fn make_held_by<L: Ledger>(
         &self,
         pass: &mut Pass<Core>,
@@ -99,7 +99,7 @@ impl Store {
         reply
     }
 
-    // The same with a count of steps of its own.
+    /// The same with a count of steps of its own.
     fn make_by<R: Wait, L: Ledger>(
         &self,
         rt: &R,

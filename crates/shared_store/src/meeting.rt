@@ -11,8 +11,8 @@ use engine_core::Core;
 use hall_steps::Pass;
 
 impl Store {
-    // Shows a pass all that another has seen: a pass without a hand is made of the one, and joined
-    // into the other.
+    /// Shows a pass all that another has seen: a pass without a hand is made of the one, and joined
+    /// into the other.
     fn show(&self, from: &mut Pass<Core>, to: &mut Pass<Core>)
         requires from { IsAnyAt self.now from.old.seat from.old.hands }
         requires to { IsAnyAt self.now to.old.seat to.old.hands }

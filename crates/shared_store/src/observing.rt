@@ -22,7 +22,8 @@ use event_spec::{Event, Reply};
 use std::sync::Wait;
 
 impl Store {
-    // Observes a block, and tells whether it turned cooling. The table's head is kept for the next.
+    /// Observes a block, and tells whether it turned cooling. The table's head is kept for the
+    /// next.
     fn observe_block<R: Wait>(&self, rt: &R, session: &mut Session, table: u32, block: u32) -> bool
         requires keeping { IsKeeping self.now (beside_observe table) block session.old }
         requires room { HasRoomFor 1 session.old }
@@ -39,7 +40,7 @@ impl Store {
         turned
     }
 
-    // Observes the blocks of a table, and tells how many turned cooling.
+    /// Observes the blocks of a table, and tells how many turned cooling.
     fn observe_table<R: Wait>(&self, rt: &R, session: &mut Session, table: u32) -> u64
         requires session { IsSession self.now session.old }
         requires room { HasRoomFor most_blocks_in_table session.old }

@@ -22,7 +22,7 @@ use event_spec::{Event, Reply};
 use std::sync::Wait;
 
 impl Store {
-    // Asks for a stamp that no live snapshot is below.
+    /// Asks for a stamp that no live snapshot is below.
     fn oldest<R: Wait>(&self, rt: &R, session: &mut Session) -> u64
         requires session { IsSession self.now session.old }
         requires room { HasRoomFor 1 session.old }
@@ -36,8 +36,8 @@ impl Store {
         oldest
     }
 
-    // Drops the versions of a block that no snapshot from a stamp on needs, and tells how many. The
-    // other parts that this touches are kept for the next block.
+    /// Drops the versions of a block that no snapshot from a stamp on needs, and tells how many.
+    /// The other parts that this touches are kept for the next block.
     fn prune_block<R: Wait>(
         &self,
         rt: &R,
@@ -67,7 +67,7 @@ impl Store {
         dropped.get()
     }
 
-    // Drops these versions of each block of a table, and tells how many.
+    /// Drops these versions of each block of a table, and tells how many.
     fn prune_table<R: Wait>(&self, rt: &R, session: &mut Session, table: u32, oldest: u64) -> u64
         requires session { IsSession self.now session.old }
         requires room { HasRoomFor most_blocks_in_table session.old }

@@ -16,8 +16,8 @@ use std::alloc::AllocError;
 use std::sync::Wait;
 use std::sync::ledger::Ledger;
 
-/// What a read of a block tells: the rows that the session's transaction sees there, in the order of
-/// their slots, or, where the block is frozen, its shared image, which has just these rows.
+/// What a read of a block tells: the rows that the session's transaction sees there, in the order
+/// of their slots, or, where the block is frozen, its shared image, which has just these rows.
 #[derive(Drop)]
 pub enum BlockRows {
     Rows(Rows),
@@ -25,8 +25,8 @@ pub enum BlockRows {
 }
 
 impl Store {
-    /// Reads a block of a table, as the session's transaction sees it. Each row that is looked at is
-    /// a step; of a frozen block none is.
+    /// Reads a block of a table, as the session's transaction sees it. Each row that is looked at
+    /// is a step; of a frozen block none is.
     ///
     /// # Errors
     ///

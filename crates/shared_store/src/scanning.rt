@@ -111,7 +111,7 @@ fn rows_in_order(
 }
 
 impl Store {
-    // Reads a block, and lays its rows in their places.
+    /// Reads a block, and lays its rows in their places.
     fn read_into<R: Wait, L: Ledger>(
         &self,
         rt: &R,
@@ -126,7 +126,8 @@ impl Store {
         requires busy { is_some (own_of session.old) ≡ true }
         requires block { HasBlock (shape_in self.now) table block }
         ensures { (own : Own) → own_of session.old ≡ Some own → ReadsInto self.now
-            session.old session.new own table block by_place.old.entries by_place.new.entries result }
+            session.old session.new own table block by_place.old.entries by_place.new.entries
+            result }
     {
         let shape = self.hall.shape();
         let read = self.read(rt, session, table, block, steps)?;
@@ -134,7 +135,7 @@ impl Store {
         lay_rows(shape.schema(table), table, rows, by_place)
     }
 
-    // The same as a scan, with a count of steps of its own.
+    /// The same as a scan, with a count of steps of its own.
     fn scan_by<R: Wait, L: Ledger>(
         &self,
         rt: &R,

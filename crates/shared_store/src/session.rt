@@ -11,8 +11,8 @@ use isolation_spec::Place;
 use std::sync::Wait;
 use txn_desk::Snapshot;
 
-/// A session: its pass of the hall, its number, counted from 1, the snapshot of its open transaction,
-/// and what that wrote.
+/// A session: its pass of the hall, its number, counted from 1, the snapshot of its open
+/// transaction, and what that wrote.
 #[derive(Drop)]
 pub struct Session {
     pub(crate) pass: Pass<Core>,

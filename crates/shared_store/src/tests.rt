@@ -5,8 +5,8 @@ mod latches;
 use latches::got_while_held;
 use std::test::Fail;
 
-// A row of one block is got while another pass holds the body of a second block: with one latch for
-// the whole core it never is.
+/// A row of one block is got while another pass holds the body of a second block: with one latch
+/// for the whole core it never is.
 #[test]
 fn a_row_is_got_while_another_block_is_held(rt: HostRuntime) -> Result<(), Fail> {
     assert!(rt; got_while_held(&rt, rt.alloc())?);

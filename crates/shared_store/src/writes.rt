@@ -18,8 +18,8 @@ use std::collections::BTreeMap;
 use std::marker::Model;
 use std::sync::{Arc, Wait};
 
-/// The rows that a transaction wrote, each with the slot on which its entries stand. They are shared
-/// with an event that asks for them all, until it was made. Contracts see the map.
+/// The rows that a transaction wrote, each with the slot on which its entries stand. They are
+/// shared with an event that asks for them all, until it was made. Contracts see the map.
 #[derive(Drop)]
 pub struct Writes {
     by_row: Arc<BTreeMap<Place, SlotId>>,
@@ -39,9 +39,10 @@ impl Model for Writes {
     ghost view = { λ writes. (arc_value writes.by_row).entries };
 }
 
-// Lays the slot of a row. Only where it has none there may be no memory.
+/// Lays the slot of a row. Only where it has none there may be no memory.
 fn lay(by_row: &mut BTreeMap<Place, SlotId>, place: Place, slot: SlotId) -> Result<(), AllocError>
-    ensures ok { OnOk result (by_row.new.entries ≡ insert_entry place_cmp by_row.old.entries place slot) }
+    ensures ok { OnOk result (by_row.new.entries
+        ≡ insert_entry place_cmp by_row.old.entries place slot) }
     ensures err { OnErr result (by_row.new.entries ≡ by_row.old.entries) }
     ensures cause { OnErr result (at_place by_row.old.entries place ≡ None) }
 {
@@ -124,7 +125,7 @@ impl Writes {
         unreachable!()
     }
 
-    // Lays the slot of a row that has an entry.
+    /// Lays the slot of a row that has an entry.
     fn lay_over<R: Wait>(&mut self, rt: &R, place: Place, slot: SlotId)
         requires { at_place self.old place ≢ None }
         ensures { self.new ≡ insert_entry place_cmp self.old place slot }
@@ -134,7 +135,7 @@ impl Writes {
         };
     }
 
-    // Takes away the entry of a row that had none.
+    /// Takes away the entry of a row that had none.
     fn take_back<R: Wait>(&mut self, rt: &R, place: Place, had: bool)
         ensures some { had ≡ true → self.new ≡ self.old }
         ensures none { had ≡ false → self.new ≡ remove_entry (is_place place) self.old }
@@ -151,7 +152,8 @@ impl Writes {
         unreachable!()
     }
 
-    /// Makes room for a row before its write, if it has no entry, and says whether there was memory.
+    /// Makes room for a row before its write, if it has no entry, and says whether there was
+    /// memory.
     pub(crate) fn make_room<R: Wait>(&mut self, rt: &R, place: Place, had: bool) -> bool
         ensures made { result ≡ true → self.new ≡ roomed self.old place had }
         ensures none { result ≡ false → self.new ≡ self.old }

@@ -28,7 +28,7 @@ pub(crate) fn place_of(table: u32, row: &Row) -> Place
 }
 
 impl Store {
-    // The place of a row that fits its table, which has a key.
+    /// The place of a row that fits its table, which has a key.
     pub(crate) fn place_in(&self, table: u32, row: &Row) -> Place
         requires { fits_table (shape_in self.now).tables table row.now ≡ true }
         ensures has_key { HasKey row.now }

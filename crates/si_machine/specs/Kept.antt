@@ -1,5 +1,7 @@
 -- What the program keeps of the machine, and how that belongs together.
-use Rattle.std.specs.Prelude.{◌≡◌, ℕ, ◌+◌, ◌<◌, Bool, true, List, [], ◌∷◌, Result, Ok, Err, map, if◌then◌else◌, is_some, slice_index_or, IsSomeAnd, vec_len, vec_capacity}
+use Rattle.std.specs.Prelude.{◌≡◌, ℕ, ◌+◌, ◌<◌, Bool, true, List, [], ◌∷◌, Result, Ok, Err, map}
+use Rattle.std.specs.Prelude.{if◌then◌else◌, is_some, slice_index_or, IsSomeAnd, vec_len}
+use Rattle.std.specs.Prelude.{vec_capacity}
 use Rattle.std.specs.Option.{option_map_or}
 use Rattle.std.specs.declared.cmp.Ordering.TheVariants.{Less}
 use Rattle.cell_model.specs.declared.kind.Kind.TheVariants.{I64}
@@ -34,11 +36,13 @@ HasKey act.Abort = Unit {0}
 abbrev pub numbers_from : Place → ℕ → History → List ℕ
 numbers_from place at [] = []
 numbers_from place at (writes ∷ later) =
-    if writes_place place writes then at ∷ numbers_from place (at + 1) later else numbers_from place (at + 1) later
+    if writes_place place writes then at ∷ numbers_from place (at + 1) later
+    else numbers_from place (at + 1) later
 
 -- the numbers of the commits that wrote the place
 abbrev pub numbers_at : Writers → Place → List ℕ
-numbers_at writers place = option_map_or (λ numbers. numbers.items) (at_place writers.places.entries place) []
+numbers_at writers place = option_map_or (λ numbers. numbers.items)
+    (at_place writers.places.entries place) []
 
 -- the place is one of those that were written
 abbrev pub has_place : Writers → Place → Bool
@@ -46,7 +50,8 @@ has_place writers place = is_some (at_place writers.places.entries place)
 
 -- there is room for a number more at the place
 abbrev pub HasRoom : Writers → Place → Type 0
-HasRoom writers place = IsSomeAnd (at_place writers.places.entries place) (λ numbers. vec_len numbers < vec_capacity numbers)
+HasRoom writers place = IsSomeAnd (at_place writers.places.entries place)
+    (λ numbers. vec_len numbers < vec_capacity numbers)
 
 -- the open transaction that is kept
 abbrev pub transaction_in : OpenTransaction → Transaction
@@ -76,10 +81,13 @@ AllRise (writes ∷ history) = Rises writes × AllRise history
 -- the places of each open transaction's own rise, and each is one of those that were written
 abbrev pub AreOpen : Writers → List Transaction → Type 0
 AreOpen writers [] = Unit {0}
-AreOpen writers (t ∷ ts) = Rises t.own × ((place : Place) → writes_place place t.own ≡ true → has_place writers place ≡ true) × AreOpen writers ts
+AreOpen writers (t ∷ ts) = Rises t.own
+    × ((place : Place) → writes_place place t.own ≡ true → has_place writers place ≡ true)
+    × AreOpen writers ts
 
--- How the parts belong together: each place has the numbers of the commits that wrote it, and what is open has places
--- that are there; keys are numbers of 64 bits; no session has two transactions; places rise.
+-- How the parts belong together: each place has the numbers of the commits that wrote it, and what
+-- is open has places that are there; keys are numbers of 64 bits; no session has two transactions;
+-- places rise.
 pub record Belongs (machine : IsolationMachine) (writers : Writers) : Type 0 where
   pub numbers : (place : Place) → numbers_at writers place ≡ numbers_from place 1 machine.history
   pub keys : (place : Place) → has_place writers place ≡ true → is_key place ≡ true
@@ -94,8 +102,10 @@ IsKept ledger = Belongs (machine_in ledger) ledger.writers
 abbrev pub open_at : Ledger → ℕ → OpenTransaction → Transaction
 open_at ledger at none = transaction_in (slice_index_or ledger.transactions.items at none)
 
--- A step of the session with an open transaction: what the machine answers and becomes; where memory is refused, the
--- machine is as it was.
-abbrev pub Answers : {E : Type 0} → (IsolationMachine → Transaction → Answer × IsolationMachine) → Ledger → ℕ → Result Answer E → Ledger → Type 0
-Answers step before at (Ok said) now = (none : OpenTransaction) → step (machine_in before) (open_at before at none) ≡ (said, machine_in now)
+-- A step of the session with an open transaction: what the machine answers and becomes; where
+-- memory is refused, the machine is as it was.
+abbrev pub Answers : {E : Type 0} → (IsolationMachine → Transaction → Answer × IsolationMachine)
+    → Ledger → ℕ → Result Answer E → Ledger → Type 0
+Answers step before at (Ok said) now = (none : OpenTransaction)
+    → step (machine_in before) (open_at before at none) ≡ (said, machine_in now)
 Answers step before at (Err refused) now = machine_in now ≡ machine_in before

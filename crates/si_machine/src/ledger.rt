@@ -1,12 +1,18 @@
 //! What is kept of the machine, and its steps.
-ghost use Rattle.std.specs.Prelude.{◌≡◌, ◌==◌, ◌&&◌, ◌<◌, IfOk, None, OnErr, OnOk, Some, find, is_some, length, map, not, option_copied, option_map, position, slice_index_or, slice_set, true};
+ghost use Rattle.std.specs.Prelude.{◌≡◌, ◌==◌, ◌&&◌, ◌<◌, IfOk, None, OnErr, OnOk, Some, find};
+ghost use Rattle.std.specs.Prelude.{is_some, length, map, not, option_copied, option_map, position};
+ghost use Rattle.std.specs.Prelude.{slice_index_or, slice_set, true};
 ghost use Rattle.cell_model.specs.declared.kind.Kind.TheVariants as kind;
 ghost use Rattle.cell_model.specs.Values.{is_integer_of};
 ghost use Rattle.isolation_spec.specs.Contents.{at_place, key_of, place_of, state_at};
-ghost use Rattle.isolation_spec.specs.Machine.{conflict_of, entered, opening, seen_rows, step, refusal_of_change, step_within, step_without, transaction_of, with_own, without, write, writes_place};
+ghost use Rattle.isolation_spec.specs.Machine.{conflict_of, entered, opening, seen_rows, step};
+ghost use Rattle.isolation_spec.specs.Machine.{refusal_of_change, step_within, step_without};
+ghost use Rattle.isolation_spec.specs.Machine.{transaction_of, with_own, without, write};
+ghost use Rattle.isolation_spec.specs.Machine.{writes_place};
 ghost use Rattle.isolation_spec.specs.declared.command.Act.TheVariants as act;
 ghost use Rattle.si_machine.specs.declared.ledger.OpenTransaction.{OpenTransaction as Kept};
-ghost use Rattle.si_machine.specs.Kept.{Answers, HasKey, IsKept, is_key, machine_in, open_at, transaction_in};
+ghost use Rattle.si_machine.specs.Kept.{Answers, HasKey, IsKept, is_key, machine_in, open_at};
+ghost use Rattle.si_machine.specs.Kept.{transaction_in};
 
 use crate::writers::{Writers, Writes};
 use cell_model::{Cell, Row, Rows};
@@ -249,7 +255,8 @@ impl Ledger {
         requires there { at < length self.old.transactions.items }
         requires key { is_key place ≡ true }
         ensures kept { IsKept self.new }
-        ensures answer { Answers (λ machine t. write machine t place change (refusal_of_change machine t place))
+        ensures answer { Answers (λ machine t. write machine t place change
+            (refusal_of_change machine t place))
             self.old at result self.new }
     {
         if let Some(conflict) = self.conflict(at, &place) {

@@ -11,7 +11,7 @@ use isolation_spec::{Act, Answer, Command};
 use std::alloc::{AllocError, Global};
 use std::test::Fail;
 
-// What a session asks of tables whose rows have a key and a text.
+/// What a session asks of tables whose rows have a key and a text.
 #[derive(Clone, Copy)]
 enum Asked {
     Begin,
@@ -24,7 +24,7 @@ enum Asked {
     Abort,
 }
 
-// One after another over one machine: the session, what it asks, and the words of its answer.
+/// One after another over one machine: the session, what it asks, and the words of its answer.
 const ASKED: [(u32, Asked, &str); 42] = [
     (1, Asked::Get(0, 5), "no transaction"),
     (1, Asked::Begin, "at 0"),

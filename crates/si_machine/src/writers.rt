@@ -1,5 +1,6 @@
 //! Which commits wrote which place.
-ghost use Rattle.std.specs.Prelude.{◌≡◌, ◌++◌, ◌∷◌, ◌⊎◌, [], None, OnOk, Option, if◌then◌else◌, true};
+ghost use Rattle.std.specs.Prelude.{◌≡◌, ◌++◌, ◌∷◌, ◌⊎◌, [], None, OnOk, Option, if◌then◌else◌};
+ghost use Rattle.std.specs.Prelude.{true};
 ghost use Rattle.std.specs.List.{filter, last_or};
 ghost use Rattle.std.specs.List.Sorted.{IsNonDecreasing};
 ghost use Rattle.std.specs.Prelude.{nat_le};

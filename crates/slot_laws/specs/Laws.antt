@@ -2,10 +2,13 @@
 use Rattle.std.specs.Prelude.{◌≡◌, ◌≢◌, ℕ, ◌+◌, ◌<◌, ◌≤◌, List, [], ◌∷◌, None, Some, length, max}
 use Rattle.std.specs.List.{flat_map}
 use Rattle.block_spec.specs.declared.change.Change.{Change}
-use Rattle.block_spec.specs.Slots.{Slot, Row, bare, seen, laid_back, row_after, image_before, writer_of, written, committed, rolled_back, pruned, moved_out, moved_in, patched, columns_before}
+use Rattle.block_spec.specs.Slots.{Slot, Row, bare, seen, laid_back, row_after, image_before}
+use Rattle.block_spec.specs.Slots.{writer_of, written, committed, rolled_back, pruned, moved_out}
+use Rattle.block_spec.specs.Slots.{moved_in, patched, columns_before}
 use Rattle.event_spec.specs.Judged.{first_at, differences}
 use Rattle.event_spec.specs.SlotSound.{IsSoundSlot}
-use Rattle.undo_chain.specs.Conflict.{other_writer, numbers_above, largest, conflict_by, conflict_of}
+use Rattle.undo_chain.specs.Conflict.{other_writer, numbers_above, largest, conflict_by}
+use Rattle.undo_chain.specs.Conflict.{conflict_of}
 use Rattle.undo_chain.specs.declared.chain.Newer.{Newer}
 use Rattle.undo_chain.specs.declared.chain.Newer.TheVariants as newer
 use Rattle.undo_chain.specs.Lawful.{IsLawful}
@@ -14,16 +17,19 @@ use Rattle.undo_chain.specs.Lawful.{IsLawful}
 
 -- the before-image of a write gives the row before it
 abbrev pub IsUndone : Slot → Change → Type 0
-IsUndone slot change = laid_back (row_after slot.row change) (image_before slot.row change) ≡ slot.row
+IsUndone slot change = laid_back (row_after slot.row change) (image_before slot.row change)
+    ≡ slot.row
 
 -- A write by another session changes nothing that a session sees.
 abbrev pub OthersWrite : Type 0
-OthersWrite = (slot : Slot) (writer reader stamp : ℕ) (change : Change) → reader ≢ writer → IsUndone slot change
+OthersWrite = (slot : Slot) (writer reader stamp : ℕ) (change : Change) → reader ≢ writer
+    → IsUndone slot change
     → seen (written writer change slot) stamp reader ≡ seen slot stamp reader
 
 -- Neither does its commit, at a stamp after the snapshot's.
 abbrev pub OthersCommit : Type 0
-OthersCommit = (slot : Slot) (writer reader stamp later number : ℕ) → reader ≢ writer → stamp < later
+OthersCommit = (slot : Slot) (writer reader stamp later number : ℕ) → reader ≢ writer
+    → stamp < later
     → seen (committed writer later number slot) stamp reader ≡ seen slot stamp reader
 
 -- Nor its roll-back.
@@ -54,12 +60,14 @@ Moves = (row : Row) (moved stamp reader : ℕ) → Moving row moved stamp reader
 
 -- The writer sees the current row, whatever its snapshot.
 abbrev pub WritersSee : Type 0
-WritersSee = (slot : Slot) (writer stamp : ℕ) → IsLawful slot.entries → writer_of slot.entries ≡ Some writer
+WritersSee = (slot : Slot) (writer stamp : ℕ) → IsLawful slot.entries → writer_of slot.entries
+    ≡ Some writer
     → seen slot stamp writer ≡ slot.row
 
 -- From its commit's stamp on everybody does.
 abbrev pub CommitsShow : Type 0
-CommitsShow = (slot : Slot) (writer at number stamp : ℕ) → IsLawful slot.entries → writer_of slot.entries ≡ Some writer → at ≤ stamp
+CommitsShow = (slot : Slot) (writer at number stamp : ℕ) → IsLawful slot.entries
+    → writer_of slot.entries ≡ Some writer → at ≤ stamp
     → seen (committed writer at number slot) stamp 0 ≡ slot.row
 
 -- An update puts the new row, and its before-image gives the old one back.
@@ -104,7 +112,8 @@ combined (newer.Number number) newer.Nothing = newer.Number number
 abbrev pub combined_over : (ℕ → Slot) → List ℕ → ℕ → ℕ → Newer
 combined_over slot [] stamp session = newer.Nothing
 combined_over slot (place ∷ places) stamp session =
-    combined (conflict_of (slot place).entries stamp session) (combined_over slot places stamp session)
+    combined (conflict_of (slot place).entries stamp session)
+    (combined_over slot places stamp session)
 
 -- A write of a key meets what it meets at each of the key's slots, combined in turn.
 abbrev pub MeetsInTurn : Type 0

@@ -1,5 +1,7 @@
 //! Laws of slots: each function does nothing, and its contract is one of them.
-ghost use Rattle.slot_laws.specs.Laws.{CommitsKeep, CommitsShow, MeetsInTurn, Moves, OthersCommit, OthersRollBack, OthersWrite, Pruning, PruningsKeep, RollBacksKeep, Updates, WritersSee, WritesKeep};
+ghost use Rattle.slot_laws.specs.Laws.{CommitsKeep, CommitsShow, MeetsInTurn, Moves, OthersCommit};
+ghost use Rattle.slot_laws.specs.Laws.{OthersRollBack, OthersWrite, Pruning, PruningsKeep};
+ghost use Rattle.slot_laws.specs.Laws.{RollBacksKeep, Updates, WritersSee, WritesKeep};
 
 /// What a session sees of a slot is changed by its own writes alone.
 pub fn others_change_nothing_that_is_seen()

@@ -1,5 +1,5 @@
-//! What a write does to the parts in a hand: the slot that it changes, the candidate that it adds and
-//! the slot that it takes; and what an update changes of a row.
+//! What a write does to the parts in a hand: the slot that it changes, the candidate that it adds
+//! and the slot that it takes; and what an update changes of a row.
 #![tactic(auto)]
 
 mod patches;

@@ -19,7 +19,7 @@ pub fn key_of(row: &Row) -> i64
     }
 }
 
-// Whether two cells are one value.
+/// Whether two cells are one value.
 fn same_cell(one: &Cell, other: &Cell) -> bool
     ensures { result ≡ same_cell one.now other.now }
 {

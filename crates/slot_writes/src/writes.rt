@@ -6,7 +6,8 @@ ghost use Rattle.block_spec.specs.Bodies.{with_slot};
 ghost use Rattle.block_spec.specs.Slots.{written};
 ghost use Rattle.core_parts.specs.Hands.{Has, after, in_hand};
 ghost use Rattle.event_spec.specs.Effects.{taken_by, with_place};
-ghost use Rattle.event_spec.specs.Parts.{HeadOf, ShardOf, head_from, names, shard_from, shard_of, slots_of};
+ghost use Rattle.event_spec.specs.Parts.{HeadOf, ShardOf, head_from, names, shard_from, shard_of};
+ghost use Rattle.event_spec.specs.Parts.{slots_of};
 ghost use Rattle.key_index.specs.Candidates.{candidates_of};
 ghost use Rattle.part_changes.specs.Shards.{without_place};
 ghost use Rattle.slot_writes.specs.Writes.{TakesAt, of_body, of_head, of_shard};
@@ -32,7 +33,8 @@ pub fn install(
     requires room { length held.old ≡ length (names shape.now) }
     requires takes { TakesAt shape.now held.old table place session change }
     ensures ok { OnOk result (held.new ≡ after shape.now
-        (of_body table (block_of place) (with_slot (slot_of place) (written session change))) held.old) }
+        (of_body table (block_of place) (with_slot (slot_of place) (written session change)))
+        held.old) }
     ensures err { OnErr result (held.new ≡ held.old) }
 {
     let number = place.block();
@@ -42,8 +44,8 @@ pub fn install(
     done
 }
 
-/// Adds a candidate to a key where it is none yet, and tells whether it did. Without memory the hand
-/// stays.
+/// Adds a candidate to a key where it is none yet, and tells whether it did. Without memory the
+/// hand stays.
 pub fn add_candidate(
     shape: &Shape,
     held: &mut Hand<CorePart>,
@@ -53,9 +55,11 @@ pub fn add_candidate(
 ) -> Result<bool, AllocError>
     requires room { length held.old ≡ length (names shape.now) }
     requires shard { Has shape.now held.old (ShardOf table (shard_of key)) }
-    ensures ok { OnOk result (held.new ≡ after shape.now (of_shard table (shard_of key) (with_place key place)) held.old) }
+    ensures ok { OnOk result (held.new
+        ≡ after shape.now (of_shard table (shard_of key) (with_place key place)) held.old) }
     ensures added { IfOk result (λ added. added ≡ not (list_any (λ other. other == place)
-        (candidates_of (shard_from (in_hand shape.now held.old (ShardOf table (shard_of key)))) key))) }
+        (candidates_of (shard_from (in_hand shape.now held.old (ShardOf table (shard_of key))))
+        key))) }
     ensures err { OnErr result (held.new ≡ held.old) }
 {
     let number = shard_of(key);
@@ -69,7 +73,8 @@ pub fn add_candidate(
 pub fn drop_candidate(shape: &Shape, held: &mut Hand<CorePart>, table: u32, key: i64, place: SlotId)
     requires room { length held.old ≡ length (names shape.now) }
     requires shard { Has shape.now held.old (ShardOf table (shard_of key)) }
-    ensures { held.new ≡ after shape.now (of_shard table (shard_of key) (without_place key place)) held.old }
+    ensures { held.new ≡ after shape.now (of_shard table (shard_of key) (without_place key place))
+        held.old }
 {
     let number = shard_of(key);
     let mut index = take_shard(shape, held, table, number);
@@ -82,7 +87,8 @@ pub fn take_slot(shape: &Shape, held: &mut Hand<CorePart>, table: u32)
     requires room { length held.old ≡ length (names shape.now) }
     requires head { Has shape.now held.old (HeadOf table) }
     requires count { (head_from (in_hand shape.now held.old (HeadOf table))).inserts + 1 < 2 ^ 64 }
-    ensures { held.new ≡ after shape.now (of_head table (taken_by (slots_of shape.now table))) held.old }
+    ensures { held.new ≡ after shape.now (of_head table (taken_by (slots_of shape.now table)))
+        held.old }
 {
     let mut head = take_head(shape, held, table);
     head.take(shape.slots(table));

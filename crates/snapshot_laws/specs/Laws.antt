@@ -25,14 +25,16 @@ SeenStays = (shape : Shape) (parts : Parts) (made : CoreEvent) (session : ℕ) (
     → seen (slot_at shape (effect shape parts made) table place) snapshot.stamp session
     ≡ seen (slot_at shape parts table place) snapshot.stamp session
 
--- A get and a read change no part, so between two of its writes a session's own events change nothing either.
+-- A get and a read change no part, so between two of its writes a session's own events change
+-- nothing either.
 abbrev pub LooksLeave : Type 0
 LooksLeave = (shape : Shape) (parts : Parts)
     → ((own : OwnKey) (table : ℕ) (key : ℤ) → effect shape parts (event.Get own table key) ≡ parts)
-    × ((own : OwnTransaction) (table block : ℕ) → effect shape parts (event.Read own table block) ≡ parts)
+    × ((own : OwnTransaction) (table block : ℕ) → effect shape parts (event.Read own table block)
+    ≡ parts)
 
--- The session's reads of all blocks of a table hold the rows that it sees, each at one place: as a read of the place's
--- block gives it, which a shared image is as well.
+-- The session's reads of all blocks of a table hold the rows that it sees, each at one place: as a
+-- read of the place's block gives it, which a shared image is as well.
 pub record ReadsEachOnce (shape : Shape) (parts : Parts) (own : OwnTransaction) (table : ℕ) (rows : State) : Type 0 where
   pub no_other : (place : ℕ) (row : Row) → row_read shape parts own table place ≡ Some row
       → at_place rows (place_of table row) ≡ Some row
@@ -40,15 +42,18 @@ pub record ReadsEachOnce (shape : Shape) (parts : Parts) (own : OwnTransaction) 
       → (place : ℕ) × HasPlace shape table place × (row_read shape parts own table place ≡ Some row)
       × (key_of row ≡ key)
   pub once : (one other : ℕ) (row another : Row)
-      → row_read shape parts own table one ≡ Some row → row_read shape parts own table other ≡ Some another
+      → row_read shape parts own table one ≡ Some row → row_read shape parts own table other
+      ≡ Some another
       → key_of row ≡ key_of another → one ≡ other
-  pub shared : (block : ℕ) → HasBlock shape table block → is_imaged (body_at shape parts table block).phase ≡ true
+  pub shared : (block : ℕ) → HasBlock shape table block
+      → is_imaged (body_at shape parts table block).phase ≡ true
       → rows_read shape parts own table block ≡ rows_of (body_at shape parts table block)
 
 -- What it sees are the rows of its transaction of the machine.
 abbrev pub ReadsHoldEachRow : Type 0
 ReadsHoldEachRow = (shape : Shape) (parts : Parts) (own : OwnTransaction) (table : ℕ)
     (machine : IsolationMachine) (open' : Transaction)
-    → IsShape shape → Sound shape parts → OwnsAll shape own parts → FollowsMachine shape parts machine
+    → IsShape shape → Sound shape parts → OwnsAll shape own parts
+    → FollowsMachine shape parts machine
     → transaction_of own.session machine ≡ Some open'
     → ReadsEachOnce shape parts own table (seen_rows machine open')

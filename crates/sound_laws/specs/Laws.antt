@@ -6,5 +6,6 @@ use Rattle.event_spec.specs.Sound.{Sound, IsShape}
 
 -- A lawful event keeps the invariant.
 abbrev pub Keeps : Type 0
-Keeps = (shape : Shape) (parts : Parts) (event : CoreEvent) → IsShape shape → Sound shape parts → IsLawful shape event parts
+Keeps = (shape : Shape) (parts : Parts) (event : CoreEvent) → IsShape shape → Sound shape parts
+    → IsLawful shape event parts
     → Sound shape (effect shape parts event)

@@ -8,6 +8,7 @@ pub record Shaped (shape : Shape) (parts : Parts) : Type 0 where
   pub count : length parts ≡ length (names shape)
   pub kinds : All (λ name. IsOfKind name (part_at shape parts name)) (names shape)
   pub heads : (table : ℕ) → HasTable shape table → HeadHolds shape parts table
-  pub bodies : (table block : ℕ) → HasBlock shape table block → BodyHolds shape table (body_at shape parts table block)
+  pub bodies : (table block : ℕ) → HasBlock shape table block
+      → BodyHolds shape table (body_at shape parts table block)
   pub no_head : (table block : ℕ) → HasBlock shape table block → IsNoHead shape parts table block
   pub sessions : length (desk_at shape parts).open_snapshots ≡ shape.passes

@@ -1,5 +1,6 @@
 -- What the export of a table tells and sends, and what it costs.
-use Rattle.std.specs.Prelude.{◌≡◌, ℕ, ◌+◌, ◌*◌, ◌-◌, ◌≤◌, ◌^◌, List, [], ◌∷◌, Bool, false, count_by, flat_map, length, Option, Result, Ok, Err, IfOk}
+use Rattle.std.specs.Prelude.{◌≡◌, ℕ, ◌+◌, ◌*◌, ◌-◌, ◌≤◌, ◌^◌, List, [], ◌∷◌, Bool, false, count_by}
+use Rattle.std.specs.Prelude.{flat_map, length, Option, Result, Ok, Err, IfOk}
 use Rattle.std.specs.Io.KnownBytes.{Appends}
 use Rattle.byte_ports.specs.Calls.{Rose}
 use Rattle.event_spec.specs.declared.own.OwnTransaction.{OwnTransaction}

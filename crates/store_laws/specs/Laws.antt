@@ -1,5 +1,6 @@
 -- The laws of a store's log.
-use Rattle.std.specs.Prelude.{◌≡◌, ◌⊎◌, ℕ, ◌≤◌, true, false, List, [], ◌∷◌, Option, None, Some, MatchBool, length}
+use Rattle.std.specs.Prelude.{◌≡◌, ◌⊎◌, ℕ, ◌≤◌, true, false, List, [], ◌∷◌, Option, None, Some}
+use Rattle.std.specs.Prelude.{MatchBool, length}
 use Rattle.atomic_table.specs.Table.{Me}
 use Rattle.event_spec.specs.declared.own.OwnTransaction.{OwnTransaction}
 use Rattle.event_spec.specs.declared.reply.Reply.TheVariants.{Memory}
@@ -33,8 +34,8 @@ LogsAreRuns = (shape : Shape) (log : List (Entry CoreEvent))
     → IsLawfulLog shape (made_in (log_of log))
     × (replay (store_meaning shape) log ≡ parts_after shape (log_of log))
 
--- From one log that a session has seen to a later one: it has no event of its own more, and the same
--- open.
+-- From one log that a session has seen to a later one: it has no event of its own more, and the
+-- same open.
 pub record SeesOn
     (shape : Shape) (session : ℕ) (old new : View CoreEvent) (own : Option OwnTransaction)
     : Type 0 where
@@ -73,11 +74,13 @@ Replied shape parts event told =
 -- A session that made an event has it among its own, and has open what the event told.
 abbrev pub EventsGoOn : Type 0
 EventsGoOn = (shape : Shape) (session id : ℕ) (old new : Me (Option CorePart) (View CoreEvent))
-    (hand held : List (Option CorePart)) (before : List (Entry CoreEvent)) (own : Option OwnTransaction)
+    (hand held : List (Option CorePart)) (before : List (Entry CoreEvent))
+    (own : Option OwnTransaction)
     (event : CoreEvent) (told : CoreReply)
     → IsShape shape
     → Knows (store_meaning shape) id old hand → Knows (store_meaning shape) id new held
-    → EndsWith (store_meaning shape) id old.0 before (hall_entry id old.0 (is_memory told) event) new.0
+    → EndsWith (store_meaning shape) id old.0 before (hall_entry id old.0 (is_memory told) event)
+    new.0
     → Replied shape (replay (store_meaning shape) before) event told
     → IsOfSession session event
     → KnowsOwn shape session old.0 own
@@ -89,7 +92,8 @@ abbrev pub StampsAreFew : Type 0
 StampsAreFew = (shape : Shape) (log : List Logged) → IsShape shape → IsLawfulLog shape (made_in log)
     → (desk_at shape (parts_after shape log)).newest ≤ length log
 
--- What one event makes of a command that is this event alone: its line, or that there was no memory.
+-- What one event makes of a command that is this event alone: its line, or that there was no
+-- memory.
 abbrev pub TellsLine : Option OwnTransaction → Command → CoreReply → Said → Type 0
 TellsLine own command told line = MatchBool
     (is_memory told)
@@ -99,11 +103,13 @@ TellsLine own command told line = MatchBool
 -- A command that is one event is carried out by it.
 abbrev pub SingleEventsAreCalls : Type 0
 SingleEventsAreCalls = (shape : Shape) (session : ℕ) (old new : List Logged)
-    (own : Option OwnTransaction) (command : Command) (event : CoreEvent) (told : CoreReply) (line : Said)
+    (own : Option OwnTransaction) (command : Command) (event : CoreEvent) (told : CoreReply)
+    (line : Said)
     → own ≡ own_after (own_in shape session old)
     → refusal_of command own ≡ None
     → (made : MakesOne shape session old new event told)
-    → events_of shape own session command (occurrence_at session (parts_after shape made.before) event told ∷ [])
+    → events_of shape own session command
+    (occurrence_at session (parts_after shape made.before) event told ∷ [])
     ≡ event ∷ []
     → TellsLine own command told line
     → Called shape false session old new (record {

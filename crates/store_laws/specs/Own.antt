@@ -38,8 +38,8 @@ abbrev pub occurrence_at : ℕ → Parts → CoreEvent → CoreReply → Occurre
 occurrence_at session parts event told =
     record { session = session; before = parts; event = event; reply = told }
 
--- A session made one event and was told a reply. Its log goes on from all that it had seen, and ends
--- with this event; of its own events it has this one more.
+-- A session made one event and was told a reply. Its log goes on from all that it had seen, and
+-- ends with this event; of its own events it has this one more.
 pub record MakesOne
     (shape : Shape) (session : ℕ) (old new : List Logged) (event : CoreEvent) (told : CoreReply)
     : Type 0 where

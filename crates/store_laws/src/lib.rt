@@ -1,5 +1,6 @@
-//! What a store's sessions know of the log of its hall: it is the log of a run, and of a session's own
-//! events it has those that the session made. The functions do nothing; their contracts are laws.
+//! What a store's sessions know of the log of its hall: it is the log of a run, and of a session's
+//! own events it has those that the session made. The functions do nothing; their contracts are
+//! laws.
 #![tactic(auto)]
 
 ghost use Rattle.store_laws.specs.Laws.{EventsGoOn, JoinsGoOn, LooksGoOn, LogsAreRuns};

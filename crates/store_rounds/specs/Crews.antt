@@ -5,7 +5,8 @@ use Rattle.cell_model.specs.declared.table.TableDecl.{TableDecl}
 use Rattle.outcome_spec.specs.Forms.{turn_of}
 use Rattle.workload_spec.specs.declared.command.Command.{Command}
 use Rattle.workload_spec.specs.declared.reply.Who.{Who}
-use Rattle.workload_spec.specs.declared.reply.Who.TheVariants.{Session as TheSession, Worker as TheWorker}
+use Rattle.workload_spec.specs.declared.reply.Who.TheVariants.{Session as TheSession}
+use Rattle.workload_spec.specs.declared.reply.Who.TheVariants.{Worker as TheWorker}
 use Rattle.workload_spec.specs.declared.script.Script.{Script}
 use Rattle.run_spec.specs.Calls.{Call}
 use Rattle.run_spec.specs.Ran.{Share}

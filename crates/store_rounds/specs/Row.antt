@@ -24,7 +24,8 @@ pub record LooksOn (store : StoreView) (old new : Session) : Type 0 where
 -- Each of a row looked on.
 pub record LookOn (store : StoreView) (old new : List Session) : Type 0 where
   pub size : length new ≡ length old
-  pub each : (k : ℕ) (d : Session) → k < length old → LooksOn store (get_or old k d) (get_or new k d)
+  pub each : (k : ℕ) (d : Session) → k < length old
+      → LooksOn store (get_or old k d) (get_or new k d)
 
 -- One of a row met the one before it: they looked on, and each saw what the other had seen.
 pub record Meet (store : StoreView) (second : ℕ) (old new : List Session) : Type 0 where

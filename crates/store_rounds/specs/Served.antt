@@ -1,12 +1,14 @@
 -- What one of a row did in a round, and what a row did.
-use Rattle.std.specs.Prelude.{◌≡◌, ◌≢◌, ℕ, ◌+◌, ◌*◌, ◌<◌, ◌≤◌, Bool, true, false, List, [], ◌++◌, All, Option, None, Some, OnOk, IfErr, Result, get_or, length}
+use Rattle.std.specs.Prelude.{◌≡◌, ◌≢◌, ℕ, ◌+◌, ◌*◌, ◌<◌, ◌≤◌, Bool, true, false, List, [], ◌++◌}
+use Rattle.std.specs.Prelude.{All, Option, None, Some, OnOk, IfErr, Result, get_or, length}
 use Rattle.std.specs.List.{list_any}
 use Rattle.byte_ports.specs.Calls.{Rose}
 use Rattle.cell_model.specs.declared.table.TableDecl.{TableDecl}
 use Rattle.workload_spec.specs.Valid.{most_turns, most_workers}
 use Rattle.workload_spec.specs.declared.command.Command.{Command}
 use Rattle.workload_spec.specs.declared.reply.Who.{Who}
-use Rattle.workload_spec.specs.declared.reply.Who.TheVariants.{Session as TheSession, Worker as TheWorker}
+use Rattle.workload_spec.specs.declared.reply.Who.TheVariants.{Session as TheSession}
+use Rattle.workload_spec.specs.declared.reply.Who.TheVariants.{Worker as TheWorker}
 use Rattle.run_spec.specs.Calls.{Call}
 use Rattle.round_laws.specs.Lines.{share_text}
 use Rattle.shared_store.specs.Store.{HasRoomFor, IsSession, StoreView, shape_in}
@@ -27,8 +29,10 @@ use Rattle.store_rounds.specs.declared.fault.RunFault.TheVariants as fault
 -- One carried out the first of these commands, all but where it stopped at an export at which the
 -- outlet failed; where it came to its end, the text grew by their lines.
 pub record CarriedOut
-    {T : Type 0} (store : StoreView) (worker : Bool) (who : Who) (round most : ℕ) (old new : Session)
-    (commands : List Command) (before after : List ℕ) (ended : Result T RunFault) (calls : List Call)
+    {T : Type 0} (store : StoreView) (worker : Bool) (who : Who) (round most : ℕ)
+    (old new : Session)
+    (commands : List Command) (before after : List ℕ) (ended : Result T RunFault)
+    (calls : List Call)
     : Type 0 where
   pub worked : Worked store worker most old new calls
   pub rest : List Command

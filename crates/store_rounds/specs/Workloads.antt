@@ -1,5 +1,6 @@
 -- How the run of a workload ends: which rounds ran, what was printed, and what was sent.
-use Rattle.std.specs.Prelude.{◌≡◌, ◌≢◌, ◌⊎◌, ℕ, ◌+◌, true, List, [], ◌∷◌, ◌++◌, length, Option, Result, Ok, Err}
+use Rattle.std.specs.Prelude.{◌≡◌, ◌≢◌, ◌⊎◌, ℕ, ◌+◌, true, List, [], ◌∷◌, ◌++◌, length, Option}
+use Rattle.std.specs.Prelude.{Result, Ok, Err}
 use Rattle.std.specs.Io.KnownBytes.{Appends}
 use Rattle.byte_ports.specs.Calls.{AppendsFront, Rose}
 use Rattle.export_spec.specs.Sent.{SaysAllSent}
@@ -38,7 +39,8 @@ pub record GoesWhole
   pub went : Goes script.rounds text
   pub printed : Appends before now text
 
--- The output failed: some first rounds of the script ran, and only a front of their text was printed.
+-- The output failed: some first rounds of the script ran, and only a front of their text was
+-- printed.
 pub record GoesCutOff
     (Goes : List (List Line) → List ℕ → Type 0) (script : Script) (before now : Option (List ℕ))
     : Type 0 where
@@ -49,9 +51,9 @@ pub record GoesCutOff
   pub went : Goes whole text
   pub printed : AppendsFront before now text
 
--- The run stopped at a round: the rounds before it ran, and their text alone was printed. Of the round
--- these first lines of each session ran, and each worker made its turns; the text of this round's
--- lines alone was not printed.
+-- The run stopped at a round: the rounds before it ran, and their text alone was printed. Of the
+-- round these first lines of each session ran, and each worker made its turns; the text of this
+-- round's lines alone was not printed.
 pub record GoesTo
     (Goes : List (List Line) → List ℕ → Type 0) (script : Script) (lines : List Line)
     (before now : Option (List ℕ))

@@ -173,7 +173,8 @@ fn add_workers(
     duties: &mut Vec<Duty>,
 ) -> Result<(), AllocError>
     requires size { crew.sessions + crew.workers < 2 ^ 32 }
-    ensures { OnOk result (AreWithWorkers crew number crew.workers duties.old.items duties.new.items) }
+    ensures { OnOk result (AreWithWorkers crew number crew.workers duties.old.items
+        duties.new.items) }
 {
     for at in 0..crew.workers {
         let turns = Task::Turns {

@@ -16,8 +16,8 @@ use std::sync::ledger::{Blank, Ledger};
 use store_export::{ExportFault, Summary, export};
 use workload_spec::Said;
 
-/// Exports a table to the outlet as the session's transaction sees it, and gives the line that it is
-/// told.
+/// Exports a table to the outlet as the session's transaction sees it, and gives the line that it
+/// is told.
 ///
 /// # Errors
 ///

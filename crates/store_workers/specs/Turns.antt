@@ -1,5 +1,6 @@
 -- A worker's turn: what it asks of tables and blocks, and what came of it.
-use Rattle.std.specs.Prelude.{◌≡◌, ℕ, ◌+◌, ◌*◌, ◌^◌, true, false, List, [], ◌∷◌, ◌++◌, All, IfOk, Result, flat_map, map}
+use Rattle.std.specs.Prelude.{◌≡◌, ℕ, ◌+◌, ◌*◌, ◌^◌, true, false, List, [], ◌∷◌, ◌++◌, All, IfOk}
+use Rattle.std.specs.Prelude.{Result, flat_map, map}
 use Rattle.std.specs.Global.{Vec as GlobalVec}
 use Rattle.std.specs.List.{enumerate_from, range_with_len}
 use Rattle.cell_model.specs.declared.table.TableDecl.{TableDecl}
@@ -8,7 +9,8 @@ use Rattle.round_laws.specs.Lines.{told_by}
 use Rattle.round_laws.specs.Texts.{IsCounted}
 use Rattle.run_spec.specs.Calls.{Call}
 use Rattle.run_spec.specs.Handed.{Works}
-use Rattle.shared_store.specs.Store.{IsSession, MakesAtMost, StoreView, most_blocks_in_table, seen, shape_in}
+use Rattle.shared_store.specs.Store.{IsSession, MakesAtMost, StoreView, most_blocks_in_table, seen}
+use Rattle.shared_store.specs.Store.{shape_in}
 use Rattle.shared_store.specs.declared.session.Session.{Session}
 use Rattle.workload_spec.specs.declared.command.Command.{Command}
 use Rattle.workload_spec.specs.declared.command.Command.TheVariants as command
@@ -59,7 +61,8 @@ Tells before now told =
 -- A worker of the store carried out these commands, one behind the other, and what they told, but
 -- for the silent ones, is told behind what was told before. It made at most so many events.
 pub record KeepsUp
-    (store : StoreView) (old new : Session) (before now : Lines) (commands : List Command) (most : ℕ)
+    (store : StoreView) (old new : Session) (before now : Lines) (commands : List Command)
+    (most : ℕ)
     : Type 0 where
   pub is_session : IsSession store new
   pub same : new.session ≡ old.session

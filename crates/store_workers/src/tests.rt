@@ -13,7 +13,7 @@ use std::sync::Wait;
 use std::test::Fail;
 use std::thread::Threads;
 
-// A write of a key.
+/// A write of a key.
 #[derive(Clone, Copy)]
 enum Change {
     Insert(i64),
@@ -23,13 +23,13 @@ enum Change {
 
 use Change::{Delete, Insert, Update};
 
-// What is written and committed before a turn, and the lines that the turn tells.
+/// What is written and committed before a turn, and the lines that the turn tells.
 struct Case {
     writes: &'static [Change],
     told: &'static str,
 }
 
-// The most writes of a case.
+/// The most writes of a case.
 const MOST: usize = 16;
 
 const CASES: [Case; 9] = [
@@ -90,7 +90,7 @@ const CASES: [Case; 9] = [
     },
 ];
 
-// A table of keys alone, of two blocks of eight rows.
+/// A table of keys alone, of two blocks of eight rows.
 fn tables(alloc: Global) -> Result<Vec<TableDecl>, Fail>
     ensures may_open { IfOk result (λ tables. MayOpen tables.items 2) }
     ensures one { IfOk result (λ tables. length tables.items ≡ 1) }
@@ -111,7 +111,7 @@ fn tables(alloc: Global) -> Result<Vec<TableDecl>, Fail>
     Ok(vec![in alloc; table]?)
 }
 
-// The row of a key, which fits the table.
+/// The row of a key, which fits the table.
 fn row_of(alloc: Global, store: &Store, key: i64) -> Result<Row, Fail>
     ensures { IfOk result (λ row. fits_table (shape_in store.now).tables 0 row ≡ true) }
 {
@@ -125,7 +125,7 @@ fn row_of(alloc: Global, store: &Store, key: i64) -> Result<Row, Fail>
     }
 }
 
-// An answer to a write, which is to be accepted.
+/// An answer to a write, which is to be accepted.
 fn accepted(answer: Result<(), StoreFault>) -> Result<(), Fail> {
     match answer {
         Ok(()) => Ok(()),
@@ -133,7 +133,7 @@ fn accepted(answer: Result<(), StoreFault>) -> Result<(), Fail> {
     }
 }
 
-// Carries out a write in the open transaction.
+/// Carries out a write in the open transaction.
 fn write<R: Wait>(
     rt: &R,
     alloc: Global,
@@ -163,7 +163,7 @@ fn write<R: Wait>(
     }
 }
 
-// Carries out some writes in a transaction, and commits it.
+/// Carries out some writes in a transaction, and commits it.
 fn write_all<R: Wait>(
     rt: &R,
     alloc: Global,
@@ -191,7 +191,7 @@ fn write_all<R: Wait>(
     Ok(())
 }
 
-// Writes what each case writes, and lets the worker make a turn, whose lines are the case's.
+/// Writes what each case writes, and lets the worker make a turn, whose lines are the case's.
 fn live<R: Abort + Wait + Threads + Sync>(
     rt: &R,
     alloc: Global,

@@ -10,9 +10,9 @@ use Rattle.arrow_spec.specs.Examples.{key_and, nine_rows}
 use Rattle.arrow_spec.specs.Streams.{schema_message, batch_message, stream_of}
 use Rattle.stream_spec.specs.Streams.{Reads, first_schema, next_batch}
 
--- Columns that a stream can tell: there is one, there are at most 2^14, and each name is a text. The
--- metadata of 2^15 columns with the longest names would have 2^31 bytes and more, which no size word
--- tells.
+-- Columns that a stream can tell: there is one, there are at most 2^14, and each name is a text.
+-- The metadata of 2^15 columns with the longest names would have 2^31 bytes and more, which no size
+-- word tells.
 pub record AreTold (columns : List Column) : Type 0 where
   pub some : 0 < length columns
   pub few : length columns ≤ 2 ^ 14

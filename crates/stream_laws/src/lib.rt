@@ -3,7 +3,8 @@
 //! Each function here is one law. It does nothing; its contract is the law.
 #![tactic(auto)]
 
-ghost use Rattle.stream_laws.specs.Laws.{BatchIsRead, NineRowsAreTold, OneReading, SchemaIsRead, StreamEnds, StreamIsRead, TablesAreTold};
+ghost use Rattle.stream_laws.specs.Laws.{BatchIsRead, NineRowsAreTold, OneReading, SchemaIsRead};
+ghost use Rattle.stream_laws.specs.Laws.{StreamEnds, StreamIsRead, TablesAreTold};
 
 /// A schema's message, whatever follows it, reads as its columns.
 pub fn a_schema_is_read_back()

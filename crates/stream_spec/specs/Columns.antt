@@ -1,6 +1,9 @@
--- What the buffers of a record batch read as: the cells of its columns, by the meaning of validity, offsets and data at
--- whatever place in the body they lie (Arrow columnar format, "Buffer Listing for Each Layout").
-use Rattle.std.specs.Prelude.{ℕ, ◌+◌, ◌-◌, ◌*◌, ◌/◌, ◌%◌, Bool, true, ◌&&◌, ◌||◌, not, ◌==◌, nat_le, int_le, ◌+ℤ◌, List, [], ◌∷◌, length, map, take, drop, ℤ, pos, unsigned_abs, count_by, slice_index, Result, Ok, if◌then◌else◌}
+-- What the buffers of a record batch read as: the cells of its columns, by the meaning of validity,
+-- offsets and data at whatever place in the body they lie (Arrow columnar format, "Buffer Listing
+-- for Each Layout").
+use Rattle.std.specs.Prelude.{ℕ, ◌+◌, ◌-◌, ◌*◌, ◌/◌, ◌%◌, Bool, true, ◌&&◌, ◌||◌, not, ◌==◌, nat_le}
+use Rattle.std.specs.Prelude.{int_le, ◌+ℤ◌, List, [], ◌∷◌, length, map, take, drop, ℤ, pos}
+use Rattle.std.specs.Prelude.{unsigned_abs, count_by, slice_index, Result, Ok, if◌then◌else◌}
 use Rattle.std.specs.Int.{Width, w32, bit_at, byte_len, cast_signed}
 use Rattle.std.specs.List.{list_all, range_with_len, slice_index_or}
 use Rattle.std.specs.Ordering.{int_eq}
@@ -21,7 +24,8 @@ use Rattle.stream_spec.specs.Metadata.{BatchTable}
 
 -- neither number is negative, and the buffer ends within the body
 abbrev pub lies_in : List ℕ → BufferPlace → Bool
-lies_in body buffer = int_le (pos 0) buffer.offset && int_le (pos 0) buffer.length && int_le (buffer.offset +ℤ buffer.length) (pos (length body))
+lies_in body buffer = int_le (pos 0) buffer.offset && int_le (pos 0) buffer.length
+    && int_le (buffer.offset +ℤ buffer.length) (pos (length body))
 
 -- the bytes of a buffer that lies in the body
 abbrev pub bytes_of : List ℕ → BufferPlace → List ℕ
@@ -43,7 +47,8 @@ data_count truths = 1
 data_count texts = 2
 data_count blobs = 2
 
--- how many bytes each of these needs for so many rows; values of any length are told by their offsets
+-- how many bytes each of these needs for so many rows; values of any length are told by their
+-- offsets
 abbrev pub data_needs : Values → ℕ → List ℕ
 data_needs (signed width) rows = rows * byte_len width ∷ []
 data_needs (unsigned width) rows = rows * byte_len width ∷ []
@@ -53,16 +58,20 @@ data_needs blobs rows = 4 * (rows + 1) ∷ 0 ∷ []
 
 -- The buffer lies in the body and is long enough; for a batch without rows any length will do.
 abbrev pub is_buffer : List ℕ → ℕ → ℕ → BufferPlace → Bool
-is_buffer body rows need buffer = lies_in body buffer && (rows == 0 || nat_le need (unsigned_abs buffer.length))
+is_buffer body rows need buffer = lies_in body buffer
+    && (rows == 0 || nat_le need (unsigned_abs buffer.length))
 
 abbrev pub are_buffers : List ℕ → ℕ → List ℕ → List BufferPlace → Bool
 are_buffers body rows needs [] = true
 are_buffers body rows [] (buffer ∷ buffers) = true
-are_buffers body rows (need ∷ needs) (buffer ∷ buffers) = is_buffer body rows need buffer && are_buffers body rows needs buffers
+are_buffers body rows (need ∷ needs) (buffer ∷ buffers) = is_buffer body rows need buffer
+    && are_buffers body rows needs buffers
 
 -- A validity may have length 0, where no slot is null (Arrow columnar format, "Validity bitmaps").
 abbrev pub is_validity : List ℕ → ℕ → BufferPlace → Bool
-is_validity body rows buffer = lies_in body buffer && (unsigned_abs buffer.length == 0 || (rows == 0 || nat_le (bitmap_length rows) (unsigned_abs buffer.length)))
+is_validity body rows buffer = lies_in body buffer
+    && (unsigned_abs buffer.length == 0
+    || (rows == 0 || nat_le (bitmap_length rows) (unsigned_abs buffer.length)))
 
 -- ---- slots
 
@@ -81,17 +90,21 @@ bits_from buffers width i = number_from buffers (i * byte_len width) (byte_len w
 abbrev pub offset_of : List ℕ → ℕ → ℤ
 offset_of offsets i = cast_signed w32 (number_from offsets (4 * i) 4)
 
--- The value between a slot's offset and the next (Arrow columnar format, "Variable-size Binary Layout").
+-- The value between a slot's offset and the next (Arrow columnar format, "Variable-size Binary
+-- Layout").
 abbrev pub value_of : List ℕ → List ℕ → ℕ → List ℕ
 value_of offsets values i =
-    take (unsigned_abs (offset_of offsets (i + 1)) - unsigned_abs (offset_of offsets i)) (drop (unsigned_abs (offset_of offsets i)) values)
+    take (unsigned_abs (offset_of offsets (i + 1)) - unsigned_abs (offset_of offsets i))
+    (drop (unsigned_abs (offset_of offsets i)) values)
 
--- No offset is negative, none falls, and the last does not pass the values; for no rows none is looked at.
+-- No offset is negative, none falls, and the last does not pass the values; for no rows none is
+-- looked at.
 abbrev pub are_offsets : List ℕ → List ℕ → ℕ → Bool
 are_offsets offsets values rows =
     rows == 0
     || (int_le (pos 0) (offset_of offsets 0)
-    && list_all (λ i. int_le (offset_of offsets i) (offset_of offsets (i + 1))) (range_with_len 0 rows)
+    && list_all (λ i. int_le (offset_of offsets i) (offset_of offsets (i + 1)))
+    (range_with_len 0 rows)
     && int_le (offset_of offsets rows) (pos (length values)))
 
 -- the offsets are lawful, where the values have any length
@@ -99,22 +112,28 @@ abbrev pub has_offsets : Values → List (List ℕ) → ℕ → Bool
 has_offsets (signed width) buffers rows = true
 has_offsets (unsigned width) buffers rows = true
 has_offsets truths buffers rows = true
-has_offsets texts buffers rows = are_offsets (slice_index_or buffers 0 []) (slice_index_or buffers 1 []) rows
-has_offsets blobs buffers rows = are_offsets (slice_index_or buffers 0 []) (slice_index_or buffers 1 []) rows
+has_offsets texts buffers rows = are_offsets (slice_index_or buffers 0 [])
+    (slice_index_or buffers 1 []) rows
+has_offsets blobs buffers rows = are_offsets (slice_index_or buffers 0 [])
+    (slice_index_or buffers 1 []) rows
 
 -- the value in a slot
 abbrev pub value_at : Values → List (List ℕ) → ℕ → Cell
-value_at (signed width) buffers i = Num (cast_signed width (bits_from (slice_index_or buffers 0 []) width i))
+value_at (signed width) buffers i = Num
+    (cast_signed width (bits_from (slice_index_or buffers 0 []) width i))
 value_at (unsigned width) buffers i = Num (pos (bits_from (slice_index_or buffers 0 []) width i))
 value_at truths buffers i = Truth (bit_of (slice_index_or buffers 0 []) i)
-value_at texts buffers i = Text (value_of (slice_index_or buffers 0 []) (slice_index_or buffers 1 []) i)
-value_at blobs buffers i = Blob (value_of (slice_index_or buffers 0 []) (slice_index_or buffers 1 []) i)
+value_at texts buffers i = Text
+    (value_of (slice_index_or buffers 0 []) (slice_index_or buffers 1 []) i)
+value_at blobs buffers i = Blob
+    (value_of (slice_index_or buffers 0 []) (slice_index_or buffers 1 []) i)
 
 abbrev pub cell_at : Values → List ℕ → List (List ℕ) → ℕ → Cell
 cell_at values validity buffers i = if is_valid validity i then value_at values buffers i else Null
 
 abbrev pub cells_of : Values → List ℕ → List (List ℕ) → ℕ → List Cell
-cells_of values validity buffers rows = map (cell_at values validity buffers) (range_with_len 0 rows)
+cells_of values validity buffers rows = map (cell_at values validity buffers)
+    (range_with_len 0 rows)
 
 -- a text is one in UTF-8
 abbrev pub is_text : Cell → Bool
@@ -127,21 +146,26 @@ is_text (Blob bytes) = true
 -- ---- columns
 
 -- The cells of a column of so many rows with this null count and these buffers, the validity first.
-abbrev pub column_of : List ℕ → ℕ → Values → ℤ → BufferPlace → List BufferPlace → Result (List Cell) Cause
+abbrev pub column_of : List ℕ → ℕ → Values → ℤ → BufferPlace → List BufferPlace
+    → Result (List Cell) Cause
 column_of body rows values nulls validity buffers = do
-  inside ← rule cause.Buffer (is_validity body rows validity && are_buffers body rows (data_needs values rows) buffers)
+  inside ← rule cause.Buffer (is_validity body rows validity
+      && are_buffers body rows (data_needs values rows) buffers)
   counted ← rule cause.NullCount (int_eq nulls (pos (null_count_of (bytes_of body validity) rows)))
   rising ← rule cause.Offsets (has_offsets values (map (bytes_of body) buffers) rows)
-  encoded ← rule cause.Utf8 (list_all is_text (cells_of values (bytes_of body validity) (map (bytes_of body) buffers) rows))
+  encoded ← rule cause.Utf8 (list_all is_text
+      (cells_of values (bytes_of body validity) (map (bytes_of body) buffers) rows))
   Ok (cells_of values (bytes_of body validity) (map (bytes_of body) buffers) rows)
 
 -- The columns, each with its node and its buffers.
-abbrev pub columns_of : List ℕ → ℕ → List Column → List FieldNode → List BufferPlace → Result (List (List Cell)) Cause
+abbrev pub columns_of : List ℕ → ℕ → List Column → List FieldNode → List BufferPlace
+    → Result (List (List Cell)) Cause
 columns_of body rows [] nodes buffers = Ok []
 columns_of body rows (column ∷ columns) [] buffers = Ok []
 columns_of body rows (column ∷ columns) (node ∷ nodes) [] = Ok []
 columns_of body rows (column ∷ columns) (node ∷ nodes) (validity ∷ buffers) = do
-  cells ← column_of body rows (values_of column.kind) node.null_count validity (take (data_count (values_of column.kind)) buffers)
+  cells ← column_of body rows (values_of column.kind) node.null_count validity
+      (take (data_count (values_of column.kind)) buffers)
   rest ← columns_of body rows columns nodes (drop (data_count (values_of column.kind)) buffers)
   Ok (cells ∷ rest)
 
@@ -154,8 +178,8 @@ buffer_count (column ∷ columns) = 1 + data_count (values_of column.kind) + buf
 abbrev pub row_at : List (List Cell) → ℕ → List Cell
 row_at columns i = map (λ cells. slice_index_or cells i Null) columns
 
--- The rows of a batch of this schema with this body: it has a node and the buffers of each column, and each node has as
--- many slots as the batch has rows (IPC format, "RecordBatch message").
+-- The rows of a batch of this schema with this body: it has a node and the buffers of each column,
+-- and each node has as many slots as the batch has rows (IPC format, "RecordBatch message").
 abbrev pub rows_of : List Column → BatchTable → List ℕ → Result (List (List Cell)) Cause
 rows_of columns batch body = do
   nodes ← rule cause.Shape (length batch.nodes == length columns)

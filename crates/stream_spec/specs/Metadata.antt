@@ -1,7 +1,10 @@
--- What a message's metadata denotes, wherever its objects stand: references are followed from the root, and a field that
--- is absent has its default. Field numbers and the numbers of types are those of the public schemas Message.fbs and
--- Schema.fbs; how a table, a vtable, a vector and a string are read is of the FlatBuffers internals.
-use Rattle.std.specs.Prelude.{ℕ, ◌+◌, ◌*◌, ◌^◌, Bool, true, false, ◌&&◌, ◌||◌, not, ◌==◌, nat_lt, List, [], map, find, ℤ, if◌then◌else◌, Option, None, Some, is_some, Result, Ok}
+-- What a message's metadata denotes, wherever its objects stand: references are followed from the
+-- root, and a field that is absent has its default. Field numbers and the numbers of types are
+-- those of the public schemas Message.fbs and Schema.fbs; how a table, a vtable, a vector and a
+-- string are read is of the FlatBuffers internals.
+use Rattle.std.specs.Prelude.{ℕ, ◌+◌, ◌*◌, ◌^◌, Bool, true, false, ◌&&◌, ◌||◌, not, ◌==◌, nat_lt}
+use Rattle.std.specs.Prelude.{List, [], map, find, ℤ, if◌then◌else◌, Option, None, Some, is_some}
+use Rattle.std.specs.Prelude.{Result, Ok}
 use Rattle.std.specs.Int.{w64, byte_len, cast_signed}
 use Rattle.std.specs.List.{range_with_len}
 use Rattle.std.specs.Str.{is_utf8}
@@ -82,7 +85,8 @@ is_negative number = not (nat_lt number (2 ^ 63))
 
 -- ---- the message
 
--- a Message table: version (16 bits), header_type (8 bits), header (a reference), bodyLength (64 bits)
+-- a Message table: version (16 bits), header_type (8 bits), header (a reference), bodyLength (64
+-- bits)
 abbrev pub message_table_at : List ℕ → Result MessageTable FlatFault
 message_table_at bytes = do
   root ← target_at bytes 0
@@ -113,8 +117,8 @@ head_of bytes = do
 
 -- ---- a schema
 
--- A Field table: name (a string), nullable (a byte), type_type (8 bits), type and dictionary (references), children (a
--- vector of tables); and the Int table of its type.
+-- A Field table: name (a string), nullable (a byte), type_type (8 bits), type and dictionary
+-- (references), children (a vector of tables); and the Int table of its type.
 pub record FieldTable : Type 0 where
   pub name : List ℕ
   pub nullable : Bool
@@ -138,7 +142,8 @@ int_table_by bytes place = do
   table ← target_of bytes place
   int_table_of bytes table
 
--- the Int table of a field's type; other types have no fields, and their references are not followed
+-- the Int table of a field's type; other types have no fields, and their references are not
+-- followed
 abbrev pub int_of_type : List ℕ → ℕ → Option ℕ → Result IntTable FlatFault
 int_of_type bytes type_type place = elim (type_type == 2) [
   | true ↦ int_table_by bytes place
@@ -174,10 +179,11 @@ has_values int blobs = true
 
 -- the kind whose type this is (Schema.fbs, "Type" and "Int")
 abbrev pub kind_of_type : ℕ → IntTable → Option Kind
-kind_of_type type_type int = find (λ kind. (type_number kind == type_type) && has_values int (values_of kind)) kinds
+kind_of_type type_type int = find
+    (λ kind. (type_number kind == type_type) && has_values int (values_of kind)) kinds
 
--- The kind of a field's values: its name is a text, it is not dictionary-encoded, its type is one that is read, and it
--- has no children (Schema.fbs, "Field").
+-- The kind of a field's values: its name is a text, it is not dictionary-encoded, its type is one
+-- that is read, and it has no children (Schema.fbs, "Field").
 abbrev pub kind_of_field : FieldTable → Result Kind MetaFault
 kind_of_field field = do
   name ← rule fault.Utf8 (is_utf8 field.name)
@@ -206,7 +212,8 @@ schema_table_at bytes table = do
   fields ← elements bytes table 1 4
   Ok (record { endianness = endianness; fields = fields })
 
--- The columns of a schema: numbers are little-endian, and there is a field (Schema.fbs, "Schema" and "Endianness").
+-- The columns of a schema: numbers are little-endian, and there is a field (Schema.fbs, "Schema"
+-- and "Endianness").
 abbrev pub columns_at : List ℕ → ℕ → Result (List Column) MetaFault
 columns_at bytes table = do
   schema ← fault_as fault.Flat (schema_table_at bytes table)
@@ -216,8 +223,8 @@ columns_at bytes table = do
 
 -- ---- a record batch
 
--- A record batch as its metadata has it: how many rows, a node for each column, where each buffer lies in the body, and
--- whether it is compressed (Message.fbs, "RecordBatch").
+-- A record batch as its metadata has it: how many rows, a node for each column, where each buffer
+-- lies in the body, and whether it is compressed (Message.fbs, "RecordBatch").
 pub record BatchTable : Type 0 where
   pub rows : ℕ
   pub nodes : List FieldNode
@@ -225,12 +232,19 @@ pub record BatchTable : Type 0 where
   pub compressed : Bool
 
 abbrev pub node_at : List ℕ → ℕ → FieldNode
-node_at bytes place = record { length = signed_from bytes place; null_count = signed_from bytes (place + 8) }
+node_at bytes place = record {
+  length = signed_from bytes place;
+  null_count = signed_from bytes (place + 8);
+}
 
 abbrev pub buffer_at : List ℕ → ℕ → BufferPlace
-buffer_at bytes place = record { offset = signed_from bytes place; length = signed_from bytes (place + 8) }
+buffer_at bytes place = record {
+  offset = signed_from bytes place;
+  length = signed_from bytes (place + 8);
+}
 
--- a RecordBatch table: length (64 bits), nodes and buffers (vectors of structs), compression (a reference)
+-- a RecordBatch table: length (64 bits), nodes and buffers (vectors of structs), compression (a
+-- reference)
 abbrev pub batch_table_at : List ℕ → ℕ → Result BatchTable FlatFault
 batch_table_at bytes table = do
   rows ← scalar bytes table 0 8

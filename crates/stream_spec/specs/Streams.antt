@@ -1,6 +1,8 @@
--- What bytes read as, as a stream: its schema and its batches of rows, and the first fault, if there is one
--- (Arrow columnar format, "IPC Streaming Format" and "Encapsulated message format").
-use Rattle.std.specs.Prelude.{◌≡◌, ℕ, zero, suc, ◌+◌, ◌^◌, Bool, true, false, not, nat_lt, nat_le, List, [], ◌∷◌, length, take, drop, bytes_eq, Option, None, Some, Result, Ok, Err}
+-- What bytes read as, as a stream: its schema and its batches of rows, and the first fault, if
+-- there is one (Arrow columnar format, "IPC Streaming Format" and "Encapsulated message format").
+use Rattle.std.specs.Prelude.{◌≡◌, ℕ, zero, suc, ◌+◌, ◌^◌, Bool, true, false, not, nat_lt, nat_le}
+use Rattle.std.specs.Prelude.{List, [], ◌∷◌, length, take, drop, bytes_eq, Option, None, Some}
+use Rattle.std.specs.Prelude.{Result, Ok, Err}
 use Rattle.cell_model.specs.declared.cell.Cell.{Cell}
 use Rattle.cell_model.specs.declared.column.Column.{Column}
 use Rattle.arrow_spec.specs.Streams.{continuation}
@@ -28,8 +30,8 @@ cause_of meta.Endian = cause.Endian
 cause_of meta.Utf8 = cause.Utf8
 cause_of meta.Compressed = cause.Compressed
 
--- A message as it is framed: its metadata, and the bytes behind that, with which its body begins; or none, at the end
--- word or at the end of the input.
+-- A message as it is framed: its metadata, and the bytes behind that, with which its body begins;
+-- or none, at the end word or at the end of the input.
 pub data Frame : Type 0 where
   ended : Frame
   framed : List ℕ → List ℕ → Frame
@@ -44,8 +46,8 @@ sized first (suc less) rest = do
   whole ← rule cause.Short (nat_le (suc less) (length rest))
   Ok (framed (take (suc less) rest) (drop (suc less) rest))
 
--- The next message: four bytes FF, the metadata's size in 32 bits, and the metadata. The stream ends with the input or
--- with a size of 0, but not before its first message.
+-- The next message: four bytes FF, the metadata's size in 32 bits, and the metadata. The stream
+-- ends with the input or with a size of 0, but not before its first message.
 abbrev pub frame_of : Bool → List ℕ → Result Frame Cause
 frame_of first [] = do
   later ← rule cause.Short (not first)
@@ -71,7 +73,8 @@ due_head due metadata rest = do
   body ← rule cause.Short (nat_le head.body (length rest))
   Ok head
 
--- What is read of a stream: the schema, where its message is one; the rows of each batch; and the first fault.
+-- What is read of a stream: the schema, where its message is one; the rows of each batch; and the
+-- first fault.
 pub record Reading : Type 0 where
   pub schema : Option (List Column)
   pub batches : List (List (List Cell))
@@ -105,13 +108,15 @@ with_batch rows reading = record reading { batches = rows ∷ reading.batches }
 abbrev pub ends_with : List Column → Option StreamFault → Reading
 ends_with columns fault = record { schema = Some columns; batches = []; fault = fault }
 
--- The batches from a place on. Each message has bytes of its own, so there are fewer than the bytes are many.
+-- The batches from a place on. Each message has bytes of its own, so there are fewer than the bytes
+-- are many.
 abbrev pub batches_from : ℕ → List Column → ℕ → List ℕ → Reading
 batches_from zero columns place bytes = ends_with columns None
 batches_from (suc more) columns place bytes = elim (next_batch columns bytes) [
   | Err cause ↦ ends_with columns (Some (fault_at place cause))
   | Ok None ↦ ends_with columns None
-  | Ok (Some batch) ↦ with_batch batch.rows (batches_from more columns (place + batch.size) (drop batch.size bytes))
+  | Ok (Some batch) ↦ with_batch batch.rows
+      (batches_from more columns (place + batch.size) (drop batch.size bytes))
 ]
 
 -- the schema with which a stream begins, and how many bytes its message has
@@ -131,7 +136,8 @@ first_schema bytes = do
   frame ← frame_of true bytes
   framed_schema frame
 
--- What bytes read as: one Schema message and any number of record batches, up to the end word or the end of the input.
+-- What bytes read as: one Schema message and any number of record batches, up to the end word or
+-- the end of the input.
 abbrev pub reading_of : List ℕ → Reading
 reading_of bytes = elim (first_schema bytes) [
   | Err cause ↦ record { schema = None; batches = []; fault = Some (fault_at 0 cause) }
@@ -140,4 +146,5 @@ reading_of bytes = elim (first_schema bytes) [
 
 -- The bytes are a stream of this schema with these batches of rows.
 abbrev pub Reads : List ℕ → List Column → List (List (List Cell)) → Type 0
-Reads bytes columns batches = reading_of bytes ≡ record { schema = Some columns; batches = batches; fault = None }
+Reads bytes columns batches = reading_of bytes
+    ≡ record { schema = Some columns; batches = batches; fault = None }

@@ -1,5 +1,6 @@
 //! Worked examples: each is a fact that the definitions compute.
-ghost use Rattle.stream_spec.specs.Samples.{KeysAreRead, NineRowsAreRead, ChangedBytesAreFound, OldVersionIsRead, CutsAreFound, BehindTheEndIsFree};
+ghost use Rattle.stream_spec.specs.Samples.{KeysAreRead, NineRowsAreRead, ChangedBytesAreFound};
+ghost use Rattle.stream_spec.specs.Samples.{OldVersionIsRead, CutsAreFound, BehindTheEndIsFree};
 
 /// The stream of three keys reads as them.
 pub fn three_keys_are_read()

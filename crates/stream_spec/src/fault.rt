@@ -5,7 +5,8 @@ use flat_read::FlatFault;
 /// Why a message's metadata is none that is read.
 #[derive(Clone, Copy, Debug, PartialEq, Eq)]
 pub enum MetaFault {
-    /// A word, a reference, a vtable or a vector is not inside the metadata, or a vtable has no size.
+    /// A word, a reference, a vtable or a vector is not inside the metadata, or a vtable has no
+    /// size.
     Flat(FlatFault),
     /// The version is neither V4 nor V5.
     Version,
@@ -13,7 +14,8 @@ pub enum MetaFault {
     Dictionary,
     /// The message's header or a field's type is not one that is read.
     Kind,
-    /// What has to be there is absent, or what must not be is there; a length is negative or another's.
+    /// What has to be there is absent, or what must not be is there; a length is negative or
+    /// another's.
     Shape,
     /// Numbers are big-endian.
     Endian,
@@ -35,7 +37,8 @@ pub enum Cause {
     Version,
     Dictionary,
     Kind,
-    /// As in [`MetaFault`]; or a schema does not stand first, and alone; or counts and lengths are not the schema's.
+    /// As in [`MetaFault`]; or a schema does not stand first, and alone; or counts and lengths are
+    /// not the schema's.
     Shape,
     Endian,
     /// A column's name or a value of a text column is no text in UTF-8.

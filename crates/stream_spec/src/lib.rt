@@ -1,5 +1,5 @@
-//! What bytes read as, as an Arrow stream that nobody vouches for: the schema and the batches, or the first fault with
-//! its place and its cause.
+//! What bytes read as, as an Arrow stream that nobody vouches for: the schema and the batches, or
+//! the first fault with its place and its cause.
 #![tactic(auto)]
 
 pub mod examples;

@@ -8,8 +8,8 @@ pub enum HeadKind {
     Batch,
 }
 
-/// A message's head: what it is, at which place of the metadata its header's table stands, and how many bytes of body
-/// follow the metadata.
+/// A message's head: what it is, at which place of the metadata its header's table stands, and how
+/// many bytes of body follow the metadata.
 #[derive(Clone, Copy, Debug, PartialEq, Eq)]
 pub struct Head {
     pub kind: HeadKind,

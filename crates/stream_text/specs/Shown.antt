@@ -1,5 +1,6 @@
 -- The text of a stream: its schema and its rows, line by line.
-use Rattle.std.specs.Prelude.{ℕ, List, [], ◌∷◌, ◌++◌, map, flat_map, length, codes, decimal, Option, None, Some, if◌then◌else◌}
+use Rattle.std.specs.Prelude.{ℕ, List, [], ◌∷◌, ◌++◌, map, flat_map, length, codes, decimal, Option}
+use Rattle.std.specs.Prelude.{None, Some, if◌then◌else◌}
 use Rattle.cell_model.specs.declared.cell.Cell.{Cell}
 use Rattle.cell_model.specs.declared.column.Column.{Column}
 use Rattle.stream_spec.specs.Streams.{Reading}
@@ -28,7 +29,8 @@ cause_text cause.Offsets = codes "Offsets"
 
 -- a column: its name as a text's cell, a colon, its kind, and a question mark where it is nullable
 abbrev pub column_text : Column → List ℕ
-column_text column = quoted column.name ++ codes ":" ++ kind_text column.kind ++ (if column.nullable then codes "?" else [])
+column_text column = quoted column.name ++ codes ":" ++ kind_text column.kind
+    ++ (if column.nullable then codes "?" else [])
 
 -- the line of the columns
 abbrev pub schema_line : List Column → List ℕ
@@ -42,7 +44,9 @@ front_lines (Some columns) rows = schema_line columns ∷ map row_line rows
 -- the last line: how many rows there are, or the first fault
 abbrev pub last_line : ℕ → Option StreamFault → List ℕ
 last_line count None = spaced (codes "rows" ∷ decimal count ∷ [])
-last_line count (Some fault) = spaced (codes "not" ∷ codes "a" ∷ codes "stream" ∷ codes "at" ∷ decimal fault.place ∷ cause_text fault.cause ∷ [])
+last_line count (Some fault) = spaced
+    (codes "not" ∷ codes "a" ∷ codes "stream" ∷ codes "at" ∷ decimal fault.place ∷ cause_text
+    fault.cause ∷ [])
 
 -- the rows of all batches, in their order
 abbrev pub all_rows : List (List (List Cell)) → List (List Cell)
@@ -50,4 +54,6 @@ all_rows batches = flat_map (λ rows. rows) batches
 
 -- the text of what is read of a stream
 abbrev pub shown_text : Reading → List ℕ
-shown_text reading = lines_text (front_lines reading.schema (all_rows reading.batches) ++ last_line (length (all_rows reading.batches)) reading.fault ∷ [])
+shown_text reading = lines_text
+    (front_lines reading.schema (all_rows reading.batches)
+    ++ last_line (length (all_rows reading.batches)) reading.fault ∷ [])

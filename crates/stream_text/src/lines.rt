@@ -9,7 +9,7 @@ use std::alloc::AllocError;
 use stream_spec::{Cause, StreamFault};
 use word_text::{kind_text, put_cells, put_number, put_quoted, put_word};
 
-// The word of a cause.
+/// The word of a cause.
 fn cause_text(cause: Cause) -> &'static [u8]
     ensures { result.now ≡ cause_text cause }
 {
@@ -30,7 +30,7 @@ fn cause_text(cause: Cause) -> &'static [u8]
     }
 }
 
-// A column as a word: its name between quotes, a colon and its kind.
+/// A column as a word: its name between quotes, a colon and its kind.
 fn put_column(out: &mut Vec<u8>, column: &Column) -> Result<(), AllocError>
     ensures { OnOk result (out.new.items ≡ out.old.items ++ column_text column.now) }
 {
@@ -43,9 +43,10 @@ fn put_column(out: &mut Vec<u8>, column: &Column) -> Result<(), AllocError>
     Ok(())
 }
 
-// The columns, each behind a space.
+/// The columns, each behind a space.
 fn put_columns(out: &mut Vec<u8>, columns: &[Column]) -> Result<(), AllocError>
-    ensures { OnOk result (out.new.items ≡ out.old.items ++ behind_spaces (map column_text columns.now)) }
+    ensures { OnOk result (out.new.items ≡ out.old.items
+        ++ behind_spaces (map column_text columns.now)) }
 {
     for column in columns {
         out.push(b' ')?;
@@ -54,7 +55,7 @@ fn put_columns(out: &mut Vec<u8>, columns: &[Column]) -> Result<(), AllocError>
     Ok(())
 }
 
-// The line of the columns.
+/// The line of the columns.
 pub fn put_schema(out: &mut Vec<u8>, columns: &[Column]) -> Result<(), AllocError>
     ensures { OnOk result (out.new.items ≡ out.old.items ++ (schema_line columns.now ++ 10 ∷ [])) }
 {
@@ -64,7 +65,7 @@ pub fn put_schema(out: &mut Vec<u8>, columns: &[Column]) -> Result<(), AllocErro
     Ok(())
 }
 
-// The line of a row.
+/// The line of a row.
 pub fn put_row(out: &mut Vec<u8>, row: &Row) -> Result<(), AllocError>
     ensures { OnOk result (out.new.items ≡ out.old.items ++ (row_line row.now ++ 10 ∷ [])) }
 {
@@ -74,7 +75,7 @@ pub fn put_row(out: &mut Vec<u8>, row: &Row) -> Result<(), AllocError>
     Ok(())
 }
 
-// The last line: how many rows there are.
+/// The last line: how many rows there are.
 pub fn put_count(out: &mut Vec<u8>, count: u64) -> Result<(), AllocError>
     ensures { OnOk result (out.new.items ≡ out.old.items ++ (last_line count None ++ 10 ∷ [])) }
 {
@@ -84,7 +85,7 @@ pub fn put_count(out: &mut Vec<u8>, count: u64) -> Result<(), AllocError>
     Ok(())
 }
 
-// The last line where the bytes are no stream: the first fault.
+/// The last line where the bytes are no stream: the first fault.
 pub fn put_fault(out: &mut Vec<u8>, fault: StreamFault) -> Result<(), AllocError>
     ensures { OnOk result (out.new.items ≡ out.old.items ++ (last_line 0 (Some fault) ++ 10 ∷ [])) }
 {

@@ -32,7 +32,7 @@ pub fn show(alloc: Global, bytes: &[u8]) -> Result<Shown, AllocError>
     }
 }
 
-// Bytes that do not begin with a schema.
+/// Bytes that do not begin with a schema.
 fn show_fault(alloc: Global, bytes: &[u8], cause: Cause) -> Result<Shown, AllocError>
     requires { first_schema bytes.now ≡ Err cause }
     ensures text { IfOk result (λ shown. shown.text ≡ shown_text (reading_of bytes.now)) }
@@ -47,7 +47,7 @@ fn show_fault(alloc: Global, bytes: &[u8], cause: Cause) -> Result<Shown, AllocE
     })
 }
 
-// Bytes that begin with this schema.
+/// Bytes that begin with this schema.
 fn show_batches(alloc: Global, schema: &SchemaMessage, bytes: &[u8]) -> Result<Shown, AllocError>
     requires schema { first_schema bytes.now ≡ Ok schema.now }
     requires inside { schema.now.size ≤ length bytes.now }
@@ -86,9 +86,10 @@ fn show_batches(alloc: Global, schema: &SchemaMessage, bytes: &[u8]) -> Result<S
     }
 }
 
-// A line for each row.
+/// A line for each row.
 fn put_rows(alloc: Global, out: &mut Vec<u8>, batch: &Batch<'_>) -> Result<(), AllocError>
-    ensures { OnOk result (out.new.items ≡ out.old.items ++ lines_text (map row_line batch.now.rows)) }
+    ensures { OnOk result (out.new.items ≡ out.old.items
+        ++ lines_text (map row_line batch.now.rows)) }
 {
     for i in 0..batch.len() {
         let row = batch.row(alloc, i)?;

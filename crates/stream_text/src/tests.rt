@@ -5,7 +5,7 @@ use std::alloc::{AllocError, Global};
 use std::process::Abort;
 use std::test::Fail;
 
-// The schema message at 0, the first eight rows at 224, the ninth at 552, and the end word at 792.
+/// The schema message at 0, the first eight rows at 224, the ninth at 552, and the end word at 792.
 const NINE_ROWS: &[u8; 800] = b"\xff\xff\xff\xff\xd8\x00\x00\x00\x18\x00\x00\x00\x00\x00\x00\x00\
     \x0c\x00\x14\x00\x10\x00\x12\x00\x04\x00\x08\x00\x00\x00\x00\x00\
     \x10\x00\x00\x00\x1c\x00\x00\x00\x00\x00\x00\x00\x00\x00\x00\x00\
@@ -57,7 +57,7 @@ const NINE_ROWS: &[u8; 800] = b"\xff\xff\xff\xff\xd8\x00\x00\x00\x18\x00\x00\x00
     \x09\x00\x00\x00\x00\x00\x00\x00\x00\x00\x00\x00\x01\x00\x00\x00\
     \x78\x00\x00\x00\x00\x00\x00\x00\xff\xff\xff\xff\x00\x00\x00\x00";
 
-// The lines in front of the last.
+/// The lines in front of the last.
 const LINES: [&str; 10] = [
     "schema \"key\":i64 \"v\":utf8?\n",
     "| 1 \"x\"\n",
@@ -71,7 +71,7 @@ const LINES: [&str; 10] = [
     "| 9 \"x\"\n",
 ];
 
-// How many lines stand in front of the last, and that.
+/// How many lines stand in front of the last, and that.
 #[derive(Clone, Copy)]
 struct Expected {
     lines: usize,
@@ -82,7 +82,7 @@ const fn lines_and(lines: usize, last: &'static str) -> Expected {
     Expected { lines, last }
 }
 
-// Whether the bytes show these lines.
+/// Whether the bytes show these lines.
 fn is_shown(alloc: Global, bytes: &[u8], due: Expected) -> Result<bool, AllocError> {
     let shown = show(alloc, bytes)?;
     let mut text = Vec::new(alloc);
@@ -96,7 +96,7 @@ fn is_shown(alloc: Global, bytes: &[u8], due: Expected) -> Result<bool, AllocErr
     )
 }
 
-// What the first bytes of the stream show.
+/// What the first bytes of the stream show.
 fn due_of_cut(kept: usize) -> Expected {
     match kept {
         0..=223 => lines_and(0, "not a stream at 0 Short\n"),
@@ -121,7 +121,7 @@ fn each_cut_is_short_but_between_messages(rt: HostRuntime) -> Result<(), Fail> {
     Ok(())
 }
 
-// The byte at a place, another there, and what the stream then shows.
+/// The byte at a place, another there, and what the stream then shows.
 #[derive(Clone, Copy)]
 struct Case {
     place: usize,

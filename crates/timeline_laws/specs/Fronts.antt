@@ -15,7 +15,8 @@ use Rattle.timeline_spec.specs.Fronts.{first_rounds, front_of}
 
 -- The first replies of a run came about as they are.
 abbrev pub FrontRuns : Type 0
-FrontRuns = (tables : List TableDecl) (front : List Entry) (machine : IsolationMachine) (first rest : List Entry)
+FrontRuns = (tables : List TableDecl) (front : List Entry) (machine : IsolationMachine)
+    (first rest : List Entry)
     → Runs tables front machine (first ++ rest) → Runs tables front machine first
 
 -- what is due in one workload is due first in another one
@@ -27,19 +28,22 @@ abbrev pub RoundsAreDueFirst : Type 0
 RoundsAreDueFirst = (script : Script) (count : ℕ) → IsDueFirst (first_rounds count script) script
 
 abbrev pub RoundsAreValid : Type 0
-RoundsAreValid = (script : Script) (count : ℕ) → 0 < count → is_valid script ≡ true → is_valid (first_rounds count script) ≡ true
+RoundsAreValid = (script : Script) (count : ℕ) → 0 < count → is_valid script ≡ true
+    → is_valid (first_rounds count script) ≡ true
 
--- Without workers, the same of the first rounds with the next round's lines up to some of a session's.
+-- Without workers, the same of the first rounds with the next round's lines up to some of a
+-- session's.
 abbrev pub FrontIsDueFirst : Type 0
-FrontIsDueFirst = (script : Script) (rounds session count : ℕ) → script.workers ≡ 0 → rounds < length script.rounds
+FrontIsDueFirst = (script : Script) (rounds session count : ℕ) → script.workers ≡ 0
+    → rounds < length script.rounds
     → IsDueFirst (front_of rounds session count script) script
 
 abbrev pub FrontIsValid : Type 0
 FrontIsValid = (script : Script) (rounds session count : ℕ) → rounds < length script.rounds
     → is_valid script ≡ true → is_valid (front_of rounds session count script) ≡ true
 
--- Where replies came about as they are printed, the text of the first of them, which answer what is due in a front of
--- the workload, is an explained output of that front.
+-- Where replies came about as they are printed, the text of the first of them, which answer what is
+-- due in a front of the workload, is an explained output of that front.
 abbrev pub FrontIsExplained : Type 0
 FrontIsExplained = (script part : Script) (told later : List (Option Said)) → is_valid part ≡ true
     → part.tables ≡ script.tables → IsDueFirst part script

@@ -15,12 +15,14 @@ use Rattle.timeline_spec.specs.Forms.{AllMayStand}
 
 -- The replies of a timeline are sound, in whatever order they came about.
 abbrev pub TimelineIsSound : Type 0
-TimelineIsSound = (tables : List TableDecl) (printed timeline : List Entry) → Timeline tables printed timeline → IsTrue (are_sound (run_of tables printed))
+TimelineIsSound = (tables : List TableDecl) (printed timeline : List Entry)
+    → Timeline tables printed timeline → IsTrue (are_sound (run_of tables printed))
 
 -- A text that is read as the replies of a timeline is explained.
 abbrev pub TimelineIsExplained : Type 0
 TimelineIsExplained = (script : Script) (text : List ℕ) (printed timeline : List Entry)
-    → replies_of script text ≡ Ok printed → Timeline script.tables printed timeline → Explained script text
+    → replies_of script text ≡ Ok printed → Timeline script.tables printed timeline
+    → Explained script text
 
 -- Printed replies are in an order in which they may have come about.
 abbrev pub PrintedAreInOrder : Type 0
@@ -29,18 +31,22 @@ PrintedAreInOrder = (script : Script) (told : List (Option Said)) → InOrder (p
 -- Replies that came about one after the other as they are printed are a timeline.
 abbrev pub PrintedInTurn : Type 0
 PrintedInTurn = (script : Script) (told : List (Option Said))
-    → Runs script.tables [] opening (printed_of script told) → Timeline script.tables (printed_of script told) (printed_of script told)
+    → Runs script.tables [] opening (printed_of script told)
+    → Timeline script.tables (printed_of script told) (printed_of script told)
 
 -- The printed text of a timeline is read back as its replies.
 abbrev pub TimelineIsRead : Type 0
-TimelineIsRead = (script : Script) (told : List (Option Said)) (timeline : List Entry) → is_valid script ≡ true
+TimelineIsRead = (script : Script) (told : List (Option Said)) (timeline : List Entry)
+    → is_valid script ≡ true
     → AllMayStand (dues_of script) told
     → Timeline script.tables (printed_of script told) timeline
     → replies_of script (text_of script told) ≡ Ok (printed_of script told)
 
--- The law of a run: the printed text of a timeline is explained, in whatever order its replies came about.
+-- The law of a run: the printed text of a timeline is explained, in whatever order its replies came
+-- about.
 abbrev pub RunIsExplained : Type 0
-RunIsExplained = (script : Script) (told : List (Option Said)) (timeline : List Entry) → is_valid script ≡ true
+RunIsExplained = (script : Script) (told : List (Option Said)) (timeline : List Entry)
+    → is_valid script ≡ true
     → AllMayStand (dues_of script) told
     → Timeline script.tables (printed_of script told) timeline
     → Explained script (text_of script told)

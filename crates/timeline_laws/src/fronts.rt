@@ -1,5 +1,7 @@
-//! Fronts of a run: what came about before it stopped is explained as the run of the front of its workload.
-ghost use Rattle.timeline_laws.specs.Fronts.{FrontIsDueFirst, FrontIsExplained, FrontIsValid, FrontRuns, RoundsAreDueFirst, RoundsAreValid};
+//! Fronts of a run: what came about before it stopped is explained as the run of the front of its
+//! workload.
+ghost use Rattle.timeline_laws.specs.Fronts.{FrontIsDueFirst, FrontIsExplained, FrontIsValid};
+ghost use Rattle.timeline_laws.specs.Fronts.{FrontRuns, RoundsAreDueFirst, RoundsAreValid};
 
 /// The first replies of a run came about as they are.
 pub fn the_front_of_a_run_is_one()

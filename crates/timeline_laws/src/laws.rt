@@ -1,8 +1,11 @@
-//! The law of a run: replies that came about in some order, each as snapshot isolation and the counts of blocks allow,
-//! are an explained output, in whatever order they are printed.
-ghost use Rattle.timeline_laws.specs.Laws.{InTurnIsExplained, PrintedAreInOrder, PrintedInTurn, RunIsExplained, TimelineIsExplained, TimelineIsRead, TimelineIsSound};
+//! The law of a run: replies that came about in some order, each as snapshot isolation and the
+//! counts of blocks allow, are an explained output, in whatever order they are printed.
+ghost use Rattle.timeline_laws.specs.Laws.{InTurnIsExplained, PrintedAreInOrder, PrintedInTurn};
+ghost use Rattle.timeline_laws.specs.Laws.{RunIsExplained, TimelineIsExplained, TimelineIsRead};
+ghost use Rattle.timeline_laws.specs.Laws.{TimelineIsSound};
 
-/// The replies of a timeline meet each condition of an explained output but the forms, in whatever order they came about.
+/// The replies of a timeline meet each condition of an explained output but the forms, in whatever
+/// order they came about.
 pub fn a_timeline_is_sound()
     ensures { TimelineIsSound }
 {}
@@ -22,12 +25,14 @@ pub fn printed_in_turn_is_a_timeline()
     ensures { PrintedInTurn }
 {}
 
-/// The printed text of a timeline is read back as its replies: of sessions and workers, for all kinds of cells.
+/// The printed text of a timeline is read back as its replies: of sessions and workers, for all
+/// kinds of cells.
 pub fn a_timeline_is_read()
     ensures { TimelineIsRead }
 {}
 
-/// The printed text of a timeline of a workload is an explained output, in whatever order the replies came about.
+/// The printed text of a timeline of a workload is an explained output, in whatever order the
+/// replies came about.
 pub fn a_run_is_explained()
     ensures { RunIsExplained }
 {}

@@ -1,4 +1,5 @@
-//! Laws of explained outputs: replies that came about in some order are explained, in whatever order they are printed.
+//! Laws of explained outputs: replies that came about in some order are explained, in whatever
+//! order they are printed.
 #![tactic(auto)]
 
 pub mod fronts;

@@ -1,5 +1,7 @@
--- What a line may say where a reply is due: the kind of reply is one of its command's, and its numbers fit their widths.
-use Rattle.std.specs.Prelude.{◌≡◌, ◌⊎◌, ℕ, ◌<◌, ◌^◌, ◌&&◌, true, false, List, [], ◌∷◌, length, Option, None, Some}
+-- What a line may say where a reply is due: the kind of reply is one of its command's, and its
+-- numbers fit their widths.
+use Rattle.std.specs.Prelude.{◌≡◌, ◌⊎◌, ℕ, ◌<◌, ◌^◌, ◌&&◌, true, false, List, [], ◌∷◌, length}
+use Rattle.std.specs.Prelude.{Option, None, Some}
 use Rattle.cell_model.specs.declared.kind.Kind.TheVariants as kind
 use Rattle.cell_model.specs.Values.{is_integer_of}
 use Rattle.workload_spec.specs.declared.command.Command.{Command}
@@ -13,7 +15,8 @@ abbrev pub IsChangeReply : ℕ → Said → Type 0
 IsChangeReply table said.Accepted = Unit {0}
 IsChangeReply table said.Missing = Unit {0}
 IsChangeReply table said.Memory = Unit {0}
-IsChangeReply table (said.Freezing of block stamp) = (of ≡ table) × (block < 2 ^ 32) × (stamp < 2 ^ 32)
+IsChangeReply table (said.Freezing of block stamp) = (of ≡ table) × (block < 2 ^ 32)
+    × (stamp < 2 ^ 32)
 IsChangeReply table (said.ConflictSession session) = session < 2 ^ 32
 IsChangeReply table (said.ConflictCommit number) = number < 2 ^ 64
 IsChangeReply table _ = ⊥
@@ -44,7 +47,8 @@ IsCommitReply (said.Committed (Some number)) = number < 2 ^ 64
 IsCommitReply _ = ⊥
 
 abbrev pub IsExportReply : Said → Type 0
-IsExportReply (said.Exported number rows batches frozen) = (number < 2 ^ 64) × (rows < 2 ^ 64) × (batches < 2 ^ 32) × (frozen < 2 ^ 32)
+IsExportReply (said.Exported number rows batches frozen) = (number < 2 ^ 64) × (rows < 2 ^ 64)
+    × (batches < 2 ^ 32) × (frozen < 2 ^ 32)
 IsExportReply (said.Dirty key) = is_integer_of kind.I64 key ≡ true
 IsExportReply said.Memory = Unit {0}
 IsExportReply _ = ⊥
@@ -112,15 +116,17 @@ IsReplyWithout (command.Seal table block) told = ⊥
 IsReplyWithout (command.Gather table block) told = ⊥
 IsReplyWithout (command.Export table) told = told ≡ said.NoTransaction
 
--- The reply may stand in some state of its session; whether it stands in the right one, the machine says.
+-- The reply may stand in some state of its session; whether it stands in the right one, the machine
+-- says.
 abbrev pub MayStand : Command → Said → Type 0
 MayStand asked told = IsReplyWithin asked told ⊎ IsReplyWithout asked told
 
--- What is due is answered so: by a reply that may stand there, or in silence, which is a worker's seal or gather that
--- does nothing.
+-- What is due is answered so: by a reply that may stand there, or in silence, which is a worker's
+-- seal or gather that does nothing.
 abbrev pub MayAnswer : Due → Option Said → Type 0
 MayAnswer due None = may_be_silent due ≡ true
-MayAnswer due (Some told) = MayStand due.command told × ((is_worker due.who && is_silent told) ≡ false)
+MayAnswer due (Some told) = MayStand due.command told
+    × ((is_worker due.who && is_silent told) ≡ false)
 
 -- each due is, and there are as many answers
 abbrev pub AllMayStand : List Due → List (Option Said) → Type 0

@@ -13,7 +13,8 @@ printed_from tables earlier [] told = []
 printed_from tables earlier (due ∷ dues) [] = []
 printed_from tables earlier (due ∷ dues) (None ∷ told) = printed_from tables earlier dues told
 printed_from tables earlier (due ∷ dues) (Some said ∷ told) =
-    entry_behind tables earlier due said ∷ printed_from tables (earlier ++ entry_behind tables earlier due said ∷ []) dues told
+    entry_behind tables earlier due said ∷ printed_from tables
+    (earlier ++ entry_behind tables earlier due said ∷ []) dues told
 
 -- the printed replies of a script that is answered so
 abbrev pub printed_of : Script → List (Option Said) → List Entry
@@ -21,4 +22,5 @@ printed_of script told = printed_from script.tables [] (dues_of script) told
 
 -- The text of the printed replies.
 abbrev pub text_of : Script → List (Option Said) → List ℕ
-text_of script told = replies_text script.tables (map (λ entry. entry.reply) (printed_of script told))
+text_of script told = replies_text script.tables
+    (map (λ entry. entry.reply) (printed_of script told))

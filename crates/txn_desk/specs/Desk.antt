@@ -2,7 +2,8 @@
 use Rattle.std.specs.Prelude.{ℕ, ◌<◌, ◌≤◌, ◌^◌, List, Option, All, IfSome, length}
 use Rattle.txn_desk.specs.declared.Snapshot.{Snapshot}
 
--- What a desk knows: the newest stamp given out, the commits numbered, and what each pass has open, pass 1 first.
+-- What a desk knows: the newest stamp given out, the commits numbered, and what each pass has open,
+-- pass 1 first.
 pub record DeskState : Type 0 where
   pub newest : ℕ
   pub commits : ℕ

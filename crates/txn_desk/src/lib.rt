@@ -1,7 +1,9 @@
-//! The desk of transactions: it gives out stamps, numbers the commits and knows which snapshots are open.
+//! The desk of transactions: it gives out stamps, numbers the commits and knows which snapshots are
+//! open.
 #![tactic(auto)]
 
-ghost use Rattle.std.specs.Prelude.{◌≡◌, ◌+◌, ◌-◌, ◌^◌, ◌<◌, ◌≤◌, None, Some, IfOk, IsSome, length, replicate, slice_set};
+ghost use Rattle.std.specs.Prelude.{◌≡◌, ◌+◌, ◌-◌, ◌^◌, ◌<◌, ◌≤◌, None, Some, IfOk, IsSome, length};
+ghost use Rattle.std.specs.Prelude.{replicate, slice_set};
 ghost use Rattle.txn_desk.specs.Oldest.{HasPass, snapshot_of, oldest_of};
 
 use std::alloc::{AllocError, Global};
@@ -38,7 +40,8 @@ impl Model for Desk {
 }
 
 impl Desk {
-    /// A desk for passes 1 to `passes`, none of which has a transaction. No later call takes memory.
+    /// A desk for passes 1 to `passes`, none of which has a transaction. No later call takes
+    /// memory.
     pub fn build(alloc: Global, passes: u32) -> Result<Desk, AllocError>
         ensures { IfOk result (λ desk. desk ≡ record {
           newest = 0;
@@ -86,12 +89,16 @@ impl Desk {
         snapshot
     }
 
-    /// Commits a pass's transaction: it has the next stamp and the next number, and is no longer open.
+    /// Commits a pass's transaction: it has the next stamp and the next number, and is no longer
+    /// open.
     pub fn commit(&mut self, pass: u32) -> Snapshot
         requires pass { HasPass self.old pass }
         requires open { IsSome (snapshot_of self.old pass) }
         requires stamps { self.old.newest + 1 < 2 ^ 63 }
-        ensures taken { result ≡ record { stamp = self.old.newest + 1; number = self.old.commits + 1 } }
+        ensures taken { result ≡ record {
+          stamp = self.old.newest + 1;
+          number = self.old.commits + 1;
+        } }
         ensures closed { self.new ≡ record {
           newest = result.stamp;
           commits = result.number;
@@ -139,8 +146,8 @@ impl Desk {
         self.open_snapshots[pass as usize - 1] = None;
     }
 
-    /// The least stamp at which an open transaction began, or the newest stamp where none is open. It
-    /// never falls.
+    /// The least stamp at which an open transaction began, or the newest stamp where none is open.
+    /// It never falls.
     pub fn oldest(&self) -> u64
         ensures { result ≡ oldest_of self.now }
     {

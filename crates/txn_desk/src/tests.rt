@@ -43,8 +43,8 @@ fn run(rt: &impl Abort, desk: &mut Desk, step: Step) {
     }
 }
 
-// Each step with the oldest stamp after it: the least stamp at which an open transaction began, or the
-// newest stamp where none is open.
+/// Each step with the oldest stamp after it: the least stamp at which an open transaction began, or
+/// the newest stamp where none is open.
 #[test]
 fn stamps_numbers_and_the_oldest(rt: HostRuntime) -> Result<(), Fail> {
     let mut desk = Desk::build(rt.alloc(), 3)?;

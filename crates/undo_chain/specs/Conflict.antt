@@ -1,5 +1,6 @@
 -- What stands in the way of a write to a slot.
-use Rattle.std.specs.Prelude.{ℕ, List, [], ◌∷◌, Option, None, Some, option_map, map, filter, find, fold, max}
+use Rattle.std.specs.Prelude.{ℕ, List, [], ◌∷◌, Option, None, Some, option_map, map, filter, find}
+use Rattle.std.specs.Prelude.{fold, max}
 use Rattle.undo_chain.specs.declared.undo.Undo.{Undo}
 use Rattle.undo_chain.specs.declared.chain.Newer.{Newer}
 use Rattle.undo_chain.specs.declared.chain.Newer.TheVariants.{Nothing, Session, Number}
@@ -12,7 +13,8 @@ other_writer entries session =
 
 -- The numbers of the commits above a snapshot's stamp.
 abbrev pub numbers_above : {D : Type 0} → List (Undo D) → ℕ → List ℕ
-numbers_above entries stamp = map (λ undo. undo.number) (filter (λ undo. is_commit_above undo stamp) entries)
+numbers_above entries stamp = map (λ undo. undo.number)
+    (filter (λ undo. is_commit_above undo stamp) entries)
 
 -- The largest of some numbers, where there are any.
 abbrev pub largest : List ℕ → Option ℕ
@@ -25,6 +27,8 @@ conflict_by (Some writer) number = Session writer
 conflict_by None (Some number) = Number number
 conflict_by None None = Nothing
 
--- What a write by a session meets: another session's uncommitted write, else the newest commit above its snapshot.
+-- What a write by a session meets: another session's uncommitted write, else the newest commit
+-- above its snapshot.
 abbrev pub conflict_of : {D : Type 0} → List (Undo D) → ℕ → ℕ → Newer
-conflict_of entries stamp session = conflict_by (other_writer entries session) (largest (numbers_above entries stamp))
+conflict_of entries stamp session = conflict_by (other_writer entries session)
+    (largest (numbers_above entries stamp))

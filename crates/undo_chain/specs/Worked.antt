@@ -4,13 +4,20 @@ use Rattle.undo_chain.specs.declared.undo.Undo.{Undo}
 use Rattle.undo_chain.specs.declared.undo.UndoKind.{UndoKind}
 use Rattle.undo_chain.specs.Visible.{visible_row}
 
--- In the worked examples a row is a number, and a before-image is the whole row, none where the slot had no row.
+-- In the worked examples a row is a number, and a before-image is the whole row, none where the
+-- slot had no row.
 abbrev pub Image : Type 0
 Image = Option ℕ
 
 -- A session's write that is not committed.
 abbrev pub open_write : ℕ → UndoKind → Image → Undo Image
-open_write session kind before = record { session = session; stamp = None; number = 0; kind = kind; before = before }
+open_write session kind before = record {
+  session = session;
+  stamp = None;
+  number = 0;
+  kind = kind;
+  before = before;
+}
 
 -- A session's write that was committed.
 abbrev pub committed : ℕ → ℕ → UndoKind → Image → Undo Image
@@ -19,7 +26,13 @@ committed session stamp kind before =
 
 -- One half of a move.
 abbrev pub moved : ℕ → UndoKind → Image → Undo Image
-moved stamp kind before = record { session = 0; stamp = Some stamp; number = 0; kind = kind; before = before }
+moved stamp kind before = record {
+  session = 0;
+  stamp = Some stamp;
+  number = 0;
+  kind = kind;
+  before = before;
+}
 
 -- What a reader sees, where laying an image back puts it in the row's place.
 abbrev pub seen : Image → List (Undo Image) → ℕ → ℕ → Image

@@ -1,6 +1,9 @@
 //! The chain of a slot's undo entries: how it grows and is rolled back, stamped and pruned, what a
 //! reader lays back, and what stands in the way of a write.
-ghost use Rattle.std.specs.Prelude.{◌≡◌, ◌≢◌, ◌<◌, ◌≤◌, ◌++◌, [], ◌∷◌, not, false, OnOk, IsTrue, OnSome, IfSome, IsSome, ◌↔◌, ℕ, IfNone, IsOk, is_some, length, drop, take, map, filter, count_by, reverse, option_to_list, max};
+ghost use Rattle.std.specs.Prelude.{◌≡◌, ◌≢◌, ◌<◌, ◌≤◌, ◌++◌, [], ◌∷◌, not, false, OnOk, IsTrue};
+ghost use Rattle.std.specs.Prelude.{OnSome, IfSome, IsSome, ◌↔◌, ℕ, IfNone, IsOk, is_some, length};
+ghost use Rattle.std.specs.Prelude.{drop, take, map, filter, count_by, reverse, option_to_list};
+ghost use Rattle.std.specs.Prelude.{max};
 ghost use Rattle.std.specs.List.{list_any};
 ghost use Rattle.undo_chain.specs.Entry.{is_own, is_stamped_by, is_in_view};
 ghost use Rattle.undo_chain.specs.Visible.{images_laid_back};
@@ -26,7 +29,8 @@ pub enum Newer {
 /// The entries of a slot's changes, each with its before-image. A contract sees them newest first.
 #[derive(Drop)]
 pub struct Chain<D> {
-    // The newest stands last, so that a change is pushed and rolled back without moving the others.
+    /// The newest stands last, so that a change is pushed and rolled back without moving the
+    /// others.
     oldest_first: Vec<Undo<D>>,
 }
 
@@ -86,12 +90,13 @@ impl<D> Chain<D> {
         true
     }
 
-    /// Makes room for one more entry, in a chain without entries for one alone, since most chains come
-    /// to no more. The entries stay, also where there is no memory for it.
+    /// Makes room for one more entry, in a chain without entries for one alone, since most chains
+    /// come to no more. The entries stay, also where there is no memory for it.
     pub fn reserve(&mut self) -> Result<(), AllocError>
         ensures entries { self.new.entries ≡ self.old.entries }
         ensures ok { OnOk result (length self.new.entries < self.new.room) }
-        ensures first { OnOk result (length self.old.entries ≡ 0 → self.new.room ≡ max self.old.room 1) }
+        ensures first { OnOk result (length self.old.entries ≡ 0 → self.new.room
+            ≡ max self.old.room 1) }
         ensures succeeds { length self.old.entries < self.old.room → IsOk result }
     {
         if self.oldest_first.is_empty() {
@@ -101,8 +106,8 @@ impl<D> Chain<D> {
         }
     }
 
-    /// Adds the entry of a change that is made with it, for which room was reserved. A reader that has
-    /// the entry not in view lays its before-image back and then what it laid back before.
+    /// Adds the entry of a change that is made with it, for which room was reserved. A reader that
+    /// has the entry not in view lays its before-image back and then what it laid back before.
     pub fn push(&mut self, undo: Undo<D>)
         requires room { length self.old.entries < self.old.room }
         requires lawful { IsLawful (undo ∷ self.old.entries) }
@@ -133,8 +138,9 @@ impl<D> Chain<D> {
         passed
     }
 
-    /// What stands in the way of a write by the session with the snapshot `stamp`: another session's
-    /// uncommitted write, else the commit above the snapshot with the largest number. A move is neither.
+    /// What stands in the way of a write by the session with the snapshot `stamp`: another
+    /// session's uncommitted write, else the commit above the snapshot with the largest number. A
+    /// move is neither.
     pub fn newer(&self, stamp: u64, session: u32) -> Newer
         requires { IsLawful self.now.entries }
         ensures { result ≡ conflict_of self.now.entries stamp session }
@@ -148,7 +154,7 @@ impl<D> Chain<D> {
         }
     }
 
-    // Another session that has an uncommitted write here, which then is the newest entry.
+    /// Another session that has an uncommitted write here, which then is the newest entry.
     fn other_writer(&self, session: u32) -> Option<u32>
         requires { IsLawful self.now.entries }
         ensures { result ≡ other_writer self.now.entries session }
@@ -161,7 +167,7 @@ impl<D> Chain<D> {
         }
     }
 
-    // The largest number of a commit above the stamp.
+    /// The largest number of a commit above the stamp.
     fn number_above(&self, stamp: u64) -> Option<u64>
         requires { IsLawful self.now.entries }
         ensures { result ≡ largest (numbers_above self.now.entries stamp) }
@@ -180,8 +186,8 @@ impl<D> Chain<D> {
         number
     }
 
-    /// Commits the session's entries: each gets the stamp and the commit's number. Another session sees
-    /// the same as before below the stamp.
+    /// Commits the session's entries: each gets the stamp and the commit's number. Another session
+    /// sees the same as before below the stamp.
     pub fn stamp_all(&mut self, session: u32, stamp: u64, number: u64)
         requires lawful { IsLawful self.old.entries }
         requires newest { NoneStampedAbove self.old.entries stamp }
@@ -199,9 +205,9 @@ impl<D> Chain<D> {
         }
     }
 
-    /// Takes off the session's newest uncommitted entry and hands out its before-image, which is to be
-    /// laid back on the row. None where the session has no such entry. Another session lays back the
-    /// image that is handed out no more, and else the same as before.
+    /// Takes off the session's newest uncommitted entry and hands out its before-image, which is to
+    /// be laid back on the row. None where the session has no such entry. Another session lays back
+    /// the image that is handed out no more, and else the same as before.
     pub fn pop_own(&mut self, session: u32) -> Option<D>
         requires lawful { IsLawful self.old.entries }
         ensures own { is_some result ≡ list_any (λ undo. is_own undo session) self.old.entries }
@@ -233,7 +239,8 @@ impl<D> Chain<D> {
         ensures some { IsSome result ↔ (0 < length self.old.entries) }
         ensures room { self.new.room ≡ self.old.room }
         ensures lawful { IsLawful self.new.entries }
-        ensures views { IfSome result (λ undo. (stamp session : ℕ) → is_in_view undo stamp session ≡ false →
+        ensures views { IfSome result
+            (λ undo. (stamp session : ℕ) → is_in_view undo stamp session ≡ false →
             images_laid_back self.old.entries stamp session ≡
             undo.before ∷ images_laid_back self.new.entries stamp session) }
     {
@@ -242,11 +249,12 @@ impl<D> Chain<D> {
 }
 
 impl<D: Drop> Chain<D> {
-    /// Drops the entries with a stamp at most `oldest`, and tells how many these were. No reader whose
-    /// snapshot has that stamp or a later one sees anything else than before.
+    /// Drops the entries with a stamp at most `oldest`, and tells how many these were. No reader
+    /// whose snapshot has that stamp or a later one sees anything else than before.
     pub fn prune(&mut self, oldest: u64) -> u64
         requires lawful { IsLawful self.old.entries }
-        ensures kept { self.new.entries ≡ filter (λ undo. not (is_stamped_by undo oldest)) self.old.entries }
+        ensures kept { self.new.entries
+            ≡ filter (λ undo. not (is_stamped_by undo oldest)) self.old.entries }
         ensures count { result ≡ count_by (λ undo. is_stamped_by undo oldest) self.old.entries }
         ensures room { self.new.room ≡ self.old.room }
         ensures lawful { IsLawful self.new.entries }

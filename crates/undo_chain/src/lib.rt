@@ -1,4 +1,5 @@
-//! The version chain of a slot: the before-images of its changes, from which each reader gets its own row.
+//! The version chain of a slot: the before-images of its changes, from which each reader gets its
+//! own row.
 #![tactic(auto)]
 
 mod chain;

@@ -52,7 +52,7 @@ fn run(rt: &impl Abort, chain: &mut Chain<u64>, step: Step) -> Result<(), AllocE
     Ok(())
 }
 
-// Commits have the stamps 1 and 3, a move has the stamp 4.
+/// Commits have the stamps 1 and 3, a move has the stamp 4.
 #[test]
 fn a_chain_from_its_first_entry_to_its_last(rt: HostRuntime) -> Result<(), Fail> {
     let cases = [
@@ -111,7 +111,7 @@ fn a_chain_from_its_first_entry_to_its_last(rt: HostRuntime) -> Result<(), Fail>
     Ok(())
 }
 
-// These contracts say it all; the calls only name them.
+/// These contracts say it all; the calls only name them.
 #[test]
 fn the_visible_row() {
     worked::an_older_snapshot_does_not_see_a_later_commit();

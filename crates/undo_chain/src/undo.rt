@@ -1,6 +1,7 @@
 //! An undo entry: one change of a slot, who made it, its stamp, and its before-image.
 ghost use Rattle.std.specs.Prelude.{◌≡◌, ◌↔◌, IsTrue, Some};
-ghost use Rattle.undo_chain.specs.Entry.{is_move, is_own, is_stamped_by, is_in_view, is_open_write_of_another, is_commit_above};
+ghost use Rattle.undo_chain.specs.Entry.{is_move, is_own, is_stamped_by, is_in_view};
+ghost use Rattle.undo_chain.specs.Entry.{is_open_write_of_another, is_commit_above};
 ghost use Rattle.undo_chain.specs.Lawful.{IsWriteOrStamped, MayStandAbove, IsStampedUpTo};
 
 /// What a change did to its slot.
@@ -84,7 +85,7 @@ impl<D> Undo<D> {
         self.stamp.is_some() && !self.is_stamped_by(stamp) && !self.kind.is_move()
     }
 
-    // Whether the entry has no stamp, or one that is at most `stamp`.
+    /// Whether the entry has no stamp, or one that is at most `stamp`.
     pub(crate) fn is_stamped_up_to(&self, stamp: u64) -> bool
         ensures { IsTrue result ↔ IsStampedUpTo stamp self.now }
     {
@@ -94,14 +95,14 @@ impl<D> Undo<D> {
         }
     }
 
-    // Whether the entry has a stamp or is a write.
+    /// Whether the entry has a stamp or is a write.
     pub(crate) fn is_write_or_stamped(&self) -> bool
         ensures { IsTrue result ↔ IsWriteOrStamped self.now }
     {
         self.stamp.is_some() || !self.kind.is_move()
     }
 
-    // Whether the entry may stand above an older one.
+    /// Whether the entry may stand above an older one.
     pub(crate) fn may_stand_above(&self, older: &Undo<D>) -> bool
         ensures { IsTrue result ↔ MayStandAbove self.now older.now }
     {
@@ -113,7 +114,7 @@ impl<D> Undo<D> {
         }
     }
 
-    // Gives the entry its commit's stamp and number.
+    /// Gives the entry its commit's stamp and number.
     pub(crate) fn commit(&mut self, stamp: u64, number: u64)
         ensures { self.new ≡ record self.old { stamp = Some stamp; number = number } }
     {

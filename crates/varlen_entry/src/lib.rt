@@ -33,8 +33,10 @@ pub enum Entry {
 }
 
 impl Entry {
-    ghost use Rattle.std.specs.Prelude.{◌≡◌, ℕ, ◌<◌, ◌≤◌, ◌^◌, ◌++◌, ◌↔◌, Some, IsTrue, List, length, replicate, take};
-    ghost use Rattle.varlen_entry.specs.Entry.{HasValue, IsGathered, IsInline, IsOwned, IsWithin, StandsAt, len_of, place_of, prefix_of, value_of};
+    ghost use Rattle.std.specs.Prelude.{◌≡◌, ℕ, ◌<◌, ◌≤◌, ◌^◌, ◌++◌, ◌↔◌, Some, IsTrue, List};
+    ghost use Rattle.std.specs.Prelude.{length, replicate, take};
+    ghost use Rattle.varlen_entry.specs.Entry.{HasValue, IsGathered, IsInline, IsOwned, IsWithin};
+    ghost use Rattle.varlen_entry.specs.Entry.{StandsAt, len_of, place_of, prefix_of, value_of};
 
     /// How many bytes a value has at most that stands in its entry.
     pub const INLINE: usize = 12;
@@ -165,7 +167,7 @@ impl Entry {
 impl Span {
     ghost use Rattle.std.specs.Prelude.{◌≡◌, ◌+◌, ◌≤◌, drop, length, take};
 
-    // The value, where it stands in this buffer.
+    /// The value, where it stands in this buffer.
     fn within<'a>(&self, buffer: &'a [u8]) -> &'a [u8]
         requires { self.now.place + self.now.len ≤ length buffer.now }
         ensures { result.now ≡ take self.now.len (drop self.now.place buffer.now) }

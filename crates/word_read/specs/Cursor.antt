@@ -12,7 +12,8 @@ words_behind (byte ∷ bytes) = words_of bytes
 abbrev pub word_end : Position → List ℕ → ℕ
 word_end position [] = 0
 word_end position (byte ∷ bytes) =
-    if byte == space && is_outside position then 0 else word_end (position_after position byte) bytes + 1
+    if byte == space && is_outside position then 0
+    else word_end (position_after position byte) bytes + 1
 
 -- how many bytes stand before the first line feed
 abbrev pub line_end : List ℕ → ℕ

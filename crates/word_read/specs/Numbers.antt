@@ -1,5 +1,7 @@
 -- Numbers of at most 64 bits.
-use Rattle.std.specs.Prelude.{ℕ, ◌^◌, ◌+◌, Bool, true, false, ◌&&◌, nat_lt, not, ◌==◌, List, [], ◌∷◌, ℤ, pos, negsuc, Option, None, Some, if◌then◌else◌, option_and_then}
+use Rattle.std.specs.Prelude.{ℕ, ◌^◌, ◌+◌, Bool, true, false, ◌&&◌, nat_lt, not, ◌==◌, List, []}
+use Rattle.std.specs.Prelude.{◌∷◌, ℤ, pos, negsuc, Option, None, Some, if◌then◌else◌}
+use Rattle.std.specs.Prelude.{option_and_then}
 use Rattle.workload_spec.specs.Valid.{is_within}
 
 -- each byte is a decimal digit
@@ -20,7 +22,8 @@ magnitude (negsuc number) = number + 1
 
 -- the integer, where its magnitude is below 2^64
 abbrev pub small_integer : Option ℤ → Option ℤ
-small_integer o = option_and_then (λ number. if is_small (magnitude number) then Some number else None) o
+small_integer o = option_and_then
+    (λ number. if is_small (magnitude number) then Some number else None) o
 
 -- the first byte is no 0, unless it stands alone
 abbrev pub is_unpadded : List ℕ → Bool

@@ -1,5 +1,6 @@
 -- The values that words spell, read strictly from left to right.
-use Rattle.std.specs.Prelude.{ℕ, ◌+◌, ◌*◌, Bool, true, false, ◌&&◌, ◌||◌, not, ◌==◌, List, [], ◌∷◌, Option, None, Some, option_map, if◌then◌else◌, bytes_eq, codes}
+use Rattle.std.specs.Prelude.{ℕ, ◌+◌, ◌*◌, Bool, true, false, ◌&&◌, ◌||◌, not, ◌==◌, List, [], ◌∷◌}
+use Rattle.std.specs.Prelude.{Option, None, Some, option_map, if◌then◌else◌, bytes_eq, codes}
 use Rattle.std.specs.Char.{digit_value}
 use Rattle.workload_spec.specs.Words.{quote, backslash, is_control}
 use Rattle.workload_spec.specs.Valid.{is_within}
@@ -27,10 +28,12 @@ text_from Itself (byte ∷ bytes) =
     else if is_control byte then None
     else option_map (λ text. byte ∷ text) (text_from Itself bytes)
 text_from Escape (byte ∷ bytes) =
-    if byte == quote || byte == backslash then option_map (λ text. byte ∷ text) (text_from Itself bytes)
+    if byte == quote || byte == backslash
+    then option_map (λ text. byte ∷ text) (text_from Itself bytes)
     else if byte == hex_mark then text_from FirstDigit bytes
     else None
-text_from FirstDigit (byte ∷ bytes) = if is_hex byte then text_from (SecondDigit (digit_value byte)) bytes else None
+text_from FirstDigit (byte ∷ bytes) = if is_hex byte
+    then text_from (SecondDigit (digit_value byte)) bytes else None
 text_from (SecondDigit high) (byte ∷ bytes) =
     if is_hex byte && is_control (high * 16 + digit_value byte)
     then option_map (λ text. (high * 16 + digit_value byte) ∷ text) (text_from Itself bytes)
@@ -46,7 +49,8 @@ abbrev pub pairs_of : List ℕ → Option (List ℕ)
 pairs_of [] = Some []
 pairs_of (digit ∷ []) = None
 pairs_of (high ∷ low ∷ rest) =
-    if is_hex high && is_hex low then option_map (λ bytes. (digit_value high * 16 + digit_value low) ∷ bytes) (pairs_of rest) else None
+    if is_hex high && is_hex low then option_map
+    (λ bytes. (digit_value high * 16 + digit_value low) ∷ bytes) (pairs_of rest) else None
 
 -- the bytes that a word spells: behind an `x`
 abbrev pub blob_of : List ℕ → Option (List ℕ)
@@ -55,4 +59,5 @@ blob_of (mark ∷ digits) = if mark == hex_mark then pairs_of digits else None
 
 -- the truth value that a word spells
 abbrev pub truth_of : List ℕ → Option Bool
-truth_of word = if bytes_eq word (codes "true") then Some true else if bytes_eq word (codes "false") then Some false else None
+truth_of word = if bytes_eq word (codes "true") then Some true else if bytes_eq word (codes "false")
+    then Some false else None

@@ -1,5 +1,5 @@
-//! The words of workloads and replies, read in place: lines and their words, split off one by one, and the numbers,
-//! truth values, texts and bytes that words spell.
+//! The words of workloads and replies, read in place: lines and their words, split off one by one,
+//! and the numbers, truth values, texts and bytes that words spell.
 #![tactic(auto)]
 
 mod lines;

@@ -1,5 +1,6 @@
 //! Lines, split off one by one.
-ghost use Rattle.std.specs.Prelude.{◌≡◌, ◌+◌, ◌<◌, ◌≤◌, ◌∷◌, ◌++◌, [], ◌==◌, not, true, length, take, IfSome, IfNone};
+ghost use Rattle.std.specs.Prelude.{◌≡◌, ◌+◌, ◌<◌, ◌≤◌, ◌∷◌, ◌++◌, [], ◌==◌, not, true, length};
+ghost use Rattle.std.specs.Prelude.{take, IfSome, IfNone};
 ghost use Rattle.std.specs.List.{list_all};
 ghost use Rattle.workload_spec.specs.Words.{line_feed};
 ghost use Rattle.workload_spec.specs.Reading.{parts};
@@ -10,7 +11,8 @@ use memchr::memchr;
 /// The first line without its line feed, and the bytes behind it; none where no line feed stands.
 #[tactic(auto, using(crate::proofs::LineEnds::cut, crate::proofs::LineEnds::whole, crate::proofs::LineEnds::ends))]
 pub fn split_line(bytes: &[u8]) -> Option<(&[u8], &[u8])>
-    ensures some { IfSome result (λ x. parts line_feed bytes.now ≡ x.0.now ∷ parts line_feed x.1.now) }
+    ensures some { IfSome result (λ x. parts line_feed bytes.now
+        ≡ x.0.now ∷ parts line_feed x.1.now) }
     ensures none { IfNone result (parts line_feed bytes.now ≡ bytes.now ∷ []) }
     ensures text { IfSome result (λ x. bytes.now ≡ x.0.now ++ line_feed ∷ x.1.now) }
     ensures whole { IfSome result (λ x. list_all (λ byte. not (byte == line_feed)) x.0.now ≡ true) }

@@ -1,7 +1,9 @@
 //! Numbers: the words that are the decimal spelling of one.
 ghost use Rattle.std.specs.Prelude.{◌≡◌, ◌&&◌, if◌then◌else◌};
-ghost use Rattle.workload_spec.specs.Reading.{natural_of, natural_within, integer_of, value_of_digits};
-ghost use Rattle.word_read.specs.Numbers.{are_digits, is_small, is_unpadded, small_natural, small_integer};
+ghost use Rattle.workload_spec.specs.Reading.{natural_of, natural_within, integer_of};
+ghost use Rattle.workload_spec.specs.Reading.{value_of_digits};
+ghost use Rattle.word_read.specs.Numbers.{are_digits, is_small, is_unpadded, small_natural};
+ghost use Rattle.word_read.specs.Numbers.{small_integer};
 
 /// The number below 2^64 that the word spells: its digits without a leading zero.
 #[tactic(auto, using(crate::proofs::Decimals::natural_small))]
@@ -28,7 +30,8 @@ fn is_unpadded(word: &[u8]) -> bool
 
 /// The value of decimal digits, where nothing else stands there and the value is below 2^64.
 fn digits_value(word: &[u8]) -> Option<u64>
-    ensures { result ≡ (if are_digits word.now && is_small (value_of_digits word.now) then Some (value_of_digits word.now) else None) }
+    ensures { result ≡ (if are_digits word.now && is_small (value_of_digits word.now)
+        then Some (value_of_digits word.now) else None) }
 {
     let mut value: u64 = 0;
     for byte in word {

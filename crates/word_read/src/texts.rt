@@ -1,10 +1,13 @@
 //! Texts and bytes: the words that spell them.
-ghost use Rattle.std.specs.Prelude.{◌≡◌, ◌≤◌, ◌<◌, ◌∷◌, ◌*◌, ◌+◌, ◌&&◌, true, false, IfOk, MatchOption, None, option_map, length, take, slice_index, bytes_eq, codes};
+ghost use Rattle.std.specs.Prelude.{◌≡◌, ◌≤◌, ◌<◌, ◌∷◌, ◌*◌, ◌+◌, ◌&&◌, true, false, IfOk};
+ghost use Rattle.std.specs.Prelude.{MatchOption, None, option_map, length, take, slice_index};
+ghost use Rattle.std.specs.Prelude.{bytes_eq, codes};
 ghost use Rattle.std.specs.List.{list_all};
 ghost use Rattle.std.specs.Char.{digit_value};
 ghost use Rattle.workload_spec.specs.Words.{is_control};
 ghost use Rattle.workload_spec.specs.Reading.{Itself, Escape, FirstDigit};
-ghost use Rattle.word_read.specs.Spellings.{is_hex, is_plain, text_from, text_of, pairs_of, blob_of};
+ghost use Rattle.word_read.specs.Spellings.{is_hex, is_plain, text_from, text_of, pairs_of};
+ghost use Rattle.word_read.specs.Spellings.{blob_of};
 
 use std::alloc::{AllocError, Global};
 
@@ -20,7 +23,8 @@ pub fn text_of(alloc: Global, word: &[u8]) -> Result<Option<Vec<u8>>, AllocError
 
 /// The text that these bytes spell behind its opening quote.
 fn text_behind(alloc: Global, spelling: &[u8]) -> Result<Option<Vec<u8>>, AllocError>
-    ensures { IfOk result (λ text. option_map (λ bytes. bytes.items) text ≡ text_from Itself spelling.now) }
+    ensures { IfOk result (λ text. option_map (λ bytes. bytes.items) text
+        ≡ text_from Itself spelling.now) }
 {
     let mut text = Vec::with_capacity(alloc, spelling.len())?;
     let mut rest = spelling;
@@ -52,25 +56,28 @@ fn plain_length(bytes: &[u8]) -> usize
     bytes.len()
 }
 
-// Whether the byte stands for itself in a text.
+/// Whether the byte stands for itself in a text.
 fn is_plain(byte: u8) -> bool
     ensures { result ≡ is_plain byte }
 {
     !(byte == b'"' || byte == b'\\' || is_control(byte))
 }
 
-// Whether the byte is a control character, which a text spells by its digits.
+/// Whether the byte is a control character, which a text spells by its digits.
 fn is_control(byte: u8) -> bool
     ensures { result ≡ is_control byte }
 {
     byte < 0x20 || byte == 0x7f
 }
 
-/// The byte that an escape spells, and what stands behind it, where no byte stands for itself and the text does not end.
+/// The byte that an escape spells, and what stands behind it, where no byte stands for itself and
+/// the text does not end.
 fn escape_in(spelling: &[u8]) -> Option<(u8, &[u8])>
     requires stopped { 0 < length spelling.now → is_plain (slice_index spelling.now 0) ≡ false }
     requires unclosed { bytes_eq spelling.now (codes "\"") ≡ false }
-    ensures read { MatchOption result (text_from Itself spelling.now ≡ None) (λ x. text_from Itself spelling.now ≡ option_map (λ text. x.0 ∷ text) (text_from Itself x.1.now)) }
+    ensures read { MatchOption result (text_from Itself spelling.now ≡ None)
+        (λ x. text_from Itself spelling.now
+        ≡ option_map (λ text. x.0 ∷ text) (text_from Itself x.1.now)) }
     ensures shorter { MatchOption result (Unit {0}) (λ x. length x.1.now < length spelling.now) }
 {
     match spelling {
@@ -81,7 +88,9 @@ fn escape_in(spelling: &[u8]) -> Option<(u8, &[u8])>
 
 /// The byte that an escape spells behind its backslash, and what stands behind it.
 fn escaped(spelling: &[u8]) -> Option<(u8, &[u8])>
-    ensures read { MatchOption result (text_from Escape spelling.now ≡ None) (λ x. text_from Escape spelling.now ≡ option_map (λ text. x.0 ∷ text) (text_from Itself x.1.now)) }
+    ensures read { MatchOption result (text_from Escape spelling.now ≡ None)
+        (λ x. text_from Escape spelling.now
+        ≡ option_map (λ text. x.0 ∷ text) (text_from Itself x.1.now)) }
     ensures shorter { MatchOption result (Unit {0}) (λ x. length x.1.now < length spelling.now) }
 {
     match spelling {
@@ -99,7 +108,9 @@ fn escaped(spelling: &[u8]) -> Option<(u8, &[u8])>
 
 /// The control byte that two digits spell, and what stands behind them.
 fn control_escaped(digits: &[u8]) -> Option<(u8, &[u8])>
-    ensures read { MatchOption result (text_from FirstDigit digits.now ≡ None) (λ x. text_from FirstDigit digits.now ≡ option_map (λ text. x.0 ∷ text) (text_from Itself x.1.now)) }
+    ensures read { MatchOption result (text_from FirstDigit digits.now ≡ None)
+        (λ x. text_from FirstDigit digits.now
+        ≡ option_map (λ text. x.0 ∷ text) (text_from Itself x.1.now)) }
     ensures shorter { MatchOption result (Unit {0}) (λ x. length x.1.now < length digits.now) }
 {
     match digits {
@@ -117,7 +128,9 @@ fn control_escaped(digits: &[u8]) -> Option<(u8, &[u8])>
 
 /// The byte of two hexadecimal digits in lower case.
 fn hex_byte(high: u8, low: u8) -> Option<u8>
-    ensures { MatchOption result (is_hex high && is_hex low ≡ false) (λ byte. (is_hex high && is_hex low ≡ true) × (byte ≡ digit_value high * 16 + digit_value low)) }
+    ensures { MatchOption result (is_hex high && is_hex low ≡ false)
+        (λ byte. (is_hex high && is_hex low ≡ true)
+        × (byte ≡ digit_value high * 16 + digit_value low)) }
 {
     let high = hex_value(high)?;
     let low = hex_value(low)?;
@@ -126,7 +139,8 @@ fn hex_byte(high: u8, low: u8) -> Option<u8>
 
 /// The value of a hexadecimal digit in lower case.
 fn hex_value(digit: u8) -> Option<u8>
-    ensures value { MatchOption result (is_hex digit ≡ false) (λ value. (is_hex digit ≡ true) × (value ≡ digit_value digit)) }
+    ensures value { MatchOption result (is_hex digit ≡ false)
+        (λ value. (is_hex digit ≡ true) × (value ≡ digit_value digit)) }
     ensures below { MatchOption result (Unit {0}) (λ value. value < 16) }
 {
     match digit {
@@ -136,7 +150,8 @@ fn hex_value(digit: u8) -> Option<u8>
     }
 }
 
-/// The bytes that the word spells behind an `x`, two digits for each; none where it spells no bytes.
+/// The bytes that the word spells behind an `x`, two digits for each; none where it spells no
+/// bytes.
 pub fn blob_of(alloc: Global, word: &[u8]) -> Result<Option<Vec<u8>>, AllocError>
     ensures { IfOk result (λ blob. option_map (λ bytes. bytes.items) blob ≡ blob_of word.now) }
 {

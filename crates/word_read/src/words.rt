@@ -11,7 +11,7 @@ pub fn split_word(line: &[u8]) -> (&[u8], &[u8])
     line.split_at(word_length(line))
 }
 
-// How many bytes the line's first word has; a text is one word with the spaces in it.
+/// How many bytes the line's first word has; a text is one word with the spaces in it.
 fn word_length(line: &[u8]) -> usize
     ensures value { result ≡ word_end AtStart line.now }
     ensures within { result ≤ length line.now }
@@ -26,9 +26,11 @@ fn word_length(line: &[u8]) -> usize
     }
 }
 
-/// How many bytes of a text, behind its quote, stand up to its closing quote with it; all where none closes it.
+/// How many bytes of a text, behind its quote, stand up to its closing quote with it; all where
+/// none closes it.
 fn text_length(text: &[u8]) -> usize
-    ensures value { word_end WithinText text.now ≡ result + word_end WithinWord (drop result text.now) }
+    ensures value { word_end WithinText text.now
+        ≡ result + word_end WithinWord (drop result text.now) }
     ensures within { result ≤ length text.now }
 {
     let mut is_escaped = false;
@@ -56,7 +58,8 @@ fn bare_length(bytes: &[u8]) -> usize
     bytes.len()
 }
 
-/// The first of the words that stand behind a word, and what stands behind it; none where no word is left.
+/// The first of the words that stand behind a word, and what stands behind it; none where no word
+/// is left.
 pub fn word_behind(words: &[u8]) -> Option<(&[u8], &[u8])>
     ensures none { IfNone result (words_behind words.now ≡ []) }
     ensures some { IfSome result (λ x. words_behind words.now ≡ x.0.now ∷ words_behind x.1.now) }

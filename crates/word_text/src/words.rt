@@ -18,7 +18,7 @@ pub fn put_natural(out: &mut Vec<u8>, number: u64) -> Result<(), AllocError>
     out.extend_from_slice(buffer.format(number).as_bytes())
 }
 
-// The digits of a number, with a sign where it is negative.
+/// The digits of a number, with a sign where it is negative.
 fn put_integer(out: &mut Vec<u8>, number: i128) -> Result<(), AllocError>
     ensures { OnOk result (out.new.items ≡ out.old.items ++ signed_decimal number) }
 {
@@ -35,7 +35,7 @@ fn put_hex(out: &mut Vec<u8>, byte: u8) -> Result<(), AllocError>
     Ok(())
 }
 
-// The hexadecimal digit of a value, in lower case.
+/// The hexadecimal digit of a value, in lower case.
 fn hex_digit(digit: u8) -> u8
     requires { digit < 16 }
     ensures { result ≡ digit_char digit }
@@ -47,7 +47,7 @@ fn hex_digit(digit: u8) -> u8
     }
 }
 
-// A byte of a text as it is spelled between quotes.
+/// A byte of a text as it is spelled between quotes.
 fn put_escaped(out: &mut Vec<u8>, byte: u8) -> Result<(), AllocError>
     ensures { OnOk result (out.new.items ≡ out.old.items ++ escaped byte) }
 {
@@ -75,7 +75,7 @@ pub fn put_quoted(out: &mut Vec<u8>, text: &[u8]) -> Result<(), AllocError>
     Ok(())
 }
 
-// The word of bytes: two digits for each, behind an `x`.
+/// The word of bytes: two digits for each, behind an `x`.
 fn put_blob(out: &mut Vec<u8>, bytes: &[u8]) -> Result<(), AllocError>
     ensures { OnOk result (out.new.items ≡ out.old.items ++ 120 ∷ flat_map hex_digits bytes.now) }
 {
@@ -86,7 +86,7 @@ fn put_blob(out: &mut Vec<u8>, bytes: &[u8]) -> Result<(), AllocError>
     Ok(())
 }
 
-// The one spelling of a cell.
+/// The one spelling of a cell.
 fn put_cell(out: &mut Vec<u8>, cell: &Cell) -> Result<(), AllocError>
     ensures { OnOk result (out.new.items ≡ out.old.items ++ cell_text cell.now) }
 {
@@ -135,7 +135,8 @@ pub fn put_key(out: &mut Vec<u8>, key: i64) -> Result<(), AllocError>
     put_integer(out, key as i128)
 }
 
-/// The name of a table by its place, behind a space; nothing more than the space where no table has this place.
+/// The name of a table by its place, behind a space; nothing more than the space where no table has
+/// this place.
 pub fn put_table_name(out: &mut Vec<u8>, tables: &[TableDecl], place: u32) -> Result<(), AllocError>
     ensures { OnOk result (out.new.items ≡ out.old.items ++ 32 ∷ name_of_table tables.now place) }
 {

@@ -24,4 +24,5 @@ written_row _ = []
 
 -- each cell of bytes that the script writes has bytes
 abbrev pub writes_only_bytes : Script → Bool
-writes_only_bytes script = list_all (λ line. list_all has_only_bytes (written_row line.command)) (all_lines script)
+writes_only_bytes script = list_all (λ line. list_all has_only_bytes (written_row line.command))
+    (all_lines script)

@@ -1,10 +1,11 @@
-//! Laws of workload texts: an extent takes of the format what runs within it, and reading line by line and printing
-//! describe the same texts.
+//! Laws of workload texts: an extent takes of the format what runs within it, and reading line by
+//! line and printing describe the same texts.
 #![tactic(auto)]
 
 ghost use Rattle.workload_laws.specs.Laws.{ReadWithinIsRead, ReadIsText, TextIsRead};
 
-/// Bytes are read within an extent exactly where the whole format reads them and the workload runs within the extent.
+/// Bytes are read within an extent exactly where the whole format reads them and the workload runs
+/// within the extent.
 pub fn an_extent_takes_what_runs_within_it()
     ensures { ReadWithinIsRead }
 {}

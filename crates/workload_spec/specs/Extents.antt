@@ -7,7 +7,8 @@ use Rattle.workload_spec.specs.declared.command.Command.TheVariants as command
 use Rattle.workload_spec.specs.declared.extent.Commands.{Commands}
 use Rattle.workload_spec.specs.declared.extent.Extent.{Extent}
 use Rattle.workload_spec.specs.declared.script.Script.{Script}
-use Rattle.workload_spec.specs.Valid.{is_within, most_tables, most_sessions, most_workers, most_turns, all_lines}
+use Rattle.workload_spec.specs.Valid.{is_within, most_tables, most_sessions, most_workers}
+use Rattle.workload_spec.specs.Valid.{most_turns, all_lines}
 
 -- the whole format
 abbrev pub whole : Extent
@@ -53,19 +54,22 @@ is_taken taken (command.Seal table block) = taken.seal
 is_taken taken (command.Gather table block) = taken.gather
 is_taken taken (command.Export table) = taken.export
 
--- The script runs within the extent: it has no more tables, columns, sessions, workers and turns, one round where
--- none are parted, and only commands that are taken.
+-- The script runs within the extent: it has no more tables, columns, sessions, workers and turns,
+-- one round where none are parted, and only commands that are taken.
 abbrev pub runs_within : Extent → Script → Bool
 runs_within extent script = nat_le (length script.tables) extent.tables
     && list_all (λ table. nat_le (length table.schema) extent.columns) script.tables
-    && nat_le script.sessions extent.sessions && nat_le script.workers extent.workers && nat_le script.turns extent.turns
+    && nat_le script.sessions extent.sessions && nat_le script.workers extent.workers
+    && nat_le script.turns extent.turns
     && (extent.parts_rounds || nat_le (length script.rounds) 1)
     && list_all (λ line. is_taken extent.commands line.command) (all_lines script)
 
 abbrev pub RunsWithin : Extent → Script → Type 0
 RunsWithin extent script = runs_within extent script ≡ true
 
--- An extent is one of the format: no bound passes the whole's, and there is room for the key's column.
+-- An extent is one of the format: no bound passes the whole's, and there is room for the key's
+-- column.
 abbrev pub is_extent : Extent → Bool
 is_extent extent = nat_le extent.tables most_tables && is_within 1 most_columns extent.columns
-    && nat_le extent.sessions most_sessions && nat_le extent.workers most_workers && nat_le extent.turns most_turns
+    && nat_le extent.sessions most_sessions && nat_le extent.workers most_workers
+    && nat_le extent.turns most_turns

@@ -1,7 +1,11 @@
--- Which bytes are a workload, line by line, and else the first line that is none, with the first word or rule
--- on it that fails. An extent says how much of the format is taken; six rules look at it: the room for a column and
--- for a table, the bounds of `sessions` and `workers`, the test for a line `--`, and the form of a command.
-use Rattle.std.specs.Prelude.{ℕ, ◌+◌, ◌-◌, ◌%◌, Bool, true, false, ◌&&◌, ◌||◌, not, ◌==◌, nat_lt, List, [], ◌∷◌, ◌++◌, ℤ, length, take, drop, find, position, take_while, Option, None, Some, option_map, is_none, slice_get, bytes_eq, codes, decimal, Result, Ok, Err}
+-- Which bytes are a workload, line by line, and else the first line that is none, with the first
+-- word or rule on it that fails. An extent says how much of the format is taken; six rules look at
+-- it: the room for a column and for a table, the bounds of `sessions` and `workers`, the test for a
+-- line `--`, and the form of a command.
+use Rattle.std.specs.Prelude.{ℕ, ◌+◌, ◌-◌, ◌%◌, Bool, true, false, ◌&&◌, ◌||◌, not, ◌==◌, nat_lt}
+use Rattle.std.specs.Prelude.{List, [], ◌∷◌, ◌++◌, ℤ, length, take, drop, find, position}
+use Rattle.std.specs.Prelude.{take_while, Option, None, Some, option_map, is_none, slice_get}
+use Rattle.std.specs.Prelude.{bytes_eq, codes, decimal, Result, Ok, Err}
 use Rattle.std.specs.List.{list_any, join_with_byte}
 use Rattle.std.specs.Option.{option_map_or, option_or}
 use Rattle.cell_model.specs.declared.cell.Cell.{Cell}
@@ -20,9 +24,11 @@ use Rattle.workload_spec.specs.declared.extent.Commands.{Commands}
 use Rattle.workload_spec.specs.declared.script.Line.{Line}
 use Rattle.workload_spec.specs.declared.script.Script.{Script}
 use Rattle.workload_spec.specs.Extents.{whole}
-use Rattle.workload_spec.specs.Reading.{onto_first, parts, words_of, natural_of, natural_within, integer_of, cell_of}
+use Rattle.workload_spec.specs.Reading.{onto_first, parts, words_of, natural_of, natural_within}
+use Rattle.workload_spec.specs.Reading.{integer_of, cell_of}
 use Rattle.workload_spec.specs.ScriptText.{kind_text}
-use Rattle.workload_spec.specs.Valid.{most_blocks, least_slots, is_name, is_declared, is_key_number, is_block_of, is_export}
+use Rattle.workload_spec.specs.Valid.{most_blocks, least_slots, is_name, is_declared, is_key_number}
+use Rattle.workload_spec.specs.Valid.{is_block_of, is_export}
 use Rattle.workload_spec.specs.Words.{line_feed, spaced, lines_text}
 
 -- what is read, and then what is read with it; the first failure stands
@@ -69,13 +75,15 @@ number cause low high words = do
 
 -- each kind
 abbrev pub kinds : List Kind
-kinds = kind.I8 ∷ kind.I16 ∷ kind.I32 ∷ kind.I64 ∷ kind.U8 ∷ kind.U16 ∷ kind.U32 ∷ kind.U64 ∷ kind.Bool ∷ kind.Utf8 ∷ kind.Binary ∷ []
+kinds = kind.I8 ∷ kind.I16 ∷ kind.I32 ∷ kind.I64 ∷ kind.U8 ∷ kind.U16 ∷ kind.U32 ∷ kind.U64
+    ∷ kind.Bool ∷ kind.Utf8 ∷ kind.Binary ∷ []
 
 -- the kind that the word names, and whether a question mark follows its name
 abbrev pub kind_of : List ℕ → Option (Kind × Bool)
 kind_of word = option_or
     (option_map (λ kind. (kind, false)) (find (λ kind. bytes_eq (kind_text kind) word) kinds))
-    (option_map (λ kind. (kind, true)) (find (λ kind. bytes_eq (kind_text kind ++ codes "?") word) kinds))
+    (option_map (λ kind. (kind, true))
+    (find (λ kind. bytes_eq (kind_text kind ++ codes "?") word) kinds))
 
 -- what parts a column's name from its kind
 abbrev pub colon : ℕ
@@ -91,7 +99,8 @@ before_colon word = take_while (λ byte. not (byte == colon)) word
 abbrev pub after_colon : List ℕ → List ℕ
 after_colon word = drop (length (before_colon word) + 1) word
 
--- A column behind others: a name, which none of these has, a colon and a kind; and there is room for it.
+-- A column behind others: a name, which none of these has, a colon and a kind; and there is room
+-- for it.
 abbrev pub column_of : Extent → List Column → List ℕ → Result Column Cause
 column_of extent columns word = do
   named ← rule cause.Name (is_name (before_colon word))
@@ -101,10 +110,12 @@ column_of extent columns word = do
   Ok (record { name = before_colon word; kind = kind.0; nullable = kind.1 })
 
 -- the columns behind others, as far as words have a colon, and the words after them
-abbrev pub columns_from : Extent → List Column → List (List ℕ) → Result (List Column × List (List ℕ)) Cause
+abbrev pub columns_from : Extent → List Column → List (List ℕ)
+    → Result (List Column × List (List ℕ)) Cause
 columns_from extent columns [] = Ok (columns, [])
 columns_from extent columns (word ∷ words) = elim (has_colon word) [
-  | true ↦ column_of extent columns word >>= λ column. columns_from extent (columns ++ column ∷ []) words
+  | true ↦ column_of extent columns word >>= λ column. columns_from extent (columns ++ column ∷ [])
+      words
   | false ↦ Ok (columns, word ∷ words)
 ]
 
@@ -112,8 +123,8 @@ columns_from extent columns (word ∷ words) = elim (has_colon word) [
 abbrev pub key_column : Column
 key_column = record { name = codes "key"; kind = kind.I64; nullable = false }
 
--- A table's line behind those of these tables: `table`, a name that none of them has, `key:i64`, further
--- columns, `slots` and `blocks` with their numbers, and nothing more.
+-- A table's line behind those of these tables: `table`, a name that none of them has, `key:i64`,
+-- further columns, `slots` and `blocks` with their numbers, and nothing more.
 abbrev pub table_of : Extent → List TableDecl → List (List ℕ) → Result TableDecl Cause
 table_of extent tables words = do
   line ← keyword cause.Table (codes "table") words
@@ -142,19 +153,29 @@ pub data Form : Type 0 where
 
 -- each command's first word, its form, and whether it is taken
 abbrev pub forms : Commands → List (List ℕ × Form × Bool)
-forms taken = (codes "begin", Alone command.Begin, taken.begin) ∷ (codes "get", OfKey command.Get, taken.get) ∷ (codes "scan", OfTable command.Scan, taken.scan)
-    ∷ (codes "insert", OfRow command.Insert, taken.insert) ∷ (codes "update", OfRow command.Update, taken.update) ∷ (codes "delete", OfKey command.Delete, taken.delete)
-    ∷ (codes "commit", Alone command.Commit, taken.commit) ∷ (codes "abort", Alone command.Abort, taken.abort) ∷ (codes "observe", Alone command.Observe, taken.observe)
-    ∷ (codes "prune", Alone command.Prune, taken.prune) ∷ (codes "compact", OfTable command.Compact, taken.compact) ∷ (codes "seal", OfBlock command.Seal, taken.seal)
-    ∷ (codes "gather", OfBlock command.Gather, taken.gather) ∷ (codes "export", OfTable command.Export, taken.export) ∷ []
+forms taken = (codes "begin", Alone command.Begin, taken.begin)
+    ∷ (codes "get", OfKey command.Get, taken.get) ∷ (codes "scan", OfTable command.Scan, taken.scan)
+    ∷ (codes "insert", OfRow command.Insert, taken.insert)
+    ∷ (codes "update", OfRow command.Update, taken.update)
+    ∷ (codes "delete", OfKey command.Delete, taken.delete)
+    ∷ (codes "commit", Alone command.Commit, taken.commit)
+    ∷ (codes "abort", Alone command.Abort, taken.abort)
+    ∷ (codes "observe", Alone command.Observe, taken.observe)
+    ∷ (codes "prune", Alone command.Prune, taken.prune)
+    ∷ (codes "compact", OfTable command.Compact, taken.compact)
+    ∷ (codes "seal", OfBlock command.Seal, taken.seal)
+    ∷ (codes "gather", OfBlock command.Gather, taken.gather)
+    ∷ (codes "export", OfTable command.Export, taken.export) ∷ []
 
 -- the form of the command whose first word this is, where it is taken
 abbrev pub form_of : Extent → List ℕ → Option Form
-form_of extent word = option_map (λ entry. entry.1) (find (λ entry. bytes_eq entry.0 word && entry.2) (forms extent.commands))
+form_of extent word = option_map (λ entry. entry.1)
+    (find (λ entry. bytes_eq entry.0 word && entry.2) (forms extent.commands))
 
 -- the place of the declared table of this name
 abbrev pub table_named : List TableDecl → List ℕ → Result ℕ Cause
-table_named tables name = or_cause cause.Unknown (position (λ table. bytes_eq table.name name) tables)
+table_named tables name = or_cause cause.Unknown
+    (position (λ table. bytes_eq table.name name) tables)
 
 -- the key that the word is
 abbrev pub key_in : List ℕ → Result ℤ Cause
@@ -176,8 +197,8 @@ cells_of (column ∷ columns) (word ∷ words) = do
   cells ← cells_of columns words
   Ok (cell ∷ cells)
 
--- A command of this form with these words: first their number, then the table, the key, the cells and the block.
--- The number of cells is judged where the table is declared.
+-- A command of this form with these words: first their number, then the table, the key, the cells
+-- and the block. The number of cells is judged where the table is declared.
 abbrev pub formed : List TableDecl → Form → List (List ℕ) → Result Command Cause
 formed tables (Alone command) words = do
   end ← no_word cause.Command words
@@ -221,8 +242,8 @@ line_of extent tables sessions exported words = do
   once ← rule cause.Export (not (exported && is_export command))
   Ok (record { session = session.0; command = command })
 
--- The lines of a workload. A line is whole where a line feed ends it: of the parts between line feeds all but the
--- last are, which is empty where the last line is whole too.
+-- The lines of a workload. A line is whole where a line feed ends it: of the parts between line
+-- feeds all but the last are, which is empty where the last line is whole too.
 
 -- The first line that is none of a workload, counted from 1, and the cause.
 pub record Fault : Type 0 where
@@ -255,7 +276,8 @@ cause_word cause.Parting = codes "parting"
 
 -- The text of a refusal: `refused`, the line and the cause.
 abbrev pub refused_text : Fault → List ℕ
-refused_text fault = lines_text (spaced (codes "refused" ∷ decimal fault.line ∷ cause_word fault.cause ∷ []) ∷ [])
+refused_text fault = lines_text
+    (spaced (codes "refused" ∷ decimal fault.line ∷ cause_word fault.cause ∷ []) ∷ [])
 
 -- the result of a line's words
 abbrev pub on_line : {A : Type 0} → ℕ → Result A Cause → Result A Fault
@@ -271,28 +293,36 @@ next_line at absent (line ∷ next ∷ rest) = Ok (line, next ∷ rest)
 
 -- the line's first word is `table`
 abbrev pub is_table_line : List ℕ → Bool
-is_table_line line = option_map_or (λ word. bytes_eq word (codes "table")) (slice_get (words_of line) 0) false
+is_table_line line = option_map_or (λ word. bytes_eq word (codes "table"))
+    (slice_get (words_of line) 0) false
 
--- the tables behind others, as far as lines begin with `table`, and the parts after them; where there is no more room one is too many
-abbrev pub tables_from : Extent → ℕ → List TableDecl → List (List ℕ) → Result (List TableDecl × List (List ℕ)) Fault
+-- the tables behind others, as far as lines begin with `table`, and the parts after them; where
+-- there is no more room one is too many
+abbrev pub tables_from : Extent → ℕ → List TableDecl → List (List ℕ)
+    → Result (List TableDecl × List (List ℕ)) Fault
 tables_from extent at tables [] = Ok (tables, [])
 tables_from extent at tables (last ∷ []) = Ok (tables, last ∷ [])
 tables_from extent at tables (line ∷ next ∷ rest) = elim (is_table_line line) [
   | true ↦ on_line at (rule cause.Table (nat_lt (length tables) extent.tables)) >>= λ room.
-      on_line at (table_of extent tables (words_of line)) >>= λ table. tables_from extent (at + 1) (tables ++ table ∷ []) (next ∷ rest)
+      on_line at (table_of extent tables (words_of line)) >>= λ table. tables_from extent (at + 1)
+      (tables ++ table ∷ []) (next ∷ rest)
   | false ↦ Ok (tables, line ∷ next ∷ rest)
 ]
 
 -- the rounds of the lines that are left, a line `--` between each two
-abbrev pub rounds_from : Extent → List TableDecl → ℕ → ℕ → Bool → List (List ℕ) → Result (List (List Line)) Fault
+abbrev pub rounds_from : Extent → List TableDecl → ℕ → ℕ → Bool → List (List ℕ)
+    → Result (List (List Line)) Fault
 rounds_from extent tables sessions at exported [] = Ok ([] ∷ [])
 rounds_from extent tables sessions at exported ([] ∷ []) = Ok ([] ∷ [])
 rounds_from extent tables sessions at exported ((byte ∷ bytes) ∷ []) = on_line at (Err cause.Line)
-rounds_from extent tables sessions at exported (line ∷ next ∷ rest) = elim (extent.parts_rounds && bytes_eq line (codes "--")) [
-  | true ↦ rounds_from extent tables sessions (at + 1) exported (next ∷ rest) >>= λ rounds. Ok ([] ∷ rounds)
-  | false ↦ on_line at (line_of extent tables sessions exported (words_of line)) >>= λ read.
-      rounds_from extent tables sessions (at + 1) (exported || is_export read.command) (next ∷ rest) >>= λ rounds. Ok (onto_first read rounds)
-]
+rounds_from extent tables sessions at exported (line ∷ next ∷ rest) = elim
+    (extent.parts_rounds && bytes_eq line (codes "--")) [
+      | true ↦ rounds_from extent tables sessions (at + 1) exported (next ∷ rest) >>= λ rounds. Ok
+          ([] ∷ rounds)
+      | false ↦ on_line at (line_of extent tables sessions exported (words_of line)) >>= λ read.
+          rounds_from extent tables sessions (at + 1) (exported || is_export read.command) (next ∷ rest)
+          >>= λ rounds. Ok (onto_first read rounds)
+    ]
 
 -- how many sessions there are
 abbrev pub sessions_of : Extent → List (List ℕ) → Result ℕ Cause
@@ -311,7 +341,8 @@ workers_of extent words = do
   end ← no_word cause.Workers turns.1
   Ok (workers.0, turns.0)
 
--- The workload that the lines are: `store 1`, the tables, the sessions, the workers with their turns, `go`, and the rounds.
+-- The workload that the lines are: `store 1`, the tables, the sessions, the workers with their
+-- turns, `go`, and the rounds.
 abbrev pub script_in : Extent → List (List ℕ) → Result Script Fault
 script_in extent all = do
   store ← next_line 1 cause.Version all
@@ -327,9 +358,17 @@ script_in extent all = do
   go ← next_line (behind + 2) cause.Go workers_line.1
   goes ← on_line (behind + 2) (rule cause.Go (bytes_eq go.0 (codes "go")))
   rounds ← rounds_from extent tables.0 sessions (behind + 3) false go.1
-  Ok (record { version = 1; tables = tables.0; sessions = sessions; workers = workers.0; turns = workers.1; rounds = rounds })
+  Ok (record {
+    version = 1;
+    tables = tables.0;
+    sessions = sessions;
+    workers = workers.0;
+    turns = workers.1;
+    rounds = rounds;
+  })
 
--- The workload within an extent that the bytes are, or the first line that is none of one, and its cause.
+-- The workload within an extent that the bytes are, or the first line that is none of one, and its
+-- cause.
 abbrev pub read_with : Extent → List ℕ → Result Script Fault
 read_with extent bytes = script_in extent (parts line_feed bytes)
 
@@ -337,7 +376,8 @@ read_with extent bytes = script_in extent (parts line_feed bytes)
 abbrev pub script_of : List ℕ → Result Script Fault
 script_of bytes = read_with whole bytes
 
--- A workload and the output behind it, which a line `====` parts: the workload ends before that line.
+-- A workload and the output behind it, which a line `====` parts: the workload ends before that
+-- line.
 
 abbrev pub parting : List ℕ
 parting = codes "===="
@@ -346,7 +386,8 @@ parting = codes "===="
 abbrev pub place_of_parting : List (List ℕ) → Option ℕ
 place_of_parting all = position (λ line. bytes_eq line parting) (take (length all - 1) all)
 
--- the workload before a parting and the bytes behind it; without one, the workload's fault or that the parting is wanting
+-- the workload before a parting and the bytes behind it; without one, the workload's fault or that
+-- the parting is wanting
 abbrev pub checked_in : Extent → List (List ℕ) → Option ℕ → Result (Script × List ℕ) Fault
 checked_in extent all (Some place) = do
   script ← script_in extent (take place all ++ [] ∷ [])
@@ -355,9 +396,11 @@ checked_in extent all None = do
   script ← script_in extent all
   on_line (length all) (Err cause.Parting)
 
--- The workload within an extent and the output that the bytes are, or the first line that is none, and its cause.
+-- The workload within an extent and the output that the bytes are, or the first line that is none,
+-- and its cause.
 abbrev pub checked_with : Extent → List ℕ → Result (Script × List ℕ) Fault
-checked_with extent bytes = checked_in extent (parts line_feed bytes) (place_of_parting (parts line_feed bytes))
+checked_with extent bytes = checked_in extent (parts line_feed bytes)
+    (place_of_parting (parts line_feed bytes))
 
 -- the same of the whole format
 abbrev pub checked_of : List ℕ → Result (Script × List ℕ) Fault

@@ -1,6 +1,9 @@
--- What a word or a line of a workload stands for. A word is read without care, and stands for what was read
--- only where that is spelled so: so no value has a second spelling, and the spellings are the only ones.
-use Rattle.std.specs.Prelude.{ℕ, ◌+◌, ◌*◌, Bool, true, false, ◌&&◌, ◌==◌, List, [], ◌∷◌, ◌++◌, ℤ, pos, neg_ℤ, fold, if◌then◌else◌, Option, None, Some, option_and_then, bytes_eq, codes, decimal}
+-- What a word or a line of a workload stands for. A word is read without care, and stands for what
+-- was read only where that is spelled so: so no value has a second spelling, and the spellings are
+-- the only ones.
+use Rattle.std.specs.Prelude.{ℕ, ◌+◌, ◌*◌, Bool, true, false, ◌&&◌, ◌==◌, List, [], ◌∷◌, ◌++◌, ℤ}
+use Rattle.std.specs.Prelude.{pos, neg_ℤ, fold, if◌then◌else◌, Option, None, Some, option_and_then}
+use Rattle.std.specs.Prelude.{bytes_eq, codes, decimal}
 use Rattle.std.specs.Fmt.{signed_decimal}
 use Rattle.std.specs.Char.{digit_value}
 use Rattle.std.specs.Option.{option_map_or}
@@ -28,18 +31,21 @@ abbrev pub parts : ℕ → List ℕ → List (List ℕ)
 parts separator [] = [] ∷ []
 parts separator (byte ∷ bytes) = parted (byte == separator) byte (parts separator bytes)
 
--- where a byte stands: at the start of a word, within a text, behind a backslash in it, or else within a word
+-- where a byte stands: at the start of a word, within a text, behind a backslash in it, or else
+-- within a word
 pub data Position : Type 0 where
   AtStart : Position
   WithinText : Position
   BehindBackslash : Position
   WithinWord : Position
 
--- Where the next byte stands: a quote at a word's start opens a text, which ends at the next quote that no
--- backslash precedes; a space outside a text ends the word.
+-- Where the next byte stands: a quote at a word's start opens a text, which ends at the next quote
+-- that no backslash precedes; a space outside a text ends the word.
 abbrev pub position_after : Position → ℕ → Position
-position_after AtStart byte = if byte == quote then WithinText else if byte == space then AtStart else WithinWord
-position_after WithinText byte = if byte == quote then WithinWord else if byte == backslash then BehindBackslash else WithinText
+position_after AtStart byte = if byte == quote then WithinText else if byte == space then AtStart
+    else WithinWord
+position_after WithinText byte = if byte == quote then WithinWord else if byte == backslash
+    then BehindBackslash else WithinText
 position_after BehindBackslash byte = WithinText
 position_after WithinWord byte = if byte == space then AtStart else WithinWord
 
@@ -54,7 +60,8 @@ is_outside WithinWord = true
 abbrev pub words_from : Position → List ℕ → List (List ℕ)
 words_from position [] = [] ∷ []
 words_from position (byte ∷ bytes) =
-    parted (byte == space && is_outside position) byte (words_from (position_after position byte) bytes)
+    parted (byte == space && is_outside position) byte
+    (words_from (position_after position byte) bytes)
 
 -- The words of a line: one space outside the texts parts two of them.
 abbrev pub words_of : List ℕ → List (List ℕ)
@@ -71,7 +78,8 @@ minus = 45
 -- the number that a word would stand for: behind a `-` the negative one
 abbrev pub integer_in : List ℕ → ℤ
 integer_in [] = pos 0
-integer_in (first ∷ rest) = if first == minus then neg_ℤ (pos (value_of_digits rest)) else pos (value_of_digits (first ∷ rest))
+integer_in (first ∷ rest) = if first == minus then neg_ℤ (pos (value_of_digits rest))
+    else pos (value_of_digits (first ∷ rest))
 
 -- the value, where the word is its spelling
 abbrev pub spelled : {X : Type 0} → (X → List ℕ) → List ℕ → X → Option X
@@ -83,13 +91,15 @@ natural_of word = spelled decimal word (value_of_digits word)
 
 -- the number, where it lies between two
 abbrev pub natural_within : ℕ → ℕ → List ℕ → Option ℕ
-natural_within low high word = option_and_then (λ value. if is_within low high value then Some value else None) (natural_of word)
+natural_within low high word = option_and_then
+    (λ value. if is_within low high value then Some value else None) (natural_of word)
 
 -- The number that the word is, with a `-` before a negative one.
 abbrev pub integer_of : List ℕ → Option ℤ
 integer_of word = spelled signed_decimal word (integer_in word)
 
--- where a byte of a text stands: for itself, behind a backslash, or where a hexadecimal digit is to stand
+-- where a byte of a text stands: for itself, behind a backslash, or where a hexadecimal digit is to
+-- stand
 pub data Spelling : Type 0 where
   Itself : Spelling
   Escape : Spelling
@@ -130,7 +140,8 @@ text_in (first ∷ rest) = unescaped_from Itself rest
 abbrev pub bytes_of_digits : List ℕ → List ℕ
 bytes_of_digits [] = []
 bytes_of_digits (digit ∷ []) = []
-bytes_of_digits (high ∷ low ∷ rest) = (digit_value high * 16 + digit_value low) ∷ bytes_of_digits rest
+bytes_of_digits (high ∷ low ∷ rest) = (digit_value high * 16 + digit_value low) ∷ bytes_of_digits
+    rest
 
 -- the bytes that a word behind its `x` spells
 abbrev pub blob_in : List ℕ → List ℕ
@@ -153,7 +164,8 @@ value_in kind word = value_among (values_of kind) word
 abbrev pub cell_in : Column → List ℕ → Cell
 cell_in column word = if bytes_eq word (codes "null") then Null else value_in column.kind word
 
--- The cell of a column that the word spells: a null where there may be none, or a value of its kind.
+-- The cell of a column that the word spells: a null where there may be none, or a value of its
+-- kind.
 abbrev pub cell_of : Column → List ℕ → Option Cell
 cell_of column word = option_and_then
     (λ cell. option_map_or (λ fault. None) (cell_fault 0 column cell) (Some cell))

@@ -1,5 +1,6 @@
 -- The text of replies.
-use Rattle.std.specs.Prelude.{ℕ, List, [], ◌∷◌, ◌++◌, map, flat_map, length, codes, decimal, None, Some}
+use Rattle.std.specs.Prelude.{ℕ, List, [], ◌∷◌, ◌++◌, map, flat_map, length, codes, decimal, None}
+use Rattle.std.specs.Prelude.{Some}
 use Rattle.std.specs.Fmt.{signed_decimal}
 use Rattle.cell_model.specs.declared.cell.Cell.{Cell}
 use Rattle.cell_model.specs.declared.table.TableDecl.{TableDecl}
@@ -9,7 +10,8 @@ use Rattle.workload_spec.specs.declared.reply.Who.TheVariants.{Session, Worker}
 use Rattle.workload_spec.specs.declared.reply.Said.{Said}
 use Rattle.workload_spec.specs.declared.reply.Said.TheVariants as said
 use Rattle.workload_spec.specs.declared.reply.SealCause.{SealCause}
-use Rattle.workload_spec.specs.declared.reply.SealCause.TheVariants.{Phase, Head, Empty, Gaps, Versions, Hot, Last}
+use Rattle.workload_spec.specs.declared.reply.SealCause.TheVariants.{Phase, Head, Empty, Gaps}
+use Rattle.workload_spec.specs.declared.reply.SealCause.TheVariants.{Versions, Hot, Last}
 use Rattle.workload_spec.specs.Words.{cell_words, spaced, lines_text}
 use Rattle.workload_spec.specs.ScriptText.{name_of_table}
 
@@ -32,24 +34,30 @@ said_words tables (said.Found row) = codes "row" ∷ cell_words row
 said_words tables said.Absent = codes "none" ∷ []
 said_words tables (said.Scanned rows) = codes "rows" ∷ decimal (length rows) ∷ []
 said_words tables said.Accepted = codes "ok" ∷ []
-said_words tables (said.ConflictSession session) = codes "conflict" ∷ codes "session" ∷ decimal session ∷ []
-said_words tables (said.ConflictCommit number) = codes "conflict" ∷ (codes "#" ++ decimal number) ∷ []
+said_words tables (said.ConflictSession session) = codes "conflict" ∷ codes "session" ∷ decimal
+    session ∷ []
+said_words tables (said.ConflictCommit number) = codes "conflict" ∷ (codes "#" ++ decimal number)
+    ∷ []
 said_words tables said.Exists = codes "exists" ∷ []
 said_words tables said.Missing = codes "missing" ∷ []
 said_words tables said.Full = codes "full" ∷ []
-said_words tables (said.Freezing table block stamp) = codes "freezing" ∷ name_of_table tables table ∷ decimal block ∷ decimal stamp ∷ []
+said_words tables (said.Freezing table block stamp) = codes "freezing" ∷ name_of_table tables table
+    ∷ decimal block ∷ decimal stamp ∷ []
 said_words tables (said.Committed None) = codes "committed" ∷ codes "-" ∷ []
 said_words tables (said.Committed (Some number)) = codes "committed" ∷ decimal number ∷ []
 said_words tables said.Aborted = codes "aborted" ∷ []
 said_words tables (said.Cooling count) = codes "cooling" ∷ decimal count ∷ []
 said_words tables (said.Pruned count) = codes "pruned" ∷ decimal count ∷ []
 said_words tables (said.Moved count) = codes "moved" ∷ decimal count ∷ []
-said_words tables (said.Sealed table block stamp) = codes "sealed" ∷ name_of_table tables table ∷ decimal block ∷ decimal stamp ∷ []
+said_words tables (said.Sealed table block stamp) = codes "sealed" ∷ name_of_table tables table
+    ∷ decimal block ∷ decimal stamp ∷ []
 said_words tables (said.NotSealed cause) = codes "not" ∷ codes "sealed" ∷ cause_text cause ∷ []
-said_words tables (said.Frozen table block rows) = codes "frozen" ∷ name_of_table tables table ∷ decimal block ∷ decimal rows ∷ []
+said_words tables (said.Frozen table block rows) = codes "frozen" ∷ name_of_table tables table
+    ∷ decimal block ∷ decimal rows ∷ []
 said_words tables said.NotFrozen = codes "not" ∷ codes "frozen" ∷ []
 said_words tables (said.Exported number rows batches frozen) =
-    codes "export" ∷ decimal number ∷ codes "rows" ∷ decimal rows ∷ codes "batches" ∷ decimal batches ∷ codes "frozen" ∷ decimal frozen ∷ []
+    codes "export" ∷ decimal number ∷ codes "rows" ∷ decimal rows ∷ codes "batches" ∷ decimal
+    batches ∷ codes "frozen" ∷ decimal frozen ∷ []
 said_words tables (said.Dirty key) = codes "dirty" ∷ signed_decimal key ∷ []
 said_words tables said.Memory = codes "memory" ∷ []
 
@@ -90,10 +98,12 @@ abbrev pub who_text : Who → List ℕ
 who_text (Session number) = decimal number
 who_text (Worker number) = codes "w" ++ decimal number
 
--- the lines of a reply: its round, who is answered, its index and its words, and a scan's rows behind it
+-- the lines of a reply: its round, who is answered, its index and its words, and a scan's rows
+-- behind it
 abbrev pub reply_lines : List TableDecl → ReplyLine → List (List ℕ)
 reply_lines tables reply =
-    spaced (decimal reply.round ∷ who_text reply.who ∷ decimal reply.index ∷ said_words tables reply.said) ∷ lines_behind reply.said
+    spaced (decimal reply.round ∷ who_text reply.who ∷ decimal reply.index ∷ said_words tables
+    reply.said) ∷ lines_behind reply.said
 
 -- The text of a reply.
 abbrev pub reply_text : List TableDecl → ReplyLine → List ℕ

@@ -28,7 +28,8 @@ kind_text kind.Binary = codes "binary"
 
 -- a column: its name, a colon, its kind, and a question mark where it is nullable
 abbrev pub column_text : Column → List ℕ
-column_text column = column.name ++ codes ":" ++ kind_text column.kind ++ (if column.nullable then codes "?" else [])
+column_text column = column.name ++ codes ":" ++ kind_text column.kind
+    ++ (if column.nullable then codes "?" else [])
 
 -- a table's line
 abbrev pub table_text : TableDecl → List ℕ
@@ -42,18 +43,24 @@ name_of_table tables place = option_map_or (λ table. table.name) (slice_get tab
 -- the words of a command; a row's first cell is its key
 abbrev pub command_words : List TableDecl → Command → List (List ℕ)
 command_words tables command.Begin = codes "begin" ∷ []
-command_words tables (command.Get table key) = codes "get" ∷ name_of_table tables table ∷ signed_decimal key ∷ []
+command_words tables (command.Get table key) = codes "get" ∷ name_of_table tables table
+    ∷ signed_decimal key ∷ []
 command_words tables (command.Scan table) = codes "scan" ∷ name_of_table tables table ∷ []
-command_words tables (command.Insert table row) = codes "insert" ∷ name_of_table tables table ∷ cell_words row
-command_words tables (command.Update table row) = codes "update" ∷ name_of_table tables table ∷ cell_words row
-command_words tables (command.Delete table key) = codes "delete" ∷ name_of_table tables table ∷ signed_decimal key ∷ []
+command_words tables (command.Insert table row) = codes "insert" ∷ name_of_table tables table
+    ∷ cell_words row
+command_words tables (command.Update table row) = codes "update" ∷ name_of_table tables table
+    ∷ cell_words row
+command_words tables (command.Delete table key) = codes "delete" ∷ name_of_table tables table
+    ∷ signed_decimal key ∷ []
 command_words tables command.Commit = codes "commit" ∷ []
 command_words tables command.Abort = codes "abort" ∷ []
 command_words tables command.Observe = codes "observe" ∷ []
 command_words tables command.Prune = codes "prune" ∷ []
 command_words tables (command.Compact table) = codes "compact" ∷ name_of_table tables table ∷ []
-command_words tables (command.Seal table block) = codes "seal" ∷ name_of_table tables table ∷ decimal block ∷ []
-command_words tables (command.Gather table block) = codes "gather" ∷ name_of_table tables table ∷ decimal block ∷ []
+command_words tables (command.Seal table block) = codes "seal" ∷ name_of_table tables table
+    ∷ decimal block ∷ []
+command_words tables (command.Gather table block) = codes "gather" ∷ name_of_table tables table
+    ∷ decimal block ∷ []
 command_words tables (command.Export table) = codes "export" ∷ name_of_table tables table ∷ []
 
 -- a line of a round
@@ -64,9 +71,11 @@ line_text tables line = spaced (decimal line.session ∷ command_words tables li
 abbrev pub round_lines : List TableDecl → List (List Line) → List (List ℕ)
 round_lines tables [] = []
 round_lines tables (round ∷ []) = map (line_text tables) round
-round_lines tables (round ∷ next ∷ rounds) = map (line_text tables) round ++ codes "--" ∷ round_lines tables (next ∷ rounds)
+round_lines tables (round ∷ next ∷ rounds) = map (line_text tables) round
+    ++ codes "--" ∷ round_lines tables (next ∷ rounds)
 
--- the lines of a workload: its version, its tables, its sessions, its workers with their turns, `go`, and its rounds
+-- the lines of a workload: its version, its tables, its sessions, its workers with their turns,
+-- `go`, and its rounds
 abbrev pub script_lines : Script → List (List ℕ)
 script_lines script =
     spaced (codes "store" ∷ decimal script.version ∷ [])

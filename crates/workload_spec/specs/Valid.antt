@@ -1,5 +1,7 @@
 -- Which scripts are workloads: names, limits, cells that fit, and at most one export.
-use Rattle.std.specs.Prelude.{ℕ, ◌%◌, Bool, true, false, ◌&&◌, ◌||◌, not, ◌==◌, nat_lt, nat_le, List, [], ◌∷◌, length, flat_map, count_by, is_some, is_none, slice_get, bytes_eq, ℤ}
+use Rattle.std.specs.Prelude.{ℕ, ◌%◌, Bool, true, false, ◌&&◌, ◌||◌, not, ◌==◌, nat_lt, nat_le}
+use Rattle.std.specs.Prelude.{List, [], ◌∷◌, length, flat_map, count_by, is_some, is_none}
+use Rattle.std.specs.Prelude.{slice_get, bytes_eq, ℤ}
 use Rattle.std.specs.List.{list_all, list_any}
 use Rattle.std.specs.Option.{option_map_or}
 use Rattle.cell_model.specs.declared.cell.Cell.{Cell}
@@ -18,7 +20,8 @@ use Rattle.workload_spec.specs.declared.script.Script.{Script}
 abbrev pub is_within : ℕ → ℕ → ℕ → Bool
 is_within low high number = nat_le low number && nat_le number high
 
--- the most tables of a workload, blocks of a table, sessions, workers, and turns of a worker in a round
+-- the most tables of a workload, blocks of a table, sessions, workers, and turns of a worker in a
+-- round
 abbrev pub most_tables : ℕ
 most_tables = 16
 
@@ -52,12 +55,15 @@ underscore = 95
 abbrev pub is_name_byte : ℕ → Bool
 is_name_byte byte = is_lower_case byte || is_digit byte || byte == underscore
 
--- A name: a lower-case letter, and then lower-case letters, digits and underscores, at most 32 bytes in all.
+-- A name: a lower-case letter, and then lower-case letters, digits and underscores, at most 32
+-- bytes in all.
 abbrev pub is_name : List ℕ → Bool
 is_name [] = false
-is_name (first ∷ rest) = is_lower_case first && list_all is_name_byte rest && nat_lt (length rest) 32
+is_name (first ∷ rest) = is_lower_case first && list_all is_name_byte rest
+    && nat_lt (length rest) 32
 
--- how many slots a block of these columns may have: 8 or more, a multiple of 8, and no more than fit
+-- how many slots a block of these columns may have: 8 or more, a multiple of 8, and no more than
+-- fit
 abbrev pub are_slots : List Column → ℕ → Bool
 are_slots columns slots = is_within least_slots (most_slots_of columns) slots && slots % 8 == 0
 
@@ -70,9 +76,11 @@ abbrev pub are_columns : List Column → Bool
 are_columns columns = begins_with_key columns && nat_le (length columns) most_columns
     && is_none (first_twins 0 columns) && list_all (λ column. is_name column.name) columns
 
--- A table: its name, its columns, its slots and its blocks are of their forms and within their limits.
+-- A table: its name, its columns, its slots and its blocks are of their forms and within their
+-- limits.
 abbrev pub is_table : TableDecl → Bool
-is_table table = is_name table.name && are_columns table.schema && are_slots table.schema table.slots && are_blocks table.blocks
+is_table table = is_name table.name && are_columns table.schema
+    && are_slots table.schema table.slots && are_blocks table.blocks
 
 -- one of the tables has this name
 abbrev pub is_declared : List ℕ → List TableDecl → Bool
@@ -85,20 +93,23 @@ have_own_names (table ∷ tables) = not (is_declared table.name tables) && have_
 
 -- the row fits the table at this place
 abbrev pub fits_table : List TableDecl → ℕ → List Cell → Bool
-fits_table tables place row = option_map_or (λ table. fits table.schema row) (slice_get tables place) false
+fits_table tables place row = option_map_or (λ table. fits table.schema row)
+    (slice_get tables place) false
 
 -- there is a table at this place, and it has this block
 abbrev pub is_table_place : List TableDecl → ℕ → Bool
 is_table_place tables place = is_some (slice_get tables place)
 
 abbrev pub is_block_of : List TableDecl → ℕ → ℕ → Bool
-is_block_of tables place block = option_map_or (λ table. nat_lt block table.blocks) (slice_get tables place) false
+is_block_of tables place block = option_map_or (λ table. nat_lt block table.blocks)
+    (slice_get tables place) false
 
 -- a key is a signed number of 64 bits
 abbrev pub is_key_number : ℤ → Bool
 is_key_number key = is_integer_of I64 key
 
--- The command names tables and blocks that there are, keys that are 64-bit numbers, and rows that fit.
+-- The command names tables and blocks that there are, keys that are 64-bit numbers, and rows that
+-- fit.
 abbrev pub is_command : List TableDecl → Command → Bool
 is_command tables command.Begin = true
 is_command tables (command.Get table key) = is_table_place tables table && is_key_number key
@@ -122,21 +133,24 @@ is_export _ = false
 
 -- a line of a round: one of the sessions, and a command of these tables
 abbrev pub is_line : Script → Line → Bool
-is_line script line = is_within 1 script.sessions line.session && is_command script.tables line.command
+is_line script line = is_within 1 script.sessions line.session
+    && is_command script.tables line.command
 
 -- all lines of a script, round after round
 abbrev pub all_lines : Script → List Line
 all_lines script = flat_map (λ round. round) script.rounds
 
--- The head of a workload: version 1, 1 to 16 tables of their own names, 1 to 64 sessions, at most 16 workers
--- and at most 100 turns.
+-- The head of a workload: version 1, 1 to 16 tables of their own names, 1 to 64 sessions, at most
+-- 16 workers and at most 100 turns.
 abbrev pub has_head : Script → Bool
 has_head script = script.version == 1
-    && is_within 1 most_tables (length script.tables) && list_all is_table script.tables && have_own_names script.tables
-    && is_within 1 most_sessions script.sessions && nat_le script.workers most_workers && nat_le script.turns most_turns
+    && is_within 1 most_tables (length script.tables) && list_all is_table script.tables
+    && have_own_names script.tables
+    && is_within 1 most_sessions script.sessions && nat_le script.workers most_workers
+    && nat_le script.turns most_turns
 
--- The script is a workload: its head is one, there is a round, each line is a session's command, and there is
--- at most one export.
+-- The script is a workload: its head is one, there is a round, each line is a session's command,
+-- and there is at most one export.
 abbrev pub is_valid : Script → Bool
 is_valid script = has_head script && nat_lt 0 (length script.rounds)
     && list_all (is_line script) (all_lines script)

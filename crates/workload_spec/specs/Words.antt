@@ -1,5 +1,7 @@
--- The words of a workload and of its replies: numbers, names and cells, and the lines that they make.
-use Rattle.std.specs.Prelude.{ℕ, ◌/◌, ◌%◌, Bool, ◌||◌, ◌==◌, nat_lt, List, [], ◌∷◌, ◌++◌, map, flat_map, codes, if◌then◌else◌}
+-- The words of a workload and of its replies: numbers, names and cells, and the lines that they
+-- make.
+use Rattle.std.specs.Prelude.{ℕ, ◌/◌, ◌%◌, Bool, ◌||◌, ◌==◌, nat_lt, List, [], ◌∷◌, ◌++◌, map}
+use Rattle.std.specs.Prelude.{flat_map, codes, if◌then◌else◌}
 use Rattle.std.specs.Fmt.{signed_decimal}
 use Rattle.std.specs.List.{join_with_byte}
 use Rattle.std.specs.Char.{digit_char}
@@ -27,8 +29,8 @@ is_control byte = nat_lt byte 0x20 || byte == 0x7f
 abbrev pub hex_digits : ℕ → List ℕ
 hex_digits byte = digit_char (byte / 16 % 16) ∷ digit_char (byte % 16) ∷ []
 
--- A byte of a text: a quote and a backslash stand behind a backslash, a control byte is `\x` and its
--- hexadecimal digits, and any other byte stands for itself.
+-- A byte of a text: a quote and a backslash stand behind a backslash, a control byte is `\x` and
+-- its hexadecimal digits, and any other byte stands for itself.
 abbrev pub escaped : ℕ → List ℕ
 escaped byte =
     if byte == quote || byte == backslash then backslash ∷ byte ∷ []
@@ -39,7 +41,8 @@ escaped byte =
 abbrev pub quoted : List ℕ → List ℕ
 quoted text = quote ∷ (flat_map escaped text ++ quote ∷ [])
 
--- A cell: `null`, a number, `true` or `false`, a text between quotes, or `x` and pairs of hexadecimal digits.
+-- A cell: `null`, a number, `true` or `false`, a text between quotes, or `x` and pairs of
+-- hexadecimal digits.
 abbrev pub cell_text : Cell → List ℕ
 cell_text Null = codes "null"
 cell_text (Num number) = signed_decimal number

@@ -2,7 +2,8 @@
 
 use cell_model::Row;
 
-/// A command of a session. Tables are counted from 0 as they are declared, blocks from 0 within their table.
+/// A command of a session. Tables are counted from 0 as they are declared, blocks from 0 within
+/// their table.
 #[derive(Debug, Drop)]
 pub enum Command {
     /// Opens a transaction.

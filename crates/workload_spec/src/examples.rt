@@ -1,5 +1,14 @@
 //! Worked examples of texts and faults: each is a fact that the definitions compute.
-ghost use Rattle.workload_spec.specs.Examples.{HardTextIsSpelled, HardSpellingIsRead, NumbersAreRead, LeastKeyIsSpelled, NoNumbers, NoTexts, NoNull, BlobsAreRead, TruthsAreRead, WordsAreParted, ScriptIsPrinted, ScriptIsRead, CommandsAreRead, CommandsArePrinted, ScriptsAreJudged, ExtentsAreJudged, ExtentsAreRead, FirstFaultStands, BoundsAreJudged, HeadsAreRefused, TablesAreRefused, LinesAreRefused, LastLineIsOpen, PartingIsFound, RefusalIsPrinted, RepliesArePrinted, LinesArePrinted};
+ghost use Rattle.workload_spec.specs.Examples.{HardTextIsSpelled, HardSpellingIsRead};
+ghost use Rattle.workload_spec.specs.Examples.{NumbersAreRead, LeastKeyIsSpelled, NoNumbers};
+ghost use Rattle.workload_spec.specs.Examples.{NoTexts, NoNull, BlobsAreRead, TruthsAreRead};
+ghost use Rattle.workload_spec.specs.Examples.{WordsAreParted, ScriptIsPrinted, ScriptIsRead};
+ghost use Rattle.workload_spec.specs.Examples.{CommandsAreRead, CommandsArePrinted};
+ghost use Rattle.workload_spec.specs.Examples.{ScriptsAreJudged, ExtentsAreJudged, ExtentsAreRead};
+ghost use Rattle.workload_spec.specs.Examples.{FirstFaultStands, BoundsAreJudged, HeadsAreRefused};
+ghost use Rattle.workload_spec.specs.Examples.{TablesAreRefused, LinesAreRefused, LastLineIsOpen};
+ghost use Rattle.workload_spec.specs.Examples.{PartingIsFound, RefusalIsPrinted, RepliesArePrinted};
+ghost use Rattle.workload_spec.specs.Examples.{LinesArePrinted};
 
 /// A text with a quote, a backslash, control bytes and a longer character is escaped.
 pub fn a_text_is_escaped()
@@ -91,7 +100,8 @@ pub fn the_first_fault_stands_within_an_extent()
     ensures { FirstFaultStands }
 {}
 
-/// The whole format and one of a column are extents; one without a column, or with more than the whole, is none.
+/// The whole format and one of a column are extents; one without a column, or with more than the
+/// whole, is none.
 pub fn bounds_of_an_extent_are_judged()
     ensures { BoundsAreJudged }
 {}

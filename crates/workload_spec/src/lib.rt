@@ -1,5 +1,5 @@
-//! Workloads and replies as data, with their texts: the script of a workload, which bytes are one, and the
-//! lines that answer it.
+//! Workloads and replies as data, with their texts: the script of a workload, which bytes are one,
+//! and the lines that answer it.
 #![tactic(auto)]
 
 pub mod command;

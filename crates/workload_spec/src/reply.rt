@@ -2,7 +2,8 @@
 
 use cell_model::{Row, Rows};
 
-/// A reply, behind its round, its session or worker, and its place among the lines of these two, from 1.
+/// A reply, behind its round, its session or worker, and its place among the lines of these two,
+/// from 1.
 #[derive(Debug, Drop)]
 pub struct ReplyLine {
     pub round: u32,
@@ -76,7 +77,8 @@ pub enum Said {
     },
     /// The block is not sealed, and was not gathered.
     NotFrozen,
-    /// The table was exported: the snapshot, the rows, the batches, and how many of these are images of frozen blocks.
+    /// The table was exported: the snapshot, the rows, the batches, and how many of these are
+    /// images of frozen blocks.
     Exported {
         number: u64,
         rows: u64,

@@ -5,7 +5,8 @@ use crate::command::Command;
 use cell_model::TableDecl;
 use std::marker::Model;
 
-/// A workload: the tables, how many sessions and workers run, and what each session asks in each round.
+/// A workload: the tables, how many sessions and workers run, and what each session asks in each
+/// round.
 #[derive(Debug, Drop)]
 pub struct Script {
     /// The version of the workload format, which is 1.
@@ -42,7 +43,7 @@ impl From<Vec<TableDecl>> for Tables {
 
     ghost from_gives = { λ items t. t ≡ items.items };
 
-    // The vector as it is, without a copy.
+    /// The vector as it is, without a copy.
     fn from(tables: Vec<TableDecl>) -> Tables {
         Tables { tables }
     }
@@ -103,7 +104,7 @@ impl From<Vec<Line>> for Round {
 
     ghost from_gives = { λ items t. t ≡ items.items };
 
-    // The vector as it is, without a copy.
+    /// The vector as it is, without a copy.
     fn from(lines: Vec<Line>) -> Round {
         Round { lines }
     }
@@ -157,7 +158,7 @@ impl From<Vec<Round>> for Rounds {
 
     ghost from_gives = { λ items t. t ≡ items.items };
 
-    // The vector as it is, without a copy.
+    /// The vector as it is, without a copy.
     fn from(rounds: Vec<Round>) -> Rounds {
         Rounds { rounds }
     }

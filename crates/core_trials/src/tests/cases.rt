@@ -1,6 +1,6 @@
 //! The lists of events of the core's tests, each event with the text of its reply.
 
-// An event of a session, which comes first, or of upkeep.
+/// An event of a session, which comes first, or of upkeep.
 #[derive(Clone, Copy)]
 pub(super) enum Event {
     Begin(u32),
@@ -20,16 +20,16 @@ pub(super) enum Event {
     Gather(u32),
 }
 
-// A key, and the block and the slot that its row leaves and comes to.
+/// A key, and the block and the slot that its row leaves and comes to.
 pub(super) type Pair = (i64, (u32, u32), (u32, u32));
 
-// An event, and its reply.
+/// An event, and its reply.
 pub(super) type Turn = (Event, &'static str);
 
 pub(super) struct Case {
     pub(super) name: &'static str,
     pub(super) blocks: u32,
-    // The lists that are made one after another.
+    /// The lists that are made one after another.
     pub(super) turns: &'static [&'static [Turn]],
 }
 

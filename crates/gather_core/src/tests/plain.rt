@@ -74,7 +74,7 @@ impl Plain {
         Ok(())
     }
 
-    // Where the next value begins.
+    /// Where the next value begins.
     fn add_offset(&mut self) -> Result<(), Fail> {
         let Ok(offset) = u32::try_from(self.values.len()) else {
             return Err(Fail::from("the values are too long"));
@@ -84,7 +84,7 @@ impl Plain {
     }
 }
 
-// The two's complement of a number in 64 bits.
+/// The two's complement of a number in 64 bits.
 fn word_of(number: i128) -> Result<u64, Fail> {
     let wrapped = if number < 0 {
         number + (1 << 64)

@@ -16,11 +16,11 @@ use std::sync::Wait;
 use std::sync::ledger::{Blank, Ledger};
 use std::thread::{Threads, join_mut};
 
-// By what the mark 1 is raised, and what that is to answer.
+/// By what the mark 1 is raised, and what that is to answer.
 pub(super) type Turn = (u64, Option<u64>);
 
-// Whether session 1 begins once alone, and each raise within its transaction answers as it is to, whatever the
-// other pass raises in between.
+/// Whether session 1 begins once alone, and each raise within its transaction answers as it is to,
+/// whatever the other pass raises in between.
 fn take_turns<R: Wait, L: Ledger>(
     rt: &R,
     hall: &Hall<Marks>,
@@ -31,18 +31,25 @@ fn take_turns<R: Wait, L: Ledger>(
 ) -> bool
     requires name { blank.name ≡ L.name }
     requires parts { (blank.parts ≡ L.parts) × (0 < L.parts) }
-    requires shape { (hall.now.shape ≡ length (⟦<Marks as Parts>⟧.state_of hall.now.core)) × (2 < hall.now.shape) }
+    requires shape { (hall.now.shape ≡ length (⟦<Marks as Parts>⟧.state_of hall.now.core))
+        × (2 < hall.now.shape) }
     requires session { has 1 one.old.seat.me.0.sessions ≡ true }
-    requires pass_one { IsPass (means ⟦<Marks as Parts>⟧ hall.now) hall.now.id one.old.seat one.old.hands }
+    requires pass_one { IsPass (means ⟦<Marks as Parts>⟧ hall.now) hall.now.id one.old.seat
+        one.old.hands }
     requires empty_one { IsEmpty (first_of one.old.hands) }
-    requires few_one { length one.old.seat.me.0.mine + length turns.now + 2 < 2 ^ 56 * hands_of one.old.seat.me.0 }
-    requires pass_two { IsPass (means ⟦<Marks as Parts>⟧ hall.now) hall.now.id two.old.seat two.old.hands }
+    requires few_one { length one.old.seat.me.0.mine + length turns.now + 2 < 2 ^ 56 * hands_of
+        one.old.seat.me.0 }
+    requires pass_two { IsPass (means ⟦<Marks as Parts>⟧ hall.now) hall.now.id two.old.seat
+        two.old.hands }
     requires empty_two { IsEmpty (first_of two.old.hands) }
-    requires few_two { length two.old.seat.me.0.mine + length turns.now + 2 < 2 ^ 56 * hands_of two.old.seat.me.0 }
-    ensures pass_one { IsPass (means ⟦<Marks as Parts>⟧ hall.now) hall.now.id one.new.seat one.new.hands }
+    requires few_two { length two.old.seat.me.0.mine + length turns.now + 2 < 2 ^ 56 * hands_of
+        two.old.seat.me.0 }
+    ensures pass_one { IsPass (means ⟦<Marks as Parts>⟧ hall.now) hall.now.id one.new.seat
+        one.new.hands }
     ensures empty_one { IsEmpty (first_of one.new.hands) }
     ensures sessions_one { one.new.seat.me.0.sessions ≡ one.old.seat.me.0.sessions }
-    ensures pass_two { IsPass (means ⟦<Marks as Parts>⟧ hall.now) hall.now.id two.new.seat two.new.hands }
+    ensures pass_two { IsPass (means ⟦<Marks as Parts>⟧ hall.now) hall.now.id two.new.seat
+        two.new.hands }
     ensures empty_two { IsEmpty (first_of two.new.hands) }
     ensures sessions_two { two.new.seat.me.0.sessions ≡ two.old.seat.me.0.sessions }
 {
@@ -60,7 +67,7 @@ fn take_turns<R: Wait, L: Ledger>(
     right && !again
 }
 
-// The same with steps that nobody asks for.
+/// The same with steps that nobody asks for.
 fn take_turns_uncounted<R: Wait>(
     rt: &R,
     hall: &Hall<Marks>,
@@ -68,26 +75,34 @@ fn take_turns_uncounted<R: Wait>(
     two: &mut Pass<Marks>,
     turns: &[Turn],
 ) -> bool
-    requires shape { (hall.now.shape ≡ length (⟦<Marks as Parts>⟧.state_of hall.now.core)) × (2 < hall.now.shape) }
+    requires shape { (hall.now.shape ≡ length (⟦<Marks as Parts>⟧.state_of hall.now.core))
+        × (2 < hall.now.shape) }
     requires session { has 1 one.old.seat.me.0.sessions ≡ true }
-    requires pass_one { IsPass (means ⟦<Marks as Parts>⟧ hall.now) hall.now.id one.old.seat one.old.hands }
+    requires pass_one { IsPass (means ⟦<Marks as Parts>⟧ hall.now) hall.now.id one.old.seat
+        one.old.hands }
     requires empty_one { IsEmpty (first_of one.old.hands) }
-    requires few_one { length one.old.seat.me.0.mine + length turns.now + 2 < 2 ^ 56 * hands_of one.old.seat.me.0 }
-    requires pass_two { IsPass (means ⟦<Marks as Parts>⟧ hall.now) hall.now.id two.old.seat two.old.hands }
+    requires few_one { length one.old.seat.me.0.mine + length turns.now + 2 < 2 ^ 56 * hands_of
+        one.old.seat.me.0 }
+    requires pass_two { IsPass (means ⟦<Marks as Parts>⟧ hall.now) hall.now.id two.old.seat
+        two.old.hands }
     requires empty_two { IsEmpty (first_of two.old.hands) }
-    requires few_two { length two.old.seat.me.0.mine + length turns.now + 2 < 2 ^ 56 * hands_of two.old.seat.me.0 }
-    ensures pass_one { IsPass (means ⟦<Marks as Parts>⟧ hall.now) hall.now.id one.new.seat one.new.hands }
+    requires few_two { length two.old.seat.me.0.mine + length turns.now + 2 < 2 ^ 56 * hands_of
+        two.old.seat.me.0 }
+    ensures pass_one { IsPass (means ⟦<Marks as Parts>⟧ hall.now) hall.now.id one.new.seat
+        one.new.hands }
     ensures empty_one { IsEmpty (first_of one.new.hands) }
     ensures sessions_one { one.new.seat.me.0.sessions ≡ one.old.seat.me.0.sessions }
-    ensures pass_two { IsPass (means ⟦<Marks as Parts>⟧ hall.now) hall.now.id two.new.seat two.new.hands }
+    ensures pass_two { IsPass (means ⟦<Marks as Parts>⟧ hall.now) hall.now.id two.new.seat
+        two.new.hands }
     ensures empty_two { IsEmpty (first_of two.new.hands) }
     ensures sessions_two { two.new.seat.me.0.sessions ≡ two.old.seat.me.0.sessions }
 {
     take_turns::<R, Brand>(rt, hall, one, two, turns, Blank::new(1))
 }
 
-// The marks after session 1 began and raised the mark 1 in turn, with a raise of the mark 2 by another pass before
-// each; `None` where something answered as it is not to. A pass without a hand comes and goes besides.
+/// The marks after session 1 began and raised the mark 1 in turn, with a raise of the mark 2 by
+/// another pass before each; `None` where something answered as it is not to. A pass without a hand
+/// comes and goes besides.
 pub(super) fn marks_after<R: Wait>(
     rt: &R,
     alloc: Global,
@@ -104,7 +119,7 @@ pub(super) fn marks_after<R: Wait>(
     Ok(right.then_some(marks))
 }
 
-// Raises a mark by 1, so many times.
+/// Raises a mark by 1, so many times.
 fn raise_often<R: Wait, L: Ledger>(
     rt: &R,
     hall: &Hall<Marks>,
@@ -115,12 +130,14 @@ fn raise_often<R: Wait, L: Ledger>(
 )
     requires name { blank.name ≡ L.name }
     requires parts { (blank.parts ≡ L.parts) × (0 < L.parts) }
-    requires pass { IsPass (means ⟦<Marks as Parts>⟧ hall.now) hall.now.id pass.old.seat pass.old.hands }
+    requires pass { IsPass (means ⟦<Marks as Parts>⟧ hall.now) hall.now.id pass.old.seat
+        pass.old.hands }
     requires shape { hall.now.shape ≡ length (⟦<Marks as Parts>⟧.state_of hall.now.core) }
     requires part { (0 < part) × (part < hall.now.shape) }
     requires empty { IsEmpty (first_of pass.old.hands) }
     requires few { length pass.old.seat.me.0.mine + times < 2 ^ 56 * hands_of pass.old.seat.me.0 }
-    ensures pass { IsPass (means ⟦<Marks as Parts>⟧ hall.now) hall.now.id pass.new.seat pass.new.hands }
+    ensures pass { IsPass (means ⟦<Marks as Parts>⟧ hall.now) hall.now.id pass.new.seat
+        pass.new.hands }
     ensures empty { IsEmpty (first_of pass.new.hands) }
     ensures sessions { pass.new.seat.me.0.sessions ≡ pass.old.seat.me.0.sessions }
 {
@@ -130,21 +147,24 @@ fn raise_often<R: Wait, L: Ledger>(
     }
 }
 
-// Raises a mark by 1, so many times, and counts no steps.
+/// Raises a mark by 1, so many times, and counts no steps.
 fn raise_all<R: Wait>(rt: &R, hall: &Hall<Marks>, pass: &mut Pass<Marks>, part: u32, times: u32)
-    requires pass_pass { IsPass (means ⟦<Marks as Parts>⟧ hall.now) hall.now.id pass.old.seat pass.old.hands }
+    requires pass_pass { IsPass (means ⟦<Marks as Parts>⟧ hall.now) hall.now.id pass.old.seat
+        pass.old.hands }
     requires empty_pass { IsEmpty (first_of pass.old.hands) }
-    requires few_pass { length pass.old.seat.me.0.mine + times < 2 ^ 56 * hands_of pass.old.seat.me.0 }
+    requires few_pass { length pass.old.seat.me.0.mine + times < 2 ^ 56 * hands_of
+        pass.old.seat.me.0 }
     requires shape { hall.now.shape ≡ length (⟦<Marks as Parts>⟧.state_of hall.now.core) }
     requires part { (0 < part) × (part < hall.now.shape) }
-    ensures pass_pass { IsPass (means ⟦<Marks as Parts>⟧ hall.now) hall.now.id pass.new.seat pass.new.hands }
+    ensures pass_pass { IsPass (means ⟦<Marks as Parts>⟧ hall.now) hall.now.id pass.new.seat
+        pass.new.hands }
     ensures empty_pass { IsEmpty (first_of pass.new.hands) }
     ensures sessions_pass { pass.new.seat.me.0.sessions ≡ pass.old.seat.me.0.sessions }
 {
     raise_often::<R, Brand>(rt, hall, pass, part, times, Blank::new(1));
 }
 
-// Two threads raise a mark by 1, so many times each.
+/// Two threads raise a mark by 1, so many times each.
 fn raise_both<R: Threads + Wait + Sync>(
     rt: &R,
     hall: &Hall<Marks>,
@@ -153,39 +173,59 @@ fn raise_both<R: Threads + Wait + Sync>(
     part: u32,
     times: u32,
 )
-    requires pass_one { IsPass (means ⟦<Marks as Parts>⟧ hall.now) hall.now.id one.old.seat one.old.hands }
+    requires pass_one { IsPass (means ⟦<Marks as Parts>⟧ hall.now) hall.now.id one.old.seat
+        one.old.hands }
     requires empty_one { IsEmpty (first_of one.old.hands) }
     requires few_one { length one.old.seat.me.0.mine + times < 2 ^ 56 * hands_of one.old.seat.me.0 }
-    requires pass_two { IsPass (means ⟦<Marks as Parts>⟧ hall.now) hall.now.id two.old.seat two.old.hands }
+    requires pass_two { IsPass (means ⟦<Marks as Parts>⟧ hall.now) hall.now.id two.old.seat
+        two.old.hands }
     requires empty_two { IsEmpty (first_of two.old.hands) }
     requires few_two { length two.old.seat.me.0.mine + times < 2 ^ 56 * hands_of two.old.seat.me.0 }
     requires shape { hall.now.shape ≡ length (⟦<Marks as Parts>⟧.state_of hall.now.core) }
     requires part { (0 < part) × (part < hall.now.shape) }
-    ensures pass_one { IsPass (means ⟦<Marks as Parts>⟧ hall.now) hall.now.id one.new.seat one.new.hands }
+    ensures pass_one { IsPass (means ⟦<Marks as Parts>⟧ hall.now) hall.now.id one.new.seat
+        one.new.hands }
     ensures empty_one { IsEmpty (first_of one.new.hands) }
     ensures sessions_one { one.new.seat.me.0.sessions ≡ one.old.seat.me.0.sessions }
-    ensures pass_two { IsPass (means ⟦<Marks as Parts>⟧ hall.now) hall.now.id two.new.seat two.new.hands }
+    ensures pass_two { IsPass (means ⟦<Marks as Parts>⟧ hall.now) hall.now.id two.new.seat
+        two.new.hands }
     ensures empty_two { IsEmpty (first_of two.new.hands) }
     ensures sessions_two { two.new.seat.me.0.sessions ≡ two.old.seat.me.0.sessions }
 {
     join_mut(
         rt,
         &mut || -> ()
-            requires { IsSync R.row × IsPass (meaning_of (vec_len hall.now.core.marks) hall.now.core.marks.items hall.now.passes) hall.now.id one.now.seat one.now.hands × (hall.now.shape ≡ length hall.now.core.marks.items) × (0 < part) × (part < hall.now.shape) × (IsEmpty (first_of one.now.hands)) × (length one.now.seat.me.0.mine + times < 2 ^ 56 * hands_of one.now.seat.me.0) }
-            ensures { IsPass (meaning_of (vec_len hall.entry.now.core.marks) hall.entry.now.core.marks.items hall.entry.now.passes) hall.entry.now.id one.exit.now.seat one.exit.now.hands × (IsEmpty (first_of one.exit.now.hands)) × (one.exit.now.seat.me.0.sessions ≡ one.entry.now.seat.me.0.sessions) }
+            requires { IsSync R.row × IsPass
+                (meaning_of (vec_len hall.now.core.marks) hall.now.core.marks.items
+                hall.now.passes) hall.now.id one.now.seat one.now.hands
+                × (hall.now.shape ≡ length hall.now.core.marks.items) × (0 < part)
+                × (part < hall.now.shape) × (IsEmpty (first_of one.now.hands))
+                × (length one.now.seat.me.0.mine + times < 2 ^ 56 * hands_of one.now.seat.me.0) }
+            ensures { IsPass (meaning_of (vec_len hall.entry.now.core.marks)
+                hall.entry.now.core.marks.items hall.entry.now.passes) hall.entry.now.id
+                one.exit.now.seat one.exit.now.hands × (IsEmpty (first_of one.exit.now.hands))
+                × (one.exit.now.seat.me.0.sessions ≡ one.entry.now.seat.me.0.sessions) }
         {
             raise_all(rt, hall, one, part, times);
         },
         &mut || -> ()
-            requires { IsSync R.row × IsPass (meaning_of (vec_len hall.now.core.marks) hall.now.core.marks.items hall.now.passes) hall.now.id two.now.seat two.now.hands × (hall.now.shape ≡ length hall.now.core.marks.items) × (0 < part) × (part < hall.now.shape) × (IsEmpty (first_of two.now.hands)) × (length two.now.seat.me.0.mine + times < 2 ^ 56 * hands_of two.now.seat.me.0) }
-            ensures { IsPass (meaning_of (vec_len hall.entry.now.core.marks) hall.entry.now.core.marks.items hall.entry.now.passes) hall.entry.now.id two.exit.now.seat two.exit.now.hands × (IsEmpty (first_of two.exit.now.hands)) × (two.exit.now.seat.me.0.sessions ≡ two.entry.now.seat.me.0.sessions) }
+            requires { IsSync R.row × IsPass
+                (meaning_of (vec_len hall.now.core.marks) hall.now.core.marks.items
+                hall.now.passes) hall.now.id two.now.seat two.now.hands
+                × (hall.now.shape ≡ length hall.now.core.marks.items) × (0 < part)
+                × (part < hall.now.shape) × (IsEmpty (first_of two.now.hands))
+                × (length two.now.seat.me.0.mine + times < 2 ^ 56 * hands_of two.now.seat.me.0) }
+            ensures { IsPass (meaning_of (vec_len hall.entry.now.core.marks)
+                hall.entry.now.core.marks.items hall.entry.now.passes) hall.entry.now.id
+                two.exit.now.seat two.exit.now.hands × (IsEmpty (first_of two.exit.now.hands))
+                × (two.exit.now.seat.me.0.sessions ≡ two.entry.now.seat.me.0.sessions) }
         {
             raise_all(rt, hall, two, part, times);
         },
     );
 }
 
-// What two threads raise a mark to, by 1 so many times each.
+/// What two threads raise a mark to, by 1 so many times each.
 pub(super) fn raised_by_two<R: Threads + Wait + Sync>(
     rt: &R,
     alloc: Global,
@@ -199,14 +239,16 @@ pub(super) fn raised_by_two<R: Threads + Wait + Sync>(
     Ok(*closed.part(1))
 }
 
-// Takes the part 1 and holds it until the flag is set, for at most 2^28 turns. Says whether it was.
+/// Takes the part 1 and holds it until the flag is set, for at most 2^28 turns. Says whether it
+/// was.
 fn hold<R: Wait>(
     rt: &R,
     hall: &Hall<Marks>,
     pass: &mut Pass<Marks>,
     flag: &AtomicCell<bool>,
 ) -> bool
-    requires pass { IsPass (means ⟦<Marks as Parts>⟧ hall.now) hall.now.id pass.old.seat pass.old.hands }
+    requires pass { IsPass (means ⟦<Marks as Parts>⟧ hall.now) hall.now.id pass.old.seat
+        pass.old.hands }
     requires shape { hall.now.shape ≡ length (⟦<Marks as Parts>⟧.state_of hall.now.core) }
     requires part { 1 < hall.now.shape }
     requires empty { IsEmpty (first_of pass.old.hands) }
@@ -218,7 +260,7 @@ fn hold<R: Wait>(
     seen
 }
 
-// Whether the flag is set within 2^28 turns.
+/// Whether the flag is set within 2^28 turns.
 fn wait_for(flag: &AtomicCell<bool>) -> bool {
     for _ in 0..1u32 << 28 {
         if flag.load() {
@@ -228,14 +270,15 @@ fn wait_for(flag: &AtomicCell<bool>) -> bool {
     false
 }
 
-// Raises the part 2, and sets the flag.
+/// Raises the part 2, and sets the flag.
 fn raise_and_tell<R: Wait>(
     rt: &R,
     hall: &Hall<Marks>,
     pass: &mut Pass<Marks>,
     flag: &AtomicCell<bool>,
 )
-    requires pass { IsPass (means ⟦<Marks as Parts>⟧ hall.now) hall.now.id pass.old.seat pass.old.hands }
+    requires pass { IsPass (means ⟦<Marks as Parts>⟧ hall.now) hall.now.id pass.old.seat
+        pass.old.hands }
     requires shape { hall.now.shape ≡ length (⟦<Marks as Parts>⟧.state_of hall.now.core) }
     requires part { 2 < hall.now.shape }
     requires empty { IsEmpty (first_of pass.old.hands) }
@@ -245,7 +288,7 @@ fn raise_and_tell<R: Wait>(
     flag.store(true);
 }
 
-// Whether one pass makes an event on a part while another holds a second part.
+/// Whether one pass makes an event on a part while another holds a second part.
 pub(super) fn raised_while_held<R: Threads + Wait + Sync>(
     rt: &R,
     alloc: Global,
@@ -264,9 +307,12 @@ fn both_sides<R: Threads + Wait + Sync>(
     two: &mut Pass<Marks>,
     flag: &AtomicCell<bool>,
 ) -> (bool, ())
-    requires pass_one { IsPass (means ⟦<Marks as Parts>⟧ hall.now) hall.now.id one.old.seat one.old.hands }
-    requires pass_two { IsPass (means ⟦<Marks as Parts>⟧ hall.now) hall.now.id two.old.seat two.old.hands }
-    requires shape { (hall.now.shape ≡ length (⟦<Marks as Parts>⟧.state_of hall.now.core)) × (2 < hall.now.shape) }
+    requires pass_one { IsPass (means ⟦<Marks as Parts>⟧ hall.now) hall.now.id one.old.seat
+        one.old.hands }
+    requires pass_two { IsPass (means ⟦<Marks as Parts>⟧ hall.now) hall.now.id two.old.seat
+        two.old.hands }
+    requires shape { (hall.now.shape ≡ length (⟦<Marks as Parts>⟧.state_of hall.now.core))
+        × (2 < hall.now.shape) }
     requires empty_one { IsEmpty (first_of one.old.hands) }
     requires empty_two { IsEmpty (first_of two.old.hands) }
     requires hand_one { 0 < hands_of one.old.seat.me.0 }
@@ -275,10 +321,19 @@ fn both_sides<R: Threads + Wait + Sync>(
     join_mut(
         rt,
         &mut || -> bool
-            requires { IsSync R.row × IsPass (meaning_of (vec_len hall.now.core.marks) hall.now.core.marks.items hall.now.passes) hall.now.id one.now.seat one.now.hands × (hall.now.shape ≡ length hall.now.core.marks.items) × (2 < hall.now.shape) × (IsEmpty (first_of one.now.hands)) × (0 < hands_of one.now.seat.me.0) }
+            requires { IsSync R.row × IsPass
+                (meaning_of (vec_len hall.now.core.marks) hall.now.core.marks.items
+                hall.now.passes) hall.now.id one.now.seat one.now.hands
+                × (hall.now.shape ≡ length hall.now.core.marks.items) × (2 < hall.now.shape)
+                × (IsEmpty (first_of one.now.hands)) × (0 < hands_of one.now.seat.me.0) }
         { hold(rt, hall, one, flag) },
         &mut || -> ()
-            requires { IsSync R.row × IsPass (meaning_of (vec_len hall.now.core.marks) hall.now.core.marks.items hall.now.passes) hall.now.id two.now.seat two.now.hands × (hall.now.shape ≡ length hall.now.core.marks.items) × (2 < hall.now.shape) × (IsEmpty (first_of two.now.hands)) × (length two.now.seat.me.0.mine + 1 < 2 ^ 56 * hands_of two.now.seat.me.0) }
+            requires { IsSync R.row × IsPass
+                (meaning_of (vec_len hall.now.core.marks) hall.now.core.marks.items
+                hall.now.passes) hall.now.id two.now.seat two.now.hands
+                × (hall.now.shape ≡ length hall.now.core.marks.items) × (2 < hall.now.shape)
+                × (IsEmpty (first_of two.now.hands))
+                × (length two.now.seat.me.0.mine + 1 < 2 ^ 56 * hands_of two.now.seat.me.0) }
         {
             raise_and_tell(rt, hall, two, flag);
         },

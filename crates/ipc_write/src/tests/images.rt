@@ -27,7 +27,7 @@ pub fn image_of<R: Threads + Sync>(
     Ok(gather(rt, alloc, &columns, rows.len() as u32)?)
 }
 
-// Columns with these rows in their first slots.
+/// Columns with these rows in their first slots.
 fn filled(alloc: Global, schema: &Schema, rows: &[Row]) -> Result<Columns, Fail> {
     let mut columns = Columns::new(alloc, schema, 64)?;
     for (slot, row) in rows.iter().enumerate() {
@@ -49,7 +49,8 @@ fn is_row_of(schema: &Schema, row: &Row) -> bool
 }
 
 fn all_held(columns: &Columns, n: u32) -> bool
-    ensures { IsTrue result → (slot : ℕ) → slot < n → IsSome (slice_index_or columns.now.rows slot None) }
+    ensures { IsTrue result → (slot : ℕ) → slot < n
+        → IsSome (slice_index_or columns.now.rows slot None) }
 {
     for slot in 0..n {
         if !columns.has_row(slot) {

@@ -5,7 +5,7 @@ use std::alloc::AllocError;
 use std::process::Abort;
 use std::test::Fail;
 
-// A seed and a size, what fails, the status, and what is printed.
+/// A seed and a size, what fails, the status, and what is printed.
 struct Benched {
     seed: &'static str,
     size: &'static str,
@@ -14,8 +14,8 @@ struct Benched {
     printed: &'static str,
 }
 
-// The sums are those of a model of the format in another language. The same words give the same
-// lines again, and neither the source nor the outlet is asked for anything.
+/// The sums are those of a model of the format in another language. The same words give the same
+/// lines again, and neither the source nor the outlet is asked for anything.
 const BENCHED: [Benched; 9] = [
     Benched {
         seed: "0",

@@ -9,10 +9,10 @@ const WORKLOAD: &str =
     "store 1\ntable a key:i64 v:utf8? slots 8 blocks 2\nsessions 2\nworkers 0 0\ngo\n\
     1 begin\n--\n2 begin\n2 insert a 5 \"x\"\n2 commit\n--\n1 get a 5\n";
 
-// A fourth round, which the first-comer's commit stands in the way of.
+/// A fourth round, which the first-comer's commit stands in the way of.
 const UPDATE: &str = "--\n1 update a 5 \"z\"\n";
 
-// What stands behind the workload's three rounds, an output, and the verdict on it.
+/// What stands behind the workload's three rounds, an output, and the verdict on it.
 const OUTPUTS: [(&str, &str, &str); 14] = [
     (
         "",

@@ -1,5 +1,5 @@
-//! The gate, the output and the outlet of whole runs: what comes before each command and turn, that all
-//! of a round are at work at once, and that a round is printed before the next.
+//! The gate, the output and the outlet of whole runs: what comes before each command and turn, that
+//! all of a round are at work at once, and that a round is printed before the next.
 
 ghost use Rattle.std.specs.Prelude.{Some, refl};
 
@@ -13,21 +13,21 @@ use std::sync::atomic::{AtomicU32, AtomicU64, Ordering};
 use std::test::Fail;
 use std::thread::Threads;
 
-// The commands of session 1 in the test of what comes before each, and the number of the first
-// worker.
+/// The commands of session 1 in the test of what comes before each, and the number of the first
+/// worker.
 const COMMANDS: u32 = 8;
 
 const FIRST_WORKER: u32 = 65;
 
-// How many are at work in the test of a round, and how often one of them looks for the others.
+/// How many are at work in the test of a round, and how often one of them looks for the others.
 const AT_WORK: u32 = 3;
 
 const MOST_LOADS: u32 = 1 << 28;
 
-/// What is noted while a run goes on: how often session 1 passed the gate, while it passes with 1, 2
-/// and so on, how often the first worker did, how often anybody did, how often somebody looked for
-/// the others in vain, how many bytes were printed, and how many when a first command was last let
-/// go on.
+/// What is noted while a run goes on: how often session 1 passed the gate, while it passes with 1,
+/// 2 and so on, how often the first worker did, how often anybody did, how often somebody looked
+/// for the others in vain, how many bytes were printed, and how many when a first command was last
+/// let go on.
 #[derive(Drop)]
 pub(super) struct Noted {
     passed: AtomicU32,
@@ -36,7 +36,7 @@ pub(super) struct Noted {
     missed: AtomicU32,
     printed: AtomicU64,
     printed_before: AtomicU64,
-    // How many wait for each other before each command and turn; nobody does for 0.
+    /// How many wait for each other before each command and turn; nobody does for 0.
     at_work: u32,
 }
 
@@ -53,7 +53,7 @@ impl Noted {
         }
     }
 
-    // Counts the pass of a session that is watched.
+    /// Counts the pass of a session that is watched.
     fn count(&self, session: u32, index: u32) {
         let passed = if session == FIRST_WORKER {
             &self.turned
@@ -65,7 +65,7 @@ impl Noted {
         passed.store(if in_order { next } else { u32::MAX }, Ordering::Relaxed);
     }
 
-    // Notes how much was printed before the first command or turn.
+    /// Notes how much was printed before the first command or turn.
     fn look(&self, index: u32) {
         if index == 1 {
             let printed = self.printed.load(Ordering::Relaxed);
@@ -73,7 +73,7 @@ impl Noted {
         }
     }
 
-    // Waits before a command or turn until all others have come as far.
+    /// Waits before a command or turn until all others have come as far.
     fn meet(&self, index: u32) {
         self.come.fetch_add(1, Ordering::SeqCst);
         let all = self.at_work.wrapping_mul(index);
@@ -166,7 +166,7 @@ impl<'a> Outlet for NotingOutlet<'a> {
     ghost names_told = { λ _. refl };
 }
 
-// The outlet is started before the first command, and the export is the seventh.
+/// The outlet is started before the first command, and the export is the seventh.
 #[test]
 fn the_gate_is_passed_before_each_command_and_turn(rt: HostRuntime) -> Result<(), Fail> {
     let alloc = rt.alloc();
@@ -183,8 +183,8 @@ fn the_gate_is_passed_before_each_command_and_turn(rt: HostRuntime) -> Result<()
     Ok(())
 }
 
-// Two sessions and a worker are at work at the same time: the gate holds each until all have come,
-// before the first command or turn and before the second.
+/// Two sessions and a worker are at work at the same time: the gate holds each until all have come,
+/// before the first command or turn and before the second.
 #[test]
 fn all_of_a_round_are_at_work_at_once(rt: HostRuntime) -> Result<(), Fail> {
     let alloc = rt.alloc();
@@ -199,7 +199,7 @@ fn all_of_a_round_are_at_work_at_once(rt: HostRuntime) -> Result<(), Fail> {
     Ok(())
 }
 
-// Before the first command of the second round the lines of the first are printed, and no others.
+/// Before the first command of the second round the lines of the first are printed, and no others.
 #[test]
 fn a_round_is_printed_before_the_next_begins(rt: HostRuntime) -> Result<(), Fail> {
     let alloc = rt.alloc();
@@ -219,7 +219,7 @@ fn a_round_is_printed_before_the_next_begins(rt: HostRuntime) -> Result<(), Fail
     Ok(())
 }
 
-// Runs a workload, of which the gate, the output and the outlet note what happens.
+/// Runs a workload, of which the gate, the output and the outlet note what happens.
 fn run_noted<R: Wait + Threads + Sync>(
     rt: &R,
     alloc: Global,

@@ -1,13 +1,13 @@
-//! Workloads with upkeep: blocks that are pruned, compacted, sealed, gathered and thawed, by sessions
-//! and by workers.
+//! Workloads with upkeep: blocks that are pruned, compacted, sealed, gathered and thawed, by
+//! sessions and by workers.
 use super::ran::{Case, TWO_BLOCKS, run_all};
 use std::test::Fail;
 
-// A table of texts in three blocks, for two sessions.
+/// A table of texts in three blocks, for two sessions.
 const THREE_BLOCKS: &str =
     "store 1\ntable a key:i64 v:utf8? slots 8 blocks 3\nsessions 2\nworkers 0 0\ngo\n";
 
-// One in two blocks, for a session and a worker that makes a turn in each round.
+/// One in two blocks, for a session and a worker that makes a turn in each round.
 const A_WORKER: &str =
     "store 1\ntable a key:i64 v:utf8? slots 8 blocks 2\nsessions 1\nworkers 1 1\ngo\n";
 

@@ -7,17 +7,17 @@ use std::sync::Wait;
 use std::test::Fail;
 use std::thread::Threads;
 
-// A workload, which is two texts, and what it prints.
+/// A workload, which is two texts, and what it prints.
 pub(super) struct Case {
     pub name: &'static str,
-    // Up to the line `go`.
+    /// Up to the line `go`.
     pub head: &'static str,
     pub commands: &'static str,
     pub printed: &'static str,
 }
 
-// Heads: a table of texts in two blocks and in one, for two sessions; a table of keys alone in one
-// block for one session, and in two for two.
+/// Heads: a table of texts in two blocks and in one, for two sessions; a table of keys alone in one
+/// block for one session, and in two for two.
 pub(super) const TWO_BLOCKS: &str =
     "store 1\ntable a key:i64 v:utf8? slots 8 blocks 2\nsessions 2\nworkers 0 0\ngo\n";
 
@@ -218,7 +218,7 @@ const CASES: [Case; 25] = [
     },
 ];
 
-// Runs each workload, and compares what it prints.
+/// Runs each workload, and compares what it prints.
 pub(super) fn run_all<R: Abort + Wait + Threads + Sync>(
     rt: &R,
     alloc: Global,

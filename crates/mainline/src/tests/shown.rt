@@ -4,7 +4,8 @@ use crate::status::Status;
 use std::process::Abort;
 use std::test::Fail;
 
-// How many bytes of the stream of three keys are shown, and what fails; the status, and what is printed.
+/// How many bytes of the stream of three keys are shown, and what fails; the status, and what is
+/// printed.
 struct Shown {
     bytes: usize,
     failing: Failing,

@@ -22,10 +22,10 @@ use std::sync::Wait;
 use std::test::Fail;
 use std::thread::{Threads, join_mut};
 
-// The rows of a block, of the keys from 0 on; so it is also the first key of the second block.
+/// The rows of a block, of the keys from 0 on; so it is also the first key of the second block.
 const SLOTS: u32 = 8;
 
-// A table whose only column is its key, with two blocks.
+/// A table whose only column is its key, with two blocks.
 fn key_table(alloc: Global) -> Result<TableDecl, Fail>
     ensures slots { IfOk result (λ table. table.slots ≡ 8) }
     ensures blocks { IfOk result (λ table. table.blocks ≡ 2) }
@@ -52,7 +52,7 @@ fn key_table(alloc: Global) -> Result<TableDecl, Fail>
     })
 }
 
-// That a transaction is open.
+/// That a transaction is open.
 fn is_open(session: &Session) -> Result<(), Fail>
     ensures { IfOk result (λ _. is_some (own_of session.now) ≡ true) }
 {
@@ -63,7 +63,7 @@ fn is_open(session: &Session) -> Result<(), Fail>
     }
 }
 
-// Opens the first transaction of a session.
+/// Opens the first transaction of a session.
 fn open<R: Wait>(rt: &R, store: &Store, session: &mut Session) -> Result<(), Fail>
     requires session { IsSession store.now session.old }
     requires new { events_made session.old ≡ 0 }
@@ -75,7 +75,7 @@ fn open<R: Wait>(rt: &R, store: &Store, session: &mut Session) -> Result<(), Fai
     is_open(session)
 }
 
-// Inserts the row of a key.
+/// Inserts the row of a key.
 fn put<R: Wait>(
     rt: &R,
     alloc: Global,
@@ -97,7 +97,7 @@ fn put<R: Wait>(
     is_open(session)
 }
 
-// Inserts the keys up to the first of the second block, and commits.
+/// Inserts the keys up to the first of the second block, and commits.
 fn fill<R: Wait>(rt: &R, alloc: Global, store: &Store, session: &mut Session) -> Result<(), Fail>
     requires rows { (key : ℕ) → key ≤ 8
         → fits_table (shape_in store.now).tables 0 (cell.Num (pos key) ∷ []) ≡ true }
@@ -113,7 +113,7 @@ fn fill<R: Wait>(rt: &R, alloc: Global, store: &Store, session: &mut Session) ->
     Ok(())
 }
 
-// Takes the body of the first block, and tells its number.
+/// Takes the body of the first block, and tells its number.
 fn hold_first<R: Wait>(rt: &R, store: &Store, session: &mut Session) -> u32
     requires block { HasBlock (shape_in store.now) 0 0 }
     requires session { IsSession store.now session.old }
@@ -127,7 +127,7 @@ fn hold_first<R: Wait>(rt: &R, store: &Store, session: &mut Session) -> u32
     part
 }
 
-// Whether the flag is set within 2^28 turns.
+/// Whether the flag is set within 2^28 turns.
 fn wait_for(flag: &AtomicCell<bool>) -> bool {
     for _ in 0..1u32 << 28 {
         if flag.load() {
@@ -137,7 +137,7 @@ fn wait_for(flag: &AtomicCell<bool>) -> bool {
     false
 }
 
-// Holds a part until the flag is set, and gives it back. Says whether it was set.
+/// Holds a part until the flag is set, and gives it back. Says whether it was set.
 fn give_when_set(store: &Store, session: &mut Session, part: u32, flag: &AtomicCell<bool>) -> bool
     requires pass { IsPass (store_meaning (shape_in store.now)) store.now.id
         session.old.pass.seat session.old.pass.hands }
@@ -148,7 +148,7 @@ fn give_when_set(store: &Store, session: &mut Session, part: u32, flag: &AtomicC
     set
 }
 
-// Gets the row of the second block, and sets the flag. Says whether there was one.
+/// Gets the row of the second block, and sets the flag. Says whether there was one.
 fn get_and_tell<R: Wait>(
     rt: &R,
     store: &Store,
@@ -165,7 +165,7 @@ fn get_and_tell<R: Wait>(
     got
 }
 
-// Whether the flag was set while one session held the part, and whether the other got its row.
+/// Whether the flag was set while one session held the part, and whether the other got its row.
 fn both_sides<R: Threads + Wait + Sync>(
     rt: &R,
     store: &Store,
@@ -197,7 +197,7 @@ fn both_sides<R: Threads + Wait + Sync>(
     )
 }
 
-// Whether a session gets a row of the second block while another holds the body of the first.
+/// Whether a session gets a row of the second block while another holds the body of the first.
 pub(super) fn got_while_held<R: Threads + Wait + Sync>(
     rt: &R,
     alloc: Global,
