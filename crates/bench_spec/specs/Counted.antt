@@ -15,8 +15,31 @@ use Rattle.bench_spec.specs.declared.counts.Counts.{Counts}
 
 -- the reply says that memory was refused
 abbrev pub is_refused : Said → Bool
+is_refused (said.At number) = false
+is_refused said.InTransaction = false
+is_refused said.NoTransaction = false
+is_refused (said.Found row) = false
+is_refused said.Absent = false
+is_refused (said.Scanned rows) = false
+is_refused said.Accepted = false
+is_refused (said.ConflictSession session) = false
+is_refused (said.ConflictCommit number) = false
+is_refused said.Exists = false
+is_refused said.Missing = false
+is_refused said.Full = false
+is_refused (said.Freezing table block stamp) = false
+is_refused (said.Committed number) = false
+is_refused said.Aborted = false
+is_refused (said.Cooling count) = false
+is_refused (said.Pruned count) = false
+is_refused (said.Moved count) = false
+is_refused (said.Sealed table block stamp) = false
+is_refused (said.NotSealed cause) = false
+is_refused (said.Frozen table block rows) = false
+is_refused said.NotFrozen = false
+is_refused (said.Exported number rows batches frozen) = false
+is_refused (said.Dirty key) = false
 is_refused said.Memory = true
-is_refused _ = false
 
 -- One of the replies does.
 abbrev pub was_refused : List Entry → Bool
@@ -24,12 +47,58 @@ was_refused replies = list_any (λ reply. is_refused reply.reply.said) replies
 
 -- the rows that a scan tells, and how many an export does
 abbrev pub scanned_in : Said → Option (List (List Cell))
+scanned_in (said.At number) = None
+scanned_in said.InTransaction = None
+scanned_in said.NoTransaction = None
+scanned_in (said.Found row) = None
+scanned_in said.Absent = None
 scanned_in (said.Scanned rows) = Some rows
-scanned_in _ = None
+scanned_in said.Accepted = None
+scanned_in (said.ConflictSession session) = None
+scanned_in (said.ConflictCommit number) = None
+scanned_in said.Exists = None
+scanned_in said.Missing = None
+scanned_in said.Full = None
+scanned_in (said.Freezing table block stamp) = None
+scanned_in (said.Committed number) = None
+scanned_in said.Aborted = None
+scanned_in (said.Cooling count) = None
+scanned_in (said.Pruned count) = None
+scanned_in (said.Moved count) = None
+scanned_in (said.Sealed table block stamp) = None
+scanned_in (said.NotSealed cause) = None
+scanned_in (said.Frozen table block rows) = None
+scanned_in said.NotFrozen = None
+scanned_in (said.Exported number rows batches frozen) = None
+scanned_in (said.Dirty key) = None
+scanned_in said.Memory = None
 
 abbrev pub exported_in : Said → Option ℕ
+exported_in (said.At number) = None
+exported_in said.InTransaction = None
+exported_in said.NoTransaction = None
+exported_in (said.Found row) = None
+exported_in said.Absent = None
+exported_in (said.Scanned rows) = None
+exported_in said.Accepted = None
+exported_in (said.ConflictSession session) = None
+exported_in (said.ConflictCommit number) = None
+exported_in said.Exists = None
+exported_in said.Missing = None
+exported_in said.Full = None
+exported_in (said.Freezing table block stamp) = None
+exported_in (said.Committed number) = None
+exported_in said.Aborted = None
+exported_in (said.Cooling count) = None
+exported_in (said.Pruned count) = None
+exported_in (said.Moved count) = None
+exported_in (said.Sealed table block stamp) = None
+exported_in (said.NotSealed cause) = None
+exported_in (said.Frozen table block rows) = None
+exported_in said.NotFrozen = None
 exported_in (said.Exported number rows batches frozen) = Some rows
-exported_in _ = None
+exported_in (said.Dirty key) = None
+exported_in said.Memory = None
 
 -- what the first reply tells that tells it
 abbrev pub first_told : {X : Type 0} → (Said → Option X) → List Entry → Option X

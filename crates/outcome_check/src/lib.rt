@@ -1,4 +1,4 @@
-//! Whether an output is explained by its script: so far, how its replies stand about one of them.
+//! How the replies of an output stand about one of them: those before it, its own, and the rest.
 #![tactic(auto)]
 
 pub mod examples;
