@@ -10,6 +10,7 @@ pub mod Lookups
 pub mod Moved
 pub mod Nexts
 pub mod Popped
+pub mod Presence
 pub mod Pruned
 pub mod RolledBack
 pub mod Slots

@@ -5,3 +5,4 @@ pub mod Frozen
 pub mod Bodies
 pub mod Changes
 pub mod Keys
+pub mod Presence

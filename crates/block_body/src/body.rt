@@ -26,7 +26,7 @@ use crate::look::{Look, first_cell, key_in, key_of};
 use crate::origin::Origin;
 use crate::rows::Rows;
 use crate::shared::Shared;
-use crate::view::visible_row;
+use crate::view::{is_row_visible, visible_row};
 use crate::{chains, lists};
 use block_columns::{Before, Columns, Image};
 use block_spec::{Change, MovableRow, Phase, SealFault};
@@ -147,6 +147,17 @@ impl Body {
         match chains::chain_of(&self.chains, slot) {
             Some(chain) => visible_row(row, chain.entries(), stamp, session),
             None => Ok(row),
+        }
+    }
+
+    /// Whether a session with the snapshot `stamp` sees a row in a slot. No row is read.
+    pub fn shows(&self, slot: u32, stamp: u64, session: u32) -> bool
+        ensures { result ≡ is_some (seen (slot_in self.now slot) stamp session) }
+    {
+        let has_row = self.rows.columns().has_row(slot);
+        match chains::chain_of(&self.chains, slot) {
+            Some(chain) => is_row_visible(has_row, chain.entries(), stamp, session),
+            None => has_row,
         }
     }
 

@@ -1,8 +1,9 @@
 //! What a reader sees of a slot: its row with the before-images laid back that he does not have in
 //! view.
-ghost use Rattle.std.specs.Prelude.{◌≡◌, IfOk, reverse};
-ghost use Rattle.undo_chain.specs.Visible.{visible_row};
+ghost use Rattle.std.specs.Prelude.{◌≡◌, IfOk, fold, reverse};
+ghost use Rattle.undo_chain.specs.Visible.{images_laid_back, visible_row};
 ghost use Rattle.block_spec.specs.Slots.{laid_back, patched};
+ghost use Rattle.block_body.specs.Presence.{had_row};
 
 use block_columns::{Before, Patch};
 use cell_model::Row;
@@ -57,4 +58,37 @@ fn with_cells(row: Row, patch: &Patch) -> Result<Row, AllocError>
         }
     }
     Ok(Row::from(cells))
+}
+
+/// Whether a session with the snapshot `stamp` sees a row in a slot that has one now or not. No row
+/// is read. The entries stand oldest first.
+pub(crate) fn is_row_visible(
+    has_row: bool,
+    entries: &[Undo<Before>],
+    stamp: u64,
+    session: u32,
+) -> bool
+    ensures { result ≡ fold had_row has_row
+        (images_laid_back (reverse entries.now) stamp session) }
+{
+    let mut had = has_row;
+    let mut older = entries;
+    while let Some((newest, rest)) = older.split_last()
+        && !newest.is_in_view(stamp, session)
+    {
+        had = had_row(had, &newest.before);
+        older = rest;
+    }
+    had
+}
+
+/// Whether there is a row once a before-image is laid back.
+fn had_row(has_row: bool, before: &Before) -> bool
+    ensures { result ≡ had_row has_row before.now }
+{
+    match before {
+        Before::Empty => false,
+        Before::Whole(_) => true,
+        Before::Part(_) => has_row,
+    }
 }

@@ -4,18 +4,16 @@ use Rattle.block_spec.specs.Bodies.{is_imaged}
 use Rattle.event_spec.specs.declared.event.Event.TheVariants as event
 use Rattle.event_spec.specs.Effects.{CoreEvent}
 use Rattle.event_spec.specs.Parts.{Parts, Shape, body_at, places_at, slots_of}
-use Rattle.isolation_spec.specs.Contents.{key_of}
 
--- An event on a key reads a row of each candidate at most, and of its own write, and an update the
--- row that it changes; a read of a block one for each slot, but none where the block is imaged.
+-- A get reads a row of each candidate at most, and of its own write; an update the row that it
+-- changes, and an insert and a delete none; a read of a block one for each slot, but none where the
+-- block is imaged.
 abbrev pub cost_of : Shape → CoreEvent → Parts → ℕ
 cost_of shape (event.Begin session) parts = 0
 cost_of shape (event.Get own table key) parts = length (places_at shape parts table key) + 1
-cost_of shape (event.Insert own table row) parts = length (places_at shape parts table (key_of row))
-    + 1
-cost_of shape (event.Update own table row) parts = length (places_at shape parts table (key_of row))
-    + 2
-cost_of shape (event.Delete own table key) parts = length (places_at shape parts table key) + 1
+cost_of shape (event.Insert own table row) parts = 0
+cost_of shape (event.Update own table row) parts = 1
+cost_of shape (event.Delete own table key) parts = 0
 cost_of shape (event.Read own table block) parts =
     if is_imaged (body_at shape parts table block).phase then 0 else slots_of shape table
 cost_of shape (event.Commit own) parts = 0

@@ -55,20 +55,17 @@ pub(crate) fn found<L: Ledger>(
 }
 
 /// Adds a row.
-pub(crate) fn inserted<L: Ledger>(
+pub(crate) fn inserted(
     shape: &Shape,
     held: &mut Hand<CorePart>,
     own: &OwnKey,
     table: u32,
     row: Row,
-    steps: &mut Steps<L>,
 ) -> CoreReply
     requires { MayRun shape.now (event.Insert own.now table row) held.old }
-    ensures made { Runs shape.now (event.Insert own.now table row) held.old held.new result }
-    ensures steps { (parts : CoreParts) → Agrees held.old parts
-        → steps.new ≤ steps.old + cost_of shape.now (event.Insert own.now table row) parts }
+    ensures { Runs shape.now (event.Insert own.now table row) held.old held.new result }
 {
-    told(insert(shape, held, own, table, row, steps))
+    told(insert(shape, held, own, table, row))
 }
 
 /// Changes a row.
@@ -89,20 +86,17 @@ pub(crate) fn updated<L: Ledger>(
 }
 
 /// Removes a row.
-pub(crate) fn deleted<L: Ledger>(
+pub(crate) fn deleted(
     shape: &Shape,
     held: &mut Hand<CorePart>,
     own: &OwnKey,
     table: u32,
     key: i64,
-    steps: &mut Steps<L>,
 ) -> CoreReply
     requires { MayRun shape.now (event.Delete own.now table key) held.old }
-    ensures made { Runs shape.now (event.Delete own.now table key) held.old held.new result }
-    ensures steps { (parts : CoreParts) → Agrees held.old parts
-        → steps.new ≤ steps.old + cost_of shape.now (event.Delete own.now table key) parts }
+    ensures { Runs shape.now (event.Delete own.now table key) held.old held.new result }
 {
-    told(delete(shape, held, own, table, key, steps))
+    told(delete(shape, held, own, table, key))
 }
 
 /// Ends a transaction whose writes stay.

@@ -33,9 +33,9 @@ pub(crate) fn run<L: Ledger>(
     match event.into_event() {
         Event::Begin { session } => begun(shape, held, session),
         Event::Get { own, table, key } => found(shape, held, &own, table, key, steps),
-        Event::Insert { own, table, row } => inserted(shape, held, &own, table, row, steps),
+        Event::Insert { own, table, row } => inserted(shape, held, &own, table, row),
         Event::Update { own, table, row } => updated(shape, held, &own, table, row, steps),
-        Event::Delete { own, table, key } => deleted(shape, held, &own, table, key, steps),
+        Event::Delete { own, table, key } => deleted(shape, held, &own, table, key),
         Event::Commit { own } => committed(shape, held, &own),
         Event::Abort { own } => aborted(shape, held, &own),
         Event::Oldest => least_stamp(shape, held),

@@ -3,10 +3,9 @@ ghost use Rattle.std.specs.Prelude.{◌≡◌, ◌+◌, ◌≤◌, ◌<◌, ◌^
 ghost use Rattle.core_parts.specs.Hands.{Makes, MayRun};
 ghost use Rattle.event_spec.specs.declared.event.Event.TheVariants as event;
 ghost use Rattle.event_spec.specs.Judged.{differences};
-ghost use Rattle.event_spec.specs.Parts.{Parts, places_at, slot_at};
+ghost use Rattle.event_spec.specs.Parts.{Parts, slot_at};
 ghost use Rattle.event_spec.specs.Replies.{reply_to_write};
 ghost use Rattle.hall_rule.specs.Hands.{Agrees};
-ghost use Rattle.isolation_spec.specs.Contents.{key_of};
 ghost use Rattle.key_judge.specs.Slots.{HasSlot};
 
 use crate::keyed::candidates;
@@ -28,23 +27,23 @@ fn changed_at<L: Ledger>(
     held: &Hand<CorePart>,
     table: u32,
     place: SlotId,
-    new: &Row,
+    new: Row,
     steps: &mut Steps<L>,
 ) -> Result<Patch, AllocError>
     requires slot { HasSlot shape.now held.now table place }
-    requires short { length new.now < 2 ^ 32 }
+    requires short { length new < 2 ^ 32 }
     ensures patch { IfOk result (λ patch. (s : Parts) → Agrees held.now s →
-        patch ≡ differences 0 (unwrap_or (slot_at shape.now s table place).row []) new.now) }
+        patch ≡ differences 0 (unwrap_or (slot_at shape.now s table place).row []) new) }
     ensures steps { steps.new ≤ steps.old + 1 }
 {
     let columns = body(shape, held, table, place.block()).columns();
     match columns.row(place.slot(), steps)? {
-        Some(old) => patch_of(shape.alloc(), old.as_slice(), new.as_slice()),
-        None => patch_of(shape.alloc(), &[], new.as_slice()),
+        Some(old) => patch_of(shape.alloc(), old.as_slice(), new),
+        None => patch_of(shape.alloc(), &[], new),
     }
 }
 
-/// Changes the row of a key that has one. Without memory the hand stays.
+/// Changes the row of a key that has one, which is read once. Without memory the hand stays.
 pub fn update<L: Ledger>(
     shape: &Shape,
     held: &mut Hand<CorePart>,
@@ -57,40 +56,36 @@ pub fn update<L: Ledger>(
     ensures ok { IfOk result (λ judged. Makes shape.now (event.Update own.now table row) held.old
         held.new (reply_to_write judged)) }
     ensures err { OnErr result (held.new ≡ held.old) }
-    ensures steps { (s : Parts) → Agrees held.old s
-        → steps.new ≤ steps.old + (length (places_at shape.now s table (key_of row)) + 2) }
+    ensures steps { steps.new ≤ steps.old + 1 }
 {
     // The row fits the table's columns, which begin with the key.
     let _schema = shape.schema(table).columns();
     let key = key_of(&row);
     let places = candidates(shape, held, table, key);
-    let place = match judge_change(shape, held, own, table, places, steps)? {
+    let place = match judge_change(shape, held, own, table, places) {
         Ok(place) => place,
         Err(fault) => return Ok(Err(fault)),
     };
-    let patch = changed_at(shape, held, table, place, &row, steps)?;
+    let patch = changed_at(shape, held, table, place, row, steps)?;
     install(shape, held, table, place, own.session, Change::Patch(patch))?;
     Ok(Ok(place))
 }
 
-/// Removes the row of a key. Without memory the hand stays.
-pub fn delete<L: Ledger>(
+/// Removes the row of a key, which is not read. Without memory the hand stays.
+pub fn delete(
     shape: &Shape,
     held: &mut Hand<CorePart>,
     own: &OwnKey,
     table: u32,
     key: i64,
-    steps: &mut Steps<L>,
 ) -> Result<Result<SlotId, WriteFault>, AllocError>
     requires { MayRun shape.now (event.Delete own.now table key) held.old }
     ensures ok { IfOk result (λ judged. Makes shape.now (event.Delete own.now table key) held.old
         held.new (reply_to_write judged)) }
     ensures err { OnErr result (held.new ≡ held.old) }
-    ensures steps { (s : Parts) → Agrees held.old s
-        → steps.new ≤ steps.old + (length (places_at shape.now s table key) + 1) }
 {
     let places = candidates(shape, held, table, key);
-    let place = match judge_change(shape, held, own, table, places, steps)? {
+    let place = match judge_change(shape, held, own, table, places) {
         Ok(place) => place,
         Err(fault) => return Ok(Err(fault)),
     };

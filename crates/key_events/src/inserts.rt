@@ -23,8 +23,6 @@ use hall_rule::Hand;
 use key_judge::judge_insert;
 use slot_writes::{add_candidate, drop_candidate, install, key_of, take_slot};
 use std::alloc::AllocError;
-use std::sync::ledger::Ledger;
-use steps::Steps;
 
 /// Puts a row in a slot, and adds the slot to the key's candidates before. Without memory the hand
 /// stays.
@@ -123,28 +121,25 @@ fn put(
     put_row(shape, held, own.session, table, key, place, row)
 }
 
-/// Adds a row whose key has none. Without memory, and where the table's count of inserts is at its
-/// end, the hand stays.
-pub fn insert<L: Ledger>(
+/// Adds a row whose key has none; no row is read. Without memory, and where the table's count of
+/// inserts is at its end, the hand stays.
+pub fn insert(
     shape: &Shape,
     held: &mut Hand<CorePart>,
     own: &OwnKey,
     table: u32,
     row: Row,
-    steps: &mut Steps<L>,
 ) -> Result<Result<SlotId, WriteFault>, AllocError>
     requires { MayRun shape.now (event.Insert own.now table row) held.old }
     ensures ok { IfOk result (λ judged. Makes shape.now (event.Insert own.now table row) held.old
         held.new (reply_to_write judged)) }
     ensures err { OnErr result (held.new ≡ held.old) }
-    ensures steps { (s : Parts) → Agrees held.old s
-        → steps.new ≤ steps.old + (length (places_at shape.now s table (key_of row)) + 1) }
 {
     // The row fits the table's columns, which begin with the key.
     let _schema = shape.schema(table).columns();
     let key = key_of(&row);
     let places = candidates(shape, held, table, key);
-    let place = match judge_insert(shape, held, own, table, places, steps)? {
+    let place = match judge_insert(shape, held, own, table, places) {
         Ok(place) => place,
         Err(fault) => return Ok(Err(fault)),
     };

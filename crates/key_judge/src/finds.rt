@@ -78,6 +78,55 @@ pub fn found<L: Ledger>(
     }
 }
 
+/// Whether the session sees a row at a place. No row is read.
+fn shows_at(shape: &Shape, held: &Hand<CorePart>, own: &OwnKey, table: u32, place: SlotId) -> bool
+    requires { HasSlot shape.now held.now table place }
+    ensures { (s : Parts) → Agrees held.now s → result ≡ is_some
+        (seen (slot_at shape.now s table place) own.now.snapshot.stamp own.now.session) }
+{
+    let body = body(shape, held, table, place.block());
+    body.shows(place.slot(), own.snapshot.stamp, own.session)
+}
+
+/// Whether the session sees a row at one of some places.
+fn any_shows(
+    shape: &Shape,
+    held: &Hand<CorePart>,
+    own: &OwnKey,
+    table: u32,
+    places: &[SlotId],
+) -> bool
+    requires { HasSlots shape.now held.now table places.now }
+    ensures { (s : Parts) → Agrees held.now s → result ≡ is_some (first_at (λ place. seen
+        (slot_at shape.now s table place) own.now.snapshot.stamp own.now.session) places.now) }
+{
+    for place in places {
+        if shows_at(shape, held, own, table, *place) {
+            return true;
+        }
+    }
+    false
+}
+
+/// Whether [`found`] finds a row of a key with these candidates. No row is read.
+pub fn is_found(
+    shape: &Shape,
+    held: &Hand<CorePart>,
+    own: &OwnKey,
+    table: u32,
+    places: &[SlotId],
+) -> bool
+    requires places { HasSlots shape.now held.now table places.now }
+    requires own { IfSome own.now.written (HasSlot shape.now held.now table) }
+    ensures { (s : Parts) → Agrees held.now s → result
+        ≡ is_some (found_by (slot_at shape.now s table) places.now own.now) }
+{
+    match own.written {
+        Some(place) => shows_at(shape, held, own, table, place),
+        None => any_shows(shape, held, own, table, places),
+    }
+}
+
 /// Whether a place has a row.
 fn has_row(shape: &Shape, held: &Hand<CorePart>, table: u32, place: SlotId) -> bool
     requires { HasSlot shape.now held.now table place }

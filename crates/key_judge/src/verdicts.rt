@@ -1,5 +1,5 @@
 //! Where a write of a key goes, or what is against it.
-ghost use Rattle.std.specs.Prelude.{◌≡◌, ◌+◌, ◌≤◌, None, IfOk, IfSome, length, option_and_then};
+ghost use Rattle.std.specs.Prelude.{◌≡◌, None, IfSome, option_and_then};
 ghost use Rattle.std.specs.Option.{option_or};
 ghost use Rattle.block_layout.specs.Place.{block_of};
 ghost use Rattle.core_parts.specs.Hands.{Has};
@@ -11,16 +11,13 @@ ghost use Rattle.event_spec.specs.Parts.{HeadOf, Parts, body_at, head_at, slot_a
 ghost use Rattle.hall_rule.specs.Hands.{Agrees};
 ghost use Rattle.key_judge.specs.Slots.{HasSlot, HasSlots};
 
-use crate::finds::{current, found};
+use crate::finds::{current, is_found};
 use crate::meetings::newer;
 use block_layout::SlotId;
 use block_spec::Phase;
 use core_parts::{CorePart, Shape, body, head};
 use event_spec::{OwnKey, WriteFault};
 use hall_rule::Hand;
-use std::alloc::AllocError;
-use std::sync::ledger::Ledger;
-use steps::Steps;
 use undo_chain::Newer;
 
 /// What a write is refused for by what it meets.
@@ -62,30 +59,28 @@ fn next_slot(
 }
 
 /// Where an insert of a key with these candidates goes, or the first thing that is against it.
-pub fn judge_insert<L: Ledger>(
+pub fn judge_insert(
     shape: &Shape,
     held: &Hand<CorePart>,
     own: &OwnKey,
     table: u32,
     places: &[SlotId],
-    steps: &mut Steps<L>,
-) -> Result<Result<SlotId, WriteFault>, AllocError>
+) -> Result<SlotId, WriteFault>
     requires table { HasTable shape.now table }
     requires head { own.now.written ≡ None → Has shape.now held.now (HeadOf table) }
     requires places { HasSlots shape.now held.now table places.now }
     requires own { IfSome own.now.written (HasSlot shape.now held.now table) }
-    ensures judged { IfOk result (λ judged. (s : Parts) → Agrees held.now s → judged ≡
+    ensures { (s : Parts) → Agrees held.now s → result ≡
         judged_insert (slot_at shape.now s table) places.now (head_at shape.now s table)
-        (slots_of shape.now table) own.now) }
-    ensures steps { steps.new ≤ steps.old + (length places.now + 1) }
+        (slots_of shape.now table) own.now }
 {
     if let Some(fault) = fault_of(newer(shape, held, own, table, places)) {
-        return Ok(Err(fault));
+        return Err(fault);
     }
-    if found(shape, held, own, table, places, steps)?.is_some() {
-        return Ok(Err(WriteFault::Exists));
+    if is_found(shape, held, own, table, places) {
+        return Err(WriteFault::Exists);
     }
-    Ok(next_slot(shape, held, own, table))
+    next_slot(shape, held, own, table)
 }
 
 /// Where a change of a found row goes, or that its block is sealed.
@@ -116,26 +111,24 @@ fn current_slot(
 
 /// Where an update or a delete of a key with these candidates goes, or the first thing that is
 /// against it.
-pub fn judge_change<L: Ledger>(
+pub fn judge_change(
     shape: &Shape,
     held: &Hand<CorePart>,
     own: &OwnKey,
     table: u32,
     places: &[SlotId],
-    steps: &mut Steps<L>,
-) -> Result<Result<SlotId, WriteFault>, AllocError>
+) -> Result<SlotId, WriteFault>
     requires places { HasSlots shape.now held.now table places.now }
     requires own { IfSome own.now.written (HasSlot shape.now held.now table) }
-    ensures judged { IfOk result (λ judged. (s : Parts) → Agrees held.now s → judged ≡
+    ensures { (s : Parts) → Agrees held.now s → result ≡
         judged_change (slot_at shape.now s table) places.now
-        (λ block. (body_at shape.now s table block).phase) own.now) }
-    ensures steps { steps.new ≤ steps.old + (length places.now + 1) }
+        (λ block. (body_at shape.now s table block).phase) own.now }
 {
     if let Some(fault) = fault_of(newer(shape, held, own, table, places)) {
-        return Ok(Err(fault));
+        return Err(fault);
     }
-    if found(shape, held, own, table, places, steps)?.is_none() {
-        return Ok(Err(WriteFault::Missing));
+    if !is_found(shape, held, own, table, places) {
+        return Err(WriteFault::Missing);
     }
-    Ok(current_slot(shape, held, table, places))
+    current_slot(shape, held, table, places)
 }

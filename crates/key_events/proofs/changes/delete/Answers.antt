@@ -18,17 +18,17 @@ use Rattle.key_judge.specs.Slots.{HasSlots}
 use Rattle.key_events.proofs.changes.delete.Goals as goal
 
 pub candidates-places-requires : goal.candidates-places-requires
-candidates-places-requires g c =
+candidates-places-requires c =
     let key : to_z w64 (of_z w64 c.args.key) ≡ c.args.key = to_z-of_z {w = w64} (search rules) in
     subst (λ (k : ℤ). Has c.args.shape.now c.args.held.now (ShardOf c.args.table (shard_of k))) (sym key) (delete_shard c.args.shape.now c.args.held.now c.args.own.now c.args.table c.args.key c.requires)
 
 pub judge_change-requires-clause-places : goal.judge_change-requires-clause-places
-judge_change-requires-clause-places g c =
+judge_change-requires-clause-places c =
     let key : to_z w64 (of_z w64 c.args.key) ≡ c.args.key = to_z-of_z {w = w64} (search rules) in
     subst (HasSlots c.args.shape.now c.args.held.now c.args.table) (sym (c.candidates-places.ensures ∙ ap (candidates_in c.args.shape.now c.args.held.now c.args.table) key)) (delete_slots c.args.shape.now c.args.held.now c.args.own.now c.args.table c.args.key c.requires)
 
 pub judge_change-requires-clause-own : goal.judge_change-requires-clause-own
-judge_change-requires-clause-own g c = delete_own c.args.shape.now c.args.held.now c.args.own.now c.args.table c.args.key c.requires
+judge_change-requires-clause-own c = delete_own c.args.shape.now c.args.held.now c.args.own.now c.args.table c.args.key c.requires
 
 -- what is judged is what is judged in the core
 judged_is : (sh : Shape) (hand : Held) (own : OwnKey) (t : ℕ) (key : ℤ) (m : MayRun sh (event.Delete own t key) hand) (places : List ℕ) (said : Result ℕ WriteFault)
@@ -36,42 +36,18 @@ judged_is : (sh : Shape) (hand : Held) (own : OwnKey) (t : ℕ) (key : ℤ) (m :
 judged_is sh hand own t key m places said is at =
     ap (λ (ps : List ℕ). judged_change (slot_at sh m.parts t) ps (λ block. (body_at sh m.parts t block).phase) own) (delete_same sh hand own t key m m.parts m.agrees ∙ sym at) ∙ sym is
 
-pub returns-in_err-place-clause-steps : goal.returns-in_err-place-clause-steps
-returns-in_err-place-clause-steps g c = λ s agrees.
-    let key : to_z w64 (of_z w64 c.args.key) ≡ c.args.key = to_z-of_z {w = w64} (search rules) in
-    let few = c.judge_change.ensures.steps in
-    let many = ap length (c.candidates-places.ensures ∙ ap (candidates_in c.args.shape.now c.args.held.now c.args.table) key ∙ sym (delete_same c.args.shape.now c.args.held.now c.args.own.now c.args.table c.args.key c.requires s agrees)) in omega (arith, few, many)
-
-pub returns-in-Err-clause-steps : goal.returns-in-Err-clause-steps
-returns-in-Err-clause-steps g c = λ s agrees.
-    let key : to_z w64 (of_z w64 c.args.key) ≡ c.args.key = to_z-of_z {w = w64} (search rules) in
-    let few = c.judge_change.ensures.steps in
-    let many = ap length (c.candidates-places.ensures ∙ ap (candidates_in c.args.shape.now c.args.held.now c.args.table) key ∙ sym (delete_same c.args.shape.now c.args.held.now c.args.own.now c.args.table c.args.key c.requires s agrees)) in omega (arith, few, many)
-
-pub returns-in_err-install-clause-steps : goal.returns-in_err-install-clause-steps
-returns-in_err-install-clause-steps g c = λ s agrees.
-    let key : to_z w64 (of_z w64 c.args.key) ≡ c.args.key = to_z-of_z {w = w64} (search rules) in
-    let few = c.judge_change.ensures.steps in
-    let many = ap length (c.candidates-places.ensures ∙ ap (candidates_in c.args.shape.now c.args.held.now c.args.table) key ∙ sym (delete_same c.args.shape.now c.args.held.now c.args.own.now c.args.table c.args.key c.requires s agrees)) in omega (arith, few, many)
-
-pub returns-clause-steps : goal.returns-clause-steps
-returns-clause-steps g c = λ s agrees.
-    let key : to_z w64 (of_z w64 c.args.key) ≡ c.args.key = to_z-of_z {w = w64} (search rules) in
-    let few = c.judge_change.ensures.steps in
-    let many = ap length (c.candidates-places.ensures ∙ ap (candidates_in c.args.shape.now c.args.held.now c.args.table) key ∙ sym (delete_same c.args.shape.now c.args.held.now c.args.own.now c.args.table c.args.key c.requires s agrees)) in omega (arith, few, many)
-
 pub returns-in-Err-clause-ok : goal.returns-in-Err-clause-ok
-returns-in-Err-clause-ok g c =
+returns-in-Err-clause-ok c =
     let key : to_z w64 (of_z w64 c.args.key) ≡ c.args.key = to_z-of_z {w = w64} (search rules) in
-    let is = judged_is c.args.shape.now c.args.held.now c.args.own.now c.args.table c.args.key c.requires c.candidates-places.result.now c.in_ok-place.field-0 (c.in_ok-place.ensures.judged c.requires.parts c.requires.agrees) (c.candidates-places.ensures ∙ ap (candidates_in c.args.shape.now c.args.held.now c.args.table) key) ∙ c.in-Err.is in
+    let is = judged_is c.args.shape.now c.args.held.now c.args.own.now c.args.table c.args.key c.requires c.candidates-places.result.now c.judge_change.result (c.judge_change.ensures c.requires.parts c.requires.agrees) (c.candidates-places.ensures ∙ ap (candidates_in c.args.shape.now c.args.held.now c.args.table) key) ∙ c.in-Err.is in
     refused c.args.shape.now (event.Delete c.args.own.now c.args.table c.args.key) c.args.held.now c.requires (change_judged c.args.shape.now c.requires.parts c.args.own.now c.args.table c.args.key) c.in-Err.fault
     (after_change c.args.shape.now c.requires.parts c.args.own.now c.args.table (λ old. change.Gone)) is refl refl refl
 
 pub install-requires-clause-takes : goal.install-requires-clause-takes
-install-requires-clause-takes g c =
+install-requires-clause-takes c =
     let key : to_z w64 (of_z w64 c.args.key) ≡ c.args.key = to_z-of_z {w = w64} (search rules) in
     let s = c.requires.parts in let own = c.args.own.now in let sh = c.args.shape.now in
-    let is = judged_is c.args.shape.now c.args.held.now c.args.own.now c.args.table c.args.key c.requires c.candidates-places.result.now c.in_ok-place.field-0 (c.in_ok-place.ensures.judged s c.requires.agrees) (c.candidates-places.ensures ∙ ap (candidates_in c.args.shape.now c.args.held.now c.args.table) key) ∙ c.in-Ok.is in
+    let is = judged_is c.args.shape.now c.args.held.now c.args.own.now c.args.table c.args.key c.requires c.candidates-places.result.now c.judge_change.result (c.judge_change.ensures s c.requires.agrees) (c.candidates-places.ensures ∙ ap (candidates_in c.args.shape.now c.args.held.now c.args.table) key) ∙ c.in-Ok.is in
     let thawed = c.requires.lawful.1.1 in
     let a = changed_place sh s c.requires.holds.sound own c.args.table c.args.key thawed c.in-Ok.place is in
     takes_at sh c.args.held.now s c.args.table c.in-Ok.place own.session change.Gone c.requires.agrees
@@ -79,8 +55,8 @@ install-requires-clause-takes g c =
     (change_takes sh s c.requires.holds.sound own c.args.table c.args.key thawed c.in-Ok.place is change.Gone refl tt)
 
 pub returns-clause-ok : goal.returns-clause-ok
-returns-clause-ok g c =
+returns-clause-ok c =
     let key : to_z w64 (of_z w64 c.args.key) ≡ c.args.key = to_z-of_z {w = w64} (search rules) in
-    let is = judged_is c.args.shape.now c.args.held.now c.args.own.now c.args.table c.args.key c.requires c.candidates-places.result.now c.in_ok-place.field-0 (c.in_ok-place.ensures.judged c.requires.parts c.requires.agrees) (c.candidates-places.ensures ∙ ap (candidates_in c.args.shape.now c.args.held.now c.args.table) key) ∙ c.in-Ok.is in
+    let is = judged_is c.args.shape.now c.args.held.now c.args.own.now c.args.table c.args.key c.requires c.candidates-places.result.now c.judge_change.result (c.judge_change.ensures c.requires.parts c.requires.agrees) (c.candidates-places.ensures ∙ ap (candidates_in c.args.shape.now c.args.held.now c.args.table) key) ∙ c.in-Ok.is in
     written_once c.args.shape.now (event.Delete c.args.own.now c.args.table c.args.key) c.args.held.now c.requires (change_judged c.args.shape.now c.requires.parts c.args.own.now c.args.table c.args.key) c.in-Ok.place
     (after_change c.args.shape.now c.requires.parts c.args.own.now c.args.table (λ old. change.Gone)) c.install.new.held is refl c.in_ok-install.ensures.ok refl

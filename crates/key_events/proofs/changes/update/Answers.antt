@@ -45,47 +45,17 @@ judged_is : (sh : Shape) (hand : Held) (own : OwnKey) (t : ℕ) (row : Row) (m :
 judged_is sh hand own t row m places said is at =
     ap (λ (ps : List ℕ). judged_change (slot_at sh m.parts t) ps (λ block. (body_at sh m.parts t block).phase) own) (update_same sh hand own t row m m.parts m.agrees ∙ sym at) ∙ sym is
 
-pub returns-in_err-place-clause-steps : goal.returns-in_err-place-clause-steps
-returns-in_err-place-clause-steps g c = λ s agrees.
-    let key : to_z w64 (of_z w64 c.key_of-key.result) ≡ key_of c.args.row = to_z-of_z {w = w64} (search rules) ∙ c.key_of-key.ensures in
-    let few = c.judge_change.ensures.steps in
-    let many = ap length (c.candidates-places.ensures ∙ ap (candidates_in c.args.shape.now c.args.held.now c.args.table) key ∙ sym (update_same c.args.shape.now c.args.held.now c.args.own.now c.args.table c.args.row c.requires s agrees)) in omega (arith, few, many)
-
-pub returns-in-Err-clause-steps : goal.returns-in-Err-clause-steps
-returns-in-Err-clause-steps g c = λ s agrees.
-    let key : to_z w64 (of_z w64 c.key_of-key.result) ≡ key_of c.args.row = to_z-of_z {w = w64} (search rules) ∙ c.key_of-key.ensures in
-    let few = c.judge_change.ensures.steps in
-    let many = ap length (c.candidates-places.ensures ∙ ap (candidates_in c.args.shape.now c.args.held.now c.args.table) key ∙ sym (update_same c.args.shape.now c.args.held.now c.args.own.now c.args.table c.args.row c.requires s agrees)) in omega (arith, few, many)
-
-pub returns-in_err-patch-clause-steps : goal.returns-in_err-patch-clause-steps
-returns-in_err-patch-clause-steps g c = λ s agrees.
-    let key : to_z w64 (of_z w64 c.key_of-key.result) ≡ key_of c.args.row = to_z-of_z {w = w64} (search rules) ∙ c.key_of-key.ensures in
-    let few = c.judge_change.ensures.steps in let more = c.changed_at.ensures.steps in
-    let many = ap length (c.candidates-places.ensures ∙ ap (candidates_in c.args.shape.now c.args.held.now c.args.table) key ∙ sym (update_same c.args.shape.now c.args.held.now c.args.own.now c.args.table c.args.row c.requires s agrees)) in omega (arith, few, many, more)
-
-pub returns-in_err-install-clause-steps : goal.returns-in_err-install-clause-steps
-returns-in_err-install-clause-steps g c = λ s agrees.
-    let key : to_z w64 (of_z w64 c.key_of-key.result) ≡ key_of c.args.row = to_z-of_z {w = w64} (search rules) ∙ c.key_of-key.ensures in
-    let few = c.judge_change.ensures.steps in let more = c.changed_at.ensures.steps in
-    let many = ap length (c.candidates-places.ensures ∙ ap (candidates_in c.args.shape.now c.args.held.now c.args.table) key ∙ sym (update_same c.args.shape.now c.args.held.now c.args.own.now c.args.table c.args.row c.requires s agrees)) in omega (arith, few, many, more)
-
-pub returns-clause-steps : goal.returns-clause-steps
-returns-clause-steps g c = λ s agrees.
-    let key : to_z w64 (of_z w64 c.key_of-key.result) ≡ key_of c.args.row = to_z-of_z {w = w64} (search rules) ∙ c.key_of-key.ensures in
-    let few = c.judge_change.ensures.steps in let more = c.changed_at.ensures.steps in
-    let many = ap length (c.candidates-places.ensures ∙ ap (candidates_in c.args.shape.now c.args.held.now c.args.table) key ∙ sym (update_same c.args.shape.now c.args.held.now c.args.own.now c.args.table c.args.row c.requires s agrees)) in omega (arith, few, many, more)
-
 pub returns-in-Err-clause-ok : goal.returns-in-Err-clause-ok
 returns-in-Err-clause-ok g c =
     let key : to_z w64 (of_z w64 c.key_of-key.result) ≡ key_of c.args.row = to_z-of_z {w = w64} (search rules) ∙ c.key_of-key.ensures in
-    let is = judged_is c.args.shape.now c.args.held.now c.args.own.now c.args.table c.args.row c.requires c.candidates-places.result.now c.in_ok-place.field-0 (c.in_ok-place.ensures.judged c.requires.parts c.requires.agrees) (c.candidates-places.ensures ∙ ap (candidates_in c.args.shape.now c.args.held.now c.args.table) key) ∙ c.in-Err.is in
+    let is = judged_is c.args.shape.now c.args.held.now c.args.own.now c.args.table c.args.row c.requires c.candidates-places.result.now c.judge_change.result (c.judge_change.ensures c.requires.parts c.requires.agrees) (c.candidates-places.ensures ∙ ap (candidates_in c.args.shape.now c.args.held.now c.args.table) key) ∙ c.in-Err.is in
     refused c.args.shape.now (event.Update c.args.own.now c.args.table c.args.row) c.args.held.now c.requires (change_judged c.args.shape.now c.requires.parts c.args.own.now c.args.table (key_of c.args.row)) c.in-Err.fault
     (after_change c.args.shape.now c.requires.parts c.args.own.now c.args.table (λ old. change.Patch (differences 0 old c.args.row))) is refl refl refl
 
 pub changed_at-requires-clause-slot : goal.changed_at-requires-clause-slot
 changed_at-requires-clause-slot g c =
     let key : to_z w64 (of_z w64 c.key_of-key.result) ≡ key_of c.args.row = to_z-of_z {w = w64} (search rules) ∙ c.key_of-key.ensures in
-    let is = judged_is c.args.shape.now c.args.held.now c.args.own.now c.args.table c.args.row c.requires c.candidates-places.result.now c.in_ok-place.field-0 (c.in_ok-place.ensures.judged c.requires.parts c.requires.agrees) (c.candidates-places.ensures ∙ ap (candidates_in c.args.shape.now c.args.held.now c.args.table) key) ∙ c.in-Ok.is in
+    let is = judged_is c.args.shape.now c.args.held.now c.args.own.now c.args.table c.args.row c.requires c.candidates-places.result.now c.judge_change.result (c.judge_change.ensures c.requires.parts c.requires.agrees) (c.candidates-places.ensures ∙ ap (candidates_in c.args.shape.now c.args.held.now c.args.table) key) ∙ c.in-Ok.is in
     let a = changed_place c.args.shape.now c.requires.parts c.requires.holds.sound c.args.own.now c.args.table (key_of c.args.row) c.requires.lawful.1.2 c.in-Ok.place is in
     update_slots c.args.shape.now c.args.held.now c.args.own.now c.args.table c.args.row c.requires c.in-Ok.place (subst (Among c.in-Ok.place) (update_same c.args.shape.now c.args.held.now c.args.own.now c.args.table c.args.row c.requires c.requires.parts c.requires.agrees) a)
 
@@ -93,7 +63,7 @@ pub install-requires-clause-takes : goal.install-requires-clause-takes
 install-requires-clause-takes g c =
     let key : to_z w64 (of_z w64 c.key_of-key.result) ≡ key_of c.args.row = to_z-of_z {w = w64} (search rules) ∙ c.key_of-key.ensures in
     let s = c.requires.parts in let own = c.args.own.now in let sh = c.args.shape.now in
-    let is = judged_is c.args.shape.now c.args.held.now c.args.own.now c.args.table c.args.row c.requires c.candidates-places.result.now c.in_ok-place.field-0 (c.in_ok-place.ensures.judged c.requires.parts c.requires.agrees) (c.candidates-places.ensures ∙ ap (candidates_in c.args.shape.now c.args.held.now c.args.table) key) ∙ c.in-Ok.is in
+    let is = judged_is c.args.shape.now c.args.held.now c.args.own.now c.args.table c.args.row c.requires c.candidates-places.result.now c.judge_change.result (c.judge_change.ensures c.requires.parts c.requires.agrees) (c.candidates-places.ensures ∙ ap (candidates_in c.args.shape.now c.args.held.now c.args.table) key) ∙ c.in-Ok.is in
     let thawed = c.requires.lawful.1.2 in
     let a = changed_place sh s c.requires.holds.sound own c.args.table (key_of c.args.row) thawed c.in-Ok.place is in
     let row = changes sh s c.requires.holds.sound own c.args.table (key_of c.args.row) thawed c.in-Ok.place is in
@@ -107,7 +77,7 @@ install-requires-clause-takes g c =
 pub returns-clause-ok : goal.returns-clause-ok
 returns-clause-ok g c =
     let key : to_z w64 (of_z w64 c.key_of-key.result) ≡ key_of c.args.row = to_z-of_z {w = w64} (search rules) ∙ c.key_of-key.ensures in
-    let is = judged_is c.args.shape.now c.args.held.now c.args.own.now c.args.table c.args.row c.requires c.candidates-places.result.now c.in_ok-place.field-0 (c.in_ok-place.ensures.judged c.requires.parts c.requires.agrees) (c.candidates-places.ensures ∙ ap (candidates_in c.args.shape.now c.args.held.now c.args.table) key) ∙ c.in-Ok.is in
+    let is = judged_is c.args.shape.now c.args.held.now c.args.own.now c.args.table c.args.row c.requires c.candidates-places.result.now c.judge_change.result (c.judge_change.ensures c.requires.parts c.requires.agrees) (c.candidates-places.ensures ∙ ap (candidates_in c.args.shape.now c.args.held.now c.args.table) key) ∙ c.in-Ok.is in
     written_once c.args.shape.now (event.Update c.args.own.now c.args.table c.args.row) c.args.held.now c.requires (change_judged c.args.shape.now c.requires.parts c.args.own.now c.args.table (key_of c.args.row)) c.in-Ok.place
     (after_change c.args.shape.now c.requires.parts c.args.own.now c.args.table (λ old. change.Patch (differences 0 old c.args.row))) c.install.new.held is refl
     (c.in_ok-install.ensures.ok ∙ ap (λ ds. after c.args.shape.now (of_body c.args.table (block_of c.in-Ok.place) (with_slot (slot_of c.in-Ok.place) (written c.args.own.now.session (change.Patch ds)))) c.args.held.now)

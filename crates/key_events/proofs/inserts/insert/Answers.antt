@@ -26,20 +26,20 @@ use Rattle.key_events.specs.Puts.{put_changes}
 use Rattle.key_events.proofs.inserts.insert.Goals as goal
 
 pub candidates-places-requires : goal.candidates-places-requires
-candidates-places-requires g c =
+candidates-places-requires c =
     let key : to_z w64 (of_z w64 c.key_of-key.result) ≡ key_of c.args.row = to_z-of_z {w = w64} (search rules) ∙ c.key_of-key.ensures in
     subst (λ (k : ℤ). Has c.args.shape.now c.args.held.now (ShardOf c.args.table (shard_of k))) (sym key) (insert_shard c.args.shape.now c.args.held.now c.args.own.now c.args.table c.args.row c.requires)
 
 pub judge_insert-requires-clause-head : goal.judge_insert-requires-clause-head
-judge_insert-requires-clause-head g c = λ none. insert_head c.args.shape.now c.args.held.now c.args.own.now c.args.table c.args.row c.requires
+judge_insert-requires-clause-head c = λ none. insert_head c.args.shape.now c.args.held.now c.args.own.now c.args.table c.args.row c.requires
 
 pub judge_insert-requires-clause-places : goal.judge_insert-requires-clause-places
-judge_insert-requires-clause-places g c =
+judge_insert-requires-clause-places c =
     let key : to_z w64 (of_z w64 c.key_of-key.result) ≡ key_of c.args.row = to_z-of_z {w = w64} (search rules) ∙ c.key_of-key.ensures in
     subst (HasSlots c.args.shape.now c.args.held.now c.args.table) (sym (c.candidates-places.ensures ∙ ap (candidates_in c.args.shape.now c.args.held.now c.args.table) key)) (insert_slots c.args.shape.now c.args.held.now c.args.own.now c.args.table c.args.row c.requires)
 
 pub judge_insert-requires-clause-own : goal.judge_insert-requires-clause-own
-judge_insert-requires-clause-own g c = insert_own c.args.shape.now c.args.held.now c.args.own.now c.args.table c.args.row c.requires
+judge_insert-requires-clause-own c = insert_own c.args.shape.now c.args.held.now c.args.own.now c.args.table c.args.row c.requires
 
 -- what is judged is what is judged in the core
 judged_is : (sh : Shape) (hand : Held) (own : OwnKey) (t : ℕ) (row : Row) (m : MayRun sh (event.Insert own t row) hand) (places : List ℕ) (said : Result ℕ WriteFault)
@@ -54,63 +54,39 @@ in_order sh hand own t row m =
     subst (λ o. ShardHolds (shard_of (key_of row)) (shard_from o)) (sym x.1)
     (m.holds.shards t (shard_of (key_of row)) x.0 (in_state (names sh) hand m.parts (ShardOf t (shard_of (key_of row))) (part.Shard x.0) m.agrees x.1))
 
-pub returns-in_err-place-clause-steps : goal.returns-in_err-place-clause-steps
-returns-in_err-place-clause-steps g c = λ s agrees.
-    let key : to_z w64 (of_z w64 c.key_of-key.result) ≡ key_of c.args.row = to_z-of_z {w = w64} (search rules) ∙ c.key_of-key.ensures in
-    let few = c.judge_insert.ensures.steps in
-    let many = ap length (c.candidates-places.ensures ∙ ap (candidates_in c.args.shape.now c.args.held.now c.args.table) key ∙ sym (insert_same c.args.shape.now c.args.held.now c.args.own.now c.args.table c.args.row c.requires s agrees)) in omega (arith, few, many)
-
-pub returns-in-Err-clause-steps : goal.returns-in-Err-clause-steps
-returns-in-Err-clause-steps g c = λ s agrees.
-    let key : to_z w64 (of_z w64 c.key_of-key.result) ≡ key_of c.args.row = to_z-of_z {w = w64} (search rules) ∙ c.key_of-key.ensures in
-    let few = c.judge_insert.ensures.steps in
-    let many = ap length (c.candidates-places.ensures ∙ ap (candidates_in c.args.shape.now c.args.held.now c.args.table) key ∙ sym (insert_same c.args.shape.now c.args.held.now c.args.own.now c.args.table c.args.row c.requires s agrees)) in omega (arith, few, many)
-
-pub returns-in_err-put-clause-steps : goal.returns-in_err-put-clause-steps
-returns-in_err-put-clause-steps g c = λ s agrees.
-    let key : to_z w64 (of_z w64 c.key_of-key.result) ≡ key_of c.args.row = to_z-of_z {w = w64} (search rules) ∙ c.key_of-key.ensures in
-    let few = c.judge_insert.ensures.steps in
-    let many = ap length (c.candidates-places.ensures ∙ ap (candidates_in c.args.shape.now c.args.held.now c.args.table) key ∙ sym (insert_same c.args.shape.now c.args.held.now c.args.own.now c.args.table c.args.row c.requires s agrees)) in omega (arith, few, many)
-
-pub returns-clause-steps : goal.returns-clause-steps
-returns-clause-steps g c = λ s agrees.
-    let key : to_z w64 (of_z w64 c.key_of-key.result) ≡ key_of c.args.row = to_z-of_z {w = w64} (search rules) ∙ c.key_of-key.ensures in
-    let few = c.judge_insert.ensures.steps in
-    let many = ap length (c.candidates-places.ensures ∙ ap (candidates_in c.args.shape.now c.args.held.now c.args.table) key ∙ sym (insert_same c.args.shape.now c.args.held.now c.args.own.now c.args.table c.args.row c.requires s agrees)) in omega (arith, few, many)
-
 pub returns-in-Err-clause-ok : goal.returns-in-Err-clause-ok
-returns-in-Err-clause-ok g c =
+returns-in-Err-clause-ok c =
     let key : to_z w64 (of_z w64 c.key_of-key.result) ≡ key_of c.args.row = to_z-of_z {w = w64} (search rules) ∙ c.key_of-key.ensures in
-    let is = judged_is c.args.shape.now c.args.held.now c.args.own.now c.args.table c.args.row c.requires c.candidates-places.result.now c.in_ok-place.field-0 (c.in_ok-place.ensures.judged c.requires.parts c.requires.agrees) (c.candidates-places.ensures ∙ ap (candidates_in c.args.shape.now c.args.held.now c.args.table) key) ∙ c.in-Err.is in
+    let is = judged_is c.args.shape.now c.args.held.now c.args.own.now c.args.table c.args.row c.requires c.candidates-places.result.now c.judge_insert.result (c.judge_insert.ensures c.requires.parts c.requires.agrees) (c.candidates-places.ensures ∙ ap (candidates_in c.args.shape.now c.args.held.now c.args.table) key) ∙ c.in-Err.is in
     refused c.args.shape.now (event.Insert c.args.own.now c.args.table c.args.row) c.args.held.now c.requires (insert_judged c.args.shape.now c.requires.parts c.args.own.now c.args.table (key_of c.args.row)) c.in-Err.fault
     (after_insert c.args.shape.now c.requires.parts c.args.own.now c.args.table c.args.row) is refl refl refl
 
 pub put-requires-clause-shard : goal.put-requires-clause-shard
-put-requires-clause-shard g c =
+put-requires-clause-shard c =
     let key : to_z w64 (of_z w64 c.key_of-key.result) ≡ key_of c.args.row = to_z-of_z {w = w64} (search rules) ∙ c.key_of-key.ensures in
     subst (λ (k : ℤ). Has c.args.shape.now c.args.held.now (ShardOf c.args.table (shard_of k))) (sym key) (insert_shard c.args.shape.now c.args.held.now c.args.own.now c.args.table c.args.row c.requires)
 
 pub put-requires-clause-order : goal.put-requires-clause-order
-put-requires-clause-order g c =
+put-requires-clause-order c =
     let key : to_z w64 (of_z w64 c.key_of-key.result) ≡ key_of c.args.row = to_z-of_z {w = w64} (search rules) ∙ c.key_of-key.ensures in
     subst (λ (k : ℤ). ShardHolds (shard_of k) (shard_from (in_hand c.args.shape.now c.args.held.now (ShardOf c.args.table (shard_of k))))) (sym key) (in_order c.args.shape.now c.args.held.now c.args.own.now c.args.table c.args.row c.requires)
 
 pub put-requires-clause-takes : goal.put-requires-clause-takes
-put-requires-clause-takes g c =
+put-requires-clause-takes c =
     let key : to_z w64 (of_z w64 c.key_of-key.result) ≡ key_of c.args.row = to_z-of_z {w = w64} (search rules) ∙ c.key_of-key.ensures in
     let sh = c.args.shape.now in let s = c.requires.parts in let own = c.args.own.now in
-    let is = judged_is c.args.shape.now c.args.held.now c.args.own.now c.args.table c.args.row c.requires c.candidates-places.result.now c.in_ok-place.field-0 (c.in_ok-place.ensures.judged c.requires.parts c.requires.agrees) (c.candidates-places.ensures ∙ ap (candidates_in c.args.shape.now c.args.held.now c.args.table) key) ∙ c.in-Ok.is in
+    let is = judged_is c.args.shape.now c.args.held.now c.args.own.now c.args.table c.args.row c.requires c.candidates-places.result.now c.judge_insert.result (c.judge_insert.ensures c.requires.parts c.requires.agrees) (c.candidates-places.ensures ∙ ap (candidates_in c.args.shape.now c.args.held.now c.args.table) key) ∙ c.in-Ok.is in
     let takes = insert_takes sh s c.requires.holds.measures c.requires.holds.sound own c.args.table c.args.row c.requires.lawful c.in-Ok.place is in
     takes_at sh c.args.held.now s c.args.table c.in-Ok.place own.session (change.Put c.args.row) c.requires.agrees
     (insert_body c.args.shape.now c.args.held.now c.args.own.now c.args.table c.args.row c.requires c.in-Ok.place (fine sh s c.requires.holds.measures c.requires.holds.sound own c.args.table c.args.row c.requires.lawful c.in-Ok.place is).1 takes.0) takes.1
 
 pub put-requires-clause-head : goal.put-requires-clause-head
-put-requires-clause-head g c = insert_head c.args.shape.now c.args.held.now c.args.own.now c.args.table c.args.row c.requires
+put-requires-clause-head c = insert_head c.args.shape.now c.args.held.now c.args.own.now c.args.table c.args.row c.requires
 
 pub returns-clause-ok : goal.returns-clause-ok
-returns-clause-ok g c =
+returns-clause-ok c =
     let key : to_z w64 (of_z w64 c.key_of-key.result) ≡ key_of c.args.row = to_z-of_z {w = w64} (search rules) ∙ c.key_of-key.ensures in
-    let is = judged_is c.args.shape.now c.args.held.now c.args.own.now c.args.table c.args.row c.requires c.candidates-places.result.now c.in_ok-place.field-0 (c.in_ok-place.ensures.judged c.requires.parts c.requires.agrees) (c.candidates-places.ensures ∙ ap (candidates_in c.args.shape.now c.args.held.now c.args.table) key) ∙ c.in-Ok.is in
+    let is = judged_is c.args.shape.now c.args.held.now c.args.own.now c.args.table c.args.row c.requires c.candidates-places.result.now c.judge_insert.result (c.judge_insert.ensures c.requires.parts c.requires.agrees) (c.candidates-places.ensures ∙ ap (candidates_in c.args.shape.now c.args.held.now c.args.table) key) ∙ c.in-Ok.is in
     written_once c.args.shape.now (event.Insert c.args.own.now c.args.table c.args.row) c.args.held.now c.requires (insert_judged c.args.shape.now c.requires.parts c.args.own.now c.args.table (key_of c.args.row)) c.in-Ok.place
     (after_insert c.args.shape.now c.requires.parts c.args.own.now c.args.table c.args.row) c.put.new.held is refl
     (c.in_ok-put.ensures.ok ∙ ap (λ (k : ℤ). after c.args.shape.now (put_changes c.args.shape.now c.args.own.now c.args.table k c.in-Ok.place c.args.row) c.args.held.now) key) refl
