@@ -6,6 +6,7 @@ mod keyed;
 mod least;
 mod offers;
 mod touching;
+mod written;
 
 pub use keyed::{KeyedEvent, key_of};
 pub use touching::{next_touched, touches};

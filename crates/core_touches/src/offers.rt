@@ -1,11 +1,13 @@
 //! Parts whose numbers are offered.
-ghost use Rattle.std.specs.Prelude.{◌≡◌, ◌<◌, map, option_to_list};
+ghost use Rattle.std.specs.Prelude.{◌≡◌, ◌<◌, IfSome, map, option_to_list};
 ghost use Rattle.core_touches.specs.Least.{offered_all, offered_name};
 ghost use Rattle.core_touches.specs.Touched.{bodies_at, bodies_written, shards_in, shards_moved};
 ghost use Rattle.core_touches.specs.Touched.{shards_written, sources_moved, targets_moved};
+ghost use Rattle.core_touches.specs.Written.{AreWritten, names_written};
 ghost use Rattle.event_spec.specs.Parts.{HeadOf, ShardOf, BodyOf, TheDesk, tables_of};
 
 use crate::least::Least;
+use crate::written::{PartKind, Spots};
 use block_layout::SlotId;
 use core_parts::{Shape, shard_of};
 use event_spec::{MovePair, OwnWrites};
@@ -81,7 +83,7 @@ pub(crate) fn offer_places(shape: &Shape, least: &mut Least, table: u32, places:
 }
 
 /// Offers the bodies of rows that a transaction wrote.
-pub(crate) fn offer_written(shape: &Shape, least: &mut Least, writes: &OwnWrites)
+fn offer_written(shape: &Shape, least: &mut Least, writes: &OwnWrites)
     ensures { least.new ≡ offered_all shape.now (bodies_written writes.now) least.old }
 {
     for (row, place) in writes.by_row().iter() {
@@ -90,11 +92,32 @@ pub(crate) fn offer_written(shape: &Shape, least: &mut Least, writes: &OwnWrites
 }
 
 /// Offers the shards of rows that a transaction wrote.
-pub(crate) fn offer_keys(shape: &Shape, least: &mut Least, writes: &OwnWrites)
+fn offer_keys(shape: &Shape, least: &mut Least, writes: &OwnWrites)
     ensures { least.new ≡ offered_all shape.now (shards_written writes.now) least.old }
 {
     for (row, _) in writes.by_row().iter() {
         offer_shard(shape, least, row.table, shard_of(row.key));
+    }
+}
+
+/// Offers the parts of a kind that a transaction wrote: those at the spots that were found of them,
+/// and else those of each row.
+pub(crate) fn offer_found(
+    shape: &Shape,
+    least: &mut Least,
+    kind: PartKind,
+    writes: &OwnWrites,
+    spots: Option<&Spots>,
+)
+    requires { IfSome spots (λ spots. AreWritten kind writes.now spots.now) }
+    ensures { least.new ≡ offered_all shape.now (names_written kind writes.now) least.old }
+{
+    match spots {
+        Some(spots) => spots.offer(shape, kind, least),
+        None => match kind {
+            PartKind::Shard => offer_keys(shape, least, writes),
+            PartKind::Body => offer_written(shape, least, writes),
+        },
     }
 }
 

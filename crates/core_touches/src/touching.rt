@@ -1,11 +1,13 @@
 //! The next part that an event touches.
-ghost use Rattle.std.specs.Prelude.{◌≡◌, ◌<◌, [], ◌∷◌, ◌++◌, None, length, map};
+ghost use Rattle.std.specs.Prelude.{◌≡◌, ◌<◌, [], ◌∷◌, ◌++◌, IfSome, None, length, map};
 ghost use Rattle.std.specs.Option.{option_map_or};
 ghost use Rattle.core_parts.specs.Hands.{in_hand};
 ghost use Rattle.core_touches.specs.Least.{offered_all};
 ghost use Rattle.core_touches.specs.Touched.{bodies_written, names_on_key, shards_moved};
 ghost use Rattle.core_touches.specs.Touched.{shards_written, sources_moved, targets_moved};
 ghost use Rattle.core_touches.specs.Touched.{touched_names};
+ghost use Rattle.core_touches.specs.Written.{AreWritten};
+ghost use Rattle.core_touches.specs.declared.written.PartKind.TheVariants as kinds;
 ghost use Rattle.event_spec.specs.Judged.{next_place};
 ghost use Rattle.event_spec.specs.Parts.{HeadOf, TheDesk, head_from, shard_from, tables_of};
 ghost use Rattle.event_spec.specs.Touched.{held_next, held_places, touching};
@@ -14,9 +16,10 @@ ghost use Rattle.hall_rule.specs.Hands.{IsNext};
 use crate::keyed::{KeyedEvent, key_of};
 use crate::least::Least;
 use crate::offers::{
-    offer_body, offer_desk, offer_head, offer_heads, offer_keys, offer_moved_keys, offer_place,
-    offer_places, offer_shard, offer_shards, offer_sources, offer_targets, offer_written,
+    offer_body, offer_desk, offer_found, offer_head, offer_heads, offer_moved_keys, offer_place,
+    offer_places, offer_shard, offer_shards, offer_sources, offer_targets,
 };
+use crate::written::{PartKind, Spots};
 use block_layout::SlotId;
 use core_parts::{CorePart, Shape, shard_of};
 use event_spec::{Event, MovePair, OwnWrites, Part};
@@ -71,10 +74,12 @@ fn offer_touched(shape: &Shape, least: &mut Least, event: &KeyedEvent, held: &Ha
             offer_on_key(shape, least, held, *table, *key, own.written);
         }
         Event::Commit { own } => {
-            offer_written(shape, least, &own.writes);
+            offer_found(shape, least, PartKind::Body, &own.writes, event.bodies());
             offer_desk(shape, least);
         }
-        Event::Abort { own } => offer_aborted(shape, least, &own.writes),
+        Event::Abort { own } => {
+            offer_aborted(shape, least, &own.writes, event.shards(), event.bodies());
+        }
         Event::Prune { table, block, .. } => {
             offer_head(shape, least, *table);
             offer_body(shape, least, *table, *block);
@@ -110,14 +115,22 @@ fn offer_on_key(
     offer_places(shape, least, table, candidates(shape, held, table, key));
 }
 
-/// Offers the parts of an abort.
-fn offer_aborted(shape: &Shape, least: &mut Least, writes: &OwnWrites)
+/// Offers the parts of an abort, of which the shards and the bodies may have been found.
+fn offer_aborted(
+    shape: &Shape,
+    least: &mut Least,
+    writes: &OwnWrites,
+    shards: Option<&Spots>,
+    bodies: Option<&Spots>,
+)
+    requires shards { IfSome shards (λ spots. AreWritten kinds.Shard writes.now spots.now) }
+    requires bodies { IfSome bodies (λ spots. AreWritten kinds.Body writes.now spots.now) }
     ensures { least.new ≡ offered_all shape.now (map HeadOf (tables_of shape.now)
         ++ shards_written writes.now ++ bodies_written writes.now ++ TheDesk ∷ []) least.old }
 {
     offer_heads(shape, least);
-    offer_keys(shape, least, writes);
-    offer_written(shape, least, writes);
+    offer_found(shape, least, PartKind::Shard, writes, shards);
+    offer_found(shape, least, PartKind::Body, writes, bodies);
     offer_desk(shape, least);
 }
 

@@ -55,7 +55,7 @@ impl Store {
             session.old session.new command.Commit (said.Committed result) }
     {
         let own = session.own_all(rt);
-        let event = KeyedEvent::new(Event::Commit { own });
+        let event = KeyedEvent::ending(self.shape().alloc(), Event::Commit { own });
         let Reply::Committed(number) = self.make(rt, &mut session.pass, event) else {
             unreachable!()
         };
@@ -73,7 +73,7 @@ impl Store {
         ensures answers { Answers self.now session.old session.new command.Abort said.Aborted }
     {
         let own = session.own_all(rt);
-        let event = KeyedEvent::new(Event::Abort { own });
+        let event = KeyedEvent::ending(self.shape().alloc(), Event::Abort { own });
         let Reply::Aborted = self.make(rt, &mut session.pass, event) else {
             unreachable!()
         };

@@ -21,8 +21,8 @@ unreachable-requires g c =
     let s = c.args.session.now in
     let t = c.own_all-own.result in
     let owns = own_stands c.args.self.now s t c.requires.session c.own_all-own.ensures in
-    let mine : IsOfSession s.session c.new-event.result = inl (ap session_of c.new-event.ensures ∙ ap Some owns.0) in
-    let m = subst (λ (e : CoreEvent). Makes c.args.self.now s.session s.pass.seat c.make.new.pass.seat c.make.new.pass.hands (own_of s) e c.make.result) c.new-event.ensures
+    let mine : IsOfSession s.session c.ending-event.result = inl (ap session_of c.ending-event.ensures ∙ ap Some owns.0) in
+    let m = subst (λ (e : CoreEvent). Makes c.args.self.now s.session s.pass.seat c.make.new.pass.seat c.make.new.pass.hands (own_of s) e c.make.result) c.ending-event.ensures
     (c.make.ensures s.session (own_of s) c.requires.session.stands mine) in
     c.in_default.not-Aborted (told_always c.args.self.now s.session s.pass.seat c.make.new.pass.seat c.make.new.pass.hands (own_of s) (event.Abort t) c.make.result m refl)
 
@@ -31,8 +31,8 @@ returns-clause-session g c =
     let s = c.args.session.now in
     let t = c.own_all-own.result in
     let owns = own_stands c.args.self.now s t c.requires.session c.own_all-own.ensures in
-    let mine : IsOfSession s.session c.new-event.result = inl (ap session_of c.new-event.ensures ∙ ap Some owns.0) in
-    let m = subst (λ (e : CoreEvent). Makes c.args.self.now s.session s.pass.seat c.make.new.pass.seat c.make.new.pass.hands (own_of s) e c.make.result) c.new-event.ensures
+    let mine : IsOfSession s.session c.ending-event.result = inl (ap session_of c.ending-event.ensures ∙ ap Some owns.0) in
+    let m = subst (λ (e : CoreEvent). Makes c.args.self.now s.session s.pass.seat c.make.new.pass.seat c.make.new.pass.hands (own_of s) e c.make.result) c.ending-event.ensures
     (c.make.ensures s.session (own_of s) c.requires.session.stands mine) in
     let new : Session = record { pass = c.make.new.pass; session = s.session; snapshot = None; writes = s.writes } in
     (one_event c.args.self.now s new command.Abort (event.Abort t) c.make.result said.Aborted c.requires.session m refl refl
@@ -44,8 +44,8 @@ returns-clause-answers g c =
     let s = c.args.session.now in
     let t = c.own_all-own.result in
     let owns = own_stands c.args.self.now s t c.requires.session c.own_all-own.ensures in
-    let mine : IsOfSession s.session c.new-event.result = inl (ap session_of c.new-event.ensures ∙ ap Some owns.0) in
-    let m = subst (λ (e : CoreEvent). Makes c.args.self.now s.session s.pass.seat c.make.new.pass.seat c.make.new.pass.hands (own_of s) e c.make.result) c.new-event.ensures
+    let mine : IsOfSession s.session c.ending-event.result = inl (ap session_of c.ending-event.ensures ∙ ap Some owns.0) in
+    let m = subst (λ (e : CoreEvent). Makes c.args.self.now s.session s.pass.seat c.make.new.pass.seat c.make.new.pass.hands (own_of s) e c.make.result) c.ending-event.ensures
     (c.make.ensures s.session (own_of s) c.requires.session.stands mine) in
     let new : Session = record { pass = c.make.new.pass; session = s.session; snapshot = None; writes = s.writes } in
     (one_event c.args.self.now s new command.Abort (event.Abort t) c.make.result said.Aborted c.requires.session m refl refl
