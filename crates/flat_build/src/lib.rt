@@ -18,6 +18,10 @@ use byteorder::{ByteOrder, LittleEndian};
 use std::alloc::{AllocError, Global};
 use std::marker::Model;
 
+/// How many bytes are reserved at first: the message of a batch of some ten columns comes to no
+/// more.
+const ROOM: usize = 1024;
+
 /// A flatbuffer that is being built, which a contract sees as the list of its bytes.
 #[derive(Debug, Drop)]
 pub struct FlatBuild {
@@ -39,7 +43,7 @@ impl FlatBuild {
     pub fn new(alloc: Global) -> Result<FlatBuild, AllocError>
         ensures { IfOk result (λ build. build ≡ empty_flatbuffer) }
     {
-        let mut bytes = Vec::new(alloc);
+        let mut bytes = Vec::with_capacity(alloc, ROOM)?;
         bytes.resize(8, 0)?;
         Ok(FlatBuild { bytes })
     }

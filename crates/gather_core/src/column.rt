@@ -2,7 +2,7 @@
 ghost use Rattle.std.specs.Prelude.{◌≡◌, ◌≤◌, ◌^◌, ◌++◌, IfOk, OnOk, length, take};
 ghost use Rattle.arrow_spec.specs.Arrays.{column_buffers, data_buffers, layout_of, validity};
 
-use crate::values::{offsets, values};
+use crate::values::values;
 use block_columns::ColumnCells;
 use cell_model::{Buffers, Bytes, Kind};
 use std::alloc::{AllocError, Global};
@@ -52,10 +52,9 @@ fn add_data(
             buffers.push(Bytes::from(bytes))?;
         }
         Kind::Utf8 | Kind::Binary => {
-            let ends = offsets(alloc, column, n)?;
-            let values = values(alloc, column, n, ends.last as usize)?;
-            buffers.push(Bytes::from(ends.offsets))?;
-            buffers.push(Bytes::from(values))?;
+            let values = values(alloc, column, n)?;
+            buffers.push(Bytes::from(values.offsets))?;
+            buffers.push(Bytes::from(values.bytes))?;
         }
         Kind::I8
         | Kind::I16

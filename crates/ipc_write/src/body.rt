@@ -9,6 +9,9 @@ use crate::lent::LentArray;
 use cell_model::Bytes;
 use std::alloc::{AllocError, Global};
 
+/// How many buffers a column has at most: its validity, its offsets and its values.
+const MOST_BUFFERS: usize = 3;
+
 /// Buffers one after another, each padded: the place and the length of each, and how many bytes
 /// they all have, which are fewer than 2^63.
 #[derive(Drop)]
@@ -27,7 +30,7 @@ impl Body {
         ensures below { IfOk result (λ body. body.size < 2 ^ 63) }
     {
         let mut body = Body {
-            places: Vec::new(alloc),
+            places: Vec::with_capacity(alloc, MOST_BUFFERS.saturating_mul(arrays.len()))?,
             size: 0,
         };
         for array in arrays {

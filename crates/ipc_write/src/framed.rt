@@ -14,7 +14,7 @@ pub fn framed(alloc: Global, metadata: &[u8]) -> Result<Vec<u8>, AllocError>
         ≡ continuation ++ to_le_bytes w32 (length (padded metadata.now)) ++ padded metadata.now) }
 {
     let size = metadata.len().next_multiple_of(8);
-    let mut bytes = Vec::new(alloc);
+    let mut bytes = Vec::with_capacity(alloc, 8 + size)?;
     bytes.extend_from_slice(&[0xff; 4])?;
     add_u32(&mut bytes, size as u32)?;
     bytes.extend_from_slice(metadata)?;

@@ -1,7 +1,13 @@
-use Rattle.std.proofs.Common.{◌≡◌, take}
+use Rattle.std.proofs.Common.{◌≡◌, ◌++◌, ◌*◌, ◌≤◌, drop, take}
+use Rattle.std.specs.Int.{w32, to_le_bytes}
 use Rattle.std.specs.Prelude.{flat_map}
-use Rattle.arrow_spec.specs.Arrays.{value_of}
+use Rattle.arrow_spec.specs.Arrays.{offsets, value_of}
 use Rattle.gather_core.proofs.values.values.Given as goal
 
 abbrev pub invariant-loop-at : goal.invariant-loop-at
-invariant-loop-at l = l.bytes.items ≡ flat_map value_of (take l.at l.column.cells)
+invariant-loop-at l = record {
+  small : l.end ≤ 65535 * l.at;
+  starts : l.starts.items ++ flat_map (to_le_bytes w32) (offsets l.end (drop l.at (take l.n l.column.cells)))
+      ≡ flat_map (to_le_bytes w32) (offsets 0 (take l.n l.column.cells));
+  bytes : l.bytes.items ≡ flat_map value_of (take l.at l.column.cells);
+}
