@@ -17,12 +17,45 @@ use workload_spec::{Command, Who};
 /// Carries out a session's commands of a round one after another, and puts their lines behind those
 /// of the round. An export goes to the outlet. The gate is passed before each command.
 ///
+/// Meanwhile the lines are kept on the thread's own stack: those of a round lie side by side, and
+/// threads that write to neighbours wait for each other's caches.
+///
 /// # Errors
 ///
 /// [`RunFault::Export`] where the outlet failed at an export: the commands up to this one were
 /// carried out. [`RunFault::Memory`] where there is no memory for a line: all commands were carried
 /// out all the same. In both cases the text of the lines is not to be used.
 pub(crate) fn work<R: Wait + Threads + Sync, G: Gate, X: Sink>(
+    rt: &R,
+    gate: &G,
+    store: &Store,
+    session: &mut Session,
+    commands: Vec<Command>,
+    lines: &mut Lines,
+    outlet: &mut X,
+) -> Result<(), RunFault>
+    requires session { IsSession store.now session.old }
+    requires room { HasRoomFor (most_events * length commands.items) session.old }
+    requires commands { All (IsServed (shape_in store.now).tables) commands.items }
+    ensures round { lines.new.round ≡ lines.old.round }
+    ensures served { SessionServed store.now lines.old.round session.old session.new commands.items
+        lines.old.text.items lines.new.text.items result
+        (X.written outlet.old) (X.written outlet.new) }
+    ensures faults { CountsExportFault (X.faults outlet.old) (X.faults outlet.new) result }
+    ensures started { X.started outlet.new ≡ X.started outlet.old }
+{
+    let empty = Vec::new(*lines.text.allocator());
+    let mut own = Lines {
+        round: lines.round,
+        text: std::mem::replace(&mut lines.text, empty),
+    };
+    let ended = carry_out_all(rt, gate, store, session, commands, &mut own, outlet);
+    lines.text = own.text;
+    ended
+}
+
+/// The same with lines that are the thread's own.
+fn carry_out_all<R: Wait + Threads + Sync, G: Gate, X: Sink>(
     rt: &R,
     gate: &G,
     store: &Store,

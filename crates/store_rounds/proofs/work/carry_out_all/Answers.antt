@@ -10,7 +10,7 @@ use Rattle.round_laws.specs.Lines.{line_of}
 use Rattle.shared_store.specs.Store.{shape_in}
 use Rattle.store_rounds.proofs.Answering.{few_events}
 use Rattle.store_rounds.proofs.Turns.{none_left, turn_begins, turn_ends, turn_goes_on, turn_has_room, turn_stops}
-use Rattle.store_rounds.proofs.work.work.Goals as goal
+use Rattle.store_rounds.proofs.work.carry_out_all.Goals as goal
 
 pub loop-command-init : goal.loop-command-init
 loop-command-init g c = record {

@@ -3,7 +3,7 @@ use Rattle.std.specs.Prelude.{IfErr}
 use Rattle.std.specs.Vec.Iter.{into_iter_items}
 use Rattle.store_rounds.specs.declared.fault.RunFault.TheVariants as fault
 use Rattle.store_rounds.proofs.Turns.{Turn}
-use Rattle.store_rounds.proofs.work.work.Given as goal
+use Rattle.store_rounds.proofs.work.carry_out_all.Given as goal
 
 abbrev pub invariant-loop-command : goal.invariant-loop-command
 invariant-loop-command g l = record {
