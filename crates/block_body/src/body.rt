@@ -548,14 +548,14 @@ impl Body {
     }
 
     /// Whether the slots with a row are the first.
-    fn is_front(&self) -> bool
+    pub fn is_front(&self) -> bool
         ensures { result ≡ is_front self.now.slots }
     {
         self.rows.is_front()
     }
 
     /// Whether no slot has an entry.
-    fn is_quiet(&self) -> bool
+    pub fn is_quiet(&self) -> bool
         ensures { result ≡ is_quiet self.now }
     {
         self.chains.is_empty()

@@ -1,7 +1,9 @@
 -- Slots whose rows stand in front: their rows, and an image of them.
-use Rattle.std.proofs.Common.{◌≡◌, ◌∙◌, ℕ, zero, suc, ◌+◌, ◌<◌, true, cond, ◌&&◌, List, [], ◌∷◌, Option, None, Some, map, take, length, get_or, refl, sym, ap, subst, arith}
+use Rattle.std.proofs.Common.{◌≡◌, ◌∙◌, ℕ, zero, suc, ◌+◌, ◌<◌, ◌≤◌, ◌^◌, true, cond, ◌&&◌, List, [], ◌∷◌, Option, None, Some, map, take, length, get_or, refl, sym, ap, subst, arith}
 use Rattle.std.specs.Prelude.{IsSome, count_by, flat_map, is_none, is_some, option_to_list}
 use Rattle.std.specs.List.{cons_option, filter_map, list_all}
+use Rattle.std.proofs.lemmas.List.{length-map}
+use Rattle.std.proofs.lemmas.List.Sums.{count_by-le-length}
 use Rattle.arrow_spec.specs.Batches.{Array, arrays_of}
 use Rattle.block_body.proofs.Whole.{taken, taken_is}
 use Rattle.block_body.specs.Frozen.{IsImageOf, image_of}
@@ -9,6 +11,7 @@ use Rattle.block_columns.specs.Images.{ImageValue, IsWhole, rows_of}
 use Rattle.block_spec.specs.Bodies.{is_front}
 use Rattle.block_spec.specs.Slots.{Row, Slot}
 use Rattle.cell_model.specs.declared.column.Column.{Column}
+use Rattle.core_images.specs.FrontValues.{IsFilled, rows_of_front}
 
 abbrev row_of : Slot → Option Row
 row_of slot = slot.row
@@ -74,6 +77,22 @@ rows_counted slots = rows_taken slots ∙ taken_is (map row_of slots)
 rows_again : (batch : List Row) → flat_map (λ slot. option_to_list slot) (map (λ row. Some row) batch) ≡ batch
 rows_again [] = refl
 rows_again (row ∷ batch) = ap (λ (l : List Row). row ∷ l) (rows_again batch)
+
+-- columns whose rows stand in front have these, and a row in each of so many first slots
+pub front_listed : (columns : List Column) (slots : List Slot) → is_front slots ≡ true
+    → rows_of_front (record { columns = columns; slots = map (λ (slot : Slot). slot.row) slots; rows = count_by is_some (map (λ (slot : Slot). slot.row) slots) })
+    ≡ filter_map (λ (slot : Slot). slot.row) slots
+front_listed columns slots front = ap (λ (l : List (Option Row)). flat_map (λ slot. option_to_list slot) l) (front_rows slots front) ∙ rows_again (filter_map row_of slots)
+
+pub front_filled : (slots : List Slot) → is_front slots ≡ true → length slots ≤ 2 ^ 15
+    → IsFilled (map (λ (slot : Slot). slot.row) slots) (count_by is_some (map (λ (slot : Slot). slot.row) slots))
+front_filled slots front few = record {
+  held = front_held slots front;
+  few =
+      let most : count_by is_some (map row_of slots) ≤ length (map row_of slots) = count_by-le-length is_some (map row_of slots) in
+      let long = length-map slots row_of in
+      omega (arith, most, long, few);
+}
 
 -- An image of the slots is whole, and of their rows.
 module _ (columns : List Column) (slots : List Slot) (front : is_front slots ≡ true) where

@@ -1,2 +1,4 @@
 pub mod Kinds
 pub mod Gathered
+pub mod FrontValues
+pub mod Fronts

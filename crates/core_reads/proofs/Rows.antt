@@ -1,13 +1,19 @@
 -- The rows that a read of a block finds are those of the definition.
-use Rattle.std.proofs.Common.{◌≡◌, ◌∙◌, ℕ, zero, suc, ◌+◌, ◌<◌, ◌≤◌, ◌^◌, Option, length, refl, sym, ap, arith}
-use Rattle.std.specs.List.{cons_option, filter_map, range_with_len}
+use Rattle.std.proofs.Common.{◌≡◌, ◌∙◌, ℕ, zero, suc, ◌+◌, ◌<◌, ◌≤◌, ◌^◌, Bool, true, false, cond, ◌&&◌, List, [], ◌∷◌, Option, None, Some, option_and_then, get_or, length, refl, sym, ap, arith}
+use Rattle.std.specs.Prelude.{IfOk, Result, Ok, Err}
+use Rattle.std.specs.List.{cons_option, filter_map, list_all, range_with_len}
 use Rattle.block_layout.specs.Place.{block_of, place_of, slot_of}
-use Rattle.block_spec.specs.Bodies.{Body, slot_in}
+use Rattle.block_spec.specs.Bodies.{Body, is_quiet, rows_of, slot_in}
+use Rattle.block_spec.specs.declared.change.Before.{Before as BeforeImage}
+use Rattle.block_spec.specs.Slots.{Row, Slot, bare, has_none, laid_back}
 use Rattle.core_reads.specs.Reads.{row_in, rows_in}
 use Rattle.event_laws.proofs.Heads.{block_is, slot_is}
 use Rattle.event_spec.specs.declared.own.OwnTransaction.{OwnTransaction}
 use Rattle.event_spec.specs.Parts.{Parts, Shape, body_at, slot_at}
-use Rattle.event_spec.specs.Replies.{row_read, rows_read}
+use Rattle.event_spec.specs.Replies.{is_elsewhere, row_read, rows_read}
+use Rattle.isolation_spec.specs.Contents.{PlaceMap, at_place, key_of, place_at}
+use Rattle.undo_chain.specs.declared.undo.Undo.{Undo}
+use Rattle.undo_chain.specs.Visible.{visible_row}
 
 same_below : {X : Type 0} (f g : ℕ → Option X) (a n : ℕ) → ((j : ℕ) → j < a + n → f j ≡ g j) → filter_map f (range_with_len a n) ≡ filter_map g (range_with_len a n)
 same_below f g a zero same = refl
@@ -27,6 +33,57 @@ module _ (sh : Shape) (s : Parts) (own : OwnTransaction) (t b : ℕ) (x : Body) 
       same_below (λ j. row_in own t (place_of b j) (slot_in x j)) (λ j. row_read sh s own t (place_of b j)) 0 (length x.slots)
       (λ j less. ap (row_in own t (place_of b j)) (slot_here j (omega (arith, less, few))))
       ∙ ap (λ (y : Body). filter_map (λ j. row_read sh s own t (place_of b j)) (range_with_len 0 (length y.slots))) (sym is)
+
+-- a list of no length is empty
+pub none_there : {X : Type 0} (xs : List X) → length xs ≡ 0 → xs ≡ []
+none_there [] none = refl
+none_there (x ∷ xs) none = cc
+
+-- what follows of each value follows of that which a call gave
+pub each_ok : {T E : Type 0} {P Q : T → Type 0} (result : Result T E) → ((v : T) → P v → Q v) → IfOk result P → IfOk result Q
+each_ok (Ok v) follows told = follows v told
+each_ok (Err e) follows told = tt
+
+-- Where the session wrote nothing and no slot has an entry, it sees each slot's row.
+module _ (own : OwnTransaction) (t b : ℕ) (none : own.writes ≡ []) where
+  some_again : (o : Option Row) → option_and_then (λ row. Some row) o ≡ o
+  some_again None = refl
+  some_again (Some row) = refl
+
+  sees_own : (place : ℕ) (slot : Slot) → has_none slot.entries ≡ true → row_in own t place slot ≡ slot.row
+  sees_own place slot quiet =
+      ap (λ (entries : List (Undo BeforeImage)). option_and_then
+      (λ row. cond (is_elsewhere (at_place own.writes (place_at t (key_of row))) place) None (Some row))
+      (visible_row laid_back slot.row entries own.snapshot.stamp own.session)) (no_entries slot.entries quiet)
+      ∙ ap (λ (writes : PlaceMap ℕ). option_and_then
+      (λ row. cond (is_elsewhere (at_place writes (place_at t (key_of row))) place) None (Some row)) slot.row) none
+      ∙ some_again slot.row
+    where
+      no_entries : (entries : List (Undo BeforeImage)) → has_none entries ≡ true → entries ≡ []
+      no_entries [] quiet = refl
+      no_entries (entry ∷ entries) quiet = cc
+
+  sees_all : (all slots : List Slot) (a : ℕ) → list_all (λ (slot : Slot). has_none slot.entries) slots ≡ true
+      → ((k : ℕ) → k < length slots → get_or all (a + k) bare ≡ get_or slots k bare)
+      → filter_map (λ j. row_in own t (place_of b j) (get_or all j bare)) (range_with_len a (length slots)) ≡ filter_map (λ (slot : Slot). slot.row) slots
+  sees_all all [] a quiet same = refl
+  sees_all all (slot ∷ slots) a quiet same =
+      let here : get_or all a bare ≡ slot = ap (λ n. get_or all n bare) (omega arith) ∙ same 0 (omega arith) in
+      ap (λ (o : Option Row). cons_option o (filter_map (λ j. row_in own t (place_of b j) (get_or all j bare)) (range_with_len (a + 1) (length slots))))
+      (ap (row_in own t (place_of b a)) here ∙ sees_own (place_of b a) slot (first (has_none slot.entries) quiet))
+      ∙ ap (cons_option slot.row) (sees_all all slots (a + 1) (rest (has_none slot.entries) quiet)
+      (λ k less. ap (λ n. get_or all n bare) (omega arith) ∙ same (suc k) (omega (arith, less))))
+    where
+      first : (x : Bool) → (x && list_all (λ (slot : Slot). has_none slot.entries) slots) ≡ true → x ≡ true
+      first true both = refl
+      first false both = cc
+
+      rest : (x : Bool) → (x && list_all (λ (slot : Slot). has_none slot.entries) slots) ≡ true → list_all (λ (slot : Slot). has_none slot.entries) slots ≡ true
+      rest true both = both
+      rest false both = cc
+
+  pub quiet_rows : (x : Body) → is_quiet x ≡ true → rows_of x ≡ rows_in own t b x
+  quiet_rows x quiet = sym (sees_all x.slots x.slots 0 quiet (λ k less. ap (λ n. get_or x.slots n bare) (omega arith)))
 
 -- a slot more
 pub row_at : (own : OwnTransaction) (t b : ℕ) (x : Body) (place j : ℕ) → place ≡ place_of b j → slot_of place ≡ j

@@ -1,9 +1,9 @@
 //! A read of a block.
-ghost use Rattle.std.specs.Prelude.{◌≡◌, ◌+◌, ◌≤◌, ◌<◌, ◌^◌, ℕ, IfOk, IfSome, length};
-ghost use Rattle.std.specs.Prelude.{if◌then◌else◌};
+ghost use Rattle.std.specs.Prelude.{◌≡◌, ◌+◌, ◌≤◌, ◌<◌, ◌^◌, ℕ, true, IfOk, IfSome, length};
+ghost use Rattle.std.specs.Prelude.{count_by, if◌then◌else◌, is_some, map};
 ghost use Rattle.block_body.specs.Keys.{HasKey};
 ghost use Rattle.block_layout.specs.Place.{slot_of};
-ghost use Rattle.block_spec.specs.Bodies.{is_imaged, slot_in};
+ghost use Rattle.block_spec.specs.Bodies.{is_front, is_imaged, rows_of, slot_in};
 ghost use Rattle.block_spec.specs.Slots.{seen};
 ghost use Rattle.core_parts.specs.Hands.{Makes, MayRun};
 ghost use Rattle.core_reads.specs.Reads.{reply_of, row_in, rows_in};
@@ -16,7 +16,7 @@ ghost use Rattle.isolation_spec.specs.Contents.{at_place, place_at};
 use block_body::Body;
 use block_layout::SlotId;
 use cell_model::{Row, Rows};
-use core_images::SharedRows;
+use core_images::{FrontColumns, ReadRows, SharedRows};
 use core_parts::{CorePart, Shape, body};
 use event_spec::{OwnTransaction, OwnWrites};
 use hall_rule::Hand;
@@ -30,13 +30,13 @@ use steps::Steps;
 #[derive(Drop)]
 pub enum BlockRows {
     /// The rows that it sees, in slot order, without those whose key it wrote at another slot.
-    Seen(Rows),
+    Seen(ReadRows),
     /// The shared image of an imaged block's rows.
     Shared(SharedRows),
 }
 
 /// The rows of a block that the session sees. Each slot's row is read once, and none where the
-/// block is imaged.
+/// block is imaged. Where each session sees all of them, they are copied column by column.
 pub fn read<L: Ledger>(
     shape: &Shape,
     held: &Hand<CorePart>,
@@ -67,6 +67,42 @@ pub fn read<L: Ledger>(
 /// The rows of a body that the session sees, in slot order, without those whose key it wrote at
 /// another slot.
 fn rows_in<L: Ledger>(
+    alloc: Global,
+    body: &Body,
+    own: &OwnTransaction,
+    table: u32,
+    block: u32,
+    steps: &mut Steps<L>,
+) -> Result<ReadRows, AllocError>
+    requires few { length body.now.slots ≤ 2 ^ 15 }
+    requires keys { (slot : ℕ) → IfSome
+        (seen (slot_in body.now slot) own.now.snapshot.stamp own.now.session) HasKey }
+    ensures rows { IfOk result (λ rows. rows ≡ rows_in own.now table block body.now) }
+    ensures steps { steps.new ≤ steps.old + length body.now.slots }
+{
+    if own.writes.by_row().is_empty() && body.is_quiet() && body.is_front() {
+        return front_rows(body, steps);
+    }
+    let rows = rows_one_by_one(alloc, body, own, table, block, steps)?;
+    Ok(ReadRows::listed(rows))
+}
+
+/// All rows of a body, which stand in front, in a copy of its columns. Each is a step.
+fn front_rows<L: Ledger>(body: &Body, steps: &mut Steps<L>) -> Result<ReadRows, AllocError>
+    requires few { length body.now.slots ≤ 2 ^ 15 }
+    requires front { is_front body.now.slots ≡ true }
+    ensures rows { IfOk result (λ rows. rows ≡ rows_of body.now) }
+    ensures steps { steps.new ≡ steps.old
+        + count_by is_some (map (λ slot. slot.row) body.now.slots) }
+{
+    let rows = body.rows();
+    steps.add(rows);
+    let columns = body.columns().copy()?;
+    Ok(ReadRows::in_columns(FrontColumns::new(columns, rows)))
+}
+
+/// The same rows, each read by itself.
+fn rows_one_by_one<L: Ledger>(
     alloc: Global,
     body: &Body,
     own: &OwnTransaction,

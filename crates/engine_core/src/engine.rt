@@ -15,7 +15,7 @@ ghost use Rattle.part_laws.proofs.Lasting.{learns};
 
 use crate::running::run;
 use block_body::Look;
-use core_images::SharedRows;
+use core_images::{ReadRows, SharedRows};
 use core_parts::{CorePart, Shape};
 use core_touches::{KeyedEvent, next_touched, touches};
 use event_spec::Reply;
@@ -25,7 +25,7 @@ use std::marker::Model;
 use std::sync::ledger::Ledger;
 
 /// What the core replies.
-pub type CoreReply = Reply<SharedRows, Look>;
+pub type CoreReply = Reply<ReadRows, SharedRows, Look>;
 
 /// A core of tables: a hand that has all its parts. Contracts see its shape and its parts, which
 /// are those of a core that holds.

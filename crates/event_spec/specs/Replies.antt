@@ -22,7 +22,7 @@ use Rattle.txn_desk.specs.Oldest.{oldest_of}
 
 -- The core's replies: a shared image goes by its rows.
 abbrev pub CoreReply : Type 0
-CoreReply = Reply (List Row) Look
+CoreReply = Reply (List Row) (List Row) Look
 
 -- the place, if there is one, is another
 abbrev pub is_elsewhere : Option ℕ → ℕ → Bool

@@ -3,7 +3,7 @@ ghost use Rattle.std.specs.Prelude.{◌≡◌, ◌≤◌, ◌^◌};
 
 use block_layout::SlotId;
 use block_spec::SealFault;
-use cell_model::{Row, Rows};
+use cell_model::Row;
 use std::marker::Model;
 use thiserror::Error;
 use txn_desk::Snapshot;
@@ -68,9 +68,10 @@ impl VersionCount {
     }
 }
 
-/// A reply of a core whose images are an `I` and whose looks at a block are an `L`.
+/// A reply of a core that tells the rows of a block as an `R`, whose images are an `I` and whose
+/// looks at a block are an `L`.
 #[derive(Drop)]
-pub enum Reply<I, L> {
+pub enum Reply<R, I, L> {
     /// The transaction's snapshot.
     Begun(Snapshot),
     /// The row of the key, or that there is none.
@@ -81,7 +82,7 @@ pub enum Reply<I, L> {
     Refused(WriteFault),
     /// The rows that the session sees in the block, in slot order, without those whose key it wrote
     /// at another slot.
-    Rows(Rows),
+    Rows(R),
     /// The shared image of the block's rows, of which none was read.
     Shared(I),
     /// The transaction committed, with this number where it wrote something.

@@ -7,8 +7,7 @@ ghost use Rattle.shared_store.specs.Store.{HasRoomFor, IsSession, own_of, shape_
 
 use crate::session::Session;
 use crate::store::Store;
-use cell_model::Rows;
-use core_images::SharedRows;
+use core_images::{ReadRows, SharedRows};
 use core_touches::KeyedEvent;
 use event_spec::{Event, Reply};
 use hall_rule::Steps;
@@ -20,7 +19,7 @@ use std::sync::ledger::Ledger;
 /// of their slots, or, where the block is frozen, its shared image, which has just these rows.
 #[derive(Drop)]
 pub enum BlockRows {
-    Rows(Rows),
+    Rows(ReadRows),
     Shared(SharedRows),
 }
 

@@ -1,7 +1,9 @@
 //! Scanning a table.
-ghost use Rattle.std.specs.Prelude.{◌≡◌, ◌<◌, Some, true, is_some, length, All, IfOk, OnOk};
+ghost use Rattle.std.specs.Prelude.{◌≡◌, ◌<◌, ℕ, None, Some, true, is_some, length, All, IfOk, OnOk};
+ghost use Rattle.std.specs.Prelude.{IsSome, flat_map, option_to_list, slice_index_or, take};
 ghost use Rattle.std.specs.BTreeMap.{insert_entry};
 ghost use Rattle.cell_model.specs.Rows.{Fits};
+ghost use Rattle.core_images.specs.Fronts.{rows_of_form};
 ghost use Rattle.event_spec.specs.Lawful.{HasBlock};
 ghost use Rattle.event_spec.specs.declared.own.OwnTransaction.{OwnTransaction as Own};
 ghost use Rattle.isolation_spec.specs.Contents.{contents_of, place_cmp};
@@ -22,8 +24,9 @@ use crate::reading::BlockRows;
 use crate::session::Session;
 use crate::store::Store;
 use crate::writing::place_of;
+use block_columns::Columns;
 use cell_model::{Row, Rows, Schema};
-use core_images::SharedRows;
+use core_images::ReadForm;
 use hall_rule::Steps;
 use isolation_spec::Place;
 use std::alloc::{AllocError, Global};
@@ -32,23 +35,39 @@ use std::marker::Brand;
 use std::sync::Wait;
 use std::sync::ledger::{Blank, Ledger};
 
-/// The rows of a shared image.
-fn rows_of_image<L: Ledger>(
+/// The rows of the first slots of columns, each of which has one.
+fn rows_of_columns<L: Ledger>(
     alloc: Global,
-    shared: &SharedRows,
+    columns: &Columns,
+    count: u32,
     steps: &mut Steps<L>,
 ) -> Result<Vec<Row>, AllocError>
-    ensures { IfOk result (λ rows. rows.items ≡ shared.now) }
+    requires { (slot : ℕ) → slot < count → IsSome (slice_index_or columns.now.rows slot None) }
+    ensures { IfOk result (λ rows. rows.items
+        ≡ flat_map (λ slot. option_to_list slot) (take count columns.now.rows)) }
 {
-    let image = shared.image();
-    let mut rows = Vec::new(alloc);
-    for slot in 0..image.rows() {
-        let Some(row) = image.columns().row(slot, steps)? else {
+    let mut rows = Vec::with_capacity(alloc, count as usize)?;
+    for slot in 0..count {
+        let Some(row) = columns.row(slot, steps)? else {
             unreachable!()
         };
         rows.push(row)?;
     }
     Ok(rows)
+}
+
+/// The rows that were read of a block that is not frozen.
+fn rows_of_form<L: Ledger>(
+    alloc: Global,
+    form: ReadForm,
+    steps: &mut Steps<L>,
+) -> Result<Vec<Row>, AllocError>
+    ensures { IfOk result (λ rows. rows.items ≡ rows_of_form form) }
+{
+    match form {
+        ReadForm::Listed(rows) => Ok(rows.into_vec()),
+        ReadForm::Columns(front) => rows_of_columns(alloc, front.columns(), front.rows(), steps),
+    }
 }
 
 /// The rows that a read told.
@@ -60,8 +79,11 @@ fn rows_of_read<L: Ledger>(
     ensures { IfOk result (λ rows. rows.items ≡ rows_in read) }
 {
     match read {
-        BlockRows::Rows(rows) => Ok(rows.into_vec()),
-        BlockRows::Shared(shared) => rows_of_image(alloc, &shared, steps),
+        BlockRows::Rows(rows) => rows_of_form(alloc, rows.into_form(), steps),
+        BlockRows::Shared(shared) => {
+            let image = shared.image();
+            rows_of_columns(alloc, image.columns(), image.rows(), steps)
+        }
     }
 }
 

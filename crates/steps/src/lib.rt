@@ -37,7 +37,14 @@ impl<L: Ledger> Steps<L> {
     pub fn tick(&mut self)
         ensures { self.new ≡ self.old + 1 }
     {
-        self.book.add(&mut self.share, 1);
+        self.add(1);
+    }
+
+    /// So many steps more.
+    pub fn add(&mut self, count: u32)
+        ensures { self.new ≡ self.old + count }
+    {
+        self.book.add(&mut self.share, u64::from(count));
     }
 }
 

@@ -12,7 +12,7 @@ ghost use Rattle.store_export.specs.Exports.{CountsPiece, Exports, SendsBlock};
 ghost use Rattle.store_export.specs.Exports.{counted, reply_in, sent_told};
 ghost use Rattle.store_export.specs.Groups.{group_message};
 
-use crate::sending::{write_image, write_rows};
+use crate::sending::{write_found, write_image};
 use crate::sent::Sent;
 use byte_ports::Sink;
 use cell_model::Schema;
@@ -45,7 +45,7 @@ fn write_read<W: Sink>(
     ensures loan { W.loan writer.new.0 ≡ W.loan writer.old.0 }
 {
     match read {
-        BlockRows::Rows(rows) => match write_rows(alloc, schema, rows.as_slice(), writer) {
+        BlockRows::Rows(rows) => match write_found(alloc, schema, rows, writer) {
             Ok(count) => Ok(Sent::of_block(count, 0)),
             Err(fault) => Err(fault),
         },

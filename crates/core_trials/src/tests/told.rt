@@ -1,6 +1,7 @@
 //! The text of a core's reply, by which the tests compare it.
 use super::{Cell, CoreReply, Fail, Global, Phase, Reply, Row, SealFault, WriteFault};
 use block_body::Look;
+use core_images::{FrontColumns, ReadForm, ReadRows};
 
 fn value_of(row: &Row) -> (i128, Option<&[u8]>) {
     match row.as_slice() {
@@ -27,6 +28,28 @@ fn text_of_rows(alloc: Global, rows: &[Row]) -> Result<String, Fail> {
         text = format!(in alloc; "{text}, {one}")?;
     }
     Ok(text)
+}
+
+/// The rows of a copy of columns, cell by cell.
+fn rows_of(alloc: Global, front: &FrontColumns) -> Result<Vec<Row>, Fail> {
+    let columns = front.columns();
+    let _room = columns.room();
+    let mut rows = Vec::new(alloc);
+    for slot in 0..front.rows() as usize {
+        let mut cells = Vec::new(alloc);
+        for at in 0..columns.width() {
+            cells.push(columns.column(at).get(alloc, slot)?)?;
+        }
+        rows.push(Row::from(cells))?;
+    }
+    Ok(rows)
+}
+
+fn text_of_found(alloc: Global, found: &ReadRows) -> Result<String, Fail> {
+    match found.form() {
+        ReadForm::Listed(rows) => text_of_rows(alloc, rows.as_slice()),
+        ReadForm::Columns(front) => text_of_rows(alloc, rows_of(alloc, front)?.as_slice()),
+    }
 }
 
 fn text_of_look(alloc: Global, look: &Look) -> Result<String, Fail> {
@@ -70,7 +93,7 @@ pub(super) fn text_of(alloc: Global, reply: &CoreReply) -> Result<String, Fail> 
         Reply::Found(None) => format!(in alloc; "none")?,
         Reply::Written(_) => format!(in alloc; "ok")?,
         Reply::Refused(fault) => text_of_fault(alloc, *fault)?,
-        Reply::Rows(rows) => text_of_rows(alloc, rows.as_slice())?,
+        Reply::Rows(found) => text_of_found(alloc, found)?,
         Reply::Shared(rows) => format!(in alloc; "shared {}", rows.image().rows())?,
         Reply::Committed(Some(number)) => format!(in alloc; "committed {number}")?,
         Reply::Committed(None) => format!(in alloc; "committed -")?,

@@ -1,27 +1,10 @@
-use Rattle.std.proofs.Common.{◌∙◌, List, [], ◌∷◌, ◌++◌, ap, sym, arith}
-use Rattle.block_body.proofs.Looks.{filter_map_more, filter_map_skip}
-use Rattle.block_layout.specs.Place.{place_of}
-use Rattle.block_spec.specs.Bodies.{slot_in}
-use Rattle.block_spec.specs.Slots.{Row}
-use Rattle.core_reads.proofs.Rows.{row_at}
-use Rattle.core_reads.specs.Reads.{row_in}
+use Rattle.std.proofs.Common.{◌∙◌, sym}
+use Rattle.core_reads.proofs.Rows.{each_ok, none_there, quiet_rows}
 use Rattle.core_reads.proofs.reading.rows_in.Goals as goal
-use Rattle.core_reads.proofs.reading.rows_in.Goals.{in-Some+in_ok-push, in_default}
 
-pub loop-slot-preserved : goal.loop-slot-preserved
-loop-slot-preserved g c =
-    let here = sym (row_at c.args.own.now c.args.table c.args.block c.args.body.now c.join.result c.loop-slot.slot c.join.ensures.place c.join.ensures.slot) ∙ sym c.in_ok-row.ensures.row in
-    elim c.match-branch-2.branch [
-      | in-Some+in_ok-push w ↦ (
-        rw (w.rows-is, w.in_ok-push.ensures.items)
-            (ap (λ (l : List Row). l ++ w.in-Some.row ∷ []) c.loop-slot.invariant.0
-            ∙ sym (filter_map_more (λ j. row_in c.args.own.now c.args.table (place_of c.args.block j) (slot_in c.args.body.now j)) c.loop-slot.slot w.in-Some.row (here ∙ w.in-Some.is))),
-        omega (arith, c.row_in.ensures.steps, c.loop-slot.invariant.1),
-      )
-      | in_default w ↦ (
-        rw w.rows-is
-            (c.loop-slot.invariant.0
-            ∙ sym (filter_map_skip (λ j. row_in c.args.own.now c.args.table (place_of c.args.block j) (slot_in c.args.body.now j)) c.loop-slot.slot (here ∙ w.in_default.is))),
-        omega (arith, c.row_in.ensures.steps, c.loop-slot.invariant.1),
-      )
-    ]
+pub returns-then-is_front-clause-rows : goal.returns-then-is_front-clause-rows
+returns-then-is_front-clause-rows g c =
+    let none = sym c.by_row.ensures ∙ none_there c.by_row.result.now.entries (c.is_empty.ensures.0 c.if-is_empty.true) in
+    each_ok c.front_rows.result
+    (λ rows told. told ∙ quiet_rows c.args.own.now c.args.table c.args.block none c.args.body.now (sym c.is_quiet.ensures ∙ c.if-is_quiet.true))
+    c.front_rows.ensures.rows

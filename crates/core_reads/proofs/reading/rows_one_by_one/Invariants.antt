@@ -3,7 +3,7 @@ use Rattle.std.specs.List.{filter_map, range_with_len}
 use Rattle.block_layout.specs.Place.{place_of}
 use Rattle.block_spec.specs.Bodies.{slot_in}
 use Rattle.core_reads.specs.Reads.{row_in}
-use Rattle.core_reads.proofs.reading.rows_in.Given as goal
+use Rattle.core_reads.proofs.reading.rows_one_by_one.Given as goal
 
 abbrev pub invariant-loop-slot : goal.invariant-loop-slot
 invariant-loop-slot g l =
