@@ -2,4 +2,5 @@ pub mod Aborts
 pub mod Dropping
 pub mod Handing
 pub mod Prunes
+pub mod Quiet
 pub mod Rolling

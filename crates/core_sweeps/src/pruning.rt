@@ -17,7 +17,8 @@ use event_spec::VersionCount;
 use hall_rule::Hand;
 
 /// Drops the versions of a block that no snapshot from `oldest` on needs, and tells how many these
-/// were. A slot that is left bare is no candidate any more.
+/// were. A slot that is left bare is no candidate any more. Of a block without versions nothing is
+/// taken out of the hand.
 pub fn prune(
     shape: &Shape,
     held: &mut Hand<CorePart>,
@@ -29,6 +30,9 @@ pub fn prune(
     ensures { Makes shape.now (event.Prune table block oldest) held.old held.new
         (reply.Dropped result) }
 {
+    if body(shape, held, table, block).is_quiet() {
+        return VersionCount::of(0);
+    }
     drop_left(shape, held, table, block, oldest);
     let dropped = prune_body(shape, held, table, block, oldest);
     tell_empty(shape, held, table, block);
