@@ -95,7 +95,7 @@ observe_on_block sh t b = record { touches = λ held name. refl; low = observe_l
 
 -- ---- a pass that gave all back
 
-part_is_none : (p : CorePart) → Some None ≡ Some (Some p) → ⊥
+pub part_is_none : (p : CorePart) → Some None ≡ Some (Some p) → ⊥
 part_is_none p e = cc
 
 nothing_there : (hand : List (Option CorePart)) (k : ℕ) (p : CorePart) → slice_get (emptied hand) k ≡ Some (Some p) → ⊥

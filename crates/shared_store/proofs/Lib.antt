@@ -1,3 +1,4 @@
+pub mod Alone
 pub mod BlockReads
 pub mod Calls
 pub mod Changed

@@ -38,7 +38,7 @@ impl Store {
         ensures { LooksAtBlock self.now session.old session.new table block result }
     {
         let event = KeyedEvent::new(Event::Look { table, block });
-        match self.make(rt, &mut session.pass, event) {
+        match self.make_on_body(rt, &mut session.pass, event, table, block) {
             Reply::Looked(look) => Ok(look),
             Reply::Memory => Err(AllocError),
             _ => unreachable!(),

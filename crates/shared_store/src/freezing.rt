@@ -55,14 +55,9 @@ impl Store {
         ensures { ImagesAny self.now
             pass.old.seat pass.old.hands pass.new.seat pass.new.hands table block result }
     {
-        let asked = KeyedEvent::new(Event::Image {
-            table,
-            block,
-            image: None,
-        });
-        self.take_for(rt, pass, &asked);
+        let body = self.take_body(rt, pass, table, block);
         let told = self.image_held(rt, pass, table, block);
-        self.give_back(pass);
+        self.give_alone(pass, body);
         told
     }
 

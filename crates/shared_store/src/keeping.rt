@@ -44,7 +44,7 @@ impl Store {
     }
 
     /// Gives one part back.
-    fn give_part(&self, pass: &mut Pass<Core>, part: u32)
+    pub(crate) fn give_part(&self, pass: &mut Pass<Core>, part: u32)
         requires pass { IsAnyWithin self.now pass.old.seat pass.old.hands }
         requires held { Holds (first_of pass.old.hands) part }
         ensures gives { GivesAnyPart self.now

@@ -1,8 +1,10 @@
 //! Making an event: its parts are taken, it is made on them, and they are given back.
 ghost use Rattle.std.specs.Prelude.{◌≡◌, ◌<◌, ℕ, true};
+ghost use Rattle.event_spec.specs.Lawful.{HasBlock};
 ghost use Rattle.event_spec.specs.Touched.{touching};
 ghost use Rattle.hall_rule.specs.Hands.{Holds};
 ghost use Rattle.hall_steps.specs.Hall.{first_of};
+ghost use Rattle.shared_store.specs.Alone.{HoldsAlone, IsOnBody, TakesBody};
 ghost use Rattle.shared_store.specs.Making.{GivesAny, MakesAny, MakesAnyHeld, MayMake};
 ghost use Rattle.shared_store.specs.Making.{MayMakeHeld, ReadsFew, TakesAny};
 ghost use Rattle.shared_store.specs.Store.{IsAnyAt, IsAnyWithin, shape_in};
@@ -130,5 +132,55 @@ impl Store {
             pass.old.seat pass.old.hands pass.new.seat pass.new.hands event result }
     {
         self.make_by::<R, Brand>(rt, pass, event, Blank::new(1))
+    }
+
+    /// Takes the body of a block, for a pass that holds no part, and tells its number.
+    pub(crate) fn take_body<R: Wait>(
+        &self,
+        rt: &R,
+        pass: &mut Pass<Core>,
+        table: u32,
+        block: u32,
+    ) -> u32
+        requires pass { IsAnyAt self.now pass.old.seat pass.old.hands }
+        requires body { HasBlock (shape_in self.now) table block }
+        ensures takes { TakesBody self.now
+            pass.old.seat pass.old.hands pass.new.seat pass.new.hands table block }
+        ensures alone { HoldsAlone (first_of pass.new.hands) result }
+    {
+        let body = self.hall.shape().body(table, block);
+        self.hall.take(rt, pass, body);
+        body
+    }
+
+    /// Gives back the one part that a pass holds.
+    pub(crate) fn give_alone(&self, pass: &mut Pass<Core>, part: u32)
+        requires pass { IsAnyWithin self.now pass.old.seat pass.old.hands }
+        requires alone { HoldsAlone (first_of pass.old.hands) part }
+        ensures { GivesAny self.now pass.old.seat pass.old.hands pass.new.seat pass.new.hands }
+    {
+        self.give_part(pass, part);
+    }
+
+    /// Makes an event that touches the body of a block alone, of a pass that holds no part.
+    pub(crate) fn make_on_body<R: Wait>(
+        &self,
+        rt: &R,
+        pass: &mut Pass<Core>,
+        event: KeyedEvent,
+        table: u32,
+        block: u32,
+    ) -> CoreReply
+        requires may { MayMake self.now pass.old.seat pass.old.hands event }
+        requires body { HasBlock (shape_in self.now) table block }
+        requires alone { IsOnBody (shape_in self.now) table block event }
+        ensures { MakesAny self.now
+            pass.old.seat pass.old.hands pass.new.seat pass.new.hands event result }
+    {
+        let _ = &self.hall;
+        let body = self.take_body(rt, pass, table, block);
+        let reply = self.make_on(pass, event);
+        self.give_alone(pass, body);
+        reply
     }
 }
