@@ -1,5 +1,4 @@
-//! Tests of the metadata of messages: whole flatbuffers, byte by byte, as they are laid and as they
-//! are read back.
+//! Tests of the metadata of messages: short facts of flatbuffers, and what is read back of them.
 use crate::{batch_message, read_batch, read_head, read_schema, schema_message};
 use cell_model::{Bytes, Column, Kind, Schema, are_named};
 use std::alloc::Global;
@@ -7,98 +6,27 @@ use std::process::Abort;
 use std::test::Fail;
 use stream_spec::HeadKind;
 
-/// What a message tells: columns, or a batch's rows, nodes, buffers and body.
-enum Told {
-    Columns(&'static [(&'static str, Kind, bool)]),
-    Batch(u64, &'static [(i64, i64)], &'static [(i64, i64)], u64),
-}
+type Told = &'static [(&'static str, Kind, bool)];
 
-struct Case {
-    name: &'static str,
-    told: Told,
-    bytes: &'static [u8],
-}
-
-const CASES: [Case; 3] = [
-    Case {
-        name: "the column `key:i64`",
-        told: Told::Columns(&[("key", Kind::I64, false)]),
-        bytes: b"\x18\x00\x00\x00\x00\x00\x00\x00\
-            \x0c\x00\x14\x00\x10\x00\x12\x00\
-            \x04\x00\x08\x00\x00\x00\x00\x00\
-            \x10\x00\x00\x00\x1c\x00\x00\x00\
-            \x00\x00\x00\x00\x00\x00\x00\x00\
-            \x04\x00\x01\x00\x00\x00\x00\x00\
-            \x08\x00\x0a\x00\x08\x00\x04\x00\
-            \x08\x00\x00\x00\x08\x00\x00\x00\
-            \x00\x00\x00\x00\x01\x00\x00\x00\
-            \x18\x00\x00\x00\x00\x00\x00\x00\
-            \x10\x00\x12\x00\x04\x00\x10\x00\
-            \x11\x00\x08\x00\x00\x00\x0c\x00\
-            \x10\x00\x00\x00\x10\x00\x00\x00\
-            \x20\x00\x00\x00\x28\x00\x00\x00\
-            \x00\x02\x00\x00\x03\x00\x00\x00\
-            \x6b\x65\x79\x00\x00\x00\x00\x00\
-            \x08\x00\x09\x00\x04\x00\x08\x00\
-            \x08\x00\x00\x00\x40\x00\x00\x00\
-            \x01\x00\x00\x00\x00\x00\x00\x00",
-    },
-    Case {
-        name: "the columns `key:i64 v:utf8?`",
-        told: Told::Columns(&[("key", Kind::I64, false), ("v", Kind::Utf8, true)]),
-        bytes: b"\x18\x00\x00\x00\x00\x00\x00\x00\
-            \x0c\x00\x14\x00\x10\x00\x12\x00\
-            \x04\x00\x08\x00\x00\x00\x00\x00\
-            \x10\x00\x00\x00\x1c\x00\x00\x00\
-            \x00\x00\x00\x00\x00\x00\x00\x00\
-            \x04\x00\x01\x00\x00\x00\x00\x00\
-            \x08\x00\x0a\x00\x08\x00\x04\x00\
-            \x08\x00\x00\x00\x08\x00\x00\x00\
-            \x00\x00\x00\x00\x02\x00\x00\x00\
-            \x18\x00\x00\x00\x5c\x00\x00\x00\
-            \x10\x00\x12\x00\x04\x00\x10\x00\
-            \x11\x00\x08\x00\x00\x00\x0c\x00\
-            \x10\x00\x00\x00\x10\x00\x00\x00\
-            \x20\x00\x00\x00\x28\x00\x00\x00\
-            \x00\x02\x00\x00\x03\x00\x00\x00\
-            \x6b\x65\x79\x00\x00\x00\x00\x00\
-            \x08\x00\x09\x00\x04\x00\x08\x00\
-            \x08\x00\x00\x00\x40\x00\x00\x00\
-            \x01\x00\x00\x00\x00\x00\x00\x00\
-            \x10\x00\x12\x00\x04\x00\x10\x00\
-            \x11\x00\x08\x00\x00\x00\x0c\x00\
-            \x10\x00\x00\x00\x10\x00\x00\x00\
-            \x20\x00\x00\x00\x20\x00\x00\x00\
-            \x01\x05\x00\x00\x01\x00\x00\x00\
-            \x76\x00\x00\x00\x00\x00\x00\x00\
-            \x04\x00\x04\x00\x00\x00\x00\x00\
-            \x08\x00\x00\x00\x00\x00\x00\x00",
-    },
-    Case {
-        name: "a batch of the keys 1, 2 and 3",
-        told: Told::Batch(3, &[(3, 0)], &[(0, 0), (0, 24)], 24),
-        bytes: b"\x18\x00\x00\x00\x00\x00\x00\x00\
-            \x0c\x00\x14\x00\x10\x00\x12\x00\
-            \x04\x00\x08\x00\x00\x00\x00\x00\
-            \x10\x00\x00\x00\x24\x00\x00\x00\
-            \x18\x00\x00\x00\x00\x00\x00\x00\
-            \x04\x00\x03\x00\x00\x00\x00\x00\
-            \x0a\x00\x14\x00\x08\x00\x04\x00\
-            \x10\x00\x00\x00\x00\x00\x00\x00\
-            \x10\x00\x00\x00\x10\x00\x00\x00\
-            \x03\x00\x00\x00\x00\x00\x00\x00\
-            \x1c\x00\x00\x00\x01\x00\x00\x00\
-            \x03\x00\x00\x00\x00\x00\x00\x00\
-            \x00\x00\x00\x00\x00\x00\x00\x00\
-            \x00\x00\x00\x00\x02\x00\x00\x00\
-            \x00\x00\x00\x00\x00\x00\x00\x00\
-            \x00\x00\x00\x00\x00\x00\x00\x00\
-            \x00\x00\x00\x00\x00\x00\x00\x00\
-            \x18\x00\x00\x00\x00\x00\x00\x00",
-    },
+/// Columns, and how many bytes the flatbuffer of their schema has: 80 up to the first column, and
+/// for each column its table, its name, its type's table and the word of no children.
+const SCHEMAS: [(Told, usize); 2] = [
+    (&[("key", Kind::I64, false)], 80 + 72),
+    (
+        &[("key", Kind::I64, false), ("v", Kind::Utf8, true)],
+        80 + 72 + 64,
+    ),
 ];
 
-fn schema(alloc: Global, told: &[(&str, Kind, bool)]) -> Result<Schema, Fail> {
+/// Asserts that a flatbuffer is so long, that its root is at 24, and that the table there tells the
+/// version, which is 4 of V5, and the number of a kind.
+fn assert_message(rt: &impl Abort, bytes: &[u8], size: usize, kind: u8) {
+    assert_eq!(rt; bytes.len(), size);
+    assert!(rt; bytes.starts_with(b"\x18\0\0\0"));
+    assert_eq!(rt; bytes.get(40..43), Some([4, 0, kind].as_slice()));
+}
+
+fn schema(alloc: Global, told: Told) -> Result<Schema, Fail> {
     let mut columns = Vec::new(alloc);
     for &(name, kind, nullable) in told {
         let name = Bytes::from_slice(alloc, name.as_bytes())?;
@@ -115,61 +43,52 @@ fn schema(alloc: Global, told: &[(&str, Kind, bool)]) -> Result<Schema, Fail> {
     }
 }
 
-fn message(rt: &impl Abort, alloc: Global, told: &Told) -> Result<Bytes, Fail> {
-    match told {
-        Told::Columns(columns) => Ok(schema_message(alloc, &schema(alloc, columns)?)?),
-        Told::Batch(rows, nodes, buffers, body) => {
-            assert!(rt; *rows < 1 << 40 && *body < 1 << 40);
-            assert!(rt; nodes.len() < 1 << 20 && buffers.len() < 1 << 20);
-            Ok(batch_message(alloc, *rows, nodes, buffers, *body)?)
-        }
-    }
-}
-
 #[test]
-fn flatbuffers_have_these_bytes(rt: HostRuntime) -> Result<(), Fail> {
-    for case in &CASES {
-        let bytes = message(&rt, rt.alloc(), &case.told)?;
-        assert_eq!(rt; bytes.as_slice(), case.bytes, "in {}", case.name);
-    }
-    Ok(())
-}
-
-#[test]
-fn flatbuffers_are_read(rt: HostRuntime) -> Result<(), Fail> {
+fn schemas_are_written_and_read(rt: HostRuntime) -> Result<(), Fail> {
     let alloc = rt.alloc();
-    for case in &CASES {
-        let head = read_head(case.bytes).map_err(|_| Fail::from(case.name))?;
-        match case.told {
-            Told::Columns(told) => {
-                assert_eq!(rt; head.kind, HeadKind::Schema);
-                let columns = read_schema(alloc, case.bytes, head.header);
-                let Ok(columns) = columns else {
-                    return Err(Fail::from(case.name));
-                };
-                assert_eq!(rt; columns.len(), told.len());
-                for (column, (name, kind, nullable)) in columns.iter().zip(told) {
-                    assert_eq!(rt; column.name.as_slice(), name.as_bytes());
-                    assert_eq!(rt; column.kind, *kind);
-                    assert_eq!(rt; column.nullable, *nullable);
-                }
-            }
-            Told::Batch(rows, nodes, buffers, body) => {
-                assert_eq!(rt; head.kind, HeadKind::Batch);
-                assert_eq!(rt; head.body, body);
-                let Ok(batch) = read_batch(alloc, case.bytes, head.header) else {
-                    return Err(Fail::from(case.name));
-                };
-                assert_eq!(rt; batch.rows(), rows);
-                for (node, told) in batch.nodes().iter().zip(nodes) {
-                    assert_eq!(rt; (node.length, node.null_count), *told);
-                }
-                for (buffer, told) in batch.buffers().iter().zip(buffers) {
-                    assert_eq!(rt; (buffer.offset, buffer.length), *told);
-                }
-            }
+    for (told, size) in SCHEMAS {
+        let message = schema_message(alloc, &schema(alloc, told)?)?;
+        let bytes = message.as_slice();
+        assert_message(&rt, bytes, size, 1);
+        let head = read_head(bytes).map_err(|_| Fail::from("no head"))?;
+        assert_eq!(rt; (head.kind, head.body), (HeadKind::Schema, 0));
+        let Ok(columns) = read_schema(alloc, bytes, head.header) else {
+            return Err(Fail::from("no schema"));
+        };
+        assert_eq!(rt; columns.len(), told.len());
+        for (column, (name, kind, nullable)) in columns.iter().zip(told) {
+            assert_eq!(rt; column.name.as_slice(), name.as_bytes());
+            assert_eq!(rt; column.kind, *kind);
+            assert_eq!(rt; column.nullable, *nullable);
         }
     }
-    assert_eq!(rt; read_head(b"\x08\x00\x00\x00".as_slice()).is_err(), true);
     Ok(())
+}
+
+#[test]
+fn a_batch_is_written_and_read(rt: HostRuntime) -> Result<(), Fail> {
+    let alloc = rt.alloc();
+    let message = batch_message(alloc, 3, &[(3, 0)], &[(0, 0), (0, 24)], 24)?;
+    let bytes = message.as_slice();
+    assert_message(&rt, bytes, 96 + 16 + 2 * 16, 3);
+    // The last buffer's length, 24, stands at the end.
+    assert!(rt; bytes.ends_with(b"\x18\0\0\0\0\0\0\0"));
+    let head = read_head(bytes).map_err(|_| Fail::from("no head"))?;
+    assert_eq!(rt; (head.kind, head.body), (HeadKind::Batch, 24));
+    let Ok(batch) = read_batch(alloc, bytes, head.header) else {
+        return Err(Fail::from("no batch"));
+    };
+    assert_eq!(rt; batch.rows(), 3);
+    let ([node], [validity, keys]) = (batch.nodes(), batch.buffers()) else {
+        return Err(Fail::from("another count of nodes or buffers"));
+    };
+    assert_eq!(rt; (node.length, node.null_count), (3, 0));
+    assert_eq!(rt; (validity.offset, validity.length), (0, 0));
+    assert_eq!(rt; (keys.offset, keys.length), (0, 24));
+    Ok(())
+}
+
+#[test]
+fn bytes_without_a_table_have_no_head(rt: HostRuntime) {
+    assert!(rt; read_head(b"\x08\0\0\0".as_slice()).is_err());
 }

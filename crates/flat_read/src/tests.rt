@@ -1,4 +1,4 @@
-//! Tests of reads of flatbuffers: that of an Arrow schema, and bytes that are none.
+//! Tests of reads of flatbuffers: a small one, and bytes that are none.
 use super::*;
 use std::process::Abort;
 
@@ -29,90 +29,78 @@ struct Case {
     answer: Answer,
 }
 
-/// A schema with one column, `key`, of 64-bit integers that are not null.
-const SCHEMA: &[u8] = b"\x18\x00\x00\x00\x00\x00\x00\x00\
-    \x0c\x00\x14\x00\x10\x00\x12\x00\
-    \x04\x00\x08\x00\x00\x00\x00\x00\
-    \x10\x00\x00\x00\x1c\x00\x00\x00\
-    \x00\x00\x00\x00\x00\x00\x00\x00\
-    \x04\x00\x01\x00\x00\x00\x00\x00\
-    \x08\x00\x0a\x00\x08\x00\x04\x00\
-    \x08\x00\x00\x00\x08\x00\x00\x00\
-    \x00\x00\x00\x00\x01\x00\x00\x00\
-    \x18\x00\x00\x00\x00\x00\x00\x00\
-    \x10\x00\x12\x00\x04\x00\x10\x00\
-    \x11\x00\x08\x00\x00\x00\x0c\x00\
-    \x10\x00\x00\x00\x10\x00\x00\x00\
-    \x20\x00\x00\x00\x28\x00\x00\x00\
-    \x00\x02\x00\x00\x03\x00\x00\x00\
-    \x6b\x65\x79\x00\x00\x00\x00\x00\
-    \x08\x00\x09\x00\x04\x00\x08\x00\
-    \x08\x00\x00\x00\x40\x00\x00\x00\
-    \x01\x00\x00\x00\x00\x00\x00\x00";
+/// The table at 16, whose vtable is at 4: a number at 28, no second field, a reference at 20 to the
+/// text at 32, and one at 24 to the vector at 40, whose element leads to the empty vector at 48.
+const TABLE: &[u8] = b"\x10\0\0\0\
+    \x0c\0\x10\0\x0c\0\0\0\x04\0\x08\0\
+    \x0c\0\0\0\x0c\0\0\0\x10\0\0\0\x2c\x01\0\0\
+    \x02\0\0\0hi\0\0\
+    \x01\0\0\0\x04\0\0\0\
+    \0\0\0\0";
 
 /// A table at 0 whose vtable, of size 7, is at 4.
 const VTABLE_BEHIND: &[u8] = b"\xfc\xff\xff\xff\x07\x00\x0c\x00\x08\x00\x09";
 
 const CASES: [Case; 20] = [
     Case {
-        name: "the root reference leads to the message",
-        bytes: SCHEMA,
+        name: "the root reference leads to the table",
+        bytes: TABLE,
         call: Call::Root,
-        answer: Answer::Number(24),
+        answer: Answer::Number(16),
     },
     Case {
-        name: "the message's first field is its version",
-        bytes: SCHEMA,
-        call: Call::Field(24, 0),
-        answer: Answer::Field(Some(40)),
+        name: "the first field, whose entry is 12",
+        bytes: TABLE,
+        call: Call::Field(16, 0),
+        answer: Answer::Field(Some(28)),
     },
     Case {
-        name: "the version is V5",
-        bytes: SCHEMA,
-        call: Call::Number(40, 2),
-        answer: Answer::Number(4),
+        name: "a number has its lowest byte first",
+        bytes: TABLE,
+        call: Call::Number(28, 2),
+        answer: Answer::Number(300),
     },
     Case {
-        name: "the message has no fifth field",
-        bytes: SCHEMA,
-        call: Call::Field(24, 4),
+        name: "the vtable has no entry of a fifth field",
+        bytes: TABLE,
+        call: Call::Field(16, 4),
         answer: Answer::Field(None),
     },
     Case {
-        name: "the reference to the header",
-        bytes: SCHEMA,
-        call: Call::Follow(28),
-        answer: Answer::Number(56),
+        name: "the reference to the text",
+        bytes: TABLE,
+        call: Call::Follow(20),
+        answer: Answer::Number(32),
     },
     Case {
-        name: "one column",
-        bytes: SCHEMA,
-        call: Call::Vector(68, 4),
-        answer: Answer::Elements(72, 1),
+        name: "a vector of one element",
+        bytes: TABLE,
+        call: Call::Vector(40, 4),
+        answer: Answer::Elements(44, 1),
     },
     Case {
-        name: "the column has no dictionary",
-        bytes: SCHEMA,
-        call: Call::Field(96, 4),
+        name: "the second field's entry is 0",
+        bytes: TABLE,
+        call: Call::Field(16, 1),
         answer: Answer::Field(None),
     },
     Case {
-        name: "the column's children",
-        bytes: SCHEMA,
-        call: Call::Field(96, 5),
-        answer: Answer::Field(Some(108)),
+        name: "a field behind an absent one",
+        bytes: TABLE,
+        call: Call::Field(16, 2),
+        answer: Answer::Field(Some(20)),
     },
     Case {
-        name: "the column's name",
-        bytes: SCHEMA,
-        call: Call::Text(116),
-        answer: Answer::Text(b"key"),
+        name: "the text",
+        bytes: TABLE,
+        call: Call::Text(32),
+        answer: Answer::Text(b"hi"),
     },
     Case {
         name: "an empty vector at the end of the bytes",
-        bytes: SCHEMA,
-        call: Call::Vector(148, 4),
-        answer: Answer::Elements(152, 0),
+        bytes: TABLE,
+        call: Call::Vector(48, 4),
+        answer: Answer::Elements(52, 0),
     },
     Case {
         name: "no bytes have no root",
@@ -122,21 +110,21 @@ const CASES: [Case; 20] = [
     },
     Case {
         name: "a number ends one byte past the bytes",
-        bytes: SCHEMA,
-        call: Call::Number(145, 8),
-        answer: Answer::Fault(145, 8),
+        bytes: TABLE,
+        call: Call::Number(45, 8),
+        answer: Answer::Fault(45, 8),
     },
     Case {
         name: "a place near the end of all numbers",
-        bytes: SCHEMA,
+        bytes: TABLE,
         call: Call::Follow(u64::MAX),
         answer: Answer::Fault(u64::MAX, 4),
     },
     Case {
         name: "the elements end past the bytes",
-        bytes: SCHEMA,
-        call: Call::Vector(116, 16),
-        answer: Answer::Fault(120, 48),
+        bytes: TABLE,
+        call: Call::Vector(32, 16),
+        answer: Answer::Fault(36, 32),
     },
     Case {
         name: "a string ends past the bytes",
@@ -146,7 +134,7 @@ const CASES: [Case; 20] = [
     },
     Case {
         name: "a vtable begins before the bytes",
-        bytes: SCHEMA,
+        bytes: TABLE,
         call: Call::Field(0, 0),
         answer: Answer::Fault(0, 0),
     },

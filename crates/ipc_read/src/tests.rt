@@ -1,55 +1,14 @@
 //! Tests of the reading of streams: a worked one, the same cut or changed by a byte, and the same
 //! message by message.
+ghost use Rattle.std.specs.Prelude.{◌<◌, ◌^◌, length};
+
 use crate::{Next, first_schema, next_batch, read};
-use cell_model::{Cell, Column, Kind, Row};
+use arrow_meta::{batch_message, schema_message};
+use cell_model::{Bytes, Cell, Column, Kind, Row, Schema, are_named};
+use std::alloc::{AllocError, Global};
 use std::process::Abort;
 use std::test::Fail;
 use stream_spec::{Cause, StreamFault};
-
-/// The keys 1, 2 and 3 of a table of that one column.
-const THREE_KEYS: &[u8; 344] = b"\xff\xff\xff\xff\x98\x00\x00\x00\
-    \x18\x00\x00\x00\x00\x00\x00\x00\
-    \x0c\x00\x14\x00\x10\x00\x12\x00\
-    \x04\x00\x08\x00\x00\x00\x00\x00\
-    \x10\x00\x00\x00\x1c\x00\x00\x00\
-    \x00\x00\x00\x00\x00\x00\x00\x00\
-    \x04\x00\x01\x00\x00\x00\x00\x00\
-    \x08\x00\x0a\x00\x08\x00\x04\x00\
-    \x08\x00\x00\x00\x08\x00\x00\x00\
-    \x00\x00\x00\x00\x01\x00\x00\x00\
-    \x18\x00\x00\x00\x00\x00\x00\x00\
-    \x10\x00\x12\x00\x04\x00\x10\x00\
-    \x11\x00\x08\x00\x00\x00\x0c\x00\
-    \x10\x00\x00\x00\x10\x00\x00\x00\
-    \x20\x00\x00\x00\x28\x00\x00\x00\
-    \x00\x02\x00\x00\x03\x00\x00\x00\
-    \x6b\x65\x79\x00\x00\x00\x00\x00\
-    \x08\x00\x09\x00\x04\x00\x08\x00\
-    \x08\x00\x00\x00\x40\x00\x00\x00\
-    \x01\x00\x00\x00\x00\x00\x00\x00\
-    \xff\xff\xff\xff\x90\x00\x00\x00\
-    \x18\x00\x00\x00\x00\x00\x00\x00\
-    \x0c\x00\x14\x00\x10\x00\x12\x00\
-    \x04\x00\x08\x00\x00\x00\x00\x00\
-    \x10\x00\x00\x00\x24\x00\x00\x00\
-    \x18\x00\x00\x00\x00\x00\x00\x00\
-    \x04\x00\x03\x00\x00\x00\x00\x00\
-    \x0a\x00\x14\x00\x08\x00\x04\x00\
-    \x10\x00\x00\x00\x00\x00\x00\x00\
-    \x10\x00\x00\x00\x10\x00\x00\x00\
-    \x03\x00\x00\x00\x00\x00\x00\x00\
-    \x1c\x00\x00\x00\x01\x00\x00\x00\
-    \x03\x00\x00\x00\x00\x00\x00\x00\
-    \x00\x00\x00\x00\x00\x00\x00\x00\
-    \x00\x00\x00\x00\x02\x00\x00\x00\
-    \x00\x00\x00\x00\x00\x00\x00\x00\
-    \x00\x00\x00\x00\x00\x00\x00\x00\
-    \x00\x00\x00\x00\x00\x00\x00\x00\
-    \x18\x00\x00\x00\x00\x00\x00\x00\
-    \x01\x00\x00\x00\x00\x00\x00\x00\
-    \x02\x00\x00\x00\x00\x00\x00\x00\
-    \x03\x00\x00\x00\x00\x00\x00\x00\
-    \xff\xff\xff\xff\x00\x00\x00\x00";
 
 /// How many of the bytes there are, which of them is another, whether the columns are read, how
 /// many batches are, and the fault.
@@ -87,6 +46,47 @@ const fn changed(place: usize, byte: u8, in_place: u64, cause: Cause) -> Case {
         batches: 0,
         fault: at(in_place, cause),
     }
+}
+
+/// The schema of the column `key:i64`.
+fn key_schema(alloc: Global) -> Result<Schema, Fail> {
+    let columns = vec![in alloc;
+        Column {
+            name: Bytes::from_slice(alloc, b"key")?,
+            kind: Kind::I64,
+            nullable: false,
+        },
+    ]?;
+    if are_named(&columns) {
+        Ok(Schema::new(columns)?)
+    } else {
+        Err(Fail::from("a name is no text"))
+    }
+}
+
+/// Adds a message's marker, its size and its metadata, which has a multiple of 8 bytes. Without
+/// metadata this is the word that ends a stream.
+fn add_message(bytes: &mut Vec<u8>, metadata: &[u8]) -> Result<(), AllocError>
+    requires { length metadata.now < 2 ^ 32 }
+{
+    bytes.extend_from_slice(&[0xff; 4])?;
+    bytes.extend_from_slice(&(metadata.len() as u32).to_le_bytes())?;
+    bytes.extend_from_slice(metadata)
+}
+
+/// The keys 1, 2 and 3 of a table of that one column: the schema at 0, the batch at 160, its body
+/// at 312, and the end word at 336.
+fn three_keys(alloc: Global) -> Result<Vec<u8>, Fail> {
+    let mut bytes = Vec::new(alloc);
+    let schema = schema_message(alloc, &key_schema(alloc)?)?;
+    add_message(&mut bytes, schema.as_slice())?;
+    let batch = batch_message(alloc, 3, &[(3, 0)], &[(0, 0), (0, 24)], 24)?;
+    add_message(&mut bytes, batch.as_slice())?;
+    for key in [1u64, 2, 3] {
+        bytes.extend_from_slice(&key.to_le_bytes())?;
+    }
+    add_message(&mut bytes, &[])?;
+    Ok(bytes)
 }
 
 fn is_the_key(columns: &[Column]) -> bool {
@@ -128,7 +128,7 @@ fn a_stream_is_read_up_to_its_end_or_its_first_fault(rt: HostRuntime) -> Result<
         changed(304, 0x10, 160, Cause::Buffer),
     ];
     for case in &cases {
-        let mut bytes = THREE_KEYS.to_vec(rt.alloc())?;
+        let mut bytes = three_keys(rt.alloc())?;
         if case.place < bytes.len() {
             bytes[case.place] = case.byte;
         }
@@ -143,9 +143,9 @@ fn a_stream_is_read_up_to_its_end_or_its_first_fault(rt: HostRuntime) -> Result<
 
 #[test]
 fn three_keys_are_read_message_by_message(rt: HostRuntime) -> Result<(), Fail> {
-    let bytes = THREE_KEYS.as_slice();
+    let bytes = three_keys(rt.alloc())?;
     assert_eq!(rt; bytes.len(), 344);
-    let Ok(schema) = first_schema(rt.alloc(), bytes) else {
+    let Ok(schema) = first_schema(rt.alloc(), &bytes) else {
         return Err(Fail::from("no schema"));
     };
     assert_eq!(rt; schema.size(), 160);

@@ -1,4 +1,4 @@
-//! Tests of the writer: whole streams, byte by byte, of rows and of images, and calls of the sink
+//! Tests of the writer: short facts of the streams of rows and of images, and calls of the sink
 //! that fail in turn.
 mod images;
 
@@ -7,97 +7,27 @@ use crate::{PieceFault, SinkFault, Writer};
 use arrow_array::{all_fit, build};
 use byte_ports::ListSink;
 use cell_model::{Bytes, Cell, Column, Kind, Row, Schema, are_named};
-use std::alloc::Global;
+use std::alloc::{AllocError, Global};
 use std::test::Fail;
 
-/// The schema of `key:i64 v:utf8?`, and the end word.
-const STREAM: &[u8; 232] = b"\xff\xff\xff\xff\xd8\x00\x00\x00\
-    \x18\x00\x00\x00\x00\x00\x00\x00\
-    \x0c\x00\x14\x00\x10\x00\x12\x00\
-    \x04\x00\x08\x00\x00\x00\x00\x00\
-    \x10\x00\x00\x00\x1c\x00\x00\x00\
-    \x00\x00\x00\x00\x00\x00\x00\x00\
-    \x04\x00\x01\x00\x00\x00\x00\x00\
-    \x08\x00\x0a\x00\x08\x00\x04\x00\
-    \x08\x00\x00\x00\x08\x00\x00\x00\
-    \x00\x00\x00\x00\x02\x00\x00\x00\
-    \x18\x00\x00\x00\x5c\x00\x00\x00\
-    \x10\x00\x12\x00\x04\x00\x10\x00\
-    \x11\x00\x08\x00\x00\x00\x0c\x00\
-    \x10\x00\x00\x00\x10\x00\x00\x00\
-    \x20\x00\x00\x00\x28\x00\x00\x00\
-    \x00\x02\x00\x00\x03\x00\x00\x00\
-    \x6b\x65\x79\x00\x00\x00\x00\x00\
-    \x08\x00\x09\x00\x04\x00\x08\x00\
-    \x08\x00\x00\x00\x40\x00\x00\x00\
-    \x01\x00\x00\x00\x00\x00\x00\x00\
-    \x10\x00\x12\x00\x04\x00\x10\x00\
-    \x11\x00\x08\x00\x00\x00\x0c\x00\
-    \x10\x00\x00\x00\x10\x00\x00\x00\
-    \x20\x00\x00\x00\x20\x00\x00\x00\
-    \x01\x05\x00\x00\x01\x00\x00\x00\
-    \x76\x00\x00\x00\x00\x00\x00\x00\
-    \x04\x00\x04\x00\x00\x00\x00\x00\
-    \x08\x00\x00\x00\x00\x00\x00\x00\
-    \xff\xff\xff\xff\x00\x00\x00\x00";
-
-/// The keys 1, 2 and 3 of a table of that one column.
-const THREE_KEYS: &[u8; 344] = b"\xff\xff\xff\xff\x98\x00\x00\x00\
-    \x18\x00\x00\x00\x00\x00\x00\x00\
-    \x0c\x00\x14\x00\x10\x00\x12\x00\
-    \x04\x00\x08\x00\x00\x00\x00\x00\
-    \x10\x00\x00\x00\x1c\x00\x00\x00\
-    \x00\x00\x00\x00\x00\x00\x00\x00\
-    \x04\x00\x01\x00\x00\x00\x00\x00\
-    \x08\x00\x0a\x00\x08\x00\x04\x00\
-    \x08\x00\x00\x00\x08\x00\x00\x00\
-    \x00\x00\x00\x00\x01\x00\x00\x00\
-    \x18\x00\x00\x00\x00\x00\x00\x00\
-    \x10\x00\x12\x00\x04\x00\x10\x00\
-    \x11\x00\x08\x00\x00\x00\x0c\x00\
-    \x10\x00\x00\x00\x10\x00\x00\x00\
-    \x20\x00\x00\x00\x28\x00\x00\x00\
-    \x00\x02\x00\x00\x03\x00\x00\x00\
-    \x6b\x65\x79\x00\x00\x00\x00\x00\
-    \x08\x00\x09\x00\x04\x00\x08\x00\
-    \x08\x00\x00\x00\x40\x00\x00\x00\
-    \x01\x00\x00\x00\x00\x00\x00\x00\
-    \xff\xff\xff\xff\x90\x00\x00\x00\
-    \x18\x00\x00\x00\x00\x00\x00\x00\
-    \x0c\x00\x14\x00\x10\x00\x12\x00\
-    \x04\x00\x08\x00\x00\x00\x00\x00\
-    \x10\x00\x00\x00\x24\x00\x00\x00\
-    \x18\x00\x00\x00\x00\x00\x00\x00\
-    \x04\x00\x03\x00\x00\x00\x00\x00\
-    \x0a\x00\x14\x00\x08\x00\x04\x00\
-    \x10\x00\x00\x00\x00\x00\x00\x00\
-    \x10\x00\x00\x00\x10\x00\x00\x00\
-    \x03\x00\x00\x00\x00\x00\x00\x00\
-    \x1c\x00\x00\x00\x01\x00\x00\x00\
-    \x03\x00\x00\x00\x00\x00\x00\x00\
-    \x00\x00\x00\x00\x00\x00\x00\x00\
-    \x00\x00\x00\x00\x02\x00\x00\x00\
-    \x00\x00\x00\x00\x00\x00\x00\x00\
-    \x00\x00\x00\x00\x00\x00\x00\x00\
-    \x00\x00\x00\x00\x00\x00\x00\x00\
-    \x18\x00\x00\x00\x00\x00\x00\x00\
-    \x01\x00\x00\x00\x00\x00\x00\x00\
-    \x02\x00\x00\x00\x00\x00\x00\x00\
-    \x03\x00\x00\x00\x00\x00\x00\x00\
-    \xff\xff\xff\xff\x00\x00\x00\x00";
-
 /// The body of the rows `1 -3 true x00ff` and `2 null null null` of `key:i64 p:i8? q:bool?
-/// r:binary?`.
-const MIXED_BODY: &[u8; 80] = b"\x01\x00\x00\x00\x00\x00\x00\x00\
-    \x02\x00\x00\x00\x00\x00\x00\x00\
-    \x01\x00\x00\x00\x00\x00\x00\x00\
-    \xfd\x00\x00\x00\x00\x00\x00\x00\
-    \x01\x00\x00\x00\x00\x00\x00\x00\
-    \x01\x00\x00\x00\x00\x00\x00\x00\
-    \x01\x00\x00\x00\x00\x00\x00\x00\
-    \x00\x00\x00\x00\x02\x00\x00\x00\
-    \x02\x00\x00\x00\x00\x00\x00\x00\
-    \x00\xff\x00\x00\x00\x00\x00\x00";
+/// r:binary?`, eight bytes a word: two keys, and for each other column its validity, of whose bits
+/// the first is set, and its data; the last has the offsets 0, 2 and 2 in front of its bytes.
+const MIXED_BODY: [u64; 10] = [1, 2, 1, 0xfd, 1, 1, 1, 2 << 32, 2, 0xff00];
+
+/// The word that ends a stream.
+const END: &[u8] = b"\xff\xff\xff\xff\0\0\0\0";
+
+/// The keys of a stream's batches, each beside the text "x", how many bytes the stream has, and the
+/// places of its messages' versions.
+const STREAMS: [(&[&[i128]], usize, &[usize]); 2] = [
+    (&[], 224 + 8, &[48]),
+    (
+        &[&[1, 2, 3, 4, 5, 6, 7, 8], &[9]],
+        224 + (8 + 208 + 112) + (8 + 208 + 24) + 8,
+        &[48, 272, 600],
+    ),
+];
 
 /// Which calls of the sink fail, what the calls `schema`, `rows` and `finish` answer, and how many
 /// bytes went out.
@@ -151,8 +81,10 @@ const CASES: [Case; 5] = [
     },
 ];
 
+/// Where no call fails, as in the first case, the stream has the schema at 0, the batch at 160, its
+/// body at 312 and the end word at 336. Where one fails, it has the same bytes up to that call.
 #[test]
-fn a_stream_of_three_keys_is_written(rt: HostRuntime) -> Result<(), Fail> {
+fn three_keys_are_written_up_to_a_failing_call(rt: HostRuntime) -> Result<(), Fail> {
     let alloc = rt.alloc();
     let schema = schema(alloc, &[("key", Kind::I64, false)])?;
     let rows = key_rows(alloc, &[1, 2, 3])?;
@@ -160,6 +92,7 @@ fn a_stream_of_three_keys_is_written(rt: HostRuntime) -> Result<(), Fail> {
     if !small || !all_fit(&schema, rows.as_slice()) {
         return Err(Fail::from("the rows do not fit"));
     }
+    let mut whole = Vec::new(alloc);
     for case in &CASES {
         let mut writer = Writer::new(ListSink::new(alloc, case.failing)?);
         let at = case.written;
@@ -167,15 +100,28 @@ fn a_stream_of_three_keys_is_written(rt: HostRuntime) -> Result<(), Fail> {
         let answer = writer.rows(alloc, &schema, rows.as_slice());
         assert_eq!(rt; answer, case.rows, "at {at}");
         assert_eq!(rt; writer.finish(), case.finish, "at {at}");
-        assert!(rt; at <= THREE_KEYS.len());
-        let (written, _) = THREE_KEYS.split_at(at);
-        assert_eq!(rt; writer.into_inner().written(), written, "at {at}");
+        let sink = writer.into_inner();
+        if case.failing.is_empty() {
+            whole.extend_from_slice(sink.written())?;
+        }
+        assert_eq!(rt; Some(sink.written()), whole.get(..at), "at {at}");
     }
+    assert_eq!(rt;
+        whole.get(..8),
+        Some(b"\xff\xff\xff\xff\x98\0\0\0".as_slice())
+    );
+    assert_eq!(rt;
+        whole.get(160..168),
+        Some(b"\xff\xff\xff\xff\x90\0\0\0".as_slice())
+    );
+    let body = words(alloc, &[1, 2, 3])?;
+    assert_eq!(rt; whole.get(312..336), Some(body.as_slice()));
+    assert!(rt; whole.ends_with(END));
     Ok(())
 }
 
 #[test]
-fn a_batch_of_mixed_columns_is_written(rt: HostRuntime) -> Result<(), Fail> {
+fn a_batch_and_an_image_of_mixed_columns_are_written(rt: HostRuntime) -> Result<(), Fail> {
     let alloc = rt.alloc();
     let schema = mixed_schema(alloc)?;
     let rows = mixed_rows(alloc)?;
@@ -183,64 +129,56 @@ fn a_batch_of_mixed_columns_is_written(rt: HostRuntime) -> Result<(), Fail> {
     if !small || !all_fit(&schema, rows.as_slice()) {
         return Err(Fail::from("the rows do not fit"));
     }
-    let batch = build(alloc, &schema, rows.as_slice())?;
-    let mut writer = Writer::new(ListSink::new(alloc, &[])?);
-    writer.batch(alloc, &batch)?;
-    let sink = writer.into_inner();
-    assert_eq!(rt; sink.written().len(), 8 + 304 + 80);
-    let (_, body) = sink.written().split_at(8 + 304);
-    assert_eq!(rt; body, MIXED_BODY.as_slice());
-    Ok(())
-}
-
-#[test]
-fn an_image_is_written_as_its_rows(rt: HostRuntime) -> Result<(), Fail> {
-    let alloc = rt.alloc();
-    let image = image_of(&rt, alloc, &mixed_schema(alloc)?, &mixed_rows(alloc)?)?;
+    let image = image_of(&rt, alloc, &schema, &rows)?;
     if image.columns().width() > 32 {
         return Err(Fail::from("there are too many columns"));
     }
     let mut writer = Writer::new(ListSink::new(alloc, &[])?);
+    writer.batch(alloc, &build(alloc, &schema, rows.as_slice())?)?;
     writer.image(alloc, &image)?;
     let sink = writer.into_inner();
-    assert_eq!(rt; sink.written().len(), 8 + 304 + 80);
-    let (_, body) = sink.written().split_at(8 + 304);
-    assert_eq!(rt; body, MIXED_BODY.as_slice());
+    // Each message has 8 bytes, 304 of metadata and 80 of the body.
+    let message = 8 + 304 + 80;
+    assert_eq!(rt; sink.written().len(), 2 * message);
+    let (batch, image) = sink.written().split_at(message);
+    assert_eq!(rt; image, batch);
+    assert!(rt; batch.ends_with(&words(alloc, &MIXED_BODY)?));
     Ok(())
 }
 
 #[test]
-fn nine_rows_are_written_in_two_batches(rt: HostRuntime) -> Result<(), Fail> {
+fn texts_are_written_in_batches(rt: HostRuntime) -> Result<(), Fail> {
     let alloc = rt.alloc();
     let schema = schema(alloc, &[("key", Kind::I64, false), ("v", Kind::Utf8, true)])?;
-    let mut writer = Writer::new(ListSink::new(alloc, &[])?);
-    writer.schema(alloc, &schema)?;
-    for keys in [[1, 2, 3, 4, 5, 6, 7, 8].as_slice(), [9].as_slice()] {
-        let rows = x_rows(alloc, keys)?;
-        let small = rows.len() <= 32_768;
-        if !small || !all_fit(&schema, rows.as_slice()) {
-            return Err(Fail::from("the rows do not fit"));
+    for (batches, size, versions) in &STREAMS {
+        let mut writer = Writer::new(ListSink::new(alloc, &[])?);
+        writer.schema(alloc, &schema)?;
+        for keys in *batches {
+            let rows = x_rows(alloc, keys)?;
+            let small = rows.len() <= 32_768;
+            if !small || !all_fit(&schema, rows.as_slice()) {
+                return Err(Fail::from("the rows do not fit"));
+            }
+            writer.rows(alloc, &schema, rows.as_slice())?;
         }
-        writer.rows(alloc, &schema, rows.as_slice())?;
-    }
-    writer.finish()?;
-    let sink = writer.into_inner();
-    assert_eq!(rt; sink.written().len(), 800);
-    for place in [48, 272, 600] {
-        assert_eq!(rt; sink.written().get(place), Some(&4));
+        writer.finish()?;
+        let sink = writer.into_inner();
+        assert_eq!(rt; sink.written().len(), *size);
+        assert!(rt; sink.written().ends_with(END));
+        for place in *versions {
+            assert_eq!(rt; sink.written().get(*place), Some(&4), "at {place}");
+        }
     }
     Ok(())
 }
 
-#[test]
-fn a_stream_of_no_batch_is_written(rt: HostRuntime) -> Result<(), Fail> {
-    let alloc = rt.alloc();
-    let schema = schema(alloc, &[("key", Kind::I64, false), ("v", Kind::Utf8, true)])?;
-    let mut writer = Writer::new(ListSink::new(alloc, &[])?);
-    writer.schema(alloc, &schema)?;
-    writer.finish()?;
-    assert_eq!(rt; writer.into_inner().written(), STREAM.as_slice());
-    Ok(())
+/// Words of eight bytes each, the lowest first.
+fn words(alloc: Global, words: &[u64]) -> Result<Vec<u8>, AllocError> {
+    let mut bytes = Vec::new(alloc);
+    for word in words {
+        bytes.extend_from_slice(&word.to_le_bytes())?;
+    }
+    Ok(bytes)
 }
 
 fn schema(alloc: Global, columns: &[(&'static str, Kind, bool)]) -> Result<Schema, Fail> {
