@@ -1,10 +1,7 @@
 -- What holds of a body after its chains were changed.
-use Rattle.std.proofs.Common.{◌≡◌, ◌∙◌, ℕ, suc, ◌+◌, ◌<◌, eqb, Bool, true, false, not, ◌&&◌, ◌||◌, cond, List, [], ◌∷◌, Option, None, Some, map, length, get_or, refl, sym, ap, subst, arith, ⊎_elim}
+use Rattle.std.proofs.Common.{◌≡◌, ◌≢◌, ◌∙◌, ℕ, suc, ◌+◌, ◌<◌, eqb, Bool, true, false, not, ◌&&◌, ◌||◌, cond, List, [], ◌∷◌, Option, None, Some, map, length, get_or, refl, sym, ap, subst, arith, ⊎_elim}
 use Rattle.std.specs.Prelude.{filter, count_by, sum_by, is_none, is_some, IfSome, All}
 use Rattle.std.specs.List.{list_any}
-use Rattle.std.specs.Ordering.{nat_cmp}
-use Rattle.std.specs.Map.{lookup}
-use Rattle.std.specs.BTreeMap.{is_at}
 use Rattle.std.proofs.lemmas.Bool.{cases_eq}
 use Rattle.std.proofs.lemmas.List.{length-map}
 use Rattle.std.proofs.lemmas.List.Sums.{sum_by-cons}
@@ -25,8 +22,7 @@ use Rattle.block_body.specs.Frozen.{IsImageOf}
 use Rattle.block_body.specs.Rows.{RowsValue}
 use Rattle.block_body.specs.Slots.{slot_of, slots_from}
 use Rattle.block_body.specs.Chains.{Chains, AreChains, IsKept, LaysBack, chain_at, entries_at, entries_of, is_listed, stamped_below}
-use Rattle.block_body.specs.Bodies.{IsBody, SlotLists, slots_listed}
-use Rattle.block_body.proofs.Lookups.{is_at-other}
+use Rattle.block_body.specs.Bodies.{IsBody, SlotLists, slots_of}
 use Rattle.block_body.proofs.Pruned.{filter_within}
 use Rattle.block_body.proofs.Slots.{slots-map}
 use Rattle.block_body.proofs.Whole.{first_chain}
@@ -72,13 +68,13 @@ module _ (rows new_rows : RowsValue) (chains new : Chains) (lists left : SlotLis
 
   -- a session has no entry any more, and no list
   pub body_without : (session : ℕ) → ((k : ℕ) → list_any (λ undo. is_own undo session) (entries_at new k) ≡ false) →
-      ((q : ℕ) → lookup (is_at (nat_cmp q)) left ≡ cond (is_at (nat_cmp session) q) None (lookup (is_at (nat_cmp q)) lists)) → IsBody new_rows new left phase last
-  body_without session none removed = record {
+      ((q : ℕ) → q ≢ session → slots_of left q ≡ slots_of lists q) → IsBody new_rows new left phase last
+  body_without session none others = record {
     each = each;
     kept = kept;
     listed = λ q k own. ⊎_elim
         (λ e. absurd (true_false (sym own ∙ ap (λ n. list_any (λ (undo : Undo Before). is_own undo n) (entries_at new k)) e ∙ none k)))
-        (λ apart. ap (λ o. is_listed (slots_listed o) k) (removed q ∙ ap (λ b. cond b None (lookup (is_at (nat_cmp q)) lists)) (is_at-other session q apart)) ∙ is.listed q k (fewer q k own))
+        (λ apart. ap (λ (l : List ℕ). is_listed l k) (others q apart) ∙ is.listed q k (fewer q k own))
         (cases_eq q session);
     quiet = quiet;
     image = ap is_some image ∙ is.image;

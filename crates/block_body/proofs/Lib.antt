@@ -13,6 +13,7 @@ pub mod Popped
 pub mod Presence
 pub mod Pruned
 pub mod RolledBack
+pub mod SessionLists
 pub mod Slots
 pub mod Stamps
 pub mod Taken

@@ -2,9 +2,6 @@
 use Rattle.std.proofs.Common.{◌≡◌, ◌∙◌, ℕ, ◌+◌, ◌<◌, eqb, Bool, true, false, not, ◌&&◌, ◌||◌, cond, List, [], ◌∷◌, Option, None, Some, map, length, refl, sym, ap, subst, arith}
 use Rattle.std.specs.Prelude.{is_none, is_some, IfNone}
 use Rattle.std.specs.List.{list_any}
-use Rattle.std.specs.Ordering.{nat_cmp}
-use Rattle.std.specs.Map.{lookup}
-use Rattle.std.specs.BTreeMap.{is_at}
 use Rattle.std.proofs.lemmas.List.{same_lists}
 use Rattle.std.proofs.lemmas.List.Folds.{list_any_at}
 use Rattle.block_spec.specs.declared.change.Before.{Before}
@@ -19,7 +16,7 @@ use Rattle.undo_chain.proofs.Order.{IsLawful-head, none_own}
 use Rattle.block_body.specs.Rows.{RowsValue}
 use Rattle.block_body.specs.Slots.{slots_from}
 use Rattle.block_body.specs.Chains.{Chains, slot_at, entries_at, is_listed}
-use Rattle.block_body.specs.Bodies.{IsBody, SlotLists, slots_listed}
+use Rattle.block_body.specs.Bodies.{IsBody, SlotLists, slots_of}
 use Rattle.block_body.proofs.Popped.{rolled_back-none}
 use Rattle.block_body.proofs.RolledBack.{listed_any}
 use Rattle.block_body.proofs.Slots.{slots-at, slots-length, slots-map}
@@ -130,12 +127,12 @@ module _ (session : ℕ) (rows new_rows : List (Option Row)) (chains new : Chain
 
 -- a session without a list has no entry
 pub unlisted : (session : ℕ) (rows : RowsValue) (chains : Chains) (lists : SlotLists) (phase : Phase) (last : ℕ) → IsBody rows chains lists phase last →
-    None ≡ lookup (is_at (nat_cmp session)) lists → (k : ℕ) → list_any (λ undo. is_own undo session) (entries_at chains k) ≡ false
+    slots_of lists session ≡ [] → (k : ℕ) → list_any (λ undo. is_own undo session) (entries_at chains k) ≡ false
 unlisted session rows chains lists phase last is none k = go (list_any (λ undo. is_own undo session) (entries_at chains k)) refl
   where
     go : (b : Bool) → list_any (λ undo. is_own undo session) (entries_at chains k) ≡ b → list_any (λ undo. is_own undo session) (entries_at chains k) ≡ false
     go true own =
-        let never : false ≡ true = ap (λ o. is_listed (slots_listed o) k) none ∙ is.listed session k own in
+        let never : false ≡ true = ap (λ (l : List ℕ). is_listed l k) (sym none) ∙ is.listed session k own in
         cc
     go false own = own
 

@@ -20,14 +20,13 @@ ghost use Rattle.block_body.specs.Changes.{IsNextVersioned, changed, key_left};
 ghost use Rattle.block_body.specs.Frozen.{IsImageOf, image_of};
 ghost use Rattle.block_body.specs.Keys.{HasKey, HasKeys};
 
-use crate::chains::Chains;
-use crate::lists::SlotList;
+use crate::chains::{self, Chains};
+use crate::lists::SessionLists;
 use crate::look::{Look, first_cell, key_in, key_of};
 use crate::origin::Origin;
 use crate::rows::Rows;
 use crate::shared::Shared;
 use crate::view::{is_row_visible, visible_row};
-use crate::{chains, lists};
 use block_columns::{Before, Columns, Image};
 use block_spec::{Change, MovableRow, Phase, SealFault};
 use cell_model::{Buffers, Row, Schema};
@@ -46,7 +45,7 @@ pub struct Body {
     rows: Rows,
     chains: Chains,
     /// The slots in which each session has uncommitted entries, one for each entry.
-    written: BTreeMap<u32, SlotList>,
+    written: SessionLists,
     phase: Phase,
     cooling: bool,
     rounds: u32,
@@ -61,7 +60,7 @@ impl Model for Body {
 
     ghost view = { λ b. body_value b.rows b.chains.entries b.phase b.cooling b.rounds b.last };
 
-    ghost invariant = { λ b. IsBody b.rows b.chains.entries b.written.entries b.phase b.last };
+    ghost invariant = { λ b. IsBody b.rows b.chains.entries b.written b.phase b.last };
 }
 
 /// The last stamp of a block.
@@ -76,7 +75,7 @@ impl Body {
             alloc,
             rows: Rows::new(alloc, schema, slots)?,
             chains: BTreeMap::new(alloc),
-            written: BTreeMap::new(alloc),
+            written: SessionLists::new(alloc),
             phase: Phase::Loose,
             cooling: false,
             rounds: 0,
@@ -294,16 +293,10 @@ impl Body {
         requires { (slot : ℕ) → NoneStampedAbove (slot_in self.old slot).entries stamp }
         ensures { self.new ≡ committed_in session stamp number self.old }
     {
-        let Some(list) = self.written.remove(&session) else {
+        let Some(slots) = self.written.take(session) else {
             return;
         };
-        chains::stamp(
-            &mut self.chains,
-            list.slots.as_slice(),
-            session,
-            stamp,
-            number,
-        );
+        chains::stamp(&mut self.chains, slots.as_slice(), session, stamp, number);
     }
 
     /// Lays the session's before-images back, newest first, and drops its entries. Where it had
@@ -311,18 +304,13 @@ impl Body {
     pub fn roll_back(&mut self, session: u32)
         ensures { self.new ≡ rolled_back_in session self.old }
     {
-        let Some(list) = self.written.remove(&session) else {
+        let Some(slots) = self.written.take(session) else {
             return;
         };
         if self.chains.is_empty() {
             return;
         }
-        if chains::roll_back(
-            &mut self.chains,
-            &mut self.rows,
-            list.slots.as_slice(),
-            session,
-        ) {
+        if chains::roll_back(&mut self.chains, &mut self.rows, slots.as_slice(), session) {
             self.cooling = false;
             self.rounds = 0;
         }
@@ -450,7 +438,7 @@ impl Body {
         ensures ok { OnOk result (self.new ≡ with_slot slot (changed by change.now) self.old) }
         ensures err { OnErr result (self.new ≡ self.old) }
     {
-        lists::add(self.alloc, &mut self.written, &by, slot)?;
+        self.written.add(&by, slot)?;
         let before = self.rows.write(slot, change)?;
         let undo = Undo {
             session: by.session,

@@ -15,6 +15,7 @@ use crate::rows::Rows;
 use block_columns::Before;
 use std::alloc::{AllocFailed, Global};
 use std::collections::BTreeMap;
+use std::collections::btree_map::Entry;
 use undo_chain::{Chain, Undo};
 
 /// The chains by slot. A slot without entries has none.
@@ -53,9 +54,17 @@ pub(crate) fn push(
         entries_at chains.new.entries other ≡ entries_at chains.old.entries other }
     ensures back { IfErr result (λ refused. refused.value ≡ undo) }
 {
-    match chains.get_mut(&slot) {
-        Some(chain) => lay_on(chain, undo),
-        None => begin(alloc, chains, slot, undo),
+    let Ok(entry) = chains.entry(slot) else {
+        return Err(AllocFailed { value: undo });
+    };
+    match entry {
+        Entry::Occupied(mut entry) => lay_on(entry.get_mut(), undo),
+        Entry::Vacant(entry) => {
+            let mut chain = Chain::new(alloc);
+            lay_on(&mut chain, undo)?;
+            entry.insert(chain);
+            Ok(())
+        }
     }
 }
 
@@ -73,38 +82,6 @@ fn lay_on(chain: &mut Chain<Before>, undo: Undo<Before>) -> Result<(), AllocFail
     }
     chain.push(undo);
     Ok(())
-}
-
-/// Begins the chain of a slot that has none.
-fn begin(
-    alloc: Global,
-    chains: &mut Chains,
-    slot: u32,
-    undo: Undo<Before>,
-) -> Result<(), AllocFailed<Undo<Before>>>
-    requires chains { AreChains chains.old.entries }
-    requires none { chain_at chains.old.entries slot ≡ None }
-    requires lawful { IsLawful (undo ∷ []) }
-    ensures chains { AreChains chains.new.entries }
-    ensures here { OnOk result (entries_at chains.new.entries slot ≡ undo ∷ []) }
-    ensures same { OnErr result (entries_at chains.new.entries slot ≡ []) }
-    ensures others { (other : ℕ) → other ≢ slot →
-        entries_at chains.new.entries other ≡ entries_at chains.old.entries other }
-    ensures back { IfErr result (λ refused. refused.value ≡ undo) }
-{
-    let mut chain = Chain::new(alloc);
-    lay_on(&mut chain, undo)?;
-    match chains.insert(slot, chain) {
-        Ok(_) => Ok(()),
-        Err(
-            AllocFailed {
-                value: (_, mut chain),
-            },
-        ) => match chain.pop_newest() {
-            Some(undo) => Err(AllocFailed { value: undo }),
-            None => unreachable!(),
-        },
-    }
 }
 
 /// Commits the session's entries in some slots.

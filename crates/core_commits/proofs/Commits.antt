@@ -2,8 +2,8 @@
 use Rattle.std.proofs.Common.{◌≡◌, ℕ, zero, suc, ◌+◌, ◌-◌, ◌<◌, ◌≤◌, ◌^◌, ℤ, Bool, true, false, cond, ◌&&◌, ◌||◌, ◌==◌, List, [], ◌∷◌, ◌++◌, Option, None, Some, is_some, map, get_or, length, refl, sym, ap, ◌∙◌, subst, arith, ⊎_elim}
 use Rattle.std.specs.Map.{lookup}
 use Rattle.std.specs.Prelude.{IfSome, IsSome, slice_get, slice_set}
-use Rattle.std.specs.List.{list_any}
 use Rattle.std.proofs.lemmas.Bool.{cases_lt}
+use Rattle.std.proofs.lemmas.List.{get_or_past}
 use Rattle.std.proofs.lemmas.List.Elements.{All-cons, All-head, All-nil, All-tail}
 use Rattle.block_layout.specs.Place.{block_of}
 use Rattle.block_spec.specs.Bodies.{Body, committed_in, slot_in}
@@ -14,8 +14,9 @@ use Rattle.core_parts.proofs.Changing.{after_twice, alike, desk_change, desk_onl
 use Rattle.core_parts.proofs.Telling.{a_body, body_is, desk_is, from_one, has_body, has_desk, room}
 use Rattle.core_parts.specs.Hands.{Has, Held, Makes, MayRun, after, in_hand, laid}
 use Rattle.core_sweeps.proofs.Handing.{body_in_after, body_is_in, has_still, room_still, room_taken}
-use Rattle.core_sweeps.proofs.Rolling.{block_is_there, differs}
+use Rattle.core_sweeps.proofs.Rolling.{any_more, block_is_there, differs}
 use Rattle.core_sweeps.specs.Steps.{body_changed, body_in, is_rolled}
+use Rattle.event_laws.proofs.ByKind.{same_at}
 use Rattle.event_laws.proofs.Owners.{all_open}
 use Rattle.event_laws.proofs.Slots.{num, num_refl}
 use Rattle.event_spec.specs.declared.event.Event.TheVariants as event
@@ -24,7 +25,7 @@ use Rattle.event_spec.specs.declared.part.Part.TheVariants as part
 use Rattle.event_spec.specs.declared.reply.Reply.TheVariants as reply
 use Rattle.event_spec.specs.Effects.{changes_of, closed, is_some_write, numbered}
 use Rattle.event_spec.specs.Lawful.{HasBlock}
-use Rattle.event_spec.specs.Parts.{CorePart, Shape, Name, HeadOf, ShardOf, BodyOf, TheDesk, body_at, changed, desk_at, names, part_at}
+use Rattle.event_spec.specs.Parts.{CorePart, Shape, Name, BodyOf, TheDesk, body_at, changed, desk_at, names, part_at}
 use Rattle.event_spec.specs.Touched.{is_body_written}
 use Rattle.follow_laws.proofs.Stepping.{has_pass}
 use Rattle.frame_laws.proofs.Distinct.{part_is}
@@ -93,24 +94,7 @@ slots_below q s n xs all j = subst (λ (x : Slot). NoneStampedAbove x.entries s)
     at (x ∷ xs) zero = refl
     at (x ∷ xs) (suc j) = at xs j
 
-get_past : (xs : List Slot) (j : ℕ) → length xs ≤ j → get_or xs j bare ≡ bare
-get_past [] j past = refl
-get_past (x ∷ xs) zero past = absurd (omega (arith, past))
-get_past (x ∷ xs) (suc j) past = get_past xs j (omega (arith, past))
-
 -- ---- blocks among writes
-
-any_more : {X : Type 0} (test : X → Bool) (xs : List X) (x : X) → list_any test (xs ++ x ∷ []) ≡ (list_any test xs || test x)
-any_more test [] x = or_none (test x)
-  where
-    or_none : (b : Bool) → (b || false) ≡ b
-    or_none true = refl
-    or_none false = refl
-any_more test (y ∷ xs) x = ap (λ b. test y || b) (any_more test xs x) ∙ regroup (test y) (list_any test xs) (test x)
-  where
-    regroup : (a b c : Bool) → (a || (b || c)) ≡ ((a || b) || c)
-    regroup true b c = refl
-    regroup false b c = refl
 
 flip : (a b : ℕ) → (a == b) ≡ (b == a)
 flip a b = go (a == b) refl
@@ -170,22 +154,12 @@ module _ (sh : Shape) (own : OwnTransaction) (old : Held) (m : MayRun sh (event.
       wrote = ap is_some_write none
 
       same : (n : Name) (x : CorePart) → changed (desk_change (closed own.session)) n x ≡ changed (changes_of sh m.parts (event.Commit own)) n x
-      same (HeadOf t) (part.Head x) = refl
-      same (HeadOf t) (part.Shard x) = refl
-      same (HeadOf t) (part.Body x) = refl
-      same (HeadOf t) (part.Desk x) = refl
-      same (ShardOf t i) (part.Head x) = refl
-      same (ShardOf t i) (part.Shard x) = refl
-      same (ShardOf t i) (part.Body x) = refl
-      same (ShardOf t i) (part.Desk x) = refl
-      same (BodyOf t b) (part.Head x) = refl
-      same (BodyOf t b) (part.Shard x) = refl
-      same (BodyOf t b) (part.Body x) = ap (λ c. part.Body ((cond c (committed_in own.session ((desk_at sh m.parts).newest + 1) ((desk_at sh m.parts).commits + 1)) (λ (body : Body). body)) x)) (sym wrote)
-      same (BodyOf t b) (part.Desk x) = refl
-      same TheDesk (part.Head x) = refl
-      same TheDesk (part.Shard x) = refl
-      same TheDesk (part.Body x) = refl
-      same TheDesk (part.Desk x) = ap (λ c. part.Desk (closed own.session (cond c (numbered x) x))) (sym wrote)
+      same n x = same_at (λ n x. Unit {0}) (desk_change (closed own.session)) (changes_of sh m.parts (event.Commit own)) (record {
+        head = λ t x h. refl;
+        shard = λ t i x h. refl;
+        body = λ t b x h. ap (λ c. (cond c (committed_in own.session ((desk_at sh m.parts).newest + 1) ((desk_at sh m.parts).commits + 1)) (λ (body : Body). body)) x) (sym wrote);
+        desk = λ x h. ap (λ c. closed own.session (cond c (numbered x) x)) (sym wrote);
+      }) n x tt
 
   -- the desk took the stamp and the number
   pub begins : (taken now : Held) (x y : DeskState) (stamp number : ℕ) → in_hand sh old TheDesk ≡ Some (part.Desk x) → taken ≡ laid sh TheDesk None old → y ≡ closed own.session (numbered x)
@@ -201,22 +175,8 @@ module _ (sh : Shape) (own : OwnTransaction) (old : Held) (m : MayRun sh (event.
   }
     where
       same : (n : Name) (x : CorePart) → changed (desk_change (λ d. closed own.session (numbered d))) n x ≡ changed (stamped_so_far sh m.parts own.session []) n x
-      same (HeadOf t) (part.Head x) = refl
-      same (HeadOf t) (part.Shard x) = refl
-      same (HeadOf t) (part.Body x) = refl
-      same (HeadOf t) (part.Desk x) = refl
-      same (ShardOf t i) (part.Head x) = refl
-      same (ShardOf t i) (part.Shard x) = refl
-      same (ShardOf t i) (part.Body x) = refl
-      same (ShardOf t i) (part.Desk x) = refl
-      same (BodyOf t b) (part.Head x) = refl
-      same (BodyOf t b) (part.Shard x) = refl
-      same (BodyOf t b) (part.Body x) = refl
-      same (BodyOf t b) (part.Desk x) = refl
-      same TheDesk (part.Head x) = refl
-      same TheDesk (part.Shard x) = refl
-      same TheDesk (part.Body x) = refl
-      same TheDesk (part.Desk x) = refl
+      same n x = same_at (λ n x. Unit {0}) (desk_change (λ d. closed own.session (numbered d))) (stamped_so_far sh m.parts own.session [])
+          (record { head = λ t x h. refl; shard = λ t i x h. refl; body = λ t b x h. refl; desk = λ x h. refl }) n x tt
 
 -- ---- one write more
 
@@ -249,7 +209,7 @@ module _ (sh : Shape) (own : OwnTransaction) (stamp number : ℕ) (old now : Hel
             (slots_lawful sh u.may.parts u.may.holds.measures u.may.holds.sound t (block_of p) (its_block sh own old u.may t key p there) j less).stamps
 
         past : length (body_at sh u.may.parts t (block_of p)).slots ≤ j → NoneStampedAbove (slot_in (body_at sh u.may.parts t (block_of p)) j).entries ((desk_at sh u.may.parts).newest + 1)
-        past over = subst (λ (x : Slot). NoneStampedAbove x.entries ((desk_at sh u.may.parts).newest + 1)) (sym (get_past (body_at sh u.may.parts t (block_of p)).slots j over)) (All-nil (IsStampedUpTo {D = Before} ((desk_at sh u.may.parts).newest + 1)))
+        past over = subst (λ (x : Slot). NoneStampedAbove x.entries ((desk_at sh u.may.parts).newest + 1)) (sym (get_or_past (body_at sh u.may.parts t (block_of p)).slots j bare over)) (All-nil (IsStampedUpTo {D = Before} ((desk_at sh u.may.parts).newest + 1)))
 
     pub below_here : (j : ℕ) → NoneStampedAbove (slot_in (body_in sh now t (block_of p)) j).entries stamp
     below_here j =
@@ -317,22 +277,12 @@ module _ (sh : Shape) (own : OwnTransaction) (stamp number : ℕ) (old mid : Hel
           ∙ sym (commit_stays sh u.may.parts u.may.holds.measures u.may.holds.sound own u.may.lawful.0 t b x is e ((desk_at sh u.may.parts).newest + 1) ((desk_at sh u.may.parts).commits + 1))
 
   last : (n : Name) (x : CorePart) → part_at sh u.may.parts n ≡ Some x → changed (stamped_so_far sh u.may.parts own.session own.writes) n x ≡ changed (changes_of sh u.may.parts (event.Commit own)) n x
-  last (HeadOf t) (part.Head x) is = refl
-  last (HeadOf t) (part.Shard x) is = refl
-  last (HeadOf t) (part.Body x) is = refl
-  last (HeadOf t) (part.Desk x) is = refl
-  last (ShardOf t i) (part.Head x) is = refl
-  last (ShardOf t i) (part.Shard x) is = refl
-  last (ShardOf t i) (part.Body x) is = refl
-  last (ShardOf t i) (part.Desk x) is = refl
-  last (BodyOf t b) (part.Head x) is = refl
-  last (BodyOf t b) (part.Shard x) is = refl
-  last (BodyOf t b) (part.Body x) is = ap part.Body (body_last t b x is)
-  last (BodyOf t b) (part.Desk x) is = refl
-  last TheDesk (part.Head x) is = refl
-  last TheDesk (part.Shard x) is = refl
-  last TheDesk (part.Body x) is = refl
-  last TheDesk (part.Desk x) is = ap (λ c. part.Desk (closed own.session (cond c (numbered x) x))) (sym wrote)
+  last = same_at (λ n x. part_at sh u.may.parts n ≡ Some x) (stamped_so_far sh u.may.parts own.session own.writes) (changes_of sh u.may.parts (event.Commit own)) (record {
+    head = λ t x is. refl;
+    shard = λ t i x is. refl;
+    body = body_last;
+    desk = λ x is. ap (λ c. closed own.session (cond c (numbered x) x)) (sym wrote);
+  })
 
   pub ends : Makes sh (event.Commit own) old mid (reply.Committed (Some number))
   ends = from_one sh (event.Commit own) old mid (reply.Committed (Some number)) u.may

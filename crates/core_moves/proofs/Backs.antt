@@ -13,9 +13,10 @@ use Rattle.core_moves.specs.Steps.{AreBack, AreMoved, IsNearly, back_to, cooled,
 use Rattle.core_parts.proofs.Changing.{after_twice, alike, desk_change, desk_only, laid_back_changed}
 use Rattle.core_parts.proofs.Telling.{from_one, room}
 use Rattle.core_parts.specs.Hands.{Has, Held, Makes, after, in_hand, laid}
-use Rattle.core_sweeps.proofs.Handing.{after_then, body_in_after, first_same, has_still, room_still}
+use Rattle.core_sweeps.proofs.Handing.{after_then, body_in_after, first_same, has_still, room_still, same_either}
 use Rattle.core_sweeps.proofs.Rolling.{differs}
 use Rattle.core_sweeps.specs.Steps.{body_changed, body_in}
+use Rattle.event_laws.proofs.ByKind.{rests_at, twice_at}
 use Rattle.event_laws.proofs.Naming.{body_is_there}
 use Rattle.event_laws.proofs.Slots.{num, num_refl}
 use Rattle.event_spec.specs.declared.event.Event.TheVariants as event
@@ -242,22 +243,9 @@ module _ (sh : Shape) (t : ℕ) (moves : List MovePair) (old now : Held) (pairs 
 
   part_back : (n : Name) (x : CorePart) → part_at sh v.may.parts n ≡ Some x
       → changed (pair_undone t pair) n (changed (back_to sh v.may.parts t (take (k + 1) pairs) v.again) n x) ≡ changed (back_to sh v.may.parts t (take k pairs) (λ b. (v.again b || (b == block_of pair.source)) || (b == block_of pair.target))) n x
-  part_back (HeadOf w) (part.Head x) is = refl
-  part_back (HeadOf w) (part.Shard x) is = refl
-  part_back (HeadOf w) (part.Body x) is = refl
-  part_back (HeadOf w) (part.Desk x) is = refl
-  part_back (ShardOf w i) (part.Head x) is = refl
-  part_back (ShardOf w i) (part.Shard x) is = ap part.Shard (shard_back w i x is)
-  part_back (ShardOf w i) (part.Body x) is = refl
-  part_back (ShardOf w i) (part.Desk x) is = refl
-  part_back (BodyOf w b) (part.Head x) is = refl
-  part_back (BodyOf w b) (part.Shard x) is = refl
-  part_back (BodyOf w b) (part.Body x) is = ap part.Body (body_back w b x is (w == t) refl)
-  part_back (BodyOf w b) (part.Desk x) is = refl
-  part_back TheDesk (part.Head x) is = refl
-  part_back TheDesk (part.Shard x) is = refl
-  part_back TheDesk (part.Body x) is = refl
-  part_back TheDesk (part.Desk x) is = refl
+  part_back = twice_at (λ n x. part_at sh v.may.parts n ≡ Some x) (back_to sh v.may.parts t (take (k + 1) pairs) v.again) (pair_undone t pair)
+      (back_to sh v.may.parts t (take k pairs) (λ b. (v.again b || (b == block_of pair.source)) || (b == block_of pair.target)))
+      (record { head = λ w x is. refl; shard = shard_back; body = λ w b x is. body_back w b x is (w == t) refl; desk = λ x is. refl })
 
   or_cases : (a b : Bool) → (a || b) ≡ true → (a ≡ true) ⊎ (b ≡ true)
   or_cases true b e = inl refl
@@ -288,10 +276,6 @@ module _ (sh : Shape) (t : ℕ) (moves : List MovePair) (old now : Held) (pairs 
 -- ---- all pairs back
 
 module _ (sh : Shape) (t : ℕ) (moves : List MovePair) (old now : Held) (pairs : List MovePair) (v : AreBack sh t moves old now pairs 0) where
-  same_either : {X : Type 0} (b : Bool) (x : X) → cond b x x ≡ x
-  same_either true x = refl
-  same_either false x = refl
-
   body_same : (w b : ℕ) (x : Body) → part_at sh v.may.parts (BodyOf w b) ≡ Some (part.Body x) → cond ((w == t) && v.again b) (cooled (cond (w == t) x x)) (cond (w == t) x x) ≡ x
   body_same w b x is = go ((w == t) && v.again b) refl
     where
@@ -311,22 +295,8 @@ module _ (sh : Shape) (t : ℕ) (moves : List MovePair) (old now : Held) (pairs 
           ∙ ap (λ n. record x { rounds = n }) (sym rounds)
 
   part_same : (n : Name) (x : CorePart) → part_at sh v.may.parts n ≡ Some x → changed (back_to sh v.may.parts t [] v.again) n x ≡ x
-  part_same (HeadOf w) (part.Head x) is = refl
-  part_same (HeadOf w) (part.Shard x) is = refl
-  part_same (HeadOf w) (part.Body x) is = refl
-  part_same (HeadOf w) (part.Desk x) is = refl
-  part_same (ShardOf w i) (part.Head x) is = refl
-  part_same (ShardOf w i) (part.Shard x) is = ap part.Shard (same_either (w == t) x)
-  part_same (ShardOf w i) (part.Body x) is = refl
-  part_same (ShardOf w i) (part.Desk x) is = refl
-  part_same (BodyOf w b) (part.Head x) is = refl
-  part_same (BodyOf w b) (part.Shard x) is = refl
-  part_same (BodyOf w b) (part.Body x) is = ap part.Body (body_same w b x is)
-  part_same (BodyOf w b) (part.Desk x) is = refl
-  part_same TheDesk (part.Head x) is = refl
-  part_same TheDesk (part.Shard x) is = refl
-  part_same TheDesk (part.Body x) is = refl
-  part_same TheDesk (part.Desk x) is = refl
+  part_same = rests_at (λ n x. part_at sh v.may.parts n ≡ Some x) (back_to sh v.may.parts t [] v.again)
+      (record { head = λ w x is. refl; shard = λ w i x is. same_either (w == t) x; body = body_same; desk = λ x is. refl })
 
   pub all_back : now ≡ old
   all_back = v.made ∙ first_same (back_to sh v.may.parts t [] v.again) (names sh) old (λ j n x there held. part_same n x (part_there sh t moves old v.may j n x there held))

@@ -14,12 +14,13 @@ use Rattle.core_parts.proofs.Placing.{held_at, named_once}
 use Rattle.core_parts.specs.Hands.{Has, Held, after, in_hand, laid}
 use Rattle.core_sweeps.proofs.Handing.{after_then, body_back, body_in_after, body_in_changed, body_in_else, has_still, room_still, shard_back}
 use Rattle.core_sweeps.specs.Steps.{body_changed, body_in, shard_changed}
+use Rattle.event_laws.proofs.ByKind.{twice_at}
 use Rattle.event_laws.proofs.Places.{same_place, with_slot_else, with_slot_here}
 use Rattle.event_laws.proofs.Slots.{num}
 use Rattle.event_spec.specs.declared.event.MovePair.{MovePair}
 use Rattle.event_spec.specs.declared.part.Part.TheVariants as part
 use Rattle.event_spec.specs.Effects.{with_place}
-use Rattle.event_spec.specs.Parts.{Changes, CorePart, Shape, Name, HeadOf, ShardOf, BodyOf, TheDesk, body_from, changed, names, nothing, shard_from, shard_of}
+use Rattle.event_spec.specs.Parts.{Changes, CorePart, Shape, Name, ShardOf, BodyOf, body_from, names, nothing, shard_from, shard_of}
 use Rattle.frame_laws.specs.Shards.{ShardHolds}
 use Rattle.key_index.specs.Candidates.{Places, candidates_of}
 use Rattle.part_changes.proofs.Shards.{added_is_dropped}
@@ -79,7 +80,9 @@ both false b e = cc
 -- two changes of one body, which are one of the body that is there
 pub bodies_then : (sh : Shape) (hand : Held) (t b : ℕ) (f g h : Body → Body) → ((x : Body) → in_hand sh hand (BodyOf t b) ≡ Some (part.Body x) → g (f x) ≡ h x)
     → after sh (body_changed t b g) (after sh (body_changed t b f) hand) ≡ after sh (body_changed t b h) hand
-bodies_then sh hand t b f g h same = after_then (body_changed t b f) (body_changed t b g) (body_changed t b h) (names sh) hand (λ k n x is at. go n x (piece_in sh hand k n x is at))
+bodies_then sh hand t b f g h same = after_then (body_changed t b f) (body_changed t b g) (body_changed t b h) (names sh) hand
+    (λ k n x is at. twice_at (λ n x. in_hand sh hand n ≡ Some x) (body_changed t b f) (body_changed t b g) (body_changed t b h)
+    (record { head = λ u x is. refl; shard = λ u i x is. refl; body = λ u d x is. at_body u d x is ((u == t) && (d == b)) refl; desk = λ x is. refl }) n x (piece_in sh hand k n x is at))
   where
     at_body : (u d : ℕ) (x : Body) → in_hand sh hand (BodyOf u d) ≡ Some (part.Body x) → (c : Bool) → ((u == t) && (d == b)) ≡ c
         → cond ((u == t) && (d == b)) (g (cond ((u == t) && (d == b)) (f x) x)) (cond ((u == t) && (d == b)) (f x) x) ≡ cond ((u == t) && (d == b)) (h x) x
@@ -90,29 +93,13 @@ bodies_then sh hand t b f g h same = after_then (body_changed t b f) (body_chang
         ∙ ap (λ c. cond c (h x) x) (sym e)
     at_body u d x is false e = ap (λ c. cond c (g (cond c (f x) x)) (cond c (f x) x)) e ∙ ap (λ c. cond c (h x) x) (sym e)
 
-    go : (n : Name) (x : CorePart) → in_hand sh hand n ≡ Some x → changed (body_changed t b g) n (changed (body_changed t b f) n x) ≡ changed (body_changed t b h) n x
-    go (HeadOf u) (part.Head x) is = refl
-    go (HeadOf u) (part.Shard x) is = refl
-    go (HeadOf u) (part.Body x) is = refl
-    go (HeadOf u) (part.Desk x) is = refl
-    go (ShardOf u i) (part.Head x) is = refl
-    go (ShardOf u i) (part.Shard x) is = refl
-    go (ShardOf u i) (part.Body x) is = refl
-    go (ShardOf u i) (part.Desk x) is = refl
-    go (BodyOf u d) (part.Head x) is = refl
-    go (BodyOf u d) (part.Shard x) is = refl
-    go (BodyOf u d) (part.Body x) is = ap part.Body (at_body u d x is ((u == t) && (d == b)) refl)
-    go (BodyOf u d) (part.Desk x) is = refl
-    go TheDesk (part.Head x) is = refl
-    go TheDesk (part.Shard x) is = refl
-    go TheDesk (part.Body x) is = refl
-    go TheDesk (part.Desk x) is = refl
-
 -- a shard that is changed, and changed back
 pub shards_back : (sh : Shape) (hand : Held) (t i : ℕ) (f g : Places → Places) (c : Changes) → ((u j : ℕ) (x : Places) → c.shard u j x ≡ x)
     → ((x : Places) → in_hand sh hand (ShardOf t i) ≡ Some (part.Shard x) → g (f x) ≡ x)
     → after sh (shard_changed t i g) (after sh (record c { shard = λ u j x. cond ((u == t) && (j == i)) (f x) x }) hand) ≡ after sh c hand
-shards_back sh hand t i f g c plain same = after_then (record c { shard = λ u j x. cond ((u == t) && (j == i)) (f x) x }) (shard_changed t i g) c (names sh) hand (λ k n x is at. go n x (piece_in sh hand k n x is at))
+shards_back sh hand t i f g c plain same = after_then (record c { shard = λ u j x. cond ((u == t) && (j == i)) (f x) x }) (shard_changed t i g) c (names sh) hand
+    (λ k n x is at. twice_at (λ n x. in_hand sh hand n ≡ Some x) (record c { shard = λ u j x. cond ((u == t) && (j == i)) (f x) x }) (shard_changed t i g) c
+    (record { head = λ u x is. refl; shard = λ u j x is. at_shard u j x is ((u == t) && (j == i)) refl; body = λ u b x is. refl; desk = λ x is. refl }) n x (piece_in sh hand k n x is at))
   where
     at_shard : (u j : ℕ) (x : Places) → in_hand sh hand (ShardOf u j) ≡ Some (part.Shard x) → (b : Bool) → ((u == t) && (j == i)) ≡ b
         → cond ((u == t) && (j == i)) (g (cond ((u == t) && (j == i)) (f x) x)) (cond ((u == t) && (j == i)) (f x) x) ≡ c.shard u j x
@@ -122,24 +109,6 @@ shards_back sh hand t i f g c plain same = after_then (record c { shard = λ u j
         ∙ same x (sym (ap (λ u. in_hand sh hand (ShardOf u i)) (num u t two.0)) ∙ sym (ap (λ j. in_hand sh hand (ShardOf u j)) (num j i two.1)) ∙ is)
         ∙ sym (plain u j x)
     at_shard u j x is false e = ap (λ b. cond b (g (cond b (f x) x)) (cond b (f x) x)) e ∙ sym (plain u j x)
-
-    go : (n : Name) (x : CorePart) → in_hand sh hand n ≡ Some x → changed (shard_changed t i g) n (changed (record c { shard = λ u j x. cond ((u == t) && (j == i)) (f x) x }) n x) ≡ changed c n x
-    go (HeadOf u) (part.Head x) is = refl
-    go (HeadOf u) (part.Shard x) is = refl
-    go (HeadOf u) (part.Body x) is = refl
-    go (HeadOf u) (part.Desk x) is = refl
-    go (ShardOf u j) (part.Head x) is = refl
-    go (ShardOf u j) (part.Shard x) is = ap part.Shard (at_shard u j x is ((u == t) && (j == i)) refl)
-    go (ShardOf u j) (part.Body x) is = refl
-    go (ShardOf u j) (part.Desk x) is = refl
-    go (BodyOf u b) (part.Head x) is = refl
-    go (BodyOf u b) (part.Shard x) is = refl
-    go (BodyOf u b) (part.Body x) is = refl
-    go (BodyOf u b) (part.Desk x) is = refl
-    go TheDesk (part.Head x) is = refl
-    go TheDesk (part.Shard x) is = refl
-    go TheDesk (part.Body x) is = refl
-    go TheDesk (part.Desk x) is = refl
 
 -- ---- the row of a pair
 

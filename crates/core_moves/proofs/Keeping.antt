@@ -14,8 +14,9 @@ use Rattle.cell_model.specs.declared.column.Column.{Column}
 use Rattle.cell_model.specs.Schemas.{IsSchema, begins_with_key}
 use Rattle.core_moves.proofs.Moves.{places, source_is}
 use Rattle.core_parts.specs.Hands.{Held, MayRun}
-use Rattle.core_sweeps.proofs.Prunes.{first_fits, keyed}
+use Rattle.core_sweeps.proofs.Prunes.{keyed}
 use Rattle.core_sweeps.specs.Steps.{body_in}
+use Rattle.event_laws.proofs.Fitting.{current_fits}
 use Rattle.event_spec.specs.declared.event.Event.TheVariants as event
 use Rattle.event_spec.specs.declared.event.MovePair.{MovePair}
 use Rattle.event_spec.specs.Lawful.{Among, HasBlock}
@@ -125,7 +126,7 @@ pub has_pair_keys : (sh : Shape) (t : ℕ) (moves : List MovePair) (old : Held) 
 has_pair_keys sh t moves old m pair among schema = subst HasKeys (sym (source_is sh t moves old m pair among)) (record {
   columns = subst (λ columns. 0 < length columns) (sym (m.holds.sound.bodies t (block_of pair.source) has).columns) (key_first (columns_in sh t) schema.key);
   rows = λ slot. keyed (columns_in sh t) (slot_in (body_at sh m.parts t (block_of pair.source)) slot).row schema.key
-      (first_fits (columns_in sh t) (slot_in (body_at sh m.parts t (block_of pair.source)) slot).row (slot_in (body_at sh m.parts t (block_of pair.source)) slot).entries
+      (current_fits (columns_in sh t) (slot_in (body_at sh m.parts t (block_of pair.source)) slot).row (slot_in (body_at sh m.parts t (block_of pair.source)) slot).entries
       (index_all (λ (slot : Slot). VersionsFit (columns_in sh t) slot.row slot.entries) (body_at sh m.parts t (block_of pair.source)).slots bare slot tt (m.holds.sound.bodies t (block_of pair.source) has).versions));
 })
   where

@@ -16,10 +16,11 @@ use Rattle.core_parts.proofs.Changing.{after_twice, in_after}
 use Rattle.core_parts.proofs.Placing.{in_state}
 use Rattle.core_parts.proofs.Telling.{a_body, a_desk, a_head, a_shard, body_is, desk_is, has_body, has_desk, has_head, has_shard, head_is, only_told, room}
 use Rattle.core_parts.specs.Hands.{Has, Held, Makes, MayRun, after, in_hand}
-use Rattle.core_sweeps.proofs.Handing.{body_in_after, body_is_in, first_same, has_still, room_still}
+use Rattle.core_sweeps.proofs.Handing.{body_in_after, body_is_in, first_same, has_still, room_still, same_either}
 use Rattle.core_sweeps.proofs.Rolling.{differs}
 use Rattle.core_sweeps.specs.Steps.{body_in}
 use Rattle.event_laws.proofs.Apart.{Apart, AreFar, apart, apart_kept, kept_among}
+use Rattle.event_laws.proofs.ByKind.{rests_at}
 use Rattle.event_laws.proofs.Lists.{all_at}
 use Rattle.event_laws.proofs.Naming.{follows_machine}
 use Rattle.event_laws.proofs.Places.{has_among, placed, shard_small}
@@ -154,27 +155,9 @@ module _ (sh : Shape) (t : ℕ) (moves : List MovePair) (old : Held) (m : MayRun
   pub all_judged : filter (holds_in sh old t) moves ≡ held_pairs sh m.parts t moves
   all_judged = filter_same (holds sh m.parts t) (holds_in sh old t) moves judged
 
-  same_either : {X : Type 0} (b : Bool) (x : X) → cond b x x ≡ x
-  same_either true x = refl
-  same_either false x = refl
-
   none_moved : (n : Name) (x : CorePart) → changed (moved_to sh m.parts t []) n x ≡ x
-  none_moved (HeadOf u) (part.Head x) = refl
-  none_moved (HeadOf u) (part.Shard x) = refl
-  none_moved (HeadOf u) (part.Body x) = refl
-  none_moved (HeadOf u) (part.Desk x) = refl
-  none_moved (ShardOf u i) (part.Head x) = refl
-  none_moved (ShardOf u i) (part.Shard x) = ap part.Shard (same_either (u == t) x)
-  none_moved (ShardOf u i) (part.Body x) = refl
-  none_moved (ShardOf u i) (part.Desk x) = refl
-  none_moved (BodyOf u b) (part.Head x) = refl
-  none_moved (BodyOf u b) (part.Shard x) = refl
-  none_moved (BodyOf u b) (part.Body x) = ap part.Body (same_either (u == t) x)
-  none_moved (BodyOf u b) (part.Desk x) = refl
-  none_moved TheDesk (part.Head x) = refl
-  none_moved TheDesk (part.Shard x) = refl
-  none_moved TheDesk (part.Body x) = refl
-  none_moved TheDesk (part.Desk x) = refl
+  none_moved n x = rests_at (λ n x. Unit {0}) (moved_to sh m.parts t [])
+      (record { head = λ u x h. refl; shard = λ u i x h. same_either (u == t) x; body = λ u b x h. same_either (u == t) x; desk = λ x h. refl }) n x tt
 
   pub begins : (pairs : List MovePair) → pairs ≡ filter (holds_in sh old t) moves → AreMoved sh t moves old old pairs 0
   begins pairs is = record {

@@ -5,8 +5,9 @@ use Rattle.std.specs.Prelude.{slice_get}
 use Rattle.block_spec.specs.Bodies.{Body}
 use Rattle.core_parts.proofs.Placing.{NamedOnce, laid_twice, named_once, once_head}
 use Rattle.core_parts.specs.Hands.{Held, after, hand_changed, in_hand, laid, laid_at, place_changed}
+use Rattle.event_laws.proofs.ByKind.{nothing_changes}
 use Rattle.event_laws.proofs.Slots.{num_refl}
-use Rattle.event_laws.proofs.States.{IsTwice, name_is}
+use Rattle.event_laws.proofs.States.{IsTwice, changed_twice, name_is}
 use Rattle.event_spec.specs.declared.part.Head.{Head}
 use Rattle.event_spec.specs.declared.part.Part.TheVariants as part
 use Rattle.event_spec.specs.Effects.{at_both, at_table}
@@ -28,26 +29,8 @@ left_alone c (n ∷ ns) (o ∷ hand) same = ap (λ p. p ∷ hand_changed c ns ha
     place None = refl
     place (Some x) = ap Some (same n x (inl refl))
 
-nothing_changed : (n : Name) (x : CorePart) → changed nothing n x ≡ x
-nothing_changed (HeadOf t) (part.Head x) = refl
-nothing_changed (HeadOf t) (part.Shard x) = refl
-nothing_changed (HeadOf t) (part.Body x) = refl
-nothing_changed (HeadOf t) (part.Desk x) = refl
-nothing_changed (ShardOf t i) (part.Head x) = refl
-nothing_changed (ShardOf t i) (part.Shard x) = refl
-nothing_changed (ShardOf t i) (part.Body x) = refl
-nothing_changed (ShardOf t i) (part.Desk x) = refl
-nothing_changed (BodyOf t b) (part.Head x) = refl
-nothing_changed (BodyOf t b) (part.Shard x) = refl
-nothing_changed (BodyOf t b) (part.Body x) = refl
-nothing_changed (BodyOf t b) (part.Desk x) = refl
-nothing_changed TheDesk (part.Head x) = refl
-nothing_changed TheDesk (part.Shard x) = refl
-nothing_changed TheDesk (part.Body x) = refl
-nothing_changed TheDesk (part.Desk x) = refl
-
 pub after_nothing : (sh : Shape) (hand : Held) → after sh nothing hand ≡ hand
-after_nothing sh hand = left_alone nothing (names sh) hand (λ n x a. nothing_changed n x)
+after_nothing sh hand = left_alone nothing (names sh) hand (λ n x a. nothing_changes n x)
 
 -- ---- a change of one name
 
@@ -112,9 +95,9 @@ head_only t g x = record { here = ap (λ b. part.Head (cond b (g x) x)) (num_ref
     others (HeadOf u) (part.Shard y) e = refl
     others (HeadOf u) (part.Body y) e = refl
     others (HeadOf u) (part.Desk y) e = refl
-    others (ShardOf u i) y e = nothing_changed (ShardOf u i) y
-    others (BodyOf u b) y e = nothing_changed (BodyOf u b) y
-    others TheDesk y e = nothing_changed TheDesk y
+    others (ShardOf u i) y e = nothing_changes (ShardOf u i) y
+    others (BodyOf u b) y e = nothing_changes (BodyOf u b) y
+    others TheDesk y e = nothing_changes TheDesk y
 
 both_refl : (a b : ℕ) → ((a == a) && (b == b)) ≡ true
 both_refl a b = ap (λ x. x && (b == b)) (num_refl a) ∙ num_refl b
@@ -123,54 +106,36 @@ pub shard_only : (t i : ℕ) (g : Places → Places) (x : Places) → Only (shar
 shard_only t i g x = record { here = ap (λ b. part.Shard (cond b (g x) x)) (both_refl t i); others = others }
   where
     others : (n : Name) (y : CorePart) → same_name n (ShardOf t i) ≡ false → changed (shard_change t i g) n y ≡ y
-    others (HeadOf u) y e = nothing_changed (HeadOf u) y
+    others (HeadOf u) y e = nothing_changes (HeadOf u) y
     others (ShardOf u j) (part.Head y) e = refl
     others (ShardOf u j) (part.Shard y) e = ap part.Shard (skip ((u == t) && (j == i)) (g y) y e)
     others (ShardOf u j) (part.Body y) e = refl
     others (ShardOf u j) (part.Desk y) e = refl
-    others (BodyOf u b) y e = nothing_changed (BodyOf u b) y
-    others TheDesk y e = nothing_changed TheDesk y
+    others (BodyOf u b) y e = nothing_changes (BodyOf u b) y
+    others TheDesk y e = nothing_changes TheDesk y
 
 pub body_only : (t b : ℕ) (g : Body → Body) (x : Body) → Only (body_change t b g) (BodyOf t b) (part.Body x) (part.Body (g x))
 body_only t b g x = record { here = ap (λ c. part.Body (cond c (g x) x)) (both_refl t b); others = others }
   where
     others : (n : Name) (y : CorePart) → same_name n (BodyOf t b) ≡ false → changed (body_change t b g) n y ≡ y
-    others (HeadOf u) y e = nothing_changed (HeadOf u) y
-    others (ShardOf u i) y e = nothing_changed (ShardOf u i) y
+    others (HeadOf u) y e = nothing_changes (HeadOf u) y
+    others (ShardOf u i) y e = nothing_changes (ShardOf u i) y
     others (BodyOf u d) (part.Head y) e = refl
     others (BodyOf u d) (part.Shard y) e = refl
     others (BodyOf u d) (part.Body y) e = ap part.Body (skip ((u == t) && (d == b)) (g y) y e)
     others (BodyOf u d) (part.Desk y) e = refl
-    others TheDesk y e = nothing_changed TheDesk y
+    others TheDesk y e = nothing_changes TheDesk y
 
 pub desk_only : (g : DeskState → DeskState) (x : DeskState) → Only (desk_change g) TheDesk (part.Desk x) (part.Desk (g x))
 desk_only g x = record { here = refl; others = others }
   where
     others : (n : Name) (y : CorePart) → same_name n TheDesk ≡ false → changed (desk_change g) n y ≡ y
-    others (HeadOf u) y e = nothing_changed (HeadOf u) y
-    others (ShardOf u i) y e = nothing_changed (ShardOf u i) y
-    others (BodyOf u b) y e = nothing_changed (BodyOf u b) y
+    others (HeadOf u) y e = nothing_changes (HeadOf u) y
+    others (ShardOf u i) y e = nothing_changes (ShardOf u i) y
+    others (BodyOf u b) y e = nothing_changes (BodyOf u b) y
     others TheDesk y e = absurd (true_false e)
 
 -- ---- one change after another
-
-changed_twice : (c d e : Changes) → IsTwice c d e → (n : Name) (x : CorePart) → changed e n x ≡ changed d n (changed c n x)
-changed_twice c d e is (HeadOf t) (part.Head x) = ap part.Head (is.head t x)
-changed_twice c d e is (HeadOf t) (part.Shard x) = refl
-changed_twice c d e is (HeadOf t) (part.Body x) = refl
-changed_twice c d e is (HeadOf t) (part.Desk x) = refl
-changed_twice c d e is (ShardOf t i) (part.Head x) = refl
-changed_twice c d e is (ShardOf t i) (part.Shard x) = ap part.Shard (is.shard t i x)
-changed_twice c d e is (ShardOf t i) (part.Body x) = refl
-changed_twice c d e is (ShardOf t i) (part.Desk x) = refl
-changed_twice c d e is (BodyOf t b) (part.Head x) = refl
-changed_twice c d e is (BodyOf t b) (part.Shard x) = refl
-changed_twice c d e is (BodyOf t b) (part.Body x) = ap part.Body (is.body t b x)
-changed_twice c d e is (BodyOf t b) (part.Desk x) = refl
-changed_twice c d e is TheDesk (part.Head x) = refl
-changed_twice c d e is TheDesk (part.Shard x) = refl
-changed_twice c d e is TheDesk (part.Body x) = refl
-changed_twice c d e is TheDesk (part.Desk x) = ap part.Desk (is.desk x)
 
 pub after_twice : (sh : Shape) (c d e : Changes) (hand : Held) → IsTwice c d e → after sh d (after sh c hand) ≡ after sh e hand
 after_twice sh c d e hand is = go (names sh) hand
@@ -284,4 +249,4 @@ agrees_after c ns hand s agrees = (lengths c ns hand s agrees.0, at c ns hand s 
 -- A part is taken out, and laid back as it was.
 pub put_back : (sh : Shape) (hand taken new : Held) (w : Name) (p : CorePart) → in_hand sh hand w ≡ Some p → taken ≡ laid sh w None hand → new ≡ laid sh w (Some p) taken → new ≡ hand
 put_back sh hand taken new w p is out back =
-    laid_back_changed sh nothing hand taken new w p p (record { here = nothing_changed w p; others = λ n x e. nothing_changed n x }) is out back ∙ after_nothing sh hand
+    laid_back_changed sh nothing hand taken new w p p (record { here = nothing_changes w p; others = λ n x e. nothing_changes n x }) is out back ∙ after_nothing sh hand

@@ -10,6 +10,7 @@ use Rattle.block_spec.specs.declared.change.Before.{Before}
 use Rattle.block_spec.specs.Slots.{Row, Slot, has_none, is_bare, laid_back, pruned, taken_back}
 use Rattle.core_sweeps.proofs.Rolling.{differs, learns, shard_owns}
 use Rattle.core_sweeps.specs.Steps.{dropped_at, dropped_to, keep_to, pruned_by, with_gain}
+use Rattle.event_laws.proofs.ByKind.{rests_at, twice_at}
 use Rattle.event_laws.proofs.Naming.{follows_machine}
 use Rattle.event_laws.proofs.Places.{same_place}
 use Rattle.event_laws.proofs.Slots.{num, num_refl}
@@ -20,7 +21,7 @@ use Rattle.event_spec.specs.declared.part.Head.{Head}
 use Rattle.event_spec.specs.declared.part.Part.TheVariants as part
 use Rattle.event_spec.specs.Effects.{changes_of, kept_places, with_empty}
 use Rattle.event_spec.specs.Lawful.{Among, HasBlock, HasTable}
-use Rattle.event_spec.specs.Parts.{CorePart, Parts, Shape, Name, HeadOf, ShardOf, BodyOf, TheDesk, blocks_of, body_at, changed, head_at, head_from, part_at, places_at, shard_from, shard_of}
+use Rattle.event_spec.specs.Parts.{CorePart, Parts, Shape, Name, HeadOf, ShardOf, blocks_of, body_at, changed, head_at, head_from, part_at, places_at, shard_from, shard_of}
 use Rattle.event_spec.specs.SlotSound.{Keyed}
 use Rattle.event_spec.specs.Sound.{IsShape, Sound}
 use Rattle.frame_laws.proofs.Looks.{and_true, true_false}
@@ -150,26 +151,16 @@ module _ (sh : Shape) (s : Parts) (shape : IsShape sh) (ok : Sound sh s) (shards
   -- ---- at first
 
   pub first_dropped : (n : Name) (x : CorePart) → part_at sh s n ≡ Some x → changed (dropped_to sh s t b oldest 0) n x ≡ x
-  first_dropped (HeadOf u) (part.Head x) is = refl
-  first_dropped (HeadOf u) (part.Shard x) is = refl
-  first_dropped (HeadOf u) (part.Body x) is = refl
-  first_dropped (HeadOf u) (part.Desk x) is = refl
-  first_dropped (ShardOf u i) (part.Head x) is = refl
-  first_dropped (ShardOf u i) (part.Shard x) is = ap part.Shard (go (u == t) (sweep_rests i x (keep_to b oldest (body_at sh s t b) 0) (shards u i x is) (λ k p a. above_is 0 p (omega arith))))
+  first_dropped = rests_at (λ n x. part_at sh s n ≡ Some x) (dropped_to sh s t b oldest 0) (record {
+    head = λ u x is. refl;
+    shard = λ u i x is. go (u == t) x (sweep_rests i x (keep_to b oldest (body_at sh s t b) 0) (shards u i x is) (λ k p a. above_is 0 p (omega arith)));
+    body = λ u d x is. refl;
+    desk = λ x is. refl;
+  })
     where
-      go : (c : Bool) → kept_places (keep_to b oldest (body_at sh s t b) 0) x ≡ x → cond c (kept_places (keep_to b oldest (body_at sh s t b) 0) x) x ≡ x
-      go true e = e
-      go false e = refl
-  first_dropped (ShardOf u i) (part.Body x) is = refl
-  first_dropped (ShardOf u i) (part.Desk x) is = refl
-  first_dropped (BodyOf u d) (part.Head x) is = refl
-  first_dropped (BodyOf u d) (part.Shard x) is = refl
-  first_dropped (BodyOf u d) (part.Body x) is = refl
-  first_dropped (BodyOf u d) (part.Desk x) is = refl
-  first_dropped TheDesk (part.Head x) is = refl
-  first_dropped TheDesk (part.Shard x) is = refl
-  first_dropped TheDesk (part.Body x) is = refl
-  first_dropped TheDesk (part.Desk x) is = refl
+      go : (c : Bool) (x : Places) → kept_places (keep_to b oldest (body_at sh s t b) 0) x ≡ x → cond c (kept_places (keep_to b oldest (body_at sh s t b) 0) x) x ≡ x
+      go true x e = e
+      go false x e = refl
 
   -- ---- one slot more
 
@@ -327,30 +318,10 @@ module _ (sh : Shape) (s : Parts) (shape : IsShape sh) (ok : Sound sh s) (shards
 
     pub one_slot_more : (o : Option ℤ) → key_left oldest (slot_in (body_at sh s t b) j) ≡ o → (n : Name) (x : CorePart) → part_at sh s n ≡ Some x
         → changed (dropped_at t b j o) n (changed (dropped_to sh s t b oldest from) n x) ≡ changed (dropped_to sh s t b oldest (j + 1)) n x
-    one_slot_more o is n x at = by o n x (λ u i y e e'. shard_more o is u i y (ap (part_at sh s) (sym e) ∙ at ∙ ap Some e'))
-      where
-        by : (o : Option ℤ) (n : Name) (x : CorePart)
-            → ((u i : ℕ) (y : Places) → n ≡ ShardOf u i → x ≡ part.Shard y → (dropped_at t b j o).shard u i ((dropped_to sh s t b oldest from).shard u i y) ≡ (dropped_to sh s t b oldest (j + 1)).shard u i y)
-            → changed (dropped_at t b j o) n (changed (dropped_to sh s t b oldest from) n x) ≡ changed (dropped_to sh s t b oldest (j + 1)) n x
-        by None (HeadOf u) (part.Head y) more = refl
-        by (Some key) (HeadOf u) (part.Head y) more = refl
-        by o (HeadOf u) (part.Shard y) more = refl
-        by o (HeadOf u) (part.Body y) more = refl
-        by o (HeadOf u) (part.Desk y) more = refl
-        by o (ShardOf u i) (part.Head y) more = refl
-        by o (ShardOf u i) (part.Shard y) more = ap part.Shard (more u i y refl refl)
-        by o (ShardOf u i) (part.Body y) more = refl
-        by o (ShardOf u i) (part.Desk y) more = refl
-        by o (BodyOf u d) (part.Head y) more = refl
-        by o (BodyOf u d) (part.Shard y) more = refl
-        by None (BodyOf u d) (part.Body y) more = refl
-        by (Some key) (BodyOf u d) (part.Body y) more = refl
-        by o (BodyOf u d) (part.Desk y) more = refl
-        by o TheDesk (part.Head y) more = refl
-        by o TheDesk (part.Shard y) more = refl
-        by o TheDesk (part.Body y) more = refl
-        by None TheDesk (part.Desk y) more = refl
-        by (Some key) TheDesk (part.Desk y) more = refl
+    one_slot_more None is = twice_at (λ n x. part_at sh s n ≡ Some x) (dropped_to sh s t b oldest from) (dropped_at t b j None) (dropped_to sh s t b oldest (j + 1))
+        (record { head = λ u x at. refl; shard = shard_more None is; body = λ u d x at. refl; desk = λ x at. refl })
+    one_slot_more (Some key) is = twice_at (λ n x. part_at sh s n ≡ Some x) (dropped_to sh s t b oldest from) (dropped_at t b j (Some key)) (dropped_to sh s t b oldest (j + 1))
+        (record { head = λ u x at. refl; shard = shard_more (Some key) is; body = λ u d x at. refl; desk = λ x at. refl })
 
   -- ---- at the end
 
@@ -435,19 +406,5 @@ module _ (sh : Shape) (s : Parts) (shape : IsShape sh) (ok : Sound sh s) (shards
 
   pub last_pruned : (from : ℕ) → IsNextVersioned (body_at sh s t b) from None → (n : Name) (x : CorePart) → part_at sh s n ≡ Some x
       → changed (pruned_by t b oldest (pruned_in oldest (body_at sh s t b))) n (changed (dropped_to sh s t b oldest from) n x) ≡ changed (changes_of sh s (event.Prune t b oldest)) n x
-  last_pruned from none (HeadOf u) (part.Head x) is = ap part.Head (last_head u x is)
-  last_pruned from none (HeadOf u) (part.Shard x) is = refl
-  last_pruned from none (HeadOf u) (part.Body x) is = refl
-  last_pruned from none (HeadOf u) (part.Desk x) is = refl
-  last_pruned from none (ShardOf u i) (part.Head x) is = refl
-  last_pruned from none (ShardOf u i) (part.Shard x) is = ap part.Shard (last_shard from none u i x is)
-  last_pruned from none (ShardOf u i) (part.Body x) is = refl
-  last_pruned from none (ShardOf u i) (part.Desk x) is = refl
-  last_pruned from none (BodyOf u d) (part.Head x) is = refl
-  last_pruned from none (BodyOf u d) (part.Shard x) is = refl
-  last_pruned from none (BodyOf u d) (part.Body x) is = refl
-  last_pruned from none (BodyOf u d) (part.Desk x) is = refl
-  last_pruned from none TheDesk (part.Head x) is = refl
-  last_pruned from none TheDesk (part.Shard x) is = refl
-  last_pruned from none TheDesk (part.Body x) is = refl
-  last_pruned from none TheDesk (part.Desk x) is = refl
+  last_pruned from none = twice_at (λ n x. part_at sh s n ≡ Some x) (dropped_to sh s t b oldest from) (pruned_by t b oldest (pruned_in oldest (body_at sh s t b))) (changes_of sh s (event.Prune t b oldest))
+      (record { head = last_head; shard = last_shard from none; body = λ u d x is. refl; desk = λ x is. refl })

@@ -9,7 +9,9 @@ use Rattle.core_parts.proofs.Placing.{length-laid}
 use Rattle.core_parts.proofs.Telling.{a_body}
 use Rattle.core_parts.specs.Hands.{Has, Held, after, hand_changed, in_hand, laid, place_changed}
 use Rattle.core_sweeps.specs.Steps.{body_changed, body_in, head_changed, shard_changed, undone, with_gain, without_bare}
+use Rattle.event_laws.proofs.ByKind.{rests_at}
 use Rattle.event_laws.proofs.Slots.{num_refl}
+use Rattle.event_spec.specs.Lawful.{Among}
 use Rattle.event_spec.specs.declared.part.Head.{Head}
 use Rattle.event_spec.specs.declared.part.Part.TheVariants as part
 use Rattle.event_spec.specs.Parts.{Changes, CorePart, Shape, Name, HeadOf, ShardOf, BodyOf, TheDesk, body_from, changed, names, shard_of}
@@ -97,52 +99,19 @@ pub body_back : (sh : Shape) (t b : ℕ) (g : Body → Body) (hand taken new : H
 body_back sh t b g hand taken new x y is out made back =
     laid_back_changed sh (body_changed t b g) hand taken new (BodyOf t b) (part.Body x) (part.Body (g x)) (body_only t b g x) is out (back ∙ ap (λ y. laid sh (BodyOf t b) (Some (part.Body y)) taken) made)
 
-same_either : {X : Type 0} (b : Bool) (x : X) → cond b x x ≡ x
+-- a change in one case alone, which changes nothing there
+pub same_either : {X : Type 0} (b : Bool) (x : X) → cond b x x ≡ x
 same_either true x = refl
 same_either false x = refl
 
 -- changes of a head or a shard that do nothing
 head_alone : (sh : Shape) (t : ℕ) (hand : Held) → after sh (head_changed t (λ x. x)) hand ≡ hand
-head_alone sh t hand = left_alone (head_changed t (λ x. x)) (names sh) hand (λ n x a. go n x)
-  where
-    go : (n : Name) (x : CorePart) → changed (head_changed t (λ x. x)) n x ≡ x
-    go (HeadOf u) (part.Head x) = ap part.Head (same_either (u == t) x)
-    go (HeadOf u) (part.Shard x) = refl
-    go (HeadOf u) (part.Body x) = refl
-    go (HeadOf u) (part.Desk x) = refl
-    go (ShardOf u i) (part.Head x) = refl
-    go (ShardOf u i) (part.Shard x) = refl
-    go (ShardOf u i) (part.Body x) = refl
-    go (ShardOf u i) (part.Desk x) = refl
-    go (BodyOf u b) (part.Head x) = refl
-    go (BodyOf u b) (part.Shard x) = refl
-    go (BodyOf u b) (part.Body x) = refl
-    go (BodyOf u b) (part.Desk x) = refl
-    go TheDesk (part.Head x) = refl
-    go TheDesk (part.Shard x) = refl
-    go TheDesk (part.Body x) = refl
-    go TheDesk (part.Desk x) = refl
+head_alone sh t hand = left_alone (head_changed t (λ x. x)) (names sh) hand (rests_at (λ n x. Among n (names sh)) (head_changed t (λ x. x))
+    (record { head = λ u x a. same_either (u == t) x; shard = λ u i x a. refl; body = λ u b x a. refl; desk = λ x a. refl }))
 
 shard_alone : (sh : Shape) (t i : ℕ) (hand : Held) → after sh (shard_changed t i (λ x. x)) hand ≡ hand
-shard_alone sh t i hand = left_alone (shard_changed t i (λ x. x)) (names sh) hand (λ n x a. go n x)
-  where
-    go : (n : Name) (x : CorePart) → changed (shard_changed t i (λ x. x)) n x ≡ x
-    go (HeadOf u) (part.Head x) = refl
-    go (HeadOf u) (part.Shard x) = refl
-    go (HeadOf u) (part.Body x) = refl
-    go (HeadOf u) (part.Desk x) = refl
-    go (ShardOf u j) (part.Head x) = refl
-    go (ShardOf u j) (part.Shard x) = ap part.Shard (same_either ((u == t) && (j == i)) x)
-    go (ShardOf u j) (part.Body x) = refl
-    go (ShardOf u j) (part.Desk x) = refl
-    go (BodyOf u b) (part.Head x) = refl
-    go (BodyOf u b) (part.Shard x) = refl
-    go (BodyOf u b) (part.Body x) = refl
-    go (BodyOf u b) (part.Desk x) = refl
-    go TheDesk (part.Head x) = refl
-    go TheDesk (part.Shard x) = refl
-    go TheDesk (part.Body x) = refl
-    go TheDesk (part.Desk x) = refl
+shard_alone sh t i hand = left_alone (shard_changed t i (λ x. x)) (names sh) hand (rests_at (λ n x. Among n (names sh)) (shard_changed t i (λ x. x))
+    (record { head = λ u x a. refl; shard = λ u j x a. same_either ((u == t) && (j == i)) x; body = λ u b x a. refl; desk = λ x a. refl }))
 
 -- a head that is told, and a shard that loses, only in one case
 pub told_if : (sh : Shape) (t block : ℕ) (empty : Bool) (hand new : Held) → empty ≡ true → new ≡ after sh (head_changed t (gained block)) hand → new ≡ after sh (head_changed t (with_gain empty block)) hand

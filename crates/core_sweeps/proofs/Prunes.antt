@@ -1,27 +1,22 @@
 -- A pruning, slot by slot, on a hand.
-use Rattle.std.proofs.Common.{◌≡◌, ℕ, ◌+◌, ◌<◌, ◌≤◌, ◌^◌, Bool, true, false, cond, not, ◌&&◌, ◌||◌, ◌==◌, List, [], ◌∷◌, Option, None, Some, is_none, length, refl, sym, ap, ◌∙◌, subst, arith}
-use Rattle.std.specs.Prelude.{IfSome, bytes_eq, codes, nat_lt, slice_get}
+use Rattle.std.proofs.Common.{◌≡◌, ℕ, ◌+◌, ◌<◌, ◌≤◌, ◌^◌, true, false, ◌&&◌, ◌||◌, ◌==◌, List, [], ◌∷◌, Option, None, Some, length, refl, sym, ap, ◌∙◌, subst, arith}
+use Rattle.std.specs.Prelude.{IfSome, slice_get}
+use Rattle.block_body.proofs.Keyed.{fits-has_key}
 use Rattle.block_body.specs.Changes.{IsNextVersioned, key_left}
 use Rattle.block_body.specs.Keys.{HasKey}
 use Rattle.block_spec.specs.Bodies.{Body, dropped_from, is_empty, pruned_in, slot_in}
 use Rattle.block_spec.specs.declared.change.Before.{Before}
 use Rattle.block_spec.specs.Slots.{Row, Slot, bare, laid_back, taken_back}
-use Rattle.cell_model.specs.declared.cell.Cell.{Cell}
-use Rattle.cell_model.specs.declared.cell.Cell.TheVariants as cell
 use Rattle.cell_model.specs.declared.column.Column.{Column}
-use Rattle.cell_model.specs.declared.kind.Kind.{Kind}
-use Rattle.cell_model.specs.declared.kind.Kind.TheVariants as kind
-use Rattle.cell_model.specs.declared.row.RowFault.{RowFault}
-use Rattle.cell_model.specs.declared.row.RowFault.TheVariants as fault
-use Rattle.cell_model.specs.Rows.{Fits, cell_fault, first_fault}
-use Rattle.cell_model.specs.Schemas.{IsSchema, begins_with_key, is_i64}
-use Rattle.cell_model.specs.Values.{byte_length, is_integer_of, most_bytes}
+use Rattle.cell_model.specs.Rows.{Fits}
+use Rattle.cell_model.specs.Schemas.{IsSchema, begins_with_key}
 use Rattle.core_parts.proofs.Changing.{after_twice}
 use Rattle.core_parts.proofs.Telling.{a_body, body_is, from_one, has_body, has_head, has_shard, room}
 use Rattle.core_parts.specs.Hands.{Has, Held, Makes, MayRun, after, in_hand}
 use Rattle.core_sweeps.proofs.Dropping.{first_dropped, last_pruned, one_slot_more}
 use Rattle.core_sweeps.proofs.Handing.{after_then, body_in_after, body_in_changed, body_is_in, first_same, has_still, room_still}
 use Rattle.core_sweeps.specs.Steps.{AreDropped, IsDropped, body_changed, body_in, dropped_at, dropped_to, head_changed, pruned_by, with_gain}
+use Rattle.event_laws.proofs.Fitting.{current_fits}
 use Rattle.event_laws.proofs.Slots.{num_refl}
 use Rattle.event_spec.specs.declared.event.Event.TheVariants as event
 use Rattle.event_spec.specs.declared.part.Part.TheVariants as part
@@ -31,76 +26,22 @@ use Rattle.event_spec.specs.Parts.{CorePart, Shape, Name, HeadOf, ShardOf, BodyO
 use Rattle.event_spec.specs.Replay.{columns_in}
 use Rattle.event_spec.specs.SlotSound.{VersionsFit}
 use Rattle.frame_laws.proofs.Distinct.{part_is}
-use Rattle.frame_laws.proofs.Looks.{name_self, or_left, true_false}
+use Rattle.frame_laws.proofs.Looks.{name_self, or_left}
 use Rattle.sound_laws.proofs.Calm.{index_all}
 use Rattle.undo_chain.specs.declared.undo.Undo.{Undo}
 
 -- ---- the key of a version
 
-both : (a b : Bool) → (a && b) ≡ true → (a ≡ true) × (b ≡ true)
-both true b e = (refl, e)
-both false b e = absurd (true_false (sym e))
-
--- a row that fits a table has a key
-fits_key : (columns : List Column) (row : Row) → begins_with_key columns ≡ true → Fits columns row → HasKey row
-fits_key [] row key fits = absurd (true_false (sym key))
-fits_key (column ∷ columns) row key fits = go (length row == length (column ∷ columns)) row fits
-  where
-    number : column.kind ≡ kind.I64
-    number = is (column.kind) (both (bytes_eq column.name (codes "key")) (is_i64 column.kind) (both (bytes_eq column.name (codes "key") && is_i64 column.kind) (not column.nullable) key).0).1
-      where
-        is : (k : Kind) → is_i64 k ≡ true → k ≡ kind.I64
-        is kind.I64 e = refl
-        is kind.I8 e = absurd (true_false (sym e))
-        is kind.I16 e = absurd (true_false (sym e))
-        is kind.I32 e = absurd (true_false (sym e))
-        is kind.U8 e = absurd (true_false (sym e))
-        is kind.U16 e = absurd (true_false (sym e))
-        is kind.U32 e = absurd (true_false (sym e))
-        is kind.U64 e = absurd (true_false (sym e))
-        is kind.Bool e = absurd (true_false (sym e))
-        is kind.Utf8 e = absurd (true_false (sym e))
-        is kind.Binary e = absurd (true_false (sym e))
-
-    first_none : (f rest : Option RowFault) → cond (is_none f) rest f ≡ None → f ≡ None
-    first_none None rest e = refl
-    first_none (Some x) rest e = e
-
-    within : (b : Bool) (x : RowFault) (rest : Option RowFault) → cond (not b) (Some x) rest ≡ None → b ≡ true
-    within true x rest e = refl
-    within false x rest e = cc
-
-    one : (cell : Cell) (cells : Row) → cell_fault 0 column cell ≡ None → HasKey (cell ∷ cells)
-    one cell.Null cells e = refl
-    one (cell.Num n) cells e =
-        subst (λ k. is_integer_of k n ≡ true) number
-        (within (is_integer_of column.kind n) (fault.RangeAt 0) (cond (nat_lt most_bytes (byte_length (cell.Num n))) (Some (fault.LongAt 0)) None) e)
-    one (cell.Truth truth) cells e = refl
-    one (cell.Text text) cells e = refl
-    one (cell.Blob bytes) cells e = refl
-
-    go : (b : Bool) (row : Row) → cond b (first_fault 0 (column ∷ columns) row) (Some fault.Arity) ≡ None → HasKey row
-    go b [] e = refl
-    go false (cell ∷ cells) e = absurd (never e)
-      where
-        never : Some fault.Arity ≡ None → ⊥
-        never x = cc
-    go true (cell ∷ cells) e = one cell cells (first_none (cell_fault 0 column cell) (first_fault (0 + 1) columns cells) e)
-
-pub first_fits : (columns : List Column) (row : Option Row) (es : List (Undo Before)) → VersionsFit columns row es → IfSome row (Fits columns)
-first_fits columns row [] fit = fit
-first_fits columns row (e ∷ es) fit = fit.0
-
 pub keyed : (columns : List Column) (row : Option Row) → begins_with_key columns ≡ true → IfSome row (Fits columns) → IfSome row HasKey
 keyed columns None key fit = fit
-keyed columns (Some row) key fit = fits_key columns row key fit
+keyed columns (Some row) key fit = fits-has_key columns row key fit
 
 taken_key : (columns : List Column) (slot : Slot) → begins_with_key columns ≡ true → VersionsFit columns slot.row slot.entries → IfSome (taken_back slot).row HasKey
 taken_key columns slot key fit = go slot.row slot.entries fit
   where
     go : (row : Option Row) (es : List (Undo Before)) → VersionsFit columns row es → IfSome (taken_back (record { row = row; entries = es })).row HasKey
     go row [] fit = keyed columns row key fit
-    go row (e ∷ es) fit = keyed columns (laid_back row e.before) key (first_fits columns (laid_back row e.before) es fit.2)
+    go row (e ∷ es) fit = keyed columns (laid_back row e.before) key (current_fits columns (laid_back row e.before) es fit.2)
 
 -- ---- parts that are touched
 

@@ -10,6 +10,7 @@ use Rattle.core_parts.specs.Hands.{Held, Makes, MayRun, in_hand}
 use Rattle.core_sweeps.proofs.Dropping.{first_dropped, last_pruned}
 use Rattle.core_sweeps.proofs.Handing.{first_same}
 use Rattle.core_sweeps.proofs.Prunes.{part_there}
+use Rattle.event_laws.proofs.ByKind.{rests_at}
 use Rattle.event_laws.proofs.Slots.{num}
 use Rattle.event_spec.specs.declared.event.Event.TheVariants as event
 use Rattle.event_spec.specs.declared.part.Head.{Head}
@@ -17,9 +18,10 @@ use Rattle.event_spec.specs.declared.part.Part.TheVariants as part
 use Rattle.event_spec.specs.declared.reply.Reply.TheVariants as reply
 use Rattle.event_spec.specs.Effects.{at_both, changes_of, with_empty}
 use Rattle.event_spec.specs.Lawful.{HasBlock}
-use Rattle.event_spec.specs.Parts.{CorePart, Parts, Shape, Name, HeadOf, ShardOf, BodyOf, TheDesk, blocks_of, body_at, body_from, changed, head_at, head_from, names, part_at}
+use Rattle.event_spec.specs.Parts.{CorePart, Parts, Shape, Name, HeadOf, ShardOf, BodyOf, blocks_of, body_at, body_from, changed, head_at, head_from, names, part_at}
 use Rattle.frame_laws.proofs.Makes.{head_is_there}
 use Rattle.frame_laws.specs.Shards.{CoreHolds}
+use Rattle.key_index.specs.Candidates.{Places}
 use Rattle.part_changes.proofs.Heads.{knowing_rests}
 use Rattle.sound_laws.proofs.Bodies.{and_parts, quiet_none}
 use Rattle.undo_chain.specs.declared.undo.Undo.{Undo}
@@ -92,25 +94,17 @@ module _ (sh : Shape) (s : Parts) (holds : CoreHolds sh s) (t b oldest : ℕ) (h
 
   -- each part of the core is after the event what it was
   parts_rest : (n : Name) (x : CorePart) → part_at sh s n ≡ Some x → changed (changes_of sh s (event.Prune t b oldest)) n x ≡ x
-  parts_rest (HeadOf u) (part.Head x) is =
-      ap part.Head (either_rests (u == t) (with_empty (blocks_of sh u) (λ d. is_empty (at_both t b (pruned_in oldest) u d (body_at sh s u d))) x) x (heads_rest u x is))
-  parts_rest (HeadOf u) (part.Shard x) is = refl
-  parts_rest (HeadOf u) (part.Body x) is = refl
-  parts_rest (HeadOf u) (part.Desk x) is = refl
-  parts_rest (ShardOf u i) (part.Head x) is = refl
-  parts_rest (ShardOf u i) (part.Shard x) is =
-      sym (last_pruned sh s holds.measures holds.sound holds.shards t b oldest has 0 (λ j from. quiet_none (body_at sh s t b).slots j quiet) (ShardOf u i) (part.Shard x) is)
-      ∙ first_dropped sh s holds.measures holds.sound holds.shards t b oldest has (ShardOf u i) (part.Shard x) is
-  parts_rest (ShardOf u i) (part.Body x) is = refl
-  parts_rest (ShardOf u i) (part.Desk x) is = refl
-  parts_rest (BodyOf u d) (part.Head x) is = refl
-  parts_rest (BodyOf u d) (part.Shard x) is = refl
-  parts_rest (BodyOf u d) (part.Body x) is = ap part.Body (subst (λ (x : Body). at_both t b (pruned_in oldest) u d x ≡ x) (ap body_from is) (bodies_rest u d))
-  parts_rest (BodyOf u d) (part.Desk x) is = refl
-  parts_rest TheDesk (part.Head x) is = refl
-  parts_rest TheDesk (part.Shard x) is = refl
-  parts_rest TheDesk (part.Body x) is = refl
-  parts_rest TheDesk (part.Desk x) is = refl
+  parts_rest = rests_at (λ n x. part_at sh s n ≡ Some x) (changes_of sh s (event.Prune t b oldest)) (record {
+    head = λ u x is. either_rests (u == t) (with_empty (blocks_of sh u) (λ d. is_empty (at_both t b (pruned_in oldest) u d (body_at sh s u d))) x) x (heads_rest u x is);
+    shard = λ u i x is. the_shard u i x
+        (sym (last_pruned sh s holds.measures holds.sound holds.shards t b oldest has 0 (λ j from. quiet_none (body_at sh s t b).slots j quiet) (ShardOf u i) (part.Shard x) is)
+        ∙ first_dropped sh s holds.measures holds.sound holds.shards t b oldest has (ShardOf u i) (part.Shard x) is);
+    body = λ u d x is. subst (λ (x : Body). at_both t b (pruned_in oldest) u d x ≡ x) (ap body_from is) (bodies_rest u d);
+    desk = λ x is. refl;
+  })
+    where
+      the_shard : (u i : ℕ) (x : Places) → changed (changes_of sh s (event.Prune t b oldest)) (ShardOf u i) (part.Shard x) ≡ part.Shard x → (changes_of sh s (event.Prune t b oldest)).shard u i x ≡ x
+      the_shard u i x e = cc
 
 -- ---- a hand
 

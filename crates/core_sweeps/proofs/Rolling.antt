@@ -5,12 +5,14 @@ use Rattle.std.specs.Prelude.{filter, All, IfNone}
 use Rattle.std.specs.List.{list_all, list_any}
 use Rattle.std.specs.FinMap as finite
 use Rattle.std.proofs.lemmas.List.Elements.{All-head, All-tail}
+use Rattle.std.proofs.lemmas.List.Folds.{list_any-append}
 use Rattle.block_layout.specs.Place.{block_of, slot_of}
 use Rattle.block_spec.specs.Bodies.{Body, is_empty, is_writer, is_written_by, modified, rolled_back_in, slot_in}
 use Rattle.block_spec.specs.declared.change.Before.{Before}
 use Rattle.block_spec.specs.Slots.{Slot, bare, has_none, is_bare, rolled_back, writer_of}
 use Rattle.core_sweeps.specs.Steps.{is_left, is_rolled, is_undone, rolled, undone, undone_so_far, with_gain, without_bare}
 use Rattle.event_laws.proofs.Aborted.{rolled_slot}
+use Rattle.event_laws.proofs.ByKind.{rests_at, twice_at}
 use Rattle.event_laws.proofs.Lists.{member_below}
 use Rattle.event_laws.proofs.Naming.{body_is_there, body_there, follows_machine}
 use Rattle.event_laws.proofs.Owners.{all_slots}
@@ -21,7 +23,7 @@ use Rattle.event_spec.specs.declared.part.Head.{Head}
 use Rattle.event_spec.specs.declared.part.Part.TheVariants as part
 use Rattle.event_spec.specs.Effects.{after_abort, closed, kept_places, with_empty}
 use Rattle.event_spec.specs.Lawful.{Among, HasBlock, HasTable, OwnsAll}
-use Rattle.event_spec.specs.Parts.{CorePart, Parts, Shape, Name, HeadOf, ShardOf, BodyOf, TheDesk, below, blocks_of, body_at, body_from, changed, desk_at, head_at, head_from, nothing, part_at, places_at, shard_from, shard_of, slot_at}
+use Rattle.event_spec.specs.Parts.{CorePart, Parts, Shape, Name, HeadOf, ShardOf, BodyOf, below, blocks_of, body_at, body_from, changed, desk_at, head_at, head_from, nothing, part_at, places_at, shard_from, shard_of, slot_at}
 use Rattle.event_spec.specs.Sound.{IsShape, Sound}
 use Rattle.frame_laws.proofs.Frames.{abort_stays, written_passes}
 use Rattle.frame_laws.proofs.Looks.{and_true, true_false}
@@ -42,18 +44,6 @@ use Rattle.undo_chain.specs.Lawful.{IsLawful, IsWriteOrStamped}
 
 -- ---- tests
 
-any_more : {X : Type 0} (test : X → Bool) (xs : List X) (x : X) → list_any test (xs ++ x ∷ []) ≡ (list_any test xs || test x)
-any_more test [] x = or_none (test x)
-  where
-    or_none : (b : Bool) → (b || false) ≡ b
-    or_none true = refl
-    or_none false = refl
-any_more test (y ∷ xs) x = ap (λ b. test y || b) (any_more test xs x) ∙ regroup (test y) (list_any test xs) (test x)
-  where
-    regroup : (a b c : Bool) → (a || (b || c)) ≡ ((a || b) || c)
-    regroup true b c = refl
-    regroup false b c = refl
-
 or_true : (b : Bool) → (b || true) ≡ true
 or_true true = refl
 or_true false = refl
@@ -61,6 +51,10 @@ or_true false = refl
 or_none : (b : Bool) → (b || false) ≡ b
 or_none true = refl
 or_none false = refl
+
+-- a test of a list with one element more
+pub any_more : {X : Type 0} (test : X → Bool) (xs : List X) (x : X) → list_any test (xs ++ x ∷ []) ≡ (list_any test xs || test x)
+any_more test xs x = list_any-append test xs (x ∷ []) ∙ ap (λ b. list_any test xs || b) (or_none (test x))
 
 pub differs : (a b : ℕ) → a ≢ b → (a == b) ≡ false
 differs a b ne = go (a == b) refl
@@ -253,22 +247,8 @@ module _ (sh : Shape) (s : Parts) (shape : IsShape sh) (ok : Sound sh s) (shards
   first_shard t i x is = sweep_rests i x (λ p. not (false && is_left sh s own.session t p)) (shards t i x is) (λ key p a. refl)
 
   pub at_first : (n : Name) (x : CorePart) → part_at sh s n ≡ Some x → changed (undone_so_far sh s own.session []) n x ≡ x
-  at_first (HeadOf t) (part.Head x) is = ap part.Head (first_head t x is)
-  at_first (HeadOf t) (part.Shard x) is = refl
-  at_first (HeadOf t) (part.Body x) is = refl
-  at_first (HeadOf t) (part.Desk x) is = refl
-  at_first (ShardOf t i) (part.Head x) is = refl
-  at_first (ShardOf t i) (part.Shard x) is = ap part.Shard (first_shard t i x is)
-  at_first (ShardOf t i) (part.Body x) is = refl
-  at_first (ShardOf t i) (part.Desk x) is = refl
-  at_first (BodyOf t b) (part.Head x) is = refl
-  at_first (BodyOf t b) (part.Shard x) is = refl
-  at_first (BodyOf t b) (part.Body x) is = refl
-  at_first (BodyOf t b) (part.Desk x) is = refl
-  at_first TheDesk (part.Head x) is = refl
-  at_first TheDesk (part.Shard x) is = refl
-  at_first TheDesk (part.Body x) is = refl
-  at_first TheDesk (part.Desk x) is = refl
+  at_first = rests_at (λ n x. part_at sh s n ≡ Some x) (undone_so_far sh s own.session [])
+      (record { head = first_head; shard = first_shard; body = λ t b x is. refl; desk = λ x is. refl })
 
   -- ---- one write more
 
@@ -453,22 +433,9 @@ module _ (sh : Shape) (s : Parts) (shape : IsShape sh) (ok : Sound sh s) (shards
 
     pub one_more : (n : Name) (x : CorePart) → part_at sh s n ≡ Some x
         → changed (undone t key p own.session (rolled_back_in own.session (body_at sh s t (block_of p)))) n (changed (undone_so_far sh s own.session done) n x) ≡ changed (undone_so_far sh s own.session (done ++ (place_at t key, p) ∷ [])) n x
-    one_more (HeadOf u) (part.Head x) is = ap part.Head (head_step u x is)
-    one_more (HeadOf u) (part.Shard x) is = refl
-    one_more (HeadOf u) (part.Body x) is = refl
-    one_more (HeadOf u) (part.Desk x) is = refl
-    one_more (ShardOf u i) (part.Head x) is = refl
-    one_more (ShardOf u i) (part.Shard x) is = ap part.Shard (shard_step u i x is)
-    one_more (ShardOf u i) (part.Body x) is = refl
-    one_more (ShardOf u i) (part.Desk x) is = refl
-    one_more (BodyOf u b) (part.Head x) is = refl
-    one_more (BodyOf u b) (part.Shard x) is = refl
-    one_more (BodyOf u b) (part.Body x) is = ap part.Body (body_step u b x is)
-    one_more (BodyOf u b) (part.Desk x) is = refl
-    one_more TheDesk (part.Head x) is = refl
-    one_more TheDesk (part.Shard x) is = refl
-    one_more TheDesk (part.Body x) is = refl
-    one_more TheDesk (part.Desk x) is = refl
+    one_more = twice_at (λ n x. part_at sh s n ≡ Some x) (undone_so_far sh s own.session done) (undone t key p own.session (rolled_back_in own.session (body_at sh s t (block_of p))))
+        (undone_so_far sh s own.session (done ++ (place_at t key, p) ∷ []))
+        (record { head = head_step; shard = shard_step; body = body_step; desk = λ x is. refl })
 
   -- ---- at the end
 
@@ -528,19 +495,5 @@ module _ (sh : Shape) (s : Parts) (shape : IsShape sh) (ok : Sound sh s) (shards
 
   pub at_last : (n : Name) (x : CorePart) → part_at sh s n ≡ Some x
       → changed (record nothing { desk = closed own.session }) n (changed (undone_so_far sh s own.session own.writes) n x) ≡ changed (after_abort sh s own) n x
-  at_last (HeadOf t) (part.Head x) is = ap part.Head (last_head t x is)
-  at_last (HeadOf t) (part.Shard x) is = refl
-  at_last (HeadOf t) (part.Body x) is = refl
-  at_last (HeadOf t) (part.Desk x) is = refl
-  at_last (ShardOf t i) (part.Head x) is = refl
-  at_last (ShardOf t i) (part.Shard x) is = ap part.Shard (last_shard t i x is)
-  at_last (ShardOf t i) (part.Body x) is = refl
-  at_last (ShardOf t i) (part.Desk x) is = refl
-  at_last (BodyOf t b) (part.Head x) is = refl
-  at_last (BodyOf t b) (part.Shard x) is = refl
-  at_last (BodyOf t b) (part.Body x) is = ap part.Body (last_body t b x is)
-  at_last (BodyOf t b) (part.Desk x) is = refl
-  at_last TheDesk (part.Head x) is = refl
-  at_last TheDesk (part.Shard x) is = refl
-  at_last TheDesk (part.Body x) is = refl
-  at_last TheDesk (part.Desk x) is = refl
+  at_last = twice_at (λ n x. part_at sh s n ≡ Some x) (undone_so_far sh s own.session own.writes) (record nothing { desk = closed own.session }) (after_abort sh s own)
+      (record { head = last_head; shard = last_shard; body = last_body; desk = λ x is. refl })

@@ -1,3 +1,4 @@
+pub mod ByKind
 pub mod States
 pub mod Places
 pub mod Lists

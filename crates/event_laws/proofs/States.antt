@@ -1,4 +1,5 @@
 -- The parts after an event, name by name.
+use Rattle.event_laws.proofs.ByKind.{twice_at}
 use Rattle.event_spec.specs.Parts.{CorePart, Parts, Shape, Name, HeadOf, ShardOf, BodyOf, TheDesk, same_name, names, part_named, Changes, changed, each_changed, shard_from, body_from, desk_from, slot_at, places_at, desk_at, body_at, shard_of}
 use Rattle.event_laws.specs.Named.{KindIf, shard_at}
 use Rattle.std.proofs.Common.{◌≡◌, ◌⊎◌, ℕ, zero, suc, ◌<◌, ℤ, Bool, true, false, cond, ◌&&◌, ◌==◌, List, [], ◌∷◌, Option, None, Some, option_map, length, map, get_or, refl, sym, ap, ◌∙◌, arith, subst}
@@ -64,23 +65,9 @@ pub record IsTwice (c d e : Changes) : Type 0 where
   pub body : (t b : ℕ) (x : Body) → e.body t b x ≡ d.body t b (c.body t b x)
   pub desk : (x : DeskState) → e.desk x ≡ d.desk (c.desk x)
 
-changed_twice : (c d e : Changes) → IsTwice c d e → (n : Name) (piece : CorePart) → changed e n piece ≡ changed d n (changed c n piece)
-changed_twice c d e is (HeadOf t) (part.Head x) = ap part.Head (is.head t x)
-changed_twice c d e is (HeadOf t) (part.Shard x) = refl
-changed_twice c d e is (HeadOf t) (part.Body x) = refl
-changed_twice c d e is (HeadOf t) (part.Desk x) = refl
-changed_twice c d e is (ShardOf t i) (part.Head x) = refl
-changed_twice c d e is (ShardOf t i) (part.Shard x) = ap part.Shard (is.shard t i x)
-changed_twice c d e is (ShardOf t i) (part.Body x) = refl
-changed_twice c d e is (ShardOf t i) (part.Desk x) = refl
-changed_twice c d e is (BodyOf t b) (part.Head x) = refl
-changed_twice c d e is (BodyOf t b) (part.Shard x) = refl
-changed_twice c d e is (BodyOf t b) (part.Body x) = ap part.Body (is.body t b x)
-changed_twice c d e is (BodyOf t b) (part.Desk x) = refl
-changed_twice c d e is TheDesk (part.Head x) = refl
-changed_twice c d e is TheDesk (part.Shard x) = refl
-changed_twice c d e is TheDesk (part.Body x) = refl
-changed_twice c d e is TheDesk (part.Desk x) = ap part.Desk (is.desk x)
+pub changed_twice : (c d e : Changes) → IsTwice c d e → (n : Name) (piece : CorePart) → changed e n piece ≡ changed d n (changed c n piece)
+changed_twice c d e is n piece = sym (twice_at (λ n x. Unit {0}) c d e
+    (record { head = λ t x h. sym (is.head t x); shard = λ t i x h. sym (is.shard t i x); body = λ t b x h. sym (is.body t b x); desk = λ x h. sym (is.desk x) }) n piece tt)
 
 pub each_twice : (c d e : Changes) → IsTwice c d e → (ns : List Name) (s : Parts) → each_changed e ns s ≡ each_changed d ns (each_changed c ns s)
 each_twice c d e is [] s = refl

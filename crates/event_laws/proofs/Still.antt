@@ -1,32 +1,13 @@
 -- What changes no part, and what changes the desk alone.
 use Rattle.std.proofs.Common.{◌≡◌, List, [], ◌∷◌, refl, sym, ap, ◌∙◌, subst}
 use Rattle.block_layout.specs.Place.{block_of}
+use Rattle.event_laws.proofs.ByKind.{nothing_changes}
 use Rattle.event_laws.proofs.States.{kinds_after, shards_after, desk_after, desk_at_after, slot_after, places_stay, carried}
 use Rattle.event_laws.specs.Named.{FollowsMachine}
-use Rattle.event_spec.specs.declared.part.Part.TheVariants as part
 use Rattle.event_spec.specs.Follows.{Follows}
-use Rattle.event_spec.specs.Parts.{CorePart, Parts, Shape, Name, HeadOf, ShardOf, BodyOf, TheDesk, nothing, changed, each_changed, names, slot_at, places_at, desk_at, shard_of}
+use Rattle.event_spec.specs.Parts.{Parts, Shape, Name, ShardOf, BodyOf, nothing, each_changed, names, slot_at, places_at, desk_at, shard_of}
 use Rattle.isolation_spec.specs.Machine.{IsolationMachine}
 use Rattle.txn_desk.specs.Desk.{DeskState}
-
--- no change leaves each piece
-nothing_changes : (n : Name) (piece : CorePart) → changed nothing n piece ≡ piece
-nothing_changes (HeadOf t) (part.Head x) = refl
-nothing_changes (HeadOf t) (part.Shard x) = refl
-nothing_changes (HeadOf t) (part.Body x) = refl
-nothing_changes (HeadOf t) (part.Desk x) = refl
-nothing_changes (ShardOf t i) (part.Head x) = refl
-nothing_changes (ShardOf t i) (part.Shard x) = refl
-nothing_changes (ShardOf t i) (part.Body x) = refl
-nothing_changes (ShardOf t i) (part.Desk x) = refl
-nothing_changes (BodyOf t b) (part.Head x) = refl
-nothing_changes (BodyOf t b) (part.Shard x) = refl
-nothing_changes (BodyOf t b) (part.Body x) = refl
-nothing_changes (BodyOf t b) (part.Desk x) = refl
-nothing_changes TheDesk (part.Head x) = refl
-nothing_changes TheDesk (part.Shard x) = refl
-nothing_changes TheDesk (part.Body x) = refl
-nothing_changes TheDesk (part.Desk x) = refl
 
 pub all_stay : (ns : List Name) (s : Parts) → each_changed nothing ns s ≡ s
 all_stay [] s = refl

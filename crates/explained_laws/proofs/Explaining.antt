@@ -21,7 +21,7 @@ use Rattle.isolation_spec.specs.Machine.{IsolationMachine}
 use Rattle.isolation_spec.specs.Machine as machine
 use Rattle.outcome_spec.specs.Entries.{Entry}
 use Rattle.outcome_spec.specs.Explained.{Explained}
-use Rattle.outcome_spec.specs.Forms.{Due, is_seal_or_gather, is_silent, is_worker}
+use Rattle.outcome_spec.specs.Forms.{Due, dues_of, is_seal_or_gather, is_silent, is_worker}
 use Rattle.timeline_laws.proofs.Scripts.{run-explained}
 use Rattle.timeline_spec.specs.Forms.{AllMayStand, MayAnswer, MayStand}
 use Rattle.workload_spec.specs.declared.command.Command.{Command}
@@ -33,7 +33,7 @@ use Rattle.workload_spec.specs.Valid.{have_own_names, is_table, is_valid, is_wit
 use Rattle.run_spec.specs.Asked.{at_all_blocks, at_blocks}
 use Rattle.run_spec.specs.Calls.{Call, line_to}
 use Rattle.run_spec.specs.Occurrences.{Logged, Occurrence, occurrence_of, occurrences_from}
-use Rattle.run_spec.specs.Ran.{RoundRun, Share, shape_of, told_in}
+use Rattle.run_spec.specs.Ran.{Ran, RoundRun, Share, shape_of, told_in}
 use Rattle.run_spec.specs.Told.{cause_told, told_by}
 use Rattle.ran_laws.proofs.Along.{and_first, and_second, named}
 use Rattle.ran_laws.proofs.Dues.{calls_answer}
@@ -61,9 +61,9 @@ true_false e = cc
 -- ---- silence
 
 -- a worker's seal or gathering alone is silent, and what is told is not
-record Loud (worker : Bool) (asked : Command) (told : Option Said) : Type 0 where
-  silent : told ≡ None → (worker && is_seal_or_gather asked) ≡ true
-  loud : (line : Said) → told ≡ Some line → (worker && is_silent line) ≡ false
+pub record Loud (worker : Bool) (asked : Command) (told : Option Said) : Type 0 where
+  pub silent : told ≡ None → (worker && is_seal_or_gather asked) ≡ true
+  pub loud : (line : Said) → told ≡ Some line → (worker && is_silent line) ≡ false
 
 same_line : (a b : Said) → Some a ≡ Some b → a ≡ b
 same_line a b e = cc
@@ -83,7 +83,8 @@ plain_loud (said.NotSealed cause) e = absurd (true_false (sym e))
 plain_loud said.NotFrozen e = absurd (true_false (sym e))
 plain_loud _ e = refl
 
-plain_or_moved : (worker : Bool) (asked : Command) (told : Option Said) (line : Said) → told ≡ Some line → (is_plain line ≡ true) ⊎ (line ≡ said.Moved 0) → Loud worker asked told
+-- a plain line is loud, and so is one of a move of nothing
+pub plain_or_moved : (worker : Bool) (asked : Command) (told : Option Said) (line : Said) → told ≡ Some line → (is_plain line ≡ true) ⊎ (line ≡ said.Moved 0) → Loud worker asked told
 plain_or_moved worker asked told line is (inl plain) = loud_line worker asked told line is (plain_loud line plain)
 plain_or_moved worker asked told line is (inr moved) = loud_line worker asked told line is (ap is_silent moved)
 
@@ -126,7 +127,8 @@ module _ (shape : Shape) (parts : Parts) (worker : Bool) (made : List Occurrence
   image_hush table block false (Imaged g) body seal is = may_hush worker asked told said.NotFrozen seal is
   image_hush table block false (Sealed g) body seal is = may_hush worker asked told (said.Frozen table block (length (Rattle.block_spec.specs.Bodies.rows_of body))) seal is
 
-  event_loud : (e : CoreEvent) (refused : Bool) → TellsAt worker made e (cond refused reply.Memory (reply_to shape parts e)) asked told → Loud worker asked told
+  -- so is what an event tells
+  pub event_loud : (e : CoreEvent) (refused : Bool) → TellsAt worker made e (cond refused reply.Memory (reply_to shape parts e)) asked told → Loud worker asked told
   event_loud (event.Begin session) true h = memory_loud h.1
   event_loud (event.Begin session) false h = loud_line worker asked told (said.At (desk_at shape parts).commits) (h.1 ∙ not_silent worker (said.At (desk_at shape parts).commits) refl) refl
   event_loud (event.Get own table key) refused h = quiet_loud worker asked made told h
@@ -155,11 +157,11 @@ module _ (shape : Shape) (parts : Parts) (worker : Bool) (made : List Occurrence
 
 -- ---- what answers a due
 
-abbrev pub Answered : Who → Call → Type 0
+abbrev Answered : Who → Call → Type 0
 Answered who call = (number : ℕ) → MayAnswer (due_of number who call) call.told
 
 -- where its pruning's count fits
-abbrev pub AnswersIf : Who → Call → Type 0
+abbrev AnswersIf : Who → Call → Type 0
 AnswersIf who call = ((count : ℕ) → call.told ≡ Some (said.Pruned count) → count < 2 ^ 64) → Answered who call
 
 answered : (who : Who) (call : Call) → Loud (is_worker who) call.command call.told → ((line : Said) → call.told ≡ Some line → MayStand call.command line) → Answered who call
@@ -341,13 +343,18 @@ rounds_stand number (round ∷ rounds) each fit =
     (rounds_stand (number + 1) rounds each.1
     (λ count a. fit count (among_right (Some (said.Pruned count)) (flat_map (λ (share : Share). map (λ (call : Call). call.told) share.calls) round.shares) (told_in rounds) a)))
 
-pub runs_are_explained : RunsAreExplained
-runs_are_explained script log text valid ran fit =
+-- What is told in a run may stand as what is due.
+pub told_stands : (script : Script) (log : List Logged) (text : List ℕ) → is_valid script ≡ true → (ran : Ran script log text) → PruningsFit (told_in ran.rounds)
+    → AllMayStand (dues_of script) (told_in ran.rounds)
+told_stands script log text valid ran fit =
     let moments = runs_have_moments script log text ran in
     let each = all_answer script valid (moments_of script ran.rounds) log (opening (shape_of script)) [] machine.opening []
     (holds_first script (is_shape script valid)) ran.lawful (run_named script log text ran) moments.calls moments.events in
-    let stand = subst (λ dues. AllMayStand dues (told_in ran.rounds)) (sym (calls_answer script ran.rounds ran.asked))
-    (rounds_stand 1 ran.rounds (each_call script log text ran AnswersIf each) fit) in
+    subst (λ dues. AllMayStand dues (told_in ran.rounds)) (sym (calls_answer script ran.rounds ran.asked))
+    (rounds_stand 1 ran.rounds (each_call script log text ran AnswersIf each) fit)
+
+pub runs_are_explained : RunsAreExplained
+runs_are_explained script log text valid ran fit =
     subst (Explained script) (sym ran.printed)
-    (run-explained script (told_in ran.rounds) (replies_at (moments_of script ran.rounds)) valid stand
+    (run-explained script (told_in ran.rounds) (replies_at (moments_of script ran.rounds)) valid (told_stands script log text valid ran fit)
     (runs_give_timelines script log text valid ran))

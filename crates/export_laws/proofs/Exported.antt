@@ -3,11 +3,10 @@ use Rattle.std.proofs.Common.{◌≡◌, ℕ, List, [], Option, Ok, refl, sym, a
 use Rattle.std.specs.Prelude.{Result, unwrap_or}
 use Rattle.std.specs.Result.{result_ok}
 use Rattle.event_spec.specs.Replay.{opening}
-use Rattle.explained_laws.proofs.Explaining.{AnswersIf}
+use Rattle.explained_laws.proofs.Explaining.{told_stands}
 use Rattle.explained_laws.proofs.Holding.{holds_first}
 use Rattle.explained_laws.proofs.Scripts.{is_shape}
 use Rattle.explained_laws.proofs.Walk.{runs_give_timelines}
-use Rattle.export_laws.proofs.Answering.{rounds_stand}
 use Rattle.export_laws.proofs.Lines.{each_says}
 use Rattle.export_laws.proofs.Sent.{lines_of_calls}
 use Rattle.export_laws.proofs.Walking.{Says, all_say}
@@ -15,19 +14,17 @@ use Rattle.export_laws.specs.Laws.{ExportsAreSaid}
 use Rattle.export_spec.specs.Calls.{SendsBy}
 use Rattle.export_spec.specs.Sent.{EachSays}
 use Rattle.isolation_spec.specs.Machine as machine
-use Rattle.moment_laws.proofs.Rounds.{each_call, runs_have_moments}
+use Rattle.moment_laws.proofs.Rounds.{runs_have_moments}
 use Rattle.moment_laws.specs.Moments.{moments_of, replies_at}
 use Rattle.outcome_spec.specs.Entries.{Entry}
 use Rattle.outcome_spec.specs.Explained.{replies_of, run_in}
 use Rattle.outcome_spec.specs.Runs.{Run, run_of}
-use Rattle.ran_laws.proofs.Dues.{calls_answer}
 use Rattle.ran_laws.proofs.Named.{run_named}
 use Rattle.run_spec.specs.Ran.{shape_of, told_in}
 use Rattle.timeline_laws.proofs.Histories.{each-only}
 use Rattle.timeline_laws.proofs.Order.{Each-printed}
 use Rattle.timeline_laws.proofs.Scripts.{timeline-read}
 use Rattle.timeline_laws.proofs.Walk.{shown-opening}
-use Rattle.timeline_spec.specs.Forms.{AllMayStand}
 use Rattle.timeline_spec.specs.Printed.{printed_of, text_of}
 use Rattle.timeline_spec.specs.Timeline.{Timeline}
 
@@ -37,7 +34,7 @@ exports_are_said script log text bytes valid ran fit sent =
     let printed : List Entry = printed_of script (told_in ran.rounds) in
     let moments = runs_have_moments script log text ran in
     let t : Timeline script.tables (printed_of script (told_in ran.rounds)) (replies_at (moments_of script ran.rounds)) = runs_give_timelines script log text valid ran in
-    let both = all_say script valid (printed_of script (told_in ran.rounds)) (replies_at (moments_of script ran.rounds)) t bytes (moments_of script ran.rounds)
+    let all = all_say script valid (printed_of script (told_in ran.rounds)) (replies_at (moments_of script ran.rounds)) t bytes (moments_of script ran.rounds)
     log (opening (shape_of script)) [] machine.opening []
     (holds_first script (is_shape script valid)) ran.lawful (run_named script log text ran) moments.calls moments.events
     (lines_of_calls (λ call. SendsBy script.tables call bytes) script ran.rounds sent.by_calls)
@@ -48,14 +45,12 @@ exports_are_said script log text bytes valid ran fit sent =
       last_is = refl;
       only = each-only script.tables (printed_of script (told_in ran.rounds)) (replies_at (moments_of script ran.rounds)) t;
     }) in
-    let stand = subst (λ dues. AllMayStand dues (told_in ran.rounds)) (sym (calls_answer script ran.rounds ran.asked))
-    (rounds_stand 1 ran.rounds (each_call script log text ran AnswersIf both.1) fit) in
     let read : replies_of script (text_of script (told_in ran.rounds)) ≡ Ok (printed_of script (told_in ran.rounds)) =
-    timeline-read script (told_in ran.rounds) (replies_at (moments_of script ran.rounds)) valid stand t in
+    timeline-read script (told_in ran.rounds) (replies_at (moments_of script ran.rounds)) valid (told_stands script log text valid ran fit) t in
     let shown : run_in script text ≡ run_of script.tables (printed_of script (told_in ran.rounds)) =
     ap (run_in script) ran.printed
     ∙ ap (λ (replies : Result (List Entry) ℕ). run_of script.tables (unwrap_or (result_ok replies) [])) read in
     let says = Each-printed (Says script valid (printed_of script (told_in ran.rounds)) (replies_at (moments_of script ran.rounds)) t bytes)
-    (printed_of script (told_in ran.rounds)) (replies_at (moments_of script ran.rounds)) t.threads both.0 in
+    (printed_of script (told_in ran.rounds)) (replies_at (moments_of script ran.rounds)) t.threads all in
     subst (λ (shown_run : Run). EachSays shown_run bytes shown_run.entries) (sym shown)
     (each_says (run_of script.tables (printed_of script (told_in ran.rounds))) bytes (printed_of script (told_in ran.rounds)) says)

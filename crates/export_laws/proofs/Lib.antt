@@ -8,7 +8,6 @@ pub mod Saying
 pub mod Once
 pub mod Lines
 pub mod Sent
-pub mod Answering
 pub mod Walking
 pub mod Exported
 pub mod Calling

@@ -1,9 +1,9 @@
--- Along the moments of a run: what each call was told may stand, and the line of an export says what was sent.
-use Rattle.std.proofs.Common.{◌≡◌, ◌⊎◌, ℕ, ◌+◌, ◌<◌, ◌≤◌, ◌^◌, Bool, true, false, cond, List, [], ◌∷◌, ◌++◌, map, Option, None, Some, refl, sym, ap, ◌∙◌, subst, arith}
+-- Along the moments of a run: the line of an export says what was sent.
+use Rattle.std.proofs.Common.{◌≡◌, ◌⊎◌, ℕ, ◌+◌, ◌<◌, ◌≤◌, Bool, true, false, cond, List, [], ◌∷◌, ◌++◌, map, Option, None, Some, refl, sym, ap, ◌∙◌, subst}
 use mathlib.Core.Logic.{inl, inr}
 use Rattle.std.specs.Prelude.{IfSome, option_and_then}
 use Rattle.std.specs.List.{cons_option}
-use Rattle.event_spec.specs.Parts.{Parts, blocks_of}
+use Rattle.event_spec.specs.Parts.{Parts}
 use Rattle.event_spec.specs.Replay.{IsLawfulFrom, after}
 use Rattle.isolation_spec.specs.Machine.{IsolationMachine}
 use Rattle.outcome_spec.specs.Entries.{Entry}
@@ -32,18 +32,14 @@ use Rattle.ran_laws.specs.Moments.{Lined, Moment, events_at}
 use Rattle.told_laws.proofs.Tells.{refusals_are_plain}
 use Rattle.told_laws.specs.Laws.{is_plain}
 use Rattle.moment_laws.proofs.Seats.{either, session_at, worker_at}
-use Rattle.moment_laws.specs.Laws.{AreMoments, EachEnds, Ends, GoesOn, IsPrinted, Stands, command_told, with_event}
+use Rattle.moment_laws.specs.Laws.{AreMoments, Ends, GoesOn, IsPrinted, Stands, command_told, with_event}
 use Rattle.moment_laws.specs.Moments.{replies_at, who_at, with_reply}
-use Rattle.explained_laws.proofs.Answering.{event_stands}
-use Rattle.explained_laws.proofs.Explaining.{AnswersIf}
+use Rattle.explained_laws.proofs.Explaining.{Loud, event_loud, plain_or_moved}
 use Rattle.explained_laws.proofs.Holding.{Holds}
-use Rattle.explained_laws.proofs.Scripts.{is_shape}
-use Rattle.explained_laws.proofs.Standing.{may_stand}
 use Rattle.explained_laws.proofs.Taking.{Ended, stays, takes}
 use Rattle.explained_laws.proofs.Walk.{after_held, alone_ended, alone_held, ended, first_is, moved, no_event, onward, rest_is, tells_at}
 use Rattle.export_spec.specs.Calls.{SendsAs, SendsBy}
 use Rattle.export_spec.specs.Sent.{SaysOfBytes}
-use Rattle.export_laws.proofs.Answering.{Loud, all_few, answered, event_loud, few_blocks, few_seats, plain_or_moved}
 use Rattle.export_laws.proofs.Lines.{Rest, rest_next, says_so}
 use Rattle.export_laws.proofs.Once.{change_once, others_stay}
 use Rattle.export_laws.proofs.Saying.{SaysBy, says_by}
@@ -133,13 +129,14 @@ module _ (script : Script) (valid : is_valid script ≡ true) (printed timeline 
     -- the line, and those behind it
     line_done : (ms : List Moment) (line : Option Entry) → IsPrinted (who_at script seat) call line → SendsBy script.tables call bytes
         → ToCome lines at (cons_option line (replies_at ms))
-        → (ToCome (with_reply lines line) next (replies_at ms) → Each Says (replies_at ms) × EachEnds script AnswersIf ms)
-        → Each Says (cons_option line (replies_at ms)) × EachEnds script AnswersIf ms
+        → (ToCome (with_reply lines line) next (replies_at ms) → Each Says (replies_at ms))
+        → Each Says (cons_option line (replies_at ms))
     line_done ms None is sent rest behind = behind (subst (λ m. ToCome lines m (replies_at ms)) (sym (silent_stays is)) rest)
-    line_done ms (Some entry) is sent rest behind =
-        let later = behind (subst (λ m. ToCome (lines ++ entry ∷ []) m (replies_at ms)) (sym (same_next entry (replies_at ms) is rest))
-        (rest_next script.tables printed timeline t lines at entry (replies_at ms) rest)) in
-        ((line_says entry (replies_at ms) is rest sent, later.0), later.1)
+    line_done ms (Some entry) is sent rest behind = (
+      line_says entry (replies_at ms) is rest sent,
+      behind (subst (λ m. ToCome (lines ++ entry ∷ []) m (replies_at ms)) (sym (same_next entry (replies_at ms) is rest))
+          (rest_next script.tables printed timeline t lines at entry (replies_at ms) rest)),
+    )
 
   -- ---- one moment
 
@@ -149,10 +146,7 @@ module _ (script : Script) (valid : is_valid script ≡ true) (printed timeline 
       → Holds script parts front at lines → IsLawfulFrom (shape_of script) parts (map (λ entry. entry.made) log) → are_named log ≡ true
       → AreMoments script front ms → events_at ms ≡ occurrences_from (shape_of script) parts log
       → EachLine (λ line. SendsBy script.tables line.call bytes) ms → ToCome lines at (replies_at ms)
-      → Each Says (replies_at ms) × EachEnds script AnswersIf ms
-
-  few32 : (table : ℕ) → blocks_of (shape_of script) table < 2 ^ 32
-  few32 table = let few = few_blocks script valid table in omega (arith, few)
+      → Each Says (replies_at ms)
 
   -- one without an event
   module _ (parts : Parts) (front : List Occurrence) (at : IsolationMachine) (lines : List Entry) (seat : ℕ) (low : 1 ≤ seat) (line : Lined)
@@ -163,14 +157,9 @@ module _ (script : Script) (valid : is_valid script ≡ true) (printed timeline 
     alone_loud : Loud (is_worker (who_at script seat)) line.call.command line.call.told
     alone_loud = plain_or_moved (is_worker (who_at script seat)) line.call.command line.call.told plain.0 plain.1 plain.2
 
-    alone_answers : AnswersIf (who_at script seat) line.call
-    alone_answers fits = answered (who_at script seat) line.call alone_loud
-        (λ said' tells. may_stand script valid seat parts front at at line.call (alone_ended script valid parts front at lines seat low line held ends)
-        fits (all_few script valid) few32 said' tells (inl (ends.made ∙ ap (λ xs. xs ++ []) (ends.none refl))))
-
     alone_done : (ms : List Moment) → SendsBy script.tables line.call bytes → ToCome lines at (cons_option line.printed (replies_at ms))
-        → (ToCome (with_reply lines line.printed) at (replies_at ms) → Each Says (replies_at ms) × EachEnds script AnswersIf ms)
-        → Each Says (cons_option line.printed (replies_at ms)) × EachEnds script AnswersIf ms
+        → (ToCome (with_reply lines line.printed) at (replies_at ms) → Each Says (replies_at ms))
+        → Each Says (cons_option line.printed (replies_at ms))
     alone_done ms sent rest behind = line_done seat parts front at at line.call (alone_ended script valid parts front at lines seat low line held ends) lines alone_loud ms line.printed
         ends.printed sent rest behind
 
@@ -182,25 +171,22 @@ module _ (script : Script) (valid : is_valid script ≡ true) (printed timeline 
       → IfSome line (λ line. SendsBy script.tables line.call bytes) → EachLine (λ line. SendsBy script.tables line.call bytes) ms
       → ToCome lines at (cons_option (option_and_then (λ (line : Lined). line.printed) line) (replies_at ms))
       → Each Says (cons_option (option_and_then (λ (line : Lined). line.printed) line) (replies_at ms))
-      × (IfSome line (λ line. AnswersIf (who_at script seat) line.call) × EachEnds script AnswersIf ms)
   one seat low high None None ms on log parts front at lines held lawful are its stands rest events sent others to_come = absurd stands
   one seat low high None (Some line) ms on log parts front at lines held lawful are its stands rest events sent others to_come =
-      let done = alone_done parts front at lines seat low line held stands ms sent to_come
-      (on log parts front at (with_reply lines line.printed) (alone_held script valid parts front at lines seat low line held stands) lawful are rest events others) in
-      (done.0, (alone_answers parts front at lines seat low line held stands, done.1))
+      alone_done parts front at lines seat low line held stands ms sent to_come
+      (on log parts front at (with_reply lines line.printed) (alone_held script valid parts front at lines seat low line held stands) lawful are rest events others)
   one seat low high (Some o) line ms on [] parts front at lines held lawful are its stands rest events sent others to_come = absurd (no_event script valid o (events_at ms) events)
   one seat low high (Some o) None ms on (entry ∷ log) parts front at lines held lawful are its stands rest events sent others to_come =
       let same : o ≡ occurrence_of (shape_of script) parts entry = first_is script valid o (occurrence_of (shape_of script) parts entry) (events_at ms) (occurrences_from (shape_of script) (after (shape_of script) parts entry.made) log) events in
       let seat_is : entry.session ≡ seat = ap (λ (o : Occurrence). o.session) (sym same) ∙ its in
       let goes = subst (GoesOn script front seat) same stands in
       let here = named entry.session entry.made.event (and_first (is_of entry.session entry.made.event) (are_named log) are) in
-      let done = on log (after (shape_of script) parts entry.made) (front ++ occurrence_of (shape_of script) parts entry ∷ []) at lines
+      on log (after (shape_of script) parts entry.made) (front ++ occurrence_of (shape_of script) parts entry ∷ []) at lines
       (onward script valid parts front at lines seat low high entry seat_is held lawful.0 lawful.1 here goes)
       lawful.2 (and_second (is_of entry.session entry.made.event) (are_named log) are)
       (subst (λ o. AreMoments script (front ++ o ∷ []) ms) same rest)
       (rest_is script valid o (occurrence_of (shape_of script) parts entry) (events_at ms) (occurrences_from (shape_of script) (after (shape_of script) parts entry.made) log) events)
-      others to_come in
-      (done.0, (tt, done.1))
+      others to_come
   one seat low high (Some o) (Some line) ms on (entry ∷ log) parts front at lines held lawful are its stands rest events sent others to_come =
       let same : o ≡ occurrence_of (shape_of script) parts entry = first_is script valid o (occurrence_of (shape_of script) parts entry) (events_at ms) (occurrences_from (shape_of script) (after (shape_of script) parts entry.made) log) events in
       let seat_is : entry.session ≡ seat = ap (λ (o : Occurrence). o.session) (sym same) ∙ its in
@@ -210,32 +196,17 @@ module _ (script : Script) (valid : is_valid script ≡ true) (printed timeline 
       let tells = tells_at script valid parts front at lines seat low high entry seat_is held lawful.0 lawful.1 here line ends in
       let is_ended = ended script valid parts front at lines seat low high entry seat_is held lawful.0 lawful.1 here line ends in
       let loud = event_loud (shape_of script) parts (is_worker (who_at script seat)) line.call.made line.call.command line.call.told entry.made.event entry.made.refused tells in
-      let done = line_done seat (after (shape_of script) parts entry.made) (front ++ occurrence_of (shape_of script) parts entry ∷ []) at next.0 line.call is_ended lines loud ms line.printed ends.printed sent to_come
+      line_done seat (after (shape_of script) parts entry.made) (front ++ occurrence_of (shape_of script) parts entry ∷ []) at next.0 line.call is_ended lines loud ms line.printed ends.printed sent to_come
       (on log (after (shape_of script) parts entry.made) (front ++ occurrence_of (shape_of script) parts entry ∷ []) next.0 (with_reply lines line.printed)
       (after_held script valid parts front at lines seat low high entry seat_is held lawful.0 lawful.1 here line ends)
       lawful.2 (and_second (is_of entry.session entry.made.event) (are_named log) are)
       (subst (λ o. AreMoments script (front ++ o ∷ []) ms) same rest)
       (rest_is script valid o (occurrence_of (shape_of script) parts entry) (events_at ms) (occurrences_from (shape_of script) (after (shape_of script) parts entry.made) log) events)
-      others) in (
-        done.0,
-        (
-          λ fits. answered (who_at script seat) line.call loud
-              (λ said' says. may_stand script valid seat (after (shape_of script) parts entry.made) (front ++ occurrence_of (shape_of script) parts entry ∷ []) at next.0 line.call is_ended
-              fits (all_few script valid) few32 said' says
-              (inr (record {
-                done = ends.done;
-                made = occurrence_of (shape_of script) parts entry;
-                all = ends.made;
-                may = λ loud. event_stands script (few_seats script valid) parts front at next.0 lines held (is_worker (who_at script seat)) (is_shape script valid) few32 entry.made.event entry.made.refused
-                    line.call.made line.call.command line.call.told lawful.0 lawful.1 next.1 tells loud said' says;
-              }))),
-          done.1,
-        ),
-      )
+      others)
 
   -- ---- all moments
 
   pub all_say : (ms : List Moment) → On ms
-  all_say [] log parts front at lines held lawful are moments events sent rest = (tt, tt)
+  all_say [] log parts front at lines held lawful are moments events sent rest = tt
   all_say (m ∷ ms) log parts front at lines held lawful are moments events sent rest =
       one m.session moments.0.low moments.0.high m.event m.line ms (all_say ms) log parts front at lines held lawful are moments.0.event_is moments.0.stands moments.1 events sent.0 sent.1 rest

@@ -1,4 +1,3 @@
-pub mod Later
 pub mod Overlays
 pub mod Machines
 pub mod Desks

@@ -9,7 +9,7 @@ use Rattle.std.proofs.lemmas.List.Sums.{fold-append}
 use Rattle.cell_model.specs.declared.cell.Cell.{Cell}
 use Rattle.isolation_spec.specs.Contents.{at_place, State, WriteSet, History, laid_over, state_at}
 use Rattle.isolation_spec.specs.Machine.{Transaction, entered, writes_place, later_writers}
-use Rattle.follow_laws.proofs.Later.{last_writer, last-later}
+use Rattle.isolation_laws.proofs.Later.{last_writer, last-later}
 use Rattle.std.specs.List.{last_or}
 use Rattle.isolation_spec.specs.declared.place.Place.{Place}
 use Rattle.event_spec.specs.Follows.{InOrder, OneEach}

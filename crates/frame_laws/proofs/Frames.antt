@@ -14,6 +14,7 @@ use Rattle.block_spec.specs.Slots.{Row, Slot, bare, committed, is_bare, rolled_b
 use Rattle.event_laws.proofs.Aborted.{rolled_slot}
 use Rattle.event_laws.proofs.Apart.{kept_among}
 use Rattle.event_laws.proofs.Heads.{block_is, slot_is}
+use Rattle.event_laws.proofs.ByKind.{rests_at}
 use Rattle.event_laws.proofs.Naming.{body_is_there, follows_machine}
 use Rattle.event_laws.proofs.Owners.{all_slots}
 use Rattle.event_laws.proofs.Slots.{num, num_refl}
@@ -61,22 +62,12 @@ pub record Rests (c : Changes) (n : Name) (piece : CorePart) : Type 0 where
   pub desk : (x : DeskState) → n ≡ TheDesk → piece ≡ part.Desk x → c.desk x ≡ x
 
 rests_same : (c : Changes) (n : Name) (piece : CorePart) → Rests c n piece → changed c n piece ≡ piece
-rests_same c (HeadOf t) (part.Head x) h = ap part.Head (h.head t x refl refl)
-rests_same c (HeadOf t) (part.Shard x) h = refl
-rests_same c (HeadOf t) (part.Body x) h = refl
-rests_same c (HeadOf t) (part.Desk x) h = refl
-rests_same c (ShardOf t i) (part.Head x) h = refl
-rests_same c (ShardOf t i) (part.Shard x) h = ap part.Shard (h.shard t i x refl refl)
-rests_same c (ShardOf t i) (part.Body x) h = refl
-rests_same c (ShardOf t i) (part.Desk x) h = refl
-rests_same c (BodyOf t b) (part.Head x) h = refl
-rests_same c (BodyOf t b) (part.Shard x) h = refl
-rests_same c (BodyOf t b) (part.Body x) h = ap part.Body (h.body t b x refl refl)
-rests_same c (BodyOf t b) (part.Desk x) h = refl
-rests_same c TheDesk (part.Head x) h = refl
-rests_same c TheDesk (part.Shard x) h = refl
-rests_same c TheDesk (part.Body x) h = refl
-rests_same c TheDesk (part.Desk x) h = ap part.Desk (h.desk x refl refl)
+rests_same c n piece h = rests_at (λ m x. (n ≡ m) × (piece ≡ x)) c (record {
+  head = λ t x is. h.head t x is.0 is.1;
+  shard = λ t i x is. h.shard t i x is.0 is.1;
+  body = λ t b x is. h.body t b x is.0 is.1;
+  desk = λ x is. h.desk x is.0 is.1;
+}) n piece (refl, refl)
 
 unchanged_at : (c : Changes) (ns : List Name) (s : Parts) (k : ℕ) → ((n : Name) (piece : CorePart) → slice_get ns k ≡ Some n → slice_get s k ≡ Some piece → Rests c n piece)
     → slice_get (each_changed c ns s) k ≡ slice_get s k

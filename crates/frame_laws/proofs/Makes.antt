@@ -12,6 +12,7 @@ use Rattle.block_spec.specs.declared.phase.SealFault.{SealFault}
 use Rattle.block_spec.specs.Slots.{Row, Slot, is_bare, moved_in, moved_out}
 use Rattle.event_laws.proofs.Aborted.{among_filter, filter_among}
 use Rattle.event_laws.proofs.Apart.{kept_among}
+use Rattle.event_laws.proofs.ByKind.{same_at}
 use Rattle.event_laws.proofs.Lists.{map_member, member_below, split}
 use Rattle.event_laws.proofs.Naming.{bodies_in, body_there, heads_in, named_member, shards_in}
 use Rattle.event_laws.proofs.Slots.{num, num_refl}
@@ -54,22 +55,12 @@ pub record Alike (c d : Changes) (n : Name) (piece : CorePart) : Type 0 where
   pub desk : (x : DeskState) → n ≡ TheDesk → piece ≡ part.Desk x → d.desk x ≡ c.desk x
 
 alike_same : (c d : Changes) (n : Name) (piece : CorePart) → Alike c d n piece → changed d n piece ≡ changed c n piece
-alike_same c d (HeadOf t) (part.Head x) h = ap part.Head (h.head t x refl refl)
-alike_same c d (HeadOf t) (part.Shard x) h = refl
-alike_same c d (HeadOf t) (part.Body x) h = refl
-alike_same c d (HeadOf t) (part.Desk x) h = refl
-alike_same c d (ShardOf t i) (part.Head x) h = refl
-alike_same c d (ShardOf t i) (part.Shard x) h = ap part.Shard (h.shard t i x refl refl)
-alike_same c d (ShardOf t i) (part.Body x) h = refl
-alike_same c d (ShardOf t i) (part.Desk x) h = refl
-alike_same c d (BodyOf t b) (part.Head x) h = refl
-alike_same c d (BodyOf t b) (part.Shard x) h = refl
-alike_same c d (BodyOf t b) (part.Body x) h = ap part.Body (h.body t b x refl refl)
-alike_same c d (BodyOf t b) (part.Desk x) h = refl
-alike_same c d TheDesk (part.Head x) h = refl
-alike_same c d TheDesk (part.Shard x) h = refl
-alike_same c d TheDesk (part.Body x) h = refl
-alike_same c d TheDesk (part.Desk x) h = ap part.Desk (h.desk x refl refl)
+alike_same c d n piece h = same_at (λ m x. (n ≡ m) × (piece ≡ x)) d c (record {
+  head = λ t x is. h.head t x is.0 is.1;
+  shard = λ t i x is. h.shard t i x is.0 is.1;
+  body = λ t b x is. h.body t b x is.0 is.1;
+  desk = λ x is. h.desk x is.0 is.1;
+}) n piece (refl, refl)
 
 changed_alike : (c d : Changes) (ns : List Name) (s u : Parts) (k : ℕ) (piece : CorePart) → slice_get s k ≡ Some piece → slice_get u k ≡ Some piece
     → ((n : Name) → slice_get ns k ≡ Some n → Alike c d n piece) → slice_get (each_changed d ns u) k ≡ slice_get (each_changed c ns s) k

@@ -142,15 +142,8 @@ module _ {P E T F : Type 0} (M : Meaning P E T F) (laws : Laws M) where
           kept.1,
           subst (λ (ws : List ℕ). HallInvariant M log kept.1 record { words = ws; homes = s.homes; views = set s.views id w }) (sym (unset s.words 0))
               (stirred M laws log kept.1 kept.1.part s s.words s.homes id v w kept.2 at live (record {
-                joined = refl;
-                sessions = refl;
-                stood = refl;
-                came = refl;
-                sole = refl;
-                heard = refl;
+                lasts = refl;
                 before = inl refl;
-                mine = refl;
-                made = refl;
                 live = live;
                 seen = inr refl;
                 counted = refl;

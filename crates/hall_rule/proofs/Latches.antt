@@ -30,23 +30,6 @@ unset [] i = refl
 unset (x ∷ xs) zero = refl
 unset (x ∷ xs) (suc i) = ap (λ l. x ∷ l) (unset xs i)
 
-module _ {E : Type 0} where
-  -- What a view keeps while a slot goes out or home.
-  pub record Alike (v w : View E) : Type 0 where
-    pub joined : w.joined ≡ v.joined
-    pub sessions : w.sessions ≡ v.sessions
-    pub mine : w.mine ≡ v.mine
-    pub live : w.spent ≡ false
-    pub log : w.log ≡ v.log
-    pub stages : w.stages ≡ v.stages
-    pub heard : w.heard ≡ v.heard
-    pub before : w.before ≡ v.before
-    pub made : w.made ≡ v.made
-    pub stood : w.stood ≡ v.stood
-    pub came : w.came ≡ v.came
-    pub sole : w.sole ≡ v.sole
-    pub taken : w.taken ≡ v.taken
-
 module _ {P E T F : Type 0} (M : Meaning P E T F) (laws : Laws M) where
   -- What a view learns when it sees the whole log.
   pub learns : (log : List (Entry E)) (o : Owners) (s : State (Option P) (View E)) (id : ℕ) (v : View E) → HallInvariant M log o s → get_elem? s.views id ≡ maybe.some v → v.spent ≡ false → Learned M id v log
@@ -95,15 +78,8 @@ module _ {P E T F : Type 0} (M : Meaning P E T F) (laws : Laws M) where
         let here = stage_here v k 1 room in
         let else : (i : ℕ) → i ≢ k → stage (staged v k 1) i ≡ stage v i = λ (i : ℕ) ne. stage_else v k 1 i ne in
         record {
-          joined = refl;
-          sessions = refl;
-          stood = refl;
-          came = refl;
-          sole = refl;
-          heard = refl;
+          lasts = refl;
           before = inl refl;
-          mine = refl;
-          made = refl;
           live = live;
           seen = inl refl;
           counted = get_or-set_other s.words (suc k) 0 1 0 (λ e. absurd (omega (arith, e)));
@@ -180,15 +156,8 @@ module _ {P E T F : Type 0} (M : Meaning P E T F) (laws : Laws M) where
         let now : (i : ℕ) → stage v i ≢ 0 → stage (loaded v k log) i ≢ 0 = λ (i : ℕ) held. by_cases i k (stage (loaded v k log) i ≢ 0)
         (λ e z. absurd (let h = subst (λ (x : ℕ). stage (loaded v k log) x ≡ 0) e z in omega (arith, h, here))) (λ ne z. held (sym (else i ne) ∙ z)) in
         record {
-          joined = refl;
-          sessions = refl;
-          stood = refl;
-          came = refl;
-          sole = refl;
-          heard = refl;
+          lasts = refl;
           before = inr refl;
-          mine = refl;
-          made = refl;
           live = live;
           seen = inr refl;
           counted = refl;
@@ -235,43 +204,35 @@ module _ {P E T F : Type 0} (M : Meaning P E T F) (laws : Laws M) where
         )
 
     -- One slot changes whose part is in the view's hand, and nothing else but what is out.
-    shifting : (log : List (Entry E)) (o : Owners) (s : State (Option P) (View E)) (h : maybe.Option (Option P)) (w : View E) → HallInvariant M log o s → get_elem? s.views id ≡ maybe.some v
-        → stage v k ≡ 2 → Alike v w
-        → ((i : ℕ) → stage v i ≡ 2 → w.out ≢ suc i → get_elem? (set s.homes k h) i ≡ maybe.some (maybe.some None)) → ((i : ℕ) → w.out ≡ suc i → stage v i ≡ 2)
-        → Stirs M log o o.part s s.words (set s.homes k h) id v w
-    shifting log o s h w kept at two like in_hand out =
+    shifting : (log : List (Entry E)) (o : Owners) (s : State (Option P) (View E)) (h : maybe.Option (Option P)) (out : ℕ) → HallInvariant M log o s → get_elem? s.views id ≡ maybe.some v
+        → stage v k ≡ 2
+        → ((i : ℕ) → stage v i ≡ 2 → out ≢ suc i → get_elem? (set s.homes k h) i ≡ maybe.some (maybe.some None)) → ((i : ℕ) → out ≡ suc i → stage v i ≡ 2)
+        → Stirs M log o o.part s s.words (set s.homes k h) id v (record v { out = out })
+    shifting log o s h out kept at two in_hand is_out =
         let old = kept.at_home.each id v at live in
-        let stages : (i : ℕ) → stage w i ≡ stage v i = λ (i : ℕ). ap (λ (l : List ℕ). slice_index l i) like.stages in
         let home : (i : ℕ) → stage v i ≢ 2 → get_elem? (set s.homes k h) i ≡ get_elem? s.homes i = λ (i : ℕ) ne. set_else s.homes k i h (λ e. ne (ap (stage v) e ∙ two)) in
-        let before : (i : ℕ) → (stage v i ≢ 0) ⊎ (stage w i ≢ 0) → stage v i ≢ 0 = λ (i : ℕ) held. ⊎_elim (λ a. a) (λ a e. a (stages i ∙ e)) held in
+        let before : (i : ℕ) → (stage v i ≢ 0) ⊎ (stage v i ≢ 0) → stage v i ≢ 0 = λ (i : ℕ) held. ⊎_elim (λ a. a) (λ a. a) held in
         record {
-          joined = like.joined;
-          sessions = like.sessions;
-          stood = like.stood;
-          came = like.came;
-          sole = like.sole;
-          heard = like.heard;
-          before = inl like.before;
-          mine = like.mine;
-          made = like.made;
-          live = like.live;
-          seen = inl like.log;
+          lasts = refl;
+          before = inl refl;
+          live = live;
+          seen = inl refl;
           counted = refl;
           wide = refl;
           deep = length-set s.homes k h;
-          idle = λ none' i. stages i ∙ kept.hands.idle id v at none' i;
+          idle = kept.hands.idle id v at;
           same = λ i below was is. (refl, home i (λ e. absurd (omega (arith, e, was))), refl);
-          fresh = λ i was is. absurd (is (stages i ∙ was));
+          fresh = λ i was is. absurd (is was);
           free = λ i below held none'. absurd (let x = (old.holds i (before i held)).1 in omega (arith, x, none'));
-          latched = λ i below held some'. ((old.holds i (before i held)).2, (λ z. before i held (sym (stages i) ∙ z)));
+          latched = λ i below held some'. ((old.holds i (before i held)).2, before i held);
           parts = record {
-            holds = λ i held. old.holds i (λ z. held (stages i ∙ z));
-            taken = λ i first. let x = old.taken i (sym (stages i) ∙ first) in let one = sym (stages i) ∙ first in (x.0, x.1, home i (λ e. absurd (omega (arith, e, one))) ∙ x.2);
-            loaded = λ i first. subst (λ (l : List (Entry E)). Untouched M i (replay M l) (Rattle.std.proofs.Common.drop (length l) log)) (sym like.log) (old.loaded i (sym (stages i) ∙ first));
-            kept = λ i first. subst (λ (l : List (Entry E)). Untouched M i (replay M l) (Rattle.std.proofs.Common.drop (length l) log)) (sym like.before) (old.kept i (sym (stages i) ∙ first));
-            in_hand = λ i first away. in_hand i (sym (stages i) ∙ first) away;
-            out = λ i e. stages i ∙ out i e;
-            ever = λ i held. subst (λ (l : List ℕ). has i l ≡ true) (sym like.taken) (old.ever i (λ z. held (stages i ∙ z)));
+            holds = old.holds;
+            taken = λ i first. let x = old.taken i first in (x.0, x.1, home i (λ e. absurd (omega (arith, e, first))) ∙ x.2);
+            loaded = old.loaded;
+            kept = old.kept;
+            in_hand = in_hand;
+            out = is_out;
+            ever = old.ever;
           };
         }
 
@@ -291,7 +252,7 @@ module _ {P E T F : Type 0} (M : Meaning P E T F) (laws : Laws M) where
             held.1,
             subst (λ (ws : List ℕ). HallInvariant M log held.1 record { words = ws; homes = set s.homes k h; views = set s.views id (homed v) }) (sym (unset s.words 0))
                 (stirred M laws log held.1 held.1.part s s.words (set s.homes k h) id v (homed v) kept at live
-                (shifting log held.1 s h (homed v) kept at two (record { joined = refl; sessions = refl; mine = refl; live = live; log = refl; stages = refl; heard = refl; before = refl; made = refl; stood = refl; came = refl; sole = refl; taken = refl })
+                (shifting log held.1 s h 0 kept at two
                 (λ i first away. by_cases i k (get_elem? (set s.homes k h) i ≡ maybe.some (maybe.some None))
                 (λ e. subst (λ (x : ℕ). get_elem? (set s.homes k h) x ≡ maybe.some (maybe.some None)) (sym e) (set_here s.homes k h (in_slots s log held.1 kept)))
                 (λ ne. set_else s.homes k i h ne ∙ (kept.at_home.each id v at live).in_hand i first (λ e. ne (let x : suc i ≡ suc k = sym e ∙ is_out in omega (arith, x)))))
@@ -313,7 +274,7 @@ module _ {P E T F : Type 0} (M : Meaning P E T F) (laws : Laws M) where
             held.1,
             subst (λ (ws : List ℕ). HallInvariant M log held.1 record { words = ws; homes = set s.homes k h; views = set s.views id (drawn v k) }) (sym (unset s.words (suc k)))
                 (stirred M laws log held.1 held.1.part s s.words (set s.homes k h) id v (drawn v k) kept at live
-                (shifting log held.1 s h (drawn v k) kept at two (record { joined = refl; sessions = refl; mine = refl; live = live; log = refl; stages = refl; heard = refl; before = refl; made = refl; stood = refl; came = refl; sole = refl; taken = refl })
+                (shifting log held.1 s h (suc k) kept at two
                 (λ i first away.
                 let ne : i ≢ k = λ e. away (ap suc (sym e)) in
                 set_else s.homes k i h ne ∙ (kept.at_home.each id v at live).in_hand i first (λ e. absurd (omega (arith, e, none_out))))
@@ -338,15 +299,8 @@ module _ {P E T F : Type 0} (M : Meaning P E T F) (laws : Laws M) where
         let before : (i : ℕ) → (stage v i ≢ 0) ⊎ (stage (given v k) i ≢ 0) → stage v i ≢ 0 = λ (i : ℕ) held. by_cases i k (stage v i ≢ 0)
         (λ e z. absurd (let x = subst (λ (y : ℕ). stage v y ≡ 0) e z in omega (arith, x, two))) (λ ne. ⊎_elim (λ a. a) (λ a e. a (else i ne ∙ e)) held) in
         record {
-          joined = refl;
-          sessions = refl;
-          stood = refl;
-          came = refl;
-          sole = refl;
-          heard = refl;
+          lasts = refl;
           before = inl refl;
-          mine = refl;
-          made = refl;
           live = live;
           seen = inl refl;
           counted = get_or-set_other s.words (suc k) 0 0 0 (λ e. absurd (omega (arith, e)));

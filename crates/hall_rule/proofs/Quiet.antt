@@ -12,18 +12,15 @@ use Rattle.hall_rule.specs.declared.view.View.{View}
 use Rattle.hall_rule.proofs.Logs.{goes_on_whole, rest_is, since_whole}
 use Rattle.hall_rule.proofs.Moved.{Homes, Moves, after_move, moved, with_parts}
 
+-- What every step that makes no event leaves of a view as it was.
+abbrev pub lasting : {E : Type 0} → View E → View E
+lasting v = record v { log = []; before = []; stages = []; out = 0; taken = []; spent = false }
+
 module _ {P E T F : Type 0} (M : Meaning P E T F) where
   -- What a step owes that makes no event: the view's log stays, or becomes the whole log.
   pub record Stirs (log : List (Entry E)) (o : Owners) (part : ℕ → ℕ) (s : State (Option P) (View E)) (words : List ℕ) (homes : Homes M) (id : ℕ) (v w : View E) : Type 0 where
-    pub joined : w.joined ≡ v.joined
-    pub sessions : w.sessions ≡ v.sessions
-    pub stood : w.stood ≡ v.stood
-    pub came : w.came ≡ v.came
-    pub sole : w.sole ≡ v.sole
-    pub heard : w.heard ≡ v.heard
+    pub lasts : lasting w ≡ lasting v
     pub before : (w.before ≡ v.before) ⊎ (w.before ≡ log)
-    pub mine : w.mine ≡ v.mine
-    pub made : w.made ≡ v.made
     pub live : w.spent ≡ false
     pub seen : (w.log ≡ v.log) ⊎ (w.log ≡ log)
     pub counted : slice_index words 0 ≡ slice_index s.words 0
@@ -66,29 +63,29 @@ module _ {P E T F : Type 0} (M : Meaning P E T F) where
 
     stood : (x : ℕ) → has x w.stood ≡ true → has x v.sessions ≡ true → Spares M x (Rattle.std.proofs.Common.drop (length w.before) log)
     stood x was h = ⊎_elim
-        (λ e. subst (λ l. Spares M x (Rattle.std.proofs.Common.drop (length l) log)) (sym e) (sessions.stood x (subst (λ l. has x l ≡ true) q.stood was) h))
+        (λ e. subst (λ l. Spares M x (Rattle.std.proofs.Common.drop (length l) log)) (sym e) (sessions.stood x (subst (λ (u : View E). has x u.stood ≡ true) q.lasts was) h))
         (λ e. subst (Spares M x) (sym (rest_is w.before [] log (sym e ∙ sym (append-nil w.before)))) tt) q.before
 
     came : (x : ℕ) → has x w.came ≡ true → has x v.sessions ≡ true → Spares M x (Rattle.std.proofs.Common.drop (length w.heard) log)
-    came x was h = subst (λ l. Spares M x (Rattle.std.proofs.Common.drop (length l) log)) (sym q.heard) (sessions.came x (subst (λ l. has x l ≡ true) q.came was) h)
+    came x was h = subst (λ l. Spares M x (Rattle.std.proofs.Common.drop (length l) log)) (sym (ap (λ (u : View E). u.heard) q.lasts)) (sessions.came x (subst (λ (u : View E). has x u.came ≡ true) q.lasts was) h)
 
     owed : Moves M log [] o part s words homes id v w
     owed =
         let nil : log ++ [] ≡ log = append-nil log in
         record {
-          joined = q.joined;
-          sessions = q.sessions;
+          joined = ap (λ (u : View E). u.joined) q.lasts;
+          sessions = ap (λ (u : View E). u.sessions) q.lasts;
           before = subst (λ l. l ≡ w.before ++ Rattle.std.proofs.Common.drop (length w.before) l) (sym nil) before;
-          heard = q.heard;
+          heard = ap (λ (u : View E). u.heard) q.lasts;
           live = q.live;
           by = tt;
           names = tt;
           under = tt;
-          sole = q.sole;
+          sole = ap (λ (u : View E). u.sole) q.lasts;
           lawful = subst (LawfulFrom M M.start) (sym nil) kept.lawful.lawful;
           goes_on = subst (GoesOn w) (sym nil) goes_on;
-          mine = q.mine ∙ sym (append-nil v.mine);
-          made = let d = q.made in omega (arith, d);
+          mine = ap (λ (u : View E). u.mine) q.lasts ∙ sym (append-nil v.mine);
+          made = let d = ap (λ (u : View E). u.made) q.lasts in omega (arith, d);
           seen = seen;
           few = let f = kept.hands.few id v at in omega (arith, f);
           spared = λ x h. subst (λ l. Spares M x (since w l)) (sym nil) (spared x h);

@@ -1,29 +1,30 @@
-//! Where the rows of a key may lie: an ordered map from each key to the slots that are its
-//! candidates.
+//! Where the rows of a key may lie: a hash map from each key to the slots that are its candidates.
 #![tactic(auto)]
 
-ghost use Rattle.std.specs.Prelude.{◌≡◌, ◌<◌, ◌==◌, ◌∷◌, ◌++◌, [], IfSome, OnOk, OnErr, length};
-ghost use Rattle.std.specs.Prelude.{position};
+mod candidates;
+
+ghost use Rattle.std.specs.Prelude.{◌≡◌, ◌∷◌, ◌++◌, [], OnOk, OnErr};
 ghost use Rattle.std.specs.FinMap as map;
 ghost use Rattle.key_index.specs.Candidates.{candidates_of, with_candidates, without};
 
+use crate::candidates::Candidates;
 use block_layout::SlotId;
 use std::alloc::{AllocError, Global};
-use std::collections::BTreeMap;
-use std::collections::btree_map::Entry;
+use std::collections::HashMap;
+use std::collections::hash_map::Entry;
 use std::marker::Model;
 
 /// The candidates of each key: the slots where a version of a row with the key may lie. A key
 /// leaves the map with its last candidate. A contract sees a finite map from keys to their
-/// candidates' places.
+/// candidates' places, whatever the order in which the hash map keeps its entries.
 #[derive(Drop)]
 pub struct Index {
     alloc: Global,
-    by_key: BTreeMap<i64, Vec<SlotId>>,
+    by_key: HashMap<i64, Candidates>,
 }
 
 impl Model for Index {
-    ghost use Rattle.std.specs.Prelude.{ℕ, List, map as each};
+    ghost use Rattle.std.specs.Prelude.{ℕ, List};
     ghost use Rattle.std.specs.Ordering.{int_cmp};
     ghost use Rattle.std.specs.FinMap as map;
     ghost use Rattle.std.specs.Coded.{coded_ℕ, coded_ℤ, coded_list};
@@ -32,7 +33,7 @@ impl Model for Index {
 
     ghost coded = { map.code coded_ℤ (coded_list coded_ℕ) };
 
-    ghost view = { λ index. map.from_entries (each (λ e. (e.0, e.1.items)) index.by_key.entries) };
+    ghost view = { λ index. map.from_entries index.by_key.entries };
 }
 
 impl Index {
@@ -42,7 +43,7 @@ impl Index {
     {
         Index {
             alloc,
-            by_key: BTreeMap::new(alloc),
+            by_key: HashMap::new(alloc),
         }
     }
 
@@ -51,7 +52,7 @@ impl Index {
         ensures { result.now ≡ candidates_of self.now key }
     {
         match self.by_key.get(&key) {
-            Some(places) => places.as_slice(),
+            Some(candidates) => candidates.as_slice(),
             None => &[],
         }
     }
@@ -65,9 +66,7 @@ impl Index {
         match self.by_key.entry(key)? {
             Entry::Occupied(mut entry) => entry.get_mut().push(place)?,
             Entry::Vacant(entry) => {
-                let mut places = Vec::with_capacity(self.alloc, 1)?;
-                places.push(place)?;
-                entry.insert(places);
+                entry.insert(Candidates::one(self.alloc, place));
             }
         }
         Ok(())
@@ -78,31 +77,14 @@ impl Index {
         ensures { self.new ≡ with_candidates self.old key
             (without place (candidates_of self.old key)) }
     {
-        let Some(places) = self.by_key.get_mut(&key) else {
+        let Some(candidates) = self.by_key.get_mut(&key) else {
             return;
         };
-        drop_first(places, place);
-        if places.is_empty() {
+        candidates.drop_first(place);
+        if candidates.is_empty() {
             self.by_key.remove(&key);
         }
     }
-}
-
-/// Drops the first of the places that is a given one, if any is.
-fn drop_first(places: &mut Vec<SlotId>, place: SlotId)
-    ensures { places.new.items ≡ without place places.old.items }
-{
-    if let Some(at) = position_of(places, place) {
-        places.remove(at);
-    }
-}
-
-/// Where the first of the places that is a given one stands.
-fn position_of(places: &[SlotId], place: SlotId) -> Option<usize>
-    ensures place { result ≡ position (λ other. other == place) places.now }
-    ensures range { IfSome result (λ at. at < length places.now) }
-{
-    places.iter().position(|other| *other == place)
 }
 
 #[cfg(test)]

@@ -8,7 +8,7 @@ use Rattle.isolation_spec.specs.declared.place.Place.{Place}
 use Rattle.isolation_spec.specs.declared.command.Answer.{Answer}
 use Rattle.isolation_spec.specs.declared.command.Answer.TheVariants as answer
 use Rattle.isolation_spec.specs.Machine.{IsolationMachine, Transaction, conflict_of, later_writers, rival_of, writes_place}
-use Rattle.timeline_laws.proofs.Writers.{last_writer, last-later}
+use Rattle.isolation_laws.proofs.Later.{last_writer, last-later}
 use Rattle.si_machine.specs.declared.ledger.Ledger.{Ledger}
 use Rattle.si_machine.specs.declared.ledger.OpenTransaction.{OpenTransaction}
 use Rattle.si_machine.specs.declared.writers.Writers.{Writers}

@@ -8,7 +8,8 @@ use Rattle.cell_model.specs.declared.cell.Cell.{Cell}
 use Rattle.isolation_spec.specs.Contents.{at_place, State, WriteSet, History, laid_over}
 use Rattle.isolation_spec.specs.declared.place.Place.{Place}
 use Rattle.isolation_spec.specs.Machine.{writes_place}
-use Rattle.timeline_laws.proofs.Writers.{last_writer, last-some}
+use Rattle.isolation_laws.proofs.Later.{last_writer, nothing-more, over}
+use Rattle.timeline_laws.proofs.Writers.{last-some}
 use Rattle.si_machine.specs.Kept.{Rises, AllRise, numbers_from}
 use Rattle.si_machine.proofs.Rising.{rises-laid, at-laid}
 
@@ -45,14 +46,6 @@ at-fold q at (writes ∷ later) acc h k =
     ∙ ap (λ (before : Option (List Cell)). left_by q (at + 1) later before (last_writer q (at + 1) later)) (at-laid acc writes q h k.0))
 
 -- ---- the last of the numbers
-
-over : {X : Type 0} (a : Option X) (x : X) (o : Option X) → option_or (option_or a (Some x)) o ≡ option_or a (Some x)
-over None x o = refl
-over (Some y) x o = refl
-
-pub nothing-more : {X : Type 0} (o : Option X) → option_or o None ≡ o
-nothing-more None = refl
-nothing-more (Some x) = refl
 
 last-step : (q : Place) (at : ℕ) (later : History) (o : Option ℕ) (b : Bool) → ((o : Option ℕ) → last_or o (numbers_from q (at + 1) later) ≡ option_or (last_writer q (at + 1) later) o)
     → last_or o (if b then at ∷ numbers_from q (at + 1) later else numbers_from q (at + 1) later) ≡ option_or (option_or (last_writer q (at + 1) later) (cond b (Some at) None)) o

@@ -19,7 +19,7 @@ use Rattle.isolation_spec.specs.Contents.{at_place, contents_of, is_place, place
 use Rattle.isolation_spec.specs.declared.place.Place.{Place}
 use Rattle.isolation_spec.specs.Machine.{Transaction, seen_rows, writes_place}
 use Rattle.timeline_laws.proofs.Machine.{eqb-itself}
-use Rattle.timeline_laws.proofs.Writers.{last_writer}
+use Rattle.isolation_laws.proofs.Later.{last_writer}
 use Rattle.si_machine.specs.declared.ledger.Ledger.{Ledger}
 use Rattle.si_machine.specs.declared.ledger.OpenTransaction.{OpenTransaction}
 use Rattle.si_machine.specs.declared.writers.Writers.{Writers}

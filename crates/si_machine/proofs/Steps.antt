@@ -13,7 +13,8 @@ use Rattle.isolation_spec.specs.Machine.{IsolationMachine, Transaction, entered,
 use Rattle.isolation_spec.specs.declared.command.Act.{Act}
 use Rattle.isolation_spec.specs.declared.command.Answer.{Answer}
 use Rattle.timeline_laws.proofs.Machine.{apart-push, apart-map, apart-without, begun}
-use Rattle.timeline_laws.proofs.Writers.{last_writer, last-some, writes-more}
+use Rattle.isolation_laws.proofs.Later.{last_writer}
+use Rattle.timeline_laws.proofs.Writers.{last-some, writes-more}
 use Rattle.si_machine.specs.declared.writers.Writers.{Writers}
 use Rattle.si_machine.specs.declared.ledger.Ledger.{Ledger}
 use Rattle.si_machine.specs.declared.ledger.OpenTransaction.{OpenTransaction}

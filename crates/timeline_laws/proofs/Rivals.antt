@@ -34,7 +34,8 @@ use Rattle.timeline_laws.proofs.Order.{Each-first, Each-second, Each-weaker, Eac
 use Rattle.timeline_laws.proofs.Spans.{span, spans, EachSpan, Ended, spans-is}
 use Rattle.timeline_laws.proofs.Unique.{Only}
 use Rattle.timeline_laws.proofs.Belongs.{Each-up_to_end, its-thread}
-use Rattle.timeline_laws.proofs.Writers.{last_writer, LastAt, last-some, last-none, writes-more}
+use Rattle.isolation_laws.proofs.Later.{last_writer}
+use Rattle.timeline_laws.proofs.Writers.{LastAt, last-some, last-none, writes-more}
 use Rattle.timeline_laws.proofs.Machine.{Rival, rival-some, Free, free-none, its-session, at-written, entering, eqb-itself}
 use Rattle.timeline_laws.proofs.Steps.{Change, quiet, opens, writes, ends, commits, Clear, Verdict, accepted, rival, later, refused, limited, memory, takes-verdict}
 use Rattle.timeline_laws.proofs.Walk.{Within, Stands, Shown, shown-step}

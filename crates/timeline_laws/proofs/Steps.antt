@@ -27,7 +27,8 @@ use Rattle.outcome_spec.specs.Runs.{write_of}
 use Rattle.outcome_spec.specs.Numbers.{number_shown}
 use Rattle.outcome_spec.specs.Answers.{is_acceptable}
 use Rattle.timeline_spec.specs.Timeline.{said_of, request_of, Tells, open_of, ExportsBy, ExportsWithin, is_of_upkeep, Aside, TakesAs, Takes}
-use Rattle.timeline_laws.proofs.Writers.{last_writer, last-later, last-some}
+use Rattle.isolation_laws.proofs.Later.{last_writer, last-later}
+use Rattle.timeline_laws.proofs.Writers.{last-some}
 use Rattle.timeline_laws.proofs.Machine.{Sane, begun, committed, its-session}
 
 -- what is written where the write is accepted

@@ -1,4 +1,4 @@
-use Rattle.std.proofs.Common.{◌≡◌, ℕ, ℤ, List, rules, to_z, of_z, w64, length, refl, sym, ap, ◌∙◌, subst, arith}
+use Rattle.std.proofs.Common.{◌≡◌, ℕ, ℤ, List, rules, to_z, of_z, w64, refl, sym, ap, ◌∙◌, subst}
 use Rattle.std.proofs.Math.Facts.{to_z-of_z}
 use Rattle.std.specs.Prelude.{Result}
 use Rattle.block_spec.specs.declared.change.Change.TheVariants as change
@@ -11,7 +11,7 @@ use Rattle.event_spec.specs.Judged.{judged_change}
 use Rattle.event_spec.specs.Lawful.{Among}
 use Rattle.event_spec.specs.Parts.{Shape, ShardOf, body_at, shard_of, slot_at}
 use Rattle.key_events.proofs.Changing.{refused, written_once}
-use Rattle.key_events.proofs.Takes.{change_takes, changed_place, changes, takes_at}
+use Rattle.key_events.proofs.Takes.{change_takes, changed_place, takes_at}
 use Rattle.key_events.proofs.Touched.{delete_own, delete_same, delete_shard, delete_slots}
 use Rattle.key_events.specs.Candidates.{candidates_in}
 use Rattle.key_judge.specs.Slots.{HasSlots}

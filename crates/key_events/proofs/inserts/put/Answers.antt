@@ -1,6 +1,5 @@
-use Rattle.std.proofs.Common.{◌≡◌, ℤ, true, false, rules, not, to_z, of_z, w64, ap, ◌∙◌}
+use Rattle.std.proofs.Common.{◌≡◌, ℤ, rules, not, to_z, of_z, w64, ap, ◌∙◌}
 use Rattle.std.proofs.Math.Facts.{to_z-of_z}
-use Rattle.block_spec.specs.declared.change.Change.TheVariants as change
 use Rattle.core_parts.specs.Hands.{after}
 use Rattle.key_events.proofs.Puts.{none_by, on_ok, slot_kept}
 use Rattle.key_events.specs.Puts.{put_changes}

@@ -1,6 +1,5 @@
 use Rattle.std.proofs.Common.{◌≡◌, ◌+◌, ◌<◌, ◌^◌, ℤ, rules, to_z, of_z, w64, sym, ap, ◌∙◌, subst}
 use Rattle.std.proofs.Math.Facts.{to_z-of_z}
-use Rattle.block_spec.specs.declared.change.Change.TheVariants as change
 use Rattle.core_parts.specs.Hands.{after}
 use Rattle.event_spec.specs.Parts.{HeadOf, head_from}
 use Rattle.event_spec.specs.Sound.{IsOfKind}

@@ -1,4 +1,4 @@
-use Rattle.std.proofs.Common.{◌≡◌, ◌==◌, ℤ, true, false, rules, to_z, of_z, w64, length, sym, ap, ◌∙◌, subst}
+use Rattle.std.proofs.Common.{◌≡◌, ◌==◌, ℤ, rules, to_z, of_z, w64, length, sym, ap, ◌∙◌, subst}
 use Rattle.std.proofs.Math.Facts.{to_z-of_z}
 use Rattle.std.specs.List.{list_any}
 use Rattle.block_spec.specs.declared.change.Change.TheVariants as change

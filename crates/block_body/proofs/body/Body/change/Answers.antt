@@ -42,7 +42,7 @@ pub write-requires-clause-row : goal.write-requires-clause-row
 write-requires-clause-row c =
     let i = c.self.inside in
     let at : slot_in c.args.self.now c.args.slot ≡ slot_at i.rows.rows i.chains.entries c.args.slot =
-    ap (λ (b : BodyValue). slot_in b c.args.slot) (sym c.self.view_is) ∙ body_slot i.rows i.chains.entries i.written.entries i.phase i.cooling i.rounds i.last c.self.invariant c.args.slot in
+    ap (λ (b : BodyValue). slot_in b c.args.slot) (sym c.self.view_is) ∙ body_slot i.rows i.chains.entries i.written i.phase i.cooling i.rounds i.last c.self.invariant c.args.slot in
     let has : is_some (get_or i.rows.rows c.args.slot None) ≡ wants_row c.args.change.now = ap (λ (s : Slot). is_some s.row) (sym at) ∙ c.requires.row in
     has
 
@@ -50,7 +50,7 @@ pub push-requires-clause-lawful : goal.push-requires-clause-lawful
 push-requires-clause-lawful c =
     let i = c.self.inside in
     let at : slot_in c.args.self.now c.args.slot ≡ slot_at i.rows.rows i.chains.entries c.args.slot =
-    ap (λ (b : BodyValue). slot_in b c.args.slot) (sym c.self.view_is) ∙ body_slot i.rows i.chains.entries i.written.entries i.phase i.cooling i.rounds i.last c.self.invariant c.args.slot in
+    ap (λ (b : BodyValue). slot_in b c.args.slot) (sym c.self.view_is) ∙ body_slot i.rows i.chains.entries i.written i.phase i.cooling i.rounds i.last c.self.invariant c.args.slot in
     subst (λ (b : Before). IsLawful (undo_of c.args.by b ∷ entries_at i.chains.entries c.args.slot)) (sym c.in_ok-before.ensures.before)
     (subst (λ (s : Slot). IsLawful (changed c.args.by c.args.change.now s).entries) at
     (c.requires.lawful (subst (λ (s : Slot). IsLawful s.entries) (sym at) (lawful_at i.chains.entries c.self.invariant.each c.args.slot))))
@@ -61,7 +61,7 @@ invariant_of-self-in-Ok c =
     let long : c.args.slot < length i.rows.rows = subst (λ n. c.args.slot < n)
     (ap (λ (b : BodyValue). length b.slots) (sym c.self.view_is) ∙ slots-length (entries_at i.chains.entries) 0 i.rows.rows) c.requires.slot in
     let at : slot_in c.args.self.now c.args.slot ≡ slot_at i.rows.rows i.chains.entries c.args.slot =
-    ap (λ (b : BodyValue). slot_in b c.args.slot) (sym c.self.view_is) ∙ body_slot i.rows i.chains.entries i.written.entries i.phase i.cooling i.rounds i.last c.self.invariant c.args.slot in
+    ap (λ (b : BodyValue). slot_in b c.args.slot) (sym c.self.view_is) ∙ body_slot i.rows i.chains.entries i.written i.phase i.cooling i.rounds i.last c.self.invariant c.args.slot in
     let has : is_some (get_or i.rows.rows c.args.slot None) ≡ wants_row c.args.change.now = ap (λ (s : Slot). is_some s.row) (sym at) ∙ c.requires.row in
     let loose : is_loose i.phase ≡ true = ap (λ (b : BodyValue). is_loose b.phase) c.self.view_is ∙ c.requires.loose in
     let fits : ChangeFits i.rows.columns c.args.change.now = subst (λ (b : BodyValue). ChangeFits b.columns c.args.change.now) (sym c.self.view_is) c.requires.fits in
@@ -71,7 +71,7 @@ invariant_of-self-in-Ok c =
           c.self.invariant.kept c.in-Ok.ensures.here c.push.ensures.others c.write.ensures.room c.in_ok-before.ensures.within c.in_ok-before.ensures.fits;
       listed = installed_listed i.rows c.write.new.self i.chains.entries c.push.new.chains.entries c.args.slot c.args.by c.args.change.now c.in_ok-before.before long has c.in_ok-before.ensures.before c.in_ok-before.ensures.ok c.write.ensures.columns fits
           c.self.invariant.kept c.in-Ok.ensures.here c.push.ensures.others c.write.ensures.room c.in_ok-before.ensures.within c.in_ok-before.ensures.fits
-          i.written.entries c.add.new.lists.entries c.self.invariant.listed c.in_ok-add.ensures.added c.add.ensures.more;
+          i.written c.add.new.self c.self.invariant.listed c.in_ok-add.ensures.added c.add.ensures.more;
       quiet = λ frozen. absurd (not_frozen (is_loose i.phase) loose frozen);
       image = ap is_some c.write.ensures.own ∙ sym (not_imaged i.phase loose);
       frozen = subst (λ o. IfSome o (IsImageOf c.write.new.self.columns c.write.new.self.rows)) (sym c.write.ensures.own) tt;
@@ -84,7 +84,7 @@ returns-in-Ok-clause-ok c =
     let long : c.args.slot < length i.rows.rows = subst (λ n. c.args.slot < n)
     (ap (λ (b : BodyValue). length b.slots) (sym c.self.view_is) ∙ slots-length (entries_at i.chains.entries) 0 i.rows.rows) c.requires.slot in
     let at : slot_in c.args.self.now c.args.slot ≡ slot_at i.rows.rows i.chains.entries c.args.slot =
-    ap (λ (b : BodyValue). slot_in b c.args.slot) (sym c.self.view_is) ∙ body_slot i.rows i.chains.entries i.written.entries i.phase i.cooling i.rounds i.last c.self.invariant c.args.slot in
+    ap (λ (b : BodyValue). slot_in b c.args.slot) (sym c.self.view_is) ∙ body_slot i.rows i.chains.entries i.written i.phase i.cooling i.rounds i.last c.self.invariant c.args.slot in
     let has : is_some (get_or i.rows.rows c.args.slot None) ≡ wants_row c.args.change.now = ap (λ (s : Slot). is_some s.row) (sym at) ∙ c.requires.row in
     let loose : is_loose i.phase ≡ true = ap (λ (b : BodyValue). is_loose b.phase) c.self.view_is ∙ c.requires.loose in
     let fits : ChangeFits i.rows.columns c.args.change.now = subst (λ (b : BodyValue). ChangeFits b.columns c.args.change.now) (sym c.self.view_is) c.requires.fits in
@@ -95,7 +95,7 @@ returns-in-Ok-clause-ok c =
     (installed_slots i.rows c.write.new.self i.chains.entries c.push.new.chains.entries c.args.slot c.args.by c.args.change.now c.in_ok-before.before long has c.in_ok-before.ensures.before c.in_ok-before.ensures.ok c.write.ensures.columns fits
     c.self.invariant.kept c.in-Ok.ensures.here c.push.ensures.others c.write.ensures.room c.in_ok-before.ensures.within c.in_ok-before.ensures.fits
     ∙ ap (λ (s : Slot). slice_set (slots_from (entries_at i.chains.entries) 0 i.rows.rows) c.args.slot (changed c.args.by c.args.change.now s))
-    (sym (body_slot i.rows i.chains.entries i.written.entries i.phase i.cooling i.rounds i.last c.self.invariant c.args.slot))))
+    (sym (body_slot i.rows i.chains.entries i.written i.phase i.cooling i.rounds i.last c.self.invariant c.args.slot))))
 
 pub restore-requires-clause-long : goal.restore-requires-clause-long
 restore-requires-clause-long c =
@@ -103,7 +103,7 @@ restore-requires-clause-long c =
     let long : c.args.slot < length i.rows.rows = subst (λ n. c.args.slot < n)
     (ap (λ (b : BodyValue). length b.slots) (sym c.self.view_is) ∙ slots-length (entries_at i.chains.entries) 0 i.rows.rows) c.requires.slot in
     let at : slot_in c.args.self.now c.args.slot ≡ slot_at i.rows.rows i.chains.entries c.args.slot =
-    ap (λ (b : BodyValue). slot_in b c.args.slot) (sym c.self.view_is) ∙ body_slot i.rows i.chains.entries i.written.entries i.phase i.cooling i.rounds i.last c.self.invariant c.args.slot in
+    ap (λ (b : BodyValue). slot_in b c.args.slot) (sym c.self.view_is) ∙ body_slot i.rows i.chains.entries i.written i.phase i.cooling i.rounds i.last c.self.invariant c.args.slot in
     let has : is_some (get_or i.rows.rows c.args.slot None) ≡ wants_row c.args.change.now = ap (λ (s : Slot). is_some s.row) (sym at) ∙ c.requires.row in
     let loose : is_loose i.phase ≡ true = ap (λ (b : BodyValue). is_loose b.phase) c.self.view_is ∙ c.requires.loose in
     let fits : ChangeFits i.rows.columns c.args.change.now = subst (λ (b : BodyValue). ChangeFits b.columns c.args.change.now) (sym c.self.view_is) c.requires.fits in
@@ -115,7 +115,7 @@ invariant_of-self-in-Err c =
     let long : c.args.slot < length i.rows.rows = subst (λ n. c.args.slot < n)
     (ap (λ (b : BodyValue). length b.slots) (sym c.self.view_is) ∙ slots-length (entries_at i.chains.entries) 0 i.rows.rows) c.requires.slot in
     let at : slot_in c.args.self.now c.args.slot ≡ slot_at i.rows.rows i.chains.entries c.args.slot =
-    ap (λ (b : BodyValue). slot_in b c.args.slot) (sym c.self.view_is) ∙ body_slot i.rows i.chains.entries i.written.entries i.phase i.cooling i.rounds i.last c.self.invariant c.args.slot in
+    ap (λ (b : BodyValue). slot_in b c.args.slot) (sym c.self.view_is) ∙ body_slot i.rows i.chains.entries i.written i.phase i.cooling i.rounds i.last c.self.invariant c.args.slot in
     let has : is_some (get_or i.rows.rows c.args.slot None) ≡ wants_row c.args.change.now = ap (λ (s : Slot). is_some s.row) (sym at) ∙ c.requires.row in
     let loose : is_loose i.phase ≡ true = ap (λ (b : BodyValue). is_loose b.phase) c.self.view_is ∙ c.requires.loose in
     let fits : ChangeFits i.rows.columns c.args.change.now = subst (λ (b : BodyValue). ChangeFits b.columns c.args.change.now) (sym c.self.view_is) c.requires.fits in
@@ -140,7 +140,7 @@ returns-in-Err-clause-err c =
     let long : c.args.slot < length i.rows.rows = subst (λ n. c.args.slot < n)
     (ap (λ (b : BodyValue). length b.slots) (sym c.self.view_is) ∙ slots-length (entries_at i.chains.entries) 0 i.rows.rows) c.requires.slot in
     let at : slot_in c.args.self.now c.args.slot ≡ slot_at i.rows.rows i.chains.entries c.args.slot =
-    ap (λ (b : BodyValue). slot_in b c.args.slot) (sym c.self.view_is) ∙ body_slot i.rows i.chains.entries i.written.entries i.phase i.cooling i.rounds i.last c.self.invariant c.args.slot in
+    ap (λ (b : BodyValue). slot_in b c.args.slot) (sym c.self.view_is) ∙ body_slot i.rows i.chains.entries i.written i.phase i.cooling i.rounds i.last c.self.invariant c.args.slot in
     let has : is_some (get_or i.rows.rows c.args.slot None) ≡ wants_row c.args.change.now = ap (λ (s : Slot). is_some s.row) (sym at) ∙ c.requires.row in
     let loose : is_loose i.phase ≡ true = ap (λ (b : BodyValue). is_loose b.phase) c.self.view_is ∙ c.requires.loose in
     let fits : ChangeFits i.rows.columns c.args.change.now = subst (λ (b : BodyValue). ChangeFits b.columns c.args.change.now) (sym c.self.view_is) c.requires.fits in

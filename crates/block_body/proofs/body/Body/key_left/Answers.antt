@@ -17,7 +17,7 @@ pub returns-then-has_row : goal.returns-then-has_row
 returns-then-has_row c =
     let i = c.self.inside in
     let at : slot_in c.args.self.now c.args.slot ≡ slot_at i.rows.rows i.chains.entries c.args.slot =
-    ap (λ (b : BodyValue). slot_in b c.args.slot) (sym c.self.view_is) ∙ body_slot i.rows i.chains.entries i.written.entries i.phase i.cooling i.rounds i.last c.self.invariant c.args.slot in
+    ap (λ (b : BodyValue). slot_in b c.args.slot) (sym c.self.view_is) ∙ body_slot i.rows i.chains.entries i.written i.phase i.cooling i.rounds i.last c.self.invariant c.args.slot in
     left_row c.args.oldest (slot_in c.args.self.now c.args.slot)
     (ap (λ (s : Slot). is_some s.row) at
     ∙ (subst (λ (l : List (Option Row)). IsTrue c.has_row.result ↔ IsSome (get_or l c.args.slot None)) c.columns.ensures.rows c.has_row.ensures).0 c.if-has_row.true)
@@ -26,7 +26,7 @@ pub returns-in_err-chain : goal.returns-in_err-chain
 returns-in_err-chain c =
     let i = c.self.inside in
     let at : slot_in c.args.self.now c.args.slot ≡ slot_at i.rows.rows i.chains.entries c.args.slot =
-    ap (λ (b : BodyValue). slot_in b c.args.slot) (sym c.self.view_is) ∙ body_slot i.rows i.chains.entries i.written.entries i.phase i.cooling i.rounds i.last c.self.invariant c.args.slot in
+    ap (λ (b : BodyValue). slot_in b c.args.slot) (sym c.self.view_is) ∙ body_slot i.rows i.chains.entries i.written i.phase i.cooling i.rounds i.last c.self.invariant c.args.slot in
     let row : (slot_in c.args.self.now c.args.slot).row ≡ None =
     ap (λ (s : Slot). s.row) at ∙ no_row_there (get_or i.rows.rows c.args.slot None) c.has_row.result
     (subst (λ (l : List (Option Row)). IsTrue c.has_row.result ↔ IsSome (get_or l c.args.slot None)) c.columns.ensures.rows c.has_row.ensures) c.if-has_row.false in
@@ -36,7 +36,7 @@ pub returns-then-not-is_stamped_by : goal.returns-then-not-is_stamped_by
 returns-then-not-is_stamped_by c =
     let i = c.self.inside in
     let at : slot_in c.args.self.now c.args.slot ≡ slot_at i.rows.rows i.chains.entries c.args.slot =
-    ap (λ (b : BodyValue). slot_in b c.args.slot) (sym c.self.view_is) ∙ body_slot i.rows i.chains.entries i.written.entries i.phase i.cooling i.rounds i.last c.self.invariant c.args.slot in
+    ap (λ (b : BodyValue). slot_in b c.args.slot) (sym c.self.view_is) ∙ body_slot i.rows i.chains.entries i.written i.phase i.cooling i.rounds i.last c.self.invariant c.args.slot in
     let row : (slot_in c.args.self.now c.args.slot).row ≡ None =
     ap (λ (s : Slot). s.row) at ∙ no_row_there (get_or i.rows.rows c.args.slot None) c.has_row.result
     (subst (λ (l : List (Option Row)). IsTrue c.has_row.result ↔ IsSome (get_or l c.args.slot None)) c.columns.ensures.rows c.has_row.ensures) c.if-has_row.false in
@@ -49,7 +49,7 @@ pub taken_away-requires : goal.taken_away-requires
 taken_away-requires c =
     let i = c.self.inside in
     let at : slot_in c.args.self.now c.args.slot ≡ slot_at i.rows.rows i.chains.entries c.args.slot =
-    ap (λ (b : BodyValue). slot_in b c.args.slot) (sym c.self.view_is) ∙ body_slot i.rows i.chains.entries i.written.entries i.phase i.cooling i.rounds i.last c.self.invariant c.args.slot in
+    ap (λ (b : BodyValue). slot_in b c.args.slot) (sym c.self.view_is) ∙ body_slot i.rows i.chains.entries i.written i.phase i.cooling i.rounds i.last c.self.invariant c.args.slot in
     ap (λ (s : Slot). s.row) at ∙ no_row_there (get_or i.rows.rows c.args.slot None) c.has_row.result
     (subst (λ (l : List (Option Row)). IsTrue c.has_row.result ↔ IsSome (get_or l c.args.slot None)) c.columns.ensures.rows c.has_row.ensures) c.if-has_row.false
 
@@ -57,7 +57,7 @@ pub returns : goal.returns
 returns c =
     let i = c.self.inside in
     let at : slot_in c.args.self.now c.args.slot ≡ slot_at i.rows.rows i.chains.entries c.args.slot =
-    ap (λ (b : BodyValue). slot_in b c.args.slot) (sym c.self.view_is) ∙ body_slot i.rows i.chains.entries i.written.entries i.phase i.cooling i.rounds i.last c.self.invariant c.args.slot in
+    ap (λ (b : BodyValue). slot_in b c.args.slot) (sym c.self.view_is) ∙ body_slot i.rows i.chains.entries i.written i.phase i.cooling i.rounds i.last c.self.invariant c.args.slot in
     let row : (slot_in c.args.self.now c.args.slot).row ≡ None =
     ap (λ (s : Slot). s.row) at ∙ no_row_there (get_or i.rows.rows c.args.slot None) c.has_row.result
     (subst (λ (l : List (Option Row)). IsTrue c.has_row.result ↔ IsSome (get_or l c.args.slot None)) c.columns.ensures.rows c.has_row.ensures) c.if-has_row.false in

@@ -17,7 +17,7 @@ pub returns-then-not-has_row : goal.returns-then-not-has_row
 returns-then-not-has_row c =
     let i = c.self.inside in
     let at : slot_in c.args.self.now c.args.slot ≡ slot_at i.rows.rows i.chains.entries c.args.slot =
-    ap (λ (b : BodyValue). slot_in b c.args.slot) (sym c.self.view_is) ∙ body_slot i.rows i.chains.entries i.written.entries i.phase i.cooling i.rounds i.last c.self.invariant c.args.slot in
+    ap (λ (b : BodyValue). slot_in b c.args.slot) (sym c.self.view_is) ∙ body_slot i.rows i.chains.entries i.written i.phase i.cooling i.rounds i.last c.self.invariant c.args.slot in
     let row : Option Row = get_or i.rows.rows c.args.slot None in
     let tells = subst (λ (l : List (Option Row)). IsTrue c.has_row.result ↔ IsSome (get_or l c.args.slot None)) c.columns-columns.ensures.rows c.has_row.ensures in
     let back = ap (λ (s : Slot). movable_row c.args.slot s.row (has_none s.entries)) (sym at) in
@@ -32,7 +32,7 @@ pub key_in-requires : goal.key_in-requires
 key_in-requires c =
     let i = c.self.inside in
     let at : slot_in c.args.self.now c.args.slot ≡ slot_at i.rows.rows i.chains.entries c.args.slot =
-    ap (λ (b : BodyValue). slot_in b c.args.slot) (sym c.self.view_is) ∙ body_slot i.rows i.chains.entries i.written.entries i.phase i.cooling i.rounds i.last c.self.invariant c.args.slot in
+    ap (λ (b : BodyValue). slot_in b c.args.slot) (sym c.self.view_is) ∙ body_slot i.rows i.chains.entries i.written i.phase i.cooling i.rounds i.last c.self.invariant c.args.slot in
     let rows = c.columns-columns.ensures.rows in
     cell_has_key (get_or i.rows.rows c.args.slot None) c.in_ok-cell.cell
     ((subst (λ (l : List (Option Row)). IsTrue c.has_row.result ↔ IsSome (get_or l c.args.slot None)) rows c.has_row.ensures).0 c.if-not-has_row.false)
@@ -43,7 +43,7 @@ pub returns : goal.returns
 returns c =
     let i = c.self.inside in
     let at : slot_in c.args.self.now c.args.slot ≡ slot_at i.rows.rows i.chains.entries c.args.slot =
-    ap (λ (b : BodyValue). slot_in b c.args.slot) (sym c.self.view_is) ∙ body_slot i.rows i.chains.entries i.written.entries i.phase i.cooling i.rounds i.last c.self.invariant c.args.slot in
+    ap (λ (b : BodyValue). slot_in b c.args.slot) (sym c.self.view_is) ∙ body_slot i.rows i.chains.entries i.written i.phase i.cooling i.rounds i.last c.self.invariant c.args.slot in
     let rows = c.columns-columns.ensures.rows in
     let key : to_z w64 (of_z w64 c.key_in.result) ≡ c.key_in.result = to_z-of_z w64 c.key_in.result (search rules) in
     may_move c.args.slot (get_or i.rows.rows c.args.slot None) (chain_at i.chains.entries c.args.slot) (c.self.invariant.each.each c.args.slot) c.has_row.result c.contains_key.result

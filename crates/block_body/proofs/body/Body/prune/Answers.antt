@@ -15,7 +15,7 @@ pub invariant_of-self : goal.invariant_of-self
 invariant_of-self c =
     let i = c.self.inside in
     let new = c.prune.new.chains.entries in
-    body_after i.rows i.rows i.chains.entries new i.written.entries i.written.entries i.phase i.last c.self.invariant
+    body_after i.rows i.rows i.chains.entries new i.written i.written i.phase i.last c.self.invariant
     c.prune.ensures.chains
     (λ k. kept_pruned i.rows k _ c.args.oldest (entries_at i.chains.entries k) (entries_at new k) (c.prune.ensures.entries k) (lawful_at i.chains.entries c.self.invariant.each k) (c.self.invariant.kept k))
     (λ k none. c.prune.ensures.entries k ∙ ap (filter (λ (undo : Undo Before). not (is_stamped_by undo c.args.oldest))) none)

@@ -21,7 +21,7 @@ pub returns-in_err-row-clause-steps : goal.returns-in_err-row-clause-steps
 returns-in_err-row-clause-steps g c =
     let i = c.self.inside in
     let at : slot_in c.args.self.now c.args.slot ≡ slot_at i.rows.rows i.chains.entries c.args.slot =
-    ap (λ (b : BodyValue). slot_in b c.args.slot) (sym c.self.view_is) ∙ body_slot i.rows i.chains.entries i.written.entries i.phase i.cooling i.rounds i.last c.self.invariant c.args.slot in
+    ap (λ (b : BodyValue). slot_in b c.args.slot) (sym c.self.view_is) ∙ body_slot i.rows i.chains.entries i.written i.phase i.cooling i.rounds i.last c.self.invariant c.args.slot in
     c.row.ensures.steps
     ∙ ap (λ (l : List (Option Row)). c.args.steps.now + cond (is_some (get_or l c.args.slot None)) 1 0) c.columns.ensures.rows
     ∙ ap (λ (s : Slot). c.args.steps.now + cond (is_some s.row) 1 0) (sym at)
@@ -30,7 +30,7 @@ pub returns-in-Some-clause-row : goal.returns-in-Some-clause-row
 returns-in-Some-clause-row g c =
     let i = c.self.inside in
     let at : slot_in c.args.self.now c.args.slot ≡ slot_at i.rows.rows i.chains.entries c.args.slot =
-    ap (λ (b : BodyValue). slot_in b c.args.slot) (sym c.self.view_is) ∙ body_slot i.rows i.chains.entries i.written.entries i.phase i.cooling i.rounds i.last c.self.invariant c.args.slot in
+    ap (λ (b : BodyValue). slot_in b c.args.slot) (sym c.self.view_is) ∙ body_slot i.rows i.chains.entries i.written i.phase i.cooling i.rounds i.last c.self.invariant c.args.slot in
     subst (λ (r : Option Row). IfOk c.visible_row.result (λ row. row ≡ r))
     (ap (λ (r : Option Row). visible_row laid_back r (reverse c.entries.result.now) c.args.stamp c.args.session) (c.in_ok-row.ensures.row ∙ ap (λ (l : List (Option Row)). get_or l c.args.slot None) c.columns.ensures.rows)
     ∙ ap (λ (es : List (Undo Before)). visible_row laid_back (get_or i.rows.rows c.args.slot None) es c.args.stamp c.args.session) (c.entries.ensures ∙ c.in-Some.ensures.entries)
@@ -41,7 +41,7 @@ pub returns-in-Some-clause-steps : goal.returns-in-Some-clause-steps
 returns-in-Some-clause-steps g c =
     let i = c.self.inside in
     let at : slot_in c.args.self.now c.args.slot ≡ slot_at i.rows.rows i.chains.entries c.args.slot =
-    ap (λ (b : BodyValue). slot_in b c.args.slot) (sym c.self.view_is) ∙ body_slot i.rows i.chains.entries i.written.entries i.phase i.cooling i.rounds i.last c.self.invariant c.args.slot in
+    ap (λ (b : BodyValue). slot_in b c.args.slot) (sym c.self.view_is) ∙ body_slot i.rows i.chains.entries i.written i.phase i.cooling i.rounds i.last c.self.invariant c.args.slot in
     c.row.ensures.steps
     ∙ ap (λ (l : List (Option Row)). c.args.steps.now + cond (is_some (get_or l c.args.slot None)) 1 0) c.columns.ensures.rows
     ∙ ap (λ (s : Slot). c.args.steps.now + cond (is_some s.row) 1 0) (sym at)
@@ -50,7 +50,7 @@ pub returns-in-None-clause-row : goal.returns-in-None-clause-row
 returns-in-None-clause-row g c =
     let i = c.self.inside in
     let at : slot_in c.args.self.now c.args.slot ≡ slot_at i.rows.rows i.chains.entries c.args.slot =
-    ap (λ (b : BodyValue). slot_in b c.args.slot) (sym c.self.view_is) ∙ body_slot i.rows i.chains.entries i.written.entries i.phase i.cooling i.rounds i.last c.self.invariant c.args.slot in
+    ap (λ (b : BodyValue). slot_in b c.args.slot) (sym c.self.view_is) ∙ body_slot i.rows i.chains.entries i.written i.phase i.cooling i.rounds i.last c.self.invariant c.args.slot in
     c.in_ok-row.ensures.row
     ∙ ap (λ (l : List (Option Row)). get_or l c.args.slot None) c.columns.ensures.rows
     ∙ ap (λ (es : List (Undo Before)). visible_row laid_back (get_or i.rows.rows c.args.slot None) es c.args.stamp c.args.session) (sym c.in-None.ensures.none)
@@ -60,7 +60,7 @@ pub returns-in-None-clause-steps : goal.returns-in-None-clause-steps
 returns-in-None-clause-steps g c =
     let i = c.self.inside in
     let at : slot_in c.args.self.now c.args.slot ≡ slot_at i.rows.rows i.chains.entries c.args.slot =
-    ap (λ (b : BodyValue). slot_in b c.args.slot) (sym c.self.view_is) ∙ body_slot i.rows i.chains.entries i.written.entries i.phase i.cooling i.rounds i.last c.self.invariant c.args.slot in
+    ap (λ (b : BodyValue). slot_in b c.args.slot) (sym c.self.view_is) ∙ body_slot i.rows i.chains.entries i.written i.phase i.cooling i.rounds i.last c.self.invariant c.args.slot in
     c.row.ensures.steps
     ∙ ap (λ (l : List (Option Row)). c.args.steps.now + cond (is_some (get_or l c.args.slot None)) 1 0) c.columns.ensures.rows
     ∙ ap (λ (s : Slot). c.args.steps.now + cond (is_some s.row) 1 0) (sym at)

@@ -10,7 +10,7 @@ use Rattle.block_spec.specs.Bodies.{Body as BodyValue, is_written_by, modified}
 use Rattle.block_body.specs.Chains.{Chains, entries_at, is_listed}
 use Rattle.block_body.specs.Frozen.{IsImageOf}
 use Rattle.block_body.specs.Slots.{slots_from}
-use Rattle.block_body.specs.Bodies.{body_value, slots_listed, slots_of}
+use Rattle.block_body.specs.Bodies.{body_value, slots_of}
 use Rattle.block_body.proofs.After.{body_without, lawful_at, filtered_fewer}
 use Rattle.block_body.proofs.Popped.{none_left}
 use Rattle.block_body.proofs.Whole.{no_length}
@@ -21,7 +21,7 @@ pub returns-in_default : goal.returns-in_default
 returns-in_default c =
     let i = c.self.inside in
     let B : BodyValue = body_value i.rows i.chains.entries i.phase i.cooling i.rounds i.last in
-    let none = unlisted c.args.session i.rows i.chains.entries i.written.entries i.phase i.last c.self.invariant c.in_default.ensures.value in
+    let none = unlisted c.args.session i.rows i.chains.entries i.written i.phase i.last c.self.invariant c.in_default.ensures.none in
     rw (← c.self.view_is)
     (sym (rolled_as c.args.session B false (unwritten c.args.session (entries_at i.chains.entries) 0 i.rows.rows (lawful_at i.chains.entries c.self.invariant.each) none)))
 
@@ -40,22 +40,22 @@ invariant_of-self-then-roll_back c =
     let B : BodyValue = body_value i.rows i.chains.entries i.phase i.cooling i.rounds i.last in
     let rows = c.roll_back.new.rows in
     let new = c.roll_back.new.chains.entries in
-    let listed : c.as_slice.result.now ≡ slots_of i.written.entries c.args.session = c.as_slice.ensures.value ∙ c.list.view_is ∙ ap slots_listed c.in-Some.ensures.value in
+    let listed : c.as_slice.result.now ≡ slots_of i.written c.args.session = c.as_slice.ensures.value ∙ c.in-Some.ensures.some in
     let all : (k : ℕ) → list_any (λ undo. is_own undo c.args.session) (entries_at i.chains.entries k) ≡ true → is_listed c.as_slice.result.now k ≡ true =
     λ k own. ap (λ (l : List ℕ). is_listed l k) listed ∙ c.self.invariant.listed c.args.session k own in
     let each : (k : ℕ) → entries_at new k ≡ filter (λ undo. not (is_own undo c.args.session)) (entries_at i.chains.entries k) =
     λ k. ap (λ (s : Slot). s.entries) (rolled_each c.args.session i.rows.rows rows.rows i.chains.entries new c.as_slice.result.now c.roll_back.ensures.long all c.roll_back.ensures.slots k) in
-    body_without i.rows rows i.chains.entries new i.written.entries c.remove.new.self.entries i.phase i.last c.self.invariant
+    body_without i.rows rows i.chains.entries new i.written c.take.new.self i.phase i.last c.self.invariant
     c.roll_back.ensures.chains
     c.roll_back.ensures.kept
     (λ k none. each k ∙ ap (filter (λ (undo : Undo Before). not (is_own undo c.args.session))) none)
-    (c.roll_back.ensures.own ∙ sym (own_image i.rows i.chains.entries i.written.entries i.phase i.last c.self.invariant
+    (c.roll_back.ensures.own ∙ sym (own_image i.rows i.chains.entries i.written i.phase i.last c.self.invariant
     (λ none. let never : true ≡ false = sym (c.is_empty.ensures.1 (ap length none)) ∙ c.if-is_empty.false in cc)))
     (subst (λ o. IfSome o (IsImageOf rows.columns rows.rows)) (sym c.roll_back.ensures.own) tt)
     (λ q k own. filtered_fewer (λ undo. not (is_own undo c.args.session)) q (entries_at i.chains.entries k) (sym (ap (list_any (λ (undo : Undo Before). is_own undo q)) (each k)) ∙ own))
     c.args.session
     (λ k. ap (list_any (λ (undo : Undo Before). is_own undo c.args.session)) (each k) ∙ none_left c.args.session (entries_at i.chains.entries k))
-    c.remove.ensures.updates.0
+    c.take.ensures.others
 
 pub invariant_of-self-else-roll_back : goal.invariant_of-self-else-roll_back
 invariant_of-self-else-roll_back c =
@@ -63,22 +63,22 @@ invariant_of-self-else-roll_back c =
     let B : BodyValue = body_value i.rows i.chains.entries i.phase i.cooling i.rounds i.last in
     let rows = c.roll_back.new.rows in
     let new = c.roll_back.new.chains.entries in
-    let listed : c.as_slice.result.now ≡ slots_of i.written.entries c.args.session = c.as_slice.ensures.value ∙ c.list.view_is ∙ ap slots_listed c.in-Some.ensures.value in
+    let listed : c.as_slice.result.now ≡ slots_of i.written c.args.session = c.as_slice.ensures.value ∙ c.in-Some.ensures.some in
     let all : (k : ℕ) → list_any (λ undo. is_own undo c.args.session) (entries_at i.chains.entries k) ≡ true → is_listed c.as_slice.result.now k ≡ true =
     λ k own. ap (λ (l : List ℕ). is_listed l k) listed ∙ c.self.invariant.listed c.args.session k own in
     let each : (k : ℕ) → entries_at new k ≡ filter (λ undo. not (is_own undo c.args.session)) (entries_at i.chains.entries k) =
     λ k. ap (λ (s : Slot). s.entries) (rolled_each c.args.session i.rows.rows rows.rows i.chains.entries new c.as_slice.result.now c.roll_back.ensures.long all c.roll_back.ensures.slots k) in
-    body_without i.rows rows i.chains.entries new i.written.entries c.remove.new.self.entries i.phase i.last c.self.invariant
+    body_without i.rows rows i.chains.entries new i.written c.take.new.self i.phase i.last c.self.invariant
     c.roll_back.ensures.chains
     c.roll_back.ensures.kept
     (λ k none. each k ∙ ap (filter (λ (undo : Undo Before). not (is_own undo c.args.session))) none)
-    (c.roll_back.ensures.own ∙ sym (own_image i.rows i.chains.entries i.written.entries i.phase i.last c.self.invariant
+    (c.roll_back.ensures.own ∙ sym (own_image i.rows i.chains.entries i.written i.phase i.last c.self.invariant
     (λ none. let never : true ≡ false = sym (c.is_empty.ensures.1 (ap length none)) ∙ c.if-is_empty.false in cc)))
     (subst (λ o. IfSome o (IsImageOf rows.columns rows.rows)) (sym c.roll_back.ensures.own) tt)
     (λ q k own. filtered_fewer (λ undo. not (is_own undo c.args.session)) q (entries_at i.chains.entries k) (sym (ap (list_any (λ (undo : Undo Before). is_own undo q)) (each k)) ∙ own))
     c.args.session
     (λ k. ap (list_any (λ (undo : Undo Before). is_own undo c.args.session)) (each k) ∙ none_left c.args.session (entries_at i.chains.entries k))
-    c.remove.ensures.updates.0
+    c.take.ensures.others
 
 pub returns-then-roll_back : goal.returns-then-roll_back
 returns-then-roll_back c =
@@ -86,7 +86,7 @@ returns-then-roll_back c =
     let B : BodyValue = body_value i.rows i.chains.entries i.phase i.cooling i.rounds i.last in
     let rows = c.roll_back.new.rows in
     let new = c.roll_back.new.chains.entries in
-    let listed : c.as_slice.result.now ≡ slots_of i.written.entries c.args.session = c.as_slice.ensures.value ∙ c.list.view_is ∙ ap slots_listed c.in-Some.ensures.value in
+    let listed : c.as_slice.result.now ≡ slots_of i.written c.args.session = c.as_slice.ensures.value ∙ c.in-Some.ensures.some in
     let all : (k : ℕ) → list_any (λ undo. is_own undo c.args.session) (entries_at i.chains.entries k) ≡ true → is_listed c.as_slice.result.now k ≡ true =
     λ k own. ap (λ (l : List ℕ). is_listed l k) listed ∙ c.self.invariant.listed c.args.session k own in
     let found = find_any (λ slot. list_any (λ undo. is_own undo c.args.session) (entries_at i.chains.entries slot)) c.as_slice.result.now (sym c.roll_back.ensures.any ∙ c.if-roll_back.true) in
@@ -105,7 +105,7 @@ returns c =
     let B : BodyValue = body_value i.rows i.chains.entries i.phase i.cooling i.rounds i.last in
     let rows = c.roll_back.new.rows in
     let new = c.roll_back.new.chains.entries in
-    let listed : c.as_slice.result.now ≡ slots_of i.written.entries c.args.session = c.as_slice.ensures.value ∙ c.list.view_is ∙ ap slots_listed c.in-Some.ensures.value in
+    let listed : c.as_slice.result.now ≡ slots_of i.written c.args.session = c.as_slice.ensures.value ∙ c.in-Some.ensures.some in
     let all : (k : ℕ) → list_any (λ undo. is_own undo c.args.session) (entries_at i.chains.entries k) ≡ true → is_listed c.as_slice.result.now k ≡ true =
     λ k own. ap (λ (l : List ℕ). is_listed l k) listed ∙ c.self.invariant.listed c.args.session k own in
     let none : (k : ℕ) → list_any (λ undo. is_own undo c.args.session) (entries_at i.chains.entries k) ≡ false =

@@ -1,4 +1,4 @@
-use Rattle.std.proofs.Common.{◌≡◌, ◌∙◌, Bool, List, Option, None, is_some, get_or, ap, sym, subst}
+use Rattle.std.proofs.Common.{◌≡◌, ◌∙◌, List, Option, None, is_some, get_or, ap, sym, subst}
 use Rattle.std.specs.Prelude.{◌↔◌, IsTrue, IsSome, fold}
 use Rattle.undo_chain.specs.Visible.{images_laid_back}
 use Rattle.undo_chain.specs.declared.undo.Undo.{Undo}
@@ -15,7 +15,7 @@ pub returns-in-Some : goal.returns-in-Some
 returns-in-Some c =
     let i = c.self.inside in
     let at : slot_in c.args.self.now c.args.slot ≡ slot_at i.rows.rows i.chains.entries c.args.slot =
-    ap (λ (b : BodyValue). slot_in b c.args.slot) (sym c.self.view_is) ∙ body_slot i.rows i.chains.entries i.written.entries i.phase i.cooling i.rounds i.last c.self.invariant c.args.slot in
+    ap (λ (b : BodyValue). slot_in b c.args.slot) (sym c.self.view_is) ∙ body_slot i.rows i.chains.entries i.written i.phase i.cooling i.rounds i.last c.self.invariant c.args.slot in
     let has : c.has_row-has_row.result ≡ is_some (get_or i.rows.rows c.args.slot None) =
     told_there c.has_row-has_row.result (get_or i.rows.rows c.args.slot None)
     (subst (λ (l : List (Option Row)). IsTrue c.has_row-has_row.result ↔ IsSome (get_or l c.args.slot None)) c.columns.ensures.rows c.has_row-has_row.ensures) in
@@ -28,7 +28,7 @@ pub returns-in-None : goal.returns-in-None
 returns-in-None c =
     let i = c.self.inside in
     let at : slot_in c.args.self.now c.args.slot ≡ slot_at i.rows.rows i.chains.entries c.args.slot =
-    ap (λ (b : BodyValue). slot_in b c.args.slot) (sym c.self.view_is) ∙ body_slot i.rows i.chains.entries i.written.entries i.phase i.cooling i.rounds i.last c.self.invariant c.args.slot in
+    ap (λ (b : BodyValue). slot_in b c.args.slot) (sym c.self.view_is) ∙ body_slot i.rows i.chains.entries i.written i.phase i.cooling i.rounds i.last c.self.invariant c.args.slot in
     let has : c.has_row-has_row.result ≡ is_some (get_or i.rows.rows c.args.slot None) =
     told_there c.has_row-has_row.result (get_or i.rows.rows c.args.slot None)
     (subst (λ (l : List (Option Row)). IsTrue c.has_row-has_row.result ↔ IsSome (get_or l c.args.slot None)) c.columns.ensures.rows c.has_row-has_row.ensures) in

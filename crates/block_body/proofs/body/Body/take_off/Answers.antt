@@ -17,7 +17,7 @@ pub unreachable-requires : goal.unreachable-requires
 unreachable-requires c =
     let i = c.self.inside in
     let at : slot_in c.args.self.now c.args.slot ≡ slot_at i.rows.rows i.chains.entries c.args.slot =
-    ap (λ (b : BodyValue). slot_in b c.args.slot) (sym c.self.view_is) ∙ body_slot i.rows i.chains.entries i.written.entries i.phase i.cooling i.rounds i.last c.self.invariant c.args.slot in
+    ap (λ (b : BodyValue). slot_in b c.args.slot) (sym c.self.view_is) ∙ body_slot i.rows i.chains.entries i.written i.phase i.cooling i.rounds i.last c.self.invariant c.args.slot in
     let some : 0 < length (entries_at i.chains.entries c.args.slot) = some_entry (entries_at i.chains.entries c.args.slot) (ap (λ (s : Slot). has_none s.entries) (sym at) ∙ c.requires) in
     let never : true ≡ false = sym (c.pop.ensures.some.1 some) ∙ ap is_some c.in_default.is in
     cc
@@ -28,13 +28,13 @@ invariant_of-self c =
     let new = c.pop.new.chains.entries in
     let rows = c.restore.new.self in
     let at : slot_in c.args.self.now c.args.slot ≡ slot_at i.rows.rows i.chains.entries c.args.slot =
-    ap (λ (b : BodyValue). slot_in b c.args.slot) (sym c.self.view_is) ∙ body_slot i.rows i.chains.entries i.written.entries i.phase i.cooling i.rounds i.last c.self.invariant c.args.slot in
+    ap (λ (b : BodyValue). slot_in b c.args.slot) (sym c.self.view_is) ∙ body_slot i.rows i.chains.entries i.written i.phase i.cooling i.rounds i.last c.self.invariant c.args.slot in
     let some : 0 < length (entries_at i.chains.entries c.args.slot) = some_entry (entries_at i.chains.entries c.args.slot) (ap (λ (s : Slot). has_none s.entries) (sym at) ∙ c.requires) in
-    body_after i.rows rows i.chains.entries new i.written.entries i.written.entries i.phase i.last c.self.invariant
+    body_after i.rows rows i.chains.entries new i.written i.written i.phase i.last c.self.invariant
     c.pop.ensures.chains
     (taken_kept i.rows rows i.chains.entries new c.args.slot c.in-Some.undo c.in-Some.ensures.here c.pop.ensures.others c.self.invariant.kept c.restore.ensures.columns c.restore.ensures.room c.restore.ensures.rows)
     (taken_nil i.rows rows i.chains.entries new c.args.slot c.in-Some.undo c.in-Some.ensures.here c.pop.ensures.others c.self.invariant.kept c.restore.ensures.columns c.restore.ensures.room c.restore.ensures.rows)
-    (c.restore.ensures.own ∙ sym (own_image i.rows i.chains.entries i.written.entries i.phase i.last c.self.invariant
+    (c.restore.ensures.own ∙ sym (own_image i.rows i.chains.entries i.written i.phase i.last c.self.invariant
     (λ none. let long : length (entries_at i.chains.entries c.args.slot) ≡ 0 = ap (λ (chains : Chains). length (entries_at chains c.args.slot)) none in absurd (omega arith))))
     (subst (λ o. IfSome o (IsImageOf rows.columns rows.rows)) (sym c.restore.ensures.own) tt)
     (taken_fewer i.rows rows i.chains.entries new c.args.slot c.in-Some.undo c.in-Some.ensures.here c.pop.ensures.others c.self.invariant.kept c.restore.ensures.columns c.restore.ensures.room c.restore.ensures.rows)
@@ -50,4 +50,4 @@ returns c =
     ∙ ap (λ (slots : List Slot). record (modified B) { slots = slots })
     (taken_slots i.rows rows i.chains.entries new c.args.slot c.in-Some.undo c.in-Some.ensures.here c.pop.ensures.others c.self.invariant.kept c.restore.ensures.columns c.restore.ensures.room c.restore.ensures.rows
     ∙ ap (λ (s : Slot). slice_set (slots_from (entries_at i.chains.entries) 0 i.rows.rows) c.args.slot (taken_back s))
-    (sym (body_slot i.rows i.chains.entries i.written.entries i.phase i.cooling i.rounds i.last c.self.invariant c.args.slot))))
+    (sym (body_slot i.rows i.chains.entries i.written i.phase i.cooling i.rounds i.last c.self.invariant c.args.slot))))

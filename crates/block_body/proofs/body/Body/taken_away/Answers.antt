@@ -12,7 +12,7 @@ pub returns-in_err-chain : goal.returns-in_err-chain
 returns-in_err-chain c =
     let i = c.self.inside in
     let at : slot_in c.args.self.now c.args.slot ≡ slot_at i.rows.rows i.chains.entries c.args.slot =
-    ap (λ (b : BodyValue). slot_in b c.args.slot) (sym c.self.view_is) ∙ body_slot i.rows i.chains.entries i.written.entries i.phase i.cooling i.rounds i.last c.self.invariant c.args.slot in
+    ap (λ (b : BodyValue). slot_in b c.args.slot) (sym c.self.view_is) ∙ body_slot i.rows i.chains.entries i.written i.phase i.cooling i.rounds i.last c.self.invariant c.args.slot in
     ap option_copied c.from_residual.ensures
     ∙ taken_none (slot_in c.args.self.now c.args.slot) c.requires (ap (λ (s : Slot). s.entries) at ∙ c.in_err-chain.ensures.none)
 
@@ -20,7 +20,7 @@ pub returns-in-Whole : goal.returns-in-Whole
 returns-in-Whole c =
     let i = c.self.inside in
     let at : slot_in c.args.self.now c.args.slot ≡ slot_at i.rows.rows i.chains.entries c.args.slot =
-    ap (λ (b : BodyValue). slot_in b c.args.slot) (sym c.self.view_is) ∙ body_slot i.rows i.chains.entries i.written.entries i.phase i.cooling i.rounds i.last c.self.invariant c.args.slot in
+    ap (λ (b : BodyValue). slot_in b c.args.slot) (sym c.self.view_is) ∙ body_slot i.rows i.chains.entries i.written i.phase i.cooling i.rounds i.last c.self.invariant c.args.slot in
     let found = last_first c.entries.result.now c.in_ok-row.field-0.now c.in_ok-row.ensures.value in
     sym (taken_top (slot_in c.args.self.now c.args.slot) c.in_ok-row.field-0.now found.0 c.requires
     (ap (λ (s : Slot). s.entries) at ∙ sym c.in_ok-chain.ensures.entries ∙ sym c.entries.ensures ∙ found.1)
@@ -30,7 +30,7 @@ pub returns-in-Empty : goal.returns-in-Empty
 returns-in-Empty c =
     let i = c.self.inside in
     let at : slot_in c.args.self.now c.args.slot ≡ slot_at i.rows.rows i.chains.entries c.args.slot =
-    ap (λ (b : BodyValue). slot_in b c.args.slot) (sym c.self.view_is) ∙ body_slot i.rows i.chains.entries i.written.entries i.phase i.cooling i.rounds i.last c.self.invariant c.args.slot in
+    ap (λ (b : BodyValue). slot_in b c.args.slot) (sym c.self.view_is) ∙ body_slot i.rows i.chains.entries i.written i.phase i.cooling i.rounds i.last c.self.invariant c.args.slot in
     let found = last_first c.entries.result.now c.in_ok-row.field-0.now c.in_ok-row.ensures.value in
     sym (taken_top (slot_in c.args.self.now c.args.slot) c.in_ok-row.field-0.now found.0 c.requires
     (ap (λ (s : Slot). s.entries) at ∙ sym c.in_ok-chain.ensures.entries ∙ sym c.entries.ensures ∙ found.1)

@@ -13,11 +13,13 @@ abbrev pub last_writer : Place → ℕ → List WriteSet → Option ℕ
 last_writer place at [] = None
 last_writer place at (writes ∷ later) = option_or (last_writer place (at + 1) later) (cond (writes_place place writes) (Some at) None)
 
-nothing-more : {X : Type 0} (o : Option X) → option_or o None ≡ o
+-- nothing to fall back on changes nothing
+pub nothing-more : {X : Type 0} (o : Option X) → option_or o None ≡ o
 nothing-more None = refl
 nothing-more (Some x) = refl
 
-over : {X : Type 0} (a : Option X) (x : X) (o : Option X) → option_or (option_or a (Some x)) o ≡ option_or a (Some x)
+-- with one to fall back on, no other is taken
+pub over : {X : Type 0} (a : Option X) (x : X) (o : Option X) → option_or (option_or a (Some x)) o ≡ option_or a (Some x)
 over None x o = refl
 over (Some y) x o = refl
 
