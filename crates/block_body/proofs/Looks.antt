@@ -1,13 +1,9 @@
 -- What a look finds, slot after slot.
-use Rattle.std.proofs.Common.{◌≡◌, ◌∙◌, ℕ, zero, suc, ◌+◌, ◌-◌, ◌<◌, ◌≤◌, ℤ, Bool, true, false, cond, List, [], ◌∷◌, ◌++◌, Option, None, Some, get_or, refl, sym, ap, subst, arith}
+use Rattle.std.proofs.Common.{◌≡◌, ◌∙◌, ℕ, zero, suc, ◌+◌, ◌-◌, ◌<◌, ◌≤◌, ℤ, Bool, true, false, cond, List, [], ◌∷◌, ◌++◌, Option, None, Some, get_or, refl, sym, ap, arith}
 use mathlib.Core.List.{append-nil}
 use Rattle.std.specs.Prelude.{◌↔◌, ◌&&◌, slice_get, IsTrue, IsSome, IfSome, filter, is_some, is_none}
 use Rattle.std.specs.List.{filter_map, list_all, range_with_len, cons_option}
 use Rattle.std.proofs.lemmas.List.Elements.{filter-append, filter_map-append}
-use Rattle.cell_model.specs.declared.cell.Cell.{Cell}
-use Rattle.cell_model.specs.declared.cell.Cell.TheVariants.{Null, Num, Truth, Text, Blob}
-use Rattle.cell_model.specs.declared.kind.Kind.TheVariants.{I64}
-use Rattle.cell_model.specs.Values.{is_integer_of}
 use Rattle.isolation_spec.specs.Contents.{key_of}
 use Rattle.block_spec.specs.declared.look.MovableRow.{MovableRow}
 use Rattle.block_spec.specs.Slots.{Row, Slot, bare, has_none, is_bare}
@@ -16,9 +12,7 @@ use Rattle.block_spec.specs.Looks.{movable, movable_row}
 use Rattle.block_spec.specs.declared.change.Before.{Before}
 use Rattle.undo_chain.specs.declared.undo.Undo.{Undo}
 use Rattle.undo_chain.specs.State.{ChainState}
-use Rattle.block_columns.specs.Columns.{cell_of}
 use Rattle.block_body.specs.Chains.{IsChain, entries_of}
-use Rattle.block_body.specs.Keys.{HasKey}
 use Rattle.block_body.proofs.Whole.{has_none-some}
 
 range_next : (a n : ℕ) → range_with_len a (suc n) ≡ range_with_len a n ++ (a + n) ∷ []
@@ -55,25 +49,6 @@ filter_map_skip h n is =
     ap (filter_map h) (range_more n) ∙ filter_map-append h (range_with_len 0 n) (n ∷ []) ∙ ap (λ o. filter_map h (range_with_len 0 n) ++ cons_option o []) is
     ∙ append-nil (filter_map h (range_with_len 0 n))
 
-pub first_key : (row : Row) → key_of (get_or row 0 Null ∷ []) ≡ key_of row
-first_key [] = refl
-first_key (cell ∷ cells) = one cell cells
-  where
-    one : (cell : Cell) (cells : Row) → key_of (cell ∷ []) ≡ key_of (cell ∷ cells)
-    one Null cells = refl
-    one (Num n) cells = refl
-    one (Truth b) cells = refl
-    one (Text t) cells = refl
-    one (Blob b) cells = refl
-
-pub cell_has_key : (row : Option Row) (cell : Cell) → IsSome row → cell ≡ cell_of 0 row → IfSome row HasKey → HasKey (cell ∷ [])
-cell_has_key None cell some is has = cc
-cell_has_key (Some row) cell some is has =
-    subst (λ (c : Cell). HasKey (c ∷ [])) (sym is) (subst (λ (k : ℤ). key_is k) (sym (first_key row)) has)
-  where
-    key_is : ℤ → Type 0
-    key_is k = is_integer_of I64 k ≡ true
-
 module _ (slot : ℕ) (row : Option Row) (found : Option (ChainState Before)) (are : (chain : ChainState Before) → found ≡ Some chain → IsChain chain) (has key : Bool)
     (tells : IsTrue has ↔ IsSome row) (has_key : key ≡ is_some found) where
   pub no_row : has ≡ false → None ≡ movable_row slot row (has_none (entries_of found))
@@ -92,16 +67,14 @@ module _ (slot : ℕ) (row : Option Row) (found : Option (ChainState Before)) (a
       go (Some r) None are has_key = let never : true ≡ false = sym is ∙ has_key in cc
       go (Some r) (Some chain) are has_key = ap (movable_row slot (Some r)) (sym (has_none-some chain.entries (are chain refl).some))
 
-  pub may_move : has ≡ true → key ≡ false → (k : ℤ) (cell : Cell) → cell ≡ cell_of 0 row → k ≡ key_of (cell ∷ []) →
-      Some (record { slot = slot; key = k }) ≡ movable_row slot row (has_none (entries_of found))
-  may_move holds lacks k cell cell_is key_is = go row found tells has_key cell_is
+  pub may_move : has ≡ true → key ≡ false → (k : ℤ) → IfSome row (λ row. k ≡ key_of row) → Some (record { slot = slot; key = k }) ≡ movable_row slot row (has_none (entries_of found))
+  may_move holds lacks k key_is = go row found tells has_key key_is
     where
-      go : (row : Option Row) (found : Option (ChainState Before)) → IsTrue has ↔ IsSome row → key ≡ is_some found → cell ≡ cell_of 0 row →
-          Some (record { slot = slot; key = k }) ≡ movable_row slot row (has_none (entries_of found))
-      go None found tells has_key cell_is = let never : false ≡ true = tells.0 holds in cc
-      go (Some r) (Some chain) tells has_key cell_is = let never : true ≡ false = sym has_key ∙ lacks in cc
-      go (Some r) None tells has_key cell_is =
-          ap (λ (n : ℤ). let m : MovableRow = record { slot = slot; key = n } in Some m) (key_is ∙ ap (λ (c : Cell). key_of (c ∷ [])) cell_is ∙ first_key r)
+      go : (row : Option Row) (found : Option (ChainState Before)) → IsTrue has ↔ IsSome row → key ≡ is_some found → IfSome row (λ row. k ≡ key_of row)
+          → Some (record { slot = slot; key = k }) ≡ movable_row slot row (has_none (entries_of found))
+      go None found tells has_key key_is = let never : false ≡ true = tells.0 holds in cc
+      go (Some r) (Some chain) tells has_key key_is = let never : true ≡ false = sym has_key ∙ lacks in cc
+      go (Some r) None tells has_key key_is = ap (λ (n : ℤ). let m : MovableRow = record { slot = slot; key = n } in Some m) key_is
 
 -- ---- an empty body
 

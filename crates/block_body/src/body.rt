@@ -22,7 +22,7 @@ ghost use Rattle.block_body.specs.Keys.{HasKey, HasKeys};
 
 use crate::chains::{self, Chains};
 use crate::lists::SessionLists;
-use crate::look::{Look, first_cell, key_in, key_of};
+use crate::look::{Look, key_at, key_of};
 use crate::origin::Origin;
 use crate::rows::Rows;
 use crate::shared::Shared;
@@ -492,7 +492,7 @@ impl Body {
     {
         let mut rows = Vec::new(self.alloc);
         for slot in 0..self.rows.columns().slots() {
-            if let Some(row) = self.movable(slot)? {
+            if let Some(row) = self.movable(slot) {
                 rows.push(row)?;
             }
         }
@@ -500,19 +500,16 @@ impl Body {
     }
 
     /// The row of a slot, if it may move.
-    pub fn movable(&self, slot: u32) -> Result<Option<MovableRow>, AllocError>
+    pub fn movable(&self, slot: u32) -> Option<MovableRow>
         requires { HasKeys self.now }
-        ensures { IfOk result (λ row. row ≡ movable self.now slot) }
+        ensures { result ≡ movable self.now slot }
     {
         let columns = self.rows.columns();
         if !columns.has_row(slot) || self.chains.contains_key(&slot) {
-            return Ok(None);
+            return None;
         }
-        let cell = first_cell(self.alloc, columns, slot)?;
-        Ok(Some(MovableRow {
-            slot,
-            key: key_in(&cell),
-        }))
+        let key = key_at(columns, slot);
+        Some(MovableRow { slot, key })
     }
 
     /// The bare slots, in order.

@@ -1,14 +1,11 @@
 //! What a compaction reads of a body.
-ghost use Rattle.std.specs.Prelude.{◌≡◌, ◌<◌, [], ◌∷◌, None, IfOk, length, slice_get};
-ghost use Rattle.std.specs.Prelude.{slice_index_or};
+ghost use Rattle.std.specs.Prelude.{◌≡◌, ◌<◌, None, IfSome, length, slice_get, slice_index_or};
 ghost use Rattle.isolation_spec.specs.Contents.{key_of};
-ghost use Rattle.block_columns.specs.Columns.{cell_of};
 ghost use Rattle.block_body.specs.Keys.{HasKey};
 
 use block_columns::Columns;
 use block_spec::{MovableRow, Phase};
 use cell_model::{Cell, Row};
-use std::alloc::{AllocError, Global};
 use std::marker::Model;
 
 /// The rows of a body that may move and its bare slots, and the body's state. Contracts see the
@@ -91,27 +88,17 @@ pub(crate) fn key_of(row: &Row) -> i64
     }
 }
 
-/// The number of a first cell, of 64 bits.
-pub(crate) fn key_in(cell: &Cell) -> i64
-    requires { HasKey (cell.now ∷ []) }
-    ensures { result ≡ key_of (cell.now ∷ []) }
-{
-    match cell {
-        Cell::Num(key) => i64::try_from(*key).unwrap_or(0),
-        _ => 0,
-    }
-}
-
-/// A copy of the first cell of a slot, which is null where the slot has no row.
-pub(crate) fn first_cell(alloc: Global, columns: &Columns, slot: u32) -> Result<Cell, AllocError>
-    requires { 0 < length columns.now.columns }
-    ensures { IfOk result (λ cell. cell ≡ cell_of 0 (slice_index_or columns.now.rows slot None)) }
+/// The key of the row of a slot, a number of 64 bits; 0 where the slot has no row.
+pub(crate) fn key_at(columns: &Columns, slot: u32) -> i64
+    requires column { 0 < length columns.now.columns }
+    requires key { IfSome (slice_index_or columns.now.rows slot None) HasKey }
+    ensures { IfSome (slice_index_or columns.now.rows slot None) (λ row. result ≡ key_of row) }
 {
     let cells = columns.column(0);
     let at = slot as usize;
     if at < cells.len() {
-        cells.get(alloc, at)
+        cells.number(at) as i64
     } else {
-        Ok(Cell::Null)
+        0
     }
 }

@@ -1,5 +1,5 @@
 -- What a column keeps is given back as the cells that it keeps.
-use Rattle.std.proofs.Common.{◌≡◌, ℕ, zero, suc, ◌<◌, ◌≤◌, get_or, Bool, true, false, cond, List, [], ◌∷◌, ◌++◌, length, replicate, map, refl, sym, ap, ◌∙◌, subst, arith, ℤ, pos}
+use Rattle.std.proofs.Common.{◌≡◌, ℕ, zero, suc, ◌<◌, ◌≤◌, get_or, Bool, true, false, cond, List, [], ◌∷◌, ◌++◌, length, replicate, map, refl, sym, ap, ◌∙◌, subst, arith, ℤ, pos, ◌⊎◌, inl, inr, Vec, Global}
 use Rattle.std.specs.Prelude.{slice_set, All, IsTrue, nat_le, ◌&&◌, ◌||◌, Option, Some, None, IfSome, IfNone}
 use Rattle.std.proofs.lemmas.List.{map-set, map-append}
 use Rattle.std.proofs.Math.ListN.{get_or-map}
@@ -13,7 +13,7 @@ use Rattle.cell_model.specs.Values.{byte_length, is_integer_in, is_null, is_valu
 use Rattle.arrow_spec.specs.Arrays.{number_of, truth_of, value_of}
 use Rattle.block_columns.specs.declared.store.Store.{Store}
 use Rattle.block_columns.specs.declared.store.Store.TheVariants as store
-use Rattle.block_columns.specs.Cells.{IsSlotOf, Keeps, Stores, IsStoreOf, AreNumbers, AreTruths, AreBytes, cells_in, masked, bytes_in, valid_bit, bytes_at}
+use Rattle.block_columns.specs.Cells.{IsSlotOf, Keeps, Stores, IsStoreOf, AreNumbers, AreTruths, AreBytes, cells_in, masked, bytes_in, full_cells, valid_bit, bytes_at}
 use Rattle.block_columns.proofs.Lists.{map-replicate}
 
 -- the kinds of numbers have no other values
@@ -193,6 +193,26 @@ masked-get (b ∷ bs) [] at = none (get_or (b ∷ bs) at false)
     none false = refl
 masked-get (b ∷ bs) (c ∷ cs) zero = refl
 masked-get (b ∷ bs) (c ∷ cs) (suc at) = masked-get bs cs at
+
+-- truth values and bytes have no number
+pub no-number : {X : Type 0} (cell_of : X → Cell) → ((x : X) → pos 0 ≡ number_of (cell_of x)) → (xs : List X) (at : ℕ) → pos 0 ≡ number_of (get_or (map cell_of xs) at Null)
+no-number cell_of each [] at = refl
+no-number cell_of each (x ∷ xs) zero = each x
+no-number cell_of each (x ∷ xs) (suc at) = no-number cell_of each xs at
+
+pub no-number-in : (values : Values) (bytes : List ℕ) → pos 0 ≡ number_of (bytes_in values bytes)
+no-number-in (signed width) bytes = refl
+no-number-in (unsigned width) bytes = refl
+no-number-in truths bytes = refl
+no-number-in texts bytes = refl
+no-number-in blobs bytes = refl
+
+pub no-number-stored : (kept : Store) (at : ℕ) → ((bits : List Bool) × kept ≡ store.Truths bits) ⊎ ((values : Vec (List ℕ) Global) × kept ≡ store.Values values)
+    → (kind : Kind) → pos 0 ≡ number_of (get_or (full_cells kind kept) at Null)
+no-number-stored kept at (inl is) kind =
+    no-number Truth (λ b. refl) is.0 at ∙ sym (ap (λ (s : Store). number_of (get_or (full_cells kind s) at Null)) is.1)
+no-number-stored kept at (inr is) kind =
+    no-number (bytes_in (values_of kind)) (no-number-in (values_of kind)) is.0.items at ∙ sym (ap (λ (s : Store). number_of (get_or (full_cells kind s) at Null)) is.1)
 
 -- a cell is moved out: its bytes where they are many, else what was copied before
 pub keeps-moved : (kind : Kind) (valid : List Bool) (kept : Store) (cells : List Cell) (at : ℕ) (moved : Option (List ℕ)) (cell spare : Cell) → Keeps kind valid kept cells

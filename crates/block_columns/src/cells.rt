@@ -115,6 +115,17 @@ impl ColumnCells {
         self.store.get(alloc, self.kind, at)
     }
 
+    /// The number of the cell of a slot, 0 where it is none.
+    pub fn number(&self, at: usize) -> i128
+        requires { at < length self.now.cells }
+        ensures { result ≡ number_of (slice_index_or self.now.cells at cell.Null) }
+    {
+        if !self.valid.get(at) {
+            return 0;
+        }
+        self.store.number(at)
+    }
+
     /// A copy of the cell of a slot, or any cell where `take` moves the value out, which takes no
     /// memory.
     pub fn spare(&self, alloc: Global, at: usize) -> Result<Cell, AllocError>

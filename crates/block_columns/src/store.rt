@@ -143,6 +143,18 @@ impl Store {
         }
     }
 
+    /// The number of a cell that is not null, 0 where other values are stored.
+    pub fn number(&self, at: usize) -> i128
+        requires { at < stored_length self.now }
+        ensures { (kind : KindValue) → result
+            ≡ number_of (slice_index_or (full_cells kind self.now) at cell.Null) }
+    {
+        match self {
+            Store::Numbers(numbers) => numbers.get(at),
+            Store::Truths(_) | Store::Values(_) => 0,
+        }
+    }
+
     /// The same values again.
     pub fn copy(&self, alloc: Global) -> Result<Store, AllocError>
         ensures known { (kind : KindValue) → IsStoreOf kind self.now

@@ -1,5 +1,5 @@
 //! Which pairs hold.
-ghost use Rattle.std.specs.Prelude.{◌≡◌, ◌&&◌, IfOk, filter};
+ghost use Rattle.std.specs.Prelude.{◌≡◌, ◌&&◌, filter};
 ghost use Rattle.block_body.specs.Keys.{HasKeys};
 ghost use Rattle.block_layout.specs.Place.{block_of, slot_of};
 ghost use Rattle.block_spec.specs.Bodies.{slot_in};
@@ -16,7 +16,6 @@ use block_spec::Phase;
 use core_parts::{CorePart, Shape, body, head};
 use event_spec::{MovePair, Moves};
 use hall_rule::Hand;
-use std::alloc::AllocError;
 
 /// The pairs that hold, all judged by the parts as they are.
 pub(crate) fn held_pairs(
@@ -24,48 +23,36 @@ pub(crate) fn held_pairs(
     held: &Hand<CorePart>,
     table: u32,
     moves: Moves,
-) -> Result<Vec<MovePair>, AllocError>
+) -> Vec<MovePair>
     requires { MayRun shape.now (event.Move table moves) held.now }
-    ensures { IfOk result (λ pairs. pairs.items
-        ≡ filter (holds_in shape.now held.now table) moves) }
+    ensures { result.items ≡ filter (holds_in shape.now held.now table) moves }
 {
     prove!(!shape.schema(table).columns().is_empty());
     let mut pairs = moves.into_vec();
     let mut kept = 0;
     for at in 0..pairs.len() {
         let pair = pairs[at];
-        if holds(shape, held, table, &pair)? {
+        if holds(shape, held, table, &pair) {
             pairs[kept] = pair;
             kept += 1;
         }
     }
     pairs.truncate(kept);
-    Ok(pairs)
+    pairs
 }
 
 /// Whether a pair holds.
-fn holds(
-    shape: &Shape,
-    held: &Hand<CorePart>,
-    table: u32,
-    pair: &MovePair,
-) -> Result<bool, AllocError>
+fn holds(shape: &Shape, held: &Hand<CorePart>, table: u32, pair: &MovePair) -> bool
     requires head { Has shape.now held.now (HeadOf table) }
     requires source { Has shape.now held.now (BodyOf table (block_of pair.now.source)) }
     requires target { Has shape.now held.now (BodyOf table (block_of pair.now.target)) }
     requires keys { HasKeys (body_in shape.now held.now table (block_of pair.now.source)) }
-    ensures { IfOk result (λ holds. holds ≡ holds_in shape.now held.now table pair.now) }
+    ensures { result ≡ holds_in shape.now held.now table pair.now }
 {
-    if !may_move(shape, held, table, pair.source.block()) {
-        return Ok(false);
-    }
-    if !may_move(shape, held, table, pair.target.block()) {
-        return Ok(false);
-    }
-    if !has_quiet_row(shape, held, table, pair.source, pair.key)? {
-        return Ok(false);
-    }
-    Ok(body(shape, held, table, pair.target.block()).bare(pair.target.slot()))
+    may_move(shape, held, table, pair.source.block())
+        && may_move(shape, held, table, pair.target.block())
+        && has_quiet_row(shape, held, table, pair.source, pair.key)
+        && body(shape, held, table, pair.target.block()).bare(pair.target.slot())
 }
 
 /// Whether a block may give and take rows.
@@ -82,23 +69,17 @@ fn may_move(shape: &Shape, held: &Hand<CorePart>, table: u32, block: u32) -> boo
 }
 
 /// Whether a slot has the row of a key and no entry.
-fn has_quiet_row(
-    shape: &Shape,
-    held: &Hand<CorePart>,
-    table: u32,
-    place: SlotId,
-    key: i64,
-) -> Result<bool, AllocError>
+fn has_quiet_row(shape: &Shape, held: &Hand<CorePart>, table: u32, place: SlotId, key: i64) -> bool
     requires body { Has shape.now held.now (BodyOf table (block_of place)) }
     requires keys { HasKeys (body_in shape.now held.now table (block_of place)) }
-    ensures { IfOk result (λ is. is ≡
+    ensures { result ≡
         (has_key key (slot_in (body_in shape.now held.now table (block_of place))
         (slot_of place)).row
         && has_none (slot_in (body_in shape.now held.now table (block_of place))
-        (slot_of place)).entries)) }
+        (slot_of place)).entries) }
 {
-    match body(shape, held, table, place.block()).movable(place.slot())? {
-        Some(row) => Ok(row.key == key),
-        None => Ok(false),
+    match body(shape, held, table, place.block()).movable(place.slot()) {
+        Some(row) => row.key == key,
+        None => false,
     }
 }

@@ -36,7 +36,7 @@ pub fn move_rows(
         (reply.Moved count)) }
     ensures err { OnErr result (held.new ≡ held.old) }
 {
-    let pairs = held_pairs(shape, held, table, moves)?;
+    let pairs = held_pairs(shape, held, table, moves);
     if pairs.is_empty() {
         return Ok(0);
     }

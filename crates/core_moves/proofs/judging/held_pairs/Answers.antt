@@ -4,7 +4,7 @@ use Rattle.core_moves.proofs.Keeping.{has_pair_keys, is_among, kept_as, skipped_
 use Rattle.core_moves.proofs.Moves.{has_source, has_target, has_the_head}
 use Rattle.core_moves.specs.Steps.{holds_in}
 use Rattle.event_spec.specs.declared.event.MovePair.{MovePair}
-use Rattle.core_moves.proofs.judging.held_pairs.Goals.{then-branch, else-branch}
+use Rattle.core_moves.proofs.judging.held_pairs.Goals.{then-holds, else-holds}
 use Rattle.core_moves.proofs.judging.held_pairs.Goals as goal
 
 pub holds-requires-clause-head : goal.holds-requires-clause-head
@@ -27,9 +27,9 @@ holds-requires-clause-keys c =
     (subst IsSchema c.schema.ensures.columns c.schema.ensures.schema)
 
 pub loop-at-preserved : goal.loop-at-preserved
-loop-at-preserved c = elim c.if-branch.branch [
-  | then-branch w ↦ kept_as (holds_in c.args.shape.now c.args.held.now c.args.table) c.args.moves c.if-branch.pairs.items c.loop-at.pairs.items c.loop-at.at c.loop-at.kept c.if-branch.kept c.index.result.now c.loop-at.invariant (search rules) c.index.ensures
-      (sym c.in_ok-holds.ensures ∙ w.if-branch.true) (ap (λ (v : Vec MovePair Global). v.items) w.pairs-is) w.kept-is
-  | else-branch w ↦ skipped_as (holds_in c.args.shape.now c.args.held.now c.args.table) c.args.moves c.if-branch.pairs.items c.loop-at.pairs.items c.loop-at.at c.loop-at.kept c.if-branch.kept c.index.result.now c.loop-at.invariant (search rules) c.index.ensures
-      (sym c.in_ok-holds.ensures ∙ w.if-branch.false) (ap (λ (v : Vec MovePair Global). v.items) w.pairs-is) w.kept-is
+loop-at-preserved c = elim c.if-holds.branch [
+  | then-holds w ↦ kept_as (holds_in c.args.shape.now c.args.held.now c.args.table) c.args.moves c.if-holds.pairs.items c.loop-at.pairs.items c.loop-at.at c.loop-at.kept c.if-holds.kept c.index.result.now c.loop-at.invariant (search rules) c.index.ensures
+      (sym c.holds.ensures ∙ w.if-holds.true) (ap (λ (v : Vec MovePair Global). v.items) w.pairs-is) w.kept-is
+  | else-holds w ↦ skipped_as (holds_in c.args.shape.now c.args.held.now c.args.table) c.args.moves c.if-holds.pairs.items c.loop-at.pairs.items c.loop-at.at c.loop-at.kept c.if-holds.kept c.index.result.now c.loop-at.invariant (search rules) c.index.ensures
+      (sym c.holds.ensures ∙ w.if-holds.false) (ap (λ (v : Vec MovePair Global). v.items) w.pairs-is) w.kept-is
 ]

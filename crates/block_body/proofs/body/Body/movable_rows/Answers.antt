@@ -10,12 +10,12 @@ use Rattle.block_body.proofs.body.Body.movable_rows.Goals as goal
 use Rattle.block_body.proofs.body.Body.movable_rows.Goals.{in-Some+in_ok-push, in_default}
 
 pub loop-slot-preserved : goal.loop-slot-preserved
-loop-slot-preserved c = elim c.match-branch-2.branch [
+loop-slot-preserved c = elim c.match-movable.branch [
   | in-Some+in_ok-push w ↦ rw (w.rows-is, w.in_ok-push.ensures.items)
       (ap (λ (l : List MovableRow). l ++ w.in-Some.row ∷ []) c.loop-slot.invariant
-      ∙ sym (filter_map_more (movable c.args.self.now) c.loop-slot.slot w.in-Some.row (sym c.in_ok-row.ensures ∙ w.in-Some.is)))
+      ∙ sym (filter_map_more (movable c.args.self.now) c.loop-slot.slot w.in-Some.row (sym c.movable.ensures ∙ w.in-Some.is)))
   | in_default w ↦ rw w.rows-is
-      (c.loop-slot.invariant ∙ sym (filter_map_skip (movable c.args.self.now) c.loop-slot.slot (sym c.in_ok-row.ensures ∙ w.in_default.is)))
+      (c.loop-slot.invariant ∙ sym (filter_map_skip (movable c.args.self.now) c.loop-slot.slot (sym c.movable.ensures ∙ w.in_default.is)))
 ]
 
 pub returns : goal.returns
