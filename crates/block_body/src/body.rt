@@ -112,6 +112,7 @@ impl Body {
     }
 
     /// Whether a slot has neither row nor entry.
+    #[inline(always)]
     pub fn bare(&self, slot: u32) -> bool
         ensures { result ≡ is_bare (slot_in self.now slot) }
     {
@@ -500,6 +501,7 @@ impl Body {
     }
 
     /// The row of a slot, if it may move.
+    #[inline(always)]
     pub fn movable(&self, slot: u32) -> Option<MovableRow>
         requires { HasKeys self.now }
         ensures { result ≡ movable self.now slot }

@@ -10,6 +10,7 @@ use hall_rule::Hand;
 use std::alloc::AllocError;
 
 /// Counts one more round of a block without a modification, and tells whether it turned cooling.
+#[inline(always)]
 pub fn observe(shape: &Shape, held: &mut Hand<CorePart>, table: u32, block: u32) -> bool
     requires { MayRun shape.now (event.Observe table block) held.old }
     ensures { Makes shape.now (event.Observe table block) held.old held.new (reply.Turned result) }
@@ -22,6 +23,7 @@ pub fn observe(shape: &Shape, held: &mut Hand<CorePart>, table: u32, block: u32)
 }
 
 /// Closes a block to writes until it is thawed, or tells what is against it.
+#[inline(always)]
 pub fn seal(
     shape: &Shape,
     held: &mut Hand<CorePart>,

@@ -38,6 +38,7 @@ pub fn shard<'a>(shape: &Shape, held: &'a Hand<CorePart>, table: u32, shard: u32
 }
 
 /// One of a table's bodies, lent.
+#[inline(always)]
 pub fn body<'a>(shape: &Shape, held: &'a Hand<CorePart>, table: u32, block: u32) -> &'a Body
     requires { Has shape.now held.now (BodyOf table block) }
     ensures { in_hand shape.now held.now (BodyOf table block) ≡ Some (part.Body result.now) }
@@ -97,6 +98,7 @@ pub fn take_shard(shape: &Shape, held: &mut Hand<CorePart>, table: u32, shard: u
 }
 
 /// Takes one of a table's bodies out of the hand.
+#[inline(always)]
 pub fn take_body(shape: &Shape, held: &mut Hand<CorePart>, table: u32, block: u32) -> Box<Body>
     requires { Has shape.now held.old (BodyOf table block) }
     ensures part { in_hand shape.now held.old (BodyOf table block) ≡ Some (part.Body result.value) }
@@ -150,6 +152,7 @@ pub fn lay_shard(
 }
 
 /// Lays one of a table's bodies into the hand.
+#[inline(always)]
 pub fn lay_body(shape: &Shape, held: &mut Hand<CorePart>, table: u32, block: u32, body: Box<Body>)
     requires block { HasBlock shape.now table block }
     requires room { length held.old ≡ length (names shape.now) }

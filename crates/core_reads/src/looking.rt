@@ -10,6 +10,7 @@ use hall_rule::Hand;
 use std::alloc::AllocError;
 
 /// What a compaction reads of a block: which of its rows may move, and into which slots others may.
+#[inline(always)]
 pub fn look(
     shape: &Shape,
     held: &Hand<CorePart>,

@@ -135,6 +135,7 @@ impl Parts for Core {
     }
 
     /// Runs the event on the parts of the tables and the desk that it touches.
+    #[inline(always)]
     fn run<L: Ledger>(
         shape: &Shape,
         event: KeyedEvent,

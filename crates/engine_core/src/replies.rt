@@ -27,6 +27,7 @@ use std::alloc::AllocError;
 use std::sync::ledger::Ledger;
 
 /// Opens a transaction.
+#[inline(never)]
 pub(crate) fn begun(shape: &Shape, held: &mut Hand<CorePart>, session: u32) -> CoreReply
     requires { MayRun shape.now (event.Begin session) held.old }
     ensures { Runs shape.now (event.Begin session) held.old held.new result }
@@ -35,6 +36,7 @@ pub(crate) fn begun(shape: &Shape, held: &mut Hand<CorePart>, session: u32) -> C
 }
 
 /// Finds the row of a key.
+#[inline(never)]
 pub(crate) fn found<L: Ledger>(
     shape: &Shape,
     held: &Hand<CorePart>,
@@ -55,6 +57,7 @@ pub(crate) fn found<L: Ledger>(
 }
 
 /// Adds a row.
+#[inline(never)]
 pub(crate) fn inserted(
     shape: &Shape,
     held: &mut Hand<CorePart>,
@@ -69,6 +72,7 @@ pub(crate) fn inserted(
 }
 
 /// Changes a row.
+#[inline(never)]
 pub(crate) fn updated<L: Ledger>(
     shape: &Shape,
     held: &mut Hand<CorePart>,
@@ -86,6 +90,7 @@ pub(crate) fn updated<L: Ledger>(
 }
 
 /// Removes a row.
+#[inline(never)]
 pub(crate) fn deleted(
     shape: &Shape,
     held: &mut Hand<CorePart>,
@@ -100,6 +105,7 @@ pub(crate) fn deleted(
 }
 
 /// Ends a transaction whose writes stay.
+#[inline(never)]
 pub(crate) fn committed(shape: &Shape, held: &mut Hand<CorePart>, own: &OwnTransaction) -> CoreReply
     requires { MayRun shape.now (event.Commit own.now) held.old }
     ensures { Runs shape.now (event.Commit own.now) held.old held.new result }
@@ -108,6 +114,7 @@ pub(crate) fn committed(shape: &Shape, held: &mut Hand<CorePart>, own: &OwnTrans
 }
 
 /// Ends a transaction whose writes are laid back.
+#[inline(never)]
 pub(crate) fn aborted(shape: &Shape, held: &mut Hand<CorePart>, own: &OwnTransaction) -> CoreReply
     requires { MayRun shape.now (event.Abort own.now) held.old }
     ensures { Runs shape.now (event.Abort own.now) held.old held.new result }
@@ -125,6 +132,7 @@ pub(crate) fn least_stamp(shape: &Shape, held: &Hand<CorePart>) -> CoreReply
 }
 
 /// Counts one more round of a block.
+#[inline(always)]
 pub(crate) fn observed(
     shape: &Shape,
     held: &mut Hand<CorePart>,
@@ -138,6 +146,7 @@ pub(crate) fn observed(
 }
 
 /// Drops versions of a block.
+#[inline(always)]
 pub(crate) fn pruned(
     shape: &Shape,
     held: &mut Hand<CorePart>,
@@ -152,6 +161,7 @@ pub(crate) fn pruned(
 }
 
 /// Moves rows.
+#[inline(never)]
 pub(crate) fn moved(shape: &Shape, held: &mut Hand<CorePart>, table: u32, moves: Moves) -> CoreReply
     requires { MayRun shape.now (event.Move table moves) held.old }
     ensures { Runs shape.now (event.Move table moves) held.old held.new result }
@@ -163,6 +173,7 @@ pub(crate) fn moved(shape: &Shape, held: &mut Hand<CorePart>, table: u32, moves:
 }
 
 /// Seals a block.
+#[inline(always)]
 pub(crate) fn sealed(shape: &Shape, held: &mut Hand<CorePart>, table: u32, block: u32) -> CoreReply
     requires { MayRun shape.now (event.Seal table block) held.old }
     ensures { Runs shape.now (event.Seal table block) held.old held.new result }
@@ -174,6 +185,7 @@ pub(crate) fn sealed(shape: &Shape, held: &mut Hand<CorePart>, table: u32, block
 }
 
 /// Thaws a block.
+#[inline(never)]
 pub(crate) fn thawed(shape: &Shape, held: &mut Hand<CorePart>, table: u32, block: u32) -> CoreReply
     requires { MayRun shape.now (event.Thaw table block) held.old }
     ensures { Runs shape.now (event.Thaw table block) held.old held.new result }
@@ -185,6 +197,7 @@ pub(crate) fn thawed(shape: &Shape, held: &mut Hand<CorePart>, table: u32, block
 }
 
 /// Reads a block.
+#[inline(never)]
 pub(crate) fn rows_read<L: Ledger>(
     shape: &Shape,
     held: &Hand<CorePart>,
@@ -206,6 +219,7 @@ pub(crate) fn rows_read<L: Ledger>(
 }
 
 /// Tells what a compaction reads of a block.
+#[inline(always)]
 pub(crate) fn looked(shape: &Shape, held: &Hand<CorePart>, table: u32, block: u32) -> CoreReply
     requires { MayRun shape.now (event.Look table block) held.now }
     ensures { Runs shape.now (event.Look table block) held.now held.now result }
@@ -217,6 +231,7 @@ pub(crate) fn looked(shape: &Shape, held: &Hand<CorePart>, table: u32, block: u3
 }
 
 /// Hands a sealed block its Arrow buffers.
+#[inline(never)]
 pub(crate) fn frozen(
     shape: &Shape,
     held: &mut Hand<CorePart>,

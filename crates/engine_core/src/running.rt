@@ -19,6 +19,7 @@ use hall_rule::{Hand, Steps};
 use std::sync::ledger::Ledger;
 
 /// Runs an event on the parts in the hand, which has each part that it touches.
+#[inline(always)]
 pub(crate) fn run<L: Ledger>(
     shape: &Shape,
     event: KeyedEvent,

@@ -16,6 +16,7 @@ use std::snapshot::Snapshot;
 use std::sync::ledger::Ledger;
 
 /// Makes an event on the parts in the hand: runs it, and counts it in the one log by one step.
+#[inline(always)]
 pub(crate) fn make<C: Parts, L: Ledger>(
     board: &Board<C>,
     shape: &C::Shape,

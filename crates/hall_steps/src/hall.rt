@@ -92,6 +92,7 @@ impl<C: Parts> Hall<C> {
 
     /// Takes a part into the hand, and waits until no other pass holds it. The part is above all
     /// that are held.
+    #[inline(always)]
     pub fn take<R: Wait>(&self, rt: &R, pass: &mut Pass<C>, part: u32)
         requires pass { IsPass (means C.Parts self.now) self.now.id pass.old.seat pass.old.hands }
         requires part { part < length (C.state_of self.now.core) }
@@ -117,6 +118,7 @@ impl<C: Parts> Hall<C> {
     }
 
     /// Gives a part back, and wakes a thread that waits for it, if there is one.
+    #[inline(always)]
     pub fn give(&self, pass: &mut Pass<C>, part: u32)
         requires pass { IsPass (means C.Parts self.now) self.now.id pass.old.seat pass.old.hands }
         requires held { Holds (first_of pass.old.hands) part }
@@ -140,6 +142,7 @@ impl<C: Parts> Hall<C> {
     /// Makes an event on parts that are held, and replies. The log goes on from all that the pass
     /// had seen and ends with this event. The reply is that of the state which the log before it
     /// leaves. Where memory is refused the parts stay as they were.
+    #[inline(always)]
     pub fn event<L: Ledger>(
         &self,
         pass: &mut Pass<C>,

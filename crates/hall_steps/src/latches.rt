@@ -189,6 +189,7 @@ fn carry_in<C: Parts>(board: &Board<C>, seat: &mut Place<C>, part: u32, held: C:
 }
 
 /// Takes a part into the hand, and waits for it.
+#[inline(always)]
 pub(crate) fn take_from<C: Parts, R: Wait>(
     rt: &R,
     board: &Board<C>,
@@ -214,6 +215,7 @@ pub(crate) fn take_from<C: Parts, R: Wait>(
 }
 
 /// Gives a part back from the hand, and wakes a thread where one waits for it.
+#[inline(always)]
 pub(crate) fn give_from<C: Parts>(
     board: &Board<C>,
     waiting: &[AtomicU64],

@@ -15,7 +15,11 @@ use Rattle.run_spec.specs.Opened.{own_behind}
 use Rattle.store_laws.specs.Laws.{IsOfSession}
 use Rattle.shared_store.specs.Making.{FitsEach, IsFew, Makes, Takes, parts_seen}
 use Rattle.shared_store.specs.Store.{HandsView, IsWithin, SeatView, StoreView, own_of, shape_in}
+use Rattle.shared_store.specs.declared.keeping.OnBlocks.{OnBlocks}
+use Rattle.shared_store.specs.declared.keeping.OnBlocks.TheVariants.{Observe, Prune}
 use Rattle.shared_store.specs.declared.session.Session.{Session}
+use Rattle.shared_store.specs.Observing.{observing}
+use Rattle.shared_store.specs.Pruning.{pruning}
 
 -- ---- parts that are kept
 
@@ -45,6 +49,11 @@ beside_prune table name = same_name (HeadOf table) name || is_shard_in table nam
 
 abbrev pub beside_observe : ℕ → Name → Bool
 beside_observe table name = same_name (HeadOf table) name
+
+-- the event that is made on a block
+abbrev pub event_on : OnBlocks → ℕ → ℕ → CoreEvent
+event_on Observe table block = observing table block
+event_on (Prune oldest) table block = pruning oldest table block
 
 -- ---- a pass as if it had given all back
 

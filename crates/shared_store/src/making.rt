@@ -31,6 +31,7 @@ impl Store {
     }
 
     /// Makes an event on the parts that a pass holds.
+    #[inline(always)]
     pub(crate) fn make_held<L: Ledger>(
         &self,
         pass: &mut Pass<Core>,
@@ -46,6 +47,7 @@ impl Store {
     }
 
     /// Makes an event on parts that a pass holds, with a count of steps of its own.
+    #[inline(always)]
     fn make_held_by<L: Ledger>(
         &self,
         pass: &mut Pass<Core>,
@@ -64,6 +66,7 @@ impl Store {
     }
 
     /// Makes an event on parts that a pass holds, whose steps nobody counts.
+    #[inline(always)]
     pub(crate) fn make_on(&self, pass: &mut Pass<Core>, event: KeyedEvent) -> CoreReply
         requires { MayMakeHeld self.now pass.old.seat pass.old.hands event }
         ensures { MakesAnyHeld self.now
@@ -135,6 +138,7 @@ impl Store {
     }
 
     /// Takes the body of a block, for a pass that holds no part, and tells its number.
+    #[inline(always)]
     pub(crate) fn take_body<R: Wait>(
         &self,
         rt: &R,
@@ -154,6 +158,7 @@ impl Store {
     }
 
     /// Gives back the one part that a pass holds.
+    #[inline(always)]
     pub(crate) fn give_alone(&self, pass: &mut Pass<Core>, part: u32)
         requires pass { IsAnyWithin self.now pass.old.seat pass.old.hands }
         requires alone { HoldsAlone (first_of pass.old.hands) part }
@@ -163,6 +168,7 @@ impl Store {
     }
 
     /// Makes an event that touches the body of a block alone, of a pass that holds no part.
+    #[inline(always)]
     pub(crate) fn make_on_body<R: Wait>(
         &self,
         rt: &R,

@@ -15,15 +15,16 @@ ghost use Rattle.shared_store.specs.Store.{
   shape_in,
 };
 
+use crate::keeping::OnBlocks;
 use crate::session::Session;
 use crate::store::Store;
-use core_touches::KeyedEvent;
-use event_spec::{Event, Reply};
+use event_spec::Reply;
 use std::sync::Wait;
 
 impl Store {
     /// Observes a block, and tells whether it turned cooling. The table's head is kept for the
     /// next.
+    #[inline(always)]
     fn observe_block<R: Wait>(&self, rt: &R, session: &mut Session, table: u32, block: u32) -> bool
         requires keeping { IsKeeping self.now (beside_observe table) block session.old }
         requires room { HasRoomFor 1 session.old }
@@ -32,8 +33,8 @@ impl Store {
         ensures observes { ObservesBlock self.now
             (rested session.old) (rested session.new) table block result }
     {
-        let event = KeyedEvent::new(Event::Observe { table, block });
-        let Reply::Turned(turned) = self.make_keeping(rt, &mut session.pass, event, table, block)
+        let on = OnBlocks::Observe;
+        let Reply::Turned(turned) = self.make_keeping(rt, &mut session.pass, on, table, block)
         else {
             unreachable!()
         };

@@ -15,6 +15,7 @@ ghost use Rattle.shared_store.specs.Store.{
   shape_in,
 };
 
+use crate::keeping::OnBlocks;
 use crate::session::Session;
 use crate::store::Store;
 use core_touches::KeyedEvent;
@@ -38,6 +39,7 @@ impl Store {
 
     /// Drops the versions of a block that no snapshot from a stamp on needs, and tells how many.
     /// The other parts that this touches are kept for the next block.
+    #[inline(always)]
     fn prune_block<R: Wait>(
         &self,
         rt: &R,
@@ -55,12 +57,8 @@ impl Store {
             oldest (rested session.old) (rested session.new) table block result }
         ensures few { result ≤ 2 ^ 46 }
     {
-        let event = KeyedEvent::new(Event::Prune {
-            table,
-            block,
-            oldest,
-        });
-        let Reply::Dropped(dropped) = self.make_keeping(rt, &mut session.pass, event, table, block)
+        let on = OnBlocks::Prune { oldest };
+        let Reply::Dropped(dropped) = self.make_keeping(rt, &mut session.pass, on, table, block)
         else {
             unreachable!()
         };

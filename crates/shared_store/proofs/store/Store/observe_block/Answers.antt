@@ -2,7 +2,7 @@ use Rattle.std.proofs.Common.{refl, sym, subst, arith}
 use mathlib.Core.Logic.{inr}
 use Rattle.event_spec.specs.declared.reply.Reply.TheVariants as reply
 use Rattle.event_spec.specs.Effects.{CoreEvent}
-use Rattle.shared_store.specs.Keeping.{MayMakeKeeping, beside_observe}
+use Rattle.shared_store.specs.Keeping.{beside_observe}
 use Rattle.shared_store.specs.Observing.{observing}
 use Rattle.shared_store.specs.Store.{own_of, shape_in}
 use Rattle.shared_store.specs.declared.session.Session.{Session}
@@ -18,7 +18,7 @@ make_keeping-requires g c =
     let r = c.requires in
     let room = r.room in
     let e : CoreEvent = observing c.args.table c.args.block in
-    subst (MayMakeKeeping st s.pass.seat s.pass.hands c.args.table c.args.block) (sym c.new-event.ensures) (record {
+    record {
       session = s.session;
       own = own_of s;
       within = r.keeping.within;
@@ -30,7 +30,7 @@ make_keeping-requires g c =
       stands = tt;
       fits = λ parts holds stamp. r.block;
       few = omega (arith, room);
-    })
+    }
 
 pub unreachable-requires : goal.unreachable-requires
 unreachable-requires g c =
@@ -38,8 +38,8 @@ unreachable-requires g c =
     let s = c.args.session.now in
     let e : CoreEvent = observing c.args.table c.args.block in
     let new = c.make_keeping.new.pass in
-    let m = kept_by st (beside_observe c.args.table) c.args.table c.args.block s new.seat new.hands e c.new-event.result c.make_keeping.result c.requires.keeping
-    (observe_on_block (shape_in st) c.args.table c.args.block) refl c.new-event.ensures c.make_keeping.ensures in
+    let m = kept_by st (beside_observe c.args.table) c.args.table c.args.block s new.seat new.hands e e c.make_keeping.result c.requires.keeping
+    (observe_on_block (shape_in st) c.args.table c.args.block) refl refl c.make_keeping.ensures in
     c.in_default.not-Turned _ (told_always st s.session s.pass.seat _ _ (own_of s) e c.make_keeping.result m.makes refl)
 
 pub returns-clause-keeping : goal.returns-clause-keeping
@@ -48,8 +48,8 @@ returns-clause-keeping g c =
     let s = c.args.session.now in
     let e : CoreEvent = observing c.args.table c.args.block in
     let new : Session = record { pass = c.make_keeping.new.pass; session = s.session; snapshot = s.snapshot; writes = s.writes } in
-    let m = kept_by st (beside_observe c.args.table) c.args.table c.args.block s new.pass.seat new.pass.hands e c.new-event.result c.make_keeping.result c.requires.keeping
-    (observe_on_block (shape_in st) c.args.table c.args.block) refl c.new-event.ensures c.make_keeping.ensures in
+    let m = kept_by st (beside_observe c.args.table) c.args.table c.args.block s new.pass.seat new.pass.hands e e c.make_keeping.result c.requires.keeping
+    (observe_on_block (shape_in st) c.args.table c.args.block) refl refl c.make_keeping.ensures in
     kept_on st (beside_observe c.args.table) c.args.block s new e c.make_keeping.result m refl refl refl
 
 pub returns-clause-observes : goal.returns-clause-observes
@@ -58,6 +58,6 @@ returns-clause-observes g c =
     let s = c.args.session.now in
     let e : CoreEvent = observing c.args.table c.args.block in
     let new : Session = record { pass = c.make_keeping.new.pass; session = s.session; snapshot = s.snapshot; writes = s.writes } in
-    let m = kept_by st (beside_observe c.args.table) c.args.table c.args.block s new.pass.seat new.pass.hands e c.new-event.result c.make_keeping.result c.requires.keeping
-    (observe_on_block (shape_in st) c.args.table c.args.block) refl c.new-event.ensures c.make_keeping.ensures in
+    let m = kept_by st (beside_observe c.args.table) c.args.table c.args.block s new.pass.seat new.pass.hands e e c.make_keeping.result c.requires.keeping
+    (observe_on_block (shape_in st) c.args.table c.args.block) refl refl c.make_keeping.ensures in
     alone_kept st (beside_observe c.args.table) s new e c.make_keeping.result (reply.Turned c.in-Turned.turned) m c.in-Turned.is refl refl refl
