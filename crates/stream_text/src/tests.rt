@@ -1,169 +1,36 @@
-//! Tests of the text of streams: one of nine rows in two batches, cut at each byte and changed at
-//! some.
+//! A test of the text of bytes that are no stream. How a stream is shown is tested at the top, over
+//! the stream of an export.
 use crate::show;
-use std::alloc::{AllocError, Global};
 use std::process::Abort;
 use std::test::Fail;
 
-/// The schema message at 0, the first eight rows at 224, the ninth at 552, and the end word at 792.
-const NINE_ROWS: &[u8; 800] = b"\xff\xff\xff\xff\xd8\x00\x00\x00\x18\x00\x00\x00\x00\x00\x00\x00\
-    \x0c\x00\x14\x00\x10\x00\x12\x00\x04\x00\x08\x00\x00\x00\x00\x00\
-    \x10\x00\x00\x00\x1c\x00\x00\x00\x00\x00\x00\x00\x00\x00\x00\x00\
-    \x04\x00\x01\x00\x00\x00\x00\x00\x08\x00\x0a\x00\x08\x00\x04\x00\
-    \x08\x00\x00\x00\x08\x00\x00\x00\x00\x00\x00\x00\x02\x00\x00\x00\
-    \x18\x00\x00\x00\x5c\x00\x00\x00\x10\x00\x12\x00\x04\x00\x10\x00\
-    \x11\x00\x08\x00\x00\x00\x0c\x00\x10\x00\x00\x00\x10\x00\x00\x00\
-    \x20\x00\x00\x00\x28\x00\x00\x00\x00\x02\x00\x00\x03\x00\x00\x00\
-    \x6b\x65\x79\x00\x00\x00\x00\x00\x08\x00\x09\x00\x04\x00\x08\x00\
-    \x08\x00\x00\x00\x40\x00\x00\x00\x01\x00\x00\x00\x00\x00\x00\x00\
-    \x10\x00\x12\x00\x04\x00\x10\x00\x11\x00\x08\x00\x00\x00\x0c\x00\
-    \x10\x00\x00\x00\x10\x00\x00\x00\x20\x00\x00\x00\x20\x00\x00\x00\
-    \x01\x05\x00\x00\x01\x00\x00\x00\x76\x00\x00\x00\x00\x00\x00\x00\
-    \x04\x00\x04\x00\x00\x00\x00\x00\x08\x00\x00\x00\x00\x00\x00\x00\
-    \xff\xff\xff\xff\xd0\x00\x00\x00\x18\x00\x00\x00\x00\x00\x00\x00\
-    \x0c\x00\x14\x00\x10\x00\x12\x00\x04\x00\x08\x00\x00\x00\x00\x00\
-    \x10\x00\x00\x00\x24\x00\x00\x00\x70\x00\x00\x00\x00\x00\x00\x00\
-    \x04\x00\x03\x00\x00\x00\x00\x00\x0a\x00\x14\x00\x08\x00\x04\x00\
-    \x10\x00\x00\x00\x00\x00\x00\x00\x10\x00\x00\x00\x10\x00\x00\x00\
-    \x08\x00\x00\x00\x00\x00\x00\x00\x2c\x00\x00\x00\x02\x00\x00\x00\
-    \x08\x00\x00\x00\x00\x00\x00\x00\x00\x00\x00\x00\x00\x00\x00\x00\
-    \x08\x00\x00\x00\x00\x00\x00\x00\x00\x00\x00\x00\x00\x00\x00\x00\
-    \x00\x00\x00\x00\x05\x00\x00\x00\x00\x00\x00\x00\x00\x00\x00\x00\
-    \x00\x00\x00\x00\x00\x00\x00\x00\x00\x00\x00\x00\x00\x00\x00\x00\
-    \x40\x00\x00\x00\x00\x00\x00\x00\x40\x00\x00\x00\x00\x00\x00\x00\
-    \x00\x00\x00\x00\x00\x00\x00\x00\x40\x00\x00\x00\x00\x00\x00\x00\
-    \x24\x00\x00\x00\x00\x00\x00\x00\x68\x00\x00\x00\x00\x00\x00\x00\
-    \x08\x00\x00\x00\x00\x00\x00\x00\x01\x00\x00\x00\x00\x00\x00\x00\
-    \x02\x00\x00\x00\x00\x00\x00\x00\x03\x00\x00\x00\x00\x00\x00\x00\
-    \x04\x00\x00\x00\x00\x00\x00\x00\x05\x00\x00\x00\x00\x00\x00\x00\
-    \x06\x00\x00\x00\x00\x00\x00\x00\x07\x00\x00\x00\x00\x00\x00\x00\
-    \x08\x00\x00\x00\x00\x00\x00\x00\x00\x00\x00\x00\x01\x00\x00\x00\
-    \x02\x00\x00\x00\x03\x00\x00\x00\x04\x00\x00\x00\x05\x00\x00\x00\
-    \x06\x00\x00\x00\x07\x00\x00\x00\x08\x00\x00\x00\x00\x00\x00\x00\
-    \x78\x78\x78\x78\x78\x78\x78\x78\xff\xff\xff\xff\xd0\x00\x00\x00\
-    \x18\x00\x00\x00\x00\x00\x00\x00\x0c\x00\x14\x00\x10\x00\x12\x00\
-    \x04\x00\x08\x00\x00\x00\x00\x00\x10\x00\x00\x00\x24\x00\x00\x00\
-    \x18\x00\x00\x00\x00\x00\x00\x00\x04\x00\x03\x00\x00\x00\x00\x00\
-    \x0a\x00\x14\x00\x08\x00\x04\x00\x10\x00\x00\x00\x00\x00\x00\x00\
-    \x10\x00\x00\x00\x10\x00\x00\x00\x01\x00\x00\x00\x00\x00\x00\x00\
-    \x2c\x00\x00\x00\x02\x00\x00\x00\x01\x00\x00\x00\x00\x00\x00\x00\
-    \x00\x00\x00\x00\x00\x00\x00\x00\x01\x00\x00\x00\x00\x00\x00\x00\
-    \x00\x00\x00\x00\x00\x00\x00\x00\x00\x00\x00\x00\x05\x00\x00\x00\
-    \x00\x00\x00\x00\x00\x00\x00\x00\x00\x00\x00\x00\x00\x00\x00\x00\
-    \x00\x00\x00\x00\x00\x00\x00\x00\x08\x00\x00\x00\x00\x00\x00\x00\
-    \x08\x00\x00\x00\x00\x00\x00\x00\x00\x00\x00\x00\x00\x00\x00\x00\
-    \x08\x00\x00\x00\x00\x00\x00\x00\x08\x00\x00\x00\x00\x00\x00\x00\
-    \x10\x00\x00\x00\x00\x00\x00\x00\x01\x00\x00\x00\x00\x00\x00\x00\
-    \x09\x00\x00\x00\x00\x00\x00\x00\x00\x00\x00\x00\x01\x00\x00\x00\
-    \x78\x00\x00\x00\x00\x00\x00\x00\xff\xff\xff\xff\x00\x00\x00\x00";
-
-/// The lines in front of the last.
-const LINES: [&str; 10] = [
-    "schema \"key\":i64 \"v\":utf8?\n",
-    "| 1 \"x\"\n",
-    "| 2 \"x\"\n",
-    "| 3 \"x\"\n",
-    "| 4 \"x\"\n",
-    "| 5 \"x\"\n",
-    "| 6 \"x\"\n",
-    "| 7 \"x\"\n",
-    "| 8 \"x\"\n",
-    "| 9 \"x\"\n",
-];
-
-/// How many lines stand in front of the last, and that.
-#[derive(Clone, Copy)]
-struct Expected {
-    lines: usize,
-    last: &'static str,
-}
-
-const fn lines_and(lines: usize, last: &'static str) -> Expected {
-    Expected { lines, last }
-}
-
-/// Whether the bytes show these lines.
-fn is_shown(alloc: Global, bytes: &[u8], due: Expected) -> Result<bool, AllocError> {
-    let shown = show(alloc, bytes)?;
-    let mut text = Vec::new(alloc);
-    for line in LINES.iter().take(due.lines) {
-        text.extend_from_slice(line.as_bytes())?;
-    }
-    text.extend_from_slice(due.last.as_bytes())?;
-    Ok(
-        shown.text.as_slice() == text.as_slice()
-            && shown.fault.is_some() == due.last.starts_with("not"),
-    )
-}
-
-/// What the first bytes of the stream show.
-fn due_of_cut(kept: usize) -> Expected {
-    match kept {
-        0..=223 => lines_and(0, "not a stream at 0 Short\n"),
-        224 => lines_and(1, "rows 0\n"),
-        225..=551 => lines_and(1, "not a stream at 224 Short\n"),
-        552 => lines_and(9, "rows 8\n"),
-        553..=791 => lines_and(9, "not a stream at 552 Short\n"),
-        792 | 800 => lines_and(10, "rows 9\n"),
-        _ => lines_and(10, "not a stream at 792 Short\n"),
-    }
-}
-
-#[test]
-fn each_cut_is_short_but_between_messages(rt: HostRuntime) -> Result<(), Fail> {
-    let bytes = NINE_ROWS.as_slice();
-    for kept in 0..=800usize {
-        if kept <= bytes.len() {
-            let shown = is_shown(rt.alloc(), &bytes[..kept], due_of_cut(kept))?;
-            assert!(rt; shown, "cut to {kept}");
-        }
-    }
-    Ok(())
-}
-
-/// The byte at a place, another there, and what the stream then shows.
+/// Bytes that do not begin with a schema, and what they show.
 #[derive(Clone, Copy)]
 struct Case {
-    place: usize,
-    byte: u8,
-    due: Expected,
-}
-
-const fn changed(place: usize, byte: u8, lines: usize, last: &'static str) -> Case {
-    Case {
-        place,
-        byte,
-        due: lines_and(lines, last),
-    }
+    bytes: &'static [u8],
+    text: &'static str,
 }
 
 #[test]
-fn each_changed_byte_makes_its_fault(rt: HostRuntime) -> Result<(), Fail> {
+fn bytes_without_a_schema_show_their_fault_alone(rt: HostRuntime) -> Result<(), Fail> {
     let cases = [
-        changed(0, 0x00, 0, "not a stream at 0 Marker\n"),
-        changed(50, 0x02, 0, "not a stream at 0 Dictionary\n"),
-        changed(50, 0x03, 0, "not a stream at 0 Shape\n"),
-        changed(72, 0x01, 0, "not a stream at 0 Endian\n"),
-        changed(121, 0x03, 0, "not a stream at 0 Kind\n"),
-        changed(128, 0xff, 0, "not a stream at 0 Utf8\n"),
-        changed(148, 0x18, 0, "not a stream at 0 Kind\n"),
-        changed(264, 0x80, 9, "not a stream at 568 Marker\n"),
-        changed(272, 0x02, 1, "not a stream at 224 Version\n"),
-        changed(274, 0x01, 1, "not a stream at 224 Shape\n"),
-        changed(274, 0x04, 1, "not a stream at 224 Kind\n"),
-        changed(384, 0x38, 1, "not a stream at 224 Buffer\n"),
-        changed(384, 0x80, 1, "not a stream at 224 Buffer\n"),
-        changed(544, 0xff, 1, "not a stream at 224 Utf8\n"),
-        changed(344, 0x01, 1, "not a stream at 224 NullCount\n"),
-        changed(508, 0x09, 1, "not a stream at 224 Offsets\n"),
+        Case {
+            bytes: b"",
+            text: "not a stream at 0 Short\n",
+        },
+        Case {
+            bytes: b"\xff\xff\xff\xff\x08\x00\x00",
+            text: "not a stream at 0 Short\n",
+        },
+        Case {
+            bytes: b"ARROW1\x00\x00",
+            text: "not a stream at 0 Marker\n",
+        },
     ];
     for case in &cases {
-        let mut bytes = NINE_ROWS.to_vec(rt.alloc())?;
-        if case.place < bytes.len() {
-            bytes[case.place] = case.byte;
-        }
-        let shown = is_shown(rt.alloc(), bytes.as_slice(), case.due)?;
-        assert!(rt; shown, "byte {}", case.place);
+        let shown = show(rt.alloc(), case.bytes)?;
+        assert_eq!(rt; shown.text.as_slice(), case.text.as_bytes());
+        assert!(rt; shown.fault.is_some());
     }
     Ok(())
 }
