@@ -1,6 +1,6 @@
 -- A worked example: an output of one round of writes to which the laws apply, and what they say of
 -- it.
-use Rattle.std.specs.Prelude.{◌≡◌, List, [], ◌∷◌, codes, pos, unwrap_or}
+use Rattle.std.specs.Prelude.{◌≡◌, List, [], codes, pos, unwrap_or}
 use Rattle.std.specs.Result.{result_ok}
 use Rattle.outcome_spec.specs.Entries.{Entry}
 use Rattle.outcome_spec.specs.Explained.{replies_of}

@@ -35,5 +35,5 @@ fn text_of(alloc: Global, drawn: u64) -> Result<Cell, AllocError>
     let mut text = Vec::new(alloc);
     text.push(b's')?;
     put_natural(&mut text, drawn)?;
-    Ok(Cell::Text(Bytes::from(text)))
+    Ok(Cell::Text(Bytes::from_slice(alloc, text.as_slice())?))
 }

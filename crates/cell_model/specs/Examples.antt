@@ -7,6 +7,7 @@ use Rattle.cell_model.specs.declared.kind.Kind.TheVariants as kind
 use Rattle.cell_model.specs.declared.column.Column.{Column}
 use Rattle.cell_model.specs.declared.row.RowFault.TheVariants.{Arity, NullAt, RangeAt, LongAt}
 use Rattle.cell_model.specs.declared.schema.SchemaFault.TheVariants.{NoKey, TooMany, TwoNames}
+use Rattle.cell_model.specs.Kinds.{kinds}
 use Rattle.cell_model.specs.Rows.{row_fault}
 use Rattle.cell_model.specs.Schemas.{bits_of, most_slots_of, row_bits, schema_fault}
 use Rattle.cell_model.specs.Values.{is_integer_of}
@@ -34,11 +35,6 @@ counted = key ∷ column (codes "n") kind.U8 false ∷ []
 abbrev pub SlotsFitABlock : Type 0
 SlotsFitABlock = (row_bits narrow ∷ most_slots_of narrow ∷ row_bits wide ∷ most_slots_of wide ∷ [])
     ≡ 195 ∷ 32768 ∷ 4065 ∷ 2056 ∷ []
-
--- each kind, in the order of its type
-abbrev pub kinds : List Kind
-kinds = kind.I8 ∷ kind.I16 ∷ kind.I32 ∷ kind.I64 ∷ kind.U8 ∷ kind.U16 ∷ kind.U32 ∷ kind.U64
-    ∷ kind.Bool ∷ kind.Utf8 ∷ kind.Binary ∷ []
 
 abbrev pub KindsHaveWidths : Type 0
 KindsHaveWidths = map bits_of kinds ≡ 8 ∷ 16 ∷ 32 ∷ 64 ∷ 8 ∷ 16 ∷ 32 ∷ 64 ∷ 1 ∷ 128 ∷ 128 ∷ []

@@ -1,8 +1,13 @@
 -- What the values of each kind are.
-use Rattle.std.specs.Prelude.{ℕ, ◌*◌, Bool, true, false}
+use Rattle.std.specs.Prelude.{ℕ, ◌*◌, Bool, true, false, List, [], ◌∷◌}
 use Rattle.std.specs.Int.{Width, w8, w16, w32, w64, byte_len}
 use Rattle.cell_model.specs.declared.kind.Kind.{Kind}
 use Rattle.cell_model.specs.declared.kind.Kind.TheVariants as kind
+
+-- each kind, in the order of its type
+abbrev pub kinds : List Kind
+kinds = kind.I8 ∷ kind.I16 ∷ kind.I32 ∷ kind.I64 ∷ kind.U8 ∷ kind.U16 ∷ kind.U32 ∷ kind.U64
+    ∷ kind.Bool ∷ kind.Utf8 ∷ kind.Binary ∷ []
 
 -- What values there are: the signed or the unsigned integers of a width, truth values, texts in
 -- UTF-8, and any bytes.

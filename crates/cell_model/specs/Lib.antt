@@ -3,3 +3,4 @@ pub mod Values
 pub mod Rows
 pub mod Schemas
 pub mod Examples
+pub mod Kept

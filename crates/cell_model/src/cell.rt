@@ -25,7 +25,7 @@ impl Clone for Cell {
 
     ghost is_clone = { λ x y. y ≡ x };
 
-    /// A copy, whose text or bytes lie in memory of its own.
+    /// A copy, whose text or bytes stand in place or in memory of its own.
     fn clone(&self) -> Result<Cell, AllocError> {
         match self {
             Cell::Null => Ok(Cell::Null),

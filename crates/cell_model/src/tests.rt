@@ -132,7 +132,41 @@ fn values_are_kept(rt: HostRuntime) -> Result<(), Fail> {
     let buffers = Buffers::from(vec![in alloc; Bytes::from(vec![in alloc; 1, 2]?)]?);
     assert_eq!(rt; buffers.len(), 1);
     for bytes in buffers.into_vec() {
-        assert_eq!(rt; bytes.clone()?.into_vec().as_slice(), [1, 2].as_slice());
+        assert_eq!(rt; bytes.clone()?.as_slice(), [1, 2].as_slice());
     }
+    Ok(())
+}
+
+/// The bytes 0, 1, 2 and so on, so many of them, in a vector.
+fn counted(alloc: Global, count: usize) -> Result<Vec<u8>, Fail> {
+    let mut bytes = Vec::new(alloc);
+    for at in 0..count {
+        bytes.push((at % 256) as u8)?;
+    }
+    Ok(bytes)
+}
+
+#[test]
+fn bytes_are_the_same_in_place_and_in_memory(rt: HostRuntime) -> Result<(), Fail> {
+    let alloc = rt.alloc();
+    for count in [0, 1, 22, 23, 24, 300] {
+        let given = counted(alloc, count)?;
+        let copied = Bytes::from_slice(alloc, given.as_slice())?;
+        let again = copied.clone()?;
+        let moved = Bytes::from(counted(alloc, count)?);
+        let kept = moved.clone()?;
+        let shown = format!(in alloc; "{moved:?}")?;
+        for bytes in [&copied, &again, &moved, &kept] {
+            assert_eq!(rt; bytes.as_slice(), given.as_slice());
+            assert_eq!(rt; bytes.len(), count);
+            assert_eq!(rt; bytes.is_empty(), count == 0);
+            assert_eq!(rt; format!(in alloc; "{bytes:?}")?.as_str(), shown.as_str());
+        }
+    }
+    let two = Bytes::from_slice(alloc, [7, 8].as_slice())?;
+    assert_eq!(rt;
+        format!(in alloc; "{two:?}")?.as_str(),
+        "Bytes { bytes: [7, 8] }"
+    );
     Ok(())
 }

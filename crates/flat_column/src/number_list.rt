@@ -104,6 +104,7 @@ impl Fixed {
     }
 
     /// The number at a place.
+    #[inline(always)]
     pub fn get(&self, index: usize) -> i128
         requires { index < length self.now.values }
         ensures value { slice_get self.now.values index ≡ Some result }
@@ -178,6 +179,7 @@ impl Clone for Fixed {
 }
 
 /// The number of a width with which the bytes begin.
+#[inline(always)]
 fn first_number(bytes: &[u8], width: u32, signed: bool) -> i128
     requires known { IsWidth width }
     requires room { width / 8 ≤ length bytes.now }

@@ -10,7 +10,7 @@ ghost use Rattle.script_text.specs.Commands.{row_read};
 ghost use Rattle.script_text.specs.Answers.{Gives};
 
 use crate::fault::WordFault;
-use cell_model::{Bytes, Cell, Column, Kind, Row};
+use cell_model::{Cell, Column, Kind, Row};
 use std::alloc::{AllocError, Global};
 use word_read::{blob_of, integer, text_of, truth_of, word_behind};
 use workload_spec::Cause;
@@ -71,8 +71,8 @@ fn value_of(alloc: Global, kind: Kind, word: &[u8]) -> Result<Option<Cell>, Allo
 {
     match kind {
         Kind::Bool => Ok(truth_of(word).map(Cell::Truth)),
-        Kind::Utf8 => Ok(text_of(alloc, word)?.map(|text| Cell::Text(Bytes::from(text)))),
-        Kind::Binary => Ok(blob_of(alloc, word)?.map(|blob| Cell::Blob(Bytes::from(blob)))),
+        Kind::Utf8 => Ok(text_of(alloc, word)?.map(Cell::Text)),
+        Kind::Binary => Ok(blob_of(alloc, word)?.map(Cell::Blob)),
         Kind::I8
         | Kind::I16
         | Kind::I32

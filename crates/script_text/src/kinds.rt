@@ -1,7 +1,8 @@
 //! The names of kinds.
 ghost use Rattle.std.specs.Prelude.{◌≡◌, ◌++◌, codes, find, bytes_eq};
+ghost use Rattle.cell_model.specs.Kinds.{kinds};
 ghost use Rattle.workload_spec.specs.ScriptText.{kind_text};
-ghost use Rattle.workload_spec.specs.Grammar.{kind_of, kinds};
+ghost use Rattle.workload_spec.specs.Grammar.{kind_of};
 
 use cell_model::Kind;
 

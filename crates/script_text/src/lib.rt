@@ -24,6 +24,3 @@ pub use checking::parse_checked;
 pub use fault::ScriptFault;
 pub use parsing::parse;
 pub use printing::print;
-
-#[cfg(test)]
-mod tests;

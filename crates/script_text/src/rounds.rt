@@ -33,8 +33,10 @@ pub fn rounds_of(
     let mut rest = bytes;
     while let Some((line, behind)) = split_line(rest) {
         if is_parting(extent, line) {
+            // Most rounds of a workload are as long as the one before.
+            let room = lines.len();
             rounds.push(round_of(lines))?;
-            lines = Vec::new(alloc);
+            lines = Vec::with_capacity(alloc, room)?;
         } else {
             let read = match line_of(alloc, extent, tables, sessions, exported, line) {
                 Ok(read) => read,

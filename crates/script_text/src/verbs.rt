@@ -1,5 +1,5 @@
 //! The first words of commands.
-ghost use Rattle.std.specs.Prelude.{◌≡◌, find, bytes_eq};
+ghost use Rattle.std.specs.Prelude.{◌≡◌, ◌∷◌, [], find, bytes_eq};
 ghost use Rattle.script_text.specs.Verbs.{verbs, verb_text, takes};
 
 use workload_spec::Commands;
@@ -23,40 +23,68 @@ pub enum Verb {
     Export,
 }
 
-/// The command whose first word this is.
+/// The command whose first word this is. Its first letter leaves one command or two to compare
+/// it with.
 pub fn verb_of(word: &[u8]) -> Option<Verb>
     ensures { result ≡ find (λ verb. bytes_eq (verb_text verb) word.now) verbs }
 {
-    if b"begin".as_slice() == word {
-        Some(Verb::Begin)
-    } else if b"get".as_slice() == word {
-        Some(Verb::Get)
-    } else if b"scan".as_slice() == word {
-        Some(Verb::Scan)
-    } else if b"insert".as_slice() == word {
-        Some(Verb::Insert)
-    } else if b"update".as_slice() == word {
-        Some(Verb::Update)
-    } else if b"delete".as_slice() == word {
-        Some(Verb::Delete)
-    } else if b"commit".as_slice() == word {
-        Some(Verb::Commit)
-    } else if b"abort".as_slice() == word {
-        Some(Verb::Abort)
-    } else if b"observe".as_slice() == word {
-        Some(Verb::Observe)
-    } else if b"prune".as_slice() == word {
-        Some(Verb::Prune)
-    } else if b"compact".as_slice() == word {
-        Some(Verb::Compact)
-    } else if b"seal".as_slice() == word {
-        Some(Verb::Seal)
-    } else if b"gather".as_slice() == word {
-        Some(Verb::Gather)
-    } else if b"export".as_slice() == word {
-        Some(Verb::Export)
+    match word {
+        [b'a', ..] => spelled(Verb::Abort, word),
+        [b'b', ..] => spelled(Verb::Begin, word),
+        [b'c', ..] => either(Verb::Commit, Verb::Compact, word),
+        [b'd', ..] => spelled(Verb::Delete, word),
+        [b'e', ..] => spelled(Verb::Export, word),
+        [b'g', ..] => either(Verb::Get, Verb::Gather, word),
+        [b'i', ..] => spelled(Verb::Insert, word),
+        [b'o', ..] => spelled(Verb::Observe, word),
+        [b'p', ..] => spelled(Verb::Prune, word),
+        [b's', ..] => either(Verb::Scan, Verb::Seal, word),
+        [b'u', ..] => spelled(Verb::Update, word),
+        _ => None,
+    }
+}
+
+/// The first of two commands that the word spells.
+fn either(one: Verb, other: Verb, word: &[u8]) -> Option<Verb>
+    ensures { result ≡ find (λ verb. bytes_eq (verb_text verb) word.now) (one ∷ other ∷ []) }
+{
+    if verb_text(one) == word {
+        Some(one)
+    } else {
+        spelled(other, word)
+    }
+}
+
+/// The command, where the word spells it.
+fn spelled(verb: Verb, word: &[u8]) -> Option<Verb>
+    ensures { result ≡ find (λ verb. bytes_eq (verb_text verb) word.now) (verb ∷ []) }
+{
+    if verb_text(verb) == word {
+        Some(verb)
     } else {
         None
+    }
+}
+
+/// The first word of a command.
+fn verb_text(verb: Verb) -> &'static [u8]
+    ensures { result.now ≡ verb_text verb }
+{
+    match verb {
+        Verb::Begin => b"begin",
+        Verb::Get => b"get",
+        Verb::Scan => b"scan",
+        Verb::Insert => b"insert",
+        Verb::Update => b"update",
+        Verb::Delete => b"delete",
+        Verb::Commit => b"commit",
+        Verb::Abort => b"abort",
+        Verb::Observe => b"observe",
+        Verb::Prune => b"prune",
+        Verb::Compact => b"compact",
+        Verb::Seal => b"seal",
+        Verb::Gather => b"gather",
+        Verb::Export => b"export",
     }
 }
 

@@ -8,10 +8,10 @@ use Rattle.std.specs.Prelude.{Result, Ok}
 use Rattle.std.specs.Int.{w64, byte_len, cast_signed}
 use Rattle.std.specs.List.{range_with_len}
 use Rattle.std.specs.Str.{is_utf8}
-use Rattle.cell_model.specs.Kinds.{Values, signed, unsigned, truths, texts, blobs, values_of}
+use Rattle.cell_model.specs.Kinds.{Values, signed, unsigned, truths, texts, blobs, kinds}
+use Rattle.cell_model.specs.Kinds.{values_of}
 use Rattle.cell_model.specs.declared.column.Column.{Column}
 use Rattle.cell_model.specs.declared.kind.Kind.{Kind}
-use Rattle.cell_model.specs.Examples.{kinds}
 use Rattle.arrow_spec.specs.Metadata.{type_number}
 use Rattle.flat_read.specs.Reading.{field_at, number_at, number_from, target_at, text_at, vector_at}
 use Rattle.flat_read.specs.declared.FlatFault.{FlatFault}

@@ -9,11 +9,12 @@ ghost use Rattle.workload_spec.specs.Reading.{Itself, Escape, FirstDigit};
 ghost use Rattle.word_read.specs.Spellings.{is_hex, is_plain, text_from, text_of, pairs_of};
 ghost use Rattle.word_read.specs.Spellings.{blob_of};
 
+use cell_model::Bytes;
 use std::alloc::{AllocError, Global};
 
 /// The text that the word spells between its quotes; none where it spells no text.
-pub fn text_of(alloc: Global, word: &[u8]) -> Result<Option<Vec<u8>>, AllocError>
-    ensures { IfOk result (λ text. option_map (λ bytes. bytes.items) text ≡ text_of word.now) }
+pub fn text_of(alloc: Global, word: &[u8]) -> Result<Option<Bytes>, AllocError>
+    ensures { IfOk result (λ text. text ≡ text_of word.now) }
 {
     match word {
         [b'"', spelling @ ..] => text_behind(alloc, spelling),
@@ -21,8 +22,21 @@ pub fn text_of(alloc: Global, word: &[u8]) -> Result<Option<Vec<u8>>, AllocError
     }
 }
 
-/// The text that these bytes spell behind its opening quote.
-fn text_behind(alloc: Global, spelling: &[u8]) -> Result<Option<Vec<u8>>, AllocError>
+/// The text that these bytes spell behind its opening quote. Most texts have no escape, and are
+/// copied in one go.
+fn text_behind(alloc: Global, spelling: &[u8]) -> Result<Option<Bytes>, AllocError>
+    ensures { IfOk result (λ text. text ≡ text_from Itself spelling.now) }
+{
+    let (plain, behind) = spelling.split_at(plain_length(spelling));
+    if behind == b"\"".as_slice() {
+        Ok(Some(Bytes::from_slice(alloc, plain)?))
+    } else {
+        Ok(unescaped(alloc, spelling)?.map(Bytes::from))
+    }
+}
+
+/// The text that these bytes spell behind its opening quote, piece by piece between its escapes.
+fn unescaped(alloc: Global, spelling: &[u8]) -> Result<Option<Vec<u8>>, AllocError>
     ensures { IfOk result (λ text. option_map (λ bytes. bytes.items) text
         ≡ text_from Itself spelling.now) }
 {
@@ -152,11 +166,11 @@ fn hex_value(digit: u8) -> Option<u8>
 
 /// The bytes that the word spells behind an `x`, two digits for each; none where it spells no
 /// bytes.
-pub fn blob_of(alloc: Global, word: &[u8]) -> Result<Option<Vec<u8>>, AllocError>
-    ensures { IfOk result (λ blob. option_map (λ bytes. bytes.items) blob ≡ blob_of word.now) }
+pub fn blob_of(alloc: Global, word: &[u8]) -> Result<Option<Bytes>, AllocError>
+    ensures { IfOk result (λ blob. blob ≡ blob_of word.now) }
 {
     match word {
-        [b'x', digits @ ..] => bytes_of(alloc, digits),
+        [b'x', digits @ ..] => Ok(bytes_of(alloc, digits)?.map(Bytes::from)),
         _ => Ok(None),
     }
 }

@@ -7,13 +7,14 @@ use Rattle.std.proofs.lemmas.Bool.{eqb-true, ltb-true, le-leb}
 use Rattle.std.proofs.lemmas.List.{append-nil}
 use Rattle.cell_model.specs.declared.column.Column.{Column}
 use Rattle.cell_model.specs.declared.kind.Kind.{Kind}
+use Rattle.cell_model.specs.Kinds.{kinds}
 use Rattle.cell_model.specs.Schemas.{begins_with_key, place_of_name, first_twins, most_columns}
 use Rattle.workload_spec.specs.declared.script.Cause.{Cause}
 use Rattle.workload_spec.specs.declared.script.Cause.TheVariants as cause
 use Rattle.workload_spec.specs.Valid.{is_name, are_columns}
 use Rattle.workload_spec.specs.ScriptText.{kind_text, column_text}
 use Rattle.workload_spec.specs.Extents.{whole}
-use Rattle.workload_spec.specs.Grammar.{◌>>=◌, or_cause, rule, kinds, kind_of, colon, has_colon, before_colon, after_colon, column_of, columns_from}
+use Rattle.workload_spec.specs.Grammar.{◌>>=◌, or_cause, rule, kind_of, colon, has_colon, before_colon, after_colon, column_of, columns_from}
 use Rattle.workload_laws.proofs.Results.{step, some_of, rule_of, eq_of}
 use Rattle.workload_laws.proofs.Lists.{both, joined, not_true, all-behind, own_names, own_names-behind, find_is, position_none, none_position}
 

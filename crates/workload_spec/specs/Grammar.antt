@@ -14,6 +14,7 @@ use Rattle.cell_model.specs.declared.kind.Kind.{Kind}
 use Rattle.cell_model.specs.declared.kind.Kind.TheVariants as kind
 use Rattle.cell_model.specs.declared.column.Column.{Column}
 use Rattle.cell_model.specs.declared.table.TableDecl.{TableDecl}
+use Rattle.cell_model.specs.Kinds.{kinds}
 use Rattle.cell_model.specs.Schemas.{most_slots_of, place_of_name}
 use Rattle.workload_spec.specs.declared.command.Command.{Command}
 use Rattle.workload_spec.specs.declared.command.Command.TheVariants as command
@@ -72,11 +73,6 @@ number cause low high words = do
   Ok (value, first.1)
 
 -- Table lines.
-
--- each kind
-abbrev pub kinds : List Kind
-kinds = kind.I8 ∷ kind.I16 ∷ kind.I32 ∷ kind.I64 ∷ kind.U8 ∷ kind.U16 ∷ kind.U32 ∷ kind.U64
-    ∷ kind.Bool ∷ kind.Utf8 ∷ kind.Binary ∷ []
 
 -- the kind that the word names, and whether a question mark follows its name
 abbrev pub kind_of : List ℕ → Option (Kind × Bool)

@@ -30,7 +30,7 @@ returns-clause-read c =
     let named : is_name (before_colon c.args.word.now) ≡ true = cc (c.is_name.ensures, c.if-not-is_name.false, before) in
     let own : list_any (λ column. bytes_eq column.name (before_colon c.args.word.now)) c.args.columns.now ≡ false = no_column c.args.names.now c.args.columns.now (before_colon c.args.word.now) c.requires ∙ ap (λ name. list_any (λ own. bytes_eq own name) c.args.names.now) (sym before) ∙ sym c.contains.ensures ∙ c.if-contains.false in
     let read = column_read c.args.extent.now c.args.columns.now c.args.word.now _ named own (ap kind_of (sym after) ∙ sym c.kind_of.ensures ∙ c.in-Some.is) (omega arith) in
-    rw (c.in_ok-from_slice.ensures, before) read
+    rw (c.in_ok-from_slice.ensures.bytes, before) read
 
 pub returns-then-contains-clause-read : goal.returns-then-contains-clause-read
 returns-then-contains-clause-read c =

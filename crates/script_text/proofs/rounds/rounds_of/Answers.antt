@@ -4,7 +4,7 @@ use Rattle.workload_spec.specs.Words.{line_feed}
 use Rattle.workload_spec.specs.Reading.{parts}
 use Rattle.script_text.proofs.RoundLines.{Read, begun, line_read, line_bad, round_read}
 use Rattle.script_text.proofs.rounds.rounds_of.Goals as goal
-use Rattle.script_text.proofs.rounds.rounds_of.Goals.{then-is_parting+in_ok-push, else-is_parting+in-Ok+in_ok-push-2}
+use Rattle.script_text.proofs.rounds.rounds_of.Goals.{then-is_parting+in_ok-push+in_ok-lines, else-is_parting+in-Ok+in_ok-push-2}
 
 pub loop-line-init : goal.loop-line-init
 loop-line-init c = record {
@@ -24,9 +24,9 @@ loop-line-preserved c =
     record {
       numbered = omega (arith, c.in-Some.ensures.shorter);
       read = elim c.if-is_parting.branch [
-        | then-is_parting+in_ok-push w ↦
+        | then-is_parting+in_ok-push+in_ok-lines w ↦
             let is : (c.args.extent.now.parts_rounds && bytes_eq c.in-Some.line.now (codes "--")) ≡ true = sym c.is_parting.ensures ∙ w.if-is_parting.true in
-            rw (w.rounds-is, w.lines-is, w.exported-is, w.in_ok-push.ensures.items, w.new-lines-then-is_parting.ensures.items, w.round_of.ensures)
+            rw (w.rounds-is, w.lines-is, w.exported-is, w.in_ok-push.ensures.items, w.in_ok-lines.ensures.items, w.round_of.ensures)
             (c.loop-line.invariant.read ∙ first
             ∙ round_read c.args.extent.now c.args.tables.now c.args.sessions c.loop-line.at c.loop-line.exported c.in-Some.line.now c.in-Some.behind.now c.loop-line.rounds.items c.loop-line.lines.items is)
         | else-is_parting+in-Ok+in_ok-push-2 w ↦

@@ -28,7 +28,7 @@ invariant_of-result-2 c =
     let shape : c.in_ok-core.core.shape ≡ shape_by c.args.slots c.args.blocks (codes "a") schema =
     c.in_ok-core.ensures.shape
     ∙ ap shape_of c.in_ok-vec.ensures.items
-    ∙ ap (λ (name : List ℕ). shape_by c.args.slots c.args.blocks name c.args.declared) (c.in_ok-from_slice.ensures ∙ c.as_slice.ensures)
+    ∙ ap (λ (name : List ℕ). shape_by c.args.slots c.args.blocks name c.args.declared) (c.in_ok-from_slice.ensures.bytes ∙ c.as_slice.ensures)
     ∙ ap (shape_by c.args.slots c.args.blocks (codes "a")) (c.requires.columns ∙ sym c.schema.view_is) in
     subst
     (λ (owns : List (Option OwnTransaction)). IsTrial (record {
