@@ -2,6 +2,7 @@ pub mod After
 pub mod Bodies
 pub mod Counts
 pub mod Installed
+pub mod Fronts
 pub mod Frozen
 pub mod Keyed
 pub mod Listed

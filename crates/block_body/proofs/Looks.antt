@@ -86,18 +86,23 @@ filter_map_none : {X Y : Type 0} (h : X → Option Y) (xs : List X) → ((x : X)
 filter_map_none h [] none = refl
 filter_map_none h (x ∷ xs) none = ap (λ (o : Option _). cons_option o (filter_map h xs)) (none x) ∙ filter_map_none h xs none
 
-bare_at : (slots : List Slot) (j : ℕ) → list_all is_bare slots ≡ true → is_bare (get_or slots j bare) ≡ true
-bare_at [] j all = refl
-bare_at (slot ∷ slots) zero all = first (is_bare slot) (list_all is_bare slots) all
+-- what a test says of all slots, it says of each, also of those that there are not
+pub slot_passes : (p : Slot → Bool) (slots : List Slot) (j : ℕ) → p bare ≡ true → list_all p slots ≡ true → p (get_or slots j bare) ≡ true
+slot_passes p [] j here all = here
+slot_passes p (slot ∷ slots) zero here all = first (p slot) (list_all p slots) all
   where
     first : (a b : Bool) → (a && b) ≡ true → a ≡ true
     first true b both = refl
     first false b both = both
-bare_at (slot ∷ slots) (suc j) all = bare_at slots j (rest (is_bare slot) (list_all is_bare slots) all)
+slot_passes p (slot ∷ slots) (suc j) here all = slot_passes p slots j here (rest (p slot) (list_all p slots) all)
   where
     rest : (a b : Bool) → (a && b) ≡ true → b ≡ true
     rest true b both = both
     rest false b both = let no : false ≡ true = both in cc
+
+-- each slot of an empty body is bare
+bare_at : (slots : List Slot) (j : ℕ) → list_all is_bare slots ≡ true → is_bare (get_or slots j bare) ≡ true
+bare_at slots j all = slot_passes is_bare slots j refl all
 
 bare_row : (j : ℕ) (row : Option Row) (entries : List (Undo Before)) → (is_none row && has_none entries) ≡ true → movable_row j row (has_none entries) ≡ None
 bare_row j None entries is = refl

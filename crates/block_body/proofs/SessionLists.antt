@@ -1,158 +1,111 @@
 -- What the lists of sessions answer after one of them was changed.
-use Rattle.std.proofs.Common.{◌≡◌, ◌≢◌, ◌∙◌, ℕ, zero, suc, ◌+◌, ◌<◌, ◌≤◌, Bool, true, false, not, cond, eqb, List, [], ◌∷◌, ◌++◌, None, Some, length, get_or, refl, sym, ap, arith, ⊎_elim}
+use Rattle.std.proofs.Common.{◌≡◌, ◌≢◌, ◌∙◌, ℕ, zero, suc, ◌<◌, ◌≤◌, Bool, true, false, cond, List, [], ◌∷◌, ◌++◌, Option, None, Some, length, get_or, refl, sym, ap, arith, ⊎_elim}
 use Rattle.std.proofs.Math.ListN.{set}
-use Rattle.std.specs.Prelude.{position, nat_lt, remove}
+use Rattle.std.specs.Prelude.{position, find, slice_get, nat_lt, remove}
 use Rattle.std.specs.List.{position_or_len}
-use Rattle.std.specs.Ordering.{nat_cmp}
-use Rattle.std.specs.Map.{lookup}
-use Rattle.std.specs.BTreeMap.{is_at}
+use Rattle.std.specs.Option.{option_map_or, option_or}
 use Rattle.std.proofs.lemmas.Bool.{cases_eq, eq-eqb, eqb-true, ne_eqb}
 use Rattle.std.proofs.lemmas.Bool.Decides.{nat_tests}
+use Rattle.std.proofs.lemmas.List.Folds.{find_at, find-append, find-set, find_past}
 use Rattle.std.proofs.lemmas.List.Quantifiers.{position-Some}
+use Rattle.std.proofs.lemmas.Option.{slice_get-get_or, slice_get_past}
 use Rattle.block_body.specs.Chains.{is_listed}
-use Rattle.block_body.specs.Bodies.{SlotLists, slots_listed, slots_of}
-use Rattle.block_body.proofs.Lookups.{is_at-same, is_at-other}
+use Rattle.block_body.specs.Bodies.{SessionSlots, SlotLists, is_of, slots_of}
 
--- ---- a look-up by any test
+-- the slots of what was found
+abbrev slots_in : Option SessionSlots → List ℕ
+slots_in found = option_map_or (λ listed. listed.slots) found []
 
--- the first that passes
-found : (test : ℕ → Bool) (lists : SlotLists) (at : ℕ) (d : ℕ × List ℕ) → at < length lists → test (get_or lists at d).0 ≡ true →
-    ((k : ℕ) → k < at → test (get_or lists k d).0 ≡ false) → lookup test lists ≡ Some (get_or lists at d).1
-found test [] at d within is before = absurd (omega (arith, within))
-found test (l ∷ ls) zero d within is before = ap (λ b. cond b (Some l.1) (lookup test ls)) is
-found test (l ∷ ls) (suc at) d within is before =
-    ap (λ b. cond b (Some l.1) (lookup test ls)) (before 0 (omega arith))
-    ∙ found test ls at d (omega (arith, within)) is (λ k lt. before (suc k) (omega (arith, lt)))
+abbrev no_list : SessionSlots
+no_list = record { session = 0; slots = [] }
 
--- it has another value then
-found-set : (test : ℕ → Bool) (lists : SlotLists) (at : ℕ) (d x : ℕ × List ℕ) → at < length lists → test x.0 ≡ true →
-    ((k : ℕ) → k < at → test (get_or lists k d).0 ≡ false) → lookup test (set lists at x) ≡ Some x.1
-found-set test [] at d x within is before = absurd (omega (arith, within))
-found-set test (l ∷ ls) zero d x within is before = ap (λ b. cond b (Some x.1) (lookup test ls)) is
-found-set test (l ∷ ls) (suc at) d x within is before =
-    ap (λ b. cond b (Some l.1) (lookup test (set ls at x))) (before 0 (omega arith))
-    ∙ found-set test ls at d x (omega (arith, within)) is (λ k lt. before (suc k) (omega (arith, lt)))
-
--- a change of what does not pass is not seen
-apart-set : (test : ℕ → Bool) (lists : SlotLists) (at : ℕ) (d x : ℕ × List ℕ) → at < length lists → test (get_or lists at d).0 ≡ false → test x.0 ≡ false →
-    lookup test (set lists at x) ≡ lookup test lists
-apart-set test [] at d x within was is = absurd (omega (arith, within))
-apart-set test (l ∷ ls) zero d x within was is =
-    ap (λ b. cond b (Some x.1) (lookup test ls)) is ∙ sym (ap (λ b. cond b (Some l.1) (lookup test ls)) was)
-apart-set test (l ∷ ls) (suc at) d x within was is =
-    ap (λ o. cond (test l.0) (Some l.1) o) (apart-set test ls at d x (omega (arith, within)) was is)
-
-apart-remove : (test : ℕ → Bool) (lists : SlotLists) (at : ℕ) (d : ℕ × List ℕ) → at < length lists → test (get_or lists at d).0 ≡ false →
-    lookup test (remove lists at) ≡ lookup test lists
-apart-remove test [] at d within was = absurd (omega (arith, within))
-apart-remove test (l ∷ ls) zero d within was = sym (ap (λ b. cond b (Some l.1) (lookup test ls)) was)
-apart-remove test (l ∷ ls) (suc at) d within was =
-    ap (λ o. cond (test l.0) (Some l.1) o) (apart-remove test ls at d (omega (arith, within)) was)
-
--- what is added is found where nothing was
-found-push : (test : ℕ → Bool) (lists : SlotLists) (x : ℕ × List ℕ) → test x.0 ≡ true → lookup test lists ≡ None → lookup test (lists ++ x ∷ []) ≡ Some x.1
-found-push test [] x is none = ap (λ b. cond b (Some x.1) None) is
-found-push test (l ∷ ls) x is none = go (test l.0) none (found-push test ls x is)
+-- one that is nowhere is past all of them
+past : {X : Type 0} (test : X → Bool) (xs : List X) → position test xs ≡ None → length xs ≤ position_or_len test xs
+past test xs none = go (nat_lt (position_or_len test xs) (length xs)) refl none
   where
-    go : (b : Bool) → cond b (Some l.1) (lookup test ls) ≡ None → (lookup test ls ≡ None → lookup test (ls ++ x ∷ []) ≡ Some x.1) →
-        cond b (Some l.1) (lookup test (ls ++ x ∷ [])) ≡ Some x.1
-    go true none rest = absurd (let never : ⊥ = cc in never)
-    go false none rest = rest none
-
-more-push : (test : ℕ → Bool) (lists : SlotLists) (x : ℕ × List ℕ) (number : ℕ) → is_listed (slots_listed (lookup test lists)) number ≡ true →
-    is_listed (slots_listed (lookup test (lists ++ x ∷ []))) number ≡ true
-more-push test [] x number is = let never : false ≡ true = is in cc
-more-push test (l ∷ ls) x number is = go (test l.0) is (more-push test ls x number)
-  where
-    go : (b : Bool) → is_listed (slots_listed (cond b (Some l.1) (lookup test ls))) number ≡ true →
-        (is_listed (slots_listed (lookup test ls)) number ≡ true → is_listed (slots_listed (lookup test (ls ++ x ∷ []))) number ≡ true) →
-        is_listed (slots_listed (cond b (Some l.1) (lookup test (ls ++ x ∷ [])))) number ≡ true
-    go true is rest = is
-    go false is rest = rest is
-
--- ---- the list of a session
-
--- whether slots are those of a session
-abbrev pub is_of : ℕ → ℕ × List ℕ → Bool
-is_of session l = eqb l.0 session
-
-is_at-eqb : (session q : ℕ) → is_at (nat_cmp session) q ≡ eqb q session
-is_at-eqb session q = ⊎_elim
-    (λ (e : q ≡ session). ap (is_at (nat_cmp session)) e ∙ is_at-same session ∙ sym (eq-eqb q session e))
-    (λ (apart : q ≢ session). is_at-other session q apart ∙ sym (ne_eqb q session apart))
-    (cases_eq q session)
-
--- one that is past all of them has none
-past : (session : ℕ) (lists : SlotLists) → length lists ≤ position_or_len (is_of session) lists → lookup (is_at (nat_cmp session)) lists ≡ None
-past session [] none = refl
-past session (l ∷ ls) none = ap (λ b. cond b (Some l.1) (lookup (is_at (nat_cmp session)) ls)) (is_at-eqb session l.0) ∙ go (eqb l.0 session) none (past session ls)
-  where
-    go : (b : Bool) → suc (length ls) ≤ cond (not b) (1 + position_or_len (is_of session) ls) 0 →
-        (length ls ≤ position_or_len (is_of session) ls → lookup (is_at (nat_cmp session)) ls ≡ None) →
-        cond b (Some l.1) (lookup (is_at (nat_cmp session)) ls) ≡ None
-    go true none rest = absurd (omega (arith, none))
-    go false none rest = rest (omega (arith, none))
-
-nowhere : (session : ℕ) (lists : SlotLists) → position (is_of session) lists ≡ None → lookup (is_at (nat_cmp session)) lists ≡ None
-nowhere session lists none =
-    go (nat_lt (position_or_len (is_of session) lists) (length lists)) refl none
-  where
-    go : (b : Bool) → nat_lt (position_or_len (is_of session) lists) (length lists) ≡ b →
-        cond b (Some (position_or_len (is_of session) lists)) None ≡ None → lookup (is_at (nat_cmp session)) lists ≡ None
+    go : (b : Bool) → nat_lt (position_or_len test xs) (length xs) ≡ b → cond b (Some (position_or_len test xs)) None ≡ None →
+        length xs ≤ position_or_len test xs
     go true is none = absurd (let never : ⊥ = cc in never)
-    go false is none = past session lists (grind (arith, nat_tests, is))
+    go false is none = grind (arith, nat_tests, is)
+
+nowhere : (session : ℕ) (lists : SlotLists) → position (is_of session) lists ≡ None → find (is_of session) lists ≡ None
+nowhere session lists none =
+    find_at (is_of session) lists
+    ∙ slice_get_past lists (position_or_len (is_of session) lists) (past (is_of session) lists none)
+
+-- one that stands somewhere is the first there
+first : {X : Type 0} (test : X → Bool) (xs : List X) (at : ℕ) → position test xs ≡ Some at → position_or_len test xs ≡ at
+first test xs at stands = go (nat_lt (position_or_len test xs) (length xs)) stands
+  where
+    go : (b : Bool) → cond b (Some (position_or_len test xs)) None ≡ Some at → position_or_len test xs ≡ at
+    go true is = cc
+    go false is = absurd (let never : ⊥ = cc in never)
+
+-- what does not pass is not missed
+apart-remove : {X : Type 0} (test : X → Bool) (xs : List X) (at : ℕ) (d : X) → at < length xs → test (get_or xs at d) ≡ false →
+    find test (remove xs at) ≡ find test xs
+apart-remove test [] at d within was = absurd (omega (arith, within))
+apart-remove test (x ∷ xs) zero d within was = sym (ap (λ b. cond b (Some x) (find test xs)) was)
+apart-remove test (x ∷ xs) (suc at) d within was =
+    ap (λ o. cond (test x) (Some x) o) (apart-remove test xs at d (omega (arith, within)) was)
 
 -- a session that is nowhere has no slots
 pub no_slots : (session : ℕ) (lists : SlotLists) → position (is_of session) lists ≡ None → slots_of lists session ≡ []
-no_slots session lists none = ap slots_listed (nowhere session lists none)
+no_slots session lists none = ap slots_in (nowhere session lists none)
 
 -- a session that is nowhere gets a list
-pub push_listed : (session slot : ℕ) (lists : SlotLists) (x : ℕ × List ℕ) → position (is_of session) lists ≡ None → x.0 ≡ session → is_listed x.1 slot ≡ true →
-    is_listed (slots_of (lists ++ x ∷ []) session) slot ≡ true
+pub push_listed : (session slot : ℕ) (lists : SlotLists) (x : SessionSlots) → position (is_of session) lists ≡ None → x.session ≡ session →
+    is_listed x.slots slot ≡ true → is_listed (slots_of (lists ++ x ∷ []) session) slot ≡ true
 push_listed session slot lists x none own is =
-    ap (λ o. is_listed (slots_listed o) slot)
-    (found-push (is_at (nat_cmp session)) lists x (ap (is_at (nat_cmp session)) own ∙ is_at-same session) (nowhere session lists none))
+    ap (λ o. is_listed (slots_in o) slot)
+    (find-append (is_of session) lists (x ∷ [])
+    ∙ ap (λ o. option_or o (find (is_of session) (x ∷ []))) (nowhere session lists none)
+    ∙ ap (λ b. cond b (Some x) None) (eq-eqb x.session session own))
     ∙ is
 
 -- no slot leaves a list by it
-pub push_more : (lists : SlotLists) (x : ℕ × List ℕ) (other number : ℕ) → is_listed (slots_of lists other) number ≡ true → is_listed (slots_of (lists ++ x ∷ []) other) number ≡ true
-push_more lists x other number is = more-push (is_at (nat_cmp other)) lists x number is
+pub push_more : (lists : SlotLists) (x : SessionSlots) (other number : ℕ) → is_listed (slots_of lists other) number ≡ true →
+    is_listed (slots_of (lists ++ x ∷ []) other) number ≡ true
+push_more lists x other number is =
+    ap (λ o. is_listed (slots_in o) number) (find-append (is_of other) lists (x ∷ [])) ∙ go (find (is_of other) lists) is
+  where
+    go : (o : Option SessionSlots) → is_listed (slots_in o) number ≡ true → is_listed (slots_in (option_or o (find (is_of other) (x ∷ [])))) number ≡ true
+    go None is = let never : false ≡ true = is in cc
+    go (Some l) is = is
 
 module _ (session : ℕ) (lists : SlotLists) (at : ℕ) (stands : position (is_of session) lists ≡ Some at) where
   within : at < length lists
-  within = (position-Some (is_of session) lists at (0, []) stands).0
+  within = (position-Some (is_of session) lists at no_list stands).0
 
   -- the slots there are the session's
-  pub own : (d : ℕ × List ℕ) → (get_or lists at d).0 ≡ session
-  own d = eqb-true (get_or lists at d).0 session (position-Some (is_of session) lists at d stands).1
+  pub own : (d : SessionSlots) → (get_or lists at d).session ≡ session
+  own d = eqb-true (get_or lists at d).session session (position-Some (is_of session) lists at d stands).1
 
-  before : (d : ℕ × List ℕ) (k : ℕ) → k < at → is_at (nat_cmp session) (get_or lists k d).0 ≡ false
-  before d k lt = is_at-eqb session (get_or lists k d).0 ∙ (position-Some (is_of session) lists at d stands).2 k lt
+  pub slots_there : (d : SessionSlots) → slots_of lists session ≡ (get_or lists at d).slots
+  slots_there d = ap slots_in
+      (find_at (is_of session) lists ∙ ap (slice_get lists) (first (is_of session) lists at stands) ∙ slice_get-get_or lists at d within)
 
-  pub slots_there : (d : ℕ × List ℕ) → slots_of lists session ≡ (get_or lists at d).1
-  slots_there d = ap slots_listed (found (is_at (nat_cmp session)) lists at d within (ap (is_at (nat_cmp session)) (own d) ∙ is_at-same session) (before d))
-
-  other_there : (d : ℕ × List ℕ) (other : ℕ) → other ≢ session → is_at (nat_cmp other) (get_or lists at d).0 ≡ false
-  other_there d other apart = is_at-other other (get_or lists at d).0 (λ e. apart (sym e ∙ own d))
+  not_of : (d : SessionSlots) (other : ℕ) → other ≢ session → is_of other (get_or lists at d) ≡ false
+  not_of d other apart = ne_eqb (get_or lists at d).session other (λ e. apart (sym e ∙ own d))
 
   -- without the list of a session the others' are as they were
   pub others_stay : (other : ℕ) → other ≢ session → slots_of (remove lists at) other ≡ slots_of lists other
-  others_stay other apart = ap slots_listed (apart-remove (is_at (nat_cmp other)) lists at (0, []) within (other_there (0, []) other apart))
+  others_stay other apart = ap slots_in (apart-remove (is_of other) lists at no_list within (not_of no_list other apart))
 
-  module _ (x : ℕ × List ℕ) (of : x.0 ≡ session) where
-    here : slots_of (set lists at x) session ≡ x.1
-    here = ap slots_listed (found-set (is_at (nat_cmp session)) lists at (0, []) x within (ap (is_at (nat_cmp session)) of ∙ is_at-same session) (before (0, [])))
+  module _ (x : SessionSlots) (of : x.session ≡ session) where
+    here : slots_of (set lists at x) session ≡ x.slots
+    here = ap slots_in (find-set (is_of session) lists at x (sym (first (is_of session) lists at stands)) within (eq-eqb x.session session of))
 
     there : (other : ℕ) → other ≢ session → slots_of (set lists at x) other ≡ slots_of lists other
     there other apart =
-        ap slots_listed (apart-set (is_at (nat_cmp other)) lists at (0, []) x within (other_there (0, []) other apart) (is_at-other other x.0 (λ e. apart (sym e ∙ of))))
+        ap slots_in (find_past (is_of other) lists at x no_list (not_of no_list other apart) (ne_eqb x.session other (λ e. apart (sym e ∙ of))))
 
     -- a session's list gets another slot
-    pub set_listed : (slot : ℕ) → is_listed x.1 slot ≡ true → is_listed (slots_of (set lists at x) session) slot ≡ true
+    pub set_listed : (slot : ℕ) → is_listed x.slots slot ≡ true → is_listed (slots_of (set lists at x) session) slot ≡ true
     set_listed slot is = ap (λ (l : List ℕ). is_listed l slot) here ∙ is
 
     -- and no slot leaves a list
-    pub set_more : (d : ℕ × List ℕ) → ((number : ℕ) → is_listed (get_or lists at d).1 number ≡ true → is_listed x.1 number ≡ true) →
+    pub set_more : (d : SessionSlots) → ((number : ℕ) → is_listed (get_or lists at d).slots number ≡ true → is_listed x.slots number ≡ true) →
         (other number : ℕ) → is_listed (slots_of lists other) number ≡ true → is_listed (slots_of (set lists at x) other) number ≡ true
     set_more d more other number is = ⊎_elim same apart (cases_eq other session)
       where

@@ -1,10 +1,8 @@
 -- A body from what it is made of.
-use Rattle.std.specs.Prelude.{◌≡◌, ℕ, ◌≤◌, Bool, true, false, List, [], Option, None, Some, IfSome}
-use Rattle.std.specs.Prelude.{is_some, slice_index_or}
+use Rattle.std.specs.Prelude.{◌≡◌, ℕ, ◌==◌, ◌≤◌, Bool, true, false, List, [], None, IfSome}
+use Rattle.std.specs.Prelude.{is_some, slice_index_or, find}
 use Rattle.std.specs.List.{list_any}
-use Rattle.std.specs.Ordering.{nat_cmp}
-use Rattle.std.specs.Map.{lookup}
-use Rattle.std.specs.BTreeMap.{is_at}
+use Rattle.std.specs.Option.{option_map_or}
 use Rattle.block_spec.specs.declared.change.Change.{Change}
 use Rattle.block_spec.specs.declared.change.Change.TheVariants as change
 use Rattle.block_spec.specs.declared.phase.Phase.{Phase}
@@ -25,16 +23,22 @@ body_value rows chains phase cooling rounds last = record {
   last = last;
 }
 
+-- the slots that are listed for a session
+pub record SessionSlots : Type 0 where
+  pub session : ℕ
+  pub slots : List ℕ
+
 -- the slots that are listed for each session
 abbrev pub SlotLists : Type 0
-SlotLists = List (ℕ × List ℕ)
+SlotLists = List SessionSlots
 
-abbrev pub slots_listed : Option (List ℕ) → List ℕ
-slots_listed None = []
-slots_listed (Some slots) = slots
+-- whether slots are those of a session
+abbrev pub is_of : ℕ → SessionSlots → Bool
+is_of session listed = listed.session == session
 
+-- the slots that are listed for a session, none where it has no list
 abbrev pub slots_of : SlotLists → ℕ → List ℕ
-slots_of lists session = slots_listed (lookup (is_at (nat_cmp session)) lists)
+slots_of lists session = option_map_or (λ listed. listed.slots) (find (is_of session) lists) []
 
 -- a change is of a row that there is
 abbrev pub wants_row : Change → Bool
@@ -45,7 +49,9 @@ wants_row change.Gone = true
 -- What holds of a body at any time: its chains can be laid back, a slot with an uncommitted entry
 -- is listed for its session, a body that is not loose has no version, and its rows are an image's
 -- where it is imaged.
-pub record IsBody (rows : RowsValue) (chains : Chains) (lists : SlotLists) (phase : Phase) (stamp : ℕ) : Type 0 where
+pub record IsBody
+    (rows : RowsValue) (chains : Chains) (lists : SlotLists) (phase : Phase) (stamp : ℕ)
+    : Type 0 where
   pub each : AreChains chains
   pub kept : (slot : ℕ) → IsKept rows slot (slice_index_or rows.rows slot None)
       (entries_at chains slot)

@@ -176,10 +176,15 @@ impl Body {
                 cooling: self.cooling,
             });
         }
+        let (rows, gaps) = if self.is_quiet() && self.is_front() {
+            (self.front_rows()?, self.gaps_behind()?)
+        } else {
+            (self.movable_rows()?, self.gaps()?)
+        };
         Ok(Look {
-            rows: self.movable_rows()?,
+            rows,
             first: 0,
-            gaps: self.gaps()?,
+            gaps,
             phase: self.phase,
             cooling: self.cooling,
         })
@@ -298,6 +303,7 @@ impl Body {
             return;
         };
         chains::stamp(&mut self.chains, slots.as_slice(), session, stamp, number);
+        self.written.keep(slots);
     }
 
     /// Lays the session's before-images back, newest first, and drops its entries. Where it had
@@ -311,7 +317,9 @@ impl Body {
         if self.chains.is_empty() {
             return;
         }
-        if chains::roll_back(&mut self.chains, &mut self.rows, slots.as_slice(), session) {
+        let wrote = chains::roll_back(&mut self.chains, &mut self.rows, slots.as_slice(), session);
+        self.written.keep(slots);
+        if wrote {
             self.cooling = false;
             self.rounds = 0;
         }
@@ -486,12 +494,46 @@ impl Body {
         }
     }
 
+    /// The rows of a body without versions whose rows stand in front, with their keys, in slot
+    /// order. Each of them may move, so that only the keys are read.
+    fn front_rows(&self) -> Result<Vec<MovableRow>, AllocError>
+        requires keys { HasKeys self.now }
+        requires quiet { is_quiet self.now ≡ true }
+        requires front { is_front self.now.slots ≡ true }
+        ensures { IfOk result (λ rows. rows.items ≡ (looked self.now).rows) }
+    {
+        let columns = self.columns();
+        let count = self.rows();
+        let mut rows = Vec::with_capacity(self.alloc, count as usize)?;
+        for slot in 0..count {
+            let key = key_at(columns, slot);
+            rows.push_reserved(MovableRow { slot, key });
+        }
+        Ok(rows)
+    }
+
+    /// The bare slots of a body without versions whose rows stand in front, in order: all those
+    /// behind the rows.
+    fn gaps_behind(&self) -> Result<Vec<u32>, AllocError>
+        requires quiet { is_quiet self.now ≡ true }
+        requires front { is_front self.now.slots ≡ true }
+        ensures { IfOk result (λ gaps. gaps.items ≡ (looked self.now).gaps) }
+    {
+        let count = self.rows();
+        let slots = self.columns().slots();
+        let mut gaps = Vec::with_capacity(self.alloc, (slots - count) as usize)?;
+        for slot in count..slots {
+            gaps.push_reserved(slot);
+        }
+        Ok(gaps)
+    }
+
     /// The rows that may move, in slot order.
     fn movable_rows(&self) -> Result<Vec<MovableRow>, AllocError>
         requires { HasKeys self.now }
         ensures { IfOk result (λ rows. rows.items ≡ (looked self.now).rows) }
     {
-        let mut rows = Vec::new(self.alloc);
+        let mut rows = Vec::with_capacity(self.alloc, self.rows.count() as usize)?;
         for slot in 0..self.rows.columns().slots() {
             if let Some(row) = self.movable(slot) {
                 rows.push(row)?;

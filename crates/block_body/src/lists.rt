@@ -1,12 +1,16 @@
 //! The slots in which each session has uncommitted entries.
-ghost use Rattle.std.specs.Prelude.{◌≡◌, ◌≢◌, ◌==◌, ◌<◌, ℕ, [], None, Some, OnOk, IfSome, IfNone};
+ghost use Rattle.std.specs.Prelude.{◌≡◌, ◌≢◌, ◌<◌, ◌+◌, ℕ, [], None, Some, OnOk, IfSome, IfNone};
 ghost use Rattle.std.specs.Prelude.{true, length, position};
-ghost use Rattle.block_body.specs.Bodies.{slots_of};
+ghost use Rattle.block_body.specs.Bodies.{is_of, slots_of};
 ghost use Rattle.block_body.specs.Chains.{is_listed};
 
 use crate::origin::Origin;
 use std::alloc::{AllocError, Global};
 use std::marker::Model;
+use std::mem;
+
+/// The most room, in slots, of a list whose memory is kept for the next one.
+const MOST_SPARE: usize = 64;
 
 /// The slots in which one session has uncommitted entries.
 #[derive(Drop)]
@@ -16,11 +20,11 @@ struct SlotList {
 }
 
 impl Model for SlotList {
-    ghost use Rattle.std.specs.Prelude.{List, ℕ};
+    ghost use Rattle.block_body.specs.Bodies.{SessionSlots};
 
-    ghost Value = { ℕ × List ℕ };
+    ghost Value = { SessionSlots };
 
-    ghost view = { λ list. (list.session, list.slots.items) };
+    ghost view = { λ list. record { session = list.session; slots = list.slots.items } };
 }
 
 /// The slots in which each session has uncommitted entries. Few sessions have any in one body at a
@@ -29,14 +33,19 @@ impl Model for SlotList {
 pub(crate) struct SessionLists {
     alloc: Global,
     lists: Vec<SlotList>,
+    /// Empty. The next list begins in its memory.
+    spare: Vec<u32>,
 }
 
 impl Model for SessionLists {
+    ghost use Rattle.std.specs.Prelude.{◌≡◌, []};
     ghost use Rattle.block_body.specs.Bodies.{SlotLists};
 
     ghost Value = { SlotLists };
 
     ghost view = { λ all. all.lists.items };
+
+    ghost invariant = { λ all. all.spare.items ≡ [] };
 }
 
 impl SessionLists {
@@ -47,6 +56,7 @@ impl SessionLists {
         SessionLists {
             alloc,
             lists: Vec::new(alloc),
+            spare: Vec::new(alloc),
         }
     }
 
@@ -67,12 +77,24 @@ impl SessionLists {
     pub(crate) fn take(&mut self, session: u32) -> Option<Vec<u32>>
         ensures some { IfSome result (λ slots. slots.items ≡ slots_of self.old session) }
         ensures none { IfNone result (slots_of self.old session ≡ []) }
+        ensures gone { IfSome result (λ _. length self.old ≡ length self.new + 1) }
         ensures others { (other : ℕ) → other ≢ session →
             slots_of self.new other ≡ slots_of self.old other }
     {
         let place = self.place_of(session)?;
         let SlotList { slots, .. } = self.lists.remove(place);
         Some(slots)
+    }
+
+    /// Takes a list back that is done with, so that the next one begins in its memory. A long
+    /// list's memory is freed.
+    pub(crate) fn keep(&mut self, mut slots: Vec<u32>)
+        ensures { self.new ≡ self.old }
+    {
+        if slots.capacity() <= MOST_SPARE {
+            slots.clear();
+            self.spare = slots;
+        }
     }
 
     /// Lists a slot for a session once more.
@@ -87,17 +109,15 @@ impl SessionLists {
         }
     }
 
-    /// Begins the list of a session that has none.
+    /// Begins the list of a session that has none, in the spare memory.
     fn begin(&mut self, session: u32, slot: u32) -> Result<(), AllocError>
-        requires { position (λ list. list.0 == session) self.old ≡ None }
+        requires { position (is_of session) self.old ≡ None }
         ensures added { OnOk result (is_listed (slots_of self.new session) slot ≡ true) }
         ensures more { (other number : ℕ) → is_listed (slots_of self.old other) number ≡ true →
             is_listed (slots_of self.new other) number ≡ true }
     {
-        let mut list = SlotList {
-            session,
-            slots: Vec::new(self.alloc),
-        };
+        let slots = mem::replace(&mut self.spare, Vec::new(self.alloc));
+        let mut list = SlotList { session, slots };
         list.push(slot)?;
         self.lists.push(list)?;
         Ok(())
@@ -105,7 +125,7 @@ impl SessionLists {
 
     /// Where the list of a session stands, if it has one.
     fn place_of(&self, session: u32) -> Option<usize>
-        ensures place { result ≡ position (λ list. list.0 == session) self.now }
+        ensures place { result ≡ position (is_of session) self.now }
         ensures range { IfSome result (λ place. place < length self.now) }
     {
         self.lists.iter().position(|list| list.session == session)
@@ -115,10 +135,10 @@ impl SessionLists {
 impl SlotList {
     /// Adds a slot behind the others.
     fn push(&mut self, slot: u32) -> Result<(), AllocError>
-        ensures session { self.new.0 ≡ self.old.0 }
-        ensures added { OnOk result (is_listed self.new.1 slot ≡ true) }
-        ensures more { (number : ℕ) → is_listed self.old.1 number ≡ true →
-            is_listed self.new.1 number ≡ true }
+        ensures session { self.new.session ≡ self.old.session }
+        ensures added { OnOk result (is_listed self.new.slots slot ≡ true) }
+        ensures more { (number : ℕ) → is_listed self.old.slots number ≡ true →
+            is_listed self.new.slots number ≡ true }
     {
         self.slots.push(slot)?;
         Ok(())

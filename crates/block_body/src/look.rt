@@ -89,6 +89,7 @@ pub(crate) fn key_of(row: &Row) -> i64
 }
 
 /// The key of the row of a slot, a number of 64 bits; 0 where the slot has no row.
+#[inline(always)]
 pub(crate) fn key_at(columns: &Columns, slot: u32) -> i64
     requires column { 0 < length columns.now.columns }
     requires key { IfSome (slice_index_or columns.now.rows slot None) HasKey }

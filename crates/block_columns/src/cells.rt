@@ -1,6 +1,6 @@
 //! The cells of a column, as Arrow's bytes.
 ghost use Rattle.std.specs.Prelude.{◌≡◌, ◌<◌, ◌≤◌, ◌++◌, [], IfOk, OnOk, OnErr, length, replicate};
-ghost use Rattle.std.specs.Prelude.{slice_set, slice_index_or, map, not, take};
+ghost use Rattle.std.specs.Prelude.{slice_set, slice_index_or, map, not, take, IsTrue, ◌↔◌};
 ghost use Rattle.cell_model.specs.declared.cell.Cell.TheVariants as cell;
 ghost use Rattle.cell_model.specs.Values.{is_null};
 ghost use Rattle.std.specs.Int.{Width};
@@ -116,6 +116,7 @@ impl ColumnCells {
     }
 
     /// The number of the cell of a slot, 0 where it is none.
+    #[inline(always)]
     pub fn number(&self, at: usize) -> i128
         requires { at < length self.now.cells }
         ensures { result ≡ number_of (slice_index_or self.now.cells at cell.Null) }
@@ -124,6 +125,17 @@ impl ColumnCells {
             return 0;
         }
         self.store.number(at)
+    }
+
+    /// Whether the cell of a slot is this one.
+    pub fn holds(&self, at: usize, value: &Cell) -> bool
+        requires { at < length self.now.cells }
+        ensures { IsTrue result ↔ (slice_index_or self.now.cells at cell.Null ≡ value.now) }
+    {
+        if !self.valid.get(at) {
+            return value.is_null();
+        }
+        self.store.holds(self.kind, at, value)
     }
 
     /// A copy of the cell of a slot, or any cell where `take` moves the value out, which takes no

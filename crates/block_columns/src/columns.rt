@@ -2,7 +2,7 @@
 ghost use Rattle.std.specs.Prelude.{◌≡◌, ◌+◌, ◌<◌, ◌≤◌, ◌↔◌, ℕ, None, Some, IfOk, OnOk, OnErr};
 ghost use Rattle.std.specs.Prelude.{IsTrue, IsSome, is_some, option_map, count_by, length};
 ghost use Rattle.std.specs.Prelude.{replicate, slice_get, slice_index_or, slice_set, take, ◌^◌};
-ghost use Rattle.std.specs.Prelude.{if◌then◌else◌};
+ghost use Rattle.std.specs.Prelude.{if◌then◌else◌, ◌≢◌, IsSomeAnd, unwrap_or, []};
 ghost use Rattle.std.specs.Int.{Width};
 ghost use Rattle.std.specs.List.{flat_map};
 ghost use Rattle.arrow_spec.specs.Arrays.{fixed, layout_of, number_of};
@@ -152,6 +152,17 @@ impl Columns {
         steps.tick();
         let cells = read_row(self.alloc, self.columns.as_slice(), slot as usize)?;
         Ok(Some(Row::from(cells)))
+    }
+
+    /// Whether another cell than this one stands in a column of the row of a slot; not where the
+    /// row has no such column.
+    pub fn differs(&self, slot: u32, column: usize, value: &Cell) -> bool
+        requires { IsSome (slice_index_or self.now.rows slot None) }
+        ensures { IsTrue result ↔ IsSomeAnd
+            (slice_get (unwrap_or (slice_index_or self.now.rows slot None) []) column)
+            (λ standing. standing ≢ value.now) }
+    {
+        column < self.columns.len() && !self.columns[column].holds(slot as usize, value)
     }
 
     /// Makes memory for a slot and those before it, at least twice as many as had it. The rows

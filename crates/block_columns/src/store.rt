@@ -144,6 +144,7 @@ impl Store {
     }
 
     /// The number of a cell that is not null, 0 where other values are stored.
+    #[inline(always)]
     pub fn number(&self, at: usize) -> i128
         requires { at < stored_length self.now }
         ensures { (kind : KindValue) → result
@@ -152,6 +153,19 @@ impl Store {
         match self {
             Store::Numbers(numbers) => numbers.get(at),
             Store::Truths(_) | Store::Values(_) => 0,
+        }
+    }
+
+    /// Whether the value, as a cell that is not null, is this cell.
+    pub fn holds(&self, kind: Kind, at: usize, value: &Cell) -> bool
+        requires { at < stored_length self.now }
+        ensures { IsTrue result
+            ↔ (slice_index_or (full_cells kind self.now) at cell.Null ≡ value.now) }
+    {
+        match self {
+            Store::Numbers(numbers) => is_number(numbers.get(at), value),
+            Store::Truths(truths) => is_truth(truths.get(at), value),
+            Store::Values(values) => is_bytes(kind, values[at].as_slice(), value),
         }
     }
 
@@ -227,6 +241,37 @@ fn cell_of_bytes(kind: Kind, bytes: Bytes) -> Cell
     match kind {
         Kind::Utf8 => Cell::Text(bytes),
         _ => Cell::Blob(bytes),
+    }
+}
+
+/// Whether a cell is this number.
+fn is_number(number: i128, value: &Cell) -> bool
+    ensures { IsTrue result ↔ (cell.Num number ≡ value.now) }
+{
+    match value {
+        Cell::Num(another) => number == *another,
+        _ => false,
+    }
+}
+
+/// Whether a cell is this truth value.
+fn is_truth(truth: bool, value: &Cell) -> bool
+    ensures { IsTrue result ↔ (cell.Truth truth ≡ value.now) }
+{
+    match value {
+        Cell::Truth(another) => truth == *another,
+        _ => false,
+    }
+}
+
+/// Whether a cell is these bytes as a cell of a kind.
+fn is_bytes(kind: Kind, bytes: &[u8], value: &Cell) -> bool
+    ensures { IsTrue result ↔ (bytes_in (values_of kind) bytes.now ≡ value.now) }
+{
+    match value {
+        Cell::Text(text) => matches!(kind, Kind::Utf8) && bytes == text.as_slice(),
+        Cell::Blob(blob) => !matches!(kind, Kind::Utf8) && bytes == blob.as_slice(),
+        Cell::Null | Cell::Num(_) | Cell::Truth(_) => false,
     }
 }
 

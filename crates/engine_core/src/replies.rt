@@ -1,4 +1,7 @@
 //! What each event replies, once it ran on the parts in a hand.
+//!
+//! The events with which upkeep visits each block mostly find nothing to do: they are inlined into
+//! the loop over a table's blocks. The others are not, so that this loop stays small.
 ghost use Rattle.std.specs.Prelude.{◌≡◌, ◌+◌, ◌≤◌, IfErr, IfOk};
 ghost use Rattle.core_parts.specs.Hands.{MayRun};
 ghost use Rattle.engine_core.specs.Costs.{cost_of};

@@ -16,12 +16,12 @@ use core_parts::{CorePart, Shape, body};
 use event_spec::{OwnKey, WriteFault};
 use hall_rule::Hand;
 use key_judge::judge_change;
-use slot_writes::{install, key_of, patch_of};
+use slot_writes::{install, key_of, patch_at};
 use std::alloc::AllocError;
 use std::sync::ledger::Ledger;
 use steps::Steps;
 
-/// What an update changes of the row in a slot.
+/// What an update changes of the row in a slot, which is read where it stands.
 fn changed_at<L: Ledger>(
     shape: &Shape,
     held: &Hand<CorePart>,
@@ -34,13 +34,11 @@ fn changed_at<L: Ledger>(
     requires short { length new < 2 ^ 32 }
     ensures patch { IfOk result (λ patch. (s : Parts) → Agrees held.now s →
         patch ≡ differences 0 (unwrap_or (slot_at shape.now s table place).row []) new) }
-    ensures steps { steps.new ≤ steps.old + 1 }
+    ensures steps { steps.new ≡ steps.old + 1 }
 {
+    steps.tick();
     let columns = body(shape, held, table, place.block()).columns();
-    match columns.row(place.slot(), steps)? {
-        Some(old) => patch_of(shape.alloc(), old.as_slice(), new),
-        None => patch_of(shape.alloc(), &[], new),
-    }
+    patch_at(shape.alloc(), columns, place.slot(), new)
 }
 
 /// Changes the row of a key that has one, which is read once. Without memory the hand stays.

@@ -1,14 +1,12 @@
 //! Adding a row whose key has none.
-ghost use Rattle.std.specs.Prelude.{◌≡◌, ◌+◌, ◌≤◌, ◌<◌, ◌^◌, None, IfOk, IsTrue, OnOk, OnErr};
+ghost use Rattle.std.specs.Prelude.{◌≡◌, ◌+◌, ◌<◌, ◌^◌, None, IfOk, IsTrue, OnOk, OnErr};
 ghost use Rattle.std.specs.Prelude.{length};
 ghost use Rattle.block_spec.specs.declared.change.Change.TheVariants as change;
 ghost use Rattle.core_parts.specs.Hands.{Has, Makes, MayRun, after, in_hand};
 ghost use Rattle.event_spec.specs.declared.event.Event.TheVariants as event;
-ghost use Rattle.event_spec.specs.Parts.{HeadOf, Parts, ShardOf, head_from, names, places_at};
-ghost use Rattle.event_spec.specs.Parts.{shard_from, shard_of};
+ghost use Rattle.event_spec.specs.Parts.{HeadOf, ShardOf, head_from, names, shard_from, shard_of};
 ghost use Rattle.event_spec.specs.Replies.{reply_to_write};
 ghost use Rattle.frame_laws.specs.Shards.{ShardHolds};
-ghost use Rattle.hall_rule.specs.Hands.{Agrees};
 ghost use Rattle.isolation_spec.specs.Contents.{key_of};
 ghost use Rattle.key_events.specs.Puts.{put_changes, row_changes};
 ghost use Rattle.slot_writes.specs.Writes.{TakesAt};

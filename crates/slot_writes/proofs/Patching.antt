@@ -1,12 +1,15 @@
 -- The differences of two rows, column by column.
-use Rattle.std.proofs.Common.{◌≡◌, ℕ, zero, suc, ◌+◌, ◌<◌, ◌≤◌, Bool, true, false, cond, List, [], ◌∷◌, ◌++◌, drop, get_or, length, nat_lt, Option, None, Some, unwrap_or, refl, sym, ap, ◌∙◌, arith}
-use Rattle.std.specs.Prelude.{slice_get}
-use Rattle.std.proofs.lemmas.Bool.Decides.{nat_tests}
+use Rattle.std.proofs.Common.{◌≡◌, ◌≢◌, ℕ, zero, suc, ◌+◌, Bool, true, false, cond, List, [], ◌∷◌, ◌++◌, drop, length, Option, None, Some, unwrap_or, refl, sym, ap, ◌∙◌, arith}
+use Rattle.std.specs.Prelude.{slice_get, IsTrue, IsSome, IsSomeAnd, ◌↔◌}
+use Rattle.std.proofs.lemmas.Bool.Decides.{Decides-int_eq}
+use Rattle.std.proofs.lemmas.Slice.Eq.{bytes_eq-Decides}
 use Rattle.std.specs.Option.{option_map_or}
 use Rattle.block_spec.specs.declared.patch.Assignment.{Assignment}
 use Rattle.block_spec.specs.Slots.{Patch}
 use Rattle.cell_model.specs.declared.cell.Cell.{Cell}
+use Rattle.cell_model.specs.declared.cell.Cell.TheVariants.{Null, Num, Truth, Text, Blob}
 use Rattle.event_spec.specs.Judged.{differences, same_cell}
+use Rattle.slot_laws.proofs.Patches.{cell_is}
 use Rattle.slot_writes.specs.Patches.{difference_at}
 
 append_one : (xs : Patch) (y : Assignment) (ys : Patch) → (xs ++ y ∷ []) ++ ys ≡ xs ++ y ∷ ys
@@ -71,30 +74,51 @@ one_more old rest i made all y kept = go (slice_get old i) refl
         ∙ ap (λ b. (made ++ cond b [] (record { column = i; cell = y } ∷ [])) ++ ended (drop (i + 1) old)) refl
         ∙ some_on x (same_cell x y) refl (one_got old i x is)
 
--- what stands in a column, and what it adds
-some_there : (xs : List Cell) (i : ℕ) (x d : Cell) → i < length xs → x ≡ get_or xs i d → slice_get xs i ≡ Some x
-some_there [] i x d less is = absurd (omega (arith, less))
-some_there (y ∷ xs) zero x d less is = ap Some (sym is)
-some_there (y ∷ xs) (suc i) x d less is = some_there xs i x d (omega (arith, less)) is
+-- a cell is the same as itself
+same_itself : (x : Cell) → same_cell x x ≡ true
+same_itself Null = refl
+same_itself (Num n) = (Decides-int_eq n n).1 refl
+same_itself (Truth true) = refl
+same_itself (Truth false) = refl
+same_itself (Text t) = (bytes_eq-Decides t t).1 refl
+same_itself (Blob t) = (bytes_eq-Decides t t).1 refl
 
-none_there : (xs : List Cell) (i : ℕ) → length xs ≤ i → slice_get xs i ≡ None
-none_there [] zero le = refl
-none_there [] (suc i) le = refl
-none_there (y ∷ xs) zero le = absurd (omega (arith, le))
-none_there (y ∷ xs) (suc i) le = none_there xs i (omega (arith, le))
+-- what a column adds, by what stands there
+abbrev added : Option Cell → ℕ → Cell → Patch
+added standing i y = option_map_or (λ x. cond (same_cell x y) [] (record { column = i; cell = y } ∷ [])) standing []
 
-pub adds_nothing : (old : List Cell) (i : ℕ) (made : Patch) (y : Cell) → length old ≤ i → made ≡ made ++ difference_at old i y
-adds_nothing old i made y le = sym (ap (λ o. made ++ option_map_or (λ x. cond (same_cell x y) [] (record { column = i; cell = y } ∷ [])) o []) (none_there old i le) ∙ append_none made)
+-- nothing where no other cell stands there
+none_added : (standing : Option Cell) (i : ℕ) (y : Cell) → (IsSomeAnd standing (λ x. x ≢ y) → ⊥) → added standing i y ≡ []
+none_added None i y none = refl
+none_added (Some x) i y none = go (same_cell x y) refl
+  where
+    go : (b : Bool) → same_cell x y ≡ b → added (Some x) i y ≡ []
+    go true is = ap (λ b. cond b [] (record { column = i; cell = y } ∷ [])) is
+    go false is = absurd (none (λ same. let never : true ≡ false = sym (same_itself y) ∙ ap (λ z. same_cell z y) (sym same) ∙ is in cc))
 
-module _ (old : List Cell) (i : ℕ) (x d y : Cell) (less : true ≡ nat_lt i (length old)) (is : x ≡ get_or old i d) where
-  added : difference_at old i y ≡ cond (same_cell x y) [] (record { column = i; cell = y } ∷ [])
-  added = ap (λ o. option_map_or (λ x. cond (same_cell x y) [] (record { column = i; cell = y } ∷ [])) o []) (some_there old i x d (grind (arith, nat_tests)) is)
+-- the new cell where another one stands there
+one_added : (standing : Option Cell) (i : ℕ) (y : Cell) → IsSomeAnd standing (λ x. x ≢ y) → added standing i y ≡ record { column = i; cell = y } ∷ []
+one_added None i y other = absurd other
+one_added (Some x) i y other = go (same_cell x y) refl
+  where
+    go : (b : Bool) → same_cell x y ≡ b → added (Some x) i y ≡ record { column = i; cell = y } ∷ []
+    go true is = absurd (other (cell_is x y is))
+    go false is = ap (λ b. cond b [] (record { column = i; cell = y } ∷ [])) is
 
-  pub adds_same : (made : Patch) → same_cell x y ≡ true → made ≡ made ++ difference_at old i y
-  adds_same made same = sym (ap (λ zs. made ++ zs) (added ∙ ap (λ b. cond b [] (record { column = i; cell = y } ∷ [])) same) ∙ append_none made)
+-- what is added where a test tells whether another cell stands there
+module _ (old : List Cell) (i : ℕ) (y : Cell) (differs : Bool) (tells : IsTrue differs ↔ IsSomeAnd (slice_get old i) (λ standing. standing ≢ y)) (made : Patch) where
+  -- nothing where it does not
+  pub adds_nothing : differs ≡ false → made ≡ made ++ difference_at old i y
+  adds_nothing same = sym (ap (λ zs. made ++ zs) (none_added (slice_get old i) i y (λ other. let told : differs ≡ true = tells.1 other in cc)) ∙ append_none made)
 
-  pub adds_other : (made : Patch) → same_cell x y ≡ false → made ++ record { column = i; cell = y } ∷ [] ≡ made ++ difference_at old i y
-  adds_other made other = sym (ap (λ zs. made ++ zs) (added ∙ ap (λ b. cond b [] (record { column = i; cell = y } ∷ [])) other))
+  -- the new cell where it does
+  pub adds_other : differs ≡ true → made ++ record { column = i; cell = y } ∷ [] ≡ made ++ difference_at old i y
+  adds_other other = sym (ap (λ zs. made ++ zs) (one_added (slice_get old i) i y (tells.0 other)))
+
+-- from a row that is not there nothing differs
+pub none_differs : (row : Option (List Cell)) (new : List Cell) (has : Bool) → IsTrue has ↔ IsSome row → has ≡ false → [] ≡ differences 0 (unwrap_or row []) new
+none_differs None new has tells none = refl
+none_differs (Some r) new has tells none = let there : has ≡ true = tells.1 refl in cc
 
 none_left : (at : ℕ) (xs : List Cell) → differences at xs [] ≡ []
 none_left at [] = refl

@@ -5,5 +5,5 @@
 mod patches;
 mod writes;
 
-pub use patches::{key_of, patch_of};
+pub use patches::{key_of, patch_at};
 pub use writes::{add_candidate, drop_candidate, install, take_slot};

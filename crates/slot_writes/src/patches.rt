@@ -1,10 +1,12 @@
 //! What an update changes of a row.
-ghost use Rattle.std.specs.Prelude.{◌≡◌, ◌<◌, ◌^◌, ◌++◌, IfOk, OnOk, length};
+ghost use Rattle.std.specs.Prelude.{◌≡◌, ◌<◌, ◌^◌, ◌++◌, [], None, IfOk, IsSome, OnOk, length};
+ghost use Rattle.std.specs.Prelude.{slice_index_or, unwrap_or};
 ghost use Rattle.block_body.specs.Keys.{HasKey};
-ghost use Rattle.event_spec.specs.Judged.{differences, same_cell};
+ghost use Rattle.event_spec.specs.Judged.{differences};
 ghost use Rattle.isolation_spec.specs.Contents.{key_of};
 ghost use Rattle.slot_writes.specs.Patches.{difference_at};
 
+use block_columns::Columns;
 use block_spec::{Assignment, Patch};
 use cell_model::{Cell, Row};
 use std::alloc::{AllocError, Global};
@@ -20,49 +22,39 @@ pub fn key_of(row: &Row) -> i64
     }
 }
 
-/// Whether two cells are one value.
-fn same_cell(one: &Cell, other: &Cell) -> bool
-    ensures { result ≡ same_cell one.now other.now }
-{
-    match (one, other) {
-        (Cell::Null, Cell::Null) => true,
-        (Cell::Num(number), Cell::Num(another)) => *number == *another,
-        (Cell::Truth(truth), Cell::Truth(another)) => *truth == *another,
-        (Cell::Text(text), Cell::Text(another)) => text.as_slice() == another.as_slice(),
-        (Cell::Blob(bytes), Cell::Blob(another)) => bytes.as_slice() == another.as_slice(),
-        _ => false,
-    }
-}
-
-/// Adds an attribute of a new row, where another value stands in its column of the old row.
+/// Adds an attribute of a new row, where another value stands in its column of the row of a slot.
 fn add_difference(
     assignments: &mut Vec<Assignment>,
-    old: &[Cell],
+    columns: &Columns,
+    slot: u32,
     column: u32,
     cell: Cell,
 ) -> Result<(), AllocError>
-    ensures { OnOk result (assignments.new.items
-        ≡ assignments.old.items ++ difference_at old.now column cell) }
+    requires { IsSome (slice_index_or columns.now.rows slot None) }
+    ensures { OnOk result (assignments.new.items ≡ assignments.old.items
+        ++ difference_at (unwrap_or (slice_index_or columns.now.rows slot None) []) column cell) }
 {
-    let Some(standing) = old.get(column as usize) else {
-        return Ok(());
-    };
-    if same_cell(standing, &cell) {
+    if !columns.differs(slot, column as usize, &cell) {
         return Ok(());
     }
     assignments.push(Assignment { column, cell })?;
     Ok(())
 }
 
-/// The attributes in which a new row differs from an old one. The row's cells are moved into it.
-pub fn patch_of(alloc: Global, old: &[Cell], new: Row) -> Result<Patch, AllocError>
+/// The attributes in which a new row differs from the row of a slot, whose cells are compared where
+/// they stand; none where the slot has no row. The new row's cells are moved into it.
+pub fn patch_at(alloc: Global, columns: &Columns, slot: u32, new: Row) -> Result<Patch, AllocError>
     requires { length new < 2 ^ 32 }
-    ensures { IfOk result (λ patch. patch ≡ differences 0 old.now new) }
+    ensures { IfOk result (λ patch. patch
+        ≡ differences 0 (unwrap_or (slice_index_or columns.now.rows slot None) []) new) }
 {
     let mut assignments = Vec::new(alloc);
+    if !columns.has_row(slot) {
+        return Ok(Patch::from(assignments));
+    }
     let mut column = 0u32;
     for cell in new.into_vec() {
-        add_difference(&mut assignments, old, column, cell)?;
+        add_difference(&mut assignments, columns, slot, column, cell)?;
         column += 1;
     }
     Ok(Patch::from(assignments))

@@ -10,7 +10,7 @@ use Rattle.block_spec.specs.Bodies.{Body as BodyValue, is_written_by, modified}
 use Rattle.block_body.specs.Chains.{Chains, entries_at, is_listed}
 use Rattle.block_body.specs.Frozen.{IsImageOf}
 use Rattle.block_body.specs.Slots.{slots_from}
-use Rattle.block_body.specs.Bodies.{body_value, slots_of}
+use Rattle.block_body.specs.Bodies.{SlotLists, body_value, slots_of}
 use Rattle.block_body.proofs.After.{body_without, lawful_at, filtered_fewer}
 use Rattle.block_body.proofs.Popped.{none_left}
 use Rattle.block_body.proofs.Whole.{no_length}
@@ -34,83 +34,83 @@ returns-then-is_empty c =
     (sym (rolled_as c.args.session B false (unwritten c.args.session (entries_at i.chains.entries) 0 i.rows.rows (lawful_at i.chains.entries c.self.invariant.each)
     (λ k. ap (λ (chains : Chains). list_any (λ undo. is_own undo c.args.session) (entries_at chains k)) none))))
 
-pub invariant_of-self-then-roll_back : goal.invariant_of-self-then-roll_back
-invariant_of-self-then-roll_back c =
+pub invariant_of-self-then-wrote : goal.invariant_of-self-then-wrote
+invariant_of-self-then-wrote c =
     let i = c.self.inside in
     let B : BodyValue = body_value i.rows i.chains.entries i.phase i.cooling i.rounds i.last in
-    let rows = c.roll_back.new.rows in
-    let new = c.roll_back.new.chains.entries in
+    let rows = c.roll_back-wrote.new.rows in
+    let new = c.roll_back-wrote.new.chains.entries in
     let listed : c.as_slice.result.now ≡ slots_of i.written c.args.session = c.as_slice.ensures.value ∙ c.in-Some.ensures.some in
     let all : (k : ℕ) → list_any (λ undo. is_own undo c.args.session) (entries_at i.chains.entries k) ≡ true → is_listed c.as_slice.result.now k ≡ true =
     λ k own. ap (λ (l : List ℕ). is_listed l k) listed ∙ c.self.invariant.listed c.args.session k own in
     let each : (k : ℕ) → entries_at new k ≡ filter (λ undo. not (is_own undo c.args.session)) (entries_at i.chains.entries k) =
-    λ k. ap (λ (s : Slot). s.entries) (rolled_each c.args.session i.rows.rows rows.rows i.chains.entries new c.as_slice.result.now c.roll_back.ensures.long all c.roll_back.ensures.slots k) in
-    body_without i.rows rows i.chains.entries new i.written c.take.new.self i.phase i.last c.self.invariant
-    c.roll_back.ensures.chains
-    c.roll_back.ensures.kept
+    λ k. ap (λ (s : Slot). s.entries) (rolled_each c.args.session i.rows.rows rows.rows i.chains.entries new c.as_slice.result.now c.roll_back-wrote.ensures.long all c.roll_back-wrote.ensures.slots k) in
+    body_without i.rows rows i.chains.entries new i.written c.keep.new.self i.phase i.last c.self.invariant
+    c.roll_back-wrote.ensures.chains
+    c.roll_back-wrote.ensures.kept
     (λ k none. each k ∙ ap (filter (λ (undo : Undo Before). not (is_own undo c.args.session))) none)
-    (c.roll_back.ensures.own ∙ sym (own_image i.rows i.chains.entries i.written i.phase i.last c.self.invariant
+    (c.roll_back-wrote.ensures.own ∙ sym (own_image i.rows i.chains.entries i.written i.phase i.last c.self.invariant
     (λ none. let never : true ≡ false = sym (c.is_empty.ensures.1 (ap length none)) ∙ c.if-is_empty.false in cc)))
-    (subst (λ o. IfSome o (IsImageOf rows.columns rows.rows)) (sym c.roll_back.ensures.own) tt)
+    (subst (λ o. IfSome o (IsImageOf rows.columns rows.rows)) (sym c.roll_back-wrote.ensures.own) tt)
     (λ q k own. filtered_fewer (λ undo. not (is_own undo c.args.session)) q (entries_at i.chains.entries k) (sym (ap (list_any (λ (undo : Undo Before). is_own undo q)) (each k)) ∙ own))
     c.args.session
     (λ k. ap (list_any (λ (undo : Undo Before). is_own undo c.args.session)) (each k) ∙ none_left c.args.session (entries_at i.chains.entries k))
-    c.take.ensures.others
+    (λ q apart. ap (λ (l : SlotLists). slots_of l q) c.keep.ensures ∙ c.take.ensures.others q apart)
 
-pub invariant_of-self-else-roll_back : goal.invariant_of-self-else-roll_back
-invariant_of-self-else-roll_back c =
+pub invariant_of-self-else-wrote : goal.invariant_of-self-else-wrote
+invariant_of-self-else-wrote c =
     let i = c.self.inside in
     let B : BodyValue = body_value i.rows i.chains.entries i.phase i.cooling i.rounds i.last in
-    let rows = c.roll_back.new.rows in
-    let new = c.roll_back.new.chains.entries in
+    let rows = c.roll_back-wrote.new.rows in
+    let new = c.roll_back-wrote.new.chains.entries in
     let listed : c.as_slice.result.now ≡ slots_of i.written c.args.session = c.as_slice.ensures.value ∙ c.in-Some.ensures.some in
     let all : (k : ℕ) → list_any (λ undo. is_own undo c.args.session) (entries_at i.chains.entries k) ≡ true → is_listed c.as_slice.result.now k ≡ true =
     λ k own. ap (λ (l : List ℕ). is_listed l k) listed ∙ c.self.invariant.listed c.args.session k own in
     let each : (k : ℕ) → entries_at new k ≡ filter (λ undo. not (is_own undo c.args.session)) (entries_at i.chains.entries k) =
-    λ k. ap (λ (s : Slot). s.entries) (rolled_each c.args.session i.rows.rows rows.rows i.chains.entries new c.as_slice.result.now c.roll_back.ensures.long all c.roll_back.ensures.slots k) in
-    body_without i.rows rows i.chains.entries new i.written c.take.new.self i.phase i.last c.self.invariant
-    c.roll_back.ensures.chains
-    c.roll_back.ensures.kept
+    λ k. ap (λ (s : Slot). s.entries) (rolled_each c.args.session i.rows.rows rows.rows i.chains.entries new c.as_slice.result.now c.roll_back-wrote.ensures.long all c.roll_back-wrote.ensures.slots k) in
+    body_without i.rows rows i.chains.entries new i.written c.keep.new.self i.phase i.last c.self.invariant
+    c.roll_back-wrote.ensures.chains
+    c.roll_back-wrote.ensures.kept
     (λ k none. each k ∙ ap (filter (λ (undo : Undo Before). not (is_own undo c.args.session))) none)
-    (c.roll_back.ensures.own ∙ sym (own_image i.rows i.chains.entries i.written i.phase i.last c.self.invariant
+    (c.roll_back-wrote.ensures.own ∙ sym (own_image i.rows i.chains.entries i.written i.phase i.last c.self.invariant
     (λ none. let never : true ≡ false = sym (c.is_empty.ensures.1 (ap length none)) ∙ c.if-is_empty.false in cc)))
-    (subst (λ o. IfSome o (IsImageOf rows.columns rows.rows)) (sym c.roll_back.ensures.own) tt)
+    (subst (λ o. IfSome o (IsImageOf rows.columns rows.rows)) (sym c.roll_back-wrote.ensures.own) tt)
     (λ q k own. filtered_fewer (λ undo. not (is_own undo c.args.session)) q (entries_at i.chains.entries k) (sym (ap (list_any (λ (undo : Undo Before). is_own undo q)) (each k)) ∙ own))
     c.args.session
     (λ k. ap (list_any (λ (undo : Undo Before). is_own undo c.args.session)) (each k) ∙ none_left c.args.session (entries_at i.chains.entries k))
-    c.take.ensures.others
+    (λ q apart. ap (λ (l : SlotLists). slots_of l q) c.keep.ensures ∙ c.take.ensures.others q apart)
 
-pub returns-then-roll_back : goal.returns-then-roll_back
-returns-then-roll_back c =
+pub returns-then-wrote : goal.returns-then-wrote
+returns-then-wrote c =
     let i = c.self.inside in
     let B : BodyValue = body_value i.rows i.chains.entries i.phase i.cooling i.rounds i.last in
-    let rows = c.roll_back.new.rows in
-    let new = c.roll_back.new.chains.entries in
+    let rows = c.roll_back-wrote.new.rows in
+    let new = c.roll_back-wrote.new.chains.entries in
     let listed : c.as_slice.result.now ≡ slots_of i.written c.args.session = c.as_slice.ensures.value ∙ c.in-Some.ensures.some in
     let all : (k : ℕ) → list_any (λ undo. is_own undo c.args.session) (entries_at i.chains.entries k) ≡ true → is_listed c.as_slice.result.now k ≡ true =
     λ k own. ap (λ (l : List ℕ). is_listed l k) listed ∙ c.self.invariant.listed c.args.session k own in
-    let found = find_any (λ slot. list_any (λ undo. is_own undo c.args.session) (entries_at i.chains.entries slot)) c.as_slice.result.now (sym c.roll_back.ensures.any ∙ c.if-roll_back.true) in
+    let found = find_any (λ slot. list_any (λ undo. is_own undo c.args.session) (entries_at i.chains.entries slot)) c.as_slice.result.now (sym c.roll_back-wrote.ensures.any ∙ c.if-wrote.true) in
     let wrote : is_written_by c.args.session B ≡ true =
     written_at c.args.session (entries_at i.chains.entries) i.rows.rows found.at (lawful_at i.chains.entries c.self.invariant.each found.at)
     ((c.self.invariant.kept found.at).within (some_own c.args.session (entries_at i.chains.entries found.at) found.passes))
     found.passes in
     rw (← c.self.view_is)
-    (ap (λ (columns : List Column). let b : BodyValue = record { columns = columns; slots = slots_from (entries_at new) 0 rows.rows; phase = i.phase; cooling = false; rounds = 0; last = i.last } in b) c.roll_back.ensures.columns
-    ∙ ap (λ (slots : List Slot). record (modified B) { slots = slots }) (rolled_slots c.args.session i.rows.rows rows.rows i.chains.entries new c.as_slice.result.now c.roll_back.ensures.long all c.roll_back.ensures.slots)
+    (ap (λ (columns : List Column). let b : BodyValue = record { columns = columns; slots = slots_from (entries_at new) 0 rows.rows; phase = i.phase; cooling = false; rounds = 0; last = i.last } in b) c.roll_back-wrote.ensures.columns
+    ∙ ap (λ (slots : List Slot). record (modified B) { slots = slots }) (rolled_slots c.args.session i.rows.rows rows.rows i.chains.entries new c.as_slice.result.now c.roll_back-wrote.ensures.long all c.roll_back-wrote.ensures.slots)
     ∙ sym (rolled_as c.args.session B true wrote))
 
-pub returns : goal.returns
-returns c =
+pub returns-else-wrote : goal.returns-else-wrote
+returns-else-wrote c =
     let i = c.self.inside in
     let B : BodyValue = body_value i.rows i.chains.entries i.phase i.cooling i.rounds i.last in
-    let rows = c.roll_back.new.rows in
-    let new = c.roll_back.new.chains.entries in
+    let rows = c.roll_back-wrote.new.rows in
+    let new = c.roll_back-wrote.new.chains.entries in
     let listed : c.as_slice.result.now ≡ slots_of i.written c.args.session = c.as_slice.ensures.value ∙ c.in-Some.ensures.some in
     let all : (k : ℕ) → list_any (λ undo. is_own undo c.args.session) (entries_at i.chains.entries k) ≡ true → is_listed c.as_slice.result.now k ≡ true =
     λ k own. ap (λ (l : List ℕ). is_listed l k) listed ∙ c.self.invariant.listed c.args.session k own in
     let none : (k : ℕ) → list_any (λ undo. is_own undo c.args.session) (entries_at i.chains.entries k) ≡ false =
-    none_any c.args.session i.rows.rows rows.rows i.chains.entries new c.as_slice.result.now c.roll_back.ensures.long all c.roll_back.ensures.slots (sym c.roll_back.ensures.any ∙ c.if-roll_back.false) in
+    none_any c.args.session i.rows.rows rows.rows i.chains.entries new c.as_slice.result.now c.roll_back-wrote.ensures.long all c.roll_back-wrote.ensures.slots (sym c.roll_back-wrote.ensures.any ∙ c.if-wrote.false) in
     rw (← c.self.view_is)
-    (ap (λ (columns : List Column). record B { columns = columns; slots = slots_from (entries_at new) 0 rows.rows }) c.roll_back.ensures.columns
-    ∙ ap (λ (slots : List Slot). record B { slots = slots }) (none_rolled c.args.session i.rows.rows rows.rows i.chains.entries new c.as_slice.result.now c.roll_back.ensures.long all c.roll_back.ensures.slots none)
+    (ap (λ (columns : List Column). record B { columns = columns; slots = slots_from (entries_at new) 0 rows.rows }) c.roll_back-wrote.ensures.columns
+    ∙ ap (λ (slots : List Slot). record B { slots = slots }) (none_rolled c.args.session i.rows.rows rows.rows i.chains.entries new c.as_slice.result.now c.roll_back-wrote.ensures.long all c.roll_back-wrote.ensures.slots none)
     ∙ sym (rolled_as c.args.session B false (unwritten c.args.session (entries_at i.chains.entries) 0 i.rows.rows (lawful_at i.chains.entries c.self.invariant.each) none)))

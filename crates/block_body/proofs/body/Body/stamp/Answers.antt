@@ -8,7 +8,7 @@ use Rattle.block_spec.specs.declared.change.Before.{Before}
 use Rattle.block_spec.specs.Slots.{Slot}
 use Rattle.block_spec.specs.Bodies.{Body as BodyValue, slot_in}
 use Rattle.block_body.specs.Chains.{entries_at, is_listed}
-use Rattle.block_body.specs.Bodies.{body_value, slots_of}
+use Rattle.block_body.specs.Bodies.{SlotLists, body_value, slots_of}
 use Rattle.block_body.proofs.After.{body_without, stamped_each, stamped_fewer, stamped_none_left, kept_stamped, committed_slots}
 use Rattle.block_body.proofs.Bodies.{body_slot}
 use Rattle.block_body.proofs.Written.{unlisted}
@@ -41,7 +41,7 @@ invariant_of-self-2 c =
     stamped_each c.args.session c.args.stamp c.args.number i.chains.entries new c.as_slice.result.now
     (λ k own. ap (λ (l : List ℕ). is_listed l k) listed ∙ c.self.invariant.listed c.args.session k own)
     c.stamp.ensures.entries in
-    body_without i.rows i.rows i.chains.entries new i.written c.take.new.self i.phase i.last c.self.invariant
+    body_without i.rows i.rows i.chains.entries new i.written c.keep.new.self i.phase i.last c.self.invariant
     c.stamp.ensures.chains
     (λ k. kept_stamped i.rows k _ c.args.session c.args.stamp c.args.number (entries_at i.chains.entries k) (entries_at new k) (each k) (c.self.invariant.kept k))
     (λ k none. each k ∙ ap (map (stamped c.args.session c.args.stamp c.args.number)) none)
@@ -50,7 +50,7 @@ invariant_of-self-2 c =
     (λ q k own. stamped_fewer c.args.session c.args.stamp c.args.number q (entries_at i.chains.entries k) (sym (ap (list_any (λ (undo : Undo Before). is_own undo q)) (each k)) ∙ own))
     c.args.session
     (λ k. ap (list_any (λ (undo : Undo Before). is_own undo c.args.session)) (each k) ∙ stamped_none_left c.args.session c.args.stamp c.args.number (entries_at i.chains.entries k))
-    c.take.ensures.others
+    (λ q apart. ap (λ (l : SlotLists). slots_of l q) c.keep.ensures ∙ c.take.ensures.others q apart)
 
 pub returns : goal.returns
 returns c =

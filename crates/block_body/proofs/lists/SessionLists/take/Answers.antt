@@ -1,7 +1,7 @@
-use Rattle.std.proofs.Common.{◌≡◌, ◌∙◌, ℕ, List, [], Some, position, get_or, ap, sym, subst}
+use Rattle.std.proofs.Common.{◌≡◌, ◌∙◌, [], Some, position, get_or, ap, sym, subst}
 use Rattle.std.specs.Prelude.{remove, IfNone}
-use Rattle.block_body.specs.Bodies.{SlotLists, slots_of}
-use Rattle.block_body.proofs.SessionLists.{is_of, no_slots, slots_there, others_stay}
+use Rattle.block_body.specs.Bodies.{SessionSlots, SlotLists, is_of, slots_of}
+use Rattle.block_body.proofs.SessionLists.{no_slots, slots_there, others_stay}
 use Rattle.block_body.proofs.lists.SessionLists.take.Goals as goal
 
 pub returns-in_err-place-clause-none : goal.returns-in_err-place-clause-none
@@ -14,7 +14,7 @@ returns-clause-some c =
     let stands : position (is_of c.args.session) c.args.self.now ≡ Some c.in_ok-place.place = sym c.in_ok-place.ensures.place in
     let there : c.remove.result ≡ get_or c.args.self.now c.in_ok-place.place c.remove.result =
     c.remove.ensures.value ∙ ap (λ (l : SlotLists). get_or l c.in_ok-place.place c.remove.result) c.self.view_is in
-    ap (λ (l : ℕ × List ℕ). l.1) (c.slots.view_is ∙ there) ∙ sym (slots_there c.args.session c.args.self.now c.in_ok-place.place stands c.remove.result)
+    ap (λ (l : SessionSlots). l.slots) (c.slots.view_is ∙ there) ∙ sym (slots_there c.args.session c.args.self.now c.in_ok-place.place stands c.remove.result)
 
 pub returns-clause-others : goal.returns-clause-others
 returns-clause-others c = λ other apart.
