@@ -12,6 +12,11 @@ use Rattle.cell_model.specs.declared.kind.Kind.{Kind}
 use Rattle.arrow_array.specs.declared.bitmaps.Bit.{Bit}
 use Rattle.arrow_array.specs.declared.bitmaps.Bit.TheVariants as bit
 
+-- a batch: how many rows it has, and its columns
+pub record BatchView : Type 0 where
+  pub rows : ℕ
+  pub arrays : List Array
+
 -- There are so few columns and buffers that the size of a message's metadata, which tells a node of
 -- each column and the place of each buffer, fits its 32 bits (Arrow columnar format, "RecordBatch
 -- message" and "Encapsulated message format").

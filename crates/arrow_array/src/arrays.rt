@@ -20,7 +20,10 @@ use std::alloc::{AllocError, Global};
 pub fn build(alloc: Global, schema: &Schema, rows: &[Row]) -> Result<Batch, AllocError>
     requires fits { All (λ row. Fits schema.now row) rows.now }
     requires few { length rows.now ≤ 2 ^ 15 }
-    ensures { IfOk result (λ batch. batch ≡ (length rows.now, arrays_of schema.now rows.now)) }
+    ensures { IfOk result (λ batch. batch ≡ record {
+      rows = length rows.now;
+      arrays = arrays_of schema.now rows.now;
+    }) }
 {
     let columns = schema.columns();
     let mut arrays = Vec::with_capacity(alloc, columns.len())?;

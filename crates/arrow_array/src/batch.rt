@@ -51,13 +51,11 @@ pub struct Batch {
 }
 
 impl Model for Batch {
-    ghost use Rattle.std.specs.Prelude.{ℕ, List};
-    ghost use Rattle.arrow_spec.specs.Batches.{Array as ArrayValue};
-    ghost use Rattle.arrow_array.specs.Batches.{AreFew};
+    ghost use Rattle.arrow_array.specs.Batches.{AreFew, BatchView};
 
-    ghost Value = { ℕ × List ArrayValue };
+    ghost Value = { BatchView };
 
-    ghost view = { λ b. (b.rows, b.arrays.items) };
+    ghost view = { λ b. record { rows = b.rows; arrays = b.arrays.items } };
 
     ghost invariant = { λ b. AreFew b.arrays.items };
 }
@@ -66,22 +64,22 @@ impl Batch {
     /// The batch of so many rows with these columns.
     pub fn new(rows: u32, arrays: Vec<Array>) -> Batch
         requires { AreFew arrays.items }
-        ensures { result ≡ (rows, arrays.items) }
+        ensures { result ≡ record { rows = rows; arrays = arrays.items } }
     {
         Batch { rows, arrays }
     }
 
     /// How many rows there are.
     pub fn rows(&self) -> u32
-        ensures { result ≡ self.now.0 }
+        ensures { result ≡ self.now.rows }
     {
         self.rows
     }
 
     /// The columns, in the order of the schema's.
     pub fn arrays(&self) -> &[Array]
-        ensures arrays { result.now ≡ self.now.1 }
-        ensures few { AreFew self.now.1 }
+        ensures arrays { result.now ≡ self.now.arrays }
+        ensures few { AreFew self.now.arrays }
     {
         self.arrays.as_slice()
     }

@@ -9,7 +9,7 @@ use Rattle.std.proofs.KnownBytes.{Appends-trans}
 use Rattle.byte_ports.specs.Calls.{Rose, AppendsFront}
 use Rattle.arrow_spec.specs.Batches.{Array}
 use Rattle.arrow_spec.specs.Bytes.{padded}
-use Rattle.ipc_write.specs.Calls.{WroteAll, SinkFailed, WritesPiece}
+use Rattle.ipc_write.specs.Calls.{WriterView, WroteAll, SinkFailed, WritesPiece}
 use Rattle.ipc_write.specs.declared.faults.SinkFault.{SinkFault}
 use Rattle.arrow_array.proofs.Splits.{split-at}
 
@@ -30,37 +30,37 @@ front-behind before middle now piece more first (count, within, grown) =
     )
 
 -- the sink failed within the first piece
-failed-before : {W : Type 0} (written : W → Option (List ℕ)) (faults : W → ℕ) (old new : W × Bool) (piece more : List ℕ) (earlier : Bool)
+failed-before : {W : Type 0} (written : W → Option (List ℕ)) (faults : W → ℕ) (old new : WriterView W) (piece more : List ℕ) (earlier : Bool)
     → SinkFailed written faults old new piece earlier → SinkFailed written faults old new (piece ++ more) earlier
 failed-before written faults old new piece more true failed = failed
 failed-before written faults old new piece more false (before, after, front, rose) =
-    (before, after, front-of-longer (written old.0) (written new.0) piece more front, rose)
+    (before, after, front-of-longer (written old.sink) (written new.sink) piece more front, rose)
 
 -- the first piece was written, and the sink failed within the second
-failed-behind : {W : Type 0} (written : W → Option (List ℕ)) (faults : W → ℕ) (old middle new : W × Bool) (piece more : List ℕ) (earlier : Bool)
-    → WroteAll written faults old middle piece → faults old.0 ≤ faults middle.0
+failed-behind : {W : Type 0} (written : W → Option (List ℕ)) (faults : W → ℕ) (old middle new : WriterView W) (piece more : List ℕ) (earlier : Bool)
+    → WroteAll written faults old middle piece → faults old.sink ≤ faults middle.sink
     → SinkFailed written faults middle new more earlier → SinkFailed written faults old new (piece ++ more) earlier
 failed-behind written faults old middle new piece more true wrote counted (before, same) =
     let not : true ≡ false = sym before ∙ wrote.after in
     absurd (cc)
 failed-behind written faults old middle new piece more false wrote counted (before, after, front, rose) =
-    let risen : Rose (faults old.0) (faults new.0) = λ below. let more_now = rose below in omega arith in
-    (wrote.before, after, front-behind (written old.0) (written middle.0) (written new.0) piece more wrote.bytes front, risen)
+    let risen : Rose (faults old.sink) (faults new.sink) = λ below. let more_now = rose below in omega arith in
+    (wrote.before, after, front-behind (written old.sink) (written middle.sink) (written new.sink) piece more wrote.bytes front, risen)
 
 -- both pieces were written
-wrote-both : {W : Type 0} (written : W → Option (List ℕ)) (faults : W → ℕ) (old middle new : W × Bool) (piece more : List ℕ)
+wrote-both : {W : Type 0} (written : W → Option (List ℕ)) (faults : W → ℕ) (old middle new : WriterView W) (piece more : List ℕ)
     → WroteAll written faults old middle piece → WroteAll written faults middle new more → WroteAll written faults old new (piece ++ more)
 wrote-both written faults old middle new piece more first second = record {
   before = first.before;
   after = second.after;
-  bytes = Appends-trans (written old.0) (written middle.0) (written new.0) piece more first.bytes second.bytes;
+  bytes = Appends-trans (written old.sink) (written middle.sink) (written new.sink) piece more first.bytes second.bytes;
   kept = second.kept ∙ first.kept;
 }
 
 -- the first piece was written, and then the answer is that for the second
-pub wrote-then : {W T : Type 0} (written : W → Option (List ℕ)) (faults : W → ℕ) (old middle new : W × Bool) (piece more : List ℕ)
+pub wrote-then : {W T : Type 0} (written : W → Option (List ℕ)) (faults : W → ℕ) (old middle new : WriterView W) (piece more : List ℕ)
     (result : Result T SinkFault)
-    → WroteAll written faults old middle piece → faults old.0 ≤ faults middle.0
+    → WroteAll written faults old middle piece → faults old.sink ≤ faults middle.sink
     → WritesPiece written faults middle new more result → WritesPiece written faults old new (piece ++ more) result
 wrote-then written faults old middle new piece more (Ok done) wrote counted answer = wrote-both written faults old middle new piece more wrote answer
 wrote-then written faults old middle new piece more (Err fault) wrote counted answer =
@@ -93,9 +93,9 @@ pub zeros-taken : (count : ℕ) → count < 8 → take {A = ℕ} count (replicat
 zeros-taken count few = take-replicate count 8 0 (omega arith)
 
 -- the sink failed within a piece that stands between others, of which those before it were written
-pub failed-within : {W : Type 0} (written : W → Option (List ℕ)) (faults : W → ℕ) (old middle new : W × Bool)
+pub failed-within : {W : Type 0} (written : W → Option (List ℕ)) (faults : W → ℕ) (old middle new : WriterView W)
     (first piece rest whole : List ℕ) (earlier : Bool)
-    → WroteAll written faults old middle first → faults old.0 ≤ faults middle.0 → SinkFailed written faults middle new piece earlier
+    → WroteAll written faults old middle first → faults old.sink ≤ faults middle.sink → SinkFailed written faults middle new piece earlier
     → whole ≡ first ++ (piece ++ rest) → SinkFailed written faults old new whole earlier
 failed-within written faults old middle new first piece rest whole earlier wrote counted failed is =
     subst

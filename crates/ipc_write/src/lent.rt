@@ -1,5 +1,5 @@
 //! The columns of a record batch, lent from where they lie: a batch or an image is written without
-//! a copy.
+//! a copy of a large buffer.
 ghost use Rattle.std.specs.Prelude.{◌≡◌, ◌<◌, IfOk, length, slice_index_or};
 ghost use Rattle.arrow_spec.specs.Batches.{arrays_of};
 ghost use Rattle.block_columns.specs.Images.{IsWhole, rows_of};

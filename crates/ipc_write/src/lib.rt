@@ -6,10 +6,8 @@ mod body;
 mod faults;
 mod framed;
 mod lent;
+mod whole;
 mod writer;
 
 pub use faults::{PieceFault, SinkFault};
 pub use writer::Writer;
-
-#[cfg(test)]
-mod tests;

@@ -1,7 +1,7 @@
 //! The writer of a stream, piece by piece, to a sink of which a call may fail.
-ghost use Rattle.std.specs.Prelude.{◌≡◌, ◌++◌, ◌+◌, ◌<◌, ◌≤◌, ◌^◌, false, pos, All, IfOk, length};
+ghost use Rattle.std.specs.Prelude.{◌≡◌, ◌++◌, ◌+◌, ◌<◌, ◌≤◌, ◌^◌, [], false, pos, All, IfOk, length};
 ghost use Rattle.std.specs.Prelude.{map, flat_map};
-ghost use Rattle.arrow_spec.specs.Batches.{batch_of_arrays};
+ghost use Rattle.arrow_spec.specs.Batches.{batch_of_arrays, buffer_places};
 ghost use Rattle.arrow_spec.specs.Bytes.{padded};
 ghost use Rattle.arrow_spec.specs.Streams.{schema_message, message_of_batch, batch_message};
 ghost use Rattle.arrow_spec.specs.Streams.{end_word};
@@ -16,6 +16,7 @@ use crate::faults::{PieceFault, SinkFault};
 use crate::framed::framed;
 use crate::lent;
 use crate::lent::LentArray;
+use crate::whole::{are_small, put_body};
 use arrow_array::{Batch, build};
 use block_columns::Image;
 use byte_ports::{Failed, Sink, write_all};
@@ -32,32 +33,35 @@ use std::marker::Model;
 pub struct Writer<W> {
     sink: W,
     failed: bool,
+    /// The memory of the last message that was put together, for the next one.
+    spare: Option<Vec<u8>>,
 }
 
 impl<W> Model for Writer<W> {
-    ghost use Rattle.std.specs.Prelude.{Bool};
+    ghost use Rattle.ipc_write.specs.Calls.{WriterView};
 
-    ghost Value = { W × Bool };
+    ghost Value = { WriterView W };
 
-    ghost view = { λ w. (w.sink, w.failed) };
+    ghost view = { λ w. record { sink = w.sink; failed = w.failed } };
 }
 
 impl<W: Sink> Writer<W> {
     /// A writer to this sink, none of whose calls has failed.
     pub fn new(sink: W) -> Writer<W>
-        ensures { result ≡ (sink, false) }
+        ensures { result ≡ record { sink = sink; failed = false } }
     {
         Writer {
             sink,
             failed: false,
+            spare: None,
         }
     }
 
     /// Gives the sink back. Who lent the sink learns by this what was written to it.
     pub fn into_inner(self) -> W
-        ensures { result ≡ self.0 }
+        ensures { result ≡ self.sink }
     {
-        let Writer { sink, failed: _ } = self;
+        let Writer { sink, .. } = self;
         sink
     }
 
@@ -65,10 +69,10 @@ impl<W: Sink> Writer<W> {
     pub fn schema(&mut self, alloc: Global, schema: &Schema) -> Result<(), PieceFault>
         ensures answer { MakesPiece W.written W.faults self.old self.new (schema_message schema.now)
             result }
-        ensures told { TellsAlike (W.written self.old.0) (W.written self.new.0) }
-        ensures started { W.started self.new.0 ≡ W.started self.old.0 }
-        ensures loan { W.loan self.new.0 ≡ W.loan self.old.0 }
-        ensures counted { W.faults self.old.0 ≤ W.faults self.new.0 }
+        ensures told { TellsAlike (W.written self.old.sink) (W.written self.new.sink) }
+        ensures started { W.started self.new.sink ≡ W.started self.old.sink }
+        ensures loan { W.loan self.new.sink ≡ W.loan self.old.sink }
+        ensures counted { W.faults self.old.sink ≤ W.faults self.new.sink }
     {
         if self.failed {
             return Err(PieceFault::Sink(SinkFault { earlier: true }));
@@ -91,10 +95,10 @@ impl<W: Sink> Writer<W> {
             self.new
             (batch_message schema.now rows.now)
             result }
-        ensures told { TellsAlike (W.written self.old.0) (W.written self.new.0) }
-        ensures started { W.started self.new.0 ≡ W.started self.old.0 }
-        ensures loan { W.loan self.new.0 ≡ W.loan self.old.0 }
-        ensures counted { W.faults self.old.0 ≤ W.faults self.new.0 }
+        ensures told { TellsAlike (W.written self.old.sink) (W.written self.new.sink) }
+        ensures started { W.started self.new.sink ≡ W.started self.old.sink }
+        ensures loan { W.loan self.new.sink ≡ W.loan self.old.sink }
+        ensures counted { W.faults self.old.sink ≤ W.faults self.new.sink }
     {
         if self.failed {
             return Err(PieceFault::Sink(SinkFault { earlier: true }));
@@ -105,19 +109,20 @@ impl<W: Sink> Writer<W> {
 
     /// Writes the message of a record batch.
     ///
-    /// Its buffers go to the sink from where they lie, each in calls of its own.
+    /// Where its buffers are all small, the message is put together and goes to the sink as one
+    /// piece; else each buffer is a piece of its own, from where it lies.
     pub fn batch(&mut self, alloc: Global, batch: &Batch) -> Result<(), PieceFault>
         ensures answer { MakesPiece
             W.written
             W.faults
             self.old
             self.new
-            (message_of_batch (batch_of_arrays batch.now.0 batch.now.1))
+            (message_of_batch (batch_of_arrays batch.now.rows batch.now.arrays))
             result }
-        ensures told { TellsAlike (W.written self.old.0) (W.written self.new.0) }
-        ensures started { W.started self.new.0 ≡ W.started self.old.0 }
-        ensures loan { W.loan self.new.0 ≡ W.loan self.old.0 }
-        ensures counted { W.faults self.old.0 ≤ W.faults self.new.0 }
+        ensures told { TellsAlike (W.written self.old.sink) (W.written self.new.sink) }
+        ensures started { W.started self.new.sink ≡ W.started self.old.sink }
+        ensures loan { W.loan self.new.sink ≡ W.loan self.old.sink }
+        ensures counted { W.faults self.old.sink ≤ W.faults self.new.sink }
     {
         if self.failed {
             return Err(PieceFault::Sink(SinkFault { earlier: true }));
@@ -128,7 +133,8 @@ impl<W: Sink> Writer<W> {
 
     /// Writes the message of the record batch of an image's rows.
     ///
-    /// Its buffers go to the sink from where they lie, each in calls of its own.
+    /// Where its buffers are all small, the message is put together and goes to the sink as one
+    /// piece; else each buffer is a piece of its own, from where it lies.
     pub fn image(&mut self, alloc: Global, image: &Image) -> Result<(), PieceFault>
         requires whole { IsWhole image.now }
         requires few { length image.now.columns ≤ 32 }
@@ -139,10 +145,10 @@ impl<W: Sink> Writer<W> {
             self.new
             (batch_message image.now.columns (rows_of image.now))
             result }
-        ensures told { TellsAlike (W.written self.old.0) (W.written self.new.0) }
-        ensures started { W.started self.new.0 ≡ W.started self.old.0 }
-        ensures loan { W.loan self.new.0 ≡ W.loan self.old.0 }
-        ensures counted { W.faults self.old.0 ≤ W.faults self.new.0 }
+        ensures told { TellsAlike (W.written self.old.sink) (W.written self.new.sink) }
+        ensures started { W.started self.new.sink ≡ W.started self.old.sink }
+        ensures loan { W.loan self.new.sink ≡ W.loan self.old.sink }
+        ensures counted { W.faults self.old.sink ≤ W.faults self.new.sink }
     {
         if self.failed {
             return Err(PieceFault::Sink(SinkFault { earlier: true }));
@@ -154,10 +160,10 @@ impl<W: Sink> Writer<W> {
     /// Writes the word that ends a stream.
     pub fn finish(&mut self) -> Result<(), SinkFault>
         ensures answer { WritesPiece W.written W.faults self.old self.new end_word result }
-        ensures told { TellsAlike (W.written self.old.0) (W.written self.new.0) }
-        ensures started { W.started self.new.0 ≡ W.started self.old.0 }
-        ensures loan { W.loan self.new.0 ≡ W.loan self.old.0 }
-        ensures counted { W.faults self.old.0 ≤ W.faults self.new.0 }
+        ensures told { TellsAlike (W.written self.old.sink) (W.written self.new.sink) }
+        ensures started { W.started self.new.sink ≡ W.started self.old.sink }
+        ensures loan { W.loan self.new.sink ≡ W.loan self.old.sink }
+        ensures counted { W.faults self.old.sink ≤ W.faults self.new.sink }
     {
         self.write(&[0xff, 0xff, 0xff, 0xff, 0, 0, 0, 0])
     }
@@ -169,7 +175,7 @@ impl<W: Sink> Writer<W> {
         rows: u32,
         arrays: &[LentArray<'_>],
     ) -> Result<(), PieceFault>
-        requires open { self.old.1 ≡ false }
+        requires open { self.old.failed ≡ false }
         requires few { AreFew arrays.now }
         ensures answer { MakesPiece
             W.written
@@ -178,21 +184,90 @@ impl<W: Sink> Writer<W> {
             self.new
             (message_of_batch (batch_of_arrays rows arrays.now))
             result }
-        ensures told { TellsAlike (W.written self.old.0) (W.written self.new.0) }
-        ensures started { W.started self.new.0 ≡ W.started self.old.0 }
-        ensures loan { W.loan self.new.0 ≡ W.loan self.old.0 }
-        ensures counted { W.faults self.old.0 ≤ W.faults self.new.0 }
+        ensures told { TellsAlike (W.written self.old.sink) (W.written self.new.sink) }
+        ensures started { W.started self.new.sink ≡ W.started self.old.sink }
+        ensures loan { W.loan self.new.sink ≡ W.loan self.old.sink }
+        ensures counted { W.faults self.old.sink ≤ W.faults self.new.sink }
     {
-        let head = batch_head(alloc, rows, arrays)?;
-        match self.message(head.as_slice(), arrays) {
+        let body = Body::of_arrays(alloc, arrays)?;
+        let small = are_small(arrays);
+        let room = if small { body.size as usize } else { 0 };
+        let empty = self.empty(alloc);
+        let head = batch_head(empty, room, rows, arrays, &body)?;
+        self.message(head, small, arrays)
+    }
+
+    /// An empty vector, in the spare memory if there is any.
+    fn empty(&mut self, alloc: Global) -> Vec<u8>
+        ensures empty { result.items ≡ [] }
+        ensures same { self.new ≡ self.old }
+    {
+        let Some(mut bytes) = self.spare.take() else {
+            return Vec::new(alloc);
+        };
+        bytes.clear();
+        bytes
+    }
+
+    /// Writes what stands before a body, and then the body of these columns: as one piece if they
+    /// are small.
+    fn message(
+        &mut self,
+        head: Vec<u8>,
+        small: bool,
+        arrays: &[LentArray<'_>],
+    ) -> Result<(), PieceFault>
+        requires { self.old.failed ≡ false }
+        ensures answer { MakesPiece
+            W.written
+            W.faults
+            self.old
+            self.new
+            (head.items ++ flat_map padded (flat_map (λ array. array.buffers) arrays.now))
+            result }
+        ensures told { TellsAlike (W.written self.old.sink) (W.written self.new.sink) }
+        ensures started { W.started self.new.sink ≡ W.started self.old.sink }
+        ensures loan { W.loan self.new.sink ≡ W.loan self.old.sink }
+        ensures counted { W.faults self.old.sink ≤ W.faults self.new.sink }
+    {
+        if small {
+            return self.together(head, arrays);
+        }
+        match self.apart(head.as_slice(), arrays) {
             Ok(()) => Ok(()),
             Err(fault) => Err(PieceFault::Sink(fault)),
         }
     }
 
-    /// Writes what stands before a body, and then the body of these columns.
-    fn message(&mut self, head: &[u8], arrays: &[LentArray<'_>]) -> Result<(), SinkFault>
-        requires { self.old.1 ≡ false }
+    /// Puts the body of these columns behind what stands before it, and writes both as one piece,
+    /// whose memory is kept for the next one.
+    fn together(&mut self, head: Vec<u8>, arrays: &[LentArray<'_>]) -> Result<(), PieceFault>
+        requires { self.old.failed ≡ false }
+        ensures answer { MakesPiece
+            W.written
+            W.faults
+            self.old
+            self.new
+            (head.items ++ flat_map padded (flat_map (λ array. array.buffers) arrays.now))
+            result }
+        ensures told { TellsAlike (W.written self.old.sink) (W.written self.new.sink) }
+        ensures started { W.started self.new.sink ≡ W.started self.old.sink }
+        ensures loan { W.loan self.new.sink ≡ W.loan self.old.sink }
+        ensures counted { W.faults self.old.sink ≤ W.faults self.new.sink }
+    {
+        let mut whole = head;
+        put_body(&mut whole, arrays)?;
+        let done = self.write(whole.as_slice());
+        self.spare = Some(whole);
+        match done {
+            Ok(()) => Ok(()),
+            Err(fault) => Err(PieceFault::Sink(fault)),
+        }
+    }
+
+    /// Writes what stands before a body, and then the buffers of these columns from where they lie.
+    fn apart(&mut self, head: &[u8], arrays: &[LentArray<'_>]) -> Result<(), SinkFault>
+        requires { self.old.failed ≡ false }
         ensures answer { WritesPiece
             W.written
             W.faults
@@ -200,10 +275,10 @@ impl<W: Sink> Writer<W> {
             self.new
             (head.now ++ flat_map padded (flat_map (λ array. array.buffers) arrays.now))
             result }
-        ensures told { TellsAlike (W.written self.old.0) (W.written self.new.0) }
-        ensures started { W.started self.new.0 ≡ W.started self.old.0 }
-        ensures loan { W.loan self.new.0 ≡ W.loan self.old.0 }
-        ensures counted { W.faults self.old.0 ≤ W.faults self.new.0 }
+        ensures told { TellsAlike (W.written self.old.sink) (W.written self.new.sink) }
+        ensures started { W.started self.new.sink ≡ W.started self.old.sink }
+        ensures loan { W.loan self.new.sink ≡ W.loan self.old.sink }
+        ensures counted { W.faults self.old.sink ≤ W.faults self.new.sink }
     {
         match self.write(head) {
             Ok(()) => self.body(arrays),
@@ -213,7 +288,7 @@ impl<W: Sink> Writer<W> {
 
     /// Writes the body of these columns.
     fn body(&mut self, arrays: &[LentArray<'_>]) -> Result<(), SinkFault>
-        requires { self.old.1 ≡ false }
+        requires { self.old.failed ≡ false }
         ensures answer { WritesPiece
             W.written
             W.faults
@@ -221,10 +296,10 @@ impl<W: Sink> Writer<W> {
             self.new
             (flat_map padded (flat_map (λ array. array.buffers) arrays.now))
             result }
-        ensures told { TellsAlike (W.written self.old.0) (W.written self.new.0) }
-        ensures started { W.started self.new.0 ≡ W.started self.old.0 }
-        ensures loan { W.loan self.new.0 ≡ W.loan self.old.0 }
-        ensures counted { W.faults self.old.0 ≤ W.faults self.new.0 }
+        ensures told { TellsAlike (W.written self.old.sink) (W.written self.new.sink) }
+        ensures started { W.started self.new.sink ≡ W.started self.old.sink }
+        ensures loan { W.loan self.new.sink ≡ W.loan self.old.sink }
+        ensures counted { W.faults self.old.sink ≤ W.faults self.new.sink }
     {
         for array in arrays {
             match self.buffers(array.buffers()) {
@@ -237,13 +312,13 @@ impl<W: Sink> Writer<W> {
 
     /// Writes buffers one after another, each padded.
     fn buffers(&mut self, buffers: &[Bytes]) -> Result<(), SinkFault>
-        requires { self.old.1 ≡ false }
+        requires { self.old.failed ≡ false }
         ensures answer { WritesPiece W.written W.faults self.old self.new
             (flat_map padded buffers.now) result }
-        ensures told { TellsAlike (W.written self.old.0) (W.written self.new.0) }
-        ensures started { W.started self.new.0 ≡ W.started self.old.0 }
-        ensures loan { W.loan self.new.0 ≡ W.loan self.old.0 }
-        ensures counted { W.faults self.old.0 ≤ W.faults self.new.0 }
+        ensures told { TellsAlike (W.written self.old.sink) (W.written self.new.sink) }
+        ensures started { W.started self.new.sink ≡ W.started self.old.sink }
+        ensures loan { W.loan self.new.sink ≡ W.loan self.old.sink }
+        ensures counted { W.faults self.old.sink ≤ W.faults self.new.sink }
     {
         for buffer in buffers {
             match self.padded(buffer.as_slice()) {
@@ -258,10 +333,10 @@ impl<W: Sink> Writer<W> {
     fn padded(&mut self, buffer: &[u8]) -> Result<(), SinkFault>
         ensures answer { WritesPiece W.written W.faults self.old self.new (padded buffer.now)
             result }
-        ensures told { TellsAlike (W.written self.old.0) (W.written self.new.0) }
-        ensures started { W.started self.new.0 ≡ W.started self.old.0 }
-        ensures loan { W.loan self.new.0 ≡ W.loan self.old.0 }
-        ensures counted { W.faults self.old.0 ≤ W.faults self.new.0 }
+        ensures told { TellsAlike (W.written self.old.sink) (W.written self.new.sink) }
+        ensures started { W.started self.new.sink ≡ W.started self.old.sink }
+        ensures loan { W.loan self.new.sink ≡ W.loan self.old.sink }
+        ensures counted { W.faults self.old.sink ≤ W.faults self.new.sink }
     {
         let zeros = [0u8; 8];
         let (padding, _) = zeros.split_at(buffer.len().next_multiple_of(8) - buffer.len());
@@ -274,10 +349,10 @@ impl<W: Sink> Writer<W> {
     /// Writes a piece, unless a call of the sink has failed.
     fn write(&mut self, piece: &[u8]) -> Result<(), SinkFault>
         ensures answer { WritesPiece W.written W.faults self.old self.new piece.now result }
-        ensures told { TellsAlike (W.written self.old.0) (W.written self.new.0) }
-        ensures started { W.started self.new.0 ≡ W.started self.old.0 }
-        ensures loan { W.loan self.new.0 ≡ W.loan self.old.0 }
-        ensures counted { W.faults self.old.0 ≤ W.faults self.new.0 }
+        ensures told { TellsAlike (W.written self.old.sink) (W.written self.new.sink) }
+        ensures started { W.started self.new.sink ≡ W.started self.old.sink }
+        ensures loan { W.loan self.new.sink ≡ W.loan self.old.sink }
+        ensures counted { W.faults self.old.sink ≤ W.faults self.new.sink }
     {
         if self.failed {
             return Err(SinkFault { earlier: true });
@@ -297,18 +372,31 @@ fn schema_piece(alloc: Global, schema: &Schema) -> Result<Vec<u8>, AllocError>
     ensures { IfOk result (λ bytes. bytes.items ≡ schema_message schema.now) }
 {
     let metadata = arrow_meta::schema_message(alloc, schema)?;
-    framed(alloc, metadata.as_slice())
+    framed(Vec::new(alloc), metadata.as_slice(), 0)
 }
 
-/// What stands before the body in the message of a record batch.
-fn batch_head(alloc: Global, rows: u32, arrays: &[LentArray<'_>]) -> Result<Vec<u8>, AllocError>
-    requires { AreFew arrays.now }
+/// What stands before the body of these columns in the message of a record batch, in an empty
+/// vector, with room for so many bytes behind it.
+fn batch_head(
+    empty: Vec<u8>,
+    room: usize,
+    rows: u32,
+    arrays: &[LentArray<'_>],
+    body: &Body,
+) -> Result<Vec<u8>, AllocError>
+    requires empty { empty.items ≡ [] }
+    requires few { AreFew arrays.now }
+    requires places { body.now.places.items
+        ≡ buffer_places 0 (flat_map (λ array. array.buffers) arrays.now) }
+    requires size { body.now.size
+        ≡ length (flat_map padded (flat_map (λ array. array.buffers) arrays.now)) }
+    requires below { body.now.size < 2 ^ 63 }
     ensures { IfOk result (λ head.
         head.items ++ flat_map padded (flat_map (λ array. array.buffers) arrays.now)
         ≡ message_of_batch (batch_of_arrays rows arrays.now)) }
 {
+    let alloc = *empty.allocator();
     let nodes = nodes(alloc, rows, arrays)?;
-    let body = Body::of_arrays(alloc, arrays)?;
     let metadata = arrow_meta::batch_message(
         alloc,
         u64::from(rows),
@@ -316,7 +404,7 @@ fn batch_head(alloc: Global, rows: u32, arrays: &[LentArray<'_>]) -> Result<Vec<
         body.places.as_slice(),
         body.size,
     )?;
-    framed(alloc, metadata.as_slice())
+    framed(empty, metadata.as_slice(), room)
 }
 
 /// A node for each column: the rows and the nulls.

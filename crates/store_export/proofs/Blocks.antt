@@ -1,5 +1,5 @@
 -- A block that was read and sent.
-use Rattle.std.proofs.Common.{◌≡◌, ℕ, ◌+◌, ◌*◌, ◌-◌, ◌≤◌, ◌^◌, Bool, false, List, [], ◌∷◌, Option, Result, Ok, Err, refl, sym, subst, arith}
+use Rattle.std.proofs.Common.{◌≡◌, ℕ, ◌+◌, ◌*◌, ◌-◌, ◌≤◌, ◌^◌, false, List, [], ◌∷◌, Option, Result, Ok, Err, refl, sym, subst, arith}
 use Rattle.std.specs.Prelude.{IfOk, count_by}
 use Rattle.cell_model.specs.declared.column.Column.{Column}
 use Rattle.std.specs.declared.alloc.AllocError.{AllocError}
@@ -7,7 +7,7 @@ use Rattle.event_spec.specs.declared.own.OwnTransaction.{OwnTransaction}
 use Rattle.event_spec.specs.declared.reply.Reply.TheVariants as reply
 use Rattle.event_spec.specs.Parts.{slots_of}
 use Rattle.event_spec.specs.Replay.{columns_in}
-use Rattle.ipc_write.specs.Calls.{MakesPiece}
+use Rattle.ipc_write.specs.Calls.{MakesPiece, WriterView}
 use Rattle.ipc_write.specs.declared.faults.PieceFault.{PieceFault}
 use Rattle.ipc_write.specs.declared.faults.PieceFault.TheVariants.{Memory}
 use Rattle.run_spec.specs.Told.{is_shared}
@@ -36,7 +36,7 @@ no_steps spent steps more few = omega (arith, few)
 
 module _ {W : Type 0} (store : StoreView) (old new : Session) (own : OwnTransaction) (t at : ℕ) (written : W → Option (List ℕ)) (faults : W → ℕ) (spent steps : ℕ) (few : slots_of (shape_in store) t ≤ 2 ^ 15) where
   -- what was read was written, or could not be
-  pub block_sent : (E : Type 0) (before now : W × Bool) (read : BlockRows) (columns : List Column) (result : Result Sent PieceFault) → columns ≡ columns_in (shape_in store) t
+  pub block_sent : (E : Type 0) (before now : WriterView W) (read : BlockRows) (columns : List Column) (result : Result Sent PieceFault) → columns ≡ columns_in (shape_in store) t
       → ReadsBlock store old new own t at (reply_of {E = E} (Ok read)) → steps ≤ spent + most_read {E = E} (shape_in store) t (Ok read)
       → MakesPiece written faults before now (group_message columns (rows_in read)) result → IfOk result (λ sent. sent ≡ counted (reply_in read ∷ []))
       → SendsBlock store old new own t at written faults before now spent steps result
@@ -60,7 +60,7 @@ module _ {W : Type 0} (store : StoreView) (old new : Session) (own : OwnTransact
   }
 
   -- there was no memory for the read
-  pub block_unread : (writer : W × Bool) (refused : AllocError) → writer.1 ≡ false → ReadsBlock store old new own t at reply.Memory → steps ≤ spent + slots_of (shape_in store) t
+  pub block_unread : (writer : WriterView W) (refused : AllocError) → writer.failed ≡ false → ReadsBlock store old new own t at reply.Memory → steps ≤ spent + slots_of (shape_in store) t
       → SendsBlock store old new own t at written faults writer writer spent steps (Err (Memory refused))
   block_unread writer refused fresh reads took = record {
     told = reply.Memory;

@@ -20,7 +20,7 @@ use Rattle.event_spec.specs.Parts.{Shape, below, blocks_of, slots_of}
 use Rattle.event_spec.specs.Replay.{columns_in}
 use Rattle.event_spec.specs.Replies.{CoreReply}
 use Rattle.export_spec.specs.Calls.{AreAllRead, BreaksOff, groups_told}
-use Rattle.ipc_write.specs.Calls.{MakesPiece, SinkFailed, WritesPiece}
+use Rattle.ipc_write.specs.Calls.{WriterView, MakesPiece, SinkFailed, WritesPiece}
 use Rattle.ipc_write.specs.declared.faults.PieceFault.{PieceFault}
 use Rattle.ipc_write.specs.declared.faults.PieceFault.TheVariants.{Sink, Memory}
 use Rattle.ipc_write.specs.declared.faults.SinkFault.{SinkFault}
@@ -99,18 +99,18 @@ rose_since : (before between now : ℕ) → between ≡ before → Rose between 
 rose_since before between now same rose = subst (λ n. Rose n now) same rose
 
 -- a call of the sink failed, of a writer that had not failed
-sink_fails : {W : Type 0} (written : W → Option (List ℕ)) (faults : W → ℕ) (old new : W × Bool) (piece : List ℕ) (earlier : Bool)
-    → old.1 ≡ false → SinkFailed written faults old new piece earlier
-    → Rose (faults old.0) (faults new.0) × AppendsFront (written old.0) (written new.0) piece
+sink_fails : {W : Type 0} (written : W → Option (List ℕ)) (faults : W → ℕ) (old new : WriterView W) (piece : List ℕ) (earlier : Bool)
+    → old.failed ≡ false → SinkFailed written faults old new piece earlier
+    → Rose (faults old.sink) (faults new.sink) × AppendsFront (written old.sink) (written new.sink) piece
 sink_fails written faults old new piece true fresh failed = absurd (let both : true ≡ false = sym failed.0 ∙ fresh in let never : ⊥ = cc in never)
 sink_fails written faults old new piece false fresh failed = (failed.3, failed.2)
 
 -- the fault is counted, and want of memory is none
-pub piece_counts : {W : Type 0} (T S : Type 0) (written : W → Option (List ℕ)) (faults : W → ℕ) (start old new : W × Bool) (piece : List ℕ) (fault : PieceFault)
-    → old.1 ≡ false → faults old.0 ≡ faults start.0 → MakesPiece {T = T} written faults old new piece (Err fault) → CountsPiece {T = S} (Err fault) (faults start.0) (faults new.0)
+pub piece_counts : {W : Type 0} (T S : Type 0) (written : W → Option (List ℕ)) (faults : W → ℕ) (start old new : WriterView W) (piece : List ℕ) (fault : PieceFault)
+    → old.failed ≡ false → faults old.sink ≡ faults start.sink → MakesPiece {T = T} written faults old new piece (Err fault) → CountsPiece {T = S} (Err fault) (faults start.sink) (faults new.sink)
 piece_counts T S written faults start old new piece (Sink fault) fresh kept failed =
-    rose_since (faults start.0) (faults old.0) (faults new.0) kept (sink_fails written faults old new piece fault.earlier fresh failed).0
-piece_counts {W} T S written faults start old new piece (Memory refused) fresh kept failed = ap (λ (now : W × Bool). faults now.0) failed.1 ∙ kept
+    rose_since (faults start.sink) (faults old.sink) (faults new.sink) kept (sink_fails written faults old new piece fault.earlier fresh failed).0
+piece_counts {W} T S written faults start old new piece (Memory refused) fresh kept failed = ap (λ (now : WriterView W). faults now.sink) failed.1 ∙ kept
 
 -- ---- reads and messages
 
@@ -169,7 +169,7 @@ module _ (store : StoreView) (own : OwnTransaction) (t : ℕ) where
       sym a ∙ ap (λ (es : List CoreEvent). length es) s.events ∙ b ∙ c
 
   -- a block has few rows, and is one batch at most
-  pub more_few : {W : Type 0} (written : W → Option (List ℕ)) (faults : W → ℕ) (old new : Session) (at : ℕ) (before now : W × Bool) (spent steps : ℕ) (more : Sent)
+  pub more_few : {W : Type 0} (written : W → Option (List ℕ)) (faults : W → ℕ) (old new : Session) (at : ℕ) (before now : WriterView W) (spent steps : ℕ) (more : Sent)
       → SendsBlock store old new own t at written faults before now spent steps (Ok more) → (more.rows ≤ 2 ^ 15) × (more.batches ≤ 1) × (more.frozen ≤ 1)
   more_few written faults old new at before now spent steps more b =
       let rows_now : more.rows ≡ rows_all (b.told ∷ []) = ap (λ (x : Sent). x.rows) b.counts in
@@ -307,36 +307,36 @@ module _ (store : StoreView) (own : OwnTransaction) (t : ℕ) where
         }
 
     -- the schema's message failed
-    pub schema_broke : {W : Type 0} (T : Type 0) (written : W → Option (List ℕ)) (faults : W → ℕ) (start now : W × Bool) (spent : ℕ) (fault : PieceFault)
-        → start.1 ≡ false → MakesPiece {T = T} written faults start now (schema_message columns) (Err fault)
-        → Exports store old old t said.Memory (written start.0) (written now.0) spent spent
+    pub schema_broke : {W : Type 0} (T : Type 0) (written : W → Option (List ℕ)) (faults : W → ℕ) (start now : WriterView W) (spent : ℕ) (fault : PieceFault)
+        → start.failed ≡ false → MakesPiece {T = T} written faults start now (schema_message columns) (Err fault)
+        → Exports store old old t said.Memory (written start.sink) (written now.sink) spent spent
     schema_broke {W} T written faults start now spent fault fresh failed =
-        broke old 0 [] (written start.0) (written now.0) spent spent (omega arith) (went_nowhere store old asked is) refl refl (go fault failed) (le_more spent (slots_of sh t * (0 - 0)))
+        broke old 0 [] (written start.sink) (written now.sink) spent spent (omega arith) (went_nowhere store old asked is) refl refl (go fault failed) (le_more spent (slots_of sh t * (0 - 0)))
       where
-        go : (fault : PieceFault) → MakesPiece {T = T} written faults start now (schema_message columns) (Err fault) → HasBroken columns (blocks_of sh t) [] (written start.0) (written now.0)
-        go (Sink sink) failed = breaks_first columns (blocks_of sh t) (written start.0) (written now.0) (sink_fails written faults start now (schema_message columns) sink.earlier fresh failed).1
-        go (Memory refused) failed = subst (λ (w : W × Bool). HasBroken columns (blocks_of sh t) [] (written start.0) (written w.0)) (sym failed.1) (breaks_nowhere columns (blocks_of sh t) (written start.0))
+        go : (fault : PieceFault) → MakesPiece {T = T} written faults start now (schema_message columns) (Err fault) → HasBroken columns (blocks_of sh t) [] (written start.sink) (written now.sink)
+        go (Sink sink) failed = breaks_first columns (blocks_of sh t) (written start.sink) (written now.sink) (sink_fails written faults start now (schema_message columns) sink.earlier fresh failed).1
+        go (Memory refused) failed = subst (λ (w : WriterView W). HasBroken columns (blocks_of sh t) [] (written start.sink) (written w.sink)) (sym failed.1) (breaks_nowhere columns (blocks_of sh t) (written start.sink))
 
     -- a read found no memory, or a block's message failed
-    pub block_broke : {W : Type 0} (written : W → Option (List ℕ)) (faults : W → ℕ) (mid new : Session) (k : ℕ) (before : Option (List ℕ)) (between now : W × Bool) (sent : Sent) (spent steps later : ℕ)
-        (fault : PieceFault) → Sending store old mid own t k before (written between.0) sent spent steps → between.1 ≡ false → k < blocks_of sh t
-        → SendsBlock store mid new own t k written faults between now steps later (Err fault) → Exports store old new t said.Memory before (written now.0) spent later
+    pub block_broke : {W : Type 0} (written : W → Option (List ℕ)) (faults : W → ℕ) (mid new : Session) (k : ℕ) (before : Option (List ℕ)) (between now : WriterView W) (sent : Sent) (spent steps later : ℕ)
+        (fault : PieceFault) → Sending store old mid own t k before (written between.sink) sent spent steps → between.failed ≡ false → k < blocks_of sh t
+        → SendsBlock store mid new own t k written faults between now steps later (Err fault) → Exports store old new t said.Memory before (written now.sink) spent later
     block_broke {W} written faults mid new k before between now sent spent steps later fault s fresh lt b =
         let last = read_at store old mid new own t k b.told b.reads in
         let few = steps_more (slots_of sh t) spent steps later k sent.frozen (count_by is_shared (b.told ∷ [])) s.frozen_few (count_one is_shared b.told) s.steps_few b.few in
-        broke new (k + 1) (s.made ++ last ∷ []) before (written now.0) spent later (omega (arith, lt))
-        (went_further old mid new k before (written between.0) sent spent steps b.told s b.reads lt)
-        (events_further old mid new k before (written between.0) sent spent steps b.told s b.reads lt)
+        broke new (k + 1) (s.made ++ last ∷ []) before (written now.sink) spent later (omega (arith, lt))
+        (went_further old mid new k before (written between.sink) sent spent steps b.told s b.reads lt)
+        (events_further old mid new k before (written between.sink) sent spent steps b.told s b.reads lt)
         (plain_cut_behind s.made last s.plain refl)
         (go fault b.writes)
-        (subst (λ n. later ≤ spent + slots_of sh t * ((k + 1) - n)) (ap (λ n. n + count_by is_shared (b.told ∷ [])) s.frozen_are ∙ sym (counted_further old mid new k before (written between.0) sent spent steps b.told s b.reads lt is_shared)) few)
+        (subst (λ n. later ≤ spent + slots_of sh t * ((k + 1) - n)) (ap (λ n. n + count_by is_shared (b.told ∷ [])) s.frozen_are ∙ sym (counted_further old mid new k before (written between.sink) sent spent steps b.told s b.reads lt is_shared)) few)
       where
         go : (fault : PieceFault) → MakesPiece {T = Sent} written faults between now (group_message columns (rows_told b.told)) (Err fault)
-            → HasBroken columns (blocks_of sh t) (s.made ++ read_at store old mid new own t k b.told b.reads ∷ []) before (written now.0)
-        go (Sink sink) failed = breaks_within columns (blocks_of sh t) s.made (read_at store old mid new own t k b.told b.reads) before (written between.0) (written now.0) s.gone
+            → HasBroken columns (blocks_of sh t) (s.made ++ read_at store old mid new own t k b.told b.reads ∷ []) before (written now.sink)
+        go (Sink sink) failed = breaks_within columns (blocks_of sh t) s.made (read_at store old mid new own t k b.told b.reads) before (written between.sink) (written now.sink) s.gone
             (sink_fails written faults between now (group_message columns (rows_told b.told)) sink.earlier fresh failed).1
-        go (Memory refused) failed = subst (λ (w : W × Bool). HasBroken columns (blocks_of sh t) (s.made ++ read_at store old mid new own t k b.told b.reads ∷ []) before (written w.0)) (sym failed.1)
-            (breaks_before columns (blocks_of sh t) s.made (read_at store old mid new own t k b.told b.reads) before (written between.0) s.gone)
+        go (Memory refused) failed = subst (λ (w : WriterView W). HasBroken columns (blocks_of sh t) (s.made ++ read_at store old mid new own t k b.told b.reads ∷ []) before (written w.sink)) (sym failed.1)
+            (breaks_before columns (blocks_of sh t) s.made (read_at store old mid new own t k b.told b.reads) before (written between.sink) s.gone)
 
     -- all blocks were read
     all_read : (new : Session) (before now : Option (List ℕ)) (sent : Sent) (spent steps : ℕ) → (s : Sending store old new own t (blocks_of sh t) before now sent spent steps) → AreAllRead (blocks_of sh t) s.made
@@ -344,12 +344,12 @@ module _ (store : StoreView) (own : OwnTransaction) (t : ℕ) where
         (sending_count old new (blocks_of sh t) before now sent spent steps s, plain_granted s.made s.plain)
 
     -- the word that ends the stream failed
-    pub end_broke : {W : Type 0} (T : Type 0) (written : W → Option (List ℕ)) (faults : W → ℕ) (new : Session) (before : Option (List ℕ)) (between now : W × Bool) (sent : Sent) (spent steps : ℕ) (fault : SinkFault)
-        → Sending store old new own t (blocks_of sh t) before (written between.0) sent spent steps → between.1 ≡ false
-        → WritesPiece {T = T} written faults between now end_word (Err fault) → Exports store old new t said.Memory before (written now.0) spent steps
+    pub end_broke : {W : Type 0} (T : Type 0) (written : W → Option (List ℕ)) (faults : W → ℕ) (new : Session) (before : Option (List ℕ)) (between now : WriterView W) (sent : Sent) (spent steps : ℕ) (fault : SinkFault)
+        → Sending store old new own t (blocks_of sh t) before (written between.sink) sent spent steps → between.failed ≡ false
+        → WritesPiece {T = T} written faults between now end_word (Err fault) → Exports store old new t said.Memory before (written now.sink) spent steps
     end_broke T written faults new before between now sent spent steps fault s fresh failed =
-        broke new (blocks_of sh t) s.made before (written now.0) spent steps (omega arith) s.went s.events (plain_cut s.made s.plain)
-        (breaks_last columns (blocks_of sh t) s.made before (written between.0) (written now.0) (all_read new before (written between.0) sent spent steps s) s.gone
+        broke new (blocks_of sh t) s.made before (written now.sink) spent steps (omega arith) s.went s.events (plain_cut s.made s.plain)
+        (breaks_last columns (blocks_of sh t) s.made before (written between.sink) (written now.sink) (all_read new before (written between.sink) sent spent steps s) s.gone
         (sink_fails written faults between now end_word fault.earlier fresh failed).1)
         (subst (λ n. steps ≤ spent + slots_of sh t * (blocks_of sh t - n)) s.frozen_are s.steps_few)
 

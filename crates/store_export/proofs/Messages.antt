@@ -1,5 +1,5 @@
 -- The messages of a block's rows and of its image are one.
-use Rattle.std.proofs.Common.{◌≡◌, ◌∙◌, ℕ, zero, suc, ◌+◌, ◌<◌, Bool, true, false, Err, Option, None, Some, List, [], ◌∷◌, length, map, take, get_or, refl, sym, ap, arith}
+use Rattle.std.proofs.Common.{◌≡◌, ◌∙◌, ℕ, zero, suc, ◌+◌, ◌<◌, true, false, Err, Option, None, Some, List, [], ◌∷◌, length, map, take, get_or, refl, sym, ap, arith}
 use Rattle.std.specs.Prelude.{IsSome, flat_map, option_to_list}
 use Rattle.std.specs.List.{enumerate_from}
 use Rattle.arrow_spec.specs.Arrays.{column_buffers, null_count}
@@ -10,7 +10,7 @@ use Rattle.block_spec.specs.Slots.{Row}
 use Rattle.cell_model.specs.declared.column.Column.{Column}
 use Rattle.cell_model.specs.declared.kind.Kind.{Kind}
 use Rattle.core_images.specs.Kinds.{kinds_of}
-use Rattle.ipc_write.specs.Calls.{MakesPiece}
+use Rattle.ipc_write.specs.Calls.{MakesPiece, WriterView}
 use Rattle.ipc_write.specs.declared.faults.PieceFault.{PieceFault}
 use Rattle.ipc_write.specs.declared.faults.PieceFault.TheVariants.{Sink, Memory}
 use Rattle.store_export.specs.Groups.{group_message}
@@ -26,7 +26,7 @@ message_none columns [] none = refl
 message_none columns (row ∷ rows) none = absurd (let never : ⊥ = omega (arith, none) in never)
 
 -- a fault is told of one answer as of another
-pub retold : {W : Type 0} (T S : Type 0) (written : W → Option (List ℕ)) (faults : W → ℕ) (old new : W × Bool) (piece : List ℕ) (fault : PieceFault)
+pub retold : {W : Type 0} (T S : Type 0) (written : W → Option (List ℕ)) (faults : W → ℕ) (old new : WriterView W) (piece : List ℕ) (fault : PieceFault)
     → MakesPiece {T = T} written faults old new piece (Err fault) → MakesPiece {T = S} written faults old new piece (Err fault)
 retold T S written faults old new piece (Sink fault) told = told
 retold T S written faults old new piece (Memory refused) told = told

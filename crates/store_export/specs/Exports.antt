@@ -1,5 +1,5 @@
 -- What the export of a table tells and sends, and what it costs.
-use Rattle.std.specs.Prelude.{◌≡◌, ℕ, ◌+◌, ◌*◌, ◌-◌, ◌≤◌, ◌^◌, List, [], ◌∷◌, Bool, false, count_by}
+use Rattle.std.specs.Prelude.{◌≡◌, ℕ, ◌+◌, ◌*◌, ◌-◌, ◌≤◌, ◌^◌, List, [], ◌∷◌, false, count_by}
 use Rattle.std.specs.Prelude.{flat_map, length, Option, Result, Ok, Err, IfOk}
 use Rattle.std.specs.Io.KnownBytes.{Appends}
 use Rattle.byte_ports.specs.Calls.{Rose}
@@ -9,7 +9,7 @@ use Rattle.event_spec.specs.Parts.{blocks_of, slots_of}
 use Rattle.event_spec.specs.Replay.{columns_in}
 use Rattle.event_spec.specs.Replies.{CoreReply}
 use Rattle.export_spec.specs.Calls.{SendsAs}
-use Rattle.ipc_write.specs.Calls.{MakesPiece}
+use Rattle.ipc_write.specs.Calls.{MakesPiece, WriterView}
 use Rattle.ipc_write.specs.declared.faults.PieceFault.{PieceFault}
 use Rattle.ipc_write.specs.declared.faults.PieceFault.TheVariants as piece
 use Rattle.run_spec.specs.Calls.{is_memory}
@@ -70,7 +70,7 @@ counted replies = record {
 -- A block was read, and the message of its rows was written. No row of a frozen one was looked at.
 pub record SendsBlock
     {W : Type 0} (store : StoreView) (old new : Session) (own : OwnTransaction) (table at : ℕ)
-    (written : W → Option (List ℕ)) (faults : W → ℕ) (before now : W × Bool)
+    (written : W → Option (List ℕ)) (faults : W → ℕ) (before now : WriterView W)
     (spent steps : ℕ) (result : Result Sent PieceFault)
     : Type 0 where
   pub told : CoreReply

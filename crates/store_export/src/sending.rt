@@ -22,7 +22,7 @@ pub fn write_rows<W: Sink>(
     rows: &[Row],
     writer: &mut Writer<W>,
 ) -> Result<usize, PieceFault>
-    requires fresh { writer.old.1 ≡ false }
+    requires fresh { writer.old.failed ≡ false }
     requires fits { All (λ row. Fits schema.now row) rows.now }
     requires few { length rows.now ≤ 2 ^ 15 }
     ensures answer { MakesPiece
@@ -33,8 +33,8 @@ pub fn write_rows<W: Sink>(
         (group_message schema.now rows.now)
         result }
     ensures rows { IfOk result (λ count. count ≡ length rows.now) }
-    ensures started { W.started writer.new.0 ≡ W.started writer.old.0 }
-    ensures loan { W.loan writer.new.0 ≡ W.loan writer.old.0 }
+    ensures started { W.started writer.new.sink ≡ W.started writer.old.sink }
+    ensures loan { W.loan writer.new.sink ≡ W.loan writer.old.sink }
 {
     if rows.is_empty() {
         return Ok(0);
@@ -53,7 +53,7 @@ pub fn write_found<W: Sink>(
     found: ReadRows,
     writer: &mut Writer<W>,
 ) -> Result<usize, PieceFault>
-    requires fresh { writer.old.1 ≡ false }
+    requires fresh { writer.old.failed ≡ false }
     requires fits { All (λ row. Fits schema.now row) found }
     requires few { length found ≤ 2 ^ 15 }
     ensures answer { MakesPiece
@@ -64,8 +64,8 @@ pub fn write_found<W: Sink>(
         (group_message schema.now found)
         result }
     ensures rows { IfOk result (λ count. count ≡ length found) }
-    ensures started { W.started writer.new.0 ≡ W.started writer.old.0 }
-    ensures loan { W.loan writer.new.0 ≡ W.loan writer.old.0 }
+    ensures started { W.started writer.new.sink ≡ W.started writer.old.sink }
+    ensures loan { W.loan writer.new.sink ≡ W.loan writer.old.sink }
 {
     match found.into_form() {
         ReadForm::Listed(rows) => write_rows(alloc, schema, rows.as_slice(), writer),
@@ -94,7 +94,7 @@ pub fn write_image<W: Sink>(
     shared: &SharedRows,
     writer: &mut Writer<W>,
 ) -> Result<usize, PieceFault>
-    requires fresh { writer.old.1 ≡ false }
+    requires fresh { writer.old.failed ≡ false }
     ensures answer { MakesPiece
         W.written
         W.faults
@@ -103,8 +103,8 @@ pub fn write_image<W: Sink>(
         (group_message schema.now shared.now)
         result }
     ensures rows { IfOk result (λ count. count ≡ length shared.now) }
-    ensures started { W.started writer.new.0 ≡ W.started writer.old.0 }
-    ensures loan { W.loan writer.new.0 ≡ W.loan writer.old.0 }
+    ensures started { W.started writer.new.sink ≡ W.started writer.old.sink }
+    ensures loan { W.loan writer.new.sink ≡ W.loan writer.old.sink }
 {
     write_whole(alloc, schema, shared.image(), writer)
 }
@@ -119,7 +119,7 @@ fn write_whole<W: Sink>(
     image: &Image,
     writer: &mut Writer<W>,
 ) -> Result<usize, PieceFault>
-    requires fresh { writer.old.1 ≡ false }
+    requires fresh { writer.old.failed ≡ false }
     requires whole { IsWhole image.now }
     ensures answer { MakesPiece
         W.written
@@ -129,8 +129,8 @@ fn write_whole<W: Sink>(
         (group_message schema.now (rows_of image.now))
         result }
     ensures rows { IfOk result (λ count. count ≡ length (rows_of image.now)) }
-    ensures started { W.started writer.new.0 ≡ W.started writer.old.0 }
-    ensures loan { W.loan writer.new.0 ≡ W.loan writer.old.0 }
+    ensures started { W.started writer.new.sink ≡ W.started writer.old.sink }
+    ensures loan { W.loan writer.new.sink ≡ W.loan writer.old.sink }
 {
     if image.rows() == 0 {
         return Ok(0);

@@ -30,7 +30,7 @@ fn write_read<W: Sink>(
     read: BlockRows,
     writer: &mut Writer<W>,
 ) -> Result<Sent, PieceFault>
-    requires fresh { writer.old.1 ≡ false }
+    requires fresh { writer.old.failed ≡ false }
     requires fits { All (λ row. Fits schema.now row) (rows_in read) }
     requires few { length (rows_in read) ≤ 2 ^ 15 }
     ensures answer { MakesPiece
@@ -41,8 +41,8 @@ fn write_read<W: Sink>(
         (group_message schema.now (rows_in read))
         result }
     ensures sent { IfOk result (λ sent. sent ≡ counted (reply_in read ∷ [])) }
-    ensures started { W.started writer.new.0 ≡ W.started writer.old.0 }
-    ensures loan { W.loan writer.new.0 ≡ W.loan writer.old.0 }
+    ensures started { W.started writer.new.sink ≡ W.started writer.old.sink }
+    ensures loan { W.loan writer.new.sink ≡ W.loan writer.old.sink }
 {
     match read {
         BlockRows::Rows(rows) => match write_found(alloc, schema, rows, writer) {
@@ -70,12 +70,12 @@ fn send_block<R: Wait, L: Ledger, W: Sink>(
     requires room { HasRoomFor 1 session.old }
     requires busy { is_some (own_of session.old) ≡ true }
     requires block { HasBlock (shape_in store.now) table block }
-    requires fresh { writer.old.1 ≡ false }
+    requires fresh { writer.old.failed ≡ false }
     ensures sends { (own : Own) → own_of session.old ≡ Some own → SendsBlock store.now
         session.old session.new own table block
         W.written W.faults writer.old writer.new steps.old steps.new result }
-    ensures started { W.started writer.new.0 ≡ W.started writer.old.0 }
-    ensures loan { W.loan writer.new.0 ≡ W.loan writer.old.0 }
+    ensures started { W.started writer.new.sink ≡ W.started writer.old.sink }
+    ensures loan { W.loan writer.new.sink ≡ W.loan writer.old.sink }
 {
     let shape = store.shape();
     // A block has at most 2^15 slots, so that its batch can be written.
@@ -99,14 +99,14 @@ pub(crate) fn send_table<R: Wait, L: Ledger, W: Sink>(
     requires room { HasRoomFor (2 ^ 10) session.old }
     requires busy { is_some (own_of session.old) ≡ true }
     requires table { table < length (shape_in store.now).tables }
-    requires fresh { writer.old.1 ≡ false }
+    requires fresh { writer.old.failed ≡ false }
     ensures exports { (own : Own) → own_of session.old ≡ Some own
         → least_written table own ≡ None
         → Exports store.now session.old session.new table (sent_told own result)
-        (W.written writer.old.0) (W.written writer.new.0) steps.old steps.new }
-    ensures faults { CountsPiece result (W.faults writer.old.0) (W.faults writer.new.0) }
-    ensures started { W.started writer.new.0 ≡ W.started writer.old.0 }
-    ensures loan { W.loan writer.new.0 ≡ W.loan writer.old.0 }
+        (W.written writer.old.sink) (W.written writer.new.sink) steps.old steps.new }
+    ensures faults { CountsPiece result (W.faults writer.old.sink) (W.faults writer.new.sink) }
+    ensures started { W.started writer.new.sink ≡ W.started writer.old.sink }
+    ensures loan { W.loan writer.new.sink ≡ W.loan writer.old.sink }
 {
     let shape = store.shape();
     if let Err(fault) = writer.schema(shape.alloc(), shape.schema(table)) {

@@ -15,8 +15,8 @@ batch_message-requires-clause-few c =
     let nodes : length c.as_slice.result.now ≡ length arrays =
     ap length (c.as_slice.ensures.value ∙ c.in_ok-nodes.ensures) ∙ length-map arrays (λ (array : Array). (pos c.args.rows, pos array.nulls)) in
     let places : length c.as_slice-2.result.now ≡ length (flat_map (λ array. array.buffers) arrays) =
-    ap length (c.as_slice-2.ensures.value ∙ c.in_ok-body.ensures.places) ∙ length-places 0 (flat_map (λ array. array.buffers) arrays) in
-    omega (arith, nodes, places, c.requires)
+    ap length (c.as_slice-2.ensures.value ∙ c.requires.places) ∙ length-places 0 (flat_map (λ array. array.buffers) arrays) in
+    omega (arith, nodes, places, c.requires.few)
 
 pub returns : goal.returns
 returns c =
@@ -27,8 +27,8 @@ returns c =
     (λ (head : Vec ℕ Global). head.items ≡ continuation ++ to_le_bytes w32 (length (padded c.as_slice-3.result.now)) ++ padded c.as_slice-3.result.now)
     (λ (head : Vec ℕ Global). head.items ++ flat_map padded buffers ≡ message_of_batch (batch_of_arrays c.args.rows arrays))
     (λ head is.
-    message-is c.args.rows c.from.result c.in_ok-body.body.size nodes c.as_slice.result.now (buffer_places 0 buffers) c.as_slice-2.result.now
+    message-is c.args.rows c.from.result c.args.body.now.size nodes c.as_slice.result.now (buffer_places 0 buffers) c.as_slice-2.result.now
     (flat_map padded buffers) c.in_ok-metadata.metadata c.as_slice-3.result.now head.items
-    c.from.ensures (c.as_slice.ensures.value ∙ c.in_ok-nodes.ensures) (c.as_slice-2.ensures.value ∙ c.in_ok-body.ensures.places) c.in_ok-body.ensures.size
+    c.from.ensures (c.as_slice.ensures.value ∙ c.in_ok-nodes.ensures) (c.as_slice-2.ensures.value ∙ c.requires.places) c.requires.size
     c.in_ok-metadata.ensures.bytes c.as_slice-3.ensures is)
     c.framed.ensures

@@ -9,7 +9,7 @@ pub returns-in-Some-clause-exports : goal.returns-in-Some-clause-exports
 returns-in-Some-clause-exports g c =
     let st = c.args.store.now in
     let s = c.args.session.now in
-    let before = g.W.Sink.written c.args.writer.now.0 in
+    let before = g.W.Sink.written c.args.writer.now.sink in
     let key : to_z w64 (of_z w64 c.in-Some.key) ≡ c.in-Some.key = search rules in
     subst (λ (k : ℤ). Exports st s s c.args.table (said.Dirty k) before before c.args.steps.now c.args.steps.now) (sym key)
     (refused st s c.args.table c.in-Some.key before c.args.steps.now c.requires.session (c.dirty.ensures ∙ ap (λ (o : Option ℤ). Some o) c.in-Some.is))
@@ -20,7 +20,7 @@ returns-in-Ok-clause-exports g c =
     let o = own_open s c.requires.busy in
     let clean = clean_here s o.0 c.args.table c.dirty.result c.dirty.ensures o.1 c.in_default.is in
     subst (λ (n : ℕ). Exports c.args.store.now s c.send_table.new.session c.args.table (said.Exported n c.in-Ok.sent.rows c.in-Ok.sent.batches c.in-Ok.sent.frozen)
-    (g.W.Sink.written c.args.writer.now.0) (g.W.Sink.written c.send_table.new.writer.0) c.args.steps.now c.send_table.new.steps)
+    (g.W.Sink.written c.args.writer.now.sink) (g.W.Sink.written c.send_table.new.writer.sink) c.args.steps.now c.send_table.new.steps)
     (number_here s o.0 c.number-number.result c.number-number.ensures o.1)
     (c.in-Ok.ensures.exports o.0 o.1 clean)
 

@@ -26,9 +26,9 @@ loop-block-init g c =
     let st = c.args.store.now in
     let columns : c.schema.result.now ≡ columns_in (shape_in st) c.args.table = c.schema.ensures.columns ∙ ap (λ (sh : Shape). columns_in sh c.args.table) c.shape-shape.ensures in
     record {
-      sending = λ own is. sending_starts st own c.args.table c.args.session.now (g.W.Sink.written c.args.writer.now.0) (g.W.Sink.written c.schema-2.new.self.0)
+      sending = λ own is. sending_starts st own c.args.table c.args.session.now (g.W.Sink.written c.args.writer.now.sink) (g.W.Sink.written c.schema-2.new.self.sink)
           (record { rows = 0; batches = 0; frozen = 0 }) c.args.steps.now c.requires.session refl refl refl
-          (subst (λ (cs : List Column). Appends (g.W.Sink.written c.args.writer.now.0) (g.W.Sink.written c.schema-2.new.self.0) (schema_message cs)) columns c.in_default.ensures.answer.bytes);
+          (subst (λ (cs : List Column). Appends (g.W.Sink.written c.args.writer.now.sink) (g.W.Sink.written c.schema-2.new.self.sink) (schema_message cs)) columns c.in_default.ensures.answer.bytes);
       fresh = c.in_default.ensures.answer.after;
       started = c.schema-2.ensures.started;
       loan = c.schema-2.ensures.loan;
@@ -44,7 +44,7 @@ pub send_block-requires-clause-room : goal.send_block-requires-clause-room
 send_block-requires-clause-room g c =
     let o = own_open c.args.session.now c.requires.busy in
     let s = c.loop-block.invariant.sending o.0 o.1 in
-    let many = sending_count c.args.store.now o.0 c.args.table c.args.session.now c.loop-block.session c.loop-block.block (g.W.Sink.written c.args.writer.now.0) (g.W.Sink.written c.loop-block.writer.0)
+    let many = sending_count c.args.store.now o.0 c.args.table c.args.session.now c.loop-block.session c.loop-block.block (g.W.Sink.written c.args.writer.now.sink) (g.W.Sink.written c.loop-block.writer.sink)
     c.loop-block.sent c.args.steps.now c.loop-block.steps s in
     let count = s.went.count in
     let room = c.requires.room in
@@ -107,7 +107,7 @@ returns-in-Err-send_block-clause-exports g c own is clean =
     let below = c.loop-block-test.true in
     let end' = c.loop-block.auto.block-end in
     block_broke st own c.args.table c.args.session.now c.requires.session is clean g.W.Sink.written g.W.Sink.faults c.loop-block.session c.send_block.new.session c.loop-block.block
-    (g.W.Sink.written c.args.writer.now.0) c.loop-block.writer c.send_block.new.writer c.loop-block.sent c.args.steps.now c.loop-block.steps c.send_block.new.steps c.in-Err-send_block.fault s
+    (g.W.Sink.written c.args.writer.now.sink) c.loop-block.writer c.send_block.new.writer c.loop-block.sent c.args.steps.now c.loop-block.steps c.send_block.new.steps c.in-Err-send_block.fault s
     c.loop-block.invariant.fresh (omega (arith, blocks, below, end')) b
 
 pub returns-in-Err-send_block-clause-faults : goal.returns-in-Err-send_block-clause-faults
@@ -132,8 +132,8 @@ loop-block-preserved g c =
       sending = λ own is.
           let s = inv.sending own is in
           let b = c.in-Ok.ensures.sends own (s.went.opened ∙ is) in
-          sending_more st own c.args.table c.args.session.now c.loop-block.session c.send_block.new.session c.loop-block.block (g.W.Sink.written c.args.writer.now.0) (g.W.Sink.written c.loop-block.writer.0)
-          c.loop-block.sent c.args.steps.now c.loop-block.steps b.told s b.reads within (g.W.Sink.written c.send_block.new.writer.0) c.in-Ok.more c.add.new.self c.send_block.new.steps b.granted b.slots
+          sending_more st own c.args.table c.args.session.now c.loop-block.session c.send_block.new.session c.loop-block.block (g.W.Sink.written c.args.writer.now.sink) (g.W.Sink.written c.loop-block.writer.sink)
+          c.loop-block.sent c.args.steps.now c.loop-block.steps b.told s b.reads within (g.W.Sink.written c.send_block.new.writer.sink) c.in-Ok.more c.add.new.self c.send_block.new.steps b.granted b.slots
           b.writes.bytes b.counts b.few c.add.ensures.rows c.add.ensures.batches c.add.ensures.frozen;
       fresh = first.writes.after;
       started = c.send_block.ensures.started ∙ inv.started;
@@ -149,9 +149,9 @@ returns-in-Ok-finish-clause-exports g c own is clean =
     let done = c.loop-block-test.false in
     let end' = c.loop-block.auto.block-end in
     let all : c.loop-block.block ≡ blocks_of (shape_in st) c.args.table = omega (arith, blocks, done, end') in
-    ended st own c.args.table c.args.session.now c.requires.session is clean c.loop-block.session (g.W.Sink.written c.args.writer.now.0) (g.W.Sink.written c.loop-block.writer.0) (g.W.Sink.written c.finish.new.self.0)
+    ended st own c.args.table c.args.session.now c.requires.session is clean c.loop-block.session (g.W.Sink.written c.args.writer.now.sink) (g.W.Sink.written c.loop-block.writer.sink) (g.W.Sink.written c.finish.new.self.sink)
     c.loop-block.sent c.args.steps.now c.loop-block.steps
-    (subst (λ (k : ℕ). Sending st c.args.session.now c.loop-block.session own c.args.table k (g.W.Sink.written c.args.writer.now.0) (g.W.Sink.written c.loop-block.writer.0) c.loop-block.sent c.args.steps.now c.loop-block.steps) all s)
+    (subst (λ (k : ℕ). Sending st c.args.session.now c.loop-block.session own c.args.table k (g.W.Sink.written c.args.writer.now.sink) (g.W.Sink.written c.loop-block.writer.sink) c.loop-block.sent c.args.steps.now c.loop-block.steps) all s)
     c.in-Ok-finish.ensures.answer.bytes
 
 pub returns-in-Err-finish-clause-exports : goal.returns-in-Err-finish-clause-exports
@@ -162,7 +162,7 @@ returns-in-Err-finish-clause-exports g c own is clean =
     let done = c.loop-block-test.false in
     let end' = c.loop-block.auto.block-end in
     let all : c.loop-block.block ≡ blocks_of (shape_in st) c.args.table = omega (arith, blocks, done, end') in
-    end_broke st own c.args.table c.args.session.now c.requires.session is clean (Unit {0}) g.W.Sink.written g.W.Sink.faults c.loop-block.session (g.W.Sink.written c.args.writer.now.0) c.loop-block.writer c.finish.new.self
+    end_broke st own c.args.table c.args.session.now c.requires.session is clean (Unit {0}) g.W.Sink.written g.W.Sink.faults c.loop-block.session (g.W.Sink.written c.args.writer.now.sink) c.loop-block.writer c.finish.new.self
     c.loop-block.sent c.args.steps.now c.loop-block.steps c.in-Err-finish.fault
-    (subst (λ (k : ℕ). Sending st c.args.session.now c.loop-block.session own c.args.table k (g.W.Sink.written c.args.writer.now.0) (g.W.Sink.written c.loop-block.writer.0) c.loop-block.sent c.args.steps.now c.loop-block.steps) all s)
+    (subst (λ (k : ℕ). Sending st c.args.session.now c.loop-block.session own c.args.table k (g.W.Sink.written c.args.writer.now.sink) (g.W.Sink.written c.loop-block.writer.sink) c.loop-block.sent c.args.steps.now c.loop-block.steps) all s)
     c.loop-block.invariant.fresh c.in-Err-finish.ensures.answer

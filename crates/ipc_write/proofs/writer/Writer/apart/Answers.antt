@@ -1,7 +1,7 @@
 use Rattle.std.specs.Prelude.{flat_map}
 use Rattle.arrow_spec.specs.Bytes.{padded}
 use Rattle.ipc_write.proofs.PieceLemmas.{wrote-then}
-use Rattle.ipc_write.proofs.writer.Writer.message.Goals as goal
+use Rattle.ipc_write.proofs.writer.Writer.apart.Goals as goal
 
 pub returns-in-Ok-clause-answer : goal.returns-in-Ok-clause-answer
 returns-in-Ok-clause-answer g c =
