@@ -15,6 +15,3 @@ pub use pieces::behind;
 pub use reading::{head_in, read_line, told_in};
 pub use refusal::put_refusal;
 pub use rows::{row_in, rows_in};
-
-#[cfg(test)]
-mod tests;

@@ -5,7 +5,7 @@ ghost use Rattle.workload_spec.specs.Reading.{parts};
 ghost use Rattle.reply_text.specs.Readers.{cell_in, row_in, rows_in};
 
 use crate::pieces::behind;
-use cell_model::{Bytes, Cell, Row, Rows};
+use cell_model::{Cell, Row, Rows};
 use std::alloc::{AllocError, Global};
 use word_read::{blob_of, integer, split_line, split_word, text_of, truth_of, word_behind};
 
@@ -20,10 +20,10 @@ fn cell_in(alloc: Global, word: &[u8]) -> Result<Option<Cell>, AllocError>
         return Ok(Some(Cell::Truth(truth)));
     }
     if let Some(text) = text_of(alloc, word)? {
-        return Ok(Some(Cell::Text(Bytes::from(text))));
+        return Ok(Some(Cell::Text(text)));
     }
     if let Some(bytes) = blob_of(alloc, word)? {
-        return Ok(Some(Cell::Blob(Bytes::from(bytes))));
+        return Ok(Some(Cell::Blob(bytes)));
     }
     Ok(integer(word).map(Cell::Num))
 }

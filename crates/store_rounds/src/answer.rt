@@ -10,6 +10,7 @@ ghost use Rattle.store_rounds.specs.Answered.{Answered, IsServed, most_events, t
 ghost use Rattle.workload_spec.specs.Valid.{is_export};
 
 use crate::sending::send;
+use crate::spent::Spent;
 use crate::told::{begun, found, scanned, written};
 use byte_ports::{Failed, Sink};
 use shared_store::{Session, Store};
@@ -29,6 +30,7 @@ pub(crate) fn carry_out<R: Wait + Threads + Sync, X: Sink>(
     store: &Store,
     session: &mut Session,
     command: Command,
+    spent: &mut Spent,
     outlet: &mut X,
 ) -> Result<Said, Failed>
     requires session { IsSession store.now session.old }
@@ -43,7 +45,7 @@ pub(crate) fn carry_out<R: Wait + Threads + Sync, X: Sink>(
 {
     match command {
         Command::Export { table } => send(rt, store, session, table, outlet),
-        other => Ok(answer(rt, store, session, other)),
+        other => Ok(answer(rt, store, session, other, spent)),
     }
 }
 
@@ -55,6 +57,7 @@ fn answer<R: Wait + Threads + Sync>(
     store: &Store,
     session: &mut Session,
     command: Command,
+    spent: &mut Spent,
 ) -> Said
     requires session { IsSession store.now session.old }
     requires room { HasRoomFor most_events session.old }
@@ -73,8 +76,14 @@ fn answer<R: Wait + Threads + Sync>(
         Command::Begin => begun(store.begin(rt, session)),
         Command::Get { table, key } => found(store.get(rt, session, table, key)),
         Command::Scan { table } => scanned(store.scan(rt, session, table)),
-        Command::Insert { table, row } => written(table, store.insert(rt, session, table, row)),
-        Command::Update { table, row } => written(table, store.update(rt, session, table, row)),
+        Command::Insert { table, row } => {
+            let row = spent.renew(row);
+            written(table, store.insert(rt, session, table, row))
+        }
+        Command::Update { table, row } => {
+            let row = spent.renew(row);
+            written(table, store.update(rt, session, table, row))
+        }
         Command::Delete { table, key } => written(table, store.delete(rt, session, table, key)),
         Command::Commit => Said::Committed(store.commit(rt, session)),
         Command::Abort => {

@@ -19,6 +19,7 @@ use crate::agenda::{Agenda, agendas_of};
 use crate::crew::Crew;
 use crate::fault::RunFault;
 use crate::lines::Lines;
+use crate::spent::Spent;
 use std::alloc::{AllocError, Global};
 use workload_spec::{Command, Round};
 
@@ -43,13 +44,15 @@ pub(crate) struct Duty {
     pub task: Option<Task>,
     /// Its lines.
     pub lines: Lines,
+    /// The rows that it used up.
+    pub spent: Spent,
     /// Whether it came to its end and its lines are whole.
     pub ended: Result<(), RunFault>,
 }
 
 impl Duty {
-    /// A duty that is not taken on yet, in the round of this number.
-    fn new(alloc: Global, round: u32, task: Task) -> Duty
+    /// A duty that is not taken on yet, in the round of this number, beside others or not.
+    fn new(alloc: Global, round: u32, task: Task, beside_others: bool) -> Duty
         ensures { IsNew round task result }
     {
         let lines = Lines {
@@ -59,6 +62,7 @@ impl Duty {
         Duty {
             task: Some(task),
             lines,
+            spent: Spent::new(alloc, beside_others),
             ended: Ok(()),
         }
     }
@@ -158,11 +162,22 @@ fn session_duties(
     ensures { IfOk result (λ duties. AreOfSessions number agendas.items duties.items) }
 {
     let mut duties = Vec::with_capacity(alloc, room)?;
+    let beside_others = are_several(agendas.as_slice());
     for agenda in agendas {
         let Agenda { commands } = agenda;
-        duties.push(Duty::new(alloc, number, Task::Commands(commands)))?;
+        let task = Task::Commands(commands);
+        duties.push(Duty::new(alloc, number, task, beside_others))?;
     }
     Ok(duties)
+}
+
+/// Whether several sessions have commands.
+fn are_several(agendas: &[Agenda]) -> bool {
+    let busy = agendas
+        .iter()
+        .filter(|agenda| !agenda.commands.is_empty())
+        .count();
+    busy > 1
 }
 
 /// Puts the duties of a crew's workers behind those of its sessions.
@@ -181,7 +196,7 @@ fn add_workers(
             worker: at + 1,
             turns: crew.turns,
         };
-        duties.push(Duty::new(alloc, number, turns))?;
+        duties.push(Duty::new(alloc, number, turns, false))?;
     }
     Ok(())
 }
@@ -220,11 +235,7 @@ pub(crate) fn text_of(alloc: Global, duties: Vec<Duty>) -> Result<Vec<u8>, Alloc
 {
     let mut text = Vec::new(alloc);
     for duty in duties {
-        let Duty {
-            task: _,
-            lines,
-            ended: _,
-        } = duty;
+        let Duty { lines, .. } = duty;
         let Lines {
             round: _,
             text: more,

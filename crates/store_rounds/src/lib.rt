@@ -14,6 +14,7 @@ mod rounds;
 mod row;
 mod sending;
 mod serving;
+mod spent;
 mod told;
 mod turning;
 mod work;

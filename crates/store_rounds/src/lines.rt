@@ -10,6 +10,9 @@ use reply_text::put_line;
 use std::alloc::AllocError;
 use workload_spec::{ReplyLine, Said, Who};
 
+/// How many bytes a round's first line makes room for. Most rounds of a session need no more.
+const ROOM: usize = 256;
+
 /// The lines of a round, kept until it has ended.
 #[derive(Debug, Drop)]
 pub(crate) struct Lines {
@@ -39,10 +42,22 @@ impl Lines {
             index,
             said,
         };
-        match put_line(&mut self.text, tables, &line) {
+        match self.put_behind(tables, &line) {
             Ok(()) => Ok(()),
             Err(AllocError) => Err(RunFault::Memory),
         }
+    }
+
+    /// Puts the text of a line behind the others. The first of them makes room for more.
+    fn put_behind(&mut self, tables: &[TableDecl], line: &ReplyLine) -> Result<(), AllocError>
+        ensures round { self.new.round ≡ self.old.round }
+        ensures ok { OnOk result (self.new.text.items ≡ self.old.text.items
+            ++ reply_text tables.now line.now) }
+    {
+        if self.text.is_empty() {
+            self.text.reserve(ROOM)?;
+        }
+        put_line(&mut self.text, tables, line)
     }
 
     /// Puts a line behind the others as [`Lines::put`] does, unless one before it was lost.

@@ -105,15 +105,15 @@ fn export_by<R: Wait, L: Ledger, W: Sink>(
     requires room { HasRoomFor most_events session.old }
     requires busy { is_some (own_of session.old) ≡ true }
     requires table { table < length (shape_in store.now).tables }
-    requires fresh { writer.old.1 ≡ false }
+    requires fresh { writer.old.failed ≡ false }
     requires name { blank.name ≡ L.name }
     requires parts { blank.parts ≡ L.parts }
     requires some { 0 < L.parts }
     ensures exports { (steps : ℕ) × Exports store.now session.old session.new table
-        (exported_told result) (W.written writer.old.0) (W.written writer.new.0) 0 steps }
-    ensures faults { CountsFaults result (W.faults writer.old.0) (W.faults writer.new.0) }
-    ensures started { W.started writer.new.0 ≡ W.started writer.old.0 }
-    ensures loan { W.loan writer.new.0 ≡ W.loan writer.old.0 }
+        (exported_told result) (W.written writer.old.sink) (W.written writer.new.sink) 0 steps }
+    ensures faults { CountsFaults result (W.faults writer.old.sink) (W.faults writer.new.sink) }
+    ensures started { W.started writer.new.sink ≡ W.started writer.old.sink }
+    ensures loan { W.loan writer.new.sink ≡ W.loan writer.old.sink }
 {
     let mut steps = Steps::<L>::new(blank);
     export(store, rt, session, table, writer, &mut steps)

@@ -250,8 +250,11 @@ fn serve<R: Wait + Threads + Sync, G: Gate, X: Sink>(
         return;
     };
     let lines = &mut duty.lines;
+    let spent = &mut duty.spent;
     duty.ended = match task {
-        Task::Commands(commands) => work(rt, gate, store, session, commands, lines, outlet),
+        Task::Commands(commands) => {
+            work(rt, gate, store, session, commands, lines, spent, outlet)
+        }
         Task::Turns { worker, turns } => {
             make_turns(rt, alloc, gate, store, session, worker, turns, lines)
         }

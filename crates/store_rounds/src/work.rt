@@ -8,6 +8,7 @@ ghost use Rattle.store_rounds.specs.Workloads.{CountsExportFault};
 use crate::answer::carry_out;
 use crate::fault::RunFault;
 use crate::lines::Lines;
+use crate::spent::Spent;
 use byte_ports::{Gate, Sink};
 use shared_store::{Session, Store};
 use std::sync::Wait;
@@ -17,8 +18,8 @@ use workload_spec::{Command, Who};
 /// Carries out a session's commands of a round one after another, and puts their lines behind those
 /// of the round. An export goes to the outlet. The gate is passed before each command.
 ///
-/// Meanwhile the lines are kept on the thread's own stack: those of a round lie side by side, and
-/// threads that write to neighbours wait for each other's caches.
+/// Meanwhile the lines and the spent rows are kept on the thread's own stack: those of a round lie
+/// side by side, and threads that write to neighbours wait for each other's caches.
 ///
 /// # Errors
 ///
@@ -32,6 +33,7 @@ pub(crate) fn work<R: Wait + Threads + Sync, G: Gate, X: Sink>(
     session: &mut Session,
     commands: Vec<Command>,
     lines: &mut Lines,
+    spent: &mut Spent,
     outlet: &mut X,
 ) -> Result<(), RunFault>
     requires session { IsSession store.now session.old }
@@ -44,13 +46,17 @@ pub(crate) fn work<R: Wait + Threads + Sync, G: Gate, X: Sink>(
     ensures faults { CountsExportFault (X.faults outlet.old) (X.faults outlet.new) result }
     ensures started { X.started outlet.new ≡ X.started outlet.old }
 {
-    let empty = Vec::new(*lines.text.allocator());
+    let alloc = *lines.text.allocator();
     let mut own = Lines {
         round: lines.round,
-        text: std::mem::replace(&mut lines.text, empty),
+        text: std::mem::replace(&mut lines.text, Vec::new(alloc)),
     };
-    let ended = carry_out_all(rt, gate, store, session, commands, &mut own, outlet);
+    let mut rows = std::mem::replace(spent, Spent::new(alloc, false));
+    let ended = carry_out_all(
+        rt, gate, store, session, commands, &mut own, &mut rows, outlet,
+    );
     lines.text = own.text;
+    *spent = rows;
     ended
 }
 
@@ -62,6 +68,7 @@ fn carry_out_all<R: Wait + Threads + Sync, G: Gate, X: Sink>(
     session: &mut Session,
     commands: Vec<Command>,
     lines: &mut Lines,
+    spent: &mut Spent,
     outlet: &mut X,
 ) -> Result<(), RunFault>
     requires session { IsSession store.now session.old }
@@ -81,7 +88,7 @@ fn carry_out_all<R: Wait + Threads + Sync, G: Gate, X: Sink>(
         index += 1;
         let number = u32::try_from(index).unwrap_or(u32::MAX);
         gate.pass(rt, session.session_number(), number);
-        let Ok(said) = carry_out(rt, store, session, command, outlet) else {
+        let Ok(said) = carry_out(rt, store, session, command, spent, outlet) else {
             return Err(RunFault::Export);
         };
         let who = Who::Session(session.session_number());

@@ -31,7 +31,7 @@ returns-clause-served g c = elim c.match-task.branch [
       c.args.duty.now.lines.text.items w.work-duty.new.lines.text.items w.work-duty.result (g.X.Sink.written c.args.outlet.now) (g.X.Sink.written w.work-duty.new.outlet)) (sym w.session-is)
       w.work-duty.ensures.served)))))
   | in-Turns w ↦
-      (let after : Duty = record { task = c.match-task.duty.task; lines = c.match-task.duty.lines; ended = c.match-task.duty2 } in
+      (let after : Duty = record { task = c.match-task.duty.task; lines = c.match-task.duty.lines; spent = c.match-task.duty.spent; ended = c.match-task.duty2 } in
       let asked : c.args.duty.now.task ≡ Some (task.Turns w.in-Turns.worker w.in-Turns.turns) = cc (c.take.ensures.value, c.in-Some.is, w.in-Turns.is) in
       let text : w.make_turns-duty.new.lines.text.items ≡ c.match-task.duty.lines.text.items = ap (λ (d : Duty). d.lines.text.items) (sym w.duty-is) in
       subst (λ o. Served c.args.store.now c.args.session.now c.match-task.session c.args.duty.now after (g.X.Sink.written c.args.outlet.now) (g.X.Sink.written o)) (sym w.outlet-is)
