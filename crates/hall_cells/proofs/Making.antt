@@ -1,6 +1,6 @@
 -- What a pass knows of the marks after an event of its own.
-use Rattle.std.proofs.Common.{eqb, ne_eqb, true≢false, ◌≡◌, ℕ, zero, suc, ◌+◌, ◌<◌, Bool, true, false, List, [], ◌∷◌, ◌++◌, Option, None, Some, length, set, get_or-set_same, refl, sym, ap, subst, ◌∙◌, arith}
-use Rattle.std.specs.Prelude.{MatchBool, MatchOption, slice_index}
+use Rattle.std.proofs.Common.{eqb, ne_eqb, true≢false, ◌≡◌, ℕ, zero, suc, ◌+◌, ◌<◌, true, false, List, [], ◌∷◌, ◌++◌, Option, None, Some, length, set, get_or-set_same, refl, sym, ap, subst, ◌∙◌, arith}
+use Rattle.std.specs.Prelude.{MatchOption, slice_index}
 use Rattle.hall_cells.specs.Laws.{ended_closed, opened, raise_leaves}
 use Rattle.hall_cells.specs.Made.{MakesDeed, MakesNone}
 use Rattle.hall_cells.specs.Marks.{TookOnly, meaning_of, open_of, touches_part}
@@ -15,7 +15,7 @@ use Rattle.hall_rule.specs.declared.view.Entry.{Entry}
 use Rattle.hall_rule.specs.declared.view.View.{View}
 use Rattle.hall_rule.proofs.Lists.{by_cases}
 use Rattle.hall_rule.proofs.Logs.{replay_append}
-use Rattle.hall_steps.specs.Hall.{EndsWith, Joined, LooksOn, TookParts}
+use Rattle.hall_steps.specs.Hall.{EndsWith, LooksOn, TookParts}
 
 open_any : (sh parts : ℕ) (s : List ℕ) (q : ℕ) → open_of sh s q ≡ open_of parts s q
 open_any sh parts s zero = refl
@@ -56,10 +56,6 @@ module _ (parts : ℕ) (start : List ℕ) (passes : ℕ) where
       let room = ends.learned.room in
       ap (λ (x : List ℕ). open_of sh x q) state ∙ ended_closed sh s q (omega (arith, room, some'))
 
-  -- a session of a pass that was joined into another has its transaction still
-  pub joined_open : (sh : ℕ) (id other : ℕ) (v u w : View Deed) (q : ℕ) → Joined M id other v u w → has q u.sessions ≡ true → open_of sh (replay M u.log) q ≡ Some q → open_of sh (replay M w.log) q ≡ Some q
-  joined_open sh id other v u w q both mine was = open_any sh parts (replay M w.log) q ∙ (both.came.transactions q mine ∙ (open_any parts sh (replay M u.log) q ∙ was))
-
   -- the same over a take before the event and a give after it
   pub made_between : (deed : Deed) (said : List ℕ → Type 0) (v u w x : View Deed) (k : ℕ) → u.mine ≡ v.mine → x ≡ given w k → MakesDeed M deed said u w → MakesDeed M deed said v x
   made_between deed said v u w x k same gave made = subst (MakesDeed M deed said v) (sym gave) (record {
@@ -71,18 +67,15 @@ module _ (parts : ℕ) (start : List ℕ) (passes : ℕ) where
     state = made.state;
   })
 
+  -- where no event was made, none was over a take before and a give after
   pub none_between : (said : List ℕ → Type 0) (v u w x : View Deed) (k : ℕ) → u.mine ≡ v.mine → x ≡ given w k → MakesNone M said u w → MakesNone M said v x
   none_between said v u w x k same gave made = subst (MakesNone M said v) (sym gave) (record { mine = made.mine ∙ same; state = made.state })
 
+  -- a raise, made or not, over a take before and a give after
   pub raise_between : (r : Option ℕ) (deed : Deed) (full : List ℕ → Type 0) (said : ℕ → List ℕ → Type 0) (v u w x : View Deed) (k : ℕ) → u.mine ≡ v.mine → x ≡ given w k
       → MatchOption r (MakesNone M full u w) (λ was. MakesDeed M deed (said was) u w) → MatchOption r (MakesNone M full v x) (λ was. MakesDeed M deed (said was) v x)
   raise_between None deed full said v u w x k same gave m = none_between full v u w x k same gave m
   raise_between (Some was) deed full said v u w x k same gave m = made_between deed (said was) v u w x k same gave m
-
-  pub begin_between : (r : Bool) (deed : Deed) (free taken : List ℕ → Type 0) (v u w x : View Deed) (k : ℕ) → u.mine ≡ v.mine → x ≡ given w k
-      → MatchBool r (MakesDeed M deed free u w) (MakesNone M taken u w) → MatchBool r (MakesDeed M deed free v x) (MakesNone M taken v x)
-  begin_between true deed free taken v u w x k same gave m = made_between deed free v u w x k same gave m
-  begin_between false deed free taken v u w x k same gave m = none_between taken v u w x k same gave m
 
 only_zero : (k : ℕ) → eqb k 0 ≡ true → k ≡ 0
 only_zero k e = by_cases k 0 (k ≡ 0) (λ x. x) (λ ne. absurd (true≢false (sym e ∙ ne_eqb k 0 ne)))

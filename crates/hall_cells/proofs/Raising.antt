@@ -11,6 +11,7 @@ module _ {A : Type 0} where
   get_below (x ∷ xs) zero a e = omega arith
   get_below (x ∷ xs) (suc k) a e = let h : k < length xs = get_below xs k a e in omega (arith, h)
 
+-- a raised mark stands in the hand where it stood
 pub raise_room : (h h' : List (Option ℕ)) (p x y : ℕ) → slice_get h p ≡ Some (Some y) → h' ≡ set h p (Some x) → SameRoom h h'
 raise_room h h' p x y there is =
     let lt = get_below h p (Some y) there in
@@ -24,6 +25,7 @@ raise_room h h' p x y there is =
           (λ ne. (old.0, get_set_else h p k (Some x) ne ∙ old.1));
     })
 
+-- the hand agrees with the marks after the raise, and had the mark as it was before
 pub raise_meets : (h h' : List (Option ℕ)) (s : List ℕ) (p was by : ℕ) → Agrees h s → slice_get h p ≡ Some (Some was) → h' ≡ set h p (Some (was + by)) → Agrees h' (set s p (slice_index s p + by)) × (was ≡ slice_index s p)
 raise_meets h h' s p was by agrees there is =
     let lt = get_below h p (Some was) there in

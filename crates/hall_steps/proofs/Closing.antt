@@ -10,6 +10,7 @@ use Rattle.hall_rule.specs.declared.view.View.{View}
 use Rattle.hall_rule.proofs.Closes.{all_at, all_home, whole_log}
 use Rattle.hall_steps.specs.Hall.{Knows}
 
+-- When a pass has all hands and holds nothing, the slots have the parts that its log leaves.
 pub closed_parts : {P E T F : Type 0} (M : Meaning P E T F) (id : ℕ) (me : Me (Option P) (View E)) (hand : List (Option P)) (ws : List ℕ) (xs : List (Option P)) → Knows M id me hand → ((k : ℕ) → ¬ Holds hand k)
     → hands_of me.0 ≡ M.passes → Final (Seen (Rule M) id me.0) ws xs → xs ≡ all_in (replay M me.0.log)
 closed_parts {P} M id me hand ws xs knows empty all end' =

@@ -16,6 +16,7 @@ use Rattle.hall_rule.proofs.Opens.{above_to, below_to, sessions_to-distinct, ses
 use Rattle.hall_rule.proofs.Splits.{greatest_there}
 use Rattle.hall_steps.specs.Hall.{EachHand, IsNew, IsPass, IsSameSeat, Joined, Knows, first_of, spares_of}
 
+-- a number many times is a list so long
 pub replicate-length : (n x : ℕ) → length (replicate n x) ≡ n
 replicate-length zero x = refl
 replicate-length (suc n) x = let h = replicate-length n x in omega (arith, h)
@@ -31,10 +32,12 @@ module _ {P : Type 0} (Q : List (Option P) → Type 0) where
   each_take (suc n) [] a = tt
   each_take (suc n) (h ∷ hs) a = (a.0, each_take n hs a.1)
 
+  -- what holds of each of two lists of hands holds of both in a row
   pub each_append : (hs gs : List (List (Option P))) → EachHand Q hs → EachHand Q gs → EachHand Q (hs ++ gs)
   each_append [] gs a b = b
   each_append (h ∷ hs) gs a b = (a.0, each_append hs gs a.1 b)
 
+  -- what holds of each hand, and of one without places, holds of the first
   pub each_first : (hs : List (List (Option P))) → EachHand Q hs → Q [] → Q (first_of hs)
   each_first [] a none' = none'
   each_first (h ∷ hs) a none' = a.0
@@ -43,12 +46,15 @@ module _ {P : Type 0} (Q : List (Option P) → Type 0) where
   each_spare [] a = tt
   each_spare (h ∷ hs) a = a.1
 
+-- no part lies in the hand
 abbrev pub Empty : {P : Type 0} → List (Option P) → Type 0
 Empty hand = (k : ℕ) → ¬ Holds hand k
 
+-- a hand without places is empty
 pub nothing : {P : Type 0} → Empty {P = P} []
 nothing k h = let e : None ≡ Some (Some h.0) = h.1 in absurd (cc)
 
+-- an empty hand with an empty place more is empty
 pub empty_more : {P : Type 0} (h : List (Option P)) → Empty h → Empty (h ++ None ∷ [])
 empty_more [] empty zero held = let e : Some None ≡ Some (Some held.0) = held.1 in absurd (cc)
 empty_more [] empty (suc k) held = nothing k held
@@ -75,6 +81,7 @@ spares_append : {P : Type 0} (Q : List (Option P) → Type 0) (hs gs : List (Lis
 spares_append Q [] gs a b = each_spare Q gs b
 spares_append Q (h ∷ hs) gs a b = each_append Q hs gs a b
 
+-- where the first of further hands is empty, what the first of all holds, the first in front does
 pub held_before : {P : Type 0} (hs gs : List (List (Option P))) → Empty (first_of gs) → (k : ℕ) → Holds (first_of (hs ++ gs)) k → Holds (first_of hs) k
 held_before [] gs empty k h = absurd (empty k h)
 held_before (x ∷ hs) gs empty k h = h
@@ -207,26 +214,6 @@ module _ {P E T F : Type 0} (M : Meaning P E T F) where
         r.1,
         none',
       )
-
-  -- a pass without a hand
-  pub noted_pass : (z : TableId) (s f u : Seat (Option P) (View E)) (hands : List (List (Option P))) (n : ℕ) → IsPass M z s hands → f.table_id ≡ z → f.me ≡ (newcomer s.me.0 [], [])
-      → IsSameSeat f u → Sees M f.id f.me.0 n u.me → IsPass M z u [] × IsNew M s.me.0 u.me.0 []
-  noted_pass z s f u hands n pass table made fu sees =
-      let v = s.me.0 in
-      let sees' : Sees M u.id (newcomer v []) n u.me = subst (λ (i : ℕ). Sees M i (newcomer v []) n u.me) (sym fu.1) (subst (λ (x : Me (Option P) (View E)). Sees M f.id x.0 n u.me) made sees) in
-      let r = new_knows u.id v [] n u.me [] pass.of.1.stages nothing sees' in
-      (record { of = (fu.0 ∙ table, r.0); count = sym (ap length r.1.hands); places = tt; spares = tt }, r.1)
-
-  -- the pass that noted it
-  pub noting_pass : (z : TableId) (s t : Seat (Option P) (View E)) (hands : List (List (Option P))) → IsPass M z s hands → IsSameSeat s t → t.me ≡ (s.me.0, s.me.1) → IsPass M z t hands
-  noting_pass z s t hands pass st same =
-      let at_id : Knows M t.id s.me (first_of hands) = subst (λ (i : ℕ). Knows M i s.me (first_of hands)) (sym st.1) pass.of.1 in
-      record {
-        of = (st.0 ∙ pass.of.0, subst (λ (x : Me (Option P) (View E)). Knows M t.id x (first_of hands)) (sym same) at_id);
-        count = pass.count ∙ ap (λ (x : Me (Option P) (View E)). length x.0.sessions) (sym same);
-        places = pass.places;
-        spares = pass.spares;
-      }
 
   -- two passes that became one
   pub joined_pass : (laws : Laws M) (z : TableId) (s e f t : Seat (Option P) (View E)) (hands theirs hands' : List (List (Option P))) (n : ℕ) → IsPass M z s hands → IsPass M z e theirs → Empty (first_of theirs)

@@ -20,14 +20,17 @@ use Rattle.atomic_table.specs.declared.shared.Seat.{Seat}
 use Rattle.hall_steps.specs.Hall.{EndsWith, Extends, IsOf, IsSameSeat, Knows, Looks, LooksOn}
 
 module _ {A : Type 0} where
+  -- a place where something stands is within the list
   pub get_below : (l : List A) (k : ℕ) (a : A) → slice_get l k ≡ Some a → k < length l
   get_below [] k a e = absurd (cc)
   get_below (x ∷ xs) zero a e = omega arith
   get_below (x ∷ xs) (suc k) a e = let h : k < length xs = get_below xs k a e in omega (arith, h)
 
+  -- what two `Some` hold is the same
   pub some_is : (a b : A) → Some a ≡ Some b → a ≡ b
   some_is a b e = cc
 
+  -- what is there is not nothing
   pub not_none : (a : A) (Q : Type 0) → Some a ≡ None → Q
   not_none a Q e = absurd (cc)
 
@@ -39,6 +42,7 @@ module _ {P : Type 0} where
   place (Some p ∷ hs) zero lt = inr (p, refl)
   place (h ∷ hs) (suc k) lt = place hs k (omega (arith, lt))
 
+  -- where two hands have the same parts, the later holds what the earlier does
   pub same_holds : (g h : List (Option P)) → SameRoom g h → (k : ℕ) → Holds h k → Holds g k
   same_holds g h same k held =
       let lt = get_below h k (Some held.0) held.1 in
@@ -229,11 +233,13 @@ module _ {P E T F : Type 0} (M : Meaning P E T F) where
   pub taken_at : (s l t : Seat (Option P) (View E)) (k : ℕ) (log : List (Entry E)) → l.me ≡ (staged s.me.0 k 1, []) → t.me ≡ (homed (loaded l.me.0 k log), []) → t.me.0.taken ≡ s.me.0.taken ++ k ∷ []
   taken_at s l t k log latched after' = ap (λ (m : Me (Option P) (View E)). m.0.taken) after' ∙ ap (λ (m : Me (Option P) (View E)). m.0.taken) latched
 
+  -- What a pass knows after a part was given back.
   pub gave_at : (z : TableId) (s t : Seat (Option P) (View E)) (hand hand' : List (Option P)) (k : ℕ) (p : P) → IsOf M z s hand → slice_get hand k ≡ Some (Some p)
       → IsSameSeat s t → t.me ≡ (given s.me.0 k, []) → hand' ≡ set hand k None → IsOf M z t hand'
   gave_at z s t hand hand' k p pass there st after' hands =
       (st.0 ∙ pass.0, known_at s.id t.id (given s.me.0 k, []) t.me (set hand k None) hand' st.1 after' hands (gave s.id s.me.0 hand k p (at_rest s.id s.me hand pass.1) there))
 
+  -- What it knows after an event of its own.
   pub made_at : (laws : Laws M) (z : TableId) (s t : Seat (Option P) (View E)) (hand hand' : List (Option P)) (e : Entry E) (before : List (Entry E)) → IsOf M z s hand → Asks M laws hand s.me.0 e.event → (e.refused ≡ true → M.takes_memory e.event ≡ true) → length s.me.0.mine < 2 ^ 56 * hands_of s.me.0 → e.pass ≡ s.id → has e.session s.me.0.sessions ≡ true
       → SameRoom hand hand'
       → ((x : List P) → M.sound x → Agrees hand x → M.stands e.event x → M.fits e.event x → MatchBool e.refused (hand' ≡ hand) (Agrees hand' (M.effect e.event x)))
@@ -244,10 +250,12 @@ module _ {P E T F : Type 0} (M : Meaning P E T F) where
         (st, subst (λ (x : View E). EndsWith M s.id s.me.0 before e x) (sym (ap (λ (m : Me (Option P) (View E)). m.0) after')) r.1),
       )
 
+-- of two facts that hold where a test does, the first
 pub match_first : (P Q R : Type 0) (b : Bool) → MatchBool b P (Q × R) → MatchBool b P Q
 match_first P Q R true m = m
 match_first P Q R false m = m.0
 
+-- and the second
 pub match_second : (P Q R : Type 0) (b : Bool) → MatchBool b P (Q × R) → MatchBool b P R
 match_second P Q R true m = m
 match_second P Q R false m = m.1
@@ -260,15 +268,19 @@ module _ {C P E R S T F : Type 0} (t : Ghosts C P E R S T F) (core : C) (passes 
   abbrev Lawful : S → List P → Type 0
   Lawful sh x = t.sound sh x × Agrees hand x × t.stands sh event x × t.fits sh event x
 
+  -- the hand has what the event makes of its parts, or is as it was where the event was refused
   abbrev pub Meets : S → Type 0
   Meets sh = (x : List P) → t.sound sh x → Agrees hand x → t.stands sh event x → t.fits sh event x → MatchBool (t.refused reply) (hand' ≡ hand) (Agrees hand' (t.effect sh event x) × (reply ≡ t.reply sh event x))
 
+  -- the event adds no more than its cost
   abbrev pub Costs : S → Type 0
   Costs sh = (x : List P) → t.sound sh x → Agrees hand x → t.stands sh event x → t.fits sh event x → new ≤ old + t.cost sh event x
 
+  -- an event stands at the log's end, with its reply and what it made of the hand
   abbrev pub Done : S → Type 0
   Done sh = (before : List (Entry E)) × Extends M s before (entry_of s.id s.me.0 (t.refused reply) event) u × MatchBool (t.refused reply) (hand' ≡ hand) (reply ≡ t.reply sh event (replay M before)) × (new ≤ old + t.cost sh event (replay M before))
 
+  -- An event that met its parts and costs what it may is done, and its pass knows of it.
   pub finish : (sh : S) → sh ≡ t.shape_of core → IsOf M z s hand → Asks M laws hand s.me.0 event → (t.refused reply ≡ true → t.takes_memory event ≡ true) → length s.me.0.mine < 2 ^ 56 * hands_of s.me.0 → SameRoom hand hand' → Meets sh → Costs sh → (n : ℕ) → Adds M s.id s.me.0 (entry_of s.id s.me.0 (t.refused reply) event) n u.me → IsSameSeat s u
       → IsOf M z u hand' × Done sh
   finish sh is pass asks may few same meets costs n told st =

@@ -5,7 +5,7 @@ use Rattle.atomic_table.specs.Seated.{TableId}
 use Rattle.atomic_table.specs.declared.shared.Seat.{Seat}
 use Rattle.hall_rule.specs.EventLog.{Spares}
 use Rattle.hall_rule.specs.HallInvariant.{hands_of}
-use Rattle.hall_rule.specs.Hands.{Covers, Holds, IsNext, IsNextHeld, NoneBetween}
+use Rattle.hall_rule.specs.Hands.{Holds, IsNext, IsNextHeld}
 use Rattle.hall_rule.specs.Meaning.{Meaning}
 use Rattle.hall_rule.specs.Views.{Stays, given, with_hand_of}
 use Rattle.hall_rule.specs.declared.view.Entry.{Entry}
@@ -32,6 +32,7 @@ module _ {P : Type 0} (touches : List (Option P) → ℕ → Bool) where
     pub only : (k : ℕ) → Holds hand k → touches hand k ≡ true
     pub covered : (k : ℕ) → k < from → touches hand k ≡ true → Holds hand k
 
+  -- before any part was gone through nothing is held
   pub walk_starts : (hand : List (Option P)) → ((k : ℕ) → ¬ Holds hand k) → Walked 0 hand
   walk_starts hand empty = record {
     below = λ k h. absurd (empty k h);
@@ -39,10 +40,8 @@ module _ {P : Type 0} (touches : List (Option P) → ℕ → Bool) where
     covered = λ k lt _. absurd (omega (arith, lt));
   }
 
-  pub walk_ends : (from : ℕ) (hand : List (Option P)) → Walked from hand → NoneBetween (touches hand) from (length hand) → Covers touches hand
-  walk_ends from hand w none' k lt touched = below_or k from (Holds hand k) (λ b. w.covered k b touched) (λ a. absurd (true≢false (sym touched ∙ none' k a lt)))
-
   module _ (ascends : (h i : List (Option P)) (k : ℕ) → ((j : ℕ) → j < k → slice_get h j ≡ slice_get i j) → touches h k ≡ touches i k) where
+    -- the next part that the event touches is taken
     pub walk_on : (from part : ℕ) (hand hand' : List (Option P)) (p : P) → Walked from hand → IsNext (touches hand) from (length hand) (Some part) → hand' ≡ set hand part (Some p) → Walked (part + 1) hand'
     walk_on from part hand hand' p w next is =
         let le = next.0 in
@@ -63,9 +62,11 @@ module _ {P : Type 0} (touches : List (Option P) → ℕ → Bool) where
         }
 
 module _ {P E : Type 0} where
+  -- at first nothing was taken since
   pub took_none : (hand : List (Option P)) (v : View E) → TookParts hand v v
   took_none hand v = record { parts = []; taken = sym (append-nil v.taken); held = λ k h. absurd (true≢false (sym h)) }
 
+  -- one part more was taken
   pub took_more : (hand hand' : List (Option P)) (v w x : View E) (part : ℕ) (p : P) → part < length hand → hand' ≡ set hand part (Some p) → TookParts hand v w → x.taken ≡ w.taken ++ part ∷ [] → TookParts hand' v x
   took_more hand hand' v w x part p lt is took more = record {
     parts = took.parts ++ part ∷ [];
@@ -77,6 +78,7 @@ module _ {P E : Type 0} where
   }
 
 module _ {P E T F : Type 0} (M : Meaning P E T F) where
+  -- What was known of a log stays known of it.
   pub stays_put : (sessions : List ℕ) (log : List (Entry E)) → Stays M sessions log log
   stays_put sessions log =
       let e : log ≡ log ++ [] = sym (append-nil log) in
@@ -101,9 +103,11 @@ module _ {P E T F : Type 0} (M : Meaning P E T F) where
         facts = λ f h. b.facts f (a.facts f h);
       }
 
+  -- a view that is as it was sees as much
   pub sees_same : (v : View E) → SeesMore M v v
   sees_same v = record { joined = refl; sessions = refl; mine = refl; sole = refl; stays = stays_put v.sessions v.log }
 
+  -- one that looks on from a view that sees more sees more too
   pub sees_on : (id : ℕ) (v w x : View E) → SeesMore M v w → LooksOn M id w x → SeesMore M v x
   sees_on id v w x a b =
       let l = b.learned in
@@ -142,5 +146,6 @@ module _ {P : Type 0} where
       let was : Holds hand k = (held.0, sym (get_set_else hand part k None ne) ∙ (ap (λ x. slice_get x k) (sym is) ∙ held.1)) in
       below_or k from ⊥ (λ b. gone k b was) (λ a. next.2 k a (omega (arith, lt, ne)) was))
 
+  -- where no held part comes next the hand is empty
   pub none_left : (from : ℕ) (hand : List (Option P)) → ((k : ℕ) → k < from → ¬ Holds hand k) → IsNextHeld hand from None → (k : ℕ) → ¬ Holds hand k
   none_left from hand gone none' k held = below_or k from ⊥ (λ b. gone k b held) (λ a. none' k a held)

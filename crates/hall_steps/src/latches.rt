@@ -15,13 +15,17 @@ use std::hint::spin_loop;
 use std::marker::Brand;
 use std::sync::Wait;
 use std::sync::atomic::{AtomicU64, Ordering};
+use std::thread::yield_now;
 
-/// How often a latch that another pass holds is tried again before its taker sleeps, which costs a
-/// system call of each of the two.
-const TRIES: u32 = 2048;
+/// How often a latch that another pass holds is looked at: for as long as most events hold a part.
+const LOOKS: u32 = 64;
 
-/// How many pauses the processor makes between two tries.
+/// How many pauses the processor makes before each look.
 const PAUSES: u32 = 2;
+
+/// How often its taker lets other threads run before it sleeps, which costs a call of the system of
+/// each of the two.
+const TURNS: u32 = 256;
 
 /// Tries the latch of a part once.
 fn try_latch<C: Parts>(board: &Board<C>, seat: &mut Place<C>, part: u32) -> bool
@@ -35,6 +39,13 @@ fn try_latch<C: Parts>(board: &Board<C>, seat: &mut Place<C>, part: u32) -> bool
     latch_as::<C, Brand>(board, seat, part) == 0
 }
 
+/// Whether the latch of a part was free a moment ago, as far as a look at its word tells.
+fn looks_free<C: Parts>(board: &Board<C>, part: u32) -> bool
+    requires { part + 1 < board.now.table_id.words }
+{
+    board.peek(part as usize + 1) == 0
+}
+
 /// Waits a little, without sleeping.
 fn pause() {
     for _ in 0..PAUSES {
@@ -42,9 +53,10 @@ fn pause() {
     }
 }
 
-/// Tries the latch of a part again for as long as a part is held by most events, and tells whether
-/// it was taken.
-fn try_again<C: Parts>(board: &Board<C>, seat: &mut Place<C>, part: u32) -> bool
+/// Tries the latch of a part for a while, and tells whether it was taken. Until it looks free it is
+/// only read, so that who holds it need not wait for the memory that it shares with those who want
+/// it.
+fn try_soon<C: Parts>(board: &Board<C>, seat: &mut Place<C>, part: u32) -> bool
     requires at { IsAt (planned C.Parts board.now.key) board.now.table_id seat.old part }
     requires none_out { seat.old.me.1 ≡ [] }
     requires away { stage seat.old.me.0 part ≡ 0 }
@@ -52,9 +64,28 @@ fn try_again<C: Parts>(board: &Board<C>, seat: &mut Place<C>, part: u32) -> bool
     ensures seat { IsSameSeat seat.old seat.new }
     ensures taken { seat.new.me ≡ (cond result (staged seat.old.me.0 part 1) seat.old.me.0, []) }
 {
-    for _ in 0..TRIES {
+    for _ in 0..LOOKS {
         pause();
-        if try_latch(board, seat, part) {
+        if looks_free(board, part) && try_latch(board, seat, part) {
+            return true;
+        }
+    }
+    false
+}
+
+/// The same, where other threads run between two looks: who holds the part may be waiting for a
+/// processor.
+fn try_later<C: Parts>(board: &Board<C>, seat: &mut Place<C>, part: u32) -> bool
+    requires at { IsAt (planned C.Parts board.now.key) board.now.table_id seat.old part }
+    requires none_out { seat.old.me.1 ≡ [] }
+    requires away { stage seat.old.me.0 part ≡ 0 }
+    requires hand { hands_of seat.old.me.0 ≢ 0 }
+    ensures seat { IsSameSeat seat.old seat.new }
+    ensures taken { seat.new.me ≡ (cond result (staged seat.old.me.0 part 1) seat.old.me.0, []) }
+{
+    for _ in 0..TURNS {
+        yield_now();
+        if looks_free(board, part) && try_latch(board, seat, part) {
             return true;
         }
     }
@@ -96,7 +127,7 @@ fn latch<C: Parts, R: Wait>(
     ensures seat { IsSameSeat seat.old seat.new }
     ensures taken { seat.new.me ≡ (staged seat.old.me.0 part 1, []) }
 {
-    if try_latch(board, seat, part) || try_again(board, seat, part) {
+    if try_latch(board, seat, part) || try_soon(board, seat, part) || try_later(board, seat, part) {
         return;
     }
     waiting[part as usize].fetch_add(1, Ordering::SeqCst);
