@@ -92,6 +92,7 @@ own_stamped : (session stamp number q : ℕ) (u : Undo Before) (b : Bool) → is
 own_stamped session stamp number q u true own = ap (λ b. is_none (cond b (Some stamp) u.stamp) && not (is_move u.kind) && eqb u.session q) own
 own_stamped session stamp number q u false own = ap (λ b. is_none (cond b (Some stamp) u.stamp) && not (is_move u.kind) && eqb u.session q) own
 
+-- a commit's stamps make no entry a session's own that was not
 pub stamped_fewer : (session stamp number q : ℕ) (es : List (Undo Before)) →
     list_any (λ undo. is_own undo q) (map (stamped session stamp number) es) ≡ true → list_any (λ undo. is_own undo q) es ≡ true
 stamped_fewer session stamp number q [] own = own
@@ -105,6 +106,7 @@ stamped_fewer session stamp number q (e ∷ es) own =
     go true false some all own rest = rest own
     go false false some all own rest = rest own
 
+-- after its commit a session has no entry of its own
 pub stamped_none_left : (session stamp number : ℕ) (es : List (Undo Before)) →
     list_any (λ undo. is_own undo session) (map (stamped session stamp number) es) ≡ false
 stamped_none_left session stamp number [] = refl
@@ -141,6 +143,7 @@ lays_stamped : (row : Option Row) (session stamp number : ℕ) (es : List (Undo 
 lays_stamped row session stamp number [] lays = tt
 lays_stamped row session stamp number (e ∷ es) lays = (lays.0, lays_stamped (laid_back row e.before) session stamp number es lays.1)
 
+-- entries with a commit's stamps can be laid back as before
 pub kept_stamped : (rows : RowsValue) (k : ℕ) (row : Option Row) (session stamp number : ℕ) (es now : List (Undo Before)) → now ≡ map (stamped session stamp number) es →
     IsKept rows k row es → IsKept rows k row now
 kept_stamped rows k row session stamp number es now is kept =
@@ -165,6 +168,7 @@ stamped_each session stamp number chains new slots all after k = go (is_listed s
     go false true listed mine is = let never : true ≡ false = sym (all k mine) ∙ listed in cc
     go false false listed mine is = is ∙ sym (stamped_none session stamp number (entries_at chains k) mine)
 
+-- what a commit makes of each slot's entries it makes of the slots
 pub committed_slots : (session stamp number : ℕ) (chains new : Chains) (rows : List (Option Row)) →
     ((k : ℕ) → entries_at new k ≡ map (stamped session stamp number) (entries_at chains k)) →
     slots_from (entries_at new) 0 rows ≡ map (committed session stamp number) (slots_from (entries_at chains) 0 rows)
@@ -173,6 +177,7 @@ committed_slots session stamp number chains new rows each =
 
 -- ---- a pruning
 
+-- among entries that are left none is a session's own without having been one before
 pub filtered_fewer : (p : Undo Before → Bool) (q : ℕ) (es : List (Undo Before)) →
     list_any (λ undo. is_own undo q) (filter p es) ≡ true → list_any (λ undo. is_own undo q) es ≡ true
 filtered_fewer p q [] own = own
@@ -193,6 +198,7 @@ fits_filtered columns p (e ∷ es) all = go (p e) (fits_filtered columns p es (A
     go true rest = All-cons (λ (undo : Undo Before). BeforeFits columns undo.before) e (filter p es) (All-head (λ (undo : Undo Before). BeforeFits columns undo.before) e es all) rest
     go false rest = rest
 
+-- where all entries may be pruned none is left
 pub all_dropped : (oldest : ℕ) (es : List (Undo Before)) → All (λ undo. is_stamped_by undo oldest ≡ true) es → filter (λ undo. not (is_stamped_by undo oldest)) es ≡ []
 all_dropped oldest [] all = refl
 all_dropped oldest (e ∷ es) all =
@@ -211,6 +217,7 @@ lays_pruned row oldest (e ∷ es) lawful lays = go (is_stamped_by e oldest) refl
         all_dropped oldest es (All-tail (λ undo. is_stamped_by undo oldest ≡ true) e es (all_stamped oldest e es lawful is)) in
         subst (LaysBack row) (sym none) tt
 
+-- what a pruning leaves of a slot's entries can still be laid back
 pub kept_pruned : (rows : RowsValue) (k : ℕ) (row : Option Row) (oldest : ℕ) (es now : List (Undo Before)) → now ≡ filter (λ undo. not (is_stamped_by undo oldest)) es → IsLawful es →
     IsKept rows k row es → IsKept rows k row now
 kept_pruned rows k row oldest es now is lawful kept =
@@ -221,12 +228,14 @@ kept_pruned rows k row oldest es now is lawful kept =
       lays = lays_pruned row oldest es lawful kept.lays;
     })
 
+-- what a pruning makes of each slot's entries it makes of the slots
 pub pruned_slots : (oldest : ℕ) (chains new : Chains) (rows : List (Option Row)) →
     ((k : ℕ) → entries_at new k ≡ filter (λ undo. not (is_stamped_by undo oldest)) (entries_at chains k)) →
     slots_from (entries_at new) 0 rows ≡ map (pruned oldest) (slots_from (entries_at chains) 0 rows)
 pruned_slots oldest chains new rows each =
     slots-map (entries_at chains) (entries_at new) rows rows (pruned oldest) refl (λ k lt. ap (slot_of (get_or rows k None)) (each k))
 
+-- what a pruning drops of some slots adds to what it drops of those below
 pub pruned_count : (f : ℕ → List (Undo Before)) (oldest at : ℕ) (rows : List (Option Row)) →
     sum_by (λ slot. count_by (λ undo. is_stamped_by undo oldest) slot.entries) (slots_from f at rows) + stamped_below f oldest at ≡ stamped_below f oldest (at + length rows)
 pruned_count f oldest at [] =

@@ -4,6 +4,7 @@ use Rattle.std.specs.Prelude.{◌↔◌, IsTrue, IsSome, slice_set, is_some, cou
 use Rattle.std.proofs.Math.ListN.{length-set}
 use Rattle.std.proofs.lemmas.List.Sums.{sum_by-set, count_by-le-length}
 
+-- how many slots have a row after one of them was set, against how many had before
 pub count-set : {X : Type 0} (rows : List (Option X)) (j : ℕ) (row : Option X) → j < length rows →
     count_by is_some (slice_set rows j row) + cond (is_some (get_or rows j None)) 1 0 ≡ count_by is_some rows + cond (is_some row) 1 0
 count-set rows j row lt = sum_by-set (λ r. cond (is_some r) 1 0) rows j row None lt

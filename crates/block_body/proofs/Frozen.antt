@@ -1,4 +1,4 @@
--- An image with the buffers of the batch of all rows.
+-- An image with the form of all rows.
 use Rattle.std.proofs.Common.{◌≡◌, ◌∙◌, ℕ, Bool, List, [], ◌∷◌, Option, Some, map, length, refl, sym, ap, subst}
 use Rattle.std.specs.Prelude.{flat_map, option_to_list}
 use Rattle.std.specs.List.{enumerate_from}
@@ -10,7 +10,7 @@ use Rattle.arrow_spec.specs.Batches.{Array, arrays_of, column_cells}
 use Rattle.block_spec.specs.declared.phase.Phase.{Phase}
 use Rattle.block_spec.specs.Slots.{Row, Slot}
 use Rattle.block_spec.specs.Bodies.{Body as BodyValue}
-use Rattle.block_columns.specs.Images.{ImageValue, IsWhole, rows_of}
+use Rattle.block_columns.specs.Images.{FormValue, ImageValue, IsFormOf, IsWhole, rows_of}
 use Rattle.block_body.specs.Bodies.{body_value}
 use Rattle.block_body.specs.Chains.{Chains, entries_at}
 use Rattle.block_body.specs.Frozen.{IsImageOf, image_of}
@@ -24,30 +24,29 @@ arrays_long columns rows =
     ∙ length-enumerate_from 0 columns
 
 -- it has a list of buffers for each column
-pub whole_long : (image : ImageValue) → IsWhole image → length image.buffers ≡ length image.columns
-whole_long image whole = ap length whole.buffers ∙ arrays_long image.columns (rows_of image)
+pub whole_long : (image : ImageValue) → IsWhole image → length image.form.buffers ≡ length image.columns
+whole_long image whole = ap length whole.form.buffers ∙ arrays_long image.columns (rows_of image)
 
 rows_again : (batch : List Row) → flat_map (λ slot. option_to_list slot) (map (λ row. Some row) batch) ≡ batch
 rows_again [] = refl
 rows_again (row ∷ batch) = ap (λ (l : List Row). row ∷ l) (rows_again batch)
 
 -- and is the image of the rows
-pub whole_is : (columns : List Column) (slots : List (Option Row)) (buffers : List (List (List ℕ))) → IsWhole (image_of columns slots buffers) →
-    IsImageOf columns slots (image_of columns slots buffers)
-whole_is columns slots buffers whole = record {
+pub whole_is : (columns : List Column) (slots : List (Option Row)) (form : FormValue) → IsWhole (image_of columns slots form) →
+    IsImageOf columns slots (image_of columns slots form)
+whole_is columns slots form whole = record {
   columns_are = refl;
   slots_are = refl;
   rows = refl;
-  buffers = λ batch are.
-      whole.buffers
-      ∙ ap (λ (l : List (Option Row)). map (λ (array : Array). array.buffers) (arrays_of columns (flat_map (λ slot. option_to_list slot) l))) are
-      ∙ ap (λ (l : List Row). map (λ (array : Array). array.buffers) (arrays_of columns l)) (rows_again batch);
+  form = λ batch are.
+      subst (λ (l : List Row). IsFormOf columns l form)
+      (ap (λ (l : List (Option Row)). flat_map (λ slot. option_to_list slot) l) are ∙ rows_again batch) whole.form;
 }
 
 -- what makes a body's image whole makes that of its rows whole
-pub whole_rows : (rows : RowsValue) (chains : Chains) (phase : Phase) (cooling : Bool) (rounds last : ℕ) (body : BodyValue) (buffers : List (List (List ℕ))) →
+pub whole_rows : (rows : RowsValue) (chains : Chains) (phase : Phase) (cooling : Bool) (rounds last : ℕ) (body : BodyValue) (form : FormValue) →
     body_value rows chains phase cooling rounds last ≡ body →
-    IsWhole (image_of body.columns (map (λ slot. slot.row) body.slots) buffers) → IsWhole (image_of rows.columns rows.rows buffers)
-whole_rows rows chains phase cooling rounds last body buffers is whole =
-    subst (λ (slots : List (Option Row)). IsWhole (image_of rows.columns slots buffers)) (slots-rows (entries_at chains) 0 rows.rows)
-    (subst (λ (b : BodyValue). IsWhole (image_of b.columns (map (λ (slot : Slot). slot.row) b.slots) buffers)) (sym is) whole)
+    IsWhole (image_of body.columns (map (λ slot. slot.row) body.slots) form) → IsWhole (image_of rows.columns rows.rows form)
+whole_rows rows chains phase cooling rounds last body form is whole =
+    subst (λ (slots : List (Option Row)). IsWhole (image_of rows.columns slots form)) (slots-rows (entries_at chains) 0 rows.rows)
+    (subst (λ (b : BodyValue). IsWhole (image_of b.columns (map (λ (slot : Slot). slot.row) b.slots) form)) (sym is) whole)

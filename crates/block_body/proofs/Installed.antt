@@ -10,7 +10,7 @@ use Rattle.block_spec.specs.declared.change.Before.{Before}
 use Rattle.block_spec.specs.declared.change.Change.{Change}
 use Rattle.block_spec.specs.declared.change.Change.TheVariants as change
 use Rattle.block_spec.specs.Fitting.{BeforeFits, ChangeFits}
-use Rattle.block_spec.specs.Slots.{Row, has_none, laid_back, row_after, image_before, kind_of}
+use Rattle.block_spec.specs.Slots.{Row, laid_back, row_after, image_before, kind_of}
 use Rattle.block_columns.specs.Columns.{WantsRow}
 use Rattle.block_columns.proofs.Fitted.{patched_back}
 use Rattle.cell_model.specs.declared.column.Column.{Column}
@@ -28,6 +28,7 @@ use Rattle.block_body.specs.Changes.{changed}
 use Rattle.block_body.specs.declared.origin.Origin.{Origin}
 use Rattle.block_body.proofs.Slots.{slots-set}
 
+-- the row after a change is one on which its before-image can be laid back
 pub wants_after : (row : Option Row) (new : Change) → is_some row ≡ wants_row new → WantsRow (image_before row new) (row_after row new)
 wants_after None (change.Put r) is = tt
 wants_after None (change.Patch p) is = cc
@@ -46,6 +47,7 @@ undone columns (Some cells) (change.Put r) is fits = cc
 undone columns (Some cells) (change.Patch p) is fits = ap (λ (r : Row). Some r) (patched_back cells p fits.distinct)
 undone columns (Some cells) change.Gone is fits = refl
 
+-- the entry of a change by an origin
 abbrev pub undo_of : Origin → Before → Undo Before
 undo_of by before = record { session = by.session; stamp = by.stamp; number = 0; kind = by.kind; before = before }
 
@@ -62,9 +64,11 @@ own_below session e rest None false true is write none = sym (eqb-true e.session
 own_below session e rest None false false is write none = cc
 own_below session e rest (Some s) moves same is write none = tt
 
+-- a session's write, which has no stamp yet
 abbrev pub writer : ℕ → UndoKind → Origin
 writer session kind = record { session = session; stamp = None; kind = kind }
 
+-- one half of a move, which has its stamp
 abbrev pub mover : ℕ → UndoKind → Origin
 mover stamp kind = record { session = 0; stamp = Some stamp; kind = kind }
 
@@ -77,12 +81,6 @@ free_lawful session new kind before (e ∷ es) is lawful free =
     IsLawful-next (undo_of (writer session kind) before) e es (ap is_move is ∙ no_move new)
     (own_below session e (find (λ undo. is_open_write_of_another undo session) es) e.stamp (is_move e.kind) (eqb e.session session) refl (IsLawful-head e es lawful) free)
     lawful
-
--- a stamped entry may stand on a slot without one
-pub first_lawful : (u : Undo Before) (stamp : ℕ) → u.stamp ≡ Some stamp → (es : List (Undo Before)) → has_none es ≡ true → IsLawful (u ∷ es)
-first_lawful u stamp is [] none =
-    IsLawful-cons u [] (subst (λ (s : Option ℕ). IfNone s (is_move u.kind ≡ false)) (sym is) tt) (All-nil (MayStandAbove u)) IsLawful-nil
-first_lawful u stamp is (e ∷ es) none = cc
 
 module _ (rows new_rows : RowsValue) (chains new : Chains) (slot : ℕ) (by : Origin) (put : Change) (before : Before)
     (within : slot < length rows.rows)
@@ -101,9 +99,11 @@ module _ (rows new_rows : RowsValue) (chains new : Chains) (slot : ℕ) (by : Or
       ap (λ (l : List (Option Row)). get_or l k None) rows_are
       ∙ get_or-set_other rows.rows slot k (row_after (get_or rows.rows slot None) put) None apart
 
+  -- a change leaves the number of slots
   pub rows_long : length new_rows.rows ≡ length rows.rows
   rows_long = ap length rows_are ∙ length-set rows.rows slot (row_after (get_or rows.rows slot None) put)
 
+  -- the new row is one on which the before-image can be laid back
   pub may_undo : WantsRow before (get_or new_rows.rows slot None)
   may_undo =
       subst (λ (r : Option Row). WantsRow before r) (sym row_now)
@@ -150,6 +150,7 @@ module _ (rows new_rows : RowsValue) (chains new : Chains) (slot : ℕ) (by : Or
           lays = (kept k).lays;
         }))
 
+    -- the entries of each slot can be laid back after the change
     pub installed_kept : (k : ℕ) → IsKept new_rows k (get_or new_rows.rows k None) (entries_at new k)
     installed_kept k =
         ⊎_elim
@@ -157,6 +158,7 @@ module _ (rows new_rows : RowsValue) (chains new : Chains) (slot : ℕ) (by : Or
         (kept_else k)
         (cases_eq k slot)
 
+    -- the slots after the change are those before, the one changed
     pub installed_slots : slots_from (entries_at new) 0 new_rows.rows
         ≡ slice_set (slots_from (entries_at chains) 0 rows.rows) slot (changed by put (slot_at rows.rows chains slot))
     installed_slots =
@@ -164,6 +166,7 @@ module _ (rows new_rows : RowsValue) (chains new : Chains) (slot : ℕ) (by : Or
         ∙ slots-set (entries_at chains) (entries_at new) rows.rows slot (row_after (get_or rows.rows slot None) put) (undo_of by before ∷ entries_at chains slot) here others
         ∙ ap (λ (b : Before). slice_set (slots_from (entries_at chains) 0 rows.rows) slot (slot_of (row_after (get_or rows.rows slot None) put) (undo_of by b ∷ entries_at chains slot))) before_is
 
+    -- each slot with a session's own entry is still listed for it
     pub installed_listed : (lists left : SlotLists) →
         ((q k : ℕ) → list_any (λ undo. is_own undo q) (entries_at chains k) ≡ true → is_listed (slots_of lists q) k ≡ true) →
         (by.stamp ≡ None → is_listed (slots_of left by.session) slot ≡ true) →

@@ -66,6 +66,7 @@ cell_key column (Truth b) cells i64 set fault = value_key column.kind (Truth b) 
 cell_key column (Text t) cells i64 set fault = value_key column.kind (Text t) cells (i64_is column.kind i64) (in_range (is_value_of column.kind (Text t)) _ fault)
 cell_key column (Blob b) cells i64 set fault = value_key column.kind (Blob b) cells (i64_is column.kind i64) (in_range (is_value_of column.kind (Blob b)) _ fault)
 
+-- A row that fits columns which begin with the key has a key.
 pub fits-has_key : (columns : List Column) (row : Row) → begins_with_key columns ≡ true → Fits columns row → HasKey row
 fits-has_key [] row begins fits = cc
 fits-has_key (column ∷ columns) [] begins fits = cc

@@ -17,6 +17,7 @@ pub mod RolledBack
 pub mod SessionLists
 pub mod Slots
 pub mod Stamps
+pub mod Tables
 pub mod Taken
 pub mod Whole
 pub mod Written

@@ -32,6 +32,7 @@ pub filter_more : (p : ℕ → Bool) (n : ℕ) → p n ≡ true → filter p (ra
 filter_more p n is =
     ap (filter p) (range_more n) ∙ filter-append p (range_with_len 0 n) (n ∷ []) ∙ ap (λ b. filter p (range_with_len 0 n) ++ cond b (n ∷ []) []) is
 
+-- a number that fails adds nothing to those that pass
 pub filter_skip : (p : ℕ → Bool) (n : ℕ) → p n ≡ false → filter p (range_with_len 0 (n + 1)) ≡ filter p (range_with_len 0 n)
 filter_skip p n is =
     ap (filter p) (range_more n) ∙ filter-append p (range_with_len 0 n) (n ∷ []) ∙ ap (λ b. filter p (range_with_len 0 n) ++ cond b (n ∷ []) []) is
@@ -43,6 +44,7 @@ pub filter_map_more : {X : Type 0} (h : ℕ → Option X) (n : ℕ) (x : X) → 
 filter_map_more h n x is =
     ap (filter_map h) (range_more n) ∙ filter_map-append h (range_with_len 0 n) (n ∷ []) ∙ ap (λ o. filter_map h (range_with_len 0 n) ++ cons_option o []) is
 
+-- a number of which nothing is made adds nothing
 pub filter_map_skip : {X : Type 0} (h : ℕ → Option X) (n : ℕ) → h n ≡ None →
     filter_map h (range_with_len 0 (n + 1)) ≡ filter_map h (range_with_len 0 n)
 filter_map_skip h n is =
@@ -51,6 +53,7 @@ filter_map_skip h n is =
 
 module _ (slot : ℕ) (row : Option Row) (found : Option (ChainState Before)) (are : (chain : ChainState Before) → found ≡ Some chain → IsChain chain) (has key : Bool)
     (tells : IsTrue has ↔ IsSome row) (has_key : key ≡ is_some found) where
+  -- a slot without a row has none that may move
   pub no_row : has ≡ false → None ≡ movable_row slot row (has_none (entries_of found))
   no_row lacks = go row tells
     where
@@ -58,6 +61,7 @@ module _ (slot : ℕ) (row : Option Row) (found : Option (ChainState Before)) (a
       go None tells = refl
       go (Some r) tells = let holds : has ≡ true = tells.1 refl in cc
 
+  -- nor has one with an entry
   pub with_entry : key ≡ true → None ≡ movable_row slot row (has_none (entries_of found))
   with_entry is = go row found are has_key
     where
@@ -67,6 +71,7 @@ module _ (slot : ℕ) (row : Option Row) (found : Option (ChainState Before)) (a
       go (Some r) None are has_key = let never : true ≡ false = sym is ∙ has_key in cc
       go (Some r) (Some chain) are has_key = ap (movable_row slot (Some r)) (sym (has_none-some chain.entries (are chain refl).some))
 
+  -- a row without an entry may move, with its key
   pub may_move : has ≡ true → key ≡ false → (k : ℤ) → IfSome row (λ row. k ≡ key_of row) → Some (record { slot = slot; key = k }) ≡ movable_row slot row (has_none (entries_of found))
   may_move holds lacks k key_is = go row found tells has_key key_is
     where
@@ -108,11 +113,13 @@ bare_row : (j : ℕ) (row : Option Row) (entries : List (Undo Before)) → (is_n
 bare_row j None entries is = refl
 bare_row j (Some row) entries is = let no : false ≡ true = is in cc
 
+-- an empty body has no row that may move
 pub no_movable : (body : BodyValue) (n : ℕ) → is_empty body ≡ true → [] ≡ filter_map (movable body) (range_with_len 0 n)
 no_movable body n empty =
     sym (filter_map_none (movable body) (range_with_len 0 n)
     (λ j. bare_row j (slot_in body j).row (slot_in body j).entries (bare_at body.slots j empty)))
 
+-- each slot of an empty body is bare
 pub all_gaps : (body : BodyValue) (n : ℕ) → is_empty body ≡ true →
     range_with_len 0 n ++ [] ≡ filter (λ j. is_bare (slot_in body j)) (range_with_len 0 n)
 all_gaps body n empty =
@@ -139,5 +146,6 @@ gap_first first place gaps lt =
     let same : 0 + place ≡ place = omega arith in
     range_at 0 first place gaps lt ∙ ap (λ (x : ℕ). Some x) same
 
+-- behind the first slots, which are all gaps, stand the further ones
 pub gap_listed : (first place : ℕ) (gaps : List ℕ) → first ≤ place → slice_get (range_with_len 0 first ++ gaps) place ≡ slice_get gaps (place - first)
 gap_listed first place gaps le = range_past 0 first place gaps le

@@ -7,11 +7,9 @@ use Rattle.isolation_spec.specs.Contents.{key_of}
 use Rattle.block_spec.specs.declared.change.Before.{Before}
 use Rattle.block_spec.specs.declared.change.Change.{Change}
 use Rattle.block_spec.specs.declared.change.Change.TheVariants as change
-use Rattle.block_spec.specs.Slots.{Row, Slot, bare, is_bare, has_none, image_before, kind_of, laid_back, moved_in, moved_out, taken_back, written}
+use Rattle.block_spec.specs.Slots.{Row, Slot, bare, is_bare, has_none, image_before, laid_back, taken_back}
 use Rattle.block_spec.specs.Bodies.{Body as BodyValue, modified, slot_in, with_slot}
 use Rattle.undo_chain.specs.declared.undo.Undo.{Undo}
-use Rattle.undo_chain.specs.declared.undo.UndoKind.{UndoKind}
-use Rattle.undo_chain.specs.declared.undo.UndoKind.TheVariants.{MoveIn, MoveOut}
 use Rattle.undo_chain.specs.Entry.{is_stamped_by}
 use Rattle.undo_chain.specs.Lawful.{IsLawful}
 use Rattle.undo_chain.proofs.Order.{all_stamped}
@@ -19,8 +17,8 @@ use Rattle.block_body.specs.declared.origin.Origin.{Origin}
 use Rattle.block_body.specs.Changes.{changed, key_left}
 use Rattle.block_body.specs.Slots.{slot_of}
 use Rattle.block_body.proofs.After.{all_dropped}
-use Rattle.block_body.proofs.Installed.{mover, writer}
 
+-- a bare slot has no row
 pub bare_row : (s : Slot) → is_bare s ≡ true → s.row ≡ None
 bare_row s is = go s.row (has_none s.entries) is
   where
@@ -28,6 +26,7 @@ bare_row s is = go s.row (has_none s.entries) is
     go None b is = refl
     go (Some r) b is = cc
 
+-- and no entry
 pub bare_entries : (s : Slot) → is_bare s ≡ true → has_none s.entries ≡ true
 bare_entries s is = go (is_none s.row) (has_none s.entries) is
   where
@@ -42,29 +41,9 @@ some_within slots j some = ⊎_elim (λ lt. lt) past (cases_lt j (length slots))
     past : length slots ≤ j → j < length slots
     past le = let never : false ≡ true = ap (λ (s : Slot). is_some s.row) (sym (get_or_past slots j bare le)) ∙ some in cc
 
-pub written_as : (body : BodyValue) (slot session : ℕ) (new : Change) (kind : UndoKind) → kind ≡ kind_of new →
-    with_slot slot (changed (writer session kind) new) body ≡ with_slot slot (written session new) body
-written_as body slot session new kind is = ap (λ k. with_slot slot (changed (writer session k) new) body) is
-
 module _ (body : BodyValue) (slot stamp : ℕ) where
   moved_as : (one two : Slot) → one ≡ two → record (modified body) { slots = slice_set body.slots slot one } ≡ record (modified body) { slots = slice_set body.slots slot two }
   moved_as one two is = ap (λ (s : Slot). record (modified body) { slots = slice_set body.slots slot s }) is
-
-  pub moved_in_as : (row : Row) → is_bare (slot_in body slot) ≡ true →
-      with_slot slot (changed (mover stamp MoveIn) (change.Put row)) body ≡ with_slot slot (moved_in stamp row) body
-  moved_in_as row is =
-      let s : Slot = slot_in body slot in
-      moved_as (changed (mover stamp MoveIn) (change.Put row) s) (moved_in stamp row s)
-      (ap (λ (b : Before). let u : Undo Before = record { session = 0; stamp = Some stamp; number = 0; kind = MoveIn; before = b } in slot_of (Some row) (u ∷ s.entries))
-      (ap (λ o. image_before o (change.Put row)) (bare_row s is)))
-
-  pub moved_out_as : (row : Row) → (slot_in body slot).row ≡ Some row →
-      with_slot slot (changed (mover stamp MoveOut) change.Gone) body ≡ with_slot slot (moved_out stamp row) body
-  moved_out_as row is =
-      let s : Slot = slot_in body slot in
-      moved_as (changed (mover stamp MoveOut) change.Gone s) (moved_out stamp row s)
-      (ap (λ (b : Before). let u : Undo Before = record { session = 0; stamp = Some stamp; number = 0; kind = MoveOut; before = b } in slot_of None (u ∷ s.entries))
-      (ap (λ o. image_before o change.Gone) is))
 
 -- a row that was taken away is laid back
 gone_back : (row : Option Row) → is_some row ≡ true → laid_back None (image_before row change.Gone) ≡ row
@@ -77,12 +56,11 @@ module _ (old one : BodyValue) (slot : ℕ) (by : Origin) (some : is_some (slot_
       ap (λ (b : BodyValue). slot_in b slot) one_is
       ∙ get_or-set_same old.slots slot (changed by change.Gone (slot_in old slot)) bare (some_within old.slots slot some)
 
-  pub row_gone : (slot_in one slot).row ≡ None
-  row_gone = ap (λ (s : Slot). s.row) slot_now
-
+  -- it has an entry
   pub entry_there : has_none (slot_in one slot).entries ≡ false
   entry_there = ap (λ (s : Slot). has_none s.entries) slot_now
 
+  -- and taken back it has the row that it had
   pub row_kept : (taken_back (slot_in one slot)).row ≡ (slot_in old slot).row
   row_kept = ap (λ (s : Slot). (taken_back s).row) slot_now ∙ gone_back (slot_in old slot).row some
 
@@ -103,11 +81,13 @@ module _ (old one : BodyValue) (slot : ℕ) (by : Origin) (some : is_some (slot_
 
 -- ---- what the newest change took away
 
+-- a slot without a row and an entry has no row taken back either
 pub taken_none : (s : Slot) → s.row ≡ None → s.entries ≡ [] → None ≡ (taken_back s).row
 taken_none s row none =
     let same : s ≡ bare = ap (λ (r : Option Row). slot_of r s.entries) row ∙ ap (slot_of None) none in
     sym (ap (λ (x : Slot). (taken_back x).row) same)
 
+-- a slot without a row has, taken back, what its newest before-image lays back
 pub taken_top : (s : Slot) (e : Undo Before) (rest : List (Undo Before)) → s.row ≡ None → s.entries ≡ e ∷ rest → (taken_back s).row ≡ laid_back None e.before
 taken_top s e rest row is =
     let same : s ≡ slot_of None (e ∷ rest) = ap (λ (r : Option Row). slot_of r s.entries) row ∙ ap (slot_of None) is in
@@ -115,11 +95,13 @@ taken_top s e rest row is =
 
 -- ---- the key that a pruning leaves
 
+-- where it is told that there is no row, there is none
 pub no_row_there : (o : Option Row) (has : Bool) → IsTrue has ↔ IsSome o → has ≡ false → o ≡ None
 no_row_there None has tells lacks = refl
 no_row_there (Some row) has tells lacks = let never : has ≡ true = tells.1 refl in cc
 
 module _ (oldest : ℕ) (s : Slot) where
+  -- a slot with a row leaves no key
   pub left_row : is_some s.row ≡ true → None ≡ key_left oldest s
   left_row some = go s.row (is_bare s) some
     where
@@ -132,6 +114,7 @@ module _ (oldest : ℕ) (s : Slot) where
       go None b some = cc
       go (Some r) b some = sym (ap (λ b. cond b (option_map key_of (taken_back s).row) None) (either (not b)))
 
+  -- nor does a bare one
   pub left_bare : s.row ≡ None → s.entries ≡ [] → None ≡ key_left oldest s
   left_bare row none =
       let same : s ≡ bare = ap (λ (r : Option Row). slot_of r s.entries) row ∙ ap (slot_of None) none in
@@ -141,12 +124,14 @@ module _ (oldest : ℕ) (s : Slot) where
     same : s ≡ slot_of None (e ∷ rest)
     same = ap (λ (r : Option Row). slot_of r s.entries) row ∙ ap (slot_of None) is
 
+    -- nor one whose newest entry a pruning keeps
     pub left_newer : is_stamped_by e oldest ≡ false → None ≡ key_left oldest s
     left_newer newer =
         subst (λ (x : Slot). None ≡ key_left oldest x) (sym same)
         (sym (ap (λ b. cond (has_none (cond (not b) (e ∷ filter (λ (undo : Undo Before). not (is_stamped_by undo oldest)) rest) (filter (λ (undo : Undo Before). not (is_stamped_by undo oldest)) rest)))
         (option_map key_of (laid_back None e.before)) None) newer))
 
+    -- One whose newest entry is pruned leaves the key of the row that this took away.
     pub left_key : IsLawful s.entries → is_stamped_by e oldest ≡ true → option_map key_of (taken_back s).row ≡ key_left oldest s
     left_key lawful stamped =
         subst (λ (x : Slot). option_map key_of (taken_back x).row ≡ key_left oldest x) (sym same)

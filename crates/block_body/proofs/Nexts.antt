@@ -26,6 +26,7 @@ module _ (body : BodyValue) (rows : List (Option Row)) (chains : Chains) (each :
       go None is x = cc
       go (Some chain) is x = subst (λ (o : Option (ChainState Before)). 0 < length (entries_of o)) (sym is) (each.each slot chain is).some
 
+  -- The next slot with a chain is the next with an entry; where none has one, no slot has.
   pub next_told : (from : ℕ) (r : Option ℕ) → IfSome r (λ slot. IsSome (chain_at chains slot)) → IfSome r (λ slot. from ≤ slot)
       → IfSome r (λ slot. (other : ℕ) → from ≤ other → other < slot → chain_at chains other ≡ None) → IfNone r ((other : ℕ) → from ≤ other → chain_at chains other ≡ None)
       → IsNextVersioned body from r

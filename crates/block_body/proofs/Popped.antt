@@ -27,6 +27,7 @@ pub record Popped (session : ℕ) (es rest : List (Undo Before)) (before : Befor
   pub image : top.before ≡ before
   pub own : is_own top session ≡ true
 
+-- an entry taken off a lawful chain with one of the session's own is the session's
 pub popped : (session : ℕ) (es rest : List (Undo Before)) (before : Before) → IsLawful es →
     list_any (λ undo. is_own undo session) es ≡ true →
     map (λ undo. undo.before) es ≡ before ∷ map (λ undo. undo.before) rest → rest ≡ drop 1 es → Popped session es rest before
@@ -59,6 +60,7 @@ kept_all session (e ∷ es) none = go (is_own e session) refl none (λ n. kept_a
         ap (λ b. cond (not b) (e ∷ filter (λ undo. not (is_own undo session)) es) (filter (λ undo. not (is_own undo session)) es)) own
         ∙ ap (λ (l : List (Undo Before)). e ∷ l) (rest none)
 
+-- where no entry is a session's own it has no before-image
 pub none_own_images : (session : ℕ) (es : List (Undo Before)) → list_any (λ undo. is_own undo session) es ≡ false →
     own_images session es ≡ []
 none_own_images session [] none = refl
@@ -93,29 +95,35 @@ rolled_back-none session slot none =
     ap (λ (l : List (Undo Before)). slot_of (fold laid_back slot.row (own_images session slot.entries)) l) (kept_all session slot.entries none)
     ∙ ap (λ (l : List Before). slot_of (fold laid_back slot.row l) slot.entries) (none_own_images session slot.entries none)
 
+-- a slot that is rolled back twice is rolled back once
 pub rolled_back-twice : (session : ℕ) (slot : Slot) → rolled_back session (rolled_back session slot) ≡ rolled_back session slot
 rolled_back-twice session slot = rolled_back-none session (rolled_back session slot) (none_left session slot.entries)
 
 module _ (session : ℕ) (es rest : List (Undo Before)) (before : Before) (p : Popped session es rest before) where
+  -- the entries of others stay
   pub popped_kept : filter (λ undo. not (is_own undo session)) es ≡ filter (λ undo. not (is_own undo session)) rest
   popped_kept =
       ap (filter (λ undo. not (is_own undo session))) p.is
       ∙ ap (λ b. cond (not b) (p.top ∷ filter (λ undo. not (is_own undo session)) rest) (filter (λ undo. not (is_own undo session)) rest)) p.own
 
+  -- the images of the session's own were the one taken off and those left
   pub popped_images : own_images session es ≡ before ∷ own_images session rest
   popped_images =
       ap (own_images session) p.is
       ∙ ap (λ b. map (λ (undo : Undo Before). undo.before) (cond b (p.top ∷ filter (λ undo. is_own undo session) rest) (filter (λ undo. is_own undo session) rest))) p.own
       ∙ ap (λ (b : Before). b ∷ own_images session rest) p.image
 
+  -- there was an entry
   pub popped_some : 0 < length es
   popped_some = subst (λ (l : List (Undo Before)). 0 < length l) (sym p.is) (omega arith)
 
+  -- its before-image fits the columns
   pub popped_fits : (rows : RowsValue) (slot : ℕ) (row : Option Row) → IsKept rows slot row es → BeforeFits rows.columns before
   popped_fits rows slot row kept =
       subst (BeforeFits rows.columns) p.image
       (All-head (λ undo. BeforeFits rows.columns undo.before) p.top rest (subst (All (λ undo. BeforeFits rows.columns undo.before)) p.is kept.fits))
 
+  -- it can be laid back on the row, and those left on what that makes
   pub popped_wants : (row : Option Row) → LaysBack row es → WantsRow before row × LaysBack (laid_back row before) rest
   popped_wants row lays =
       let both : WantsRow p.top.before row × LaysBack (laid_back row p.top.before) rest = subst (LaysBack row) p.is lays in

@@ -9,6 +9,7 @@ use Rattle.undo_chain.specs.declared.undo.Undo.{Undo}
 use Rattle.undo_chain.specs.Entry.{is_stamped_by}
 use Rattle.block_body.specs.Chains.{Chains, chain_at, entries_at, entries_of, stamped_below}
 
+-- what passes of a list is no longer than it
 pub filter_within : {X : Type 0} (p : X → Bool) (xs : List X) → length (filter p xs) ≤ length xs
 filter_within p xs = omega (arith, length-filter p xs, count_by-le-length p xs)
 
@@ -19,6 +20,7 @@ above_zero xs ys is some =
     let no : length xs ≡ 0 → ⊥ = eqb-false (length xs) 0 some in
     omega arith
 
+-- what passes of few entries is few
 pub few_left : {X : Type 0} (p : X → Bool) (xs ys : List X) → length xs ≤ 2 ^ 31 → ys ≡ filter p xs → length ys ≤ 2 ^ 31
 few_left p xs ys few is = let long : length ys ≡ length (filter p xs) = ap length is in omega (arith, filter_within p xs)
 
@@ -45,6 +47,7 @@ module _ (S : List (Undo Before) → List (Undo Before)) (nil : S [] ≡ []) (in
     (none : (k : ℕ) → from ≤ k → k < slot → chain_at now k ≡ None)
     (here : entries_at new slot ≡ S (entries_at now slot))
     (others : (k : ℕ) → k ≢ slot → chain_at new k ≡ chain_at now k) where
+  -- the slots up to the next with a chain are swept, with it
   pub swept_more : (k : ℕ) → k < slot + 1 → entries_at new k ≡ S (entries_at init k)
   swept_more k lt = ⊎_elim same other (cases_eq k slot)
     where
@@ -60,6 +63,7 @@ module _ (S : List (Undo Before) → List (Undo Before)) (nil : S [] ≡ []) (in
               let absent : chain_at now k ≡ None = none k le (omega arith) in
               ap entries_of absent ∙ sym nil ∙ ap (λ o. S (entries_of o)) (sym (sym (above k le) ∙ absent))
 
+  -- the entries that were dropped are counted up to it
   pub swept_count : (oldest : ℕ) →
       stamped_below (entries_at init) oldest (slot + 1)
       ≡ stamped_below (entries_at init) oldest from + count_by (λ undo. is_stamped_by undo oldest) (entries_at now slot)

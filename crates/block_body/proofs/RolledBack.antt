@@ -50,6 +50,7 @@ module _ (session : ℕ) (rows new : RowsValue) (chains after : Chains) (x : ℕ
           ∙ ap (λ (l : List (Option Row)). get_or l x None) (set-get_or rows.rows x None)
           ∙ sym same
 
+  -- the slot is rolled back
   pub slot_here : slot_at new.rows after x ≡ rolled_back session (slot_at rows.rows chains x)
   slot_here =
       ap (λ (l : List (Option Row)). slot_of (get_or l x None) (entries_at after x)) laid
@@ -61,13 +62,16 @@ module _ (session : ℕ) (rows new : RowsValue) (chains after : Chains) (x : ℕ
       ap (λ (l : List (Option Row)). get_or l k None) laid
       ∙ get_or-set_other rows.rows x k (fold laid_back (get_or rows.rows x None) (own_images session (entries_at chains x))) None apart
 
+  -- another slot is as it was
   pub slot_other : (k : ℕ) → k ≢ x → slot_at new.rows after k ≡ slot_at rows.rows chains k
   slot_other k apart =
       ap (λ (r : Option Row). slot_of r (entries_at after k)) (row_other k apart) ∙ ap (slot_of (get_or rows.rows k None)) (others k apart)
 
+  -- there are as many slots as before
   pub slots_long : length new.rows ≡ length rows.rows
   slots_long = ap length laid ∙ length-set rows.rows x (fold laid_back (get_or rows.rows x None) (own_images session (entries_at chains x)))
 
+  -- the entries of each slot can be laid back
   pub slots_kept : (k : ℕ) → IsKept new k (get_or new.rows k None) (entries_at after k)
   slots_kept k = ⊎_elim same other (cases_eq k x)
     where

@@ -81,6 +81,7 @@ module _ (session : ℕ) (lists : SlotLists) (at : ℕ) (stands : position (is_o
   pub own : (d : SessionSlots) → (get_or lists at d).session ≡ session
   own d = eqb-true (get_or lists at d).session session (position-Some (is_of session) lists at d stands).1
 
+  -- the slots that are listed for a session are those at its list's place
   pub slots_there : (d : SessionSlots) → slots_of lists session ≡ (get_or lists at d).slots
   slots_there d = ap slots_in
       (find_at (is_of session) lists ∙ ap (slice_get lists) (first (is_of session) lists at stands) ∙ slice_get-get_or lists at d within)

@@ -9,10 +9,12 @@ use Rattle.block_spec.specs.Slots.{Row, Slot, bare}
 use Rattle.undo_chain.specs.declared.undo.Undo.{Undo}
 use Rattle.block_body.specs.Slots.{slot_of, slots_from}
 
+-- there are as many slots as rows
 pub slots-length : (f : ℕ → List (Undo Before)) (at : ℕ) (rows : List (Option Row)) → length (slots_from f at rows) ≡ length rows
 slots-length f at [] = refl
 slots-length f at (row ∷ rows) = ap suc (slots-length f (at + 1) rows)
 
+-- a slot by its number has the row and the entries of that number
 pub slots-get : (f : ℕ → List (Undo Before)) (at : ℕ) (rows : List (Option Row)) (k : ℕ) (d : Slot) → k < length rows →
     get_or (slots_from f at rows) k d ≡ slot_of (get_or rows k None) (f (at + k))
 slots-get f at [] k d lt = absurd (omega arith)
@@ -92,6 +94,7 @@ slots-same f g at (row ∷ rows) same =
     ap (λ (es : List (Undo Before)). slot_of row es ∷ slots_from g (at + 1) rows) (same at)
     ∙ ap (λ (slots : List Slot). slot_of row (f at) ∷ slots) (slots-same f g (at + 1) rows same)
 
+-- the rows of the slots are those that they are made of
 pub slots-rows : (f : ℕ → List (Undo Before)) (at : ℕ) (rows : List (Option Row)) → map (λ (slot : Slot). slot.row) (slots_from f at rows) ≡ rows
 slots-rows f at [] = refl
 slots-rows f at (row ∷ rows) = ap (λ (l : List (Option Row)). row ∷ l) (slots-rows f (at + 1) rows)

@@ -24,6 +24,7 @@ stamped_again {D} session stamp number u = go u.stamp u.number (is_move u.kind) 
     go None n false false = refl
     go (Some s) n moved same = refl
 
+-- a commit's stamps that are given twice are given once
 pub stamped_twice : {D : Type 0} (session stamp number : ℕ) (es : List (Undo D)) →
     map (stamped session stamp number) (map (stamped session stamp number) es) ≡ map (stamped session stamp number) es
 stamped_twice session stamp number [] = refl
@@ -35,6 +36,7 @@ up_to : (own : Bool) (s : Option ℕ) (limit : ℕ) → IfSome s (λ n. n ≤ li
 up_to true s limit is = omega arith
 up_to false s limit is = is
 
+-- where no stamp is above the commit's, none is after it gave its own
 pub none_above-stamped : {D : Type 0} (session stamp number : ℕ) (es : List (Undo D)) → NoneStampedAbove es stamp →
     NoneStampedAbove (map (stamped session stamp number) es) stamp
 none_above-stamped session stamp number [] none = All-nil (IsStampedUpTo stamp)
@@ -46,6 +48,7 @@ none_above-stamped session stamp number (e ∷ es) none =
     (up_to (is_own e session) e.stamp stamp (All-head (IsStampedUpTo stamp) e es none))
     (none_above-stamped session stamp number es (All-tail (IsStampedUpTo stamp) e es none))
 
+-- and so where it did or did not give them
 pub none_above-either : {D : Type 0} (session stamp number : ℕ) (b : Bool) (es now : List (Undo D)) → NoneStampedAbove es stamp →
     now ≡ cond b (map (stamped session stamp number) es) es → NoneStampedAbove now stamp
 none_above-either session stamp number true es now none is = subst (λ l. NoneStampedAbove l stamp) (sym is) (none_above-stamped session stamp number es none)

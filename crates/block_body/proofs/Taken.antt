@@ -4,12 +4,11 @@ use Rattle.std.specs.Prelude.{slice_set, All}
 use Rattle.std.specs.List.{list_any}
 use Rattle.std.proofs.lemmas.Bool.{cases_eq}
 use Rattle.std.proofs.lemmas.List.{get_or-set_same, get_or-set_other}
-use Rattle.std.proofs.lemmas.List.Elements.{All-head, All-tail}
+use Rattle.std.proofs.lemmas.List.Elements.{All-tail}
 use Rattle.std.proofs.Math.ListN.{length-set}
 use Rattle.block_spec.specs.declared.change.Before.{Before}
 use Rattle.block_spec.specs.Fitting.{BeforeFits}
 use Rattle.block_spec.specs.Slots.{Row, has_none, laid_back, taken_back, taken_from}
-use Rattle.block_columns.specs.Columns.{WantsRow}
 use Rattle.undo_chain.specs.declared.undo.Undo.{Undo}
 use Rattle.undo_chain.specs.Entry.{is_own}
 use Rattle.block_body.specs.Rows.{RowsValue}
@@ -17,6 +16,7 @@ use Rattle.block_body.specs.Slots.{slots_from}
 use Rattle.block_body.specs.Chains.{Chains, IsKept, LaysBack, slot_at, entries_at}
 use Rattle.block_body.proofs.Slots.{slots-set}
 
+-- entries that are not none are some
 pub some_entry : (es : List (Undo Before)) → has_none es ≡ false → 0 < length es
 some_entry [] some = cc
 some_entry (e ∷ es) some = omega arith
@@ -26,17 +26,13 @@ module _ (rows : RowsValue) (slot : ℕ) (es rest : List (Undo Before)) (undo : 
   kept_top : IsKept rows slot (get_or rows.rows slot None) (undo ∷ rest)
   kept_top = subst (IsKept rows slot (get_or rows.rows slot None)) is kept
 
+  -- the slot of an entry has memory
   pub top_room : slot < rows.room
   top_room = kept_top.room (omega arith)
 
+  -- it is one of the slots
   pub top_within : slot < length rows.rows
   top_within = kept_top.within (omega arith)
-
-  pub top_fits : BeforeFits rows.columns undo.before
-  top_fits = All-head (λ undo. BeforeFits rows.columns undo.before) undo rest kept_top.fits
-
-  pub top_wants : WantsRow undo.before (get_or rows.rows slot None)
-  top_wants = kept_top.lays.0
 
   rest_kept : (new : RowsValue) → new.columns ≡ rows.columns → new.room ≡ rows.room →
       new.rows ≡ slice_set rows.rows slot (laid_back (get_or rows.rows slot None) undo.before) → IsKept new slot (get_or new.rows slot None) rest
@@ -56,6 +52,7 @@ module _ (rows new_rows : RowsValue) (chains new : Chains) (slot : ℕ) (undo : 
     (columns : new_rows.columns ≡ rows.columns)
     (room : new_rows.room ≡ rows.room)
     (laid : new_rows.rows ≡ slice_set rows.rows slot (laid_back (get_or rows.rows slot None) undo.before)) where
+  -- after it was taken off, the entries of each slot can be laid back
   pub taken_kept : (k : ℕ) → IsKept new_rows k (get_or new_rows.rows k None) (entries_at new k)
   taken_kept k = ⊎_elim same other (cases_eq k slot)
     where
@@ -78,12 +75,14 @@ module _ (rows new_rows : RowsValue) (chains new : Chains) (slot : ℕ) (undo : 
             lays = was.lays;
           }))
 
+  -- the slots are those before, the one with its newest change taken back
   pub taken_slots : slots_from (entries_at new) 0 new_rows.rows ≡ slice_set (slots_from (entries_at chains) 0 rows.rows) slot (taken_back (slot_at rows.rows chains slot))
   taken_slots =
       ap (slots_from (entries_at new) 0) laid
       ∙ slots-set (entries_at chains) (entries_at new) rows.rows slot (laid_back (get_or rows.rows slot None) undo.before) (entries_at new slot) refl others
       ∙ ap (λ s. slice_set (slots_from (entries_at chains) 0 rows.rows) slot s) (sym (ap (taken_from (get_or rows.rows slot None)) is))
 
+  -- no slot has a session's own entry that had none
   pub taken_fewer : (q k : ℕ) → list_any (λ undo. is_own undo q) (entries_at new k) ≡ true → list_any (λ undo. is_own undo q) (entries_at chains k) ≡ true
   taken_fewer q k own = ⊎_elim same (λ apart. sym (ap (list_any (λ (undo : Undo Before). is_own undo q)) (others k apart)) ∙ own) (cases_eq k slot)
     where
@@ -96,6 +95,7 @@ module _ (rows new_rows : RowsValue) (chains new : Chains) (slot : ℕ) (undo : 
           ap (list_any (λ (undo : Undo Before). is_own undo q)) (ap (entries_at chains) at ∙ is)
           ∙ either (is_own undo q) (list_any (λ undo. is_own undo q) (entries_at new slot)) (sym (ap (λ n. list_any (λ (undo : Undo Before). is_own undo q) (entries_at new n)) at) ∙ own)
 
+  -- nor an entry that had none
   pub taken_nil : (k : ℕ) → entries_at chains k ≡ [] → entries_at new k ≡ []
   taken_nil k none = ⊎_elim same (λ apart. others k apart ∙ none) (cases_eq k slot)
     where

@@ -24,9 +24,11 @@ abbrev pub taken : {X : Type 0} → List (Option X) → ℕ
 taken [] = 0
 taken (row ∷ rows) = cond (is_some row) (1 + taken rows) (taken rows)
 
+-- the count that goes slot after slot is how many slots have a row
 pub taken_is : {X : Type 0} (rows : List (Option X)) → taken rows ≡ count_by is_some rows
 taken_is rows = is_count_by taken is_some refl (λ row rows. refl) rows
 
+-- some slot has a row unless none is counted
 pub any_row : (f : ℕ → List (Undo Before)) (at : ℕ) (rows : List (Option Row)) →
     list_any (λ slot. is_some slot.row) (slots_from f at rows) ≡ not (eqb (taken rows) 0)
 any_row f at [] = refl
@@ -52,13 +54,6 @@ front_true f at [] all = refl
 front_true f at (Some row ∷ rows) all = front_true f (at + 1) rows (λ k lt. all (suc k) (omega arith))
 front_true f at (None ∷ rows) all =
     no_row f (at + 1) rows (⊎_elim (λ some. let no : false ≡ true = all 0 some in cc) (λ le. omega arith) (cases_lt 0 (taken rows)))
-
-pub front_false : (f : ℕ → List (Undo Before)) (at : ℕ) (rows : List (Option Row)) (k : ℕ) → k < taken rows →
-    is_some (get_or rows k None) ≡ false → is_front (slots_from f at rows) ≡ false
-front_false f at [] k lt none = absurd (omega arith)
-front_false f at (Some row ∷ rows) zero lt none = cc
-front_false f at (Some row ∷ rows) (suc k) lt none = front_false f (at + 1) rows k (omega arith) none
-front_false f at (None ∷ rows) k lt none = some_row f (at + 1) rows (omega arith)
 
 taken_few : {X : Type 0} (n : ℕ) (rows : List (Option X)) → taken (take n rows) ≤ n
 taken_few zero rows = omega arith
@@ -130,15 +125,18 @@ all_bare f at [] none = refl
 all_bare f at (None ∷ rows) none = ap (λ l. has_none l && list_all is_bare (slots_from f (at + 1) rows)) (none at) ∙ all_bare f (at + 1) rows none
 all_bare f at (Some row ∷ rows) none = sym (ne_eqb (1 + taken rows) 0 (λ is. absurd (omega arith)))
 
+-- some entries are not none
 pub has_none-some : (es : List (Undo Before)) → 0 < length es → has_none es ≡ false
 has_none-some [] some = absurd (omega arith)
 has_none-some (e ∷ es) some = refl
 
+-- the first chain is found at its slot
 pub first_chain : (slot : ℕ) (chain : ChainState Before) (chains : Chains) → chain_at ((slot, chain) ∷ chains) slot ≡ Some chain
 first_chain slot chain chains = ap (λ b. cond b (Some chain) (chain_at chains slot)) (is_at-same slot)
 
 module _ (rows : RowsValue) (kept_chains : Chains) (are : AreChains kept_chains)
     (kept : (slot : ℕ) → IsKept rows slot (get_or rows.rows slot None) (entries_at kept_chains slot)) where
+  -- a number past the slots has no entry
   pub entries_past : (k : ℕ) → length rows.rows ≤ k → entries_at kept_chains k ≡ []
   entries_past k le = no_entry (entries_at kept_chains k) (λ some. let lt : k < length rows.rows = (kept k).within some in omega arith)
 
@@ -169,6 +167,7 @@ quiet_is rows ((slot, chain) ∷ chains) are kept =
     (ap (λ (s : Slot). has_none s.entries) (slots-at (entries_at ((slot, chain) ∷ chains)) rows.rows slot bare lt) ∙ has_none-some (entries_at ((slot, chain) ∷ chains) slot) some)
     ∙ sym (ne_eqb (length ((slot, chain) ∷ chains)) 0 (λ is. absurd (omega arith)))
 
+-- All slots are bare where there is no row and no chain.
 pub empty_is : (rows : RowsValue) (chains : Chains) → AreChains chains →
     ((slot : ℕ) → IsKept rows slot (get_or rows.rows slot None) (entries_at chains slot)) →
     list_all is_bare (slots_from (entries_at chains) 0 rows.rows) ≡ (eqb (taken rows.rows) 0 && eqb (length chains) 0)
@@ -195,12 +194,14 @@ empty_is rows ((slot, chain) ∷ chains) are kept =
 
 -- ---- tests
 
+-- what tells whether a number is zero is the test for it
 pub tells_zero : (b : Bool) (n : ℕ) → IsTrue b ↔ ◌≡◌ {A = ℕ} n 0 → b ≡ eqb n 0
 tells_zero true n tells = sym (eq-eqb n 0 (tells.0 refl))
 tells_zero false n tells = sym (ne_eqb n 0 (λ is. let never : false ≡ true = tells.1 is in cc))
 
 module _ (row : Option Row) (found : Option (ChainState Before)) (are : (chain : ChainState Before) → found ≡ Some chain → IsChain chain) (has key : Bool)
     (tells : IsTrue has ↔ IsSome row) (has_key : key ≡ is_some found) where
+  -- a slot without a row is bare where it has no chain
   pub bare_then : has ≡ false → not key ≡ (is_none row && has_none (entries_of found))
   bare_then lacks = go row found are tells has_key
     where
@@ -210,6 +211,7 @@ module _ (row : Option Row) (found : Option (ChainState Before)) (are : (chain :
       go None None are tells has_key = ap not has_key
       go None (Some chain) are tells has_key = ap not has_key ∙ sym (has_none-some chain.entries (are chain refl).some)
 
+  -- a slot with a row is not bare
   pub bare_else : has ≡ true → not has ≡ (is_none row && has_none (entries_of found))
   bare_else holds = go row tells
     where
@@ -217,10 +219,12 @@ module _ (row : Option Row) (found : Option (ChainState Before)) (are : (chain :
       go (Some r) tells = ap not holds
       go None tells = let never : false ≡ true = tells.0 holds in cc
 
+-- where the chains are counted as none there is none
 pub no_chains : (chains : Chains) → eqb (length chains) 0 ≡ true → chains ≡ []
 no_chains [] none = refl
 no_chains (c ∷ chains) none = absurd (omega (arith, eqb-true (length (c ∷ chains)) 0 none))
 
+-- chains of no length are none
 pub no_length : (chains : Chains) → length chains ≡ 0 → chains ≡ []
 no_length [] none = refl
 no_length (c ∷ chains) none = absurd (omega arith)

@@ -30,6 +30,7 @@ writer_top session e es lawful = go e.stamp (is_move e.kind) (IsLawful-head e es
     go None true is = let never : true ≡ false = is in cc
     go (Some s) moves is = refl
 
+-- a session is the writer of a lawful chain where it has an entry of its own there
 pub writer_own : (session : ℕ) (es : List (Undo Before)) → IsLawful es → is_writer session (writer_of es) ≡ list_any (λ undo. is_own undo session) es
 writer_own session [] lawful = refl
 writer_own session (e ∷ es) lawful = writer_top session e es lawful ∙ go (is_own e session) refl
@@ -38,6 +39,7 @@ writer_own session (e ∷ es) lawful = writer_top session e es lawful ∙ go (is
     go true own = own ∙ sym (ap (λ b. b || list_any (λ (undo : Undo Before). is_own undo session) es) own)
     go false own = own ∙ sym (none_own session e es lawful own)
 
+-- where no slot has an entry of the session's own, it is no slot's writer
 pub unwritten : (session : ℕ) (f : ℕ → List (Undo Before)) (at : ℕ) (rows : List (Option Row)) → ((k : ℕ) → IsLawful (f k)) →
     ((k : ℕ) → list_any (λ undo. is_own undo session) (f k) ≡ false) →
     list_any (λ slot. is_writer session (writer_of slot.entries)) (slots_from f at rows) ≡ false
@@ -46,6 +48,7 @@ unwritten session f at (row ∷ rows) lawful none =
     ap (λ b. b || list_any (λ (slot : Slot). is_writer session (writer_of slot.entries)) (slots_from f (at + 1) rows)) (writer_own session (f at) (lawful at) ∙ none at)
     ∙ unwritten session f (at + 1) rows lawful none
 
+-- where a slot has one, the session wrote the body
 pub written_at : (session : ℕ) (f : ℕ → List (Undo Before)) (rows : List (Option Row)) (k : ℕ) → IsLawful (f k) → k < length rows →
     list_any (λ undo. is_own undo session) (f k) ≡ true →
     list_any (λ slot. is_writer session (writer_of slot.entries)) (slots_from f 0 rows) ≡ true
@@ -58,6 +61,7 @@ pub record Found (P : ℕ → Bool) : Type 0 where
   pub at : ℕ
   pub passes : P at ≡ true
 
+-- where one of the numbers passes, there is one that passes
 pub find_any : (P : ℕ → Bool) (xs : List ℕ) → list_any P xs ≡ true → Found P
 find_any P [] any = cc
 find_any P (x ∷ xs) any = go (P x) refl any (λ rest. find_any P xs rest)
@@ -66,6 +70,7 @@ find_any P (x ∷ xs) any = go (P x) refl any (λ rest. find_any P xs rest)
     go true passes any rest = record { at = x; passes = passes }
     go false passes any rest = rest any
 
+-- a slot with an entry of the session's own has some entry
 pub some_own : (session : ℕ) (es : List (Undo Before)) → list_any (λ undo. is_own undo session) es ≡ true → 0 < length es
 some_own session [] own = cc
 some_own session (e ∷ es) own = omega arith
@@ -98,6 +103,7 @@ module _ (session : ℕ) (rows new_rows : List (Option Row)) (chains new : Chain
       go false true listed mine is = let never : true ≡ false = sym (all k mine) ∙ listed in cc
       go false false listed mine is = is ∙ sym (rolled_back-none session (slot_at rows chains k) mine)
 
+  -- the slots after a roll-back are all rolled back
   pub rolled_slots : slots_from (entries_at new) 0 new_rows ≡ map (rolled_back session) (slots_from (entries_at chains) 0 rows)
   rolled_slots = slots-map (entries_at chains) (entries_at new) rows new_rows (rolled_back session) long (λ k lt. rolled_each k)
 
@@ -115,6 +121,7 @@ module _ (session : ℕ) (rows new_rows : List (Option Row)) (chains new : Chain
       ∙ rolled_each k ∙ rolled_back-none session (slot_at rows chains k) (none k)
       ∙ sym (slots-at (entries_at chains) rows k d (subst (λ n. k < n) long less)))
 
+  -- where no listed slot has an entry of the session's own, no slot has
   pub none_any : list_any (λ slot. list_any (λ undo. is_own undo session) (entries_at chains slot)) slots ≡ false →
       (k : ℕ) → list_any (λ undo. is_own undo session) (entries_at chains k) ≡ false
   none_any any k = go (list_any (λ undo. is_own undo session) (entries_at chains k)) refl
@@ -136,6 +143,7 @@ unlisted session rows chains lists phase last is none k = go (list_any (λ undo.
         cc
     go false own = own
 
+-- A body that a session wrote is rolled back in each slot; another one stays.
 pub rolled_as : (session : ℕ) (body : BodyValue) (b : Bool) → is_written_by session body ≡ b →
     rolled_back_in session body ≡ cond b (record (modified body) { slots = map (rolled_back session) body.slots }) body
 rolled_as session body b is = ap (λ x. cond x (record (modified body) { slots = map (rolled_back session) body.slots }) body) is

@@ -19,6 +19,10 @@ use Rattle.undo_chain.specs.State.{ChainState}
 abbrev pub Chains : Type 0
 Chains = List (ℕ × ChainState Before)
 
+-- the chains as a table of them is seen
+pub record ChainsValue : Type 0 where
+  pub entries : Chains
+
 abbrev pub chain_at : Chains → ℕ → Option (ChainState Before)
 chain_at chains slot = lookup (is_at (nat_cmp slot)) chains
 

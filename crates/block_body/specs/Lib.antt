@@ -1,6 +1,7 @@
 pub mod Rows
 pub mod Chains
 pub mod Slots
+pub mod Tables
 pub mod Frozen
 pub mod Bodies
 pub mod Changes

@@ -20,6 +20,7 @@ ghost use Rattle.block_body.specs.Changes.{IsNextVersioned, changed, key_left};
 ghost use Rattle.block_body.specs.Frozen.{IsImageOf, image_of};
 ghost use Rattle.block_body.specs.Keys.{HasKey, HasKeys};
 
+use crate::chain_table::ChainTable;
 use crate::chains::{self, Chains};
 use crate::lists::SessionLists;
 use crate::look::{Look, key_at, key_of};
@@ -27,11 +28,10 @@ use crate::origin::Origin;
 use crate::rows::Rows;
 use crate::shared::Shared;
 use crate::view::{is_row_visible, visible_row};
-use block_columns::{Before, Columns, Image};
+use block_columns::{ArrowForm, Before, Columns, Image};
 use block_spec::{Change, MovableRow, Phase, SealFault};
-use cell_model::{Buffers, Row, Schema};
+use cell_model::{Row, Schema};
 use std::alloc::{AllocError, AllocFailed, Global};
-use std::collections::BTreeMap;
 use std::marker::Model;
 use std::sync::ledger::Ledger;
 use steps::Steps;
@@ -74,7 +74,7 @@ impl Body {
         Ok(Body {
             alloc,
             rows: Rows::new(alloc, schema, slots)?,
-            chains: BTreeMap::new(alloc),
+            chains: ChainTable::new(alloc),
             written: SessionLists::new(alloc),
             phase: Phase::Loose,
             cooling: false,
@@ -116,7 +116,7 @@ impl Body {
     pub fn bare(&self, slot: u32) -> bool
         ensures { result ≡ is_bare (slot_in self.now slot) }
     {
-        !self.rows.columns().has_row(slot) && !self.chains.contains_key(&slot)
+        !self.rows.columns().has_row(slot) && !self.chains.contains_key(slot)
     }
 
     /// What stands in the way of a write to a slot by the session with the snapshot `stamp`.
@@ -348,7 +348,8 @@ impl Body {
         turns
     }
 
-    /// Seals it with the stamp after its last, or tells the first reason against that.
+    /// Seals it with the stamp after its last, or tells the first reason against that. A sealed
+    /// body has no version, so that their memory goes.
     pub fn seal(&mut self, head: bool) -> Result<u32, SealFault>
         ensures sealed { OnOk result (self.new ≡ sealed self.old) }
         ensures stamp { IfOk result (λ stamp. stamp ≡ self.old.last + 1) }
@@ -359,6 +360,7 @@ impl Body {
         if let Some(fault) = self.seal_fault(head) {
             return Err(fault);
         }
+        self.chains.give_back();
         self.last += 1;
         self.phase = Phase::Sealed(self.last);
         Ok(self.last)
@@ -406,16 +408,16 @@ impl Body {
         Ok(())
     }
 
-    /// Makes an image of a sealed body's own columns, which are not copied, and these buffers,
-    /// those of the batch of its rows. Without memory the body stays.
-    pub fn freeze(&mut self, buffers: Vec<Buffers>) -> Result<(), AllocError>
+    /// Makes an image of a sealed body's own columns, which are not copied, and this form, that of
+    /// its rows. Without memory the body stays.
+    pub fn freeze(&mut self, form: ArrowForm) -> Result<(), AllocError>
         requires sealed { is_sealed self.old.phase ≡ true }
         requires whole { IsWhole (image_of self.old.columns (map (λ slot. slot.row) self.old.slots)
-            buffers.items) }
+            form) }
         ensures ok { OnOk result (self.new ≡ imaged self.old) }
         ensures err { OnErr result (self.new ≡ self.old) }
     {
-        self.rows.freeze_own(self.alloc, buffers)?;
+        self.rows.freeze_own(self.alloc, form)?;
         if let Phase::Sealed(stamp) = self.phase {
             self.phase = Phase::Imaged(stamp);
         }
@@ -456,7 +458,7 @@ impl Body {
             kind: by.kind,
             before,
         };
-        match chains::push(self.alloc, &mut self.chains, slot, undo) {
+        match chains::push(&mut self.chains, slot, undo) {
             Ok(()) => {
                 self.cooling = false;
                 self.rounds = 0;
@@ -549,7 +551,7 @@ impl Body {
         ensures { result ≡ movable self.now slot }
     {
         let columns = self.rows.columns();
-        if !columns.has_row(slot) || self.chains.contains_key(&slot) {
+        if !columns.has_row(slot) || self.chains.contains_key(slot) {
             return None;
         }
         let key = key_at(columns, slot);

@@ -11,15 +11,14 @@ ghost use Rattle.undo_chain.specs.Stamped.{stamped};
 ghost use Rattle.block_body.specs.Chains.{AreChains, IsKept, slot_at, chain_at, entries_at};
 ghost use Rattle.block_body.specs.Chains.{is_listed, stamped_below};
 
+use crate::chain_table::ChainTable;
 use crate::rows::Rows;
 use block_columns::Before;
-use std::alloc::{AllocFailed, Global};
-use std::collections::BTreeMap;
-use std::collections::btree_map::Entry;
+use std::alloc::AllocFailed;
 use undo_chain::{Chain, Undo};
 
 /// The chains by slot. A slot without entries has none.
-pub(crate) type Chains = BTreeMap<u32, Chain<Before>>;
+pub(crate) type Chains = ChainTable;
 
 /// How many entries a chain may have: so few that those of all slots of a block can be counted.
 pub(crate) const MOST_ENTRIES: usize = 1 << 31;
@@ -33,12 +32,11 @@ pub(crate) fn chain_of(chains: &Chains, slot: u32) -> Option<&Chain<Before>>
         (λ chain. chain.now.entries ≡ entries_at chains.now.entries slot) }
     ensures none { IfNone result (entries_at chains.now.entries slot ≡ []) }
 {
-    chains.get(&slot)
+    chains.get(slot)
 }
 
 /// Adds an entry on top of a slot's. Without memory the chains stay, and the entry comes back.
 pub(crate) fn push(
-    alloc: Global,
     chains: &mut Chains,
     slot: u32,
     undo: Undo<Before>,
@@ -54,18 +52,12 @@ pub(crate) fn push(
         entries_at chains.new.entries other ≡ entries_at chains.old.entries other }
     ensures back { IfErr result (λ refused. refused.value ≡ undo) }
 {
-    let Ok(entry) = chains.entry(slot) else {
+    let Ok(mut chain) = chains.open(slot) else {
         return Err(AllocFailed { value: undo });
     };
-    match entry {
-        Entry::Occupied(mut entry) => lay_on(entry.get_mut(), undo),
-        Entry::Vacant(entry) => {
-            let mut chain = Chain::new(alloc);
-            lay_on(&mut chain, undo)?;
-            entry.insert(chain);
-            Ok(())
-        }
-    }
+    let pushed = lay_on(&mut chain, undo);
+    chains.put(slot, chain);
+    pushed
 }
 
 /// Adds an entry on top of a chain.
@@ -109,8 +101,9 @@ fn stamp_slot(chains: &mut Chains, slot: u32, session: u32, stamp: u64, number: 
     ensures others { (other : ℕ) → other ≢ slot →
         entries_at chains.new.entries other ≡ entries_at chains.old.entries other }
 {
-    if let Some(chain) = chains.get_mut(&slot) {
+    if let Some(mut chain) = chains.take(slot) {
         chain.stamp_all(session, stamp, number);
+        chains.put(slot, chain);
     }
 }
 
@@ -131,6 +124,7 @@ pub(crate) fn prune(chains: &mut Chains, slots: u32, oldest: u64) -> u64
         dropped += prune_slot(chains, slot, oldest);
         from = slot + 1;
     }
+    chains.trim();
     dropped
 }
 
@@ -143,8 +137,7 @@ pub(crate) fn next_slot(chains: &Chains, from: u32) -> Option<u32>
     ensures none { IfNone result ((other : ℕ) → from ≤ other → chain_at chains.now.entries other
         ≡ None) }
 {
-    let (slot, _) = chains.range(from..).next()?;
-    Some(*slot)
+    chains.next(from)
 }
 
 /// Drops the entries of a slot with a stamp at most `oldest`.
@@ -159,13 +152,11 @@ fn prune_slot(chains: &mut Chains, slot: u32, oldest: u64) -> u64
         (entries_at chains.old.entries slot) }
     ensures few { result ≤ 2 ^ 31 }
 {
-    let Some(chain) = chains.get_mut(&slot) else {
+    let Some(mut chain) = chains.take(slot) else {
         return 0;
     };
     let dropped = chain.prune(oldest);
-    if chain.entries().is_empty() {
-        chains.remove(&slot);
-    }
+    chains.put(slot, chain);
     dropped
 }
 
@@ -179,11 +170,9 @@ pub(crate) fn pop(chains: &mut Chains, slot: u32) -> Option<Undo<Before>>
     ensures others { (other : ℕ) → other ≢ slot →
         entries_at chains.new.entries other ≡ entries_at chains.old.entries other }
 {
-    let chain = chains.get_mut(&slot)?;
+    let mut chain = chains.take(slot)?;
     let undo = chain.pop_newest();
-    if chain.entries().is_empty() {
-        chains.remove(&slot);
-    }
+    chains.put(slot, chain);
     undo
 }
 
@@ -214,6 +203,7 @@ pub(crate) fn roll_back(chains: &mut Chains, rows: &mut Rows, slots: &[u32], ses
             any = true;
         }
     }
+    chains.trim();
     any
 }
 
@@ -241,13 +231,11 @@ fn roll_back_slot(chains: &mut Chains, rows: &mut Rows, slot: u32, session: u32)
     ensures any { result ≡ list_any (λ undo. is_own undo session)
         (entries_at chains.old.entries slot) }
 {
-    let Some(chain) = chains.get_mut(&slot) else {
+    let Some(mut chain) = chains.take(slot) else {
         return false;
     };
-    let any = lay_own_back(chain, rows, slot, session);
-    if chain.entries().is_empty() {
-        chains.remove(&slot);
-    }
+    let any = lay_own_back(&mut chain, rows, slot, session);
+    chains.put(slot, chain);
     any
 }
 

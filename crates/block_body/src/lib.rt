@@ -3,6 +3,7 @@
 #![tactic(auto)]
 
 mod body;
+mod chain_table;
 mod chains;
 pub mod laws;
 mod lists;

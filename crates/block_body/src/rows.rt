@@ -17,9 +17,9 @@ ghost use Rattle.block_body.specs.Rows.{in_image, own_rows};
 ghost use Rattle.block_body.specs.Slots.{slots_from};
 
 use crate::shared::Shared;
-use block_columns::{Before, Columns, Image, Patch};
+use block_columns::{ArrowForm, Before, Columns, Image, Patch};
 use block_spec::Change;
-use cell_model::{Buffers, Row, Schema};
+use cell_model::{Row, Schema};
 use std::alloc::{AllocError, AllocFailed, Global};
 use std::marker::Model;
 
@@ -112,13 +112,13 @@ impl Rows {
         Ok(())
     }
 
-    /// Makes an image of its own columns with these buffers, and has the rows from it. Without
-    /// memory the rows stay.
-    pub fn freeze_own(&mut self, alloc: Global, buffers: Vec<Buffers>) -> Result<(), AllocError>
+    /// Makes an image of its own columns with this form, and has the rows from it. Without memory
+    /// the rows stay.
+    pub fn freeze_own(&mut self, alloc: Global, form: ArrowForm) -> Result<(), AllocError>
         requires own { self.old.image ≡ None }
-        requires whole { IsWhole (image_of self.old.columns self.old.rows buffers.items) }
+        requires whole { IsWhole (image_of self.old.columns self.old.rows form) }
         ensures ok { OnOk result (self.new
-            ≡ in_image (image_of self.old.columns self.old.rows buffers.items)) }
+            ≡ in_image (image_of self.old.columns self.old.rows form)) }
         ensures columns { self.new.columns ≡ self.old.columns }
         ensures rows { self.new.rows ≡ self.old.rows }
         ensures own { OnErr result (self.new.image ≡ None) }
@@ -128,7 +128,7 @@ impl Rows {
         };
         // Each slot with a row has memory.
         let _room = columns.room();
-        match Shared::new(alloc, Image::of(columns, self.count, buffers)) {
+        match Shared::new(alloc, Image::of(columns, self.count, form)) {
             Ok(shared) => {
                 self.image = Some(shared);
                 Ok(())

@@ -11,7 +11,7 @@ ghost use Rattle.block_body.specs.Keys.{HasKey};
 use crate::body::LAST_STAMP;
 use crate::rows::Rows;
 use crate::{Body, Look};
-use block_columns::Image;
+use block_columns::{ArrowForm, Image};
 use block_spec::{Change, MovableRow, Phase, SealFault};
 use cell_model::{Buffers, Bytes, Cell, Column, Kind, Row, Schema, are_named};
 use std::alloc::Global;
@@ -240,7 +240,7 @@ fn rows_come_back_from_a_shared_image(rt: HostRuntime) -> Result<(), Fail> {
     }
     let columns = rows.columns().copy()?;
     if buffers.len() == columns.width() {
-        rows.freeze(alloc, Image::of(columns, 0, buffers))?;
+        rows.freeze(alloc, Image::of(columns, 0, ArrowForm::new(buffers, None)))?;
     }
     let Some(shared) = rows.image() else {
         return Err(Fail::from("the rows are no image's"));

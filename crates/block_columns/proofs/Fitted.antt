@@ -4,7 +4,7 @@ use Rattle.std.specs.Prelude.{slice_set, slice_get, All, AllPairs, Option, None,
 use Rattle.std.specs.List.{AllZip}
 use Rattle.std.proofs.lemmas.Bool.Decides.{eqb_tells}
 use Rattle.std.proofs.Math.ListN.{length-set}
-use Rattle.std.proofs.lemmas.List.{set-set, get_or-set_other, length-map, get_or-map}
+use Rattle.std.proofs.lemmas.List.{set-set, length-map, get_or-map}
 use Rattle.block_columns.proofs.Slots.{set_same}
 use Rattle.std.proofs.lemmas.List.Elements.{All-head, All-tail, All-cons, All-nil}
 use Rattle.cell_model.specs.declared.cell.Cell.{Cell}
@@ -58,12 +58,14 @@ row_each columns row fits = go (eqb_tells (length row) (length columns))
     go (inl same) = first_each 0 columns row same.1 (sym (ap (λ b. cond b (first_fault 0 columns row) (Some Arity)) same.0) ∙ fits)
     go (inr other) = let no : Some Arity ≡ None = sym (ap (λ b. cond b (first_fault 0 columns row) (Some Arity)) other.0) ∙ fits in cc
 
+-- a row of cells that fit has one for each column
 pub zip_length : (columns : List Column) (row : List Cell) → AllZip CellFits columns row → length row ≡ length columns
 zip_length [] [] each = refl
 zip_length [] (x ∷ xs) each = absurd each
 zip_length (c ∷ cs) [] each = absurd each
 zip_length (c ∷ cs) (x ∷ xs) each = ap suc (zip_length cs xs each.1)
 
+-- a row whose cells fit fits
 pub each_row : (columns : List Column) (row : List Cell) → AllZip CellFits columns row → Fits columns row
 each_row columns row each = go (eqb_tells (length row) (length columns))
   where
@@ -80,6 +82,7 @@ assigned columns a d fits = from columns a.column fits
     from (c ∷ cs) zero h = (omega arith, fault_any a.column 0 c a.cell h)
     from (c ∷ cs) (suc k) h = let r : (k < length cs) × CellFits (get_or cs k d) a.cell = from cs k h in (omega (arith, r.0), r.1)
 
+-- a row that fits, with another cell that fits its column, fits
 pub zip_set : (columns : List Column) (row : List Cell) (k : ℕ) (x : Cell) (d : Column) → AllZip CellFits columns row → CellFits (get_or columns k d) x → AllZip CellFits columns (slice_set row k x)
 zip_set [] [] k x d each fits = tt
 zip_set [] (y ∷ ys) k x d each fits = absurd each
@@ -95,6 +98,7 @@ patched_each columns row (a ∷ p) d each fits =
     (zip_set columns row a.column a.cell d each (assigned columns a d (All-head (AssignmentFits columns) a p fits)).1)
     (All-tail (AssignmentFits columns) a p fits)
 
+-- a patched row has as many cells
 pub patched_long : (row : List Cell) (patch : List Assignment) → length (patched row patch) ≡ length row
 patched_long row [] = refl
 patched_long row (a ∷ p) = patched_long (slice_set row a.column a.cell) p ∙ length-set row a.column a.cell
@@ -113,6 +117,7 @@ patched_set row k x (b ∷ p) ne =
     ap (λ (r : List Cell). patched r p) (set_comm row k b.column x b.cell (All-head (λ (b : Assignment). k ≢ b.column) b p ne))
     ∙ patched_set (slice_set row b.column b.cell) k x p (All-tail (λ (b : Assignment). k ≢ b.column) b p ne)
 
+-- no two assignments are of one column
 abbrev pub Apart : List Assignment → Type 0
 Apart patch = AllPairs (λ one other. one.column ≢ other.column) patch
 
@@ -121,14 +126,6 @@ apart_head a p apart = λ k d lt. apart 0 (suc k) d (omega arith) (omega (arith,
 
 apart_tail : (a : Assignment) (p : List Assignment) → Apart (a ∷ p) → Apart p
 apart_tail a p apart = λ i j d lt within. apart (suc i) (suc j) d (omega (arith, lt)) (omega (arith, within))
-
--- what stood in other columns is not changed by an assignment
-standing_set : (row : List Cell) (k : ℕ) (x : Cell) (patch : List Assignment) → All (λ (b : Assignment). k ≢ b.column) patch → columns_before (slice_set row k x) patch ≡ columns_before row patch
-standing_set row k x [] ne = refl
-standing_set row k x (b ∷ p) ne =
-    ap (λ (z : Cell). let a : Assignment = record { column = b.column; cell = z } in a ∷ columns_before (slice_set row k x) p)
-    (get_or-set_other row k b.column x Null (λ e. All-head (λ (b : Assignment). k ≢ b.column) b p ne (sym e)))
-    ∙ ap (λ (l : List Assignment). standing row b ∷ l) (standing_set row k x p (All-tail (λ (b : Assignment). k ≢ b.column) b p ne))
 
 -- a patch is undone by what stood in its columns
 pub patched_back : (row : List Cell) (patch : List Assignment) → Apart patch → patched (patched row patch) (columns_before row patch) ≡ row
@@ -166,5 +163,6 @@ before_apart row patch apart = λ i j d lt within.
     column_at : (i : ℕ) (d : Assignment) → i < length patch → (get_or (columns_before row patch) i d).column ≡ (get_or patch i d).column
     column_at i d lt = ap (λ (a : Assignment). a.column) (get_or-map (standing row) patch i d d lt)
 
+-- what a patch replaces in a row that fits is a patch that fits
 pub before_fits : (columns : List Column) (row : List Cell) (patch : List Assignment) → AllZip CellFits columns row → PatchFits columns patch → PatchFits columns (columns_before row patch)
 before_fits columns row patch each fits = record { each = before_each columns row patch each fits.each; distinct = before_apart row patch fits.distinct }

@@ -110,6 +110,7 @@ keeps-cells kind valid (store.Values v) cells k =
     ∙ ap (λ (xs : List (List ℕ)). masked (map valid_bit cells) (map (bytes_in (values_of kind)) xs)) k.stored
     ∙ masked-back kind (bytes_in (values_of kind)) value_of (λ c slot. bytes_back kind c k.known slot) cells k.each
 
+-- what is kept are the cells that are read from it
 pub keeps-itself : (kind : Kind) (valid : List Bool) (kept : Store) (cells : List Cell) → Keeps kind valid kept cells → Keeps kind valid kept (cells_in kind valid kept)
 keeps-itself kind valid kept cells k = subst (λ (cs : List Cell). Keeps kind valid kept cs) (sym (keeps-cells kind valid kept cells k)) k
 
@@ -200,6 +201,7 @@ no-number cell_of each [] at = refl
 no-number cell_of each (x ∷ xs) zero = each x
 no-number cell_of each (x ∷ xs) (suc at) = no-number cell_of each xs at
 
+-- a value that is made of bytes has no number
 pub no-number-in : (values : Values) (bytes : List ℕ) → pos 0 ≡ number_of (bytes_in values bytes)
 no-number-in (signed width) bytes = refl
 no-number-in (unsigned width) bytes = refl
@@ -207,6 +209,7 @@ no-number-in truths bytes = refl
 no-number-in texts bytes = refl
 no-number-in blobs bytes = refl
 
+-- nor has one that is made of stored truth values or bytes
 pub no-number-stored : (kept : Store) (at : ℕ) → ((bits : List Bool) × kept ≡ store.Truths bits) ⊎ ((values : Vec (List ℕ) Global) × kept ≡ store.Values values)
     → (kind : Kind) → pos 0 ≡ number_of (get_or (full_cells kind kept) at Null)
 no-number-stored kept at (inl is) kind =
@@ -235,6 +238,7 @@ slot_short (Text t) false slot = cc
 slot_short (Blob t) true slot = grind (arith, nat_tests)
 slot_short (Blob t) false slot = cc
 
+-- the bytes of a cell are few
 pub keeps-short : (kind : Kind) (valid : List Bool) (kept : Store) (cells : List Cell) (at : ℕ) → Keeps kind valid kept cells → length (bytes_at kept at) ≤ 65535
 keeps-short kind valid kept cells at k =
     subst (λ (bytes : List ℕ). length bytes ≤ 65535) (sym (keeps-bytes kind valid kept cells at k))

@@ -17,6 +17,7 @@ width_of truths bits sign width known same = absurd known
 width_of texts bits sign width known same = absurd known
 width_of blobs bits sign width known same = absurd known
 
+-- lists made of what a list is mapped to, in a row
 pub flat_map-map : {X Y Z : Type 0} (f : Y → List Z) (g : X → Y) (xs : List X) → flat_map f (map g xs) ≡ flat_map (λ x. f (g x)) xs
 flat_map-map f g [] = refl
 flat_map-map f g (x ∷ xs) = ap (λ (l : List _). f (g x) ++ l) (flat_map-map f g xs)

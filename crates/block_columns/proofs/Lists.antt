@@ -16,6 +16,7 @@ use Rattle.cell_model.specs.declared.cell.Cell.TheVariants.{Null}
 pub values-set : {X Y : Type 0} (f : X → Y) (ys : List Y) (xs : List X) (at : ℕ) (x : X) (y : Y) → y ≡ f x → ys ≡ map f xs → slice_set ys at y ≡ map f (slice_set xs at x)
 values-set f ys xs at x y is same = ap (λ z. slice_set ys at z) is ∙ ap (λ (l : List _). slice_set l at (f x)) same ∙ sym (map-set f xs at x)
 
+-- one element many times, mapped
 pub map-replicate : {X Y : Type 0} (f : X → Y) (n : ℕ) (x : X) → map f (replicate n x) ≡ replicate n (f x)
 map-replicate f zero x = refl
 map-replicate f (suc n) x = ap (λ (l : List _). f x ∷ l) (map-replicate f n x)
@@ -29,6 +30,7 @@ values-extend f ys xs n same =
 pub fits_back : (z : ℤ) → mag z < 2 ^ 127 → to_z w128 (of_z w128 z) ≡ z
 fits_back z fits = to_z-of_z w128 z (search rules)
 
+-- what holds anyway holds where a result failed
 pub on_err : {T E P : Type 0} (r : Result T E) → P → OnErr r P
 on_err (Ok x) p = tt
 on_err (Err e) p = p

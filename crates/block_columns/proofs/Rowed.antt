@@ -17,7 +17,7 @@ use Rattle.block_spec.specs.declared.change.Change.TheVariants as change
 use Rattle.block_spec.specs.Fitting.{columns_of, unnamed}
 use Rattle.block_spec.specs.Slots.{Row, image_before, laid_back}
 use Rattle.block_columns.proofs.Slots.{set_same, with_row-long}
-use Rattle.block_columns.proofs.Tables.{range_same, set_slot, nulls, nulls-are, cells_at-long, with_row-itself}
+use Rattle.block_columns.proofs.Tables.{range_same, set_slot}
 
 -- a slice that was written is the whole vector's
 pub written_back : {X : Type 0} (new old : List X) (len : ℕ) → length new ≡ length old → len ≡ length old → take len (new ++ drop (length new) old) ≡ new
@@ -34,25 +34,24 @@ row_at taken cs slots at are = elim (cases_lt at slots) [
       ∙ ap (λ b. cond b (Some (cells_at at cs)) None) (sym (get_or_past taken at false (omega (arith, le, are.within))))
 ]
 
+-- there is a row, or none, for each slot
 pub rows_long : (taken : List Bool) (cs : List ColumnValue) (slots : ℕ) → length (rows_in taken cs slots) ≡ slots
 rows_long taken cs slots = length-map-range_with_len (row_in taken cs) 0 slots
 
+-- a row that is there has its bit
 pub has_bit : (bit : Bool) (row : List Cell) → IsSome (cond bit (Some row) None) → bit ≡ true
 has_bit true row h = refl
 has_bit false row h = cc
 
+-- and with the bit it is there
 pub bit_has : (bit : Bool) (row : List Cell) → bit ≡ true → IsSome (cond bit (Some row) None)
 bit_has true row h = refl
 bit_has false row h = cc
 
+-- where it is not there the bit is not
 pub no_bit : (bit : Bool) (row : List Cell) → cond bit (Some row) None ≡ None → bit ≡ false
 no_bit true row h = cc
 no_bit false row h = refl
-
--- a slot without a row is null in each column
-pub bare_nulls : (taken : List Bool) (cs : List ColumnValue) (slots at : ℕ) → AreColumns taken cs slots → get_or taken at false ≡ false → with_row at cs (nulls cs) ≡ cs
-bare_nulls taken cs slots at are bit =
-    ap (λ (l : List Cell). with_row at cs l) (sym (nulls-are (cells_at at cs) cs (cells_at-long at cs) (are.bare at bit))) ∙ with_row-itself at cs
 
 -- a slot with a row is among those with memory
 pub bit_within : (taken : List Bool) (at : ℕ) → get_or taken at false ≡ true → at < length taken
@@ -80,10 +79,12 @@ slot_written taken bits cs new slots at len bit xs value view are lt put is whol
       r.2 ∙ ap (λ (v : ColumnsValue). v.columns) view,
     )
 
+-- each column that is kept is one that is seen
 pub columns_long : (cs : List ColumnValue) → length (columns_in cs) ≡ length cs
 columns_long [] = refl
 columns_long (c ∷ cs) = ap suc (columns_long cs)
 
+-- a column to stand where there is none
 abbrev pub no_column : Column
 no_column = record { name = []; kind = kind.Bool; nullable = true }
 
@@ -95,14 +96,17 @@ row_here taken cs slots at value view are some =
     let bit : get_or taken at false ≡ true = has_bit (get_or taken at false) (cells_at at cs) (subst (λ (o : Option (List Cell)). IsSome o) seen some) in
     (bit, seen ∙ ap (λ b. cond b (Some (cells_at at cs)) None) bit)
 
+-- a slot that is seen without a row has no bit
 pub row_none : (taken : List Bool) (cs : List ColumnValue) (slots at : ℕ) (value : ColumnsValue) → seen_as taken cs slots ≡ value → AreColumns taken cs slots → get_or value.rows at None ≡ None
     → get_or taken at false ≡ false
 row_none taken cs slots at value view are none =
     no_bit (get_or taken at false) (cells_at at cs) (sym (row_at taken cs slots at are) ∙ ap (λ (v : ColumnsValue). get_or v.rows at None) view ∙ none)
 
+-- each column has memory for each slot that has a bit, set or not
 pub room_all : (taken : List Bool) (cs : List ColumnValue) (slots at : ℕ) → AreColumns taken cs slots → at < length taken → All (λ c. at < length c.cells) cs
 room_all taken cs slots at are lt = λ k d within. omega (arith, are.room k d within, lt)
 
+-- bits with one put where it is already are the same
 pub itself : (taken : List Bool) (at : ℕ) (bit : Bool) → get_or taken at false ≡ bit → taken ≡ slice_set taken at bit
 itself taken at bit is = sym (set_same taken at false) ∙ ap (λ b. slice_set taken at b) is
 
@@ -122,6 +126,7 @@ get_or-padded [] n i = none n i
 get_or-padded (x ∷ xs) n zero = refl
 get_or-padded (x ∷ xs) n (suc i) = get_or-padded xs n i
 
+-- bits that are not set, put behind others, are read as those that are missing
 pub bits-padded : (xs : List Bool) (n i : ℕ) → get_or (xs ++ replicate n false) i false ≡ get_or xs i false
 bits-padded [] n i = none n i
   where
@@ -147,6 +152,7 @@ longer_columns (c ∷ cs) [] zip = absurd zip
 longer_columns (c ∷ cs) (d ∷ ds) zip =
     ap (λ (x : Column). x ∷ columns_in ds) (ap (λ (v : ColumnValue). v.column) zip.0.1) ∙ ap (λ (l : List Column). c.column ∷ l) (longer_columns cs ds zip.1)
 
+-- columns that got longer have room for as many slots
 pub longer_room : (n : ℕ) (cs new : List ColumnValue) → AllZip IsLonger cs new → All (λ c. n ≤ length c.cells) cs → All (λ c. n ≤ length c.cells) new
 longer_room n [] [] zip room = room
 longer_room n [] (d ∷ ds) zip room = absurd zip
@@ -157,6 +163,7 @@ longer_room n (c ∷ cs) (d ∷ ds) zip room =
     let more : length d.cells ≡ length c.cells + zip.0.0 = ap (λ (v : ColumnValue). length v.cells) zip.0.1 ∙ length-append c.cells (replicate zip.0.0 Null) ∙ ap (λ m. length c.cells + m) (length-replicate zip.0.0 Null) in
     All-cons P d ds (omega (arith, first, more)) (longer_room n cs ds zip.1 (All-tail P c cs room))
 
+-- and are as many
 pub longer_long : (cs new : List ColumnValue) → AllZip IsLonger cs new → length new ≡ length cs
 longer_long [] [] zip = refl
 longer_long [] (d ∷ ds) zip = absurd zip
@@ -198,14 +205,17 @@ none_from : (n a : ℕ) → map (λ (i : ℕ). let o : Option (List Cell) = None
 none_from zero a = refl
 none_from (suc n) a = ap (λ (l : List (Option (List Cell))). None ∷ l) (none_from n (a + 1))
 
+-- where there are no bits no slot has a row
 pub new_rows : (taken : List Bool) (cs : List ColumnValue) (slots : ℕ) → taken ≡ [] → rows_in taken cs slots ≡ replicate slots None
 new_rows taken cs slots none =
     range_same (λ (i : ℕ). let o : Option (List Cell) = None in o) (row_in taken cs) slots (λ i. ap (λ (l : List Bool). cond (get_or l i false) (Some (cells_at i cs)) None) none)
     ∙ none_from slots 0
 
+-- a column is itself with no null behind it
 pub longer_itself : (c : ColumnValue) → IsLonger c c
 longer_itself c = (0, ap (λ (l : List Cell). let r : ColumnValue = record { column = c.column; cells = l } in r) (sym (append-nil c.cells)))
 
+-- and so is each of several
 pub longer_zip : (cs : List ColumnValue) → AllZip IsLonger cs cs
 longer_zip [] = tt
 longer_zip (c ∷ cs) = (longer_itself c, longer_zip cs)
@@ -217,6 +227,7 @@ longer_twice a b c (m, is) (n, then) = (
       ∙ ap (λ (l : List Cell). let r : ColumnValue = record { column = a.column; cells = l } in r) (append_assoc a.cells (replicate m Null) (replicate n Null) ∙ ap (λ (l : List Cell). a.cells ++ l) (replicate-append-replicate m n Null)),
 )
 
+-- columns that got longer, with one of them longer still
 pub longer_set : (cs ds : List ColumnValue) (i : ℕ) (d new : ColumnValue) → AllZip IsLonger cs ds → IsLonger (get_or ds i d) new → AllZip IsLonger cs (slice_set ds i new)
 longer_set [] [] i d new zip one = tt
 longer_set [] (y ∷ ys) i d new zip one = absurd zip
@@ -244,6 +255,7 @@ extended (Ok x) bits taken n ok err = (
 )
 extended (Err e) bits taken n ok err = ((λ i. ap (λ (l : List Bool). get_or l i false) err), omega (arith, ap (λ (l : List Bool). length l) err))
 
+-- new columns are seen without their names
 pub new_names : (ds : List Column) → columns_in (map (λ (c : Column). let r : ColumnValue = record { column = record c { name = [] }; cells = [] } in r) ds) ≡ columns_of ds
 new_names [] = refl
 new_names (d ∷ ds) = ap (λ (l : List Column). unnamed d ∷ l) (new_names ds)
@@ -275,6 +287,7 @@ column_cell taken cs slots column slot d are lt =
     go true is = sym (ap (λ b. cell_of column (cond b (Some (cells_at slot cs)) None)) is)
     go false is = null_there (cells_at slot cs) column (are.bare slot is) ∙ sym (ap (λ b. cell_of column (cond b (Some (cells_at slot cs)) None)) is)
 
+-- a column that is kept is seen at its place
 pub column_there : (cs : List ColumnValue) (k : ℕ) (d : ColumnValue) → k < length cs → slice_get (columns_in cs) k ≡ Some (get_or cs k d).column
 column_there [] k d lt = absurd (omega (arith, lt))
 column_there (c ∷ cs) zero d lt = refl

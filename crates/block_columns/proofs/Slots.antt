@@ -24,40 +24,47 @@ fits_slot column cell fits = go (is_null cell) (is_value_of column.kind cell) (n
     go false true false short l h = l refl
     go false false long short l h = cc
 
+-- the cell of a column in a row that fits fits it
 pub zip_at : (cs : List ColumnValue) (xs : List Cell) (i : ℕ) (d : ColumnValue) (e : Cell) → AllZip CellFits (columns_in cs) xs → i < length cs → CellFits (get_or cs i d).column (get_or xs i e)
 zip_at [] xs i d e zip lt = absurd (omega (arith, lt))
 zip_at (c ∷ cs) [] i d e zip lt = absurd zip
 zip_at (c ∷ cs) (x ∷ xs) zero d e zip lt = zip.0
 zip_at (c ∷ cs) (x ∷ xs) (suc i) d e zip lt = zip_at cs xs i d e zip.1 (omega (arith, lt))
 
+-- a row that fits has a cell for each column
 pub zip_long : (cs : List ColumnValue) (xs : List Cell) → AllZip CellFits (columns_in cs) xs → length xs ≡ length cs
 zip_long [] [] zip = refl
 zip_long [] (x ∷ xs) zip = absurd zip
 zip_long (c ∷ cs) [] zip = absurd zip
 zip_long (c ∷ cs) (x ∷ xs) zip = ap suc (zip_long cs xs zip.1)
 
+-- the spare cell of a column serves it
 pub spare_at : (at : ℕ) (cs : List ColumnValue) (xs : List Cell) (i : ℕ) (d : ColumnValue) (e : Cell) → AllZip (IsSpare at) cs xs → i < length cs → IsSpare at (get_or cs i d) (get_or xs i e)
 spare_at at [] xs i d e zip lt = absurd (omega (arith, lt))
 spare_at at (c ∷ cs) [] i d e zip lt = absurd zip
 spare_at at (c ∷ cs) (x ∷ xs) zero d e zip lt = zip.0
 spare_at at (c ∷ cs) (x ∷ xs) (suc i) d e zip lt = spare_at at cs xs i d e zip.1 (omega (arith, lt))
 
+-- there is a spare cell for each column
 pub spare_long : (at : ℕ) (cs : List ColumnValue) (xs : List Cell) → AllZip (IsSpare at) cs xs → length xs ≡ length cs
 spare_long at [] [] zip = refl
 spare_long at [] (x ∷ xs) zip = absurd zip
 spare_long at (c ∷ cs) [] zip = absurd zip
 spare_long at (c ∷ cs) (x ∷ xs) zip = ap suc (spare_long at cs xs zip.1)
 
+-- with a column more and a cell that serves it
 pub spare_push : (at : ℕ) (cs : List ColumnValue) (xs : List Cell) (c : ColumnValue) (x : Cell) → AllZip (IsSpare at) cs xs → IsSpare at c x → AllZip (IsSpare at) (cs ++ c ∷ []) (xs ++ x ∷ [])
 spare_push at [] [] c x zip one = (one, tt)
 spare_push at [] (y ∷ ys) c x zip one = absurd zip
 spare_push at (d ∷ ds) [] c x zip one = absurd zip
 spare_push at (d ∷ ds) (y ∷ ys) c x zip one = (zip.0, spare_push at ds ys c x zip.1 one)
 
+-- columns with no cells put into a slot are as they were
 pub with_row-none : (at : ℕ) (cs : List ColumnValue) → with_row at cs [] ≡ cs
 with_row-none at [] = refl
 with_row-none at (c ∷ cs) = refl
 
+-- columns with cells in a slot are as many
 pub with_row-long : (at : ℕ) (cs : List ColumnValue) (xs : List Cell) → length (with_row at cs xs) ≡ length cs
 with_row-long at [] xs = refl
 with_row-long at (c ∷ cs) [] = refl
@@ -85,6 +92,7 @@ set_set [] at x y = refl
 set_set (z ∷ l) zero x y = refl
 set_set (z ∷ l) (suc at) x y = ap (λ (k : List Cell). z ∷ k) (set_set l at x y)
 
+-- what is put into a slot and wiped leaves what wiping it leaves
 pub wiped-with_row : (at : ℕ) (cs : List ColumnValue) (xs : List Cell) → wiped at (with_row at cs xs) ≡ wiped at cs
 wiped-with_row at [] xs = refl
 wiped-with_row at (c ∷ cs) [] = refl
@@ -116,17 +124,20 @@ pub state_all : (P : ColumnValue → Type 0) (at : ℕ) (init cols : List Column
     → All P init → P (get_or cols i d)
 state_all P at init cols xs i d is lt all = subst P (sym (state_at at init cols xs i d is)) (All-get_or P init i d lt all)
 
+-- the next cell of a row that fits suits its column's kind
 pub state_slot : (at : ℕ) (init cols : List ColumnValue) (xs : List Cell) (i : ℕ) (d : ColumnValue) (x : Cell) → cols ≡ with_row at init (take i xs) → i < length init
     → AllZip CellFits (columns_in init) xs → x ≡ get_or xs i x → IsSlotOf (get_or cols i d).column.kind x
 state_slot at init cols xs i d x is lt fits cell =
     subst (λ (v : ColumnValue). IsSlotOf v.column.kind x) (sym (state_at at init cols xs i d is))
     (fits_slot (get_or init i d).column x (subst (λ (z : Cell). CellFits (get_or init i d).column z) (sym cell) (zip_at init xs i d x fits lt)))
 
+-- a list with an element put where it stands is the same
 pub set_same : {X : Type 0} (l : List X) (i : ℕ) (d : X) → slice_set l i (get_or l i d) ≡ l
 set_same [] i d = refl
 set_same (y ∷ l) zero d = refl
 set_same (y ∷ l) (suc i) d = ap (λ (k : List _). y ∷ k) (set_same l i d)
 
+-- where all cells are put, the whole row is
 pub state_end : (at : ℕ) (init cols : List ColumnValue) (xs : List Cell) (i : ℕ) → cols ≡ with_row at init (take i xs) → length xs ≡ length init → length init ≤ i → cols ≡ with_row at init xs
 state_end at init cols xs i is long le = is ∙ ap (λ (l : List Cell). with_row at init l) (take_all i xs (omega (arith, long, le)))
 
@@ -144,16 +155,19 @@ part_set f (x ∷ xs) [] i d lt long = absurd (omega (arith, long))
 part_set f (x ∷ xs) (y ∷ ys) zero d lt long = refl
 part_set f (x ∷ xs) (y ∷ ys) (suc i) d lt long = ap (λ (l : List _). f x ∷ l) (part_set f xs ys i d (omega (arith, lt)) (omega (arith, long)))
 
+-- one more of a list is what it is mapped to
 pub part_more : {X Y : Type 0} (f : X → Y) (xs : List X) (ys now : List Y) (i : ℕ) (d : X) (y : Y) → now ≡ map f (take i xs) ++ drop i ys → y ≡ f (get_or xs i d) → i < length xs → length ys ≡ length xs
     → slice_set now i y ≡ map f (take (i + 1) xs) ++ drop (i + 1) ys
 part_more f xs ys now i d y is new lt long =
     ap (λ (l : List _). slice_set l i y) is ∙ ap (λ z. slice_set (map f (take i xs) ++ drop i ys) i z) new
     ∙ part_set f xs ys i d lt long ∙ ap (λ n. map f (take n xs) ++ drop n ys) (sym (add-one i))
 
+-- where all of a list are, the list is mapped
 pub part_end : {X Y : Type 0} (f : X → Y) (xs : List X) (ys now : List Y) (i : ℕ) → now ≡ map f (take i xs) ++ drop i ys → length xs ≤ i → length ys ≡ length xs → now ≡ map f xs
 part_end f xs ys now i is le long =
     is ∙ ap (λ (l : List _). map f l ++ drop i ys) (take_all i xs le) ∙ ap (λ (l : List _). map f xs ++ l) (drop_all i ys (omega (arith, le, long))) ∙ append-nil (map f xs)
 
+-- what is not mapped yet stands as it was
 pub filled_at : {X Y : Type 0} (f : X → Y) (xs : List X) (ys now : List Y) (i : ℕ) (d : Y) → now ≡ map f (take i xs) ++ drop i ys → i < length xs → length ys ≡ length xs → get_or now i d ≡ get_or ys i d
 filled_at f xs ys now i d is lt long = ap (λ (l : List _). get_or l i d) is ∙ part_at f xs ys i d lt long
 

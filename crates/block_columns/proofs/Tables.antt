@@ -35,6 +35,7 @@ range_set {X = X} f g n at x others is =
             get_or-map-range_with_len g 0 n k k d lt (zero-add k) ∙ others k other.1
             ∙ sym (get_or-set_other (map f (range_with_len 0 n)) at k x d other.1 ∙ get_or-map-range_with_len f 0 n k k d lt (zero-add k))
 
+-- what maps each number alike maps the range alike
 pub range_same : {X : Type 0} (f g : ℕ → X) (n : ℕ) → ((i : ℕ) → g i ≡ f i) → map g (range_with_len 0 n) ≡ map f (range_with_len 0 n)
 range_same {X = X} f g n same = from 0 n
   where
@@ -59,11 +60,13 @@ cells_at-other i at (c ∷ cs) (x ∷ xs) ne =
     ap (λ (z : Cell). z ∷ cells_at i (with_row at cs xs)) (get_or-set_other c.cells at i x Null ne)
     ∙ ap (λ (l : List Cell). cell_in i c ∷ l) (cells_at-other i at cs xs ne)
 
+-- cells put into a slot leave the names and kinds of the columns
 pub columns_in-with_row : (at : ℕ) (cs : List ColumnValue) (xs : List Cell) → columns_in (with_row at cs xs) ≡ columns_in cs
 columns_in-with_row at [] xs = refl
 columns_in-with_row at (c ∷ cs) [] = refl
 columns_in-with_row at (c ∷ cs) (x ∷ xs) = ap (λ (l : List Column). c.column ∷ l) (columns_in-with_row at cs xs)
 
+-- and their memory
 pub room-with_row : (n at : ℕ) (cs : List ColumnValue) (xs : List Cell) → All (λ c. n ≤ length c.cells) cs → All (λ c. n ≤ length c.cells) (with_row at cs xs)
 room-with_row n at [] xs room = room
 room-with_row n at (c ∷ cs) [] room = room
@@ -72,6 +75,7 @@ room-with_row n at (c ∷ cs) (x ∷ xs) room =
     let first : n ≤ length c.cells = All-head P c cs room in
     All-cons P (with_cell at c x) (with_row at cs xs) (omega (arith, first, length-set c.cells at x)) (room-with_row n at cs xs (All-tail P c cs room))
 
+-- a slot with its own cells put into it is as it was
 pub with_row-itself : (at : ℕ) (cs : List ColumnValue) → with_row at cs (cells_at at cs) ≡ cs
 with_row-itself at [] = refl
 with_row-itself at (c ∷ cs) =
@@ -87,21 +91,26 @@ with_row-twice at (c ∷ cs) (x ∷ xs) (y ∷ ys) long also =
     ap (λ (l : List Cell). let r : ColumnValue = record { column = c.column; cells = l } in r ∷ with_row at (with_row at cs xs) ys) (set-set c.cells at x y)
     ∙ ap (λ (l : List ColumnValue). with_cell at c y ∷ l) (with_row-twice at cs xs ys (omega (arith, long)) (omega (arith, also)))
 
+-- a null for each column
 abbrev pub nulls : List ColumnValue → List Cell
 nulls cs = map (λ (c : ColumnValue). Null) cs
 
+-- to wipe a slot is to put nulls there
 pub wiped-is : (at : ℕ) (cs : List ColumnValue) → wiped at cs ≡ with_row at cs (nulls cs)
 wiped-is at [] = refl
 wiped-is at (c ∷ cs) = ap (λ (l : List ColumnValue). with_null at c ∷ l) (wiped-is at cs)
 
+-- there are as many nulls as columns
 pub nulls-long : (cs : List ColumnValue) → length (nulls cs) ≡ length cs
 nulls-long [] = refl
 nulls-long (c ∷ cs) = ap suc (nulls-long cs)
 
+-- each of them is null
 pub nulls-null : (cs : List ColumnValue) → All (λ (cell : Cell). cell ≡ Null) (nulls cs)
 nulls-null [] = All-nil (λ (cell : Cell). cell ≡ Null)
 nulls-null (c ∷ cs) = All-cons (λ (cell : Cell). cell ≡ Null) Null (nulls cs) refl (nulls-null cs)
 
+-- as many cells as columns, each null, are these
 pub nulls-are : (xs : List Cell) (cs : List ColumnValue) → length xs ≡ length cs → All (λ (cell : Cell). cell ≡ Null) xs → xs ≡ nulls cs
 nulls-are [] [] long null = refl
 nulls-are [] (c ∷ cs) long null = absurd (omega (arith, long))
@@ -110,6 +119,7 @@ nulls-are (x ∷ xs) (c ∷ cs) long null =
     ap (λ (z : Cell). z ∷ xs) (All-head (λ (cell : Cell). cell ≡ Null) x xs null)
     ∙ ap (λ (l : List Cell). Null ∷ l) (nulls-are xs cs (omega (arith, long)) (All-tail (λ (cell : Cell). cell ≡ Null) x xs null))
 
+-- a slot has a cell in each column
 pub cells_at-long : (at : ℕ) (cs : List ColumnValue) → length (cells_at at cs) ≡ length cs
 cells_at-long at [] = refl
 cells_at-long at (c ∷ cs) = ap suc (cells_at-long at cs)

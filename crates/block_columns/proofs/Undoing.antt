@@ -16,6 +16,7 @@ use Rattle.block_columns.proofs.Slots.{fits_slot, with_row-long}
 use Rattle.block_columns.proofs.Tables.{cells_at-same, cells_at-long, room-with_row, with_row-itself, with_row-twice}
 use Rattle.block_columns.proofs.Fitted.{assigned, patched_long, patched_back}
 
+-- a cell more put into the slot is put into its row
 pub with_row-set : (at : ℕ) (cs : List ColumnValue) (xs : List Cell) (k : ℕ) (d : ColumnValue) (x : Cell) → length xs ≡ length cs
     → slice_set (with_row at cs xs) k (with_cell at (get_or (with_row at cs xs) k d) x) ≡ with_row at cs (slice_set xs k x)
 with_row-set at [] [] k d x long = refl
@@ -75,6 +76,7 @@ module _ (at : ℕ) (init cols : List ColumnValue) (p : List Assignment) (i : �
       subst (λ (l : List ColumnValue). at < length (get_or l k d).cells) (sym is)
       (room-with_row (suc at) at init (patched (cells_at at init) (take i p)) room k d (subst (λ (l : List ColumnValue). k < length l) is lt))
 
+  -- one more assignment of the patch is made
   pub patch_more : (a : Assignment) (d written : ColumnValue) → a ≡ get_or p i a → i < length p → written ≡ with_cell at (get_or cols a.column d) a.cell
       → slice_set cols a.column written ≡ with_row at init (patched (cells_at at init) (take (i + 1) p))
   patch_more a d written read lt new =
@@ -85,15 +87,18 @@ module _ (at : ℕ) (init cols : List ColumnValue) (p : List Assignment) (i : �
       (sym (patched_more (cells_at at init) (take i p) a)
       ∙ ap (λ (l : List Assignment). patched (cells_at at init) l) (ap (λ (b : Assignment). take i p ++ b ∷ []) read ∙ sym (take_more p i a lt)))
 
+  -- after some assignments the slot's cells are those of the patched row
   pub patch_cells : All (λ c. at < length c.cells) init → cells_at at cols ≡ patched (cells_at at init) (take i p)
   patch_cells room = ap (cells_at at) is ∙ cells_at-same at init (patched (cells_at at init) (take i p)) room now_long
 
+-- the cell that the next assignment replaces is added to the before-image
 pub before_next : (row : List Cell) (p : List Assignment) (before after : List Assignment) (i : ℕ) (a added : Assignment) → before ≡ columns_before row (take i p) → a ≡ get_or p i a → i < length p
     → after ≡ before ++ added ∷ [] → added ≡ standing row a → after ≡ columns_before row (take (i + 1) p)
 before_next row p before after i a added is read lt pushed new =
     pushed ∙ ap (λ (b : Assignment). before ++ b ∷ []) new ∙ ap (λ (l : List Assignment). l ++ standing row a ∷ []) is
     ∙ sym (before_more row (take i p) a) ∙ ap (λ (l : List Assignment). columns_before row l) (ap (λ (b : Assignment). take i p ++ b ∷ []) read ∙ sym (take_more p i a lt))
 
+-- the first assignments of a patch that fits fit
 pub take_fits : (columns : List Column) (p : List Assignment) (i : ℕ) → PatchFits columns p → PatchFits columns (take i p)
 take_fits columns p i fits = record {
   each = All-take (AssignmentFits columns) i p fits.each;

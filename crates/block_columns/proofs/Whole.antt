@@ -1,5 +1,5 @@
 -- The rows of the first slots, where each of these has one.
-use Rattle.std.proofs.Common.{◌≡◌, ℕ, zero, suc, ◌<◌, ◌≤◌, get_or, List, [], ◌∷◌, length, map, take, refl, ap, arith}
+use Rattle.std.proofs.Common.{◌≡◌, ℕ, zero, suc, ◌<◌, get_or, List, [], ◌∷◌, length, map, take, refl, ap, arith}
 use Rattle.std.specs.Prelude.{Option, None, Some, IsSome, flat_map, option_to_list}
 use Rattle.block_spec.specs.Slots.{Row}
 use Rattle.arrow_spec.specs.Batches.{column_cells}
@@ -11,6 +11,7 @@ use Rattle.block_columns.specs.Columns.{cell_of}
 abbrev pub HasRows : ℕ → List (Option Row) → Type 0
 HasRows n slots = (slot : ℕ) → slot < n → IsSome (get_or slots slot None)
 
+-- the rows of the slots that have one
 abbrev pub rows_in_slots : List (Option Row) → List Row
 rows_in_slots slots = flat_map (λ slot. option_to_list slot) slots
 
@@ -33,11 +34,6 @@ held_count zero slots held = refl
 held_count (suc n) [] held = let none : IsSome absent = held zero (omega arith) in cc
 held_count (suc n) (None ∷ slots) held = let none : IsSome absent = held zero (omega arith) in cc
 held_count (suc n) (Some row ∷ slots) held = ap suc (held_count n slots (later n (Some row) slots held))
-
--- slots with a row are among those with memory
-pub held_room : (n room : ℕ) (slots : List (Option Row)) → HasRows n slots → ((slot : ℕ) → IsSome (get_or slots slot None) → slot < room) → n ≤ room
-held_room zero room slots held memory = omega arith
-held_room (suc n) room slots held memory = let last : n < room = memory n (held n (omega arith)) in omega arith
 
 -- the cells of a column of slots that all have rows are the rows' cells
 pub column_cells-are : (column : ℕ) (rows : List Row) → map (cell_of column) (map (λ row. Some row) rows) ≡ column_cells column rows

@@ -2,10 +2,10 @@
 ghost use Rattle.std.specs.Prelude.{◌≡◌, ◌+◌, ◌<◌, ◌≤◌, ◌↔◌, ℕ, None, Some, IfOk, OnOk, OnErr};
 ghost use Rattle.std.specs.Prelude.{IsTrue, IsSome, is_some, option_map, count_by, length};
 ghost use Rattle.std.specs.Prelude.{replicate, slice_get, slice_index_or, slice_set, take, ◌^◌};
-ghost use Rattle.std.specs.Prelude.{if◌then◌else◌, ◌≢◌, IsSomeAnd, unwrap_or, []};
+ghost use Rattle.std.specs.Prelude.{if◌then◌else◌, ◌≢◌, IsSomeAnd, unwrap_or, [], map};
 ghost use Rattle.std.specs.Int.{Width};
 ghost use Rattle.std.specs.List.{flat_map};
-ghost use Rattle.arrow_spec.specs.Arrays.{fixed, layout_of, number_of};
+ghost use Rattle.arrow_spec.specs.Arrays.{fixed, layout_of, null_count, number_of};
 ghost use Rattle.arrow_spec.specs.Bytes.{number_bytes};
 ghost use Rattle.cell_model.specs.declared.cell.Cell.TheVariants as cell;
 ghost use Rattle.cell_model.specs.declared.column.Column.{Column as ColumnDecl};
@@ -116,6 +116,18 @@ impl Columns {
             cell_of column (slice_index_or self.now.rows slot None) }
     {
         &self.columns[column]
+    }
+
+    /// How many of the first `n` slots have a null in a column, or no row. These slots have memory.
+    pub fn nulls(&self, column: usize, n: usize) -> usize
+        requires column { column < length self.now.columns }
+        requires room { n ≤ self.now.room }
+        ensures count { result ≡ null_count (map (cell_of column) (take n self.now.rows)) }
+        ensures few { result ≤ n }
+    {
+        // The slots with memory are some of all slots.
+        let _room = self.room();
+        self.column(column).nulls(n)
     }
 
     /// The Arrow bytes of the numbers of the first `n` slots of a column of fixed width, lent, with

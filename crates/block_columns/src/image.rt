@@ -1,19 +1,20 @@
-//! The columns of a frozen block with their Arrow buffers.
-ghost use Rattle.std.specs.Prelude.{◌≡◌, ◌<◌, ◌≤◌, ◌^◌, length, map, option_copied, slice_get};
+//! The columns of a frozen block with their Arrow form.
+ghost use Rattle.std.specs.Prelude.{◌≡◌, ◌<◌, ◌≤◌, ◌^◌, length, map, option_copied};
 ghost use Rattle.std.specs.Prelude.{take};
 ghost use Rattle.arrow_spec.specs.Arrays.{null_count};
 ghost use Rattle.block_columns.specs.Columns.{cell_of};
 
 use crate::columns::Columns;
+use crate::form::ArrowForm;
 use cell_model::Buffers;
 use std::marker::Model;
 
-/// Columns with the Arrow buffers of their first rows.
+/// Columns with the Arrow form of their first rows.
 #[derive(Drop)]
 pub struct Image {
     columns: Columns,
     rows: u32,
-    buffers: Vec<Buffers>,
+    form: ArrowForm,
 }
 
 impl Model for Image {
@@ -26,33 +27,33 @@ impl Model for Image {
       columns = i.columns.columns;
       slots = i.columns.rows;
       rows = i.rows;
-      buffers = i.buffers.items;
+      form = i.form;
     } };
 
     ghost invariant = { λ i. (i.rows ≤ i.columns.room)
-        × (length i.buffers.items ≡ length i.columns.columns) };
+        × (length i.form.buffers ≡ length i.columns.columns) };
 }
 
 impl Image {
-    /// The image of the columns whose first rows have these buffers, a list for each column.
-    pub fn of(columns: Columns, rows: u32, buffers: Vec<Buffers>) -> Image
-        requires each { length buffers.items ≡ length columns.columns }
+    /// The image of the columns whose first rows have this form.
+    pub fn of(columns: Columns, rows: u32, form: ArrowForm) -> Image
+        requires each { length form.buffers ≡ length columns.columns }
         requires rows { rows ≤ columns.room }
         ensures { result ≡ record {
           columns = columns.columns;
           slots = columns.rows;
           rows = rows;
-          buffers = buffers.items;
+          form = form;
         } }
     {
         Image {
             columns,
             rows,
-            buffers,
+            form,
         }
     }
 
-    /// How many rows the buffers are of.
+    /// How many rows the form is of.
     pub fn rows(&self) -> u32
         ensures { result ≡ self.now.rows }
     {
@@ -67,24 +68,29 @@ impl Image {
         &self.columns
     }
 
-    /// How many of the rows that the buffers are of have a null in a column.
+    /// How many of the rows that the form is of have a null in a column.
     pub fn nulls(&self, column: usize) -> usize
         requires { column < length self.now.columns }
         ensures count { result ≡ null_count
             (map (cell_of column) (take self.now.rows self.now.slots)) }
         ensures few { result < 2 ^ 32 }
     {
-        // The slots with memory are some of all slots.
-        let _room = self.columns.room();
-        self.columns.column(column).nulls(self.rows as usize)
+        self.columns.nulls(column, self.rows as usize)
     }
 
-    /// The buffers of a column, lent.
-    pub fn buffers(&self, column: usize) -> Option<&Buffers>
-        ensures value { option_copied result ≡ slice_get self.now.buffers column }
-        ensures each { length self.now.buffers ≡ length self.now.columns }
+    /// The buffers of each column, lent.
+    pub fn buffers(&self) -> &[Buffers]
+        ensures value { result.now ≡ self.now.form.buffers }
+        ensures each { length self.now.form.buffers ≡ length self.now.columns }
     {
-        self.buffers.get(column)
+        self.form.buffers()
+    }
+
+    /// The message of the batch of the rows, lent, where it was put together.
+    pub fn message(&self) -> Option<&[u8]>
+        ensures { option_copied result ≡ self.now.form.message }
+    {
+        self.form.message()
     }
 
     /// The columns, moved out of the image.
@@ -95,7 +101,7 @@ impl Image {
         let Image {
             columns,
             rows: _,
-            buffers: _,
+            form: _,
         } = self;
         columns
     }

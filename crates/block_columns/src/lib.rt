@@ -4,6 +4,7 @@
 
 mod cells;
 mod columns;
+mod form;
 mod image;
 mod patches;
 mod rows;
@@ -13,6 +14,7 @@ mod value;
 pub use block_spec::{Assignment, Before, Patch};
 pub use cells::ColumnCells;
 pub use columns::Columns;
+pub use form::ArrowForm;
 pub use image::Image;
 pub use value::Value;
 

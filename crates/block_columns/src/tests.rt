@@ -4,7 +4,7 @@ ghost use Rattle.std.specs.Prelude.{◌≡◌, ◌<◌};
 ghost use Rattle.cell_model.specs.Rows.{Fits};
 ghost use Rattle.block_spec.specs.Fitting.{columns_of};
 
-use crate::{Assignment, Columns, Image, Patch};
+use crate::{ArrowForm, Assignment, Columns, Image, Patch};
 use cell_model::{Buffers, Bytes, Cell, Column, Kind, Row, Schema, are_named};
 use std::alloc::Global;
 use std::marker::Brand;
@@ -144,10 +144,11 @@ fn an_image_lends_its_columns(rt: HostRuntime) -> Result<(), Fail> {
     assert_eq!(rt; columns.column(3).kind(), Kind::Utf8);
     assert_eq!(rt; columns.column(1).nulls(0), 0);
     assert_eq!(rt; columns.fixed_bytes(0, 0), b"".as_slice());
-    let image = Image::of(columns, 0, buffers);
+    let image = Image::of(columns, 0, ArrowForm::new(buffers, None));
     assert_eq!(rt; image.rows(), 0);
     assert_eq!(rt; image.nulls(1), 0);
-    assert!(rt; image.buffers(3).is_some());
+    assert_eq!(rt; image.buffers().len(), 4);
+    assert!(rt; image.message().is_none());
     assert!(rt; !image.columns().has_row(0));
     assert_eq!(rt; image.into_columns().slots(), 4);
     Ok(())

@@ -19,6 +19,7 @@ none_on_top session limit change slot none =
     let stampless : IsStampedUpTo limit top = search rules in
     All-cons (IsStampedUpTo limit) top slot.entries stampless none
 
+-- a write leaves no stamp above the limit where none was
 pub none_written : (body : Body) (slot session limit : ℕ) (change : Change) → slot < length body.slots →
     ((k : ℕ) → NoneStampedAbove (slot_in body k).entries limit) →
     (k : ℕ) → NoneStampedAbove (slot_in (with_slot slot (written session change) body) k).entries limit

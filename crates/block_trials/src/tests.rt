@@ -9,7 +9,7 @@ use block_body::{Body, Shared};
 use block_columns::{Columns, Image};
 use block_spec::{Change, Phase};
 use cell_model::{Buffers, Bytes, Cell, Column, Kind, Row, Schema, are_named};
-use gather_core::{gather, gather_buffers};
+use gather_core::{gather, gather_form};
 use std::alloc::Global;
 use std::marker::Brand;
 use std::sync::ledger::{Blank, Ledger};
@@ -140,9 +140,9 @@ fn all_held(columns: &Columns, n: u32) -> bool
 /// How a sealed body gets its image.
 #[derive(Clone, Copy)]
 enum Way {
-    /// Of its own columns and the buffers that are made of them.
+    /// Of its own columns and the form that is made of them.
     Own,
-    /// Of a copy of its columns and their buffers.
+    /// Of a copy of its columns and their form.
     Copied,
 }
 
@@ -156,8 +156,8 @@ fn freeze<R: Threads + Sync>(rt: &R, alloc: Global, body: &mut Body, way: Way) -
     }
     match way {
         Way::Own => {
-            let buffers = gather_buffers(rt, alloc, columns, rows)?;
-            body.freeze(buffers)?;
+            let form = gather_form(rt, alloc, columns, rows)?;
+            body.freeze(form)?;
         }
         Way::Copied => {
             let image = gather(rt, alloc, columns, rows)?;
@@ -249,13 +249,17 @@ fn are_same_buffers(one: Option<&Buffers>, other: Option<&Buffers>) -> bool {
             .all(|(one, other)| one.as_slice() == other.as_slice())
 }
 
-fn have_same_buffers(one: &Image, other: &Image) -> bool {
+fn have_same_form(one: &Image, other: &Image) -> bool {
     for place in 0..=COLUMNS.len() {
-        if !are_same_buffers(one.buffers(place), other.buffers(place)) {
+        if !are_same_buffers(one.buffers().get(place), other.buffers().get(place)) {
             return false;
         }
     }
-    true
+    match (one.message(), other.message()) {
+        (Some(one), Some(other)) => one == other,
+        (None, None) => true,
+        (Some(_), None) | (None, Some(_)) => false,
+    }
 }
 
 /// The image of a body with these rows, which it has while it is frozen, and keeps when it is
@@ -290,10 +294,7 @@ fn rows_stay_over_a_freeze_and_a_thaw(rt: HostRuntime) -> Result<(), Fail> {
         let copied = frozen_and_thawed(&rt, alloc, &schema, &rows, Way::Copied)?;
         assert_eq!(rt; own.image().rows(), count);
         assert_eq!(rt; copied.image().rows(), count);
-        assert!(rt;
-            have_same_buffers(own.image(), copied.image()),
-            "{count} rows"
-        );
+        assert!(rt; have_same_form(own.image(), copied.image()), "{count} rows");
     }
     Ok(())
 }

@@ -1,7 +1,7 @@
--- What the buffers of a block make of a hand.
+-- What the form of a block's rows makes of a hand.
 use Rattle.std.proofs.Common.{◌≡◌, ◌∙◌, ℕ, ◌≤◌, ◌^◌, ◌&&◌, Bool, true, false, List, Option, None, Some, Result, Ok, Err, map, length, refl, sym, ap, subst, arith}
 use Rattle.std.specs.Prelude.{OnErr, count_by, is_some}
-use Rattle.block_columns.specs.Images.{IsWhole}
+use Rattle.block_columns.specs.Images.{FormValue, IsWhole}
 use Rattle.block_spec.specs.Bodies.{Body, imaged, imaged_phase, is_front, is_loose, is_sealed, rows_of}
 use Rattle.block_spec.specs.declared.phase.Phase.{Phase}
 use Rattle.block_spec.specs.declared.phase.Phase.TheVariants.{Imaged, Loose, Sealed}
@@ -22,20 +22,21 @@ use Rattle.event_spec.specs.Replies.{reply_to_image}
 use Rattle.event_spec.specs.Sound.{BodyHolds}
 use Rattle.frame_laws.proofs.Looks.{name_self}
 
+-- what holds anyway holds where a result failed
 pub on_err : {A E : Type 0} (r : Result A E) (P : Type 0) → P → OnErr r P
 on_err (Ok a) P is = tt
 on_err (Err e) P is = is
 
 -- what makes one image whole makes the same one whole
-pub whole_same : (one other : List Column) (slots more : List (Option Row)) (n m : ℕ) (buffers made : List (List (List ℕ))) → one ≡ other → slots ≡ more → n ≡ m → buffers ≡ made
-    → IsWhole (record { columns = one; slots = slots; rows = n; buffers = buffers }) → IsWhole (record { columns = other; slots = more; rows = m; buffers = made })
-whole_same one other slots more n m buffers made columns rows count same whole =
-    subst (λ (b : List (List (List ℕ))). IsWhole (record { columns = other; slots = more; rows = m; buffers = b })) same
-    (subst (λ (k : ℕ). IsWhole (record { columns = other; slots = more; rows = k; buffers = buffers })) count
-    (subst (λ (l : List (Option Row)). IsWhole (record { columns = other; slots = l; rows = n; buffers = buffers })) rows
-    (subst (λ (cs : List Column). IsWhole (record { columns = cs; slots = slots; rows = n; buffers = buffers })) columns whole)))
+pub whole_same : (one other : List Column) (slots more : List (Option Row)) (n m : ℕ) (form made : FormValue) → one ≡ other → slots ≡ more → n ≡ m → form ≡ made
+    → IsWhole (record { columns = one; slots = slots; rows = n; form = form }) → IsWhole (record { columns = other; slots = more; rows = m; form = made })
+whole_same one other slots more n m form made columns rows count same whole =
+    subst (λ (f : FormValue). IsWhole (record { columns = other; slots = more; rows = m; form = f })) same
+    (subst (λ (k : ℕ). IsWhole (record { columns = other; slots = more; rows = k; form = form })) count
+    (subst (λ (l : List (Option Row)). IsWhole (record { columns = other; slots = l; rows = n; form = form })) rows
+    (subst (λ (cs : List Column). IsWhole (record { columns = cs; slots = slots; rows = n; form = form })) columns whole)))
 
--- a body for which buffers are handed in is sealed, and one for which none are is not
+-- a body for which a form is handed in is sealed, and one for which none is is not
 sealed_with : (x : Body) (phase : Phase) (rows : List Row) → IsImageOf (Some rows) x phase → (is_sealed phase ≡ true) × (rows ≡ rows_of x)
 sealed_with x Loose rows is = cc
 sealed_with x (Sealed stamp) rows is = let same : rows ≡ rows_of x = cc in (refl, same)
@@ -65,9 +66,11 @@ second true b both = both
 second false b both = cc
 
 module _ (sh : Shape) (t b : ℕ) (image : Option (List Row)) (hand : Held) (m : MayRun sh (event.Image t b image) hand) where
+  -- the hand has the block's body
   pub has_the_body : Has sh hand (BodyOf t b)
   has_the_body = has_body sh (event.Image t b image) hand m t b m.lawful.1.0 (name_self (BodyOf t b))
 
+  -- without it the hand still has a place for each part
   pub room_taken : (taken : Held) → taken ≡ laid sh (BodyOf t b) None hand → length taken ≡ length (names sh)
   room_taken taken out = ap length out ∙ length-laid (names sh) hand (BodyOf t b) None ∙ room sh (event.Image t b image) hand m
 
@@ -103,20 +106,25 @@ module _ (sh : Shape) (t b : ℕ) (image : Option (List Row)) (hand : Held) (m :
     with_rows : (is_sealed x.phase ≡ true) × (rows ≡ rows_of x)
     with_rows = sealed_with x x.phase rows (subst (λ (y : Body). IsImageOf (Some rows) y y.phase) here (subst (λ i. IsImageOf i (body_at sh m.parts t b) (body_at sh m.parts t b).phase) some m.lawful.1.1))
 
+    -- where rows are handed in the body is sealed
     pub sealed_here : is_sealed x.phase ≡ true
     sealed_here = with_rows.0
 
+    -- and these are its rows
     pub rows_here : rows ≡ rows_of x
     rows_here = with_rows.1
 
+    -- it has few slots
     pub slots_few : length x.slots ≤ 2 ^ 15
     slots_few = let few = (m.holds.measures.slots t m.lawful.1.0.0).1 in let same = holds.slots in omega (arith, few, same)
 
+    -- its rows are in front
     pub front_here : is_front x.slots ≡ true
     front_here = second _ (is_front x.slots) (holds.dense (not_loose x.phase sealed_here))
 
     -- the body is laid back frozen, or as it was
     module _ (taken new : Held) (y : Body) (out : taken ≡ laid sh (BodyOf t b) None hand) (back : new ≡ laid sh (BodyOf t b) (Some (part.Body y)) taken) where
+      -- The body is laid back imaged, and the reply counts its rows.
       pub frozen_back : (count : ℕ) → y ≡ imaged x → count ≡ count_by is_some (map (λ (slot : Slot). slot.row) x.slots) → Makes sh (event.Image t b image) hand new (reply.Imaged count)
       frozen_back count same counted = from_one sh (event.Image t b image) hand new (reply.Imaged count) m
           (laid_back_changed sh (body_change t b imaged) hand taken new (BodyOf t b) (part.Body x) (part.Body (imaged x)) (body_only t b imaged x) is out (back ∙ ap (λ z. laid sh (BodyOf t b) (Some (part.Body z)) taken) same))
@@ -127,5 +135,6 @@ module _ (sh : Shape) (t b : ℕ) (image : Option (List Row)) (hand : Held) (m :
           replied (Sealed stamp) is = refl
           replied (Imaged stamp) is = cc
 
+      -- a body that is laid back as it was leaves the hand as it was
       pub same_back : y ≡ x → new ≡ hand
       same_back same = put_back sh hand taken new (BodyOf t b) (part.Body x) is out (back ∙ ap (λ z. laid sh (BodyOf t b) (Some (part.Body z)) taken) same)

@@ -1,4 +1,4 @@
-//! A sealed block gets its Arrow buffers.
+//! A sealed block gets its Arrow form.
 ghost use Rattle.std.specs.Prelude.{◌≡◌, ◌≤◌, ◌^◌, true, IfOk, OnErr, OnOk, length};
 ghost use Rattle.block_spec.specs.Bodies.{imaged, is_front, is_sealed, rows_of};
 ghost use Rattle.core_freezes.specs.Freezes.{reply_of};
@@ -12,8 +12,8 @@ use gather_core::gather_in_turn;
 use hall_rule::Hand;
 use std::alloc::{AllocError, Global};
 
-/// Hands a sealed block its Arrow buffers, and tells of how many rows they are; none where it is
-/// not sealed, and then none are handed in. Without memory the hand stays.
+/// Hands a sealed block its Arrow form, and tells of how many rows it is; none where it is not
+/// sealed, and then none is handed in. Without memory the hand stays.
 pub fn image(
     shape: &Shape,
     held: &mut Hand<CorePart>,
@@ -37,8 +37,8 @@ pub fn image(
     Ok(Some(rows))
 }
 
-/// Freezes a sealed body with the buffers of its rows. Where these were gathered of columns of
-/// other kinds than the body's, they are gathered anew. Without memory the body stays.
+/// Freezes a sealed body with the form of its rows. Where this was gathered of columns of other
+/// kinds than the body's, it is gathered anew. Without memory the body stays.
 fn freeze(alloc: Global, body: &mut Body, gathered: Gathered) -> Result<(), AllocError>
     requires sealed { is_sealed body.old.phase ≡ true }
     requires front { is_front body.old.slots ≡ true }
@@ -47,9 +47,9 @@ fn freeze(alloc: Global, body: &mut Body, gathered: Gathered) -> Result<(), Allo
     ensures ok { OnOk result (body.new ≡ imaged body.old) }
     ensures err { OnErr result (body.new ≡ body.old) }
 {
-    let buffers = match gathered.into_buffers_of(body.columns()) {
-        Some(buffers) => buffers,
+    let form = match gathered.into_form_of(body.columns()) {
+        Some(form) => form,
         None => gather_in_turn(alloc, body.columns(), body.rows())?,
     };
-    body.freeze(buffers)
+    body.freeze(form)
 }

@@ -4,10 +4,9 @@ use Rattle.std.specs.Prelude.{IsSome, count_by, flat_map, is_none, is_some, opti
 use Rattle.std.specs.List.{cons_option, filter_map, list_all}
 use Rattle.std.proofs.lemmas.List.{length-map}
 use Rattle.std.proofs.lemmas.List.Sums.{count_by-le-length}
-use Rattle.arrow_spec.specs.Batches.{Array, arrays_of}
 use Rattle.block_body.proofs.Whole.{taken, taken_is}
 use Rattle.block_body.specs.Frozen.{IsImageOf, image_of}
-use Rattle.block_columns.specs.Images.{ImageValue, IsWhole, rows_of}
+use Rattle.block_columns.specs.Images.{FormValue, ImageValue, IsFormOf, IsWhole, rows_of}
 use Rattle.block_spec.specs.Bodies.{is_front}
 use Rattle.block_spec.specs.Slots.{Row, Slot}
 use Rattle.cell_model.specs.declared.column.Column.{Column}
@@ -42,6 +41,7 @@ front_take (slot ∷ slots) front = go slot.row front (front_take slots)
         let left = none_left slots none in
         ap (λ n. take n (None ∷ map row_of slots)) left.0 ∙ ap (λ (l : List Row). map (λ row. Some row) l) (sym left.1)
 
+-- the first slots have all rows, in order
 pub front_rows : (slots : List Slot) → is_front slots ≡ true
     → take (count_by is_some (map (λ (slot : Slot). slot.row) slots)) (map (λ (slot : Slot). slot.row) slots) ≡ map (λ row. Some row) (filter_map (λ (slot : Slot). slot.row) slots)
 front_rows slots front = ap (λ n. take n (map row_of slots)) (sym (taken_is (map row_of slots))) ∙ front_take slots front
@@ -58,6 +58,7 @@ taken_held (slot ∷ slots) front k less = go slot.row k front less (taken_held 
     go (Some row) (suc k) front less rest = rest front k (omega (arith, less))
     go None k none less rest = let left = (none_left slots none).0 in absurd (omega (arith, less, left))
 
+-- each of so many first slots has a row
 pub front_held : (slots : List Slot) → is_front slots ≡ true → (k : ℕ) → k < count_by is_some (map (λ (slot : Slot). slot.row) slots)
     → IsSome (get_or (map (λ (slot : Slot). slot.row) slots) k None)
 front_held slots front k less = taken_held slots front k (subst (λ n. k < n) (sym (taken_is (map row_of slots))) less)
@@ -71,6 +72,7 @@ rows_taken (slot ∷ slots) = go slot.row (rows_taken slots)
     go None rest = rest
     go (Some row) rest = let next : suc (taken (map row_of slots)) ≡ 1 + taken (map row_of slots) = omega arith in ap suc rest ∙ next
 
+-- there are as many rows as slots that have one
 pub rows_counted : (slots : List Slot) → length (filter_map (λ (slot : Slot). slot.row) slots) ≡ count_by is_some (map (λ (slot : Slot). slot.row) slots)
 rows_counted slots = rows_taken slots ∙ taken_is (map row_of slots)
 
@@ -84,6 +86,7 @@ pub front_listed : (columns : List Column) (slots : List Slot) → is_front slot
     ≡ filter_map (λ (slot : Slot). slot.row) slots
 front_listed columns slots front = ap (λ (l : List (Option Row)). flat_map (λ slot. option_to_list slot) l) (front_rows slots front) ∙ rows_again (filter_map row_of slots)
 
+-- slots whose rows stand in front are filled so far, with at most 2^15 rows
 pub front_filled : (slots : List Slot) → is_front slots ≡ true → length slots ≤ 2 ^ 15
     → IsFilled (map (λ (slot : Slot). slot.row) slots) (count_by is_some (map (λ (slot : Slot). slot.row) slots))
 front_filled slots front few = record {
@@ -96,6 +99,7 @@ front_filled slots front few = record {
 
 -- An image of the slots is whole, and of their rows.
 module _ (columns : List Column) (slots : List Slot) (front : is_front slots ≡ true) where
+  -- the rows of an image are those of the slots
   pub image_rows : (image : ImageValue) → IsImageOf columns (map (λ (slot : Slot). slot.row) slots) image → rows_of image ≡ filter_map (λ (slot : Slot). slot.row) slots
   image_rows image is =
       ap (λ (l : List (Option Row)). flat_map (λ slot. option_to_list slot) (take image.rows l)) is.slots_are
@@ -103,24 +107,24 @@ module _ (columns : List Column) (slots : List Slot) (front : is_front slots ≡
       ∙ ap (λ (l : List (Option Row)). flat_map (λ slot. option_to_list slot) l) (front_rows slots front)
       ∙ rows_again (filter_map row_of slots)
 
+  -- and the image is whole
   pub image_whole : (image : ImageValue) → IsImageOf columns (map (λ (slot : Slot). slot.row) slots) image → IsWhole image
   image_whole image is = record {
     held = λ slot less.
         subst (λ (l : List (Option Row)). IsSome (get_or l slot None)) (sym is.slots_are)
         (front_held slots front slot (subst (λ n. slot < n) is.rows less));
-    buffers =
-        is.buffers (filter_map row_of slots) (ap (λ n. take n (map row_of slots)) is.rows ∙ front_rows slots front)
-        ∙ ap (λ (cs : List Column). map (λ (array : Array). array.buffers) (arrays_of cs (filter_map row_of slots))) (sym is.columns_are)
-        ∙ ap (λ (rows : List Row). map (λ (array : Array). array.buffers) (arrays_of image.columns rows)) (sym (image_rows image is));
+    form =
+        let are = is.form (filter_map row_of slots) (ap (λ n. take n (map row_of slots)) is.rows ∙ front_rows slots front) in
+        subst (λ (cs : List Column). IsFormOf cs (rows_of image) image.form) (sym is.columns_are)
+        (subst (λ (rows : List Row). IsFormOf columns rows image.form) (sym (image_rows image is)) are);
   }
 
-  -- buffers of the rows make one whole
-  pub buffers_whole : (buffers : List (List (List ℕ))) → buffers ≡ map (λ (array : Array). array.buffers) (arrays_of columns (filter_map (λ (slot : Slot). slot.row) slots))
-      → IsWhole (image_of columns (map (λ (slot : Slot). slot.row) slots) buffers)
-  buffers_whole buffers made = record {
+  -- the form of the rows makes one whole
+  pub form_whole : (form : FormValue) → IsFormOf columns (filter_map (λ (slot : Slot). slot.row) slots) form
+      → IsWhole (image_of columns (map (λ (slot : Slot). slot.row) slots) form)
+  form_whole form made = record {
     held = front_held slots front;
-    buffers =
-        made
-        ∙ ap (λ (rows : List Row). map (λ (array : Array). array.buffers) (arrays_of columns rows))
-        (sym (ap (λ (l : List (Option Row)). flat_map (λ slot. option_to_list slot) l) (front_rows slots front) ∙ rows_again (filter_map row_of slots)));
+    form =
+        subst (λ (rows : List Row). IsFormOf columns rows form)
+        (sym (ap (λ (l : List (Option Row)). flat_map (λ slot. option_to_list slot) l) (front_rows slots front) ∙ rows_again (filter_map row_of slots))) made;
   }

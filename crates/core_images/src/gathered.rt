@@ -1,17 +1,15 @@
-//! The Arrow buffers that an event lays into a sealed block.
-ghost use Rattle.std.specs.Prelude.{◌≡◌, ◌↔◌, IfOk, IfSome, IsTrue, map};
-ghost use Rattle.arrow_spec.specs.Batches.{arrays_of};
-ghost use Rattle.block_columns.specs.Images.{IsWhole, rows_of};
-ghost use Rattle.core_images.specs.Gathered.{image_of};
+//! The Arrow form that an event lays into a sealed block.
+ghost use Rattle.std.specs.Prelude.{◌≡◌, ◌↔◌, IfOk, IfSome, IsTrue};
+ghost use Rattle.block_columns.specs.Images.{IsFormOf, IsWhole, image_with, rows_of};
 ghost use Rattle.core_images.specs.Kinds.{kinds_of};
 
-use block_columns::Columns;
-use cell_model::{Buffers, Kind};
+use block_columns::{ArrowForm, Columns};
+use cell_model::Kind;
 use std::alloc::{AllocError, Global};
 use std::marker::Model;
 use std::snapshot::Snapshot;
 
-/// The Arrow buffers of some rows, with the kinds of the columns of which they were gathered.
+/// The Arrow form of some rows, with the kinds of the columns of which it was gathered.
 /// Contracts see the rows.
 #[derive(Drop)]
 pub struct Gathered {
@@ -19,58 +17,56 @@ pub struct Gathered {
     columns: Snapshot<Columns>,
     kinds: Vec<Kind>,
     rows: u32,
-    buffers: Vec<Buffers>,
+    form: ArrowForm,
 }
 
 impl Model for Gathered {
     ghost use Rattle.std.specs.Prelude.{List};
-    ghost use Rattle.block_columns.specs.Images.{rows_of};
+    ghost use Rattle.block_columns.specs.Images.{image_with, rows_of};
     ghost use Rattle.block_spec.specs.Slots.{Row};
-    ghost use Rattle.core_images.specs.Gathered.{IsKept, image_of};
+    ghost use Rattle.core_images.specs.Gathered.{IsKept};
 
     ghost Value = { List Row };
 
     ghost view = { λ gathered. rows_of
-        (image_of gathered.columns.value gathered.rows gathered.buffers.items) };
+        (image_with gathered.columns.value gathered.rows gathered.form) };
 
     ghost invariant = { λ gathered. IsKept
-        gathered.columns.value gathered.kinds.items gathered.rows gathered.buffers.items };
+        gathered.columns.value gathered.kinds.items gathered.rows gathered.form };
 }
 
 impl Gathered {
-    /// The buffers that were gathered of the first `rows` slots of the columns.
+    /// The form that was gathered of the first `rows` slots of the columns.
     pub fn new(
         alloc: Global,
         columns: &Columns,
         rows: u32,
-        buffers: Vec<Buffers>,
+        form: ArrowForm,
     ) -> Result<Gathered, AllocError>
-        requires { IsWhole (image_of columns.now rows buffers.items) }
-        ensures { IfOk result (λ gathered. gathered
-            ≡ rows_of (image_of columns.now rows buffers.items)) }
+        requires { IsWhole (image_with columns.now rows form) }
+        ensures { IfOk result (λ gathered. gathered ≡ rows_of (image_with columns.now rows form)) }
     {
         Ok(Gathered {
             columns: Snapshot::of(columns),
             kinds: kinds_in(alloc, columns)?,
             rows,
-            buffers,
+            form,
         })
     }
 
-    /// The buffers of the rows as rows of these columns: there are none where one of the columns is
-    /// of another kind than the one in its place of which the buffers were gathered.
-    pub fn into_buffers_of(self, columns: &Columns) -> Option<Vec<Buffers>>
-        ensures { IfSome result (λ buffers. buffers.items
-            ≡ map (λ array. array.buffers) (arrays_of columns.now.columns self)) }
+    /// The form of the rows as rows of these columns: there is none where one of the columns is of
+    /// another kind than the one in its place of which the form was gathered.
+    pub fn into_form_of(self, columns: &Columns) -> Option<ArrowForm>
+        ensures { IfSome result (IsFormOf columns.now.columns self) }
     {
         let Gathered {
             columns: _,
             kinds,
             rows: _,
-            buffers,
+            form,
         } = self;
         if are_of_kinds(kinds.as_slice(), columns) {
-            Some(buffers)
+            Some(form)
         } else {
             None
         }

@@ -42,9 +42,11 @@ has_key_parts sh hand t key whole has =
     }
 
 module _ (sh : Shape) (hand : Held) (t : ℕ) (key : ℤ) (has : HasKeyParts sh hand t key) where
+  -- the hand's candidates of the key are the core's
   pub candidates_are : (s : Parts) → Agrees hand s → places_at sh s t key ≡ candidates_in sh hand t key
   candidates_are = candidates_by sh hand t key has.shard
 
+  -- each candidate has its slot in the hand
   pub slots_are : IsOfCore sh hand → HasSlots sh hand t (candidates_in sh hand t key)
   slots_are core p a =
       let there = filled_there sh core.parts core.holds.sound t p (core.holds.sound.follows.1.index.filled t p key (subst (Among p) (sym (candidates_are core.parts core.agrees)) a)) in
@@ -72,6 +74,7 @@ module _ (sh : Shape) (hand : Held) (s : Parts) (t : ℕ) (key : ℤ) where
   abbrev pub imaged_where : Option ℕ → Option ℕ
   imaged_where o = option_and_then (λ place. cond (is_imaged (body_at sh s t (block_of place)).phase) (Some (block_of place)) None) o
 
+  -- the imaged block that the current place tells is the core's
   pub imaged_told : (places : List ℕ) (o : Option ℕ) → places_at sh s t key ≡ places → o ≡ current_place (slot_at sh s t) places → imaged_where o ≡ imaged_block sh s t key
   imaged_told places o are is = ap imaged_where (is ∙ ap (current_place (slot_at sh s t)) (sym are))
 
@@ -109,12 +112,15 @@ rows_few x rows is few =
     let most = count_by-le-length is_some (map (λ (slot : Slot). slot.row) x.slots) in
     let long = length-map x.slots (λ (slot : Slot). slot.row) in omega (arith, is, few, most, long)
 
+-- the rows of a sealed body are its image
 pub image_sealed : (x : Body) (rows : List Row) (stamp : ℕ) → x.phase ≡ Sealed stamp → rows ≡ rows_of x → IsImageOf (Some rows) x x.phase
 image_sealed x rows stamp is same = subst (IsImageOf (Some rows) x) (sym is) (ap Some same)
 
+-- a loose body has no image
 pub image_loose : (x : Body) → x.phase ≡ Loose → IsImageOf None x x.phase
 image_loose x is = subst (IsImageOf None x) (sym is) refl
 
+-- a body that is imaged already is handed none
 pub image_imaged : (x : Body) (stamp : ℕ) → x.phase ≡ Imaged stamp → IsImageOf None x x.phase
 image_imaged x stamp is = subst (IsImageOf None x) (sym is) refl
 
@@ -127,12 +133,14 @@ module _ (sh : Shape) (hand : Held) (t b : ℕ) (x : Body) (is : in_hand sh hand
     there : HasBlock sh t b
     there = body_there sh hand t b has
 
+    -- a sealed body has its rows in front
     pub sealed_front : (stamp : ℕ) → x.phase ≡ Sealed stamp → is_front x.slots ≡ true
     sealed_front stamp sealed =
         let here = body_is sh hand core.parts core.agrees t b x is in
         let holds = subst (BodyHolds sh t) here (core.holds.sound.bodies t b there) in
         second (has_row x) (is_front x.slots) (holds.dense (ap is_loose sealed))
 
+    -- the body has at most 2^15 slots
     pub few_slots : length x.slots ≤ 2 ^ 15
     few_slots =
         let here = body_is sh hand core.parts core.agrees t b x is in

@@ -30,6 +30,7 @@ few_blocks [] t all = omega arith
 few_blocks (table ∷ tables) zero all = All-head (λ (table : TableDecl). table.blocks ≤ 2 ^ 10) table tables all
 few_blocks (table ∷ tables) (suc t) all = few_blocks tables t (All-tail (λ (table : TableDecl). table.blocks ≤ 2 ^ 10) table tables all)
 
+-- a core of a lawful size has fewer than 2^31 parts
 pub few_parts : (sh : Shape) → IsOfSize sh.tables sh.passes → length (names sh) < 2 ^ 31
 few_parts sh size =
     let n = length sh.tables in

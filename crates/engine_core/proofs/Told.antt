@@ -26,6 +26,7 @@ module _ (sh : Shape) (e : CoreEvent) (old new : Held) (said : CoreReply) where
   refuses_by true both is = both.1
   refuses_by false made is = cc
 
+  -- only an event that takes memory is told that there is none
   pub refuses : Runs sh e old new said → is_memory said ≡ true → takes_memory e ≡ true
   refuses runs is = refuses_by (is_memory said) runs is
 
@@ -39,6 +40,7 @@ module _ (sh : Shape) (e : CoreEvent) (old new : Held) (said : CoreReply) where
         both.1,
       )
 
+  -- an event that runs finds no memory and leaves the hand, or makes its effect and its reply
   pub meets : Runs sh e old new said
       → (s : Parts) → CoreHolds sh s → Agrees old s → Stands sh e s → FitsIn sh e s
       → MatchBool (is_memory said) (new ≡ old) (Agrees new (effect sh s e) × (said ≡ reply_to sh s e))
@@ -49,6 +51,7 @@ module _ (sh : Shape) (e : CoreEvent) (old new : Held) (said : CoreReply) where
   room_by false may made =
       subst (SameRoom old) (sym (made may.parts may.holds may.agrees may.lawful).0) (same_room sh (changes_of sh may.parts e) old)
 
+  -- an event that runs leaves the same parts in the hand
   pub keeps_room : MayRun sh e old → Runs sh e old new said → SameRoom old new
   keeps_room may runs = room_by (is_memory said) may runs
 
@@ -58,6 +61,7 @@ written_by : (sh : Shape) (e : CoreEvent) (old new : Held) (w : Result ℕ Write
 written_by sh e old new (Ok place) made = made
 written_by sh e old new (Err fault) made = made
 
+-- a write runs: it is replied what it made, or that there was no memory
 pub written_runs : {E : Type 0} (sh : Shape) (e : CoreEvent) (old new : Held) (said : CoreReply) (r : Result (Result ℕ WriteFault) E)
     → IfOk r (λ w. said ≡ reply_to_write w) → IfErr r (λ fault. said ≡ reply.Memory)
     → IfOk r (λ w. Makes sh e old new (reply_to_write w)) → OnErr r (new ≡ old) → takes_memory e ≡ true → Runs sh e old new said

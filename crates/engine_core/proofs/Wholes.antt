@@ -20,6 +20,7 @@ use Rattle.frame_laws.proofs.Reached.{core_kept, core_opens}
 use Rattle.frame_laws.specs.Shards.{CoreHolds}
 use Rattle.hall_rule.specs.Hands.{Agrees, Holds, all_in}
 
+-- the parts in a hand that has all of a state are the state
 pub in_all : (s : Parts) → parts_in (all_in s) ≡ s
 in_all [] = refl
 in_all (p ∷ s) = ap (λ (rest : Parts). p ∷ rest) (in_all s)
@@ -29,6 +30,7 @@ holds_all [] k less = absurd (omega (arith, less))
 holds_all (p ∷ s) zero less = (p, refl)
 holds_all (p ∷ s) (suc k) less = holds_all s k (omega (arith, less))
 
+-- such a hand agrees with the state
 pub agrees_all : (s : Parts) → Agrees (all_in s) s
 agrees_all s = (length-map s Some, at s)
   where
@@ -72,21 +74,27 @@ held_all (n ∷ ns) (p ∷ s) w = ap (λ (rest : Option CorePart). cond (same_na
     some_part p = Some p
 
 module _ (sh : Shape) (hand : Held) (whole : IsWhole sh hand) where
+  -- a whole hand agrees with its parts
   pub agrees : Agrees hand (parts_in hand)
   agrees = subst (λ (h : Held). Agrees h (parts_in hand)) (sym whole.all) (agrees_all (parts_in hand))
 
+  -- each of its places has its part
   pub holds_each : (k : ℕ) → k < length hand → Holds hand k
   holds_each k less = subst (λ (h : Held). Holds h k) (sym whole.all) (holds_all (parts_in hand) k (let e = agrees.0 in omega (arith, e, less)))
 
+  -- each of the names has its part in it
   pub has_each : (w : Name) → Among w (names sh) → Has sh hand w
   has_each w a = subst (IsOfKind w) (sym (ap (λ (h : Held). in_hand sh h w) whole.all ∙ held_all (names sh) (parts_in hand) w)) (at_name sh (parts_in hand) whole.holds.sound.kinds w a)
 
+  -- so has the body of each block
   pub has_its_body : (t b : ℕ) → HasBlock sh t b → Has sh hand (BodyOf t b)
   has_its_body t b has = has_each (BodyOf t b) (body_named sh t b has)
 
+  -- and the shard of each key
   pub has_its_shard : (t : ℕ) (key : ℤ) → HasTable sh t → Has sh hand (ShardOf t (shard_of key))
   has_its_shard t key has = has_each (ShardOf t (shard_of key)) (shard_named sh t (shard_of key) has (shard_small key))
 
+  -- a lawful event may run on it
   pub may_run : (e : CoreEvent) → IsLawful sh e (parts_in hand) → MayRun sh e hand
   may_run e lawful = record {
     covers = λ k less touched. holds_each k less;
@@ -103,6 +111,7 @@ module _ (sh : Shape) (hand : Held) (whole : IsWhole sh hand) where
         ∙ ap (after sh (changes_of sh (parts_in hand) e)) whole.all
         ∙ after_all (changes_of sh (parts_in hand) e) (names sh) (parts_in hand)
 
+    -- a whole hand is whole still behind an event
     pub goes_on : (refused : Bool) → MatchBool refused (new ≡ hand) (Makes sh e hand new said) → IsWhole sh new
     goes_on true same = subst (IsWhole sh) (sym same) whole
     goes_on false made = subst (IsWhole sh) (sym (made_all made)) (record {
@@ -110,11 +119,13 @@ module _ (sh : Shape) (hand : Held) (whole : IsWhole sh hand) where
       holds = subst (CoreHolds sh) (sym (in_all (effect sh (parts_in hand) e))) (core_kept sh e (parts_in hand) whole.holds lawful);
     })
 
+    -- its parts are then those that the event's entry leaves
     pub parts_after : (refused : Bool) → MatchBool refused (new ≡ hand) (Makes sh e hand new said)
         → parts_in new ≡ replay.after sh (parts_in hand) (record { event = e; refused = refused })
     parts_after true same = ap parts_in same
     parts_after false made = ap parts_in (made_all made) ∙ in_all (effect sh (parts_in hand) e)
 
+    -- and the reply is what the event is replied
     pub reply_after : (refused : Bool) → is_memory said ≡ refused → MatchBool refused (new ≡ hand) (Makes sh e hand new said)
         → said ≡ replay.reply_after sh (parts_in hand) (record { event = e; refused = refused })
     reply_after true is same = memory_is said is
@@ -128,6 +139,7 @@ declared [] P f all t less = absurd (omega (arith, less))
 declared (table ∷ tables) P f all zero less = All-head (λ (table : TableDecl). P (f table)) table tables all
 declared (table ∷ tables) P f all (suc t) less = declared tables P f (All-tail (λ (table : TableDecl). P (f table)) table tables all) t (omega (arith, less))
 
+-- what a core may be made of is a shape
 pub shape_is : (sh : Shape) → MayOpen sh.tables sh.passes → IsShape sh
 shape_is sh may = record {
   blocks = λ t has. declared sh.tables (λ n. 1 ≤ n) (λ (table : TableDecl). table.blocks) may.blocks t has;
@@ -137,11 +149,13 @@ shape_is sh may = record {
   );
 }
 
+-- the hand of an opening core is whole
 pub opening_whole : (sh : Shape) (hand : Held) → MayOpen sh.tables sh.passes → hand ≡ all_in (opening sh) → IsWhole sh hand
 opening_whole sh hand may is = subst (IsWhole sh) (sym is) (record {
   all = ap all_in (sym (in_all (opening sh)));
   holds = subst (CoreHolds sh) (sym (in_all (opening sh))) (core_opens sh (shape_is sh may));
 })
 
+-- no event was made on the parts of an opening hand
 pub opening_is : (sh : Shape) (hand : Held) → MayOpen sh.tables sh.passes → hand ≡ all_in (opening sh) → IsOpening sh (parts_in hand)
 opening_is sh hand may is = record { measures = shape_is sh may; parts_are = ap parts_in is ∙ in_all (opening sh) }

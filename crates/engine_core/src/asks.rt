@@ -10,7 +10,7 @@ ghost use Rattle.hall_rule.specs.Hands.{Agrees};
 use block_spec::Phase;
 use core_images::Gathered;
 use core_parts::{CorePart, Shape, body};
-use gather_core::gather_buffers;
+use gather_core::gather_form;
 use hall_rule::Hand;
 use key_events::candidates;
 use key_judge::current;
@@ -54,8 +54,8 @@ pub fn image_of<R: Threads + Sync>(
         Phase::Sealed(_) => {
             let columns = sealed.columns();
             let rows = sealed.rows();
-            let buffers = gather_buffers(rt, shape.alloc(), columns, rows)?;
-            Ok(Some(Gathered::new(shape.alloc(), columns, rows, buffers)?))
+            let form = gather_form(rt, shape.alloc(), columns, rows)?;
+            Ok(Some(Gathered::new(shape.alloc(), columns, rows, form)?))
         }
         Phase::Loose | Phase::Imaged(_) => Ok(None),
     }

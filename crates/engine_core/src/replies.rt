@@ -233,7 +233,7 @@ pub(crate) fn looked(shape: &Shape, held: &Hand<CorePart>, table: u32, block: u3
     }
 }
 
-/// Hands a sealed block its Arrow buffers.
+/// Hands a sealed block its Arrow form.
 #[inline(never)]
 pub(crate) fn frozen(
     shape: &Shape,

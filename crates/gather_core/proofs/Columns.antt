@@ -1,6 +1,6 @@
 -- The buffers of all columns, one after another.
-use Rattle.std.proofs.Common.{◌≡◌, ℕ, zero, suc, ◌<◌, ◌≤◌, ◌+◌, get_or, List, [], ◌∷◌, ◌++◌, length, take, map, refl, sym, ap, subst, ◌∙◌, arith}
-use Rattle.std.specs.Prelude.{slice_get, Option, None, Some, Result, Ok, IfOk}
+use Rattle.std.proofs.Common.{Vec, Global, ◌≡◌, ℕ, zero, suc, ◌<◌, ◌≤◌, ◌+◌, get_or, List, [], ◌∷◌, ◌++◌, length, take, map, refl, sym, ap, subst, ◌∙◌, arith}
+use Rattle.std.specs.Prelude.{slice_get, Option, None, Some, Result, Ok, IfOk, IsSome, option_map, ◌↔◌}
 use Rattle.std.specs.List.{enumerate_from}
 use Rattle.std.proofs.lemmas.List.{take_all, take_more, same_lists, length-map, get_or-map, get_or_default}
 use Rattle.cell_model.specs.declared.cell.Cell.{Cell}
@@ -10,11 +10,13 @@ use Rattle.arrow_spec.specs.Arrays.{column_buffers, null_count}
 use Rattle.arrow_spec.specs.Batches.{Array, arrays_of, column_cells}
 use Rattle.block_spec.specs.Slots.{Row}
 use Rattle.block_columns.specs.Columns.{ColumnsValue, cell_of}
-use Rattle.block_columns.specs.Images.{ImageValue, IsWhole}
+use Rattle.block_columns.specs.Images.{FormValue, ImageValue, IsWhole, apart, image_with}
 use Rattle.block_columns.proofs.Whole.{HasRows, column_cells-are, held_rows, rows_in_slots}
 use Rattle.block_columns.proofs.Rowed.{cells_of_rows}
 use Rattle.gather_core.specs.Gathered.{buffers_from}
+use Rattle.ipc_message.specs.Sizes.{IsSmallBatch}
 
+-- each column has its buffers
 pub buffers_long : (at : ℕ) (cs : List Column) (slots : List (Option Row)) → length (buffers_from at cs slots) ≡ length cs
 buffers_long at [] slots = refl
 buffers_long at (c ∷ cs) slots = ap suc (buffers_long (at + 1) cs slots)
@@ -81,20 +83,34 @@ batch_buffers cs slots batch is = ap (λ (l : List (Option Row)). buffers_from 0
 -- so they make the rows' image whole
 pub whole_buffers : (columns : ColumnsValue) (n : ℕ) (buffers : List (List (List ℕ)))
     → HasRows n columns.rows → buffers ≡ buffers_from 0 columns.columns (take n columns.rows)
-    → IsWhole (record { columns = columns.columns; slots = columns.rows; rows = n; buffers = buffers })
+    → IsWhole (image_with columns n (apart buffers))
 whole_buffers columns n buffers held made = record {
   held = held;
-  buffers = made ∙ batch_buffers columns.columns (take n columns.rows) (rows_in_slots (take n columns.rows)) (held_rows n columns.rows held);
+  form = record {
+    buffers = made ∙ batch_buffers columns.columns (take n columns.rows) (rows_in_slots (take n columns.rows)) (held_rows n columns.rows held);
+    message = tt;
+  };
 }
 
--- and an image of the same columns
-pub whole_image : (columns copy : ColumnsValue) (n : ℕ) (buffers : List (List (List ℕ))) (image : ImageValue)
-    → image ≡ record { columns = copy.columns; slots = copy.rows; rows = n; buffers = buffers } → copy ≡ columns
-    → IsWhole (record { columns = columns.columns; slots = columns.rows; rows = n; buffers = buffers }) → IsWhole image
-whole_image columns copy n buffers image is same whole =
-    subst IsWhole
-    (ap (λ (v : ColumnsValue). let i : ImageValue = record { columns = v.columns; slots = v.rows; rows = n; buffers = buffers } in i) (sym same) ∙ sym is)
-    whole
+-- and so is an image of the same columns
+pub whole_image : (columns copy : ColumnsValue) (n : ℕ) (form : FormValue) (image : ImageValue)
+    → image ≡ image_with copy n form → copy ≡ columns → IsWhole (image_with columns n form) → IsWhole image
+whole_image columns copy n form image is same whole =
+    subst IsWhole (ap (λ (v : ColumnsValue). image_with v n form) (sym same) ∙ sym is) whole
 
+-- all columns were gathered
 pub buffers_all : (cs : List Column) (slots : List (Option Row)) (i : ℕ) (before : List (List (List ℕ))) → before ≡ take i (buffers_from 0 cs slots) → length cs ≤ i → before ≡ buffers_from 0 cs slots
 buffers_all cs slots i before is le = is ∙ take_all i (buffers_from 0 cs slots) (omega (arith, le, buffers_long 0 cs slots))
+
+-- a message that is kept as its bytes is there where it was
+kept_message : (message : Option (Vec ℕ Global)) (Small : Type 0) → (IsSome message ↔ Small) → IsSome (option_map (λ m. m.items) message) ↔ Small
+kept_message None Small told = told
+kept_message (Some bytes) Small told = told
+
+-- a form has a message where the batch of its buffers is small
+pub message_told : (columns : List Column) (buffers lent : List (List (List ℕ))) (message : Option (Vec ℕ Global)) (form : FormValue)
+    → form ≡ record { buffers = buffers; message = option_map (λ m. m.items) message } → lent ≡ buffers
+    → (IsSome message ↔ IsSmallBatch columns lent) → IsSome form.message ↔ IsSmallBatch columns form.buffers
+message_told columns buffers lent message form is same told =
+    subst (λ (f : FormValue). IsSome f.message ↔ IsSmallBatch columns f.buffers) (sym is)
+    (kept_message message (IsSmallBatch columns buffers) (subst (λ (b : List (List (List ℕ))). IsSome message ↔ IsSmallBatch columns b) same told))

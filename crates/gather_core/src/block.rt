@@ -1,12 +1,14 @@
 //! All columns of a block.
-ghost use Rattle.std.specs.Prelude.{◌≡◌, ℕ, ◌<◌, ◌≤◌, ◌^◌, Ok, IfOk, IsSome, None, length, map};
-ghost use Rattle.std.specs.Prelude.{slice_index_or, take};
-ghost use Rattle.block_columns.specs.Images.{IsWhole};
+ghost use Rattle.std.specs.Prelude.{◌≡◌, ◌↔◌, ℕ, ◌<◌, ◌≤◌, ◌^◌, Ok, IfOk, IsSome, None, length};
+ghost use Rattle.std.specs.Prelude.{map, slice_index_or, take};
+ghost use Rattle.block_columns.specs.Images.{IsWhole, apart, image_with};
 ghost use Rattle.gather_core.specs.Gathered.{buffers_from};
+ghost use Rattle.ipc_message.specs.Sizes.{IsSmallBatch};
 
 use crate::column::gather_column;
-use block_columns::{Columns, Image};
+use block_columns::{ArrowForm, Columns, Image};
 use cell_model::Buffers;
+use ipc_message::small_message;
 use std::alloc::{AllocError, Global};
 use std::thread;
 use std::thread::Threads;
@@ -15,8 +17,8 @@ use std::thread::Threads;
 /// starts, the values of a text of a whole block are not.
 const LARGE: usize = 400_000;
 
-/// An image of a copy of the columns with the Arrow buffers of the first `rows` slots, each of
-/// which has a row: those of the batch of these rows. Only want of memory is refused.
+/// An image of a copy of the columns with the Arrow form of the first `rows` slots, each of which
+/// has a row. Only want of memory is refused.
 pub fn gather<R: Threads + Sync>(
     rt: &R,
     alloc: Global,
@@ -29,57 +31,68 @@ pub fn gather<R: Threads + Sync>(
     ensures slots { IfOk result (λ image. image.slots ≡ columns.now.rows) }
     ensures rows { IfOk result (λ image. image.rows ≡ rows) }
     ensures whole { IfOk result IsWhole }
+    ensures small { IfOk result (λ image. IsSome image.form.message
+        ↔ IsSmallBatch image.columns image.form.buffers) }
 {
     // Each slot with a row has memory.
     let _room = columns.room();
-    let buffers = gather_buffers(rt, alloc, columns, rows)?;
-    Ok(Image::of(columns.copy()?, rows, buffers))
+    let form = gather_form(rt, alloc, columns, rows)?;
+    Ok(Image::of(columns.copy()?, rows, form))
 }
 
-/// The Arrow buffers of each column for the first `rows` slots, each of which has a row: those of
-/// the batch of these rows. Only want of memory is refused.
+/// The Arrow form of the first `rows` slots, each of which has a row: the buffers of the batch of
+/// these rows, and where they are all small its message. Only want of memory is refused.
 ///
 /// Where a column is large, the columns are made side by side, else in turn.
-pub fn gather_buffers<R: Threads + Sync>(
+pub fn gather_form<R: Threads + Sync>(
     rt: &R,
     alloc: Global,
     columns: &Columns,
     rows: u32,
-) -> Result<Vec<Buffers>, AllocError>
+) -> Result<ArrowForm, AllocError>
     requires held { (slot : ℕ) → slot < rows → IsSome (slice_index_or columns.now.rows slot None) }
     requires few { rows ≤ 2 ^ 15 }
-    ensures each { IfOk result (λ buffers. length buffers.items ≡ length columns.now.columns) }
-    ensures whole { IfOk result (λ buffers. IsWhole (record {
-      columns = columns.now.columns;
-      slots = columns.now.rows;
-      rows = rows;
-      buffers = buffers.items;
-    })) }
+    ensures each { IfOk result (λ form. length form.buffers ≡ length columns.now.columns) }
+    ensures whole { IfOk result (λ form. IsWhole (image_with columns.now rows form)) }
+    ensures small { IfOk result (λ form. IsSome form.message
+        ↔ IsSmallBatch columns.now.columns form.buffers) }
 {
     // Each slot with a row has memory.
     let _room = columns.room();
-    gather_columns(rt, alloc, columns, rows as usize)
+    let buffers = gather_columns(rt, alloc, columns, rows as usize)?;
+    form_of(alloc, columns, rows, buffers)
 }
 
 /// The same where no thread may start: the columns are made one after another.
-pub fn gather_in_turn(
-    alloc: Global,
-    columns: &Columns,
-    rows: u32,
-) -> Result<Vec<Buffers>, AllocError>
+pub fn gather_in_turn(alloc: Global, columns: &Columns, rows: u32) -> Result<ArrowForm, AllocError>
     requires held { (slot : ℕ) → slot < rows → IsSome (slice_index_or columns.now.rows slot None) }
     requires few { rows ≤ 2 ^ 15 }
-    ensures each { IfOk result (λ buffers. length buffers.items ≡ length columns.now.columns) }
-    ensures whole { IfOk result (λ buffers. IsWhole (record {
-      columns = columns.now.columns;
-      slots = columns.now.rows;
-      rows = rows;
-      buffers = buffers.items;
-    })) }
+    ensures each { IfOk result (λ form. length form.buffers ≡ length columns.now.columns) }
+    ensures whole { IfOk result (λ form. IsWhole (image_with columns.now rows form)) }
+    ensures small { IfOk result (λ form. IsSome form.message
+        ↔ IsSmallBatch columns.now.columns form.buffers) }
 {
     // Each slot with a row has memory.
     let _room = columns.room();
-    in_turn(alloc, columns, rows as usize)
+    let buffers = in_turn(alloc, columns, rows as usize)?;
+    form_of(alloc, columns, rows, buffers)
+}
+
+/// The form with these buffers of the first `rows` slots, each of which has a row.
+fn form_of(
+    alloc: Global,
+    columns: &Columns,
+    rows: u32,
+    buffers: Vec<Buffers>,
+) -> Result<ArrowForm, AllocError>
+    requires { IsWhole (image_with columns.now rows (apart buffers.items)) }
+    ensures buffers { IfOk result (λ form. form.buffers ≡ buffers.items) }
+    ensures whole { IfOk result (λ form. IsWhole (image_with columns.now rows form)) }
+    ensures small { IfOk result (λ form. IsSome form.message
+        ↔ IsSmallBatch columns.now.columns form.buffers) }
+{
+    let message = small_message(alloc, columns, rows, buffers.as_slice())?;
+    Ok(ArrowForm::new(buffers, message))
 }
 
 /// The buffers of each column.

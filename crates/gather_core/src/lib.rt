@@ -1,11 +1,11 @@
-//! Gathers the columns of a block to the Arrow buffers of its first rows.
+//! Gathers the columns of a block to the Arrow form of its first rows.
 #![tactic(auto)]
 
 mod block;
 mod column;
 mod values;
 
-pub use block::{gather, gather_buffers, gather_in_turn};
+pub use block::{gather, gather_form, gather_in_turn};
 
 #[cfg(test)]
 mod tests;

@@ -98,7 +98,7 @@ fn two_rows_of_each_layout_are_gathered(rt: HostRuntime) -> Result<(), Fail> {
         &[b"\x01", b"\0\0\0\0\x02\0\0\0\x02\0\0\0", b"\0\xff"],
     ];
     for (column, buffers) in expected.iter().enumerate() {
-        let Some(found) = image.buffers(column) else {
+        let Some(found) = image.buffers().get(column) else {
             return Err(Fail::from("a column is missing"));
         };
         assert_eq!(rt; found.len(), buffers.len());
@@ -184,7 +184,7 @@ fn a_whole_block_is_gathered_as_cell_by_cell(rt: HostRuntime) -> Result<(), Fail
     for (place, column) in schema.columns().iter().enumerate() {
         let plain = Plain::of_rows(alloc, column.kind, place, &rows)?;
         let buffers = plain.buffers(alloc, column.kind)?;
-        let Some(found) = image.buffers(place) else {
+        let Some(found) = image.buffers().get(place) else {
             return Err(Fail::from("a column is missing"));
         };
         assert_eq!(rt; found.len(), buffers.len(), "column {place}");

@@ -1,3 +1,1 @@
-mod BodyLemmas
-mod ImageLemmas
 mod PieceLemmas

@@ -2,11 +2,7 @@
 //! Format").
 #![tactic(auto)]
 
-mod body;
 mod faults;
-mod framed;
-mod lent;
-mod whole;
 mod writer;
 
 pub use faults::{PieceFault, SinkFault};

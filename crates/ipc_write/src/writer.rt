@@ -1,7 +1,6 @@
 //! The writer of a stream, piece by piece, to a sink of which a call may fail.
-ghost use Rattle.std.specs.Prelude.{◌≡◌, ◌++◌, ◌+◌, ◌<◌, ◌≤◌, ◌^◌, [], false, pos, All, IfOk, length};
-ghost use Rattle.std.specs.Prelude.{map, flat_map};
-ghost use Rattle.arrow_spec.specs.Batches.{batch_of_arrays, buffer_places};
+ghost use Rattle.std.specs.Prelude.{◌≡◌, ◌++◌, ◌≤◌, ◌^◌, [], false, All, IfOk, length, flat_map};
+ghost use Rattle.arrow_spec.specs.Batches.{batch_of_arrays};
 ghost use Rattle.arrow_spec.specs.Bytes.{padded};
 ghost use Rattle.arrow_spec.specs.Streams.{schema_message, message_of_batch, batch_message};
 ghost use Rattle.arrow_spec.specs.Streams.{end_word};
@@ -11,16 +10,12 @@ ghost use Rattle.arrow_array.specs.Batches.{AreFew};
 ghost use Rattle.block_columns.specs.Images.{IsWhole, rows_of};
 ghost use Rattle.ipc_write.specs.Calls.{WritesPiece, MakesPiece};
 
-use crate::body::Body;
 use crate::faults::{PieceFault, SinkFault};
-use crate::framed::framed;
-use crate::lent;
-use crate::lent::LentArray;
-use crate::whole::{are_small, put_body};
 use arrow_array::{Batch, build};
 use block_columns::Image;
 use byte_ports::{Failed, Sink, write_all};
 use cell_model::{Bytes, Row, Schema};
+use ipc_message::{Body, LentArray, are_small, batch_head, framed, of_batch, of_columns, put_body};
 use std::alloc::{AllocError, Global};
 use std::marker::Model;
 
@@ -127,14 +122,14 @@ impl<W: Sink> Writer<W> {
         if self.failed {
             return Err(PieceFault::Sink(SinkFault { earlier: true }));
         }
-        let arrays = lent::of_batch(alloc, batch.arrays())?;
+        let arrays = of_batch(alloc, batch.arrays())?;
         self.arrays(alloc, batch.rows(), arrays.as_slice())
     }
 
     /// Writes the message of the record batch of an image's rows.
     ///
-    /// Where its buffers are all small, the message is put together and goes to the sink as one
-    /// piece; else each buffer is a piece of its own, from where it lies.
+    /// Where the image has the message, this goes to the sink as it lies there, in one piece; else
+    /// the buffers go from where they lie.
     pub fn image(&mut self, alloc: Global, image: &Image) -> Result<(), PieceFault>
         requires whole { IsWhole image.now }
         requires few { length image.now.columns ≤ 32 }
@@ -153,7 +148,10 @@ impl<W: Sink> Writer<W> {
         if self.failed {
             return Err(PieceFault::Sink(SinkFault { earlier: true }));
         }
-        let arrays = lent::of_image(alloc, image)?;
+        if let Some(message) = image.message() {
+            return self.ready(message);
+        }
+        let arrays = of_columns(alloc, image.columns(), image.rows(), image.buffers())?;
         self.arrays(alloc, image.rows(), arrays.as_slice())
     }
 
@@ -166,6 +164,21 @@ impl<W: Sink> Writer<W> {
         ensures counted { W.faults self.old.sink ≤ W.faults self.new.sink }
     {
         self.write(&[0xff, 0xff, 0xff, 0xff, 0, 0, 0, 0])
+    }
+
+    /// Writes a message that was put together before.
+    fn ready(&mut self, message: &[u8]) -> Result<(), PieceFault>
+        requires { self.old.failed ≡ false }
+        ensures answer { MakesPiece W.written W.faults self.old self.new message.now result }
+        ensures told { TellsAlike (W.written self.old.sink) (W.written self.new.sink) }
+        ensures started { W.started self.new.sink ≡ W.started self.old.sink }
+        ensures loan { W.loan self.new.sink ≡ W.loan self.old.sink }
+        ensures counted { W.faults self.old.sink ≤ W.faults self.new.sink }
+    {
+        match self.write(message) {
+            Ok(()) => Ok(()),
+            Err(fault) => Err(PieceFault::Sink(fault)),
+        }
     }
 
     /// Writes the message of a record batch of so many rows with these columns.
@@ -373,47 +386,4 @@ fn schema_piece(alloc: Global, schema: &Schema) -> Result<Vec<u8>, AllocError>
 {
     let metadata = arrow_meta::schema_message(alloc, schema)?;
     framed(Vec::new(alloc), metadata.as_slice(), 0)
-}
-
-/// What stands before the body of these columns in the message of a record batch, in an empty
-/// vector, with room for so many bytes behind it.
-fn batch_head(
-    empty: Vec<u8>,
-    room: usize,
-    rows: u32,
-    arrays: &[LentArray<'_>],
-    body: &Body,
-) -> Result<Vec<u8>, AllocError>
-    requires empty { empty.items ≡ [] }
-    requires few { AreFew arrays.now }
-    requires places { body.now.places.items
-        ≡ buffer_places 0 (flat_map (λ array. array.buffers) arrays.now) }
-    requires size { body.now.size
-        ≡ length (flat_map padded (flat_map (λ array. array.buffers) arrays.now)) }
-    requires below { body.now.size < 2 ^ 63 }
-    ensures { IfOk result (λ head.
-        head.items ++ flat_map padded (flat_map (λ array. array.buffers) arrays.now)
-        ≡ message_of_batch (batch_of_arrays rows arrays.now)) }
-{
-    let alloc = *empty.allocator();
-    let nodes = nodes(alloc, rows, arrays)?;
-    let metadata = arrow_meta::batch_message(
-        alloc,
-        u64::from(rows),
-        nodes.as_slice(),
-        body.places.as_slice(),
-        body.size,
-    )?;
-    framed(empty, metadata.as_slice(), room)
-}
-
-/// A node for each column: the rows and the nulls.
-fn nodes(alloc: Global, rows: u32, arrays: &[LentArray<'_>]) -> Result<Vec<(i64, i64)>, AllocError>
-    ensures { IfOk result (λ nodes. nodes.items
-        ≡ map (λ array. (pos rows, pos array.nulls)) arrays.now) }
-{
-    arrays
-        .iter()
-        .map(|array| (i64::from(rows), i64::from(array.nulls())))
-        .collect(alloc)
 }

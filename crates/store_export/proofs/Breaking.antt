@@ -62,14 +62,6 @@ sending_ends columns made before between now sent more = Appends-trans before be
 
 -- ---- where it breaks off
 
--- behind a whole message
-pub breaks_behind : (columns : List Column) (blocks : ℕ) (made : List Occurrence) (before now : Option (List ℕ)) → HasSent columns made before now → HasBroken columns blocks made before now
-breaks_behind columns blocks made before now sent = record {
-  bytes = messages_of columns (groups_told made);
-  sent = sent;
-  breaks = inl ([], append-nil (messages_of columns (groups_told made)));
-}
-
 -- a front of a piece, and what is left of it
 rejoined : (first piece : List ℕ) (n : ℕ) → (first ++ take n piece) ++ drop n piece ≡ first ++ piece
 rejoined first piece n = append_assoc first (take n piece) (drop n piece) ∙ ap (λ bytes. first ++ bytes) (take-append-drop n piece)

@@ -209,6 +209,7 @@ module _ (store : StoreView) (own : OwnTransaction) (t : ℕ) where
     rows_further : rows_all (replies_in further) ≡ rows_all (replies_in s.made) + rows_all (told ∷ [])
     rows_further = ap rows_all replies_further ∙ rows_more (replies_in s.made) told
 
+    -- one block more is read, and its group is sent
     pub sending_more : (now : Option (List ℕ)) (more later : Sent) (steps_later : ℕ) → is_memory told ≡ false → slots_of sh t ≤ 2 ^ 15
         → Appends between now (group_message columns (rows_told told)) → more ≡ counted (told ∷ []) → steps_later ≤ steps + slots_of sh t * (1 - count_by is_shared (told ∷ []))
         → later.rows ≡ sent.rows + more.rows → later.batches ≡ sent.batches + more.batches → later.frozen ≡ sent.frozen + more.frozen
@@ -365,6 +366,7 @@ module _ (store : StoreView) (own : OwnTransaction) (t : ℕ) where
           ∙ sym (ap (option_map (λ (x : OwnTransaction). summary_of x (replies_in s.made))) open');
     }))
 
+    -- behind all blocks the end word is sent, and the export tells what it sent
     pub ended : (new : Session) (before between now : Option (List ℕ)) (sent : Sent) (spent steps : ℕ) → Sending store old new own t (blocks_of sh t) before between sent spent steps
         → Appends between now end_word → Exports store old new t (said.Exported own.snapshot.number sent.rows sent.batches sent.frozen) before now spent steps
     ended new before between now sent spent steps s last =
@@ -418,8 +420,10 @@ refused store old t key before spent is written = record {
 some_is : {X : Type 0} (a b : X) → Some a ≡ Some b → a ≡ b
 some_is a b h = cc
 
+-- where no written key of the table is found, the session's transaction wrote none
 pub clean_here : (s : Session) (own : OwnTransaction) (t : ℕ) (found : Option ℤ) → option_map (least_written t) (own_of s) ≡ Some found → own_of s ≡ Some own → found ≡ None → least_written t own ≡ None
 clean_here s own t found told is none' = some_is (least_written t own) found (sym (ap (option_map (least_written t)) is) ∙ told) ∙ none'
 
+-- the snapshot that is told is that of the session's transaction
 pub number_here : (s : Session) (own : OwnTransaction) (number : ℕ) → option_map (λ (own : OwnTransaction). own.snapshot.number) (own_of s) ≡ Some number → own_of s ≡ Some own → own.snapshot.number ≡ number
 number_here s own number told is = some_is own.snapshot.number number (sym (ap (option_map (λ (own : OwnTransaction). own.snapshot.number)) is) ∙ told)

@@ -1,15 +1,12 @@
 -- The messages of a block's rows and of its image are one.
-use Rattle.std.proofs.Common.{◌≡◌, ◌∙◌, ℕ, zero, suc, ◌+◌, ◌<◌, true, false, Err, Option, None, Some, List, [], ◌∷◌, length, map, take, get_or, refl, sym, ap, arith}
+use Rattle.std.proofs.Common.{◌≡◌, ◌∙◌, ℕ, zero, suc, ◌<◌, true, false, Err, Option, None, Some, List, [], ◌∷◌, length, take, get_or, refl, sym, ap, arith}
 use Rattle.std.specs.Prelude.{IsSome, flat_map, option_to_list}
-use Rattle.std.specs.List.{enumerate_from}
-use Rattle.arrow_spec.specs.Arrays.{column_buffers, null_count}
-use Rattle.arrow_spec.specs.Batches.{Array, batch_of_arrays, column_cells}
-use Rattle.arrow_spec.specs.Streams.{batch_message, message_of_batch}
+use Rattle.arrow_spec.specs.Streams.{batch_message}
 use Rattle.block_columns.specs.Images.{ImageValue, IsWhole, rows_of}
 use Rattle.block_spec.specs.Slots.{Row}
 use Rattle.cell_model.specs.declared.column.Column.{Column}
-use Rattle.cell_model.specs.declared.kind.Kind.{Kind}
 use Rattle.core_images.specs.Kinds.{kinds_of}
+use Rattle.core_images.proofs.SameKinds.{same_message}
 use Rattle.ipc_write.specs.Calls.{MakesPiece, WriterView}
 use Rattle.ipc_write.specs.declared.faults.PieceFault.{PieceFault}
 use Rattle.ipc_write.specs.declared.faults.PieceFault.TheVariants.{Sink, Memory}
@@ -20,38 +17,11 @@ pub message_is : (columns : List Column) (rows : List Row) → (length rows ≡ 
 message_is columns [] some = absurd (some refl)
 message_is columns (row ∷ rows) some = refl
 
--- and none makes none
-pub message_none : (columns : List Column) (rows : List Row) → length rows ≡ 0 → group_message columns rows ≡ []
-message_none columns [] none = refl
-message_none columns (row ∷ rows) none = absurd (let never : ⊥ = omega (arith, none) in never)
-
 -- a fault is told of one answer as of another
 pub retold : {W : Type 0} (T S : Type 0) (written : W → Option (List ℕ)) (faults : W → ℕ) (old new : WriterView W) (piece : List ℕ) (fault : PieceFault)
     → MakesPiece {T = T} written faults old new piece (Err fault) → MakesPiece {T = S} written faults old new piece (Err fault)
 retold T S written faults old new piece (Sink fault) told = told
 retold T S written faults old new piece (Memory refused) told = told
-
--- ---- kinds
-
-arrays_from : ℕ → List Column → List Row → List Array
-arrays_from at columns rows =
-    map (λ (place, column). record { nulls = null_count (column_cells place rows); buffers = column_buffers column.kind (column_cells place rows) }) (enumerate_from at columns)
-
-from_kinds : (at : ℕ) (one other : List Column) (rows : List Row) → kinds_of one ≡ kinds_of other → arrays_from at one rows ≡ arrays_from at other rows
-unfolding arrays_from
-from_kinds at [] [] rows same = refl
-from_kinds at [] (d ∷ ds) rows same = cc
-from_kinds at (c ∷ cs) [] rows same = cc
-from_kinds at (c ∷ cs) (d ∷ ds) rows same =
-    let first : c.kind ≡ d.kind = cc in
-    let rest : kinds_of cs ≡ kinds_of ds = cc in
-    ap (λ (k : Kind). record { nulls = null_count (column_cells at rows); buffers = column_buffers k (column_cells at rows) } ∷ arrays_from (at + 1) cs rows) first
-    ∙ ap (λ (l : List Array). record { nulls = null_count (column_cells at rows); buffers = column_buffers d.kind (column_cells at rows) } ∷ l) (from_kinds (at + 1) cs ds rows rest)
-
--- a batch's message goes by the columns' kinds
-pub same_message : (one other : List Column) (rows : List Row) → kinds_of one ≡ kinds_of other → batch_message one rows ≡ batch_message other rows
-unfolding arrays_from
-same_message one other rows same = ap (λ arrays. message_of_batch (batch_of_arrays (length rows) arrays)) (from_kinds 0 one other rows same)
 
 -- ---- images
 

@@ -82,12 +82,12 @@ fn image_of(alloc: Global, front: FrontColumns) -> Result<Image, AllocError>
     ensures rows { IfOk result (λ image. rows_of image ≡ rows_of_front front) }
 {
     let rows = front.rows();
-    let buffers = gather_in_turn(alloc, front.columns(), rows)?;
-    Ok(Image::of(front.into_columns(), rows, buffers))
+    let form = gather_in_turn(alloc, front.columns(), rows)?;
+    Ok(Image::of(front.into_columns(), rows, form))
 }
 
-/// Writes the batch of a frozen block's image, from the image's own buffers, and answers how many
-/// rows it has.
+/// Writes the batch of a frozen block's image, from where it lies, and answers how many rows it
+/// has.
 pub fn write_image<W: Sink>(
     alloc: Global,
     schema: &Schema,
@@ -111,7 +111,7 @@ pub fn write_image<W: Sink>(
 
 /// Writes the batch of an image, if it has a row, and answers how many it has.
 ///
-/// The images of a store have their table's kinds. Of one that had not, the buffers would be of no
+/// The images of a store have their table's kinds. Of one that had not, the form would be of no
 /// use, and it is answered as where memory is wanting.
 fn write_whole<W: Sink>(
     alloc: Global,

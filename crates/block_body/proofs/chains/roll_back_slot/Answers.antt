@@ -1,19 +1,11 @@
-use Rattle.std.proofs.Common.{◌≡◌, ℕ, cond, Some, rules, arith, sym}
-use Rattle.std.proofs.lemmas.Grind.{common_steps}
-use Rattle.std.specs.Ordering.{nat_cmp}
-use Rattle.std.specs.BTreeMap.{is_at}
-use Rattle.block_body.specs.Chains.{chain_at}
-use Rattle.block_body.proofs.Lookups.{changed_chains}
-use Rattle.block_body.proofs.Pruned.{above_zero, few_left}
+use Rattle.std.proofs.Common.{◌∙◌, sym}
+use Rattle.block_body.proofs.Lookups.{put_chains}
+use Rattle.block_body.proofs.Pruned.{few_left}
 use Rattle.block_body.proofs.chains.roll_back_slot.Goals as goal
 
-pub returns-else-is_empty-clause-chains : goal.returns-else-is_empty-clause-chains
-returns-else-is_empty-clause-chains c =
-    let v = c.lay_own_back-any.new.chain in
-    let put : (q : ℕ) → chain_at (c.get_mut.follows.lender v).entries q ≡ cond (is_at (nat_cmp c.args.slot) q) (Some v) (chain_at c.args.chains.now.entries q) =
-    λ q. grind (arith, common_steps) in
-    changed_chains c.args.chains.now.entries _ c.args.slot (Some v) put c.requires.chains (record {
-      some = above_zero c.entries.result.now v.entries c.entries.ensures (sym c.if-is_empty.ensures);
-      few = few_left _ (c.in-Some.chain.now).entries v.entries (c.requires.chains.each c.args.slot c.in-Some.chain.now (search rules)).few c.lay_own_back-any.ensures.chain;
-      lawful = c.lay_own_back-any.ensures.lawful;
-    })
+pub returns-clause-chains : goal.returns-clause-chains
+returns-clause-chains c =
+    let left = c.lay_own_back-any.new.chain in
+    put_chains c.args.chains.now.entries c.put.new.self.entries c.args.slot left c.requires.chains c.put.ensures.here (λ q other. c.put.ensures.others q other ∙ c.take.ensures.others q other)
+    (few_left _ (c.in-Some.chain).entries left.entries (c.requires.chains.each c.args.slot c.in-Some.chain (sym c.take.ensures.chain ∙ c.in-Some.is)).few c.lay_own_back-any.ensures.chain)
+    c.lay_own_back-any.ensures.lawful

@@ -3,9 +3,9 @@ use Rattle.block_trials.proofs.tests.freeze.Goals as goal
 
 pub freeze-requires-clause-whole : goal.freeze-requires-clause-whole
 freeze-requires-clause-whole g c =
-    whole_of_body c.args.body.now c.columns-columns.result.now c.rows-rows.result c.in_ok-buffers-in-Own.buffers.items
+    whole_of_body c.args.body.now c.columns-columns.result.now c.rows-rows.result c.in_ok-form-in-Own.form
     c.columns-columns.ensures.columns c.columns-columns.ensures.rows c.rows-rows.ensures
-    c.in_ok-buffers-in-Own.ensures.whole
+    c.in_ok-form-in-Own.ensures.whole
 
 pub image-requires-clause-image : goal.image-requires-clause-image
 image-requires-clause-image g c =

@@ -6,15 +6,15 @@ use Rattle.core_images.proofs.Front.{front_held}
 use Rattle.engine_core.proofs.Asked.{few_slots, front_is, image_imaged, image_loose, image_sealed, image_there, rows_few, sealed_front}
 use Rattle.engine_core.proofs.asks.image_of.Goals as goal
 
-pub gather_buffers-requires-clause-held : goal.gather_buffers-requires-clause-held
-gather_buffers-requires-clause-held g c κs within = λ slot less.
+pub gather_form-requires-clause-held : goal.gather_form-requires-clause-held
+gather_form-requires-clause-held g c κs within = λ slot less.
     let x = c.body-sealed.result.now in
     let front = sealed_front c.args.shape.now c.args.held.now c.args.table c.args.block x c.body-sealed.ensures c.requires.core c.requires.body c.in-Sealed.field-0 (sym c.phase.ensures ∙ c.in-Sealed.is) in
     subst (λ (l : List (Option Row)). IsSome (get_or l slot None)) (sym c.columns-columns.ensures.rows)
     (front_held x.slots front slot (subst (λ n. slot < n) c.rows-rows.ensures less))
 
-pub gather_buffers-requires-clause-few : goal.gather_buffers-requires-clause-few
-gather_buffers-requires-clause-few g c κs within =
+pub gather_form-requires-clause-few : goal.gather_form-requires-clause-few
+gather_form-requires-clause-few g c κs within =
     let x = c.body-sealed.result.now in
     rows_few x c.rows-rows.result c.rows-rows.ensures (few_slots c.args.shape.now c.args.held.now c.args.table c.args.block x c.body-sealed.ensures c.requires.core c.requires.body)
 

@@ -1,9 +1,11 @@
-use Rattle.std.proofs.Common.{◌≡◌, ◌∙◌, ◌≤◌, eqb, Bool, true, false, not, cond, None, Some, ap, sym, refl, arith}
+use Rattle.std.proofs.Common.{◌≡◌, ◌∙◌, ◌+◌, ◌≤◌, eqb, Bool, true, false, not, cond, None, Some, ap, sym, subst, refl, arith}
 use Rattle.std.proofs.lemmas.Bool.{eqb-false}
 use Rattle.block_spec.specs.declared.phase.Phase.{Phase}
 use Rattle.block_spec.specs.declared.phase.Phase.TheVariants.{Loose, Sealed, Imaged}
 use Rattle.block_spec.specs.declared.phase.SealFault.TheVariants as fault
 use Rattle.block_spec.specs.Bodies.{Body as BodyValue, is_loose, is_quiet, is_imaged, has_row, is_front, last_stamp}
+use Rattle.block_body.specs.Bodies.{IsBody}
+use Rattle.block_body.specs.Chains.{Chains}
 use Rattle.block_body.proofs.Whole.{quiet_is, no_chains}
 use Rattle.block_body.proofs.body.Body.seal.Goals as goal
 
@@ -33,6 +35,7 @@ invariant_of-self c =
     let last : i.last ≡ v.last = ap (λ (b : BodyValue). b.last) c.self.view_is in
     let spent : v.last ≡ last_stamp → ⊥ = eqb-false v.last last_stamp j.2 in
     let least : i.last ≤ last_stamp = c.self.invariant.last in
+    let whole : IsBody i.rows i.chains.entries i.written (Sealed (i.last + 1)) (i.last + 1) =
     record {
       each = c.self.invariant.each;
       kept = c.self.invariant.kept;
@@ -41,4 +44,5 @@ invariant_of-self c =
       image = c.self.invariant.image ∙ not_imaged i.phase (ap (λ (b : BodyValue). is_loose b.phase) c.self.view_is ∙ j.0);
       frozen = c.self.invariant.frozen;
       last = omega arith;
-    }
+    } in
+    subst (λ (chains : Chains). IsBody i.rows chains i.written (Sealed (i.last + 1)) (i.last + 1)) (sym c.give_back.ensures) whole

@@ -6,4 +6,4 @@ use Rattle.block_body.proofs.rows.Rows.freeze_own.Goals as goal
 pub of-requires-clause-each : goal.of-requires-clause-each
 of-requires-clause-each c =
     let same : c.args.self.now.columns ≡ c.in-Some.columns.columns = search rules in
-    whole_long (image_of c.args.self.now.columns c.args.self.now.rows c.args.buffers.items) c.requires.whole ∙ ap length same
+    whole_long (image_of c.args.self.now.columns c.args.self.now.rows c.args.form) c.requires.whole ∙ ap length same

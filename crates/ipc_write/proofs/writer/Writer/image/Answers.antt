@@ -1,24 +1,44 @@
-use Rattle.std.proofs.Common.{◌≡◌, ◌∙◌, ℕ, List, length, sym, subst}
+use Rattle.std.proofs.Common.{◌≡◌, ◌∙◌, ℕ, List, Option, length, take, ap, sym, subst}
+use Rattle.std.specs.Prelude.{IfSome, flat_map, option_to_list}
 use Rattle.arrow_spec.specs.Batches.{Array, arrays_of, batch_of_arrays}
-use Rattle.arrow_spec.specs.Streams.{message_of_batch}
+use Rattle.arrow_spec.specs.Streams.{batch_message, message_of_batch}
 use Rattle.arrow_array.proofs.ArrayLemmas.{arrays-few}
+use Rattle.cell_model.specs.declared.column.Column.{Column}
 use Rattle.block_columns.specs.Images.{rows_of}
 use Rattle.block_columns.proofs.Whole.{held_count}
+use Rattle.block_spec.specs.Slots.{Row}
 use Rattle.ipc_write.specs.Calls.{MakesPiece}
 use Rattle.ipc_write.proofs.writer.Writer.image.Goals as goal
 
+pub returns-in-Some-clause-answer : goal.returns-in-Some-clause-answer
+returns-in-Some-clause-answer g c =
+    let image = c.args.image.now in
+    let told : c.in-Some.message.now ≡ batch_message image.columns (rows_of image) =
+    subst (λ (o : Option (List ℕ)). IfSome o (λ bytes. bytes ≡ batch_message image.columns (rows_of image))) (sym c.in-Some.ensures) c.requires.whole.form.message in
+    subst (λ (piece : List ℕ). MakesPiece g.W.Sink.written g.W.Sink.faults c.args.self.now c.ready.new.self piece c.ready.result) told c.ready.ensures.answer
+
 pub arrays-requires-clause-few : goal.arrays-requires-clause-few
 arrays-requires-clause-few g c =
-    arrays-few c.args.image.now.columns (rows_of c.args.image.now) c.as_slice.result.now c.requires.few
-    (c.as_slice.ensures.value ∙ c.in_ok-arrays.ensures)
+    let image = c.args.image.now in
+    let slots_are = ap (λ (slots : List (Option Row)). flat_map (λ slot. option_to_list slot) (take c.rows.result slots)) c.columns.ensures.rows in
+    let rows_are = ap (λ (n : ℕ). flat_map (λ slot. option_to_list slot) (take n image.slots)) c.rows.ensures in
+    arrays-few image.columns (rows_of image) c.as_slice.result.now c.requires.few
+    (c.as_slice.ensures.value ∙ c.in_ok-arrays.ensures
+    ∙ ap (λ (cs : List Column). arrays_of cs (flat_map (λ slot. option_to_list slot) (take c.rows.result c.columns.result.now.rows))) c.columns.ensures.columns
+    ∙ ap (λ (rows : List Row). arrays_of image.columns rows) (slots_are ∙ rows_are))
 
 pub returns-clause-answer : goal.returns-clause-answer
 returns-clause-answer g c =
+    let image = c.args.image.now in
     let makes : ℕ → List Array → Type 0 = λ rows arrays.
     MakesPiece g.W.Sink.written g.W.Sink.faults c.args.self.now c.arrays.new.self (message_of_batch (batch_of_arrays rows arrays)) c.arrays.result in
-    let lent : c.as_slice.result.now ≡ arrays_of c.args.image.now.columns (rows_of c.args.image.now) =
-    c.as_slice.ensures.value ∙ c.in_ok-arrays.ensures in
-    let count : c.rows.result ≡ length (rows_of c.args.image.now) =
-    c.rows.ensures ∙ sym (held_count c.args.image.now.rows c.args.image.now.slots c.requires.whole.held) in
-    subst (λ (arrays : List Array). makes (length (rows_of c.args.image.now)) arrays) lent
+    let slots_are = ap (λ (slots : List (Option Row)). flat_map (λ slot. option_to_list slot) (take c.rows.result slots)) c.columns.ensures.rows in
+    let rows_are = ap (λ (n : ℕ). flat_map (λ slot. option_to_list slot) (take n image.slots)) c.rows.ensures in
+    let lent : c.as_slice.result.now ≡ arrays_of image.columns (rows_of image) =
+    c.as_slice.ensures.value ∙ c.in_ok-arrays.ensures
+    ∙ ap (λ (cs : List Column). arrays_of cs (flat_map (λ slot. option_to_list slot) (take c.rows.result c.columns.result.now.rows))) c.columns.ensures.columns
+    ∙ ap (λ (rows : List Row). arrays_of image.columns rows) (slots_are ∙ rows_are) in
+    let count : c.rows-2.result ≡ length (rows_of image) =
+    c.rows-2.ensures ∙ sym (held_count image.rows image.slots c.requires.whole.held) in
+    subst (λ (arrays : List Array). makes (length (rows_of image)) arrays) lent
     (subst (λ (rows : ℕ). makes rows c.as_slice.result.now) count c.arrays.ensures.answer)

@@ -1,0 +1,3 @@
+mod BodyLemmas
+mod ImageLemmas
+mod SmallBatches
