@@ -13,9 +13,11 @@ use Rattle.workload_spec.specs.declared.script.Line.{Line}
 use Rattle.store_rounds.specs.Agendas.{AreAgendas}
 use Rattle.store_rounds.specs.declared.agenda.Agenda.{Agenda}
 
+-- before any session was given one, there are no agendas
 pub none_yet : AreAgendas 0 [] []
 none_yet = record { size = refl; each = λ k d within. absurd (omega (arith, within)) }
 
+-- one session more with nothing to do yet
 pub one_more : (n : ℕ) (agendas : List Agenda) (new : Agenda) → AreAgendas n [] agendas → new.commands.items ≡ [] → AreAgendas (n + 1) [] (agendas ++ new ∷ [])
 one_more n agendas new are none = record {
   size = length_push agendas new ∙ ap (λ k. k + 1) are.size;
@@ -46,6 +48,7 @@ set_length agendas new at = grind (arith, elements)
 any_default : (agendas : List Agenda) (k : ℕ) (d e : Agenda) → k < length agendas → get_or agendas k d ≡ get_or agendas k e
 any_default agendas k d e within = grind (arith, elements)
 
+-- a line's command is put behind the agenda of its session
 pub line_more : (n : ℕ) (lines : List Line) (line : Line) (agendas : List Agenda) (new x : Agenda)
     → AreAgendas n lines agendas → 1 ≤ line.session → line.session ≤ n
     → new.commands.items ≡ (get_or agendas (line.session - 1) x).commands.items ++ line.command ∷ []

@@ -50,6 +50,7 @@ none_open : {X : Type 0} (o : Option X) → is_some o ≡ false → o ≡ None
 none_open None none = refl
 none_open (Some x) none = absurd (true≢false none)
 
+-- a session without a transaction is told so where the command needs one
 pub refused : (store : StoreView) (s : Session) (command : Command) → IsSession store s
     → is_some (refusal_of command None) ≡ true → is_some (own_of s) ≡ false → Answers store s s command said.NoTransaction
 refused store s command is needs closed =
@@ -79,6 +80,7 @@ table_there (t ∷ tables) (suc table) is = let low = table_there tables table i
 pub table_of_key : (tables : List TableDecl) (table : ℕ) (key : ℤ) → (is_table_place tables table && is_key_number key) ≡ true → table < length tables
 table_of_key tables table key is = table_there tables table (and_parts (is_table_place tables table) (is_key_number key) is).0
 
+-- a table that a command may name is one of the tables
 pub table_named : (tables : List TableDecl) (table : ℕ) → is_table_place tables table ≡ true → table < length tables
 table_named tables table is = table_there tables table is
 

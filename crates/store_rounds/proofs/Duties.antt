@@ -31,9 +31,11 @@ use Rattle.store_rounds.proofs.Runs.{Place, of_session, of_worker, place}
 
 -- ---- duty behind duty
 
+-- of no sessions there are no duties
 pub no_duties : (round : ℕ) → AreOfSessions round [] []
 no_duties round = record { size = refl; each = λ k a d within. absurd (omega (arith, within)) }
 
+-- the duty of one session more, with the commands of its agenda
 pub session_more : (round : ℕ) (agendas : List Agenda) (duties : List Duty) (agenda : Agenda) (commands : GlobalVec Command) (new : Duty)
     → AreOfSessions round agendas duties → commands.items ≡ agenda.commands.items → IsNew round (task.Commands commands) new
     → AreOfSessions round (agendas ++ agenda ∷ []) (duties ++ new ∷ [])
@@ -55,9 +57,11 @@ session_more round agendas duties agenda commands new are same is = record {
         (subst (IsOfSession round agenda) (sym (get_or_push duties new d k (are.size ∙ same')))
         (record { commands = commands; same = same; new = is }))
 
+-- of no workers there are no duties behind the sessions'
 pub no_workers : (crew : Crew) (round : ℕ) (duties : List Duty) → AreWithWorkers crew round 0 duties duties
 no_workers crew round duties = record { size = omega arith; same = λ k d within. refl; each = λ k d within. absurd (omega (arith, within)) }
 
+-- the duty of one worker more, with its turns
 pub worker_more : (crew : Crew) (round workers : ℕ) (before duties : List Duty) (new : Duty)
     → AreWithWorkers crew round workers before duties → IsNew round (task.Turns (workers + 1) crew.turns) new
     → AreWithWorkers crew round (workers + 1) before (duties ++ new ∷ [])
@@ -171,6 +175,7 @@ module _ (crew : Crew) (round : ℕ) (lines : List Line) (duties : List Duty) (a
   own_size : length are.own ≡ crew.sessions
   own_size = are.sessions.size ∙ are.asked.size
 
+  -- there are as many duties as the crew has sessions and workers
   pub duties_size : length duties ≡ crew.sessions + crew.workers
   duties_size = are.workers.size ∙ ap (λ n. n + crew.workers) own_size
 
@@ -180,6 +185,7 @@ module _ (crew : Crew) (round : ℕ) (lines : List Line) (duties : List Duty) (a
     pub same : commands.items ≡ commands_of (k + 1) lines
     pub new : IsNew round (task.Commands commands) duty
 
+  -- at a session's place stands its duty, with its commands in the round
   pub of_session_at : (k : ℕ) (d : Duty) → k < crew.sessions → AskedOf k (get_or duties k d)
   of_session_at k d within =
       let low : k < length are.agendas = omega (arith, within, are.asked.size) in
@@ -191,10 +197,12 @@ module _ (crew : Crew) (round : ℕ) (lines : List Line) (duties : List Duty) (a
         new = subst (IsNew round (task.Commands here.commands)) (sym (are.workers.same k d (omega (arith, within, own_size)))) here.new;
       }
 
+  -- at a worker's place, behind the sessions, stands its duty with its turns
   pub of_worker_at : (n : ℕ) (d : Duty) → n < crew.workers → IsNew round (task.Turns (n + 1) crew.turns) (get_or duties (crew.sessions + n) d)
   of_worker_at n d within =
       subst (λ k. IsNew round (task.Turns (n + 1) crew.turns) (get_or duties (k + n) d)) own_size (are.workers.each n d within)
 
+  -- a row may do its duties where each has room for their events and the lines are valid
   pub may_serve_row : (store : StoreView) (row : List Session) → AreSessions store row → length row ≡ crew.sessions + crew.workers
       → HaveRoomFor (most_events * length lines + most_of_turn * crew.turns) row → crew.workers ≤ 16 → crew.turns ≤ 100
       → All (λ (line : Line). IsServed (shape_in store).tables line.command) lines
@@ -234,6 +242,7 @@ module _ (crew : Crew) (round : ℕ) (lines : List Line) (duties : List Duty) (a
           let new = of_worker_at n d inside in
           absurd (true≢false (sym asks ∙ ap (λ j. asks_export (get_or duties j d)) (sym same) ∙ ap has_export new.asked))
 
+  -- at most one of the duties exports where at most one line of the round does
   pub export_once : count_by (λ (line : Line). is_export line.command) lines ≤ 1 → OneExportsAtMost duties
   export_once once j k d low high one other = go (j == k) refl
     where
@@ -251,6 +260,7 @@ pub data Stopped (duties : List Duty) (failed : RunFault) : Type 0 where
   by_outlet : failed ≡ fault.Export → list_any is_cut duties ≡ true → Stopped duties failed
   by_memory : failed ≡ fault.Memory → list_any is_cut duties ≡ false → Stopped duties failed
 
+-- a fault of the duties tells which of them stopped, and why
 pub fault_is : (duties : List Duty) (failed : RunFault) → fault_of duties ≡ Some failed → Stopped duties failed
 fault_is duties failed is = go (list_any is_cut duties) refl (list_any (λ (duty : Duty). not (is_whole duty)) duties) is
   where
@@ -263,6 +273,7 @@ pub record Whole (duties : List Duty) : Type 0 where
   pub none_cut : list_any is_cut duties ≡ false
   pub none_lost : list_any (λ (duty : Duty). not (is_whole duty)) duties ≡ false
 
+-- where the duties have no fault, each of them came to its end
 pub no_fault : (duties : List Duty) → fault_of duties ≡ None → Whole duties
 no_fault duties is = go (list_any is_cut duties) refl (list_any (λ (duty : Duty). not (is_whole duty)) duties) refl is
   where

@@ -54,6 +54,7 @@ module _ (Goes Other : List (List Line) → List ℕ → Type 0) (told : (asked 
   })
   part_told fault.Memory (inr goes) = inr (record { lines = goes.lines; to = to_told goes.lines goes.to; whole = goes.whole })
 
+  -- what a failed run tells in part is told without the store
   pub on_part : {T : Type 0} (r : Result T RunFault) → IfErr r (λ failed. GoesPart Goes script failed before now) → IfErr r (λ failed. GoesPart Other script failed before now)
   on_part (Ok value) goes = tt
   on_part (Err failed) goes = part_told failed goes

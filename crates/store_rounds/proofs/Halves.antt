@@ -109,6 +109,7 @@ counts_cut before now (Err fault.Out) counts = counts
 counts_cut before now (Err fault.Export) counts = counts
 counts_cut before now (Err fault.Memory) counts = counts
 
+-- where only memory was refused, the count of the outlet's faults stays
 pub counts_kept : {T : Type 0} (count : ℕ) (r : Result T RunFault) → IfErr r (λ failed. failed ≡ fault.Memory) → CountsCut (is_cut_end r) count count
 counts_kept count r memory = subst (λ b. CountsCut b count count) (sym (never_cut r memory)) refl
 
@@ -125,6 +126,7 @@ module _ {X : Type 0} where
 
 module _ (store : StoreView) (front back : List Session) (first second : List Duty) (size : length first ≡ length front)
     (may : MayServeRow store (first ++ second) (front ++ back)) where
+  -- the first half of a row may do its duties
   pub may_front : MayServeRow store first front
   may_front = record {
     size = size;
@@ -134,6 +136,7 @@ module _ (store : StoreView) (front back : List Session) (first second : List Du
         (may.each k d e (omega (arith, within, length-append front back))));
   }
 
+  -- the second half of a row may do its duties
   pub may_back : MayServeRow store second back
   may_back = record {
     size = omega (arith, may.size, size, length-append front back, length-append first second);
@@ -144,17 +147,20 @@ module _ (store : StoreView) (front back : List Session) (first second : List Du
   }
 
 module _ (first second : List Duty) (once : OneExportsAtMost (first ++ second)) where
+  -- at most one of the first half exports
   pub once_front : OneExportsAtMost first
   once_front j k d low high one other =
       once j k d (omega (arith, low, length-append first second)) (omega (arith, high, length-append first second))
       (ap asks_export (at_front first second j d low) ∙ one) (ap asks_export (at_front first second k d high) ∙ other)
 
+  -- at most one of the second half exports
   pub once_back : OneExportsAtMost second
   once_back j k d low high one other =
       let same = once (length first + j) (length first + k) d (omega (arith, low, length-append first second)) (omega (arith, high, length-append first second))
       (ap asks_export (at_back first second (length first) j d refl) ∙ one) (ap asks_export (at_back first second (length first) k d refl) ∙ other) in
       omega (arith, same)
 
+  -- not both halves export
   pub not_both : (list_any asks_export first && list_any asks_export second) ≡ false
   not_both = go (list_any asks_export first) refl (list_any asks_export second) refl
     where
@@ -182,6 +188,7 @@ served_as store o p n m b c a e calls did old new before after same served =
     (subst (λ q. ServedBy store p m c q calls) (sym after)
     (subst (λ q. ServedBy store p m c e q) (sym same) served))))
 
+-- a row of none has done all that it was to do
 pub none_served : (store : StoreView) (row : List Session) (duties : List Duty) (exported : Option (List ℕ)) → length row ≡ 0
     → RowServed store row row duties duties exported exported
 none_served store row duties exported none = record {
@@ -199,6 +206,7 @@ none_cut_of_none (duty ∷ duties) none = absurd (omega (arith, none))
 
 module _ (store : StoreView) (row : List Session) (new session : Session) (duties : List Duty) (after duty : Duty) (exported exported_now : Option (List ℕ))
     (some : 0 < length row) (one : length row < 2) (size : length duties ≡ length row) where
+  -- a row of one has done what its one session did
   pub one_served : Served store (get_or row 0 session) new (get_or duties 0 duty) after exported exported_now
       → RowServed store row (slice_set row 0 new) duties (slice_set duties 0 after) exported exported_now
   one_served served = record {
@@ -218,6 +226,7 @@ module _ (store : StoreView) (row : List Session) (new session : Session) (dutie
         (subst (λ (cs : List Call). SentBy (shape_in store).tables cs exported exported_now) (sym (append-nil served.calls)) served.sent);
   }
 
+  -- a row of one stopped at an export where its one duty did
   pub one_cut : list_any is_cut (slice_set duties 0 after) ≡ is_cut after
   one_cut = go duties (omega (arith, some, one, size))
     where
@@ -233,6 +242,7 @@ module _ (store : StoreView) (row : List Session) (new session : Session) (dutie
 -- ---- two parts of a row
 
 module _ (store : StoreView) (front front_now back back_now : List Session) (first first_now second second_now : List Duty) (size : length first ≡ length front) where
+  -- a row is served where its halves are, one after the other
   pub both_served : (exported between exported_now : Option (List ℕ))
       → RowServed store front front_now first first_now exported between
       → RowServed store back back_now second second_now between exported_now
@@ -274,11 +284,13 @@ module _ (store : StoreView) (front front_now back back_now : List Session) (fir
           (joined_back (length front) one.calls other.calls (k + 1) (j + 1) (omega (arith, at')) (omega arith))
           (other.each j d e inside)
 
+  -- a row is served where its halves are recorded as served, one after the other
   pub parts_served : (exported exported_now : Option (List ℕ))
       → PartsServed store front front_now first first_now back back_now second second_now exported exported_now
       → RowServed store (front ++ back) (front_now ++ back_now) (first ++ second) (first_now ++ second_now) exported exported_now
   parts_served exported exported_now parts = both_served exported parts.between exported_now parts.of_front parts.of_back
 
+  -- a row whose halves left the outlet alone leaves it alone
   pub both_quiet : RowServedQuietly store front front_now first first_now → RowServedQuietly store back back_now second second_now
       → RowServedQuietly store (front ++ back) (front_now ++ back_now) (first ++ second) (first_now ++ second_now)
   both_quiet one other = record {
@@ -295,6 +307,7 @@ quiet_calls store old new before after calls quiet did =
     (none_of_both is_export (asked_in calls) did.rest
     (ap (list_any is_export) (sym did.asked) ∙ asks_none (shape_in store).tables before.task quiet)).0
 
+-- a row that exports nothing is served with whatever was sent
 pub quiet_served : (store : StoreView) (old new : List Session) (before after : List Duty) (exported exported_now any : Option (List ℕ))
     → length before ≡ length old → list_any asks_export before ≡ false
     → RowServed store old new before after exported exported_now
@@ -324,13 +337,16 @@ never_rose false same = refl
 
 -- ---- the outlet's faults
 
+-- the outlet's faults of two halves are those of the row
 pub cut_beside : (first second : List Duty) (before now : ℕ) → CountsCut (list_any is_cut first || list_any is_cut second) before now
     → CountsCut (list_any is_cut (first ++ second)) before now
 cut_beside first second before now counts = subst (λ b. CountsCut b before now) (sym (list_any-append is_cut first second)) counts
 
+-- where the first half had no fault of the outlet, the count of the second is that of both
 pub cut_of_second : (a b : Bool) (before now : ℕ) → a ≡ false → CountsCut b before now → CountsCut (a || b) before now
 cut_of_second a b before now none counts = subst (λ c. CountsCut (c || b) before now) (sym none) counts
 
+-- where the second half had no fault of the outlet, the count of the first is that of both
 pub cut_of_first : (a b : Bool) (before now : ℕ) → b ≡ false → CountsCut a before now → CountsCut (a || b) before now
 cut_of_first true b before now none counts = counts
 cut_of_first false b before now none counts = subst (λ c. CountsCut c before now) (sym none) counts

@@ -26,6 +26,7 @@ goes_before script first rest before exported split valid = record {
   printed = Appends-nil before;
 }
 
+-- of a workload for which there is no store nothing ran, and nothing was printed or sent
 pub nothing_goes : (script : Script) (before exported : Option (List ℕ)) → is_valid script ≡ true → GoesStopped (WentBy script exported exported) script before before
 nothing_goes script before exported valid = go script.rounds refl (has_rounds script valid)
   where

@@ -31,6 +31,7 @@ pub neither : (a b : Bool) → a || b ≡ false → (a ≡ false) × (b ≡ fals
 neither true b e = absurd (let never : ⊥ = cc e in never)
 neither false b e = (refl, e)
 
+-- what none of two lists together passes, none of either passes
 pub none_of_both : {X : Type 0} (f : X → Bool) (xs ys : List X) → list_any f (xs ++ ys) ≡ false → (list_any f xs ≡ false) × (list_any f ys ≡ false)
 none_of_both f xs ys none = neither (list_any f xs) (list_any f ys) (sym (list_any-append f xs ys) ∙ none)
 
@@ -71,6 +72,7 @@ asks_none tables (Some (task.Turns worker turns)) none = upkeep_exports_none (tu
 
 -- ---- calls without an export send nothing
 
+-- calls without an export send nothing
 pub quiet_sends : (tables : List TableDecl) (calls : List Call) → list_any is_export (asked_in calls) ≡ false → CallsSend tables calls []
 quiet_sends tables [] none = refl
 quiet_sends tables (call ∷ calls) none =

@@ -7,12 +7,15 @@ use Rattle.std.proofs.lemmas.Grind.{elements}
 -- ---- places
 
 module _ {X : Type 0} where
+  -- a place within the first list is that list's
   pub at_front : (front back : List X) (k : ℕ) (d : X) → k < length front → get_or (front ++ back) k d ≡ get_or front k d
   at_front front back k d within = grind (arith, elements)
 
+  -- a place behind the first list is the second list's
   pub at_back : (front back : List X) (n k : ℕ) (d : X) → length front ≡ n → get_or (front ++ back) (n + k) d ≡ get_or back k d
   at_back front back n k d size = grind (arith, elements)
 
+  -- what a list has at a place does not depend on what stands for nothing there
   pub any_default : (xs : List X) (k : ℕ) (d e : X) → k < length xs → get_or xs k d ≡ get_or xs k e
   any_default xs k d e within = grind (arith, elements)
 
@@ -35,12 +38,14 @@ module _ {X : Type 0} where
 -- ---- ranges
 
 module _ {X : Type 0} where
+  -- two that agree on a range give the same list over it
   pub same_on_range : (f g : ℕ → X) (a n : ℕ) → ((k : ℕ) → a ≤ k → k < a + n → f k ≡ g k) → map f (range_with_len a n) ≡ map g (range_with_len a n)
   same_on_range f g a zero same = refl
   same_on_range f g a (suc n) same =
       ap (λ x. x ∷ map f (range_with_len (a + 1) n)) (same a (omega arith) (omega arith))
       ∙ ap (λ xs. g a ∷ xs) (same_on_range f g (a + 1) n (λ k low high. same k (omega (arith, low)) (omega (arith, high))))
 
+  -- two that agree on a range give the same joined lists over it
   pub same_flat : (f g : ℕ → List X) (a n : ℕ) → ((k : ℕ) → a ≤ k → k < a + n → f k ≡ g k) → flat_map f (range_with_len a n) ≡ flat_map g (range_with_len a n)
   same_flat f g a zero same = refl
   same_flat f g a (suc n) same =
@@ -65,6 +70,7 @@ module _ {X : Type 0} where
       ∙ ap (λ k. f a ++ (flat_map f (range_with_len (a + 1) m) ++ flat_map f (range_with_len k n))) (let e : m + (a + 1) ≡ suc m + a = omega arith in e)
       ∙ sym (append_assoc (f a) (flat_map f (range_with_len (a + 1) m)) (flat_map f (range_with_len (suc m + a) n)))
 
+  -- a range that begins later gives the same where the other is asked that much later
   pub shifted : (f g : ℕ → List X) (m a n : ℕ) → ((k : ℕ) → a ≤ k → k < a + n → f (m + k) ≡ g k)
       → flat_map f (range_with_len (m + a) n) ≡ flat_map g (range_with_len a n)
   shifted f g m a zero same = refl
@@ -77,16 +83,19 @@ module _ {X : Type 0} where
   abbrev pub joined : ℕ → (ℕ → List X) → (ℕ → List X) → ℕ → List X
   joined middle f g n = cond (nat_le n middle) (f n) (g (n - middle))
 
+  -- up to the middle stands what the first part gives
   pub joined_front : (middle : ℕ) (f g : ℕ → List X) (n : ℕ) → n ≤ middle → joined middle f g n ≡ f n
   joined_front middle f g n low =
       let is : nat_le n middle ≡ true = grind (arith, nat_tests, low) in
       ap (λ b. cond b (f n) (g (n - middle))) is
 
+  -- behind the middle stands what the second part gives
   pub joined_back : (middle : ℕ) (f g : ℕ → List X) (n j : ℕ) → middle + j ≡ n → 0 < j → joined middle f g n ≡ g j
   joined_back middle f g n j same some =
       let is : nat_le n middle ≡ false = grind (arith, nat_tests, same, some) in
       ap (λ b. cond b (f n) (g (n - middle))) is ∙ ap g (let e : n - middle ≡ j = omega (arith, same) in e)
 
+  -- over both ranges the joined lists are those of the first and then those of the second
   pub joined_flat : (m n : ℕ) (f g : ℕ → List X) → flat_map (joined m f g) (range_with_len 1 (m + n)) ≡ flat_map f (range_with_len 1 m) ++ flat_map g (range_with_len 1 n)
   joined_flat m n f g =
       flat_split (joined m f g) 1 m n
@@ -104,6 +113,7 @@ flat_at {X} {Y} f t a (x ∷ xs) each =
     ∙ ap (λ (ys : List Y). t a ++ ys)
     (flat_at f t (a + 1) xs (λ k d within. each (suc k) d (omega (arith, within)) ∙ ap t (let e : a + suc k ≡ a + 1 + k = omega arith in e)))
 
+-- lists joined over what was mapped are joined over what it was mapped from
 pub flat_of_map : {X Y Z : Type 0} (f : Y → List Z) (g : X → Y) (xs : List X) → flat_map f (map g xs) ≡ flat_map (λ x. f (g x)) xs
 flat_of_map f g [] = refl
 flat_of_map {X} {Y} {Z} f g (x ∷ xs) = ap (λ (zs : List Z). f (g x) ++ zs) (flat_of_map f g xs)

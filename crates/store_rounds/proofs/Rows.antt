@@ -14,9 +14,11 @@ use Rattle.store_rounds.specs.Row.{AreSessions, LookOn, LooksOn, Meet, Met, SeeB
 saw_all : (log : List Logged) → GoesOn log log
 saw_all log = ([], sym (append-nil log))
 
+-- a session looks on to itself
 pub stays : (store : StoreView) (session : Session) → IsSession store session → LooksOn store session session
 stays store session is = record { is_session = is; same = refl; saw = saw_all (seen session); nothing_more = refl; made = refl }
 
+-- a session that looks on twice has looked on
 pub looks_further : (store : StoreView) (old now new : Session) → LooksOn store old now → LooksOn store now new → LooksOn store old new
 looks_further store old now new first second = record {
   is_session = second.is_session;
@@ -26,9 +28,11 @@ looks_further store old now new first second = record {
   made = second.made ∙ first.made;
 }
 
+-- each of a row looks on to itself
 pub all_stay : (store : StoreView) (row : List Session) → AreSessions store row → LookOn store row row
 all_stay store row are = record { size = refl; each = λ k d within. stays store (get_or row k d) (are k d within) }
 
+-- a row that looks on twice has looked on
 pub look_further : (store : StoreView) (old now new : List Session) → LookOn store old now → LookOn store now new → LookOn store old new
 look_further store old now new first second = record {
   size = second.size ∙ first.size;
@@ -36,6 +40,7 @@ look_further store old now new first second = record {
       (first.each k d within) (second.each k d (omega (arith, within, first.size)));
 }
 
+-- those of a row that look on are still sessions of the store
 pub still_sessions : (store : StoreView) (old new : List Session) → LookOn store old new → AreSessions store new
 still_sessions store old new look k d within = (look.each k d (omega (arith, within, look.size))).is_session
 
@@ -106,6 +111,7 @@ module _ (front back : List Session) (second : ℕ) (a b x y : Session) (size : 
         go (behind here) = moved store (get_or (front ++ back) k d) (get_or (front ++ back) k d) (get_or met_row k d) (get_or (front ++ back) k d) refl (read_behind k d here within)
             (stays store (get_or (front ++ back) k d) (are k d within))
 
+    -- two neighbours of a row that met have met within the whole row
     pub neighbours_met : (row : List Session) → row ≡ front ++ back → Meet store second row met_row
     neighbours_met row is = subst (λ r. Meet store second r met_row) (sym is) (record {
       look_on = record { size = met_size; each = each_looks };
@@ -123,12 +129,14 @@ pub record Along (store : StoreView) (old now : List Session) (last : ℕ) : Typ
   pub look_on : LookOn store old now
   pub shown : (k : ℕ) (d : Session) → k ≤ last → k < length old → GoesOn (seen (get_or old k d)) (seen (get_or now last d))
 
+-- the first of a row shows what it saw to itself
 pub along_begins : (store : StoreView) (row : List Session) → AreSessions store row → Along store row row 0
 along_begins store row are = record {
   look_on = all_stay store row are;
   shown = λ k d low within. subst (λ n. GoesOn (seen (get_or row n d)) (seen (get_or row 0 d))) (let e : 0 ≡ k = omega (arith, low) in e) (saw_all (seen (get_or row 0 d)));
 }
 
+-- one more of the row meets the one before it, which has all that the first ones saw
 pub along_goes_on : (store : StoreView) (old now new : List Session) (second : ℕ) → 1 ≤ second → second < length old
     → Along store old now (second - 1) → Meet store second now new → Along store old new second
 along_goes_on store old now new second low high along meet = record {
@@ -144,6 +152,7 @@ along_goes_on store old now new second low high along meet = record {
         subst (λ n. GoesOn (seen (get_or old k d)) (seen (get_or new n d))) same
         ((look_further store old now new along.look_on meet.look_on).each k d within).saw
 
+-- once the last met the one before it, it has seen all that the others had
 pub along_ends : (store : StoreView) (old now : List Session) (last : ℕ) → last + 1 ≡ length old → Along store old now last → ShowAlong store old now
 along_ends store old now last is along = record {
   look_on = along.look_on;
@@ -156,6 +165,7 @@ pub record Back (store : StoreView) (old now : List Session) (from : ℕ) : Type
   pub look_on : LookOn store old now
   pub saw : (k : ℕ) (d : Session) → from ≤ k → k < length old → GoesOn (seen (get_or old (length old - 1) d)) (seen (get_or now k d))
 
+-- on the way back, the last of a row has seen what it saw
 pub back_begins : (store : StoreView) (row : List Session) → AreSessions store row → Back store row row (length row - 1)
 back_begins store row are = record {
   look_on = all_stay store row are;
@@ -163,6 +173,7 @@ back_begins store row are = record {
       (saw_all (seen (get_or row (length row - 1) d)));
 }
 
+-- one more of the row meets the one behind it, and has seen what the last had
 pub back_goes_on : (store : StoreView) (old now new : List Session) (second : ℕ) → 1 ≤ second → second < length old
     → Back store old now second → Meet store second now new → Back store old new (second - 1)
 back_goes_on store old now new second low high back meet = record {
@@ -181,6 +192,7 @@ back_goes_on store old now new second low high back meet = record {
         (back.saw k d (grind (arith, nat_tests, e)) within)
         (meet.look_on.each k d (omega (arith, within, back.look_on.size))).saw
 
+-- once the first was met, all of the row have seen what the last had
 pub back_ends : (store : StoreView) (old now : List Session) → Back store old now 0 → SeeBack store old now
 back_ends store old now back = record { look_on = back.look_on; saw = λ k d within. back.saw k d (omega arith) within }
 

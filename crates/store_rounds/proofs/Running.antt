@@ -108,6 +108,7 @@ new_row_stands store count row new = record {
   behind = λ k d within. record { saw = (seen (get_or row k d), refl); nothing_yet = (new_at store count row k d new within).none };
 }
 
+-- before the first round, a new row stands behind no rounds, and nothing was printed or sent
 pub running_begins : (script : Script) (store : StoreView) (row : List Session) (before exported : Option (List ℕ))
     → is_valid script ≡ true → shape_in store ≡ shape_of script → IsNewRow store (script.sessions + script.workers) row
     → Running script store row [] before before exported exported 0
@@ -159,36 +160,45 @@ pub record RoundDone (script : Script) (store : StoreView) (old new : List Sessi
 module _ (script : Script) (store : StoreView) (old new : List Session) (asked : List (List Line)) (before now exported exported_now exported_later : Option (List ℕ)) (number : ℕ)
     (running : Running script store old asked before now exported exported_now number) (lines : List Line)
     (done : RoundDone script store old new lines exported_now exported_later) where
+  -- what each of the crew called in the round
   abbrev pub shares : List Share
   shares = crew_shares (crew_of script) done.calls
 
+  -- the first session of the row
   abbrev pub first_of_row : Session
   first_of_row = one_of old (let size = running.is.size in let some = running.some in omega (arith, size, some))
 
+  -- the entries by which the log in which all met grew in the round
   abbrev pub more : List Logged
   more = (gone_on script store running.finished old new running.is running.stands done.calls done.ran first_of_row running.some).0
 
+  -- the round that ran, as a round of the run
   abbrev pub round : RoundRun
   round = round_behind script running.finished more shares
 
+  -- the rounds so far, and this one
   abbrev pub both : List RoundRun
   both = running.rounds ++ round ∷ []
 
+  -- with this round too, the rounds so far ran in the log of all that was finished
   pub ran_further : RanSoFar script (asked ++ lines ∷ []) both (running.finished ++ more)
   ran_further = rounds_go_on script asked running.rounds running.finished more lines shares running.ran
       (row_met script store running.finished old new running.is running.stands done.calls done.ran first_of_row running.some lines done.asked
       (subst (λ (shape : Shape). AllTurned shape.tables (crew_of script) done.calls) running.is.shape done.turned))
 
+  -- the pruning counts that the rounds tell fit 64 bits, with this one too
   pub counted_further : All AreCounted both
   counted_further = All-append AreCounted running.rounds (round ∷ []) running.counted
       (All-cons AreCounted round [] (shares_counted script store running.finished old new running.is running.stands done.calls done.ran first_of_row) (All-nil AreCounted))
 
+  -- the text of the rounds grows by the text of this one
   pub text_further : rounds_text script.tables 1 both
       ≡ rounds_text script.tables 1 running.rounds ++ round_text script.tables (number + 1) shares
   text_further = rounds_grow script.tables 1 running.rounds round
       ∙ ap (λ n. rounds_text script.tables 1 running.rounds ++ round_text script.tables n shares)
       (let e : 1 + length running.rounds ≡ number + 1 = omega (arith, running.count) in e)
 
+  -- the row stands behind this round
   pub stands_further : Standing store (running.finished ++ more) new
   stands_further = subst (λ log. Standing store log new)
       (gone_on script store running.finished old new running.is running.stands done.calls done.ran first_of_row running.some).1
@@ -208,6 +218,7 @@ module _ (script : Script) (store : StoreView) (old new : List Session) (asked :
       ∙ ap (λ (cs : List Call). calls_in running.rounds ++ cs)
       (append-nil (flat_map (λ (share : Share). share.calls) shares) ∙ calls_in_crew (crew_of script) done.calls)
 
+  -- what the calls of the rounds sent grew by this round's
   pub sent_further : SentBy script.tables (calls_in both) exported exported_later
   sent_further = subst (λ (cs : List Call). SentBy script.tables cs exported exported_later) (sym calls_further)
       (calls_sent script.tables (calls_in running.rounds) (crew_calls (crew_of script) done.calls) exported exported_now exported_later running.sent
@@ -246,6 +257,7 @@ module _ (script : Script) (store : StoreView) (old new : List Session) (asked :
   abbrev done : RoundDone script store old new lines exported_now exported_later
   done = record { calls = did.calls; ran = did.ran; asked = did.asked; turned = did.turned; sent = did.sent }
 
+  -- once the round's text was printed, the run goes on one round further
   pub running_goes_on : (later : Option (List ℕ)) → Appends now later text
       → Running script store new (asked ++ lines ∷ []) before later exported exported_later (number + 1)
   running_goes_on later grown = record {
@@ -341,9 +353,11 @@ module _ (script : Script) where
 
 module _ (script : Script) (store : StoreView) (row : List Session) (asked rest : List (List Line)) (lines : List Line)
     (is : IsRowOf script store row) (split : asked ++ lines ∷ rest ≡ script.rounds) (valid : is_valid script ≡ true) where
+  -- each line of the round is of one of the script's sessions
   pub round_within : list_all (λ (line : Line). is_within 1 script.sessions line.session) lines ≡ true
   round_within = each_within script lines (round_valid script asked rest lines split valid)
 
+  -- each line of the round may be asked of the store
   pub round_served : All (λ (line : Line). IsServed (shape_in store).tables line.command) lines
   round_served = subst (λ (shape : Shape). All (λ (line : Line). IsServed shape.tables line.command) lines) (sym is.shape)
       (each_served script lines (round_valid script asked rest lines split valid))

@@ -101,6 +101,7 @@ pub data Place (sessions workers k : ℕ) : Type 0 where
   of_session : k < sessions → Place sessions workers k
   of_worker : (n : ℕ) → n < workers → sessions + n ≡ k → Place sessions workers k
 
+-- each place of a row is a session's or a worker's
 pub place : (sessions workers k : ℕ) → k < sessions + workers → Place sessions workers k
 place sessions workers k within = go (nat_lt k sessions) refl
   where
@@ -168,6 +169,7 @@ module _ (script : Script) (store : StoreView) (finished : List Logged) (old new
     behind = λ k d within. (now_at k d within).stands;
   }
 
+  -- the row is still one of the script's sessions and workers
   pub is_row : IsRowOf script store new
   is_row = record { shape = is.shape; size = ran.size ∙ is.size }
 
@@ -181,6 +183,7 @@ module _ (script : Script) (store : StoreView) (finished : List Logged) (old new
       (on_range (Brings script finished ran.met) (λ n. share_of (TheSession n) (calls (TheSession n))) script.sessions (λ k within. (session_ends k d within).brings))
       (on_range (Brings script finished ran.met) (λ n. share_of (TheWorker n) (calls (TheWorker n))) script.workers (λ k within. (worker_ends k d within).brings))
 
+  -- the round's calls and the log in which all met are a round of the run
   pub row_met : (d : Session) (some : 0 < script.sessions) (lines : List Line) → AskedAll script.sessions lines (λ n. calls (TheSession n))
       → AllTurned script.tables (crew_of script) calls
       → RoundMet script finished (gone_on d some).0 lines (crew_shares (crew_of script) calls)
@@ -194,6 +197,7 @@ module _ (script : Script) (store : StoreView) (finished : List Logged) (old new
         brought = subst (λ log. All (Brings script finished log) (crew_shares (crew_of script) calls)) split (brought d);
       }
 
+  -- the pruning counts that the calls of the round tell fit 64 bits
   pub shares_counted : (d : Session) → All (λ (share : Share). All IsCounted share.calls) (crew_shares (crew_of script) calls)
   shares_counted d = All-append (λ (share : Share). All IsCounted share.calls)
       (shares_of TheSession script.sessions (λ n. calls (TheSession n))) (shares_of TheWorker script.workers (λ n. calls (TheWorker n)))

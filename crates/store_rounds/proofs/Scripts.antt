@@ -109,24 +109,31 @@ parts_of script valid =
       few_exports = leb-true (count_by (λ (line : Line). is_export line.command) (all_lines script)) 1 whole.3;
     }
 
+-- a valid script has a session
 pub has_sessions : (script : Script) → is_valid script ≡ true → 1 ≤ script.sessions
 has_sessions script valid = (parts_of script valid).some_sessions
 
+-- a valid script has at most 64 sessions
 pub few_sessions : (script : Script) → is_valid script ≡ true → script.sessions ≤ 64
 few_sessions script valid = (parts_of script valid).few_sessions
 
+-- a valid script has at most 16 workers
 pub few_workers : (script : Script) → is_valid script ≡ true → script.workers ≤ 16
 few_workers script valid = (parts_of script valid).few_workers
 
+-- a valid script has at most 100 turns in a round
 pub few_turns : (script : Script) → is_valid script ≡ true → script.turns ≤ 100
 few_turns script valid = (parts_of script valid).few_turns
 
+-- a valid script has a round
 pub has_rounds : (script : Script) → is_valid script ≡ true → nat_lt 0 (length script.rounds) ≡ true
 has_rounds script valid = (parts_of script valid).some_rounds
 
+-- each line of a valid script is valid
 pub lines_are_valid : (script : Script) → is_valid script ≡ true → list_all (is_line script) (all_lines script) ≡ true
 lines_are_valid script valid = (parts_of script valid).lines
 
+-- a valid script exports at most once
 pub few_exports : (script : Script) → is_valid script ≡ true → count_by (λ (line : Line). is_export line.command) (all_lines script) ≤ 1
 few_exports script valid = (parts_of script valid).few_exports
 

@@ -32,9 +32,11 @@ use Rattle.workload_spec.specs.declared.reply.Said.TheVariants as said
 
 -- ---- call by call
 
+-- no calls send nothing
 pub nothing_sent : (tables : List TableDecl) (exported : Option (List ℕ)) → SentBy tables [] exported exported
 nothing_sent tables exported = record { bytes = []; sent = Appends-nil exported; by_calls = refl }
 
+-- one call more puts what it sends behind what was sent
 pub call_sent : (tables : List TableDecl) (calls : List Call) (call : Call) (exported now later : Option (List ℕ)) (bytes : List ℕ)
     → SentBy tables calls exported now → Appends now later bytes → CallSends tables call bytes
     → SentBy tables (calls ++ call ∷ []) exported later
@@ -44,6 +46,7 @@ call_sent tables calls call exported now later bytes before grown by_call = reco
   by_calls = sending_goes_on tables calls call before.bytes bytes before.by_calls by_call;
 }
 
+-- what more calls sent stands behind what the first ones did
 pub calls_sent : (tables : List TableDecl) (calls more : List Call) (exported now later : Option (List ℕ))
     → SentBy tables calls exported now → SentBy tables more now later → SentBy tables (calls ++ more) exported later
 calls_sent tables calls more exported now later before behind = record {
@@ -59,6 +62,7 @@ pub nothing_said : (asked : Command) (P : ℕ → Type 0) → is_export asked �
 nothing_said (command.Export table) P is = absurd (true≢false is)
 nothing_said _ P is = tt
 
+-- a command that is the export of no table is no export
 pub no_export : (asked : Command) → ((table : ℕ) → asked ≡ command.Export table → ⊥) → is_export asked ≡ false
 no_export (command.Export table) other = absurd (other table refl)
 no_export _ other = refl
@@ -114,6 +118,7 @@ sends_by_tables shape table made told bytes sends =
     subst (λ (columns : List Column). SendsAs columns (blocks_at shape.tables table) made told bytes) (sym (columns_same shape.tables shape.passes table))
     (subst (λ (blocks : ℕ). SendsAs (columns_in shape table) blocks made told bytes) (sym (blocks_same shape.tables shape.passes table)) sends)
 
+-- an export that was made is a command that was answered
 pub export_answered : (store : StoreView) (old new : Session) (table : ℕ) (told : Result Summary ExportFault) (exported now : Option (List ℕ)) (steps : ℕ)
     → Exports store old new table (exported_told told) exported now 0 steps
     → Answered store old new (command.Export table) (exported_told told) exported now

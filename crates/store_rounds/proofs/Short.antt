@@ -56,6 +56,7 @@ few_rounds script short =
     let rounds = round_by_round script.tables script.rounds in
     omega (arith, short, bytes, head, rounds)
 
+-- a script whose text fits 32 bits has few enough lines for 32 bits
 pub few_lines : (script : Script) → length (script_text script) < 2 ^ 32 → length (all_lines script) < 2 ^ 32
 few_lines script short =
     let bytes = line_by_line (script_lines script) in

@@ -295,6 +295,7 @@ module _ (script : Script) (store : StoreView) (old new : List Session) (asked r
         printed = running.printed;
       })))
 
+  -- a run whose round stops it tells which rounds ran, and how far the last one did
   pub running_stops : (failed : RunFault) → RoundStops store (crew_of script) old new lines exported_now exported_later failed
       → GoesPart (RunsIn script store new exported exported_later) script failed before now
   unfolding first_goes goes_to all_goes

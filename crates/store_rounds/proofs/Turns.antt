@@ -36,6 +36,7 @@ pub record Turn {T : Type 0} (store : StoreView) (round : ℕ) (old now : Sessio
   pub told : index ≡ length (told_by calls)
   pub count : index ≡ length commands
 
+-- before its first command a session has carried out nothing, and its text is as it was
 pub turn_begins : {T : Type 0} (store : StoreView) (round : ℕ) (session : Session) (text : List ℕ) (exported : Option (List ℕ)) (value : T)
     → IsSession store session → Turn {T = T} store round session session [] text text (Ok value) exported exported 0
 turn_begins store round session text exported value is = record {
@@ -54,6 +55,7 @@ module _ (store : StoreView) (old now new : Session) (calls : List Call) (comman
   abbrev call : Call
   call = record { command = command; made = answered.answers.made; told = Some told }
 
+  -- one call of few events more leaves few events for each of the calls
   pub worked_more : Worked store false (most_events * length calls) old now calls → MakesAtMost most_events now new
       → Worked store false (most_events * length (calls ++ call ∷ [])) old new (calls ++ call ∷ [])
   worked_more worked few = record {
@@ -69,6 +71,7 @@ module _ (store : StoreView) (old now new : Session) (calls : List Call) (comman
       told_is : (count : ℕ) → Some told ≡ Some (said.Pruned count) → told ≡ said.Pruned count
       told_is count e = cc
 
+  -- what the session's calls sent grew by what this one did
   pub sent_more : SentBy (shape_in store).tables calls exported exported_now → SentBy (shape_in store).tables (calls ++ call ∷ []) exported exported_later
   sent_more sent = call_sent (shape_in store).tables calls call exported exported_now exported_later answered.bytes sent answered.sent answered.by_call
 
@@ -102,6 +105,7 @@ module _ {T : Type 0} (store : StoreView) (round : ℕ) (old now new : Session) 
   text_in (Err failed) (Ok next) first grown kept = absurd (let never : ⊥ = cc kept in never)
   text_in r (Err failed) first grown kept = tt
 
+  -- a command that was carried out and whose line was kept or lost is one more of the turn
   pub turn_goes_on
       : OnOk shown_now (OnOk shown (later ≡ after ++ reply_text (shape_in store).tables (line_of round (TheSession new.session) (index + 1) told)))
       → IfErr shown (λ failed. shown_now ≡ Err failed)
@@ -144,6 +148,7 @@ pub never_cut : {T : Type 0} (r : Result T RunFault) → IfErr r (λ failed. fai
 never_cut (Ok value) memory = refl
 never_cut {T} (Err failed) memory = ap (λ (f : RunFault). is_cut_end {T = T} (Err f)) memory
 
+-- where only memory is refused, the output never fails
 pub never_out : {T : Type 0} (r : Result T RunFault) → IfErr r (λ failed. failed ≡ fault.Memory) → IfErr r (λ failed. failed ≢ fault.Out)
 never_out (Ok value) memory = tt
 never_out (Err failed) memory = λ e. absurd (let never : ⊥ = cc (memory, e) in never)
@@ -153,6 +158,7 @@ pub whole_not_cut : {T : Type 0} (r : Result T RunFault) → is_whole_end r ≡ 
 whole_not_cut (Ok value) whole = refl
 whole_not_cut (Err failed) whole = absurd (true≢false (sym whole))
 
+-- where a turn came to its end, the output did not fail
 pub whole_not_out : {T : Type 0} (r : Result T RunFault) → is_whole_end r ≡ true → IfErr r (λ failed. failed ≢ fault.Out)
 whole_not_out (Ok value) whole = tt
 whole_not_out (Err failed) whole = absurd (true≢false (sym whole))

@@ -24,6 +24,7 @@ module _ (script : Script) (rounds : List RoundRun) (finished : List Logged) (ex
     (sent : SentBy script.tables (calls_in rounds) exported now) where
   -- rounds of a workload
   module _ (asked : List (List Line)) (valid : is_valid (with_rounds asked script) ≡ true) (ran : RanSoFar script asked rounds finished) where
+    -- the lines of the rounds say all that the outlet was sent
     pub says : SaysAllSent (with_rounds asked script) (rounds_text script.tables 1 rounds) sent.bytes
     says =
         let run = rounds_ran script asked rounds finished ran in
@@ -31,6 +32,7 @@ module _ (script : Script) (rounds : List RoundRun) (finished : List Logged) (ex
         (subst (λ (rounds : List RoundRun). PruningsFit (told_in rounds)) (sym run.rounds_are) (counts_fit rounds counted))
         (subst (λ (rounds : List RoundRun). CallsSend script.tables (calls_in rounds) sent.bytes) (sym run.rounds_are) sent.by_calls)
 
+    -- the rounds ran, are explained, and say what was sent
     abbrev pub went : Went (with_rounds asked script) (rounds_text script.tables 1 rounds) exported now
     went = record {
       log = finished;
@@ -50,6 +52,7 @@ none_ran script (round ∷ rounds) e = absurd (let never : ⊥ = cc e in never)
 
 module _ (script : Script) (rounds : List RoundRun) (finished : List Logged) (exported now : Option (List ℕ)) (counted : All AreCounted rounds)
     (sent : SentBy script.tables (calls_in rounds) exported now) where
+  -- the text of the first rounds of a script is explained, also where there is none yet
   pub explained_so_far : (asked rest : List (List Line)) → script.rounds ≡ asked ++ rest → is_valid script ≡ true → RanSoFar script asked rounds finished
       → Explained (with_rounds asked script) (rounds_text script.tables 1 rounds)
   explained_so_far [] rest split valid ran =
@@ -57,6 +60,7 @@ module _ (script : Script) (rounds : List RoundRun) (finished : List Logged) (ex
   explained_so_far (first ∷ asked) rest split valid ran =
       rounds_are_explained script (first ∷ asked) rounds finished (first_rounds_are_valid script first asked rest split valid) ran counted
 
+  -- the lines of the first rounds say all that was sent, also where there is none yet
   pub says_so_far : (asked rest : List (List Line)) → script.rounds ≡ asked ++ rest → is_valid script ≡ true → RanSoFar script asked rounds finished
       → SaysAllSent (with_rounds asked script) (rounds_text script.tables 1 rounds) sent.bytes
   says_so_far [] rest split valid ran =
@@ -68,6 +72,7 @@ module _ (script : Script) (rounds : List RoundRun) (finished : List Logged) (ex
   says_so_far (first ∷ asked) rest split valid ran =
       says script rounds finished exported now counted sent (first ∷ asked) (first_rounds_are_valid script first asked rest split valid) ran
 
+  -- the first rounds of a script ran, are explained, and say what was sent
   abbrev pub went_so_far : (asked rest : List (List Line)) → script.rounds ≡ asked ++ rest → is_valid script ≡ true → RanSoFar script asked rounds finished
       → Went (with_rounds asked script) (rounds_text script.tables 1 rounds) exported now
   went_so_far asked rest split valid ran = record {

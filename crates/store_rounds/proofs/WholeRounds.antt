@@ -247,6 +247,7 @@ module _ (store : StoreView) (crew : Crew) (round : ℕ) (lines : List Line) (ol
               ∙ sym (joined_back crew.sessions (λ n. share_text tables round (share_of (TheSession n) (served.calls n)))
               (λ n. share_text tables round (share_of (TheWorker n) (served.calls (crew.sessions + n)))) (1 + k) (n + 1) (omega (arith, same)) (omega arith))
 
+  -- those of the row that did their duties are still sessions of the store
   pub ended_sessions : AreSessions store ended
   ended_sessions k d within =
       let sizes = duties_size crew round lines before are in
@@ -272,6 +273,7 @@ module _ (store : StoreView) (crew : Crew) (round : ℕ) (lines : List Line) (ol
       };
     }
 
+    -- a round whose duties all came to their end ran, and then all met
     pub ran_round : Whole after → RanRound store round crew old new lines (duties_text after) exported exported_now
     ran_round whole = record {
       calls = by_who;
@@ -285,6 +287,7 @@ module _ (store : StoreView) (crew : Crew) (round : ℕ) (lines : List Line) (ol
     ran_unshown : list_any is_cut after ≡ false → RanUnshown store crew old new lines exported exported_now
     ran_unshown none = record { calls = by_who; ran = row_ran; asked = asked_all none; turned = turned; sent = sent }
 
+    -- a round with a duty that stopped ends as its fault tells
     pub ran_in_part : (failed : RunFault) → Stopped after failed → RoundStops store crew old new lines exported exported_now failed
     ran_in_part failed (by_outlet is cut) = subst (RoundStops store crew old new lines exported exported_now) (sym is)
         (record { calls = by_who; ran = row_ran; asked = asked_up_to; turned = turned; sent = sent; last = one_ends cut })

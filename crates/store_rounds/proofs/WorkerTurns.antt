@@ -156,6 +156,7 @@ pub record Turning (store : StoreView) (round worker : ℕ) (old now : Session) 
   pub counted : IfOk shown (λ count. count ≡ length (told_by calls))
   pub text : OnOk shown (after ≡ before ++ share_text (shape_in store).tables round (share_of (TheWorker worker) calls))
 
+-- before its first turn a worker has made none, and its text is as it was
 pub turning_begins : (store : StoreView) (round worker : ℕ) (session : Session) (text : List ℕ)
     → IsSession store session → Turning store round worker session session text text (Ok 0) 0
 turning_begins store round worker session text is = record {
@@ -237,6 +238,7 @@ module _ {E : Type 0} (store : StoreView) (round worker : ℕ) (old now new : Se
   text_in (Ok count) put = text_more count put
   text_in (Err failed) put = tt
 
+  -- one turn more was made, whose lines were put behind the text where they could be
   pub turning_goes_on : IfOk shown_now (λ count. PutTurn (shape_in store).tables round worker shown told after later count)
       → Turning store round worker old new before later shown_now (made + 1)
   turning_goes_on put = record {
@@ -279,10 +281,12 @@ turning_has_room store round worker old now before after shown made turns turnin
 
 -- its turns are made
 module _ {T : Type 0} (store : StoreView) (round worker : ℕ) (old new : Session) (before after : List ℕ) (turns : ℕ) where
+  -- behind the last turn, the text has the lines of all the worker's turns
   pub turns_shown : (count : ℕ) (value : T) → Turning store round worker old new before after (Ok count) turns
       → TurnsMade {T = T} store round worker turns old new before after (Ok value)
   turns_shown count value turning = record { calls = turning.calls; worked = turning.worked; asked = turning.asked; text = turning.text }
 
+  -- where a line was lost, the worker has made all its turns nevertheless
   pub turns_lost : (failed : RunFault) → Turning store round worker old new before after (Err failed) turns
       → TurnsMade {T = T} store round worker turns old new before after (Err failed)
   turns_lost failed turning = record { calls = turning.calls; worked = turning.worked; asked = turning.asked; text = tt }

@@ -135,11 +135,13 @@ fn any_is_export(commands: &[Command]) -> bool
     commands.iter().any(is_export)
 }
 
-/// The duties of a crew in a round, its sessions' first.
+/// The duties of a crew in a round, its sessions' first. `at_once` tells whether the machine runs
+/// several threads at the same time.
 pub(crate) fn duties_of(
     alloc: Global,
     crew: Crew,
     number: u32,
+    at_once: bool,
     round: Round,
 ) -> Result<Vec<Duty>, AllocError>
     requires size { crew.sessions + crew.workers < 2 ^ 32 }
@@ -147,7 +149,7 @@ pub(crate) fn duties_of(
     ensures { IfOk result (λ duties. AreDuties crew number round duties.items) }
 {
     let agendas = agendas_of(alloc, crew.sessions as usize, round)?;
-    let mut duties = session_duties(alloc, number, crew.size() as usize, agendas)?;
+    let mut duties = session_duties(alloc, number, crew.size() as usize, at_once, agendas)?;
     add_workers(alloc, number, crew, &mut duties)?;
     Ok(duties)
 }
@@ -157,18 +159,24 @@ fn session_duties(
     alloc: Global,
     number: u32,
     room: usize,
+    at_once: bool,
     agendas: Vec<Agenda>,
 ) -> Result<Vec<Duty>, AllocError>
     ensures { IfOk result (λ duties. AreOfSessions number agendas.items duties.items) }
 {
     let mut duties = Vec::with_capacity(alloc, room)?;
-    let beside_others = are_several(agendas.as_slice());
+    let beside_others = work_at_once(at_once, agendas.as_slice());
     for agenda in agendas {
         let Agenda { commands } = agenda;
         let task = Task::Commands(commands);
         duties.push(Duty::new(alloc, number, task, beside_others))?;
     }
     Ok(duties)
+}
+
+/// Whether several sessions are at work at the same time.
+fn work_at_once(at_once: bool, agendas: &[Agenda]) -> bool {
+    at_once && are_several(agendas)
 }
 
 /// Whether several sessions have commands.

@@ -26,7 +26,8 @@ use workload_spec::Round;
 
 /// Runs a round: the sessions of a row carry out their commands and its workers make their turns,
 /// all at the same time, and then all meet. Gives the text of their lines, session by session and
-/// worker by worker. An export goes to the outlet.
+/// worker by worker. An export goes to the outlet. `at_once` tells whether the machine runs several
+/// threads at the same time.
 ///
 /// # Errors
 ///
@@ -41,6 +42,7 @@ pub(crate) fn run_round<R: Wait + Threads + Sync, G: Gate + Sync, X: Sink>(
     store: &Store,
     number: u32,
     crew: Crew,
+    at_once: bool,
     row: &mut [Session],
     round: Round,
     outlet: &mut X,
@@ -64,7 +66,7 @@ pub(crate) fn run_round<R: Wait + Threads + Sync, G: Gate + Sync, X: Sink>(
     ensures faults { CountsExportFault (X.faults outlet.old) (X.faults outlet.new) result }
     ensures started { X.started outlet.new ≡ X.started outlet.old }
 {
-    let Ok(mut duties) = duties_of(alloc, crew, number, round) else {
+    let Ok(mut duties) = duties_of(alloc, crew, number, at_once, round) else {
         return Err(RunFault::Memory);
     };
     serve_row(rt, alloc, gate, store, row, duties.as_mut_slice(), outlet);

@@ -18,7 +18,7 @@ use shared_store::{Session, Store};
 use std::alloc::Global;
 use std::snapshot::Snapshot;
 use std::sync::Wait;
-use std::thread::Threads;
+use std::thread::{Threads, available_parallelism};
 use workload_spec::{Rounds, Script};
 
 /// Runs the rounds of a workload over a store that was just built for it, with the row of all its
@@ -60,13 +60,25 @@ pub fn run_rounds<R: Wait + Threads + Sync, O: Sink, X: Sink, G: Gate + Sync>(
     ensures export_faults { CountsExportFault (X.faults outlet.old) (X.faults outlet.new) result }
     ensures started { X.started outlet.new ≡ X.started outlet.old }
 {
+    let at_once = runs_at_once(rt);
     let mut number = 0;
     for round in rounds.into_vec() {
         number += 1;
-        let text = run_round(rt, alloc, gate, store, number, crew, row, round, outlet)?;
+        let text = run_round(
+            rt, alloc, gate, store, number, crew, at_once, row, round, outlet,
+        )?;
         if let Err(Failed) = write_all(out, text.as_slice()) {
             return Err(RunFault::Out);
         }
     }
     Ok(())
+}
+
+/// Whether the machine runs several threads at the same time, as one does of which this is not
+/// known.
+fn runs_at_once<R: Threads>(rt: &R) -> bool {
+    match available_parallelism(rt) {
+        Ok(processors) => processors.get() > 1,
+        Err(_) => true,
+    }
 }

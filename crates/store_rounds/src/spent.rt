@@ -8,7 +8,7 @@ use std::alloc::Global;
 /// duty: where several threads free what one of them took, they wait for each other.
 #[derive(Drop)]
 pub(crate) struct Spent {
-    /// None where no other session is at work in the round, so that nothing is to be gained.
+    /// None where no other session is at work at the same time, so that nothing is to be gained.
     emptied: Option<Vec<Row>>,
 }
 
