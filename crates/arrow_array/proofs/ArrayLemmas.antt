@@ -28,6 +28,7 @@ bits-are : (f : Cell → Bool) (place : ℕ) (rows : List (List Cell))
     → map f (column_cells place rows) ≡ map (λ row. f (cell_at place row)) rows
 bits-are f place rows = map-map f (cell_at place) rows
 
+-- the data buffer of truth values is their bitmap
 pub bool-data : (kind : Kind) (place : ℕ) (rows : List (List Cell)) (buffers grown : List (List ℕ)) (made bytes : List ℕ)
     → kind ≡ kinds.Bool → made ≡ bitmap (map (λ row. bit_of bit.Truth (cell_at place row)) rows) → bytes ≡ made → grown ≡ buffers ++ bytes ∷ []
     → grown ≡ buffers ++ data_buffers (layout_of kind) (column_cells place rows)
@@ -42,6 +43,7 @@ variable-layout : (kind : Kind) → (kind ≡ kinds.Utf8) ⊎ (kind ≡ kinds.Bi
 variable-layout kind (inl is) = ap layout_of is
 variable-layout kind (inr is) = ap layout_of is
 
+-- the buffers of texts or bytes are their offsets and the bytes of all, one after another
 pub variable-data : (kind : Kind) (place : ℕ) (rows : List (List Cell)) (buffers more grown : List (List ℕ)) (ends ends_bytes values values_bytes : List ℕ)
     → (kind ≡ kinds.Utf8) ⊎ (kind ≡ kinds.Binary)
     → ends ≡ flat_map (to_le_bytes w32) (offsets 0 (column_cells place rows)) → ends_bytes ≡ ends → more ≡ buffers ++ ends_bytes ∷ []
@@ -84,6 +86,7 @@ fixed-data : (layout : Layout) (width : Width) (cells : List Cell) → layout �
     → data_buffers layout cells ≡ flat_map (λ cell. bytes_in layout (number_of cell)) cells ∷ []
 fixed-data layout width cells is = rw is refl
 
+-- the data buffer of numbers has the bytes of each, one after another
 pub number-data : (kind : Kind) (place : ℕ) (rows : List (List Cell)) (buffers grown : List (List ℕ)) (made bytes : List ℕ)
     → IsInteger kind
     → made ≡ flat_map (λ row. kind_bytes kind (number_of (cell_at place row))) rows → bytes ≡ made → grown ≡ buffers ++ bytes ∷ []
@@ -98,6 +101,7 @@ number-data kind place rows buffers grown made bytes is made_is bytes_is added =
 
 -- ---- nulls and validity
 
+-- the nulls of a column are those of its rows' cells
 pub nulls-are : (place : ℕ) (rows : List (List Cell)) → count_by (λ row. is_null (cell_at place row)) rows ≡ null_count (column_cells place rows)
 nulls-are place [] = refl
 nulls-are place (row ∷ rows) =
@@ -105,6 +109,7 @@ nulls-are place (row ∷ rows) =
     ∙ ap (λ (n : ℕ). (if is_null (cell_at place row) then 1 else 0) + n) (nulls-are place rows)
     ∙ sym (sum_by-cons (λ (cell : Cell). if is_null cell then 1 else 0) (cell_at place row) (column_cells place rows))
 
+-- where a column has nulls, its validity is the bitmap of which cells are there
 pub validity-is : (nulls place : ℕ) (rows : List (List Cell)) (bytes : List ℕ)
     → nulls ≡ null_count (column_cells place rows) → (nulls ≡ 0 → ⊥) → bytes ≡ bitmap (map (λ row. bit_of bit.Valid (cell_at place row)) rows)
     → bytes ≡ validity (column_cells place rows)

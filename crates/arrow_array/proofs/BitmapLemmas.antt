@@ -13,6 +13,7 @@ pub number-of-bit : (bit : Bool) → from_bool bit ≡ (if bit then 1 else 0)
 number-of-bit true = refl
 number-of-bit false = refl
 
+-- a bit is at most one
 pub bit-le-1 : (bit : Bool) → from_bool bit ≤ 1
 bit-le-1 true = omega arith
 bit-le-1 false = omega arith

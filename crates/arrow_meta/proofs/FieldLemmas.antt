@@ -58,6 +58,7 @@ abbrev pub EndBy : ℕ → List Field → Type 0
 EndBy size [] = Unit {0}
 EndBy size (field ∷ fields) = (end_of field ≤ size) × EndBy size fields
 
+-- fields over a table behind a front are the front, and the table with its fields
 pub fields-laid :
     (front body : List ℕ) (size : ℕ) (fields : List Field) → size ≤ length body → EndBy size fields
     → laid_fields (length front) (front ++ body) fields ≡ front ++ with_fields (length front) body fields
@@ -166,9 +167,11 @@ tables-laid old objects =
 pub record LaidTo (place : ℕ) (bytes : List ℕ) (fields : List Field) (last : List ℕ) : Type 0 where
   pub is : last ≡ laid_fields place bytes fields
 
+-- where no field is left the bytes are the last
 pub no_more : (place : ℕ) (last : List ℕ) → LaidTo place last [] last
 no_more place last = record { is = refl }
 
+-- a number, and then the other fields
 pub after_number :
     {place at value : ℕ} {width : Width} {bytes : List ℕ} {fields : List Field} {last : List ℕ} (next : List ℕ)
     → next ≡ overwritten bytes (place + at) (to_le_bytes width value)
@@ -177,6 +180,7 @@ after_number {place = place} {fields = fields} next written rest = record {
   is = rest.is ∙ ap (λ (bytes : List ℕ). laid_fields place bytes fields) written;
 }
 
+-- a reference with its object, and then the other fields
 pub after_reference :
     {place at most : ℕ} {object : Object} {bytes : List ℕ} {fields : List Field} {last : List ℕ} (grown next : List ℕ) (target : ℕ)
     → IsLaid object most bytes grown target
@@ -191,6 +195,7 @@ after_reference {place = place} {at = at} {object = object} {bytes = bytes} {fie
       laid.at;
 }
 
+-- an absent field leaves the bytes
 pub after_absent :
     {place : ℕ} {bytes : List ℕ} {fields : List Field} {last : List ℕ}
     → LaidTo place bytes fields last → LaidTo place bytes (absent ∷ fields) last

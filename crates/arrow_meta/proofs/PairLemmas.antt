@@ -19,6 +19,7 @@ pair_bytes pair = number_bytes w64 pair.0 ++ number_bytes w64 pair.1
 abbrev pub vector_head : List ℕ → ℕ → List ℕ
 vector_head old count = with_piece old (length_place old) (to_le_bytes w32 count)
 
+-- a vector's head ends behind its count
 pub length-head : (old : List ℕ) (count : ℕ) → length (vector_head old count) ≡ length_place old + 4
 length-head old count =
     let word : List ℕ = to_le_bytes w32 count in
@@ -26,6 +27,7 @@ length-head old count =
     let long : length zeros ≡ length_place old - length old = length-replicate {A = ℕ} (length_place old - length old) 0 in
     rw (length-append (old ++ zeros) word, length-append old zeros, long) (omega arith)
 
+-- each pair takes 16 bytes
 pub length-pairs : (pairs : List (ℤ × ℤ)) → length (flat_map pair_bytes pairs) ≡ 16 * length pairs
 length-pairs [] = refl
 length-pairs (pair ∷ pairs) = omega (arith, length-pairs pairs)

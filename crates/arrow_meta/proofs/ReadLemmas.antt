@@ -52,6 +52,7 @@ module _ (bytes : List ℕ) (place width : ℕ) (first count : ℕ) where
       let product : width * count ≡ n * width = ap (λ m. width * m) b ∙ mul_comm width n in
       omega (arith, a, fits, product)
 
+  -- the elements of a vector that is read lie in the bytes
   pub vector_inside : vector_at bytes place width ≡ Ok (first, count) → first + width * count ≤ length bytes
   vector_inside e = inside_by (nat_le (place + 4) (length bytes)) (nat_le (place + 4 + number_from bytes place 4 * width) (length bytes)) (number_from bytes place 4) refl e
 

@@ -47,6 +47,7 @@ bit_at_past bits k j h =
     let bits_end : length bits ≤ 8 * k + j = omega arith in
     ap (λ n. bit_at n j) (get_or_past (bitmap bits) k 0 bytes_end) ∙ bit_at-zero j ∙ sym (ap digit (get_or_past bits (8 * k + j) false bits_end))
 
+-- a bit is found in its byte of the bitmap; behind the last there are zeros
 pub bit_at-bitmap : (bits : List Bool) (i : ℕ) → bit_at (slice_index (bitmap bits) (i / 8)) (i % 8) ≡ (if slice_index_or bits i false then 1 else 0)
 bit_at-bitmap bits i =
     let parts : 8 * (i / 8) + i % 8 ≡ i = omega arith in

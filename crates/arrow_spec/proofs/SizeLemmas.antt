@@ -27,6 +27,7 @@ length-second nodes buffers end count n m at few more =
     )
     (omega arith)
 
+-- how many bytes the metadata of a batch has, by its nodes and buffers
 pub length-batch : (rows : ℕ) (nodes buffers : List (ℤ × ℤ)) (body : ℕ)
     → length (flatbuffer_of (record_batch rows nodes buffers) body) ≡ 96 + 16 * length nodes + 16 * length buffers
 length-batch rows nodes buffers body =

@@ -16,6 +16,7 @@ one (Some x) = refl
 commits_append : (xs ys : List Entry) → commit_count (xs ++ ys) ≡ commit_count xs + commit_count ys
 commits_append xs ys = ap length (filter_map-append (λ (e : Entry). commit_in e.reply.said) xs ys) ∙ length-append (shown_in commit_in xs) (shown_in commit_in ys)
 
+-- one reply more is one commit more, if it commits with a number
 pub commits_more : (xs : List KeptReply) (i : ℕ) (x : KeptReply) → i < length xs → x ≡ get_or xs i x
     → commit_count (entries_of (take (i + 1) xs)) ≡ commit_count (entries_of (take i xs)) + (if is_some (commit_in (said_of x.told)) then 1 else 0)
 commits_more xs i x inside is =

@@ -96,6 +96,7 @@ next_small (Some cells) (Some rest) one others rows is =
     let same : cells ∷ rest ≡ rows = cc in
     subst AreSmall same (All-cons (λ row. IsNear (2 ^ 64) (row_number row)) cells rest (at_near cells (one cells refl)) (others rest refl))
 
+-- the numbers of rows that are read have at most 64 bits
 pub rows_small : (lines : List (List ℕ)) → AreRowsSmall (rows_in lines)
 rows_small [] = λ rows is. absurd cc
 rows_small ([] ∷ []) = λ rows is. let same : [] ≡ rows = cc in subst AreSmall same (All-nil (λ row. IsNear (2 ^ 64) (row_number row)))

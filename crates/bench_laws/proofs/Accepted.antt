@@ -34,6 +34,7 @@ use Rattle.bench_laws.proofs.States.{present, state, state-is, still}
 
 -- ---- whose turns there are
 
+-- each session from 1 to 4 has its turn in each of the write rounds
 pub turns-have : (turn count t s : ℕ) → turn ≤ t → t < turn + count → 1 ≤ s → s ≤ 4 → Has (t, s) (turns turn count)
 turns-have turn zero t s low high a b = absurd (omega (arith, low, high))
 turns-have turn (suc count) t s low high a b = by (cases_eq t turn) (λ other. turns-have (turn + 1) count t s (omega (arith, low, other)) (omega (arith, high)) a b)
@@ -54,6 +55,7 @@ turns-have turn (suc count) t s low high a b = by (cases_eq t turn) (λ other. t
             four n l h x y z = omega (arith, l, h, x, y, z)
     by (inr other) rest = inr (inr (inr (inr (rest other))))
 
+-- no turn is of a write round past the last
 pub turns-low : (turn count t s : ℕ) → Has (t, s) (turns turn count) → t < turn + count
 turns-low turn zero t s h = absurd h
 turns-low turn (suc count) t s (inl same) = let e : turn ≡ t = ap (λ (p : ℕ × ℕ). p.0) same in omega (arith, e)

@@ -25,6 +25,7 @@ use Rattle.bench_laws.proofs.Writes.{last-unwritten}
 
 -- ---- replies that commit nothing
 
+-- what an insert is told shows no commit
 pub insert-commits-none : (told : Said) → IsInsertReply told → commit_in told ≡ None
 insert-commits-none said.Accepted h = refl
 insert-commits-none said.Exists h = refl
@@ -34,6 +35,7 @@ insert-commits-none (said.ConflictSession session) h = refl
 insert-commits-none (said.ConflictCommit number) h = refl
 insert-commits-none _ h = absurd h
 
+-- nor does what an update is told
 pub update-commits-none : (told : Said) → IsUpdateReply 0 told → commit_in told ≡ None
 update-commits-none said.Accepted h = refl
 update-commits-none said.Missing h = refl
@@ -43,6 +45,7 @@ update-commits-none (said.ConflictSession session) h = refl
 update-commits-none (said.ConflictCommit number) h = refl
 update-commits-none _ h = absurd h
 
+-- nor what pruning, observing and compacting are
 pub count-commits-none : (told : Said) → IsCountReply told → commit_in told ≡ None
 count-commits-none (said.Cooling n) h = refl
 count-commits-none (said.Pruned n) h = refl
@@ -50,22 +53,26 @@ count-commits-none (said.Moved n) h = refl
 count-commits-none said.Memory h = refl
 count-commits-none _ h = absurd h
 
+-- nor what sealing is
 pub seal-commits-none : (block : ℕ) (told : Said) → IsSealReply 0 block told → commit_in told ≡ None
 seal-commits-none block (said.Sealed of at stamp) h = refl
 seal-commits-none block (said.NotSealed cause) h = refl
 seal-commits-none block _ h = absurd h
 
+-- nor what gathering is
 pub gather-commits-none : (block : ℕ) (told : Said) → IsGatherReply 0 block told → commit_in told ≡ None
 gather-commits-none block (said.Frozen of at rows) h = refl
 gather-commits-none block said.NotFrozen h = refl
 gather-commits-none block said.Memory h = refl
 gather-commits-none block _ h = absurd h
 
+-- nor what a scan is
 pub scan-commits-none : (told : Said) → IsScanReply told → commit_in told ≡ None
 scan-commits-none (said.Scanned rows) h = refl
 scan-commits-none said.Memory h = refl
 scan-commits-none _ h = absurd h
 
+-- nor what an export is
 pub export-commits-none : (told : Said) → IsExportReply told → commit_in told ≡ None
 export-commits-none (said.Exported number rows batches frozen) h = refl
 export-commits-none (said.Dirty key) h = refl
@@ -120,6 +127,7 @@ some-counted p (y ∷ xs) x (inl same) h =
     omega (arith, c, one)
 some-counted p (y ∷ xs) x (inr rest) h = let c = count-cons p y xs in let more = some-counted p xs x rest h in omega (arith, c, more)
 
+-- where just one element passes a test, two that pass it are one
 pub only-one : {X : Type 0} (p : X → Bool) (xs : List X) (x y : X) → count_by p xs ≡ 1 → Has x xs → Has y xs → p x ≡ true → p y ≡ true → x ≡ y
 only-one p [] x y one has there h k = absurd has
 only-one p (z ∷ xs) x y one (inl same) (inl other) h k = sym same ∙ other
@@ -172,24 +180,31 @@ rises-rest [] rest h = h
 rises-rest (x ∷ front) rest h = rises-rest front rest h.1
 
 module _ (seed size : ℕ) (replies : List Entry) (told : Told seed size replies) where
+  -- the run that the replies tell
   abbrev pub run : Run
   run = run_of tables replies
 
+  -- the transactions of the write rounds
   abbrev pub transactions : List Wrote
   transactions = wrotes told.parts
 
+  -- each transaction writes its turn's rows, and is told what it may be
   pub good-of : (w : Wrote) → Has w transactions → GoodWrote seed w
   good-of w among = every-has (GoodWrote seed) transactions w (every-wrote (GoodWrote seed) (Good seed) (λ v h. h) told.parts told.good) among
 
+  -- the replies to a transaction are among all of them
   pub among-replies : (w : Wrote) → Has w transactions → (e : Entry) → Has e (replies_to w) → Has e replies
   among-replies w among e has = subst (Has e) (sym told.whole) (has-left e (entries_in told.parts) (last_entries told.last) (has-reply w e told.parts among has))
 
+  -- the replies of the last round are among all of them
   pub among-last : (e : Entry) → Has e (last_entries told.last) → Has e replies
   among-last e has = subst (Has e) (sym told.whole) (has-right e (entries_in told.parts) (last_entries told.last) has)
 
+  -- each transaction is in a round before the last one
   pub under-last : (w : Wrote) → Has w transactions → w.round < told.last.round
   under-last w among = every-has (λ v. v.round < told.last.round) transactions w (every-wrote (λ v. v.round < told.last.round) (Under told.last.round) (λ v h. h) told.parts told.under) among
 
+  -- a transaction's begin, insert, update and commit stand in this order
   pub own-order : (w : Wrote) → Has w transactions → Own w
   own-order w among =
       let its = about w told.parts among in
@@ -243,6 +258,7 @@ module _ (seed size : ℕ) (replies : List Entry) (told : Told seed size replies
     pub earlier : (x : Entry) (k : ℕ) → Has x replies → is_before x e ≡ true → number_shown x.reply.said ≡ Some k → k ≤ number
     pub later : (x : Entry) (k : ℕ) → Has x replies → is_before e x ≡ true → commit_in x.reply.said ≡ Some k → number < k
 
+  -- a snapshot is at least the numbers that are shown before it, and below those of later commits
   pub snapshot-facts : (e : Entry) (number : ℕ) → e.reply.said ≡ said.At number → Has e replies → SnapshotFacts e number
   snapshot-facts e number is has =
       let sound = sound-at seed size replies told e has in
@@ -254,6 +270,7 @@ module _ (seed size : ℕ) (replies : List Entry) (told : Told seed size replies
         later = λ x k there is_behind_it shows. ltb-true number k (all-has (λ later. nat_lt number later) (shown_in commit_in (after replies e)) k parts.2 (has-shown commit_in (after replies e) x k (has-filter (λ other. is_before e other) replies x there is_behind_it) shows));
       }
 
+  -- so is that of each transaction
   pub snapshot-of : (w : Wrote) → Has w transactions → SnapshotFacts (begin w) w.snapshot
   snapshot-of w among = snapshot-facts (begin w) w.snapshot refl (among-replies w among (begin w) (inl refl))
 
@@ -263,6 +280,7 @@ module _ (seed size : ℕ) (replies : List Entry) (told : Told seed size replies
   none-written e [] none = refl
   none-written e (x ∷ xs) none = rw (none x (inl refl)) (none-written e xs (λ y has. none y (inr has)))
 
+  -- the last transaction, which writes nothing, shows no number
   pub last-unnumbered : told.last.number ≡ None
   last-unnumbered = by told.last.number refl
     where
@@ -300,6 +318,7 @@ module _ (seed size : ℕ) (replies : List Entry) (told : Told seed size replies
     pub only : count_by (commits_as k) replies ≡ 1
     pub earlier : (x : Entry) (j : ℕ) → Has x replies → is_before x (commit w) ≡ true → commit_in x.reply.said ≡ Some j → j < k
 
+  -- a number is the commit's alone, from 1 to their count, and above those that are shown before it
   pub commit-facts : (w : Wrote) → Has w transactions → (k : ℕ) → w.number ≡ Some k → CommitFacts w k
   commit-facts w among k is =
       let e = commit w in
@@ -336,6 +355,7 @@ module _ (seed size : ℕ) (replies : List Entry) (told : Told seed size replies
           let session : a.session ≡ b.session = cc in
           omega (arith, less, round, session)
 
+  -- two transactions that show the same number are one
   pub same-number : (v w : Wrote) (k : ℕ) → Has v transactions → Has w transactions → v.number ≡ Some k → w.number ≡ Some k → v ≡ w
   same-number v w k there among h j =
       same-one v w there among
@@ -347,6 +367,7 @@ module _ (seed size : ℕ) (replies : List Entry) (told : Told seed size replies
 
   -- ---- the write set of a number
 
+  -- the write set of the commit with a number
   abbrev pub set_of : ℕ → WriteSet
   set_of k = committed_writes replies (transactions_of replies) k
 
@@ -370,6 +391,7 @@ module _ (seed size : ℕ) (replies : List Entry) (told : Told seed size replies
             ∙ ap (λ (o : Option Span). option_map_or (λ t. writes_in t.replies) o []) (belongs seed size replies told c.by c.among (commit c.by) (inr (inr (inr (inl refl)))) refl refl);
       })
 
+  -- it is empty where no line commits as the number, and else a transaction's
   pub set-cases : (k : ℕ) → ((set_of k ≡ []) × (commit_line replies k ≡ None)) ⊎ SetOf k
   set-cases k = elim (set-by k (commit_line replies k) refl) [ inl none ↦ inl none | inr its ↦ inr its ]
 

@@ -27,15 +27,18 @@ filtered-step p x y xs true is (inl same) rest = (inl same, ap p (sym same) ∙ 
 filtered-step p x y xs true is (inr there) rest = let r = rest there in (inr r.0, r.1)
 filtered-step p x y xs false is there rest = let r = rest there in (inr r.0, r.1)
 
+-- what a filter keeps is in the list, and passes
 pub filtered : {X : Type 0} (p : X → Bool) (x : X) (xs : List X) → Has x (filter p xs) → Has x xs × (p x ≡ true)
 filtered p x [] h = absurd h
 filtered p x (y ∷ xs) h = filtered-step p x y xs (p y) refl h (filtered p x xs)
 
+-- a number of a range is within its bounds
 pub range-bounds : (j a n : ℕ) → Has j (range_with_len a n) → (a ≤ j) × (j < a + n)
 range-bounds j a zero h = absurd h
 range-bounds j a (suc n) (inl same) = (omega (arith, same), omega (arith, same))
 range-bounds j a (suc n) (inr rest) = let r = range-bounds j (a + 1) n rest in let low = r.0 in let high = r.1 in (omega (arith, low), omega (arith, high))
 
+-- a key tells whose it is: equal keys are of one session and one turn
 pub one-session : (x y a b : ℕ) → 1 ≤ a → a ≤ 4 → 1 ≤ b → b ≤ 4 → 4 * x + a ≡ 4 * y + b → (x ≡ y) × (a ≡ b)
 one-session x y a b al ah bl bh h = (omega (arith, al, ah, bl, bh, h), omega (arith, al, ah, bl, bh, h))
 
@@ -80,6 +83,7 @@ module _ (seed size : ℕ) (replies : List Entry) (told : Told seed size replies
     | inr (inr never) ↦ absurd never
   ]
 
+  -- no other session can be named as one that writes a key of this one
   pub no-session : (w : Wrote) → Has w all → (place : Place) (x : ℕ) → place ≡ at_key (4 * x + w.session) → (e : Entry) (session : ℕ) → names_session the_run (span_of w) place e session ≡ true → ⊥
   no-session w among place x is e session h =
       let found = any-found (λ (rival : Span). is_same rival.who (Session session) && not (is_same rival.who (Session w.session)) && has_write place (not_after rival.replies e)
@@ -124,6 +128,7 @@ module _ (seed size : ℕ) (replies : List Entry) (told : Told seed size replies
   not-after-commit e number None is h = absurd (let never : ⊥ = cc in never)
   not-after-commit e number (Some c) is h = (c, is, not-true (is_before e c) h)
 
+  -- before its commit no commit behind its snapshot can be named that writes a key of its session
   pub no-commit : (w : Wrote) → Has w all → (place : Place) (x : ℕ) → place ≡ at_key (4 * x + w.session) → (e : Entry) → e.reply.round ≡ w.round → is_before e (commit w) ≡ true
       → (number : ℕ) → names_commit the_run (span_of w) place e number ≡ true → ⊥
   no-commit w among place x is e round before number h =
@@ -154,6 +159,7 @@ module _ (seed size : ℕ) (replies : List Entry) (told : Told seed size replies
 
   -- ---- of an insert and of an update
 
+  -- no insert is told of a conflict with a session or a commit
   pub insert-clear : (w : Wrote) → Has w all → ((session : ℕ) → w.insert_said ≡ said.ConflictSession session → ⊥) × ((number : ℕ) → w.insert_said ≡ said.ConflictCommit number → ⊥)
   insert-clear w among =
       let good = good-of seed size replies told w among in
@@ -168,6 +174,7 @@ module _ (seed size : ℕ) (replies : List Entry) (told : Told seed size replies
             (subst (λ (s : Said). conflict_holds the_run (span_of w) (place_of 0 w.row) (insert w) s ≡ true) is holds)).0,
       )
 
+  -- no update is told of a conflict with a session or a commit
   pub update-clear : (w : Wrote) → Has w all → ((session : ℕ) → w.update_said ≡ said.ConflictSession session → ⊥) × ((number : ℕ) → w.update_said ≡ said.ConflictCommit number → ⊥)
   update-clear w among =
       let good = good-of seed size replies told w among in

@@ -199,15 +199,18 @@ module _ (seed size : ℕ) (replies : List Entry) (told : Told seed size replies
     abbrev behind_it : List Entry
     behind_it = entries_in its.rest ++ last_entries told.last
 
+    -- all replies: those ahead of the transaction, its own, and those behind it
     pub stands : replies ≡ ahead_of ++ (replies_to w ++ behind_it)
     stands =
         told.whole ∙ ap (λ ps. entries_in ps ++ last_entries told.last) its.whole
         ∙ ap (λ (es : List Entry). es ++ last_entries told.last) (entries-append its.front (Writing w ∷ its.rest))
         ∙ append_assoc ahead_of (replies_to w ++ entries_in its.rest) (last_entries told.last)
 
+    -- each of the parts is a good one
     pub good-all : Every (Good seed) (its.front ++ Writing w ∷ its.rest)
     good-all = subst (Every (Good seed)) its.whole told.good
 
+    -- so is the transaction
     pub good-here : GoodWrote seed w
     good-here = (every-right (Good seed) its.front (Writing w ∷ its.rest) good-all).0
 
@@ -276,6 +279,7 @@ module _ (seed size : ℕ) (replies : List Entry) (told : Told seed size replies
     level : Balanced ahead_of
     level = balanced-to [] its.front (Writing w ∷ its.rest) (told.whole ∙ ap (λ ps. entries_in ps ++ last_entries told.last) its.whole) (every-left (Good seed) its.front (Writing w ∷ its.rest) good-all) (λ block. refl)
 
+    -- the update is not told that its block is freezing
     pub not-freezing : (table block stamp : ℕ) → w.update_said ≡ said.Freezing table block stamp → ⊥
     not-freezing table block stamp is =
         let fits : table ≡ 0 = subst (IsUpdateReply 0) is good-here.update_fits in

@@ -106,6 +106,7 @@ module _ (seed size : ℕ) (replies : List Entry) (told : Told seed size replies
       let length_is = many in
       omega (arith, low, split, zero, length_is)
 
+  -- where the table has a slot for each transaction, no insert is told that it is full
   pub not-full : 4 * size ≤ 32768 → (w : Wrote) → Has w (wrotes told.parts) → w.insert_said ≡ said.Full → ⊥
   not-full small w among is =
       let run = run_of tables replies in

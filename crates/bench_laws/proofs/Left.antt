@@ -128,5 +128,6 @@ module _ (seed : ℕ) where
       let e : 0 + 4 * size ≡ 4 * size = omega arith in
       subst (Filled (4 * size)) (sym (left-turns seed size)) (subst (λ n. Filled n (fold (behind_turn seed) [] (turns 1 size))) e (filled-turns size 1 0 [] (omega arith) (omega arith) filled-none))
 
+  -- the writes leave as many rows as there are transactions
   pub rows-many : (size : ℕ) → length (contents_of 0 (left_by (generated seed size))) ≡ 4 * size
   rows-many size = let f = filled size in length-contents (left_by (generated seed size)) f.one ∙ f.many

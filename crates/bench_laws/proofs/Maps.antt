@@ -38,6 +38,7 @@ below-insert low place row (entry ∷ rows) less h = by (below-insert low place 
     by again Equal = h
     by again Greater = (h.0, again)
 
+-- rows stay in the order of their places when one is inserted
 pub rising-insert : (place : Place) (row : List Cell) (rows : State) → Rising rows → Rising (insert_entry place_cmp rows place row)
 rising-insert place row [] h = (tt, tt)
 rising-insert place row (entry ∷ rows) h = by (rising-insert place row rows h.1) (place_cmp place entry.0) refl
@@ -76,6 +77,7 @@ tails x y xs ys one below_x below_y same place = by (is_place place x.0) refl
         ap (at_place xs) e ∙ at-below x.0 xs below_x ∙ sym (at-below y.0 ys below_y) ∙ ap (at_place ys) (sym (e ∙ one))
     by false is = sym (at-other place x xs is) ∙ same place ∙ at-other place y ys (ap (is_place place) (sym one) ∙ is)
 
+-- rows in order are equal where each place has the same in both
 pub equal-rows : (xs ys : State) → Rising xs → Rising ys → ((place : Place) → at_place xs place ≡ at_place ys place) → xs ≡ ys
 equal-rows [] [] h k same = refl
 equal-rows [] (y ∷ ys) h k same = absurd (none-some y.1 (at_place (y ∷ ys) y.0) (at-first y ys) (sym (same y.0)))
@@ -99,6 +101,7 @@ equal-rows (x ∷ xs) (y ∷ ys) h k same = by (place_cmp x.0 y.0) refl (equal-r
 
 -- ---- how many rows there are
 
+-- an insert adds a row, except where one stood at its place
 pub length-insert : (place : Place) (row : List Cell) (rows : State) → Rising rows → (stands : Bool) → is_some (at_place rows place) ≡ stands
     → length (insert_entry place_cmp rows place row) ≡ length rows + cond stands 0 1
 length-insert place row [] h true is = absurd (let never : ⊥ = cc in never)
@@ -123,6 +126,7 @@ length-insert place row (entry ∷ rows) h stands is = by (place_cmp place entry
 abbrev pub OfOne : State → Type 0
 OfOne rows = Every (λ entry. entry.0.table ≡ 0) rows
 
+-- rows stay all of the first table when one of it is inserted
 pub one-insert : (place : Place) (row : List Cell) (rows : State) → place.table ≡ 0 → OfOne rows → OfOne (insert_entry place_cmp rows place row)
 one-insert place row [] is h = (is, tt)
 one-insert place row (entry ∷ rows) is h = by (one-insert place row rows is h.1) (place_cmp place entry.0)
@@ -132,6 +136,7 @@ one-insert place row (entry ∷ rows) is h = by (one-insert place row rows is h.
     by again Equal = h
     by again Greater = (h.0, again)
 
+-- where all rows are of the first table, its contents are all of them
 pub length-contents : (rows : State) → OfOne rows → length (contents_of 0 rows) ≡ length rows
 length-contents [] h = refl
 length-contents (entry ∷ rows) h =

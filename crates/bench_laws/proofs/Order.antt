@@ -25,9 +25,11 @@ later true true = refl
 later true false = refl
 later false b = refl
 
+-- a reply of an earlier round is before one of a later round
 pub before-round : (a b : Entry) → a.reply.round < b.reply.round → is_before a b ≡ true
 before-round a b h = let e : nat_lt a.reply.round b.reply.round ≡ true = lt-ltb a.reply.round b.reply.round h in rw e refl
 
+-- and no reply of a later round is
 pub not-before-round : (a b : Entry) → b.reply.round < a.reply.round → is_before a b ≡ false
 not-before-round a b h =
     before-test a b false false (is_same a.reply.who b.reply.who) (nat_lt a.reply.index b.reply.index)
@@ -70,6 +72,7 @@ ahead-own a b h who = by (ahead-cases a b h)
         before-test a b false true true true (le-ltb a.reply.round b.reply.round (let e = x.round in omega (arith, e))) (eq-eqb a.reply.round b.reply.round x.round)
         (subst (λ (w : Who). is_same w b.reply.who ≡ true) (sym who) (same-itself b.reply.who)) (lt-ltb a.reply.index b.reply.index x.index)
 
+-- no reply is before itself
 pub before-itself : (a : Entry) → is_before a a ≡ false
 before-itself a =
     before-test a a false (eqb a.reply.round a.reply.round) (is_same a.reply.who a.reply.who) false (le-ltb a.reply.round a.reply.round (omega arith)) refl refl (le-ltb a.reply.index a.reply.index (omega arith))
@@ -89,14 +92,17 @@ every-of p P so (x ∷ xs) h = (so x (all-has p (x ∷ xs) x h (inl refl)), ever
     rest k = tail (p x) (list_all p xs) k
 
 module _ (front : List Entry) (e : Entry) (rest : List Entry) (rises : Rises (front ++ e ∷ rest)) where
+  -- those in front of a reply are all ahead of it
   pub front-are : Every (λ x. is_ahead x e ≡ true) front
   front-are = every-of (λ x. is_ahead x e) (λ x. is_ahead x e ≡ true) (λ x h. h) front (front-ahead front e rest rises)
 
+  -- and it is ahead of all those behind it
   pub rest-are : Every (λ x. is_ahead e x ≡ true) rest
   rest-are = every-of (is_ahead e) (λ x. is_ahead e x ≡ true) (λ x h. h) rest (rest-behind front e rest rises)
 
 -- ---- what some of the replies show
 
+-- the reply shows nothing of this kind, or the test has this answer of it
 abbrev pub Kept : (Said → Option ℕ) → (Entry → Bool) → Bool → Entry → Type 0
 Kept shown p b x = (shown x.reply.said ≡ None) ⊎ (p x ≡ b)
 
@@ -107,6 +113,7 @@ module _ (shown : Said → Option ℕ) (p : Entry → Bool) where
   kept-step x xs false (inl none) k = rw none k
   kept-step x xs false (inr never) k = absurd (let impossible : ⊥ = cc in impossible)
 
+  -- a filter that passes all that show something leaves what is shown
   pub shown-kept : (xs : List Entry) → Every (Kept shown p true) xs → shown_in shown (filter p xs) ≡ shown_in shown xs
   shown-kept [] h = refl
   shown-kept (x ∷ xs) h = kept-step x xs (p x) h.0 (shown-kept xs h.1)
@@ -117,10 +124,12 @@ module _ (shown : Said → Option ℕ) (p : Entry → Bool) where
   dropped-step x xs true (inl none) k = rw none k
   dropped-step x xs true (inr never) k = absurd (let impossible : ⊥ = cc in impossible)
 
+  -- a filter that passes none of them leaves nothing
   pub shown-dropped : (xs : List Entry) → Every (Kept shown p false) xs → shown_in shown (filter p xs) ≡ []
   shown-dropped [] h = refl
   shown-dropped (x ∷ xs) h = dropped-step x xs (p x) h.0 (shown-dropped xs h.1)
 
+  -- what passes only those in front leaves what they show
   pub shown-both : (front rest : List Entry) → Every (Kept shown p true) front → Every (Kept shown p false) rest → shown_in shown (filter p (front ++ rest)) ≡ shown_in shown front
   shown-both front rest h k =
       ap (shown_in shown) (filter-append p front rest) ∙ filter_map-append (λ (x : Entry). shown x.reply.said) (filter p front) (filter p rest)

@@ -47,18 +47,23 @@ pub record Wrote : Type 0 where
   pub commit_line : ℕ
   pub commit_index : ℕ
 
+-- the reply to a transaction's begin
 abbrev pub begin : Wrote → Entry
 begin w = entry w.begin_line w.round w.session w.begin_index command.Begin (said.At w.snapshot)
 
+-- the reply to its insert
 abbrev pub insert : Wrote → Entry
 insert w = entry w.insert_line w.round w.session w.insert_index (command.Insert 0 w.row) w.insert_said
 
+-- the reply to its update
 abbrev pub update : Wrote → Entry
 update w = entry w.update_line w.round w.session w.update_index (command.Update 0 w.change) w.update_said
 
+-- the reply to its commit
 abbrev pub commit : Wrote → Entry
 commit w = entry w.commit_line w.round w.session w.commit_index command.Commit (said.Committed w.number)
 
+-- the four replies to a transaction
 abbrev pub replies_to : Wrote → List Entry
 replies_to w = begin w ∷ insert w ∷ update w ∷ commit w ∷ []
 
@@ -70,6 +75,7 @@ pub record Kept : Type 0 where
   pub asked : Command
   pub told : Said
 
+-- the reply to such a line
 abbrev pub kept_entry : Kept → Entry
 kept_entry k = entry k.line k.round 1 k.index k.asked k.told
 
@@ -84,9 +90,11 @@ pub record Froze : Type 0 where
   pub gather_index : ℕ
   pub gather_said : Said
 
+-- the reply to the sealing
 abbrev pub seal_entry : Froze → Entry
 seal_entry f = entry f.seal_line f.round 1 f.seal_index (command.Seal 0 f.block) f.seal_said
 
+-- the reply to the gathering
 abbrev pub gather_entry : Froze → Entry
 gather_entry f = entry f.gather_line f.round 1 f.gather_index (command.Gather 0 f.block) f.gather_said
 
@@ -95,11 +103,13 @@ pub data Part : Type 0 where
   Keeping : Kept → Part
   Freezing : Froze → Part
 
+-- the replies of a part
 abbrev pub entries_of : Part → List Entry
 entries_of (Writing w) = replies_to w
 entries_of (Keeping k) = kept_entry k ∷ []
 entries_of (Freezing f) = seal_entry f ∷ gather_entry f ∷ []
 
+-- the replies of the parts, one part behind the other
 abbrev pub entries_in : List Part → List Entry
 entries_in [] = []
 entries_in (part ∷ parts) = entries_of part ++ entries_in parts
@@ -127,18 +137,23 @@ pub record Last : Type 0 where
   pub commit_line : ℕ
   pub commit_index : ℕ
 
+-- the reply to the last round's begin
 abbrev pub last_begin : Last → Entry
 last_begin l = entry l.begin_line l.round 1 l.begin_index command.Begin (said.At l.snapshot)
 
+-- the reply to its scan
 abbrev pub last_scan : Last → Entry
 last_scan l = entry l.scan_line l.round 1 l.scan_index (command.Scan 0) l.scan_said
 
+-- the reply to its export
 abbrev pub last_export : Last → Entry
 last_export l = entry l.export_line l.round 1 l.export_index (command.Export 0) l.export_said
 
+-- the reply to its commit
 abbrev pub last_commit : Last → Entry
 last_commit l = entry l.commit_line l.round 1 l.commit_index command.Commit (said.Committed l.number)
 
+-- the four replies of the last round
 abbrev pub last_entries : Last → List Entry
 last_entries l = last_begin l ∷ last_scan l ∷ last_export l ∷ last_commit l ∷ []
 
@@ -153,12 +168,14 @@ pub record GoodWrote (seed : ℕ) (w : Wrote) : Type 0 where
   pub row_is : w.row ≡ first_row seed w.turn w.session
   pub change_is : w.change ≡ next_row seed w.turn w.session
 
+-- the command is one of pruning, observing or compacting
 abbrev pub IsKept : Command → Type 0
 IsKept command.Observe = Unit {0}
 IsKept command.Prune = Unit {0}
 IsKept (command.Compact table) = Unit {0}
 IsKept _ = ⊥
 
+-- the part is told what it may be, and a transaction is one of its session and turn
 abbrev pub Good : ℕ → Part → Type 0
 Good seed (Writing w) = GoodWrote seed w
 Good seed (Keeping k) = IsKept k.asked × IsCountReply k.told
@@ -189,6 +206,7 @@ abbrev pub turns : ℕ → ℕ → List (ℕ × ℕ)
 turns turn zero = []
 turns turn (suc count) = (turn, 1) ∷ (turn, 2) ∷ (turn, 3) ∷ (turn, 4) ∷ turns (turn + 1) count
 
+-- the turn and the session of a transaction
 abbrev pub turn_of : Wrote → ℕ × ℕ
 turn_of w = (w.turn, w.session)
 
@@ -207,11 +225,13 @@ pub record Rest (seed round place turn least : ℕ) (earlier entries : List Entr
   pub scan_fits : IsScanReply last.scan_said
   pub export_fits : IsExportReply last.export_said
 
+-- what comes from some places on comes from earlier places on
 pub from-weaker : (a o t b p u : ℕ) → b ≤ a → p ≤ o → u ≤ t → (part : Part) → From a o t part → From b p u part
 from-weaker a o t b p u h k m (Writing w) f = (let e : o ≤ 4 * w.round + w.session = f.0 in omega (arith, e), let e : t ≤ 4 * w.turn + w.session = f.1 in omega (arith, e))
 from-weaker a o t b p u h k m (Keeping x) f = let e : a ≤ x.round = f in omega (arith, e)
 from-weaker a o t b p u h k m (Freezing x) f = let e : a ≤ x.round = f in omega (arith, e)
 
+-- and so does all that is read
 pub rest-weaker : {seed a o t l : ℕ} {earlier entries : List Entry} {asked : List (ℕ × ℕ)} (b p u m : ℕ) → b ≤ a → p ≤ o → u ≤ t → m ≤ l
     → Rest seed a o t l earlier entries asked → Rest seed b p u m earlier entries asked
 rest-weaker {seed} {a} {o} {t} {l} {earlier} {entries} {asked} b p u m h k j i r = record {
@@ -231,6 +251,7 @@ rest-weaker {seed} {a} {o} {t} {l} {earlier} {entries} {asked} b p u m h k j i r
 behind : (earlier own rest : List Entry) → (earlier ++ own) ++ rest ≡ earlier ++ (own ++ rest)
 behind earlier own rest = append_assoc earlier own rest
 
+-- a transaction before what is read behind it
 pub rest-writes : (seed l : ℕ) (earlier entries : List Entry) (asked : List (ℕ × ℕ)) (w : Wrote) → GoodWrote seed w → w.round + 1 ≤ l
     → Rest seed (w.round + 1) (4 * w.round + w.session + 1) (4 * w.turn + w.session + 1) l (earlier ++ replies_to w) entries asked
     → Rest seed (w.round + 1) (4 * w.round + w.session) (4 * w.turn + w.session) l earlier entries (turn_of w ∷ asked)
@@ -252,6 +273,7 @@ rest-writes seed l earlier entries asked w good low r = record {
   export_fits = r.export_fits;
 }
 
+-- a line of pruning, observing or compacting before it
 pub rest-keeps : (seed t l : ℕ) (earlier entries : List Entry) (asked : List (ℕ × ℕ)) (k : Kept) → IsKept k.asked → IsCountReply k.told → k.round + 1 ≤ l
     → Rest seed k.round (4 * (k.round + 1) + 1) t l (earlier ++ kept_entry k ∷ []) entries asked
     → Rest seed k.round (4 * (k.round + 1) + 1) t l earlier entries asked
@@ -273,6 +295,7 @@ rest-keeps seed t l earlier entries asked k kept fits low r = record {
   export_fits = r.export_fits;
 }
 
+-- the sealing and the gathering of a block before it
 pub rest-freezes : (seed t l : ℕ) (earlier entries : List Entry) (asked : List (ℕ × ℕ)) (f : Froze) → IsSealReply 0 f.block f.seal_said → IsGatherReply 0 f.block f.gather_said → f.round + 1 ≤ l
     → Rest seed f.round (4 * (f.round + 1) + 1) t l (earlier ++ seal_entry f ∷ gather_entry f ∷ []) entries asked
     → Rest seed f.round (4 * (f.round + 1) + 1) t l earlier entries asked

@@ -4,6 +4,7 @@ use Rattle.outcome_spec.specs.Entries.{Entry}
 use Rattle.bench_laws.proofs.Every.{Every, Has, every-append, every-right, has-right, has-left}
 use Rattle.bench_laws.proofs.Parts.{Part, Writing, Keeping, Freezing, Wrote, InTurn, From, entries_in, entries_of, wrotes, replies_to}
 
+-- the replies of more parts stand behind those of the first
 pub entries-append : (front rest : List Part) → entries_in (front ++ rest) ≡ entries_in front ++ entries_in rest
 entries-append [] rest = refl
 entries-append (part ∷ front) rest = ap (λ es. entries_of part ++ es) (entries-append front rest) ∙ sym (append_assoc (entries_of part) (entries_in front) (entries_in rest))
@@ -17,6 +18,7 @@ pub record About (w : Wrote) (parts : List Part) : Type 0 where
 about-more : (w : Wrote) (part : Part) (parts : List Part) → About w parts → About w (part ∷ parts)
 about-more w part parts h = record { front = part ∷ h.front; rest = h.rest; whole = ap (λ ps. part ∷ ps) h.whole }
 
+-- a transaction stands between the parts in front of it and those behind it
 pub about : (w : Wrote) (parts : List Part) → Has w (wrotes parts) → About w parts
 about w [] h = absurd h
 about w (Writing v ∷ parts) (inl same) = record { front = []; rest = parts; whole = ap (λ x. Writing x ∷ parts) same }
@@ -24,6 +26,7 @@ about w (Writing v ∷ parts) (inr rest) = about-more w (Writing v) parts (about
 about w (Keeping k ∷ parts) h = about-more w (Keeping k) parts (about w parts h)
 about w (Freezing f ∷ parts) h = about-more w (Freezing f) parts (about w parts h)
 
+-- the transactions of more parts stand behind those of the first
 pub wrotes-append : (front rest : List Part) → wrotes (front ++ rest) ≡ wrotes front ++ wrotes rest
 wrotes-append [] rest = refl
 wrotes-append (Writing w ∷ front) rest = ap (λ ws. w ∷ ws) (wrotes-append front rest)
@@ -49,6 +52,7 @@ turn-rest (Writing w ∷ front) part rest h = turn-rest front part rest h.1
 turn-rest (Keeping k ∷ front) part rest h = turn-rest front part rest h.1
 turn-rest (Freezing f ∷ front) part rest h = turn-rest front part rest h.1
 
+-- the parts behind a transaction are of places behind it
 pub in-turn-rest : (front : List Part) (w : Wrote) (rest : List Part) → InTurn (front ++ Writing w ∷ rest)
     → Every (From (w.round + 1) (4 * w.round + w.session + 1) (4 * w.turn + w.session + 1)) rest
 in-turn-rest front w rest h = (turn-rest front (Writing w) rest h).0
@@ -56,6 +60,7 @@ in-turn-rest front w rest h = (turn-rest front (Writing w) rest h).0
 at-behind : (P : Part → Type 0) (front : List Part) (part : Part) (rest : List Part) → Every P (front ++ part ∷ rest) → P part
 at-behind P front part rest h = (every-right P front (part ∷ rest) h).0
 
+-- the parts in front of it are before it
 pub in-turn-front : (front : List Part) (w : Wrote) (rest : List Part) → InTurn (front ++ Writing w ∷ rest) → w.session ≤ 4 → Every (Before w) front
 in-turn-front [] w rest h high = tt
 in-turn-front (Writing v ∷ front) w rest h high =

@@ -19,10 +19,12 @@ use Rattle.outcome_spec.specs.Forms.{Due, begins_with, entry_behind, is_silent, 
 use Rattle.outcome_spec.specs.Reading.{words_in, integer_at}
 use Rattle.bench_laws.proofs.Every.{Every, every-any, every-filter, found-image}
 
+-- a begin outside of a transaction may be told this
 abbrev pub IsBeginReply : Said → Type 0
 IsBeginReply (said.At number) = Unit {0}
 IsBeginReply _ = ⊥
 
+-- an insert may be told this
 abbrev pub IsInsertReply : Said → Type 0
 IsInsertReply said.Accepted = Unit {0}
 IsInsertReply said.Exists = Unit {0}
@@ -32,6 +34,7 @@ IsInsertReply (said.ConflictSession session) = Unit {0}
 IsInsertReply (said.ConflictCommit number) = Unit {0}
 IsInsertReply _ = ⊥
 
+-- an update of the table may be told this
 abbrev pub IsUpdateReply : ℕ → Said → Type 0
 IsUpdateReply table said.Accepted = Unit {0}
 IsUpdateReply table said.Missing = Unit {0}
@@ -41,15 +44,18 @@ IsUpdateReply table (said.ConflictSession session) = Unit {0}
 IsUpdateReply table (said.ConflictCommit number) = Unit {0}
 IsUpdateReply table _ = ⊥
 
+-- a commit may be told this
 abbrev pub IsCommitReply : Said → Type 0
 IsCommitReply (said.Committed number) = Unit {0}
 IsCommitReply _ = ⊥
 
+-- a scan may be told this
 abbrev pub IsScanReply : Said → Type 0
 IsScanReply (said.Scanned rows) = Unit {0}
 IsScanReply said.Memory = Unit {0}
 IsScanReply _ = ⊥
 
+-- an export may be told this
 abbrev pub IsExportReply : Said → Type 0
 IsExportReply (said.Exported number rows batches frozen) = Unit {0}
 IsExportReply (said.Dirty key) = Unit {0}
@@ -64,11 +70,13 @@ IsCountReply (said.Moved count) = Unit {0}
 IsCountReply said.Memory = Unit {0}
 IsCountReply _ = ⊥
 
+-- sealing this block of the table may be told this
 abbrev pub IsSealReply : ℕ → ℕ → Said → Type 0
 IsSealReply table block (said.Sealed of at stamp) = (of ≡ table) × (at ≡ block)
 IsSealReply table block (said.NotSealed cause) = Unit {0}
 IsSealReply table block _ = ⊥
 
+-- gathering this block of the table may be told this
 abbrev pub IsGatherReply : ℕ → ℕ → Said → Type 0
 IsGatherReply table block (said.Frozen of at rows) = (of ≡ table) × (at ≡ block)
 IsGatherReply table block said.NotFrozen = Unit {0}
@@ -97,6 +105,7 @@ abbrev pub FitsWithout : Command → Said → Type 0
 FitsWithout command.Begin told = IsBeginReply told
 FitsWithout _ told = Unit {0}
 
+-- what it may be told, in a transaction or outside of one
 abbrev pub FitsBy : Bool → Command → Said → Type 0
 FitsBy true asked told = FitsWithin asked told
 FitsBy false asked told = FitsWithout asked told
@@ -193,11 +202,13 @@ done-at : (tables : List TableDecl) (earlier entries : List Entry) (lines : List
 done-at tables earlier entries [] is = let e : earlier ≡ entries = cc in sym e
 done-at tables earlier entries (line ∷ lines) is = absurd (let never : ⊥ = cc in never)
 
+-- where nothing is due any more, the replies that were read are all
 pub done : (tables : List TableDecl) (earlier entries : List Entry) → Goes tables earlier [] entries → entries ≡ earlier
 done tables earlier entries h = done-at tables earlier entries h.0 h.1
 
 -- ---- whether a session is in a transaction
 
+-- one more reply changes only whether its own session is in a transaction
 pub within-more : (who : Who) (earlier : List Entry) (e : Entry)
     → is_within who (earlier ++ e ∷ []) ≡ cond (is_same e.reply.who who) (within_behind (is_within who earlier) e.reply.said) (is_within who earlier)
 within-more who earlier e =
@@ -226,6 +237,7 @@ within-insert (said.ConflictSession session) h = refl
 within-insert (said.ConflictCommit number) h = refl
 within-insert _ h = absurd h
 
+-- behind an update the session is in its transaction still
 pub within-update : (told : Said) → IsUpdateReply 0 told → within_behind true told ≡ true
 within-update said.Accepted h = refl
 within-update said.Missing h = refl
@@ -235,6 +247,7 @@ within-update (said.ConflictSession session) h = refl
 within-update (said.ConflictCommit number) h = refl
 within-update _ h = absurd h
 
+-- pruning, observing and compacting open and end no transaction
 pub within-count : (b : Bool) (told : Said) → IsCountReply told → within_behind b told ≡ b
 within-count b (said.Cooling count) h = refl
 within-count b (said.Pruned count) h = refl
@@ -242,22 +255,26 @@ within-count b (said.Moved count) h = refl
 within-count b said.Memory h = refl
 within-count b _ h = absurd h
 
+-- nor does sealing
 pub within-seal : (b : Bool) (block : ℕ) (told : Said) → IsSealReply 0 block told → within_behind b told ≡ b
 within-seal b block (said.Sealed of at stamp) h = refl
 within-seal b block (said.NotSealed cause) h = refl
 within-seal b block _ h = absurd h
 
+-- nor does gathering
 pub within-gather : (b : Bool) (block : ℕ) (told : Said) → IsGatherReply 0 block told → within_behind b told ≡ b
 within-gather b block (said.Frozen of at rows) h = refl
 within-gather b block said.NotFrozen h = refl
 within-gather b block said.Memory h = refl
 within-gather b block _ h = absurd h
 
+-- behind a scan the session is in its transaction still
 pub within-scan : (told : Said) → IsScanReply told → within_behind true told ≡ true
 within-scan (said.Scanned rows) h = refl
 within-scan said.Memory h = refl
 within-scan _ h = absurd h
 
+-- behind an export too
 pub within-export : (told : Said) → IsExportReply told → within_behind true told ≡ true
 within-export (said.Exported number rows batches frozen) h = refl
 within-export (said.Dirty key) h = refl
@@ -269,6 +286,7 @@ pub begin-shows : (told : Said) (P : Said → Type 0) → IsBeginReply told → 
 begin-shows (said.At number) P h p = (number, p)
 begin-shows _ P h p = absurd h
 
+-- a commit shows a number or none
 pub commit-shows : (told : Said) (P : Said → Type 0) → IsCommitReply told → P told → (number : Option ℕ) × P (said.Committed number)
 commit-shows (said.Committed number) P h p = (number, p)
 commit-shows _ P h p = absurd h
@@ -278,10 +296,12 @@ pub fits-in : (b : Bool) (asked : Command) (told : Said) → b ≡ true → is_u
 fits-in true asked told is up h = h
 fits-in false asked told is up h = absurd (let never : ⊥ = cc in never)
 
+-- a begin outside of a transaction is told a snapshot
 pub fits-out : (b : Bool) (told : Said) → b ≡ false → FitsBy (b || false) command.Begin told → IsBeginReply told
 fits-out true told is h = absurd (let never : ⊥ = cc in never)
 fits-out false told is h = h
 
+-- upkeep may be told the same outside of a transaction as in one
 pub fits-upkeep : (b c : Bool) (asked : Command) (told : Said) → c ≡ true → FitsBy (b || c) asked told → FitsWithin asked told
 fits-upkeep true c asked told is h = h
 fits-upkeep false true asked told is h = h

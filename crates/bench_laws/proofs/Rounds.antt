@@ -143,9 +143,11 @@ module _ (seed : ℕ) (tables : List TableDecl) (entries : List Entry) where
 -- ---- what is due
 
 module _ (seed : ℕ) (all : List (List Line)) where
+  -- the generated workload
   abbrev pub script : Script
   script = bench_script all
 
+  -- what is due for rounds that are counted from this one
   abbrev pub dues_from : ℕ → List (List Line) → List Due
   dues_from round rounds = flat_map (λ entry. dues_in script entry.0 entry.1) (enumerate_from round rounds)
 
@@ -153,9 +155,6 @@ module _ (seed : ℕ) (all : List (List Line)) where
       ≡ tx_dues seed round turn 1 ++ (tx_dues seed round turn 2 ++ (tx_dues seed round turn 3 ++ (tx_dues seed round turn 4 ++ [])))
   unfolding first_row next_row
   write-dues round turn = refl
-
-  last-dues : (round : ℕ) → dues_in script round last_round ≡ due round 1 command.Begin ∷ due round 1 (command.Scan 0) ∷ due round 1 (command.Export 0) ∷ due round 1 command.Commit ∷ []
-  last-dues round = refl
 
 -- session 1 freezes blocks, the others none
 abbrev freeze_commands : List ℕ → List Command
@@ -217,6 +216,7 @@ module _ (seed : ℕ) (all : List (List Line)) (tables : List TableDecl) (entrie
       (λ afterwards outside going. rest-weaker round (4 * (round + 1) + 1) t (round + 1) (omega arith) (omega arith) (omega arith) (omega arith) (onward afterwards outside going))))))
       next out (subst (λ (ds : List Due). Goes tables next (ds ++ dues) entries) (upkeep-dues seed all round turn) goes)
 
+  -- rounds with the last one behind them
   abbrev pub ends : List (List Line) → List (List Line)
   ends rounds = rounds ++ last_round ∷ []
 
@@ -229,6 +229,7 @@ module _ (seed : ℕ) (all : List (List Line)) (tables : List TableDecl) (entrie
       (upkeep-then round turn (4 * (turn + 1) + 1) (dues_from seed all (round + 1) (ends rounds)) asked (onward (round + 1)) next out goes)
   rounds-then false round turn rounds asked onward next out goes = onward round next out goes
 
+  -- the write rounds, their upkeep and the last round are read as parts, turn by turn
   pub rounds-read : (count round turn : ℕ) → 1 ≤ turn
       → Onward seed tables entries round (4 * round + 1) (4 * turn + 1) round (dues_from seed all round (ends (flat_map (rounds_at seed) (range_with_len turn count)))) (turns turn count)
   rounds-read zero round turn low next out goes = last-read seed tables entries round (4 * turn + 1) next out goes

@@ -66,9 +66,11 @@ export-quiet (said.Dirty key) h = (refl, refl)
 export-quiet said.Memory h = (refl, refl)
 export-quiet _ h = absurd h
 
+-- a transaction as the output shows it: whose it is, its snapshot and its replies
 abbrev pub span_of : Wrote → Span
 span_of w = record { who = Session w.session; snapshot = w.snapshot; replies = replies_to w }
 
+-- the transaction of the last round
 abbrev pub last_span : Last → Span
 last_span l = record { who = Session 1; snapshot = l.snapshot; replies = last_entries l }
 

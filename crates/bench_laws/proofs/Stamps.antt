@@ -62,9 +62,11 @@ rows-update block (said.ConflictSession session) h = refl
 rows-update block (said.ConflictCommit number) h = refl
 rows-update block _ h = absurd h
 
+-- no reply of a write round shows the stamp of a block
 pub stamp-mark : (block : ℕ) → Mark (stamp_in 0 block)
 stamp-mark block = record { at_none = λ number. refl; insert_none = stamp-insert block; update_none = stamp-update block; commit_none = λ number. refl }
 
+-- nor how many rows a gathered block has
 pub rows-mark : (block : ℕ) → Mark (rows_in 0 block)
 rows-mark block = record { at_none = λ number. refl; insert_none = rows-insert block; update_none = rows-update block; commit_none = λ number. refl }
 
@@ -78,6 +80,7 @@ first-part shown mark seed (Writing w) good =
 first-part shown mark seed (Keeping k) good = (inr refl, tt)
 first-part shown mark seed (Freezing f) good = (inr refl, (inr refl, tt))
 
+-- an option is not both something and nothing
 pub some-none : (o : Option ℕ) (k : ℕ) → o ≡ Some k → o ≡ None → ⊥
 some-none o k h n = let e : Some k ≡ None = sym h ∙ n in let never : ⊥ = cc in never
 
@@ -86,9 +89,6 @@ some-none o k h n = let e : Some k ≡ None = sym h ∙ n in let never : ⊥ = c
 abbrev Climb : List ℕ → List ℕ → Type 0
 Climb front [] = Unit {0}
 Climb front (k ∷ rest) = (list_all (λ earlier. nat_lt earlier k) front ≡ true) × Climb (front ++ k ∷ []) rest
-
-less-more : (k n m : ℕ) → nat_lt n k ≡ true → k + m ≤ n + m → ⊥
-less-more k n m h le = omega (arith, ltb-true n k h, le)
 
 climbed : (most : ℕ) (rest front : List ℕ) → Climb front rest → Every (λ k. k ≤ most) (front ++ rest) → Every (λ k. k + length rest ≤ most) front
 climbed most [] front h bound = every-weaker (λ k. k ≤ most) (λ k. k + 0 ≤ most) (λ k le. omega (arith, le)) front (every-left (λ k. k ≤ most) front [] bound)
@@ -110,14 +110,17 @@ count-step : (k x : ℕ) (xs : List ℕ) (n : ℕ) (b : Bool) → eqb x k ≡ b 
 count-step k x xs n true is h rest = inl (eqb-true x k is)
 count-step k x xs n false is h rest = inr (rest (omega (arith, h)))
 
+-- what is counted at least once is in the list
 pub count-has : (k : ℕ) (xs : List ℕ) (n : ℕ) → count_by (λ x. eqb x k) xs ≡ suc n → Has k xs
 count-has k [] n h = absurd (let never : ⊥ = omega (arith, h) in never)
 count-has k (x ∷ xs) n h = count-step k x xs n (eqb x k) refl (sym (sum_by-cons (λ y. cond (eqb y k) 1 0) x xs) ∙ h) (count-has k xs n)
 
 module _ (seed size : ℕ) (replies : List Entry) (told : Told seed size replies) where
+  -- the run that the replies tell
   abbrev pub run : Run
   run = run_of tables replies
 
+  -- each reply that shows a mark is session 1's
   pub firsts : (shown : Said → Option ℕ) → Mark shown → Every (First shown) replies
   firsts shown mark =
       subst (Every (First shown)) (sym told.whole)
@@ -141,6 +144,7 @@ module _ (seed size : ℕ) (replies : List Entry) (told : Told seed size replies
       both [] h k = tt
       both (x ∷ xs) h k = (one x h.0 k.0, both xs h.1 k.1)
 
+  -- the marks not after a line of session 1 are those of the lines in front and its own
   pub not-after-first : (shown : Said → Option ℕ) → Mark shown → (front : List Entry) (e : Entry) (rest : List Entry) → replies ≡ front ++ e ∷ rest → e.reply.who ≡ Session 1
       → shown_in shown (not_after replies e) ≡ shown_in shown (front ++ e ∷ [])
   not-after-first shown mark front e rest whole who =
@@ -177,6 +181,7 @@ module _ (seed size : ℕ) (replies : List Entry) (told : Told seed size replies
       let sound = sound-at seed size replies told e has in
       subst (λ (s : Said). Rattle.outcome_spec.specs.Upkeep.upkeep_reply_holds run e s ≡ true) is sound.upkeep
 
+  -- four tests that all pass pass each
   pub four-parts : (a b c d : Bool) → (a && b && c && d) ≡ true → (a ≡ true) × (b ≡ true) × (c ≡ true) × (d ≡ true)
   four-parts true true true true h = (refl, refl, refl, refl)
   four-parts false b c d h = absurd (let never : ⊥ = cc in never)

@@ -23,6 +23,7 @@ use Rattle.bench_laws.proofs.Replies.{IsScanReply, IsExportReply}
 use Rattle.bench_laws.proofs.Parts.{Part, Last, Good, InTurn, Under, wrotes, turn_of, turns, entries_in, entries_of, last_entries}
 use Rattle.bench_laws.proofs.Rounds.{rounds-read}
 
+-- the one table of the workload
 abbrev pub tables : List TableDecl
 tables = bench_table ∷ []
 
@@ -91,6 +92,7 @@ nine true true true true true true false h i k = absurd (let never : ⊥ = cc in
 nine true true true true true true true false i k = absurd (let never : ⊥ = cc in never)
 nine true true true true true true true true false k = absurd (let never : ⊥ = cc in never)
 
+-- each of the replies is sound
 pub sound-at : (seed size : ℕ) (replies : List Entry) (told : Told seed size replies) (e : Entry) → Has e replies → Sound (run_of tables replies) e
 sound-at seed size replies told e has =
     let run = run_of tables replies in

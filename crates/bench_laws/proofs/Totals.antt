@@ -175,6 +175,7 @@ module _ (seed size : ℕ) (small : 4 * size ≤ 32768) (replies : List Entry) (
   abbrev l : Last
   l = told.last
 
+  -- as many commits show numbers as the write rounds have transactions
   pub commits-are : commit_count replies ≡ 4 * size
   commits-are =
       let last : shown_in commit_in (last_entries l) ≡ [] =
@@ -245,6 +246,7 @@ module _ (seed size : ℕ) (small : 4 * size ≤ 32768) (replies : List Entry) (
   its-export said.Memory is fits given = absurd (let never : ⊥ = cc in never)
   its-export _ is fits given = absurd fits
 
+  -- the export tells as many rows as the writes leave
   pub exported-are : exported replies ≡ length (rows_left seed size)
   exported-are =
       ap exported told.whole

@@ -70,6 +70,7 @@ ended session earlier a b c d wa wb wc wd out number ends other =
 
 -- ---- one transaction
 
+-- what is due for a session's transaction in a turn
 abbrev pub tx_dues : ℕ → ℕ → ℕ → ℕ → List Due
 tx_dues seed round turn session =
     due round session command.Begin ∷ due round session (command.Insert 0 (first_row seed turn session))
@@ -173,6 +174,7 @@ module _ (seed : ℕ) (tables : List TableDecl) (round turn session : ℕ) (low 
       let b = at (earlier ++ a ∷ []) (command.Insert 0 row) answer.told in
       update-read earlier number answer.told fits out a b a_is refl (own-more session (earlier ++ a ∷ []) b true refl within ∙ within-insert answer.told fits) answer.rest
 
+  -- where nobody is in a transaction, the next one is read as one part
   pub transaction-read : (earlier : List Entry) → AllOut earlier → Goes tables earlier (tx_dues seed round turn session ++ dues) entries → Transacted seed tables round turn session earlier dues entries
   transaction-read earlier out goes =
       let behind = due round session (command.Insert 0 row) ∷ due round session (command.Update 0 change) ∷ due round session command.Commit ∷ dues in

@@ -34,12 +34,15 @@ is-equal Less h = absurd (let never : ⊥ = cc in never)
 is-equal Equal h = refl
 is-equal Greater h = absurd (let never : ⊥ = cc in never)
 
+-- places that are tested to be one are one
 pub same-place : (a b : Place) → is_place a b ≡ true → a ≡ b
 same-place a b h = one-place a b (is-equal (place_cmp a b) h)
 
+-- a place is itself
 pub place-itself : (a : Place) → is_place a a ≡ true
 place-itself a = ap is_eq (tied_itself place_cmp-total a)
 
+-- keys at the same place are equal
 pub same-key : (a b : ℕ) → at_key a ≡ at_key b → a ≡ b
 same-key a b h = let e : pos a ≡ pos b = ap (λ (p : Place). p.key) h in cc
 
@@ -47,26 +50,33 @@ same-key a b h = let e : pos a ≡ pos b = ap (λ (p : Place). p.key) h in cc
 abbrev pub first_key : Wrote → ℕ
 first_key w = 4 * (w.turn - 1) + w.session
 
+-- the turn whose key the update takes, counted from 0
 abbrev pub picked : ℕ → Wrote → ℕ
 picked seed w = draw_in seed w.turn w.session 3 % w.turn
 
+-- the key that it updates
 abbrev pub next_key : ℕ → Wrote → ℕ
 next_key seed w = 4 * picked seed w + w.session
 
+-- the row that a session inserts stands at its turn's key
 pub first-place-of : (seed turn session : ℕ) → place_of 0 (first_row seed turn session) ≡ at_key (4 * (turn - 1) + session)
 unfolding first_row
 first-place-of seed turn session = refl
 
+-- the row that it leaves stands at the key of the turn that a draw names
 pub next-place-of : (seed turn session : ℕ) → place_of 0 (next_row seed turn session) ≡ at_key (4 * (draw_in seed turn session 3 % turn) + session)
 unfolding next_row
 next-place-of seed turn session = refl
 
+-- a transaction inserts at its first key
 pub first-place : (seed : ℕ) (w : Wrote) → GoodWrote seed w → place_of 0 w.row ≡ at_key (first_key w)
 first-place seed w good = ap (place_of 0) good.row_is ∙ first-place-of seed w.turn w.session
 
+-- and updates at the key that it picked
 pub next-place : (seed : ℕ) (w : Wrote) → GoodWrote seed w → place_of 0 w.change ≡ at_key (next_key seed w)
 next-place seed w good = ap (place_of 0) good.change_is ∙ next-place-of seed w.turn w.session
 
+-- the key that is picked is of its turn or an earlier one
 pub picked-low : (seed : ℕ) (w : Wrote) → GoodWrote seed w → picked seed w < w.turn
 picked-low seed w good = below (draw_in seed w.turn w.session 3) w.turn good.turn_low
   where
@@ -89,6 +99,7 @@ chosen : (b : Bool) (own place : Place) (row : List Cell) → option_map_or (λ 
 chosen true own place row h = sym (same-place own place h)
 chosen false own place row h = absurd (let never : ⊥ = cc in never)
 
+-- an accepted write of a transaction is at a key of its session
 pub entry-touches : (seed : ℕ) (w : Wrote) → GoodWrote seed w → (place : Place) (e : Entry) → Has e (replies_to w) → writes_it place e ≡ true → Touches w place
 entry-touches seed w good place e (inl same) h = absurd (let never : false ≡ true = subst (λ (x : Entry). writes_it place x ≡ true) (sym same) h in let impossible : ⊥ = cc in impossible)
 entry-touches seed w good place e (inr (inl same)) h = record {
@@ -104,6 +115,7 @@ entry-touches seed w good place e (inr (inr (inl same))) h = record {
 entry-touches seed w good place e (inr (inr (inr (inl same)))) h = absurd (let never : false ≡ true = subst (λ (x : Entry). writes_it place x ≡ true) (sym same) h in let impossible : ⊥ = cc in impossible)
 entry-touches seed w good place e (inr (inr (inr (inr never)))) h = absurd never
 
+-- a place that a transaction writes is a key of its session
 pub touches : (seed : ℕ) (w : Wrote) → GoodWrote seed w → (place : Place) → has_write place (replies_to w) ≡ true → Touches w place
 touches seed w good place h = let found = any-found (writes_it place) (replies_to w) h in entry-touches seed w good place found.0 found.1 found.2
 
@@ -134,6 +146,7 @@ export-unaccepted (said.Dirty key) h = refl
 export-unaccepted said.Memory h = refl
 export-unaccepted _ h = absurd h
 
+-- no reply of the last round is of an accepted write
 pub last-unwritten : (l : Last) → IsScanReply l.scan_said → IsExportReply l.export_said → (e : Entry) → Has e (last_entries l) → accepted_write e ≡ None
 last-unwritten l scans exports e (inl same) = ap accepted_write (sym same)
 last-unwritten l scans exports e (inr (inl same)) = ap accepted_write (sym same) ∙ (rw (scan-unaccepted l.scan_said scans) refl)
@@ -141,6 +154,7 @@ last-unwritten l scans exports e (inr (inr (inl same))) = ap accepted_write (sym
 last-unwritten l scans exports e (inr (inr (inr (inl same)))) = ap accepted_write (sym same)
 last-unwritten l scans exports e (inr (inr (inr (inr never)))) = absurd never
 
+-- so the last round writes no place
 pub last-touches-none : (l : Last) → IsScanReply l.scan_said → IsExportReply l.export_said → (place : Place) (p : Entry → Bool) → has_write place (filter p (last_entries l)) ≡ true → ⊥
 last-touches-none l scans exports place p h =
     let found = any-found (writes_it place) (filter p (last_entries l)) h in
@@ -155,6 +169,7 @@ abbrev pub behind_two : Bool → Place → List Cell → Bool → Place → List
 behind_two first first_place first_row second second_place second_row place before =
     cond (second && is_place place second_place) (Some second_row) (cond (first && is_place place first_place) (Some first_row) before)
 
+-- a place behind a row that was put: the row itself at its own, and else what stood there
 pub put : (rows : State) (own : Place) (row : List Cell) (place : Place) → at_place (insert_entry place_cmp rows own row) place ≡ cond (is_place place own) (Some row) (at_place rows place)
 put rows own row place = lookup-insert_entry place_cmp-total rows own row place
 
@@ -196,6 +211,7 @@ pub laid-over : (rows : State) (w : Wrote) (place : Place)
     ≡ behind_two (is_accepted w.insert_said) (place_of 0 w.row) w.row (is_accepted w.update_said) (place_of 0 w.change) w.change place (at_place rows place)
 laid-over rows w place = laid rows (place_of 0 w.row) (place_of 0 w.change) w.row w.change (is_accepted w.insert_said) (is_accepted w.update_said) place
 
+-- two writes of which neither was accepted at a place leave what stood there
 pub unwritten : (a b : Bool) (p q place : Place) (r s : List Cell) (before : Option (List Cell))
     → (option_map_or (λ (write : Place × Option (List Cell)). is_place write.0 place) (if a then Some (p, Some r) else None) false
     || (option_map_or (λ (write : Place × Option (List Cell)). is_place write.0 place) (if b then Some (q, Some s) else None) false || false)) ≡ false
@@ -213,6 +229,7 @@ unwritten true true p q place r s before h =
     let f : is_place place q ≡ false = (eq_by_cmp_equiv place_cmp-total).symm place q ∙ (or_parts (is_place q place) false parts.1).0 in
     rw (e, f) refl
 
+-- a transaction that does not write a place leaves what stood there
 pub untouched : (rows : State) (w : Wrote) (place : Place) → has_write place (replies_to w) ≡ false → at_place (laid_over rows (writes_in (replies_to w))) place ≡ at_place rows place
 untouched rows w place h =
     laid-over rows w place ∙ unwritten (is_accepted w.insert_said) (is_accepted w.update_said) (place_of 0 w.row) (place_of 0 w.change) place w.row w.change (at_place rows place) h

@@ -12,6 +12,7 @@ use Rattle.bench_spec.specs.Generated.{bench_columns}
 no_bytes : IsAscii []
 no_bytes = λ i. omega arith
 
+-- one byte more of ASCII in front
 pub one_more : (b : ℕ) (bs : List ℕ) → b < 128 → IsAscii bs → IsAscii (b ∷ bs)
 one_more b bs small rest = λ i. by i
   where
@@ -22,15 +23,19 @@ one_more b bs small rest = λ i. by i
 named : (column : Column) → IsAscii column.name → length column.name ≤ 100 → IsName column
 named column ascii few = (IsUtf8-from_ascii column.name ascii, omega (arith, few))
 
+-- the key of a row
 abbrev pub key : Column
 key = record { name = codes "key"; kind = I64; nullable = false }
 
+-- its number
 abbrev pub number : Column
 number = record { name = codes "n"; kind = I64; nullable = false }
 
+-- its text, which may be null
 abbrev pub text : Column
 text = record { name = codes "t"; kind = Utf8; nullable = true }
 
+-- the columns of the table are named
 pub columns_named : AreNamed bench_columns
 columns_named = record {
   each = All-cons IsName key (number ∷ text ∷ []) (named key (one_more 107 (101 ∷ 121 ∷ []) (omega arith) (one_more 101 (121 ∷ []) (omega arith) (one_more 121 [] (omega arith) no_bytes))) (omega arith))

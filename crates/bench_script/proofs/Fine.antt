@@ -50,15 +50,18 @@ fine_each f a (suc n) each = fine_append (f a) (flat_map f (range_with_len (a + 
 row_own : (session : ℕ) (row : List Cell) → is_within 1 4 session ≡ true → fits bench_columns row ≡ true → (is_within 1 4 session && fits bench_columns row) ≡ true
 row_own session row within fit = ap₂ (λ (a b : Bool). a && b) within fit
 
+-- the key that a session inserts in a round fits 63 bits
 pub key_few : (round session : ℕ) → round ≤ 4096 → session ≤ 4 → key_of round session < 2 ^ 63
 key_few round session few small = omega (arith, few, small)
 
+-- the key that it updates does too
 pub old_key_few : (round session drawn : ℕ) → 0 < round → round ≤ 4096 → session ≤ 4 → updated_key round session drawn < 2 ^ 63
 old_key_few round session drawn some few small = below (drawn % round) (mod_below drawn round some)
   where
     below : (m : ℕ) → m < round → 4 * m + session < 2 ^ 63
     below m less = omega (arith, less, few, small)
 
+-- a draw fits 31 bits
 pub draw_few : (seed round session number : ℕ) → 0 < number → draw_in seed round session number < 2 ^ 31
 draw_few seed round session number some = draw_small seed (5 * (key_of round session - 1) + number) (omega (arith, some))
 

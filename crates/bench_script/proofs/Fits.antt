@@ -60,6 +60,7 @@ cells_fit : (a b c : Cell) → is_none (cell_fault 0 key a) ≡ true → is_none
     → fits bench_columns (a ∷ b ∷ c ∷ []) ≡ true
 cells_fit a b c first second third = rw (first, second, third) refl
 
+-- a row of a key below 2 ^ 63 and a text drawn below 2 ^ 31 fits the table
 pub row_fits : (k n t : ℕ) → k < 2 ^ 63 → t < 2 ^ 31 → fits bench_columns (row_of k n t) ≡ true
 row_fits k n t key_few text_few = cells_fit (Num (pos k)) (Num (number_of n)) (text_of t)
     (number_fits 0 (is_integer_of I64 (pos k)) (key_within k key_few)) (number_fits 1 (is_integer_of I64 (number_of n)) (number_within n)) (text_fits t text_few)

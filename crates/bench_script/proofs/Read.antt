@@ -33,5 +33,6 @@ all_taken : (lines : List Line) → list_all (λ l. is_taken whole.commands l.co
 all_taken [] = refl
 all_taken (l ∷ lines) = ap₂ (λ (a b : Bool). a && b) (taken l.command) (all_taken lines)
 
+-- the text of what is generated is read as it
 pub generated_read : (seed size : ℕ) → size ≤ 4096 → read_with whole (script_text (generated seed size)) ≡ Ok (generated seed size)
 generated_read seed size few = text_is_read whole (generated seed size) refl (record { valid = generated_valid seed size few; within = all_taken (all_lines (generated seed size)) })

@@ -220,6 +220,7 @@ head_short : length head ≤ 200
 unfolding head
 head_short = omega arith
 
+-- the text of what is generated is below 2 ^ 32 bytes
 pub text_is_short : (seed size : ℕ) → size ≤ 4096 → length (script_text (generated seed size)) < 2 ^ 32
 text_is_short seed size few =
     let rounds = flat_map (rounds_at seed) (range_with_len 1 size) in

@@ -22,6 +22,7 @@ four old a b c d one two three all e f g h =
     h ∙ ap (λ l. l ++ d ∷ []) (g ∙ ap (λ l. l ++ c ∷ []) (f ∙ ap (λ l. l ++ b ∷ []) e))
     ∙ append_assoc ((old ++ a ∷ []) ++ b ∷ []) (c ∷ []) (d ∷ []) ∙ append_assoc (old ++ a ∷ []) (b ∷ []) (c ∷ d ∷ []) ∙ append_assoc old (a ∷ []) (b ∷ c ∷ d ∷ [])
 
+-- the four lines that were made of the draws are the transaction's
 pub transaction_is : (seed round session k n t j k2 n2 t2 : ℕ) (first second : List Cell) (old one two three all : List Line)
     → k ≡ key_of round session → n ≡ draw_in seed round session 1 → t ≡ draw_in seed round session 2 → first ≡ row_of k n t
     → k2 ≡ updated_key round session j → j ≡ draw_in seed round session 3 → n2 ≡ draw_in seed round session 4 → t2 ≡ draw_in seed round session 5 → second ≡ row_of k2 n2 t2

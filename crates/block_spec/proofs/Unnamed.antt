@@ -14,6 +14,7 @@ first-unnamed at [] row = refl
 first-unnamed at (c ∷ cs) [] = refl
 first-unnamed at (c ∷ cs) (x ∷ xs) = ap (λ (o : Option RowFault). cond (is_none (cell_fault at c x)) o (cell_fault at c x)) (first-unnamed (at + 1) cs xs)
 
+-- a row has the same fault, or none, whatever the columns' names
 pub fault-unnamed : (schema : List Column) (row : List Cell) → row_fault (columns_of schema) row ≡ row_fault schema row
 fault-unnamed schema row =
     ap (λ n. cond (length row == n) (first_fault 0 (columns_of schema) row) (Some Arity)) (length-map schema unnamed)

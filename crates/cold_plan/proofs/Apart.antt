@@ -152,6 +152,7 @@ across (x ∷ moves) falls rises down =
     (rest k d within) in
     All-cons (λ row. All (λ gap. row ≢ gap) (x.1 ∷ gaps)) x.0 (map (λ move. move.0) moves) first others
 
+-- the moves of falling rows into rising gaps name no place twice
 pub NoPlaceTwice-moves_of : (rows gaps : List ℕ) → AllPairs (λ higher lower. lower < higher) rows →
     AllPairs (λ lower higher. lower < higher) gaps → NoPlaceTwice (moves_of rows gaps)
 NoPlaceTwice-moves_of rows gaps falling rising =

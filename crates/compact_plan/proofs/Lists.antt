@@ -11,12 +11,15 @@ use Rattle.std.proofs.lemmas.Option.{get_or_from_slice_get, slice_get_within}
 AllPairs-nil : {X : Type 0} (R : X → X → Type 0) → AllPairs R []
 AllPairs-nil R = λ i j d before within. absurd (omega arith)
 
+-- the first of a list that stands in an order stands so to each behind it
 pub AllPairs-head : {X : Type 0} (R : X → X → Type 0) (x : X) (xs : List X) → AllPairs R (x ∷ xs) → All (R x) xs
 AllPairs-head R x xs pairs = λ k d within. pairs zero (suc k) d (omega arith) (omega arith)
 
+-- without its first a list stands in its order still
 pub AllPairs-tail : {X : Type 0} (R : X → X → Type 0) (x : X) (xs : List X) → AllPairs R (x ∷ xs) → AllPairs R xs
 AllPairs-tail R x xs pairs = λ i j d before within. pairs (suc i) (suc j) d (omega arith) (omega arith)
 
+-- images stand in an order where their elements do by it
 pub AllPairs-map : {X Y : Type 0} (R : Y → Y → Type 0) (f : X → Y) (xs : List X) →
     AllPairs (λ x y. R (f x) (f y)) xs → AllPairs R (map f xs)
 AllPairs-map R f [] pairs = AllPairs-nil R
@@ -28,11 +31,13 @@ AllPairs-map R f (x ∷ xs) pairs =
     (All-map (R (f x)) f xs (AllPairs-head (λ y z. R (f y) (f z)) x xs pairs))
     (AllPairs-map R f xs (AllPairs-tail (λ y z. R (f y) (f z)) x xs pairs))
 
+-- what holds of all images holds of each element by its image
 pub All-from_map : {X Y : Type 0} (P : Y → Type 0) (f : X → Y) (xs : List X) → All P (map f xs) → All (λ x. P (f x)) xs
 All-from_map P f xs all = λ k d within.
     let long : length (map f xs) ≡ length xs = length-map xs f in
     subst P (get_or-map f xs k d (f d) within) (all k (f d) (omega (arith, long, within)))
 
+-- elements stand in an order by their images where these do
 pub AllPairs-from_map : {X Y : Type 0} (R : Y → Y → Type 0) (f : X → Y) (xs : List X) →
     AllPairs R (map f xs) → AllPairs (λ x y. R (f x) (f y)) xs
 AllPairs-from_map R f [] pairs = AllPairs-nil (λ x y. R (f x) (f y))
@@ -69,12 +74,14 @@ AllPairs-reverse {X} R xs pairs = λ i j d before within.
     (sym (get_or-reverse xs i d early))
     (pairs (length xs - 1 - j) (length xs - 1 - i) d (omega (arith, before, inside)) (omega (arith, early))))
 
+-- what holds of all of a list holds of all when it is turned around
 pub All-reverse : {X : Type 0} (P : X → Type 0) (xs : List X) → All P xs → All P (reverse xs)
 All-reverse P xs all = λ k d within.
     let long : length (reverse xs) ≡ length xs = length-reverse xs in
     let inside : k < length xs = omega (arith, long, within) in
     subst P (sym (get_or-reverse xs k d inside)) (all (length xs - 1 - k) d (omega (arith, inside)))
 
+-- what holds of all of each list holds of all of the joined lists
 pub All-flat_map : {X Y : Type 0} (P : Y → Type 0) (f : X → List Y) (xs : List X) → All (λ x. All P (f x)) xs → All P (flat_map f xs)
 All-flat_map P f [] all = All-nil P
 All-flat_map P f (x ∷ xs) all =
@@ -101,6 +108,7 @@ AllPairs-flat_map R f (x ∷ xs) each across =
 abbrev pub Both : {X Y : Type 0} → (X → Type 0) → (Y → Type 0) → X × Y → Type 0
 Both P Q pair = P pair.0 × Q pair.1
 
+-- what holds of all of each of two lists holds of their pairs
 pub All-zip : {X Y : Type 0} (P : X → Type 0) (Q : Y → Type 0) (xs : List X) (ys : List Y) →
     All P xs → All Q ys → All (Both P Q) (zip xs ys)
 All-zip P Q [] ys first second = All-nil (Both P Q)
@@ -113,6 +121,7 @@ All-zip P Q (x ∷ xs) (y ∷ ys) first second =
     (All-head P x xs first, All-head Q y ys second)
     (All-zip P Q xs ys (All-tail P x xs first) (All-tail Q y ys second))
 
+-- the numbers from 0 on rise
 pub range_rises : (n : ℕ) → AllPairs (λ one other. one < other) (range_with_len 0 n)
 range_rises n = λ i j d before within.
     let inside : j < n = omega (arith, length-range_with_len 0 n, within) in
@@ -120,6 +129,7 @@ range_rises n = λ i j d before within.
     let other = get_or-range_with_len 0 n j d inside in
     omega (arith, before, one, other)
 
+-- the numbers from 0 on are below their count
 pub range_within : (n : ℕ) → All (λ k. k < n) (range_with_len 0 n)
 range_within n = λ k d within.
     let inside : k < n = omega (arith, length-range_with_len 0 n, within) in

@@ -39,6 +39,7 @@ some_slots p n = record {
   within = All-filter p (λ slot. slot < n) (range_with_len 0 n) (range_within n);
 }
 
+-- the rows that a look tells stand in the order of their slots
 pub looked_rows : (body : Body) → AreSlots (λ (row : MovableRow). row.slot) (length body.slots) (looked body).rows
 looked_rows body =
     let js : List ℕ = range_with_len 0 (length body.slots) in
@@ -50,6 +51,7 @@ looked_rows body =
       within = All-from_map (λ slot. slot < length body.slots) (λ (row : MovableRow). row.slot) rows some.within;
     }
 
+-- the gaps that a look tells stand in their order
 pub looked_gaps : (body : Body) → AreSlots (λ (slot : ℕ). slot) (length body.slots) (looked body).gaps
 looked_gaps body = some_slots (λ j. is_bare (slot_in body j)) (length body.slots)
 
@@ -66,9 +68,11 @@ has_places seen body is few =
 
 -- ---- places
 
+-- a place has the block that it was made of
 pub block_placed : (block slot : ℕ) → slot < 2 ^ 20 → block_of (place_of block slot) ≡ block
 block_placed block slot small = omega arith
 
+-- a place has the slot that it was made of
 pub slot_placed : (block slot : ℕ) → slot < 2 ^ 20 → slot_of (place_of block slot) ≡ slot
 slot_placed block slot small = omega arith
 
@@ -78,6 +82,7 @@ pub record ArePlaces {Y : Type 0} (place : Y → ℕ) (block slots : ℕ) (ys : 
   pub here : All (λ y. block_of (place y) ≡ block) ys
   pub within : All (λ y. slot_of (place y) < slots) ys
 
+-- slots of a block that stand in order have places that do
 pub placed : {X Y : Type 0} (number : X → ℕ) (place : Y → ℕ) (f : X → Y) (block slots : ℕ) (xs : List X) →
     ((x : X) → place (f x) ≡ place_of block (number x)) → slots ≤ 2 ^ 20 →
     AreSlots number slots xs → ArePlaces place block slots (map f xs)

@@ -142,10 +142,12 @@ module _ (shape : Shape) (table : ℕ) (small : slots_of shape table ≤ 2 ^ 15)
         let block = placed_here.here m a inside in
         ((has, omega (arith, block, (are k d within).block)), placed_here.within m a inside))
 
+-- looks at blocks of a table can be planned over
 pub looks_have_places : LooksHavePlaces
 looks_have_places shape table looks small are =
     All-weaker (IsLookAt shape table) HasPlaces (can_be_planned shape table small) looks are
 
+-- a plan over looks at blocks of a table fits the table
 pub plans_fit : PlansFit
 plans_fit shape table looks has small are ascending =
     let group : List BlockLook = filter is_in_group looks in

@@ -103,39 +103,48 @@ flip a b = go (a == b) refl
     go true e = e ∙ sym (ap (λ y. y == a) (sym (num a b e)) ∙ num_refl a)
     go false e = e ∙ sym (differs b a (λ same. true_false (sym (ap (λ y. a == y) same ∙ num_refl a) ∙ e)))
 
+-- what is found in the map of writes is a write of the transaction
 pub there_by : (own : OwnTransaction) (entries : PlaceMap ℕ) (place : Place) (p : ℕ) → entries ≡ own.writes → lookup (is_place place) entries ≡ Some p → at_place own.writes place ≡ Some p
 there_by own entries place p same found = ap (lookup (is_place place)) (sym same) ∙ found
 
 -- ---- parts that are touched, and the desk
 
 module _ (sh : Shape) (own : OwnTransaction) (old : Held) (m : MayRun sh (event.Commit own) old) where
+  -- a part in the hand is the core's part of its name
   pub part_there : (k : ℕ) (n : Name) (x : CorePart) → slice_get (names sh) k ≡ Some n → slice_get old k ≡ Some (Some x) → part_at sh m.parts n ≡ Some x
   part_there k n x is at = part_is sh m.parts k n x is (m.agrees.1 k x at)
 
+  -- the desk is in the hand
   pub has_the_desk : Has sh old TheDesk
   has_the_desk = has_desk sh (event.Commit own) old m refl
 
+  -- without the desk the hand has a place for each part still
   pub first_room : (taken : Held) → taken ≡ laid sh TheDesk None old → length taken ≡ length (names sh)
   first_room taken out = room_taken sh old taken TheDesk None out (room sh (event.Commit own) old m)
 
   desk_same : (x : DeskState) → in_hand sh old TheDesk ≡ Some (part.Desk x) → desk_at sh m.parts ≡ x
   desk_same x is = desk_is sh old m.parts m.agrees x is
 
+  -- the desk has a pass for the session
   pub pass_there : (x : DeskState) → in_hand sh old TheDesk ≡ Some (part.Desk x) → HasPass x own.session
   pass_there x is = subst (λ (x : DeskState). HasPass x own.session) (desk_same x is)
       (has_pass (desk_at sh m.parts) own.session own.snapshot (all_open sh m.parts m.holds.sound own m.lawful.0))
 
+  -- and has its transaction open
   pub is_open : (x : DeskState) → in_hand sh old TheDesk ≡ Some (part.Desk x) → IsSome (snapshot_of x own.session)
   is_open x is = subst (λ (x : DeskState). IsSome (snapshot_of x own.session)) (desk_same x is)
       (ap is_some (all_open sh m.parts m.holds.sound own m.lawful.0).is_open)
 
+  -- the next stamp is below 2^63
   pub stamp_left : (x : DeskState) → in_hand sh old TheDesk ≡ Some (part.Desk x) → x.newest + 1 < 2 ^ 63
   stamp_left x is = subst (λ (x : DeskState). x.newest + 1 < 2 ^ 63) (desk_same x is) m.lawful.1
 
   module _ (t : ℕ) (key : ℤ) (p : ℕ) (there : at_place own.writes (place_at t key) ≡ Some p) where
+    -- the block of a write is there
     pub its_block : HasBlock sh t (block_of p)
     its_block = block_is_there sh m.parts m.holds.measures m.holds.sound m.holds.shards own m.lawful.0 t key p there
 
+    -- and its body is in the hand
     pub has_its_body : Has sh old (BodyOf t (block_of p))
     has_its_body = has_body sh (event.Commit own) old m t (block_of p) its_block
         (or_left (is_body_written own.writes (BodyOf t (block_of p))) false
@@ -181,13 +190,16 @@ module _ (sh : Shape) (own : OwnTransaction) (old : Held) (m : MayRun sh (event.
 -- ---- one write more
 
 module _ (sh : Shape) (own : OwnTransaction) (stamp number : ℕ) (old now : Held) (done : PlaceMap ℕ) (u : IsStamped sh own stamp number old now done) where
+  -- what was in the hand is in it still
   pub still : (w : Name) → Has sh old w → Has sh now w
   still w has = has_still sh (stamped_so_far sh u.may.parts own.session done) old now w u.made has
 
+  -- the hand has a place for each part still
   pub room_now : length now ≡ length (names sh)
   room_now = room_still sh (stamped_so_far sh u.may.parts own.session done) old now u.made (room sh (event.Commit own) old u.may)
 
   module _ (t : ℕ) (key : ℤ) (p : ℕ) (there : at_place own.writes (place_at t key) ≡ Some p) where
+    -- the body is in it still
     pub body_still : Has sh now (BodyOf t (block_of p))
     body_still = still (BodyOf t (block_of p)) (has_its_body sh own old u.may t key p there)
 
@@ -211,6 +223,7 @@ module _ (sh : Shape) (own : OwnTransaction) (stamp number : ℕ) (old now : Hel
         past : length (body_at sh u.may.parts t (block_of p)).slots ≤ j → NoneStampedAbove (slot_in (body_at sh u.may.parts t (block_of p)) j).entries ((desk_at sh u.may.parts).newest + 1)
         past over = subst (λ (x : Slot). NoneStampedAbove x.entries ((desk_at sh u.may.parts).newest + 1)) (sym (get_or_past (body_at sh u.may.parts t (block_of p)).slots j bare over)) (All-nil (IsStampedUpTo {D = Before} ((desk_at sh u.may.parts).newest + 1)))
 
+    -- none of the body's entries has a stamp above the commit's
     pub below_here : (j : ℕ) → NoneStampedAbove (slot_in (body_in sh now t (block_of p)) j).entries stamp
     below_here j =
         subst (λ n. NoneStampedAbove (slot_in (body_in sh now t (block_of p)) j).entries n) (sym u.taken)
@@ -237,6 +250,7 @@ module _ (sh : Shape) (own : OwnTransaction) (stamp number : ℕ) (old now : Hel
         go false true = refl
         go false false = refl
 
+    -- one write more is stamped
     pub goes_on : (new : Held) → new ≡ after sh (body_changed t (block_of p) (committed_in own.session stamp number)) now → IsStamped sh own stamp number old new (done ++ (place_at t key, p) ∷ [])
     goes_on new is = record {
       may = u.may;
@@ -284,6 +298,7 @@ module _ (sh : Shape) (own : OwnTransaction) (stamp number : ℕ) (old mid : Hel
     desk = λ x is. ap (λ c. closed own.session (cond c (numbered x) x)) (sym wrote);
   })
 
+  -- Behind all writes, what became of the hand is what the commit makes of it.
   pub ends : Makes sh (event.Commit own) old mid (reply.Committed (Some number))
   ends = from_one sh (event.Commit own) old mid (reply.Committed (Some number)) u.may
       (u.made ∙ alike (stamped_so_far sh u.may.parts own.session own.writes) (changes_of sh u.may.parts (event.Commit own)) (names sh) old (λ k n x at held. last n x (part_there sh own old u.may k n x at held)))
@@ -291,9 +306,11 @@ module _ (sh : Shape) (own : OwnTransaction) (stamp number : ℕ) (old mid : Hel
 
 -- ---- small answers
 
+-- a desk that is equal is the hand's too
 pub told : (sh : Shape) (hand : Held) (x y : DeskState) → in_hand sh hand TheDesk ≡ Some (part.Desk x) → y ≡ x → in_hand sh hand TheDesk ≡ Some (part.Desk y)
 told sh hand x y there same = there ∙ ap (λ d. Some (part.Desk d)) (sym same)
 
+-- a transaction whose map of writes is empty has none
 pub none_by : (own : OwnTransaction) (entries : PlaceMap ℕ) → entries ≡ own.writes → length entries ≡ 0 → own.writes ≡ []
 none_by own entries same none = sym same ∙ nil entries none
   where
@@ -301,9 +318,11 @@ none_by own entries same none = sym same ∙ nil entries none
     nil [] e = refl
     nil (x ∷ xs) e = absurd (omega (arith, e))
 
+-- and one whose map is not empty has some
 pub some_by : (own : OwnTransaction) (entries : PlaceMap ℕ) → entries ≡ own.writes → (length entries ≡ 0 → ⊥) → own.writes ≡ [] → ⊥
 some_by own entries same some none = some (ap length (same ∙ none))
 
+-- the next stamp and number, and no snapshot of the session's, are the desk numbered and closed
 pub numbered_by : (q : ℕ) (x y : DeskState) (s : Snapshot) → s ≡ record { stamp = x.newest + 1; number = x.commits + 1 }
     → y ≡ record { newest = s.stamp; commits = s.number; open_snapshots = slice_set x.open_snapshots (q - 1) None } → y ≡ closed q (numbered x)
 numbered_by q x y s taken made = made ∙ ap (λ (s : Snapshot). record x { newest = s.stamp; commits = s.number; open_snapshots = slice_set x.open_snapshots (q - 1) None }) taken

@@ -62,6 +62,7 @@ module _ (sh : Shape) (t : ℕ) (moves : List MovePair) (old now : Held) (pairs 
   none_again TheDesk (part.Body y) = refl
   none_again TheDesk (part.Desk y) = refl
 
+  -- a pair that fails to move leaves the hand of those before it, none of them taken back yet
   pub fails : (new : Held) → IsNearly sh t (block_of pair.source) now new → AreBack sh t moves old new pairs done
   fails new (inl same) = record {
     may = u.may;
@@ -103,21 +104,27 @@ module _ (sh : Shape) (t : ℕ) (moves : List MovePair) (old now : Held) (pairs 
   grown : take (k + 1) pairs ≡ take k pairs ++ pair ∷ []
   grown = let next : k + 1 ≡ suc k = omega arith in ap (λ n. take n pairs) next ∙ take_more pairs k pair at
 
+  -- each part that the hand had it still has
   pub back_still : (w : Name) → Has sh old w → Has sh now w
   back_still w has = has_still sh (back_to sh v.may.parts t (take (k + 1) pairs) v.again) old now w v.made has
 
+  -- the hand has a place for each part
   pub back_room : length now ≡ length (names sh)
   back_room = room_still sh (back_to sh v.may.parts t (take (k + 1) pairs) v.again) old now v.made (room sh (event.Move t moves) old v.may)
 
+  -- it has the body of the pair's source
   pub back_source : Has sh now (BodyOf t (block_of pair.source))
   back_source = back_still (BodyOf t (block_of pair.source)) (has_source sh t moves old v.may pair mine)
 
+  -- that of its target
   pub back_target : Has sh now (BodyOf t (block_of pair.target))
   back_target = back_still (BodyOf t (block_of pair.target)) (has_target sh t moves old v.may pair mine)
 
+  -- and the shard of its key
   pub back_shard : Has sh now (ShardOf t (shard_of pair.key))
   back_shard = back_still (ShardOf t (shard_of pair.key)) (has_its_shard sh t moves old v.may pair mine)
 
+  -- a pair's source is not its target
   pub back_apart : pair.source ≢ pair.target
   back_apart = own_apart pairs (far sh t moves old mid pairs k before) k pair at
 
@@ -151,12 +158,14 @@ module _ (sh : Shape) (t : ℕ) (moves : List MovePair) (old now : Held) (pairs 
   inside_target : slot_of pair.target < length (was (block_of pair.target) (body_at sh v.may.parts t (block_of pair.target))).slots
   inside_target = subst (λ n. slot_of pair.target < n) (sym (long (block_of pair.target) (places sh t moves old v.may pair mine).1.0)) (places sh t moves old v.may pair mine).1.1
 
+  -- the slot that the row left has an entry, which can be taken back
   pub back_out_entry : has_none (slot_in (body_in sh now t (block_of pair.source)) (slot_of pair.source)).entries ≡ false
   back_out_entry =
       ap (λ (x : Body). has_none (slot_in x (slot_of pair.source)).entries) (body_is_now (block_of pair.source) (has_source sh t moves old v.may pair mine) (source_is sh t moves old v.may pair mine))
       ∙ ap (λ (x : Slot). has_none x.entries) (cooled_slot (v.again (block_of pair.source)) (both_moved (block_of pair.source) ((desk_at sh v.may.parts).newest + 1) (moved_row sh v.may.parts t pair) pair.source pair.target (was (block_of pair.source) (body_at sh v.may.parts t (block_of pair.source)))) (slot_of pair.source))
       ∙ out_filled (block_of pair.source) ((desk_at sh v.may.parts).newest + 1) (moved_row sh v.may.parts t pair) pair.source pair.target (was (block_of pair.source) (body_at sh v.may.parts t (block_of pair.source))) refl inside_source back_apart
 
+  -- and so has the slot that it came to
   pub back_in_entry : has_none (slot_in (body_in sh now t (block_of pair.target)) (slot_of pair.target)).entries ≡ false
   back_in_entry =
       ap (λ (x : Body). has_none (slot_in x (slot_of pair.target)).entries) (body_is_now (block_of pair.target) (has_target sh t moves old v.may pair mine) (target_is sh t moves old v.may pair mine))
@@ -262,6 +271,7 @@ module _ (sh : Shape) (t : ℕ) (moves : List MovePair) (old now : Held) (pairs 
       go (inl a) = inner (or_cases (v.again b) (b == block_of pair.source) a)
       go (inr a) = subst (λ b. may_move sh v.may.parts t b ≡ true) (sym (num b (block_of pair.target) a)) (one sh t moves old mid pairs k before pair at).1
 
+  -- One pair more is taken back.
   pub goes_back : (new : Held) → new ≡ after sh (pair_undone t pair) now → AreBack sh t moves old new pairs k
   goes_back new is = record {
     may = v.may;
@@ -298,6 +308,7 @@ module _ (sh : Shape) (t : ℕ) (moves : List MovePair) (old now : Held) (pairs 
   part_same = rests_at (λ n x. part_at sh v.may.parts n ≡ Some x) (back_to sh v.may.parts t [] v.again)
       (record { head = λ w x is. refl; shard = λ w i x is. same_either (w == t) x; body = body_same; desk = λ x is. refl })
 
+  -- After all pairs are taken back the hand is as it was.
   pub all_back : now ≡ old
   all_back = v.made ∙ first_same (back_to sh v.may.parts t [] v.again) (names sh) old (λ j n x there held. part_same n x (part_there sh t moves old v.may j n x there held))
 
@@ -313,6 +324,7 @@ module _ (sh : Shape) (t : ℕ) (moves : List MovePair) (old mid : Held) (pairs 
   made_all (first ∷ rest) not_none = after_twice sh (moved_to sh u.may.parts t (first ∷ rest)) (desk_change ticked) (after_move sh u.may.parts t (first ∷ rest)) old
       (record { head = λ w x. refl; shard = λ w i x. refl; body = λ w b x. refl; desk = λ x. refl })
 
+  -- After all pairs moved, at least one, and with a tick of the desk, the move is made.
   pub ends : (taken new : Held) (x y : DeskState) → in_hand sh mid TheDesk ≡ Some (part.Desk x) → taken ≡ laid sh TheDesk None mid → y ≡ ticked x
       → new ≡ laid sh TheDesk (Some (part.Desk y)) taken → Makes sh (event.Move t moves) old new (reply.Moved (length pairs))
   ends taken new x y is out made back = from_one sh (event.Move t moves) old new (reply.Moved (length pairs)) u.may

@@ -18,6 +18,7 @@ use Rattle.frame_laws.proofs.Looks.{true_false}
 
 -- ---- lists
 
+-- the first elements of a list with one more of them
 pub take_more : {X : Type 0} (xs : List X) (k : ℕ) (x : X) → slice_get xs k ≡ Some x → take (suc k) xs ≡ take k xs ++ x ∷ []
 take_more [] k x is = cc
 take_more (y ∷ xs) zero x is = ap (λ z. z ∷ []) (one y x is)
@@ -26,6 +27,7 @@ take_more (y ∷ xs) zero x is = ap (λ z. z ∷ []) (one y x is)
     one y x e = cc
 take_more (y ∷ xs) (suc k) x is = ap (λ zs. y ∷ zs) (take_more xs k x is)
 
+-- a fold over one more element, at the end
 pub fold_more : {X Y : Type 0} (step : X → Y → X) (x : X) (ys : List Y) (y : Y) → fold step x (ys ++ y ∷ []) ≡ step (fold step x ys) y
 fold_more step x [] y = refl
 fold_more step x (z ∷ ys) y = fold_more step (step x z) ys y
@@ -40,13 +42,6 @@ set_same : (xs : List Slot) (j : ℕ) (a : Slot) → j < length xs → get_or xs
 set_same [] j a less is = absurd (omega (arith, less))
 set_same (x ∷ xs) zero a less is = ap (λ y. y ∷ xs) (sym is)
 set_same (x ∷ xs) (suc j) a less is = ap (λ ys. x ∷ ys) (set_same xs j a (omega (arith, less)) is)
-
-set_swap : (xs : List Slot) (i j : ℕ) (a b : Slot) → i ≢ j → slice_set (slice_set xs i a) j b ≡ slice_set (slice_set xs j b) i a
-set_swap [] i j a b ne = refl
-set_swap (x ∷ xs) zero zero a b ne = absurd (ne refl)
-set_swap (x ∷ xs) zero (suc j) a b ne = refl
-set_swap (x ∷ xs) (suc i) zero a b ne = refl
-set_swap (x ∷ xs) (suc i) (suc j) a b ne = ap (λ ys. x ∷ ys) (set_swap xs i j a b (λ e. ne (ap suc e)))
 
 -- ---- one slot moved and taken back
 
@@ -66,33 +61,32 @@ back_one j change body less back =
     ∙ ap (slice_set body.slots j) back
     ∙ set_same body.slots j (slot_in body j) less refl)
 
+-- a row that left its slot is taken back: the body is as it was, but cooled
 pub back_out : (j stamp : ℕ) (row : Row) (body : Body) → j < length body.slots → (slot_in body j).row ≡ Some row → taken_back_in j (with_slot j (moved_out stamp row) body) ≡ cooled body
 back_out j stamp row body less is = back_one j (moved_out stamp row) body less (out_back stamp row (slot_in body j) is)
 
+-- so is one that came to a slot without a row
 pub back_in : (j stamp : ℕ) (row : Row) (body : Body) → j < length body.slots → (slot_in body j).row ≡ None → taken_back_in j (with_slot j (moved_in stamp row) body) ≡ cooled body
 back_in j stamp row body less is = back_one j (moved_in stamp row) body less (in_back stamp row (slot_in body j) is)
 
--- a taking back makes nothing of cooling and rounds
-pub back_cooled : (j : ℕ) (body : Body) → taken_back_in j (cooled body) ≡ taken_back_in j body
-back_cooled j body = refl
-
-pub cooled_twice : (body : Body) → cooled (cooled body) ≡ cooled body
-cooled_twice body = refl
-
 -- ---- a change of one slot, where it is in the block
 
+-- a change of one slot, made or not, leaves another slot
 pub if_here : (c : Bool) (j i : ℕ) (g : Slot → Slot) (body : Body) → (c ≡ true → i ≢ j) → slot_in (cond c (with_slot j g body) body) i ≡ slot_in body i
 if_here true j i g body ne = with_slot_else j i g body (ne refl)
 if_here false j i g body ne = refl
 
+-- and the number of slots
 pub if_long : (c : Bool) (j : ℕ) (g : Slot → Slot) (body : Body) → length (cond c (with_slot j g body) body).slots ≡ length body.slots
 if_long true j g body = length-set body.slots j (g (slot_in body j))
 if_long false j g body = refl
 
+-- and the phase
 pub if_phase : (c : Bool) (j : ℕ) (g : Slot → Slot) (body : Body) → (cond c (with_slot j g body) body).phase ≡ body.phase
 if_phase true j g body = refl
 if_phase false j g body = refl
 
+-- and the columns
 pub if_columns : (c : Bool) (j : ℕ) (g : Slot → Slot) (body : Body) → (cond c (with_slot j g body) body).columns ≡ body.columns
 if_columns true j g body = refl
 if_columns false j g body = refl
@@ -107,6 +101,7 @@ module _ (sh : Shape) (s : Parts) (t stamp b : ℕ) where
   other_slot : (p q : ℕ) → q ≢ p → block_of p ≡ b → (block_of q == b) ≡ true → slot_of p ≢ slot_of q
   other_slot p q ne here there same = ne (same_place q p (num (block_of q) b there ∙ sym here) (sym same))
 
+  -- a pair leaves a slot that is neither its source nor its target
   pub step_slot : (pair : MovePair) (p : ℕ) (body : Body) → block_of p ≡ b → pair.source ≢ p → pair.target ≢ p → slot_in (half_moved sh s t stamp b body pair) (slot_of p) ≡ slot_in body (slot_of p)
   step_slot pair p body here not_source not_target =
       if_here (block_of pair.target == b) (slot_of pair.target) (slot_of p) (moved_in stamp (moved_row sh s t pair))
@@ -114,24 +109,28 @@ module _ (sh : Shape) (s : Parts) (t stamp b : ℕ) where
       (other_slot p pair.target not_target here)
       ∙ if_here (block_of pair.source == b) (slot_of pair.source) (slot_of p) (moved_out stamp (moved_row sh s t pair)) body (other_slot p pair.source not_source here)
 
+  -- a pair leaves the number of slots
   pub step_long : (pair : MovePair) (body : Body) → length (half_moved sh s t stamp b body pair).slots ≡ length body.slots
   step_long pair body =
       if_long (block_of pair.target == b) (slot_of pair.target) (moved_in stamp (moved_row sh s t pair))
       (cond (block_of pair.source == b) (with_slot (slot_of pair.source) (moved_out stamp (moved_row sh s t pair)) body) body)
       ∙ if_long (block_of pair.source == b) (slot_of pair.source) (moved_out stamp (moved_row sh s t pair)) body
 
+  -- and the phase
   pub step_phase : (pair : MovePair) (body : Body) → (half_moved sh s t stamp b body pair).phase ≡ body.phase
   step_phase pair body =
       if_phase (block_of pair.target == b) (slot_of pair.target) (moved_in stamp (moved_row sh s t pair))
       (cond (block_of pair.source == b) (with_slot (slot_of pair.source) (moved_out stamp (moved_row sh s t pair)) body) body)
       ∙ if_phase (block_of pair.source == b) (slot_of pair.source) (moved_out stamp (moved_row sh s t pair)) body
 
+  -- and the columns
   pub step_columns : (pair : MovePair) (body : Body) → (half_moved sh s t stamp b body pair).columns ≡ body.columns
   step_columns pair body =
       if_columns (block_of pair.target == b) (slot_of pair.target) (moved_in stamp (moved_row sh s t pair))
       (cond (block_of pair.source == b) (with_slot (slot_of pair.source) (moved_out stamp (moved_row sh s t pair)) body) body)
       ∙ if_columns (block_of pair.source == b) (slot_of pair.source) (moved_out stamp (moved_row sh s t pair)) body
 
+  -- pairs leave a slot that is neither source nor target of one of them
   pub all_slot : (pairs : List MovePair) (p : ℕ) (body : Body) → block_of p ≡ b → ((pair : MovePair) → Among pair pairs → (pair.source ≢ p) × (pair.target ≢ p))
       → slot_in (fold (half_moved sh s t stamp b) body pairs) (slot_of p) ≡ slot_in body (slot_of p)
   all_slot [] p body here far = refl
@@ -139,14 +138,17 @@ module _ (sh : Shape) (s : Parts) (t stamp b : ℕ) where
       all_slot pairs p (half_moved sh s t stamp b body pair) here (λ other a. far other (inr a))
       ∙ step_slot pair p body here (far pair (inl refl)).0 (far pair (inl refl)).1
 
+  -- pairs leave the number of slots
   pub all_long : (pairs : List MovePair) (body : Body) → length (fold (half_moved sh s t stamp b) body pairs).slots ≡ length body.slots
   all_long [] body = refl
   all_long (pair ∷ pairs) body = all_long pairs (half_moved sh s t stamp b body pair) ∙ step_long pair body
 
+  -- and the phase
   pub all_phase : (pairs : List MovePair) (body : Body) → (fold (half_moved sh s t stamp b) body pairs).phase ≡ body.phase
   all_phase [] body = refl
   all_phase (pair ∷ pairs) body = all_phase pairs (half_moved sh s t stamp b body pair) ∙ step_phase pair body
 
+  -- and the columns
   pub all_columns : (pairs : List MovePair) (body : Body) → (fold (half_moved sh s t stamp b) body pairs).columns ≡ body.columns
   all_columns [] body = refl
   all_columns (pair ∷ pairs) body = all_columns pairs (half_moved sh s t stamp b body pair) ∙ step_columns pair body
@@ -180,6 +182,7 @@ half_is sh s t stamp b body pair =
     ∙ ap (λ c. cond c (with_slot (slot_of pair.target) (moved_in stamp (moved_row sh s t pair)) (cond (b == block_of pair.source) (with_slot (slot_of pair.source) (moved_out stamp (moved_row sh s t pair)) body) body))
     (cond (b == block_of pair.source) (with_slot (slot_of pair.source) (moved_out stamp (moved_row sh s t pair)) body) body)) (num_flip (block_of pair.target) b)
 
+-- A pair's halves in a body, taken back, leave it as it was before them, or cooled.
 pub pair_back : (b stamp : ℕ) (row : Row) (source target : ℕ) (again : Bool) (body : Body) → source ≢ target
     → (block_of source ≡ b → (slot_of source < length body.slots) × ((slot_in body (slot_of source)).row ≡ Some row))
     → (block_of target ≡ b → (slot_of target < length body.slots) × ((slot_in body (slot_of target)).row ≡ None))
@@ -247,6 +250,7 @@ pair_back b stamp row source target again body ne from to = go (b == block_of so
 
 -- ---- entries of a pair's slots
 
+-- behind both halves the slot that the row left has an entry
 pub out_filled : (b stamp : ℕ) (row : Row) (source target : ℕ) (body : Body) → block_of source ≡ b → slot_of source < length body.slots → source ≢ target
     → has_none (slot_in (both_moved b stamp row source target body) (slot_of source)).entries ≡ false
 out_filled b stamp row source target body here less ne =
@@ -256,6 +260,7 @@ out_filled b stamp row source target body here less ne =
     ∙ ap (λ c. slot_in (cond c (with_slot (slot_of source) (moved_out stamp row) body) body) (slot_of source)) (ap (λ y. b == y) here ∙ num_refl b)
     ∙ with_slot_here (slot_of source) (moved_out stamp row) body less)
 
+-- and so has the slot that it came to
 pub in_filled : (b stamp : ℕ) (row : Row) (source target : ℕ) (body : Body) → block_of target ≡ b → slot_of target < length body.slots
     → has_none (slot_in (both_moved b stamp row source target body) (slot_of target)).entries ≡ false
 in_filled b stamp row source target body here less =
@@ -265,6 +270,7 @@ in_filled b stamp row source target body here less =
     ∙ with_slot_here (slot_of target) (moved_in stamp row) (cond (b == block_of source) (with_slot (slot_of source) (moved_out stamp row) body) body)
     (subst (λ n. slot_of target < n) (sym (if_long (b == block_of source) (slot_of source) (moved_out stamp row) body)) less))
 
+-- a body that is cooled or not has the same slots
 pub cooled_slot : (c : Bool) (body : Body) (j : ℕ) → slot_in (cond c (cooled body) body) j ≡ slot_in body j
 cooled_slot true body j = refl
 cooled_slot false body j = refl

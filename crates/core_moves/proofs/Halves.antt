@@ -28,14 +28,17 @@ use Rattle.part_changes.specs.Shards.{without_place}
 
 -- ---- answers
 
+-- what follows where a result is one that went well
 pub if_ok : {T E : Type 0} (r : Result T E) (P Q : T → Type 0) → ((x : T) → P x → Q x) → IfOk r P → IfOk r Q
 if_ok (Ok x) P Q f p = f x p
 if_ok (Err e) P Q f p = tt
 
+-- what follows of a fact that holds if it went well
 pub on_ok : {T E : Type 0} (r : Result T E) (P Q : Type 0) → (P → Q) → OnOk r P → OnOk r Q
 on_ok (Ok x) P Q f p = f p
 on_ok (Err e) P Q f p = tt
 
+-- what follows of a fact that holds if it failed
 pub on_err : {T E : Type 0} (r : Result T E) (P Q : Type 0) → (P → Q) → OnErr r P → OnErr r Q
 on_err (Ok x) P Q f p = tt
 on_err (Err e) P Q f p = f p
@@ -58,11 +61,13 @@ slot_back sh t b block j slot g hand taken new x z y here there is out lent made
     ∙ ap (λ b. after sh (body_changed t b (g j)) hand) here
     ∙ ap (λ j. after sh (body_changed t block (g j)) hand) there
 
+-- a body that is taken, stays as it is and is laid back leaves the hand as it was
 pub body_as_was : (sh : Shape) (t b : ℕ) (hand taken new : Held) (x z y : Body)
     → in_hand sh hand (BodyOf t b) ≡ Some (part.Body x) → taken ≡ laid sh (BodyOf t b) None hand → z ≡ x → y ≡ z
     → new ≡ laid sh (BodyOf t b) (Some (part.Body y)) taken → new ≡ hand
 body_as_was sh t b hand taken new x z y is out lent same back = put_back sh hand taken new (BodyOf t b) (part.Body x) is out (back ∙ ap (λ y. laid sh (BodyOf t b) (Some (part.Body y)) taken) (same ∙ lent))
 
+-- and so does a shard
 pub shard_as_was : (sh : Shape) (t i : ℕ) (hand taken new : Held) (x z y : Places)
     → in_hand sh hand (ShardOf t i) ≡ Some (part.Shard x) → taken ≡ laid sh (ShardOf t i) None hand → z ≡ x → y ≡ z
     → new ≡ laid sh (ShardOf t i) (Some (part.Shard y)) taken → new ≡ hand
@@ -70,9 +75,11 @@ shard_as_was sh t i hand taken new x z y is out lent same back = put_back sh han
 
 -- ---- pieces
 
+-- what stands in a hand at a name's place is what the hand has of that name
 pub piece_in : (sh : Shape) (hand : Held) (k : ℕ) (n : Name) (x : CorePart) → slice_get (names sh) k ≡ Some n → slice_get hand k ≡ Some (Some x) → in_hand sh hand n ≡ Some x
 piece_in sh hand k n x is at = held_at (names sh) hand n k (Some x) (named_once sh) is at
 
+-- where two tests hold, each does
 pub both : (a b : Bool) → (a && b) ≡ true → (a ≡ true) × (b ≡ true)
 both true b e = (refl, e)
 both false b e = cc
@@ -124,21 +131,27 @@ module _ (sh : Shape) (h0 : Held) (t : ℕ) (pair : MovePair) (r : IsReadyIn sh 
       ≡ cond ((t == t) && (block_of pair.target == block_of pair.source)) (with_slot (slot_of pair.source) (moved_out stamp row) (body_in sh h0 t (block_of pair.target))) (body_in sh h0 t (block_of pair.target))
   here = ap (λ h. body_in sh h t (block_of pair.target)) out ∙ body_in_after sh (left t pair.source row stamp) h0 t (block_of pair.target) r.target
 
+  -- after the row left, the hand has the body of the target
   pub in_has : Has sh h1 (BodyOf t (block_of pair.target))
   in_has = has_still sh (left t pair.source row stamp) h0 h1 (BodyOf t (block_of pair.target)) out r.target
 
+  -- and that of the source
   pub out_has : Has sh h1 (BodyOf t (block_of pair.source))
   out_has = has_still sh (left t pair.source row stamp) h0 h1 (BodyOf t (block_of pair.source)) out r.source
 
+  -- and a place for each part
   pub in_room : length h1 ≡ length (names sh)
   in_room = room_still sh (left t pair.source row stamp) h0 h1 out r.room
 
+  -- the body of the target is loose as before
   pub in_loose : is_loose (body_in sh h1 t (block_of pair.target)).phase ≡ true
   in_loose = ap (λ (x : Body). is_loose x.phase) here ∙ ap is_loose (if_phase c (slot_of pair.source) (moved_out stamp row) was) ∙ r.open'
 
+  -- it has the target's slot
   pub in_slot : slot_of pair.target < length (body_in sh h1 t (block_of pair.target)).slots
   in_slot = subst (λ n. slot_of pair.target < n) (sym (ap (λ (x : Body). length x.slots) here ∙ if_long c (slot_of pair.source) (moved_out stamp row) was)) r.slot
 
+  -- which is still bare
   pub in_bare : is_bare (slot_in (body_in sh h1 t (block_of pair.target)) (slot_of pair.target)) ≡ true
   in_bare =
       ap (λ (x : Body). is_bare (slot_in x (slot_of pair.target))) here
@@ -146,9 +159,11 @@ module _ (sh : Shape) (h0 : Held) (t : ℕ) (pair : MovePair) (r : IsReadyIn sh 
       (λ e same. r.apart (same_place pair.source pair.target (sym (num (block_of pair.target) (block_of pair.source) (both (t == t) (block_of pair.target == block_of pair.source) e).1)) (sym same))))
       ∙ r.bare'
 
+  -- and its columns take the row
   pub in_fits : Fits (body_in sh h1 t (block_of pair.target)).columns row
   in_fits = subst (λ columns. Fits columns row) (sym (ap (λ (x : Body). x.columns) here ∙ if_columns c (slot_of pair.source) (moved_out stamp row) was)) (r.fits row is)
 
+  -- the slot that the row left has an entry
   pub out_entry : has_none (slot_in (body_in sh h1 t (block_of pair.source)) (slot_of pair.source)).entries ≡ false
   out_entry =
       ap (λ (x : Body). has_none (slot_in x (slot_of pair.source)).entries)
@@ -158,6 +173,7 @@ module _ (sh : Shape) (h0 : Held) (t : ℕ) (pair : MovePair) (r : IsReadyIn sh 
   row_is : row_in sh h0 t pair ≡ row
   row_is = ap (λ o. unwrap_or o []) is
 
+  -- a row that left and then comes to its target has moved
   pub row_ends : (h2 : Held) → h2 ≡ after sh (come t pair.target row stamp) h1 → h2 ≡ after sh (rows_moved t stamp pair (row_in sh h0 t pair)) h0
   row_ends h2 came =
       came ∙ ap (after sh (come t pair.target row stamp)) out
@@ -165,6 +181,7 @@ module _ (sh : Shape) (h0 : Held) (t : ℕ) (pair : MovePair) (r : IsReadyIn sh 
       (record { head = λ u x. refl; shard = λ u i x. refl; body = λ u b x. refl; desk = λ x. refl })
       ∙ ap (λ row. after sh (rows_moved t stamp pair row) h0) (sym row_is)
 
+  -- a row that left and is taken back leaves its block cooled
   pub row_back : (h3 : Held) → h3 ≡ after sh (body_changed t (block_of pair.source) (taken_back_in (slot_of pair.source))) h1 → h3 ≡ after sh (body_changed t (block_of pair.source) cooled) h0
   row_back h3 back =
       back ∙ ap (after sh (body_changed t (block_of pair.source) (taken_back_in (slot_of pair.source)))) out
@@ -186,6 +203,7 @@ module _ (sh : Shape) (h0 h1 : Held) (t : ℕ) (pair : MovePair) (r : IsReadyIn 
   same_target : body_in sh h1 t (block_of pair.target) ≡ body_in sh h0 t (block_of pair.target)
   same_target = body_in_else sh h0 h1 t (block_of pair.target) t (shard_of pair.key) (with_place pair.key pair.target) r.target added
 
+  -- a new candidate leaves a pair ready to move
   pub ready_still : IsReadyIn sh h1 t pair
   ready_still = record {
     source = has_still sh add h0 h1 (BodyOf t (block_of pair.source)) added r.source;
@@ -202,6 +220,7 @@ module _ (sh : Shape) (h0 h1 : Held) (t : ℕ) (pair : MovePair) (r : IsReadyIn 
     apart = r.apart;
   }
 
+  -- a candidate for the target, and then the row's move, are the pair's move
   pub pair_ends : (h2 : Held) (stamp : ℕ) → h2 ≡ after sh (rows_moved t stamp pair (row_in sh h1 t pair)) h1 → h2 ≡ after sh (pair_moved t stamp pair (row_in sh h0 t pair)) h0
   pair_ends h2 stamp is =
       is
@@ -217,6 +236,7 @@ module _ (sh : Shape) (h0 h1 : Held) (t : ℕ) (pair : MovePair) (r : IsReadyIn 
         added_is_dropped (shard_of pair.key) x pair.key pair.target (subst (ShardHolds (shard_of pair.key)) same holds) refl
         (subst (λ (x : Places). list_any (λ other. other == pair.target) (candidates_of x pair.key) ≡ false) same new)
 
+    -- where the row fails to move and the candidate is taken out, the hand is nearly as before
     pub pair_fails : (h2 h3 : Held) → IsNearly sh t (block_of pair.source) h1 h2 → h3 ≡ after sh (shard_changed t (shard_of pair.key) (without_place pair.key pair.target)) h2
         → IsNearly sh t (block_of pair.source) h0 h3
     pair_fails h2 h3 (inl same) drop = inl (drop ∙ ap (after sh (shard_changed t (shard_of pair.key) (without_place pair.key pair.target))) (same ∙ added)
@@ -233,6 +253,7 @@ module _ (sh : Shape) (h0 h1 : Held) (t : ℕ) (pair : MovePair) (r : IsReadyIn 
 
 module _ (sh : Shape) (h0 h1 : Held) (t : ℕ) (pair : MovePair) (source : Has sh h0 (BodyOf t (block_of pair.source))) (apart : pair.source ≢ pair.target)
     (one : h1 ≡ after sh (body_changed t (block_of pair.target) (taken_back_in (slot_of pair.target))) h0) where
+  -- the source's entry is still there after the target was taken back
   pub entry_still : has_none (slot_in (body_in sh h0 t (block_of pair.source)) (slot_of pair.source)).entries ≡ false → has_none (slot_in (body_in sh h1 t (block_of pair.source)) (slot_of pair.source)).entries ≡ false
   entry_still some =
       ap (λ (x : Body). has_none (slot_in x (slot_of pair.source)).entries)
@@ -249,6 +270,7 @@ module _ (sh : Shape) (h0 h1 : Held) (t : ℕ) (pair : MovePair) (source : Has s
           (λ same. apart (same_place pair.source pair.target (num (block_of pair.source) (block_of pair.target) (both (t == t) (block_of pair.source == block_of pair.target) e).1) same)))
       go false e = ap (λ c. has_none (slot_in (cond c (taken_back_in (slot_of pair.target) (body_in sh h0 t (block_of pair.source))) (body_in sh h0 t (block_of pair.source))) (slot_of pair.source)).entries) e
 
+  -- what takes back target, source and candidate, one after another, takes back the pair
   pub undone_by : (h2 h3 : Held) → h2 ≡ after sh (body_changed t (block_of pair.source) (taken_back_in (slot_of pair.source))) h1
       → h3 ≡ after sh (shard_changed t (shard_of pair.key) (without_place pair.key pair.target)) h2 → h3 ≡ after sh (pair_undone t pair) h0
   undone_by h2 h3 two three =
@@ -264,10 +286,12 @@ module _ (sh : Shape) (h0 h1 : Held) (t : ℕ) (pair : MovePair) (source : Has s
 
 -- ---- nearly the same hand
 
+-- a hand that is nearly as before has the parts that it had
 pub nearly_has : (sh : Shape) (t b : ℕ) (old new : Held) → IsNearly sh t b old new → (w : Name) → Has sh old w → Has sh new w
 nearly_has sh t b old new (inl e) w has = subst (λ h. Has sh h w) (sym e) has
 nearly_has sh t b old new (inr e) w has = has_still sh (body_changed t b cooled) old new w e has
 
+-- and a place for each part
 pub nearly_room : (sh : Shape) (t b : ℕ) (old new : Held) → IsNearly sh t b old new → length old ≡ length (names sh) → length new ≡ length (names sh)
 nearly_room sh t b old new (inl e) room = ap length e ∙ room
 nearly_room sh t b old new (inr e) room = room_still sh (body_changed t b cooled) old new e room

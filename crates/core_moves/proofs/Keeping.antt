@@ -47,6 +47,7 @@ drop_next [] (suc at) = refl
 drop_next (x ∷ xs) zero = refl
 drop_next (x ∷ xs) (suc at) = drop_next xs at
 
+-- what was not looked at yet stands as it was
 pub same_at : {X : Type 0} (p : X → Bool) (all now : List X) (at kept : ℕ) (d : X) → Keeping p all now at kept → get_or now at d ≡ get_or all at d
 same_at p all now at kept d k = got_drop now at d ∙ ap (λ xs. get_or xs 0 d) k.back ∙ sym (got_drop all at d)
 
@@ -55,6 +56,7 @@ next_back all now at same =
     let next : at + 1 ≡ suc at = omega arith in
     ap (λ n. drop n now) next ∙ drop_next now at ∙ ap (drop 1) same ∙ sym (drop_next all at) ∙ sym (ap (λ n. drop n all) next)
 
+-- an element that passes is put behind those in front
 pub keeps : {X : Type 0} (p : X → Bool) (all now : List X) (at kept : ℕ) (x : X) → Keeping p all now at kept → at < length now → x ≡ get_or now at x → p x ≡ true
     → Keeping p all (set now kept x) (at + 1) (kept + 1)
 keeps p all now at kept x k less is passes =
@@ -67,6 +69,7 @@ keeps p all now at kept x k less is passes =
       back = drop-set-lt (at + 1) now kept x (omega (arith, few)) ∙ next_back all now at k.back;
     }
 
+-- one that fails is passed over
 pub skips : {X : Type 0} (p : X → Bool) (all now : List X) (at kept : ℕ) (x : X) → Keeping p all now at kept → at < length now → x ≡ get_or now at x → p x ≡ false
     → Keeping p all now (at + 1) kept
 skips p all now at kept x k less is fails =
@@ -82,19 +85,23 @@ skips p all now at kept x k less is fails =
     nil [] = refl
     nil (x ∷ xs) = ap (λ ys. x ∷ ys) (nil xs)
 
+-- one that passes, with the list and the count that a step leaves
 pub kept_as : {X : Type 0} (p : X → Bool) (all next now : List X) (at kept count : ℕ) (x : X) → Keeping p all now at kept → at < length now → x ≡ get_or now at x → p x ≡ true
     → next ≡ set now kept x → count ≡ kept + 1 → Keeping p all next (at + 1) count
 kept_as p all next now at kept count x k less is passes made more =
     subst (λ n. Keeping p all next (at + 1) n) (sym more) (subst (λ xs. Keeping p all xs (at + 1) (kept + 1)) (sym made) (keeps p all now at kept x k less is passes))
 
+-- one that fails, with the list and the count that a step leaves
 pub skipped_as : {X : Type 0} (p : X → Bool) (all next now : List X) (at kept count : ℕ) (x : X) → Keeping p all now at kept → at < length now → x ≡ get_or now at x → p x ≡ false
     → next ≡ now → count ≡ kept → Keeping p all next (at + 1) count
 skipped_as p all next now at kept count x k less is fails same still =
     subst (λ n. Keeping p all next (at + 1) n) (sym still) (subst (λ xs. Keeping p all xs (at + 1) kept) (sym same) (skips p all now at kept x k less is fails))
 
+-- at first nothing was looked at
 pub starts : {X : Type 0} (p : X → Bool) (all : List X) → Keeping p all all 0 0
 starts p all = record { few = omega arith; long = refl; front = refl; back = refl }
 
+-- At the end those in front are the ones that pass.
 pub ends : {X : Type 0} (p : X → Bool) (all now : List X) (at kept : ℕ) → Keeping p all now at kept → length now ≤ at → take kept now ≡ filter p all
 ends p all now at kept k past = let long = k.long in k.front ∙ ap (filter p) (take_past all at (omega (arith, past, long)))
   where
@@ -104,11 +111,13 @@ ends p all now at kept k past = let long = k.long in k.front ∙ ap (filter p) (
     take_past (x ∷ xs) zero le = absurd (omega (arith, le))
     take_past (x ∷ xs) (suc n) le = ap (λ ys. x ∷ ys) (take_past xs n (omega (arith, le)))
 
+-- an element at a place is among the list
 pub among_at : {X : Type 0} (xs : List X) (at : ℕ) (d : X) → at < length xs → Among (get_or xs at d) xs
 among_at [] at d less = absurd (omega (arith, less))
 among_at (x ∷ xs) zero d less = inl refl
 among_at (x ∷ xs) (suc at) d less = inr (among_at xs at d (omega (arith, less)))
 
+-- the next pair to be looked at is one of all
 pub is_among : (p : MovePair → Bool) (all now : List MovePair) (at kept : ℕ) (pair : MovePair) → Keeping p all now at kept → at < length now → pair ≡ get_or now at pair → Among pair all
 is_among p all now at kept pair k less is =
     let long = k.long in
@@ -121,6 +130,7 @@ key_first : (columns : List Column) → begins_with_key columns ≡ true → 0 <
 key_first [] key = absurd (true_false (sym key))
 key_first (column ∷ columns) key = omega arith
 
+-- the rows of a pair's source have keys where the table's columns are a schema
 pub has_pair_keys : (sh : Shape) (t : ℕ) (moves : List MovePair) (old : Held) (m : MayRun sh (event.Move t moves) old) (pair : MovePair) → Among pair moves → IsSchema (columns_in sh t)
     → HasKeys (body_in sh old t (block_of pair.source))
 has_pair_keys sh t moves old m pair among schema = subst HasKeys (sym (source_is sh t moves old m pair among)) (record {

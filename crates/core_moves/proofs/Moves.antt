@@ -56,6 +56,7 @@ far_front (first ∷ rest) far zero pair one is a = absurd a
 far_front (first ∷ rest) far (suc k) pair one is (inl e) = subst (λ one. AreFar one pair) (sym e) (far.1 pair (got_among rest k pair is))
 far_front (first ∷ rest) far (suc k) pair one is (inr a) = far_front rest far.2 k pair one is a
 
+-- each pair of a move that keeps places apart has another target than its source
 pub own_apart : (pairs : List MovePair) → Apart pairs → (k : ℕ) (pair : MovePair) → slice_get pairs k ≡ Some pair → pair.source ≢ pair.target
 own_apart [] far k pair is = cc
 own_apart (first ∷ rest) far zero pair is = let e : first ≡ pair = cc in subst (λ (p : MovePair). p.source ≢ p.target) e far.0
@@ -63,6 +64,7 @@ own_apart (first ∷ rest) far (suc k) pair is = own_apart rest far.2 k pair is
 
 -- ---- candidates after some pairs
 
+-- a candidate after some pairs was one before, or is the target of a pair
 pub candidate_from : (sh : Shape) (s : Parts) (i : ℕ) (pairs : List MovePair) (x : Places) (k : ℤ) (r : ℕ) → Among r (candidates_of (fold (places_moved sh s i) x pairs) k)
     → Among r (candidates_of x k) ⊎ ((one : MovePair) × Among one pairs × (r ≡ one.target))
 candidate_from sh s i [] x k r a = inl a
@@ -80,14 +82,17 @@ candidate_from sh s i (pair ∷ pairs) x k r a = go (candidate_from sh s i pairs
     go (inl c) = one_step (shard_of pair.key == i) c
     go (inr c) = inr (c.0, inr c.1, c.2)
 
+-- a slot with the key has a row
 pub has_row_of : (key : ℤ) (row : Option Row) → has_key key row ≡ true → is_some row ≡ true
 has_row_of key None e = absurd (true_false (sym e))
 has_row_of key (Some row) e = refl
 
+-- a row that is there is the one that is taken for it
 pub the_row : (o : Option Row) → is_some o ≡ true → o ≡ Some (unwrap_or o [])
 the_row None e = absurd (true_false (sym e))
 the_row (Some row) e = refl
 
+-- a bare slot has no row
 pub bare_row : (slot : Slot) → is_bare slot ≡ true → slot.row ≡ None
 bare_row slot is = go slot.row (has_none slot.entries) is
   where
@@ -104,26 +109,33 @@ module _ (sh : Shape) (t : ℕ) (moves : List MovePair) (old : Held) (m : MayRun
   abbrev f : FollowsMachine sh m.parts m.holds.sound.follows.0
   f = follows_machine sh m.parts m.holds.sound
 
+  -- a part that lies in the hand at a name's place is the state's
   pub part_there : (k : ℕ) (n : Name) (x : CorePart) → slice_get (names sh) k ≡ Some n → slice_get old k ≡ Some (Some x) → part_at sh m.parts n ≡ Some x
   part_there k n x is at = part_is sh m.parts k n x is (m.agrees.1 k x at)
 
+  -- the hand of a move has the table's head
   pub has_the_head : Has sh old (HeadOf t)
   has_the_head = has_head sh (event.Move t moves) old m t m.lawful.1.0
       (or_left (((t == t) || false) || is_body_moved t moves (HeadOf t)) false (or_left ((t == t) || false) (is_body_moved t moves (HeadOf t)) (or_left (t == t) false (num_refl t))))
 
+  -- and the desk
   pub has_the_desk : Has sh old TheDesk
   has_the_desk = has_desk sh (event.Move t moves) old m (or_right (is_body_moved t moves TheDesk) true refl)
 
   module _ (pair : MovePair) (among : Among pair moves) where
+    -- a pair's source and target are places of the table
     pub places : HasPlace sh t pair.source × HasPlace sh t pair.target
     places = all_at (λ (pair : MovePair). HasPlace sh t pair.source × HasPlace sh t pair.target) moves pair m.lawful.1.1 among
 
+    -- the hand has the body of a pair's source
     pub has_source : Has sh old (BodyOf t (block_of pair.source))
     has_source = has_body sh (event.Move t moves) old m t (block_of pair.source) places.0.0 (pair_touched sh old m.parts m.parts m.agrees m.agrees t moves pair pair.source among (inl refl))
 
+    -- that of its target
     pub has_target : Has sh old (BodyOf t (block_of pair.target))
     has_target = has_body sh (event.Move t moves) old m t (block_of pair.target) places.1.0 (pair_touched sh old m.parts m.parts m.agrees m.agrees t moves pair pair.target among (inr (inl refl)))
 
+    -- and the shard of its key
     pub has_its_shard : Has sh old (ShardOf t (shard_of pair.key))
     has_its_shard = has_shard sh (event.Move t moves) old m t (shard_of pair.key) m.lawful.1.0 (shard_small pair.key)
         (or_left (is_shard_moved t moves (ShardOf t (shard_of pair.key)) || is_body_moved t moves (ShardOf t (shard_of pair.key))) false
@@ -131,9 +143,11 @@ module _ (sh : Shape) (t : ℕ) (moves : List MovePair) (old : Held) (m : MayRun
         (and_true (t == t) (list_any (λ (other : MovePair). shard_of other.key == shard_of pair.key) moves) (num_refl t)
         (any_true (λ (other : MovePair). shard_of other.key == shard_of pair.key) moves pair among (num_refl (shard_of pair.key))))))
 
+    -- the source's body in the hand is the state's
     pub source_is : body_in sh old t (block_of pair.source) ≡ body_at sh m.parts t (block_of pair.source)
     source_is = let x = a_body sh old t (block_of pair.source) has_source in body_is_in sh old t (block_of pair.source) x.0 x.1 ∙ sym (body_is sh old m.parts m.agrees t (block_of pair.source) x.0 x.1)
 
+    -- and so is the target's
     pub target_is : body_in sh old t (block_of pair.target) ≡ body_at sh m.parts t (block_of pair.target)
     target_is = let x = a_body sh old t (block_of pair.target) has_target in body_is_in sh old t (block_of pair.target) x.0 x.1 ∙ sym (body_is sh old m.parts m.agrees t (block_of pair.target) x.0 x.1)
 
@@ -152,6 +166,7 @@ module _ (sh : Shape) (t : ℕ) (moves : List MovePair) (old : Held) (m : MayRun
       && (is_loose (body_at sh m.parts t (block_of pair.target)).phase && (body_at sh m.parts t (block_of pair.target)).cooling && not (block_of pair.target == h.block) && has_row (body_at sh m.parts t (block_of pair.target)))
       && has_key pair.key (slot_at sh m.parts t pair.source).row && has_none (slot_at sh m.parts t pair.source).entries && is_bare (slot_at sh m.parts t pair.target)) head_is_in
 
+  -- the pairs that hold by the hand are those that hold by the state
   pub all_judged : filter (holds_in sh old t) moves ≡ held_pairs sh m.parts t moves
   all_judged = filter_same (holds sh m.parts t) (holds_in sh old t) moves judged
 
@@ -159,6 +174,7 @@ module _ (sh : Shape) (t : ℕ) (moves : List MovePair) (old : Held) (m : MayRun
   none_moved n x = rests_at (λ n x. Unit {0}) (moved_to sh m.parts t [])
       (record { head = λ u x h. refl; shard = λ u i x h. same_either (u == t) x; body = λ u b x h. same_either (u == t) x; desk = λ x h. refl }) n x tt
 
+  -- At first none of the pairs that hold has moved.
   pub begins : (pairs : List MovePair) → pairs ≡ filter (holds_in sh old t) moves → AreMoved sh t moves old old pairs 0
   begins pairs is = record {
     may = m;
@@ -181,12 +197,15 @@ module _ (sh : Shape) (t : ℕ) (moves : List MovePair) (old now : Held) (pairs 
   abbrev stamp : ℕ
   stamp = (desk_at sh u.may.parts).newest + 1
 
+  -- the pairs that hold have their places apart
   pub far : Apart pairs
   far = subst Apart (sym u.hold) (apart_kept (holds sh u.may.parts t) moves (apart moves u.may.lawful.1.2))
 
+  -- each part that the hand had it still has after some pairs moved
   pub still : (w : Name) → Has sh old w → Has sh now w
   still w has = has_still sh (moved_to sh u.may.parts t (take done pairs)) old now w u.made has
 
+  -- and it has a place for each part
   pub room_now : length now ≡ length (names sh)
   room_now = room_still sh (moved_to sh u.may.parts t (take done pairs)) old now u.made (room sh (event.Move t moves) old u.may)
 
@@ -204,6 +223,7 @@ module _ (sh : Shape) (t : ℕ) (moves : List MovePair) (old now : Held) (pairs 
       desk_same o a b e f = cc
 
   module _ (pair : MovePair) (at : slice_get pairs done ≡ Some pair) where
+    -- the next pair is one of the move's, and holds
     pub listed : Among pair moves × (holds sh u.may.parts t pair ≡ true)
     listed = kept_among (holds sh u.may.parts t) moves pair (subst (Among pair) u.hold (got_among pairs done pair at))
 
@@ -212,13 +232,16 @@ module _ (sh : Shape) (t : ℕ) (moves : List MovePair) (old now : Held) (pairs 
         && has_none (slot_at sh u.may.parts t pair.source).entries) ≡ true) × (is_bare (slot_at sh u.may.parts t pair.target) ≡ true)
     four = both _ _ listed.1
 
+    -- what of a pair holds, without the target's slot
     pub three : (((may_move sh u.may.parts t (block_of pair.source) && may_move sh u.may.parts t (block_of pair.target)) && has_key pair.key (slot_at sh u.may.parts t pair.source).row) ≡ true)
         × (has_none (slot_at sh u.may.parts t pair.source).entries ≡ true)
     three = both _ _ four.0
 
+    -- of that what both blocks and the source's row say
     pub two : ((may_move sh u.may.parts t (block_of pair.source) && may_move sh u.may.parts t (block_of pair.target)) ≡ true) × (has_key pair.key (slot_at sh u.may.parts t pair.source).row ≡ true)
     two = both _ _ three.0
 
+    -- and of that what each block says
     pub one : (may_move sh u.may.parts t (block_of pair.source) ≡ true) × (may_move sh u.may.parts t (block_of pair.target) ≡ true)
     one = both _ _ two.0
 
@@ -228,6 +251,7 @@ module _ (sh : Shape) (t : ℕ) (moves : List MovePair) (old now : Held) (pairs 
     front : List MovePair
     front = take done pairs
 
+    -- the next pair's places are not those of a pair that has moved
     pub far_from : (other : MovePair) → Among other (take done pairs) → AreFar other pair
     far_from other a = far_front pairs far done pair other at a
 
@@ -274,6 +298,7 @@ module _ (sh : Shape) (t : ℕ) (moves : List MovePair) (old now : Held) (pairs 
         first row [] fit = fit
         first row (e ∷ es) fit = fit.0
 
+    -- The hand has what the next pair needs to move.
     pub ready : IsReadyIn sh now t pair
     ready = record {
       source = still (BodyOf t (block_of pair.source)) (has_source sh t moves old u.may pair listed.0);
@@ -312,13 +337,16 @@ module _ (sh : Shape) (t : ℕ) (moves : List MovePair) (old now : Held) (pairs 
         ∙ ap (λ (o : Option CorePart). option_map (changed (moved_to sh u.may.parts t (take done pairs)) (ShardOf t (shard_of pair.key))) o) shard_there.1)
         ∙ ap (λ c. cond c (fold (places_moved sh u.may.parts (shard_of pair.key)) shard_there.0 (take done pairs)) shard_there.0) (num_refl t)
 
+    -- it has the shard of the pair's key
     pub shard_has : Has sh now (ShardOf t (shard_of pair.key))
     shard_has = still (ShardOf t (shard_of pair.key)) (has_its_shard sh t moves old u.may pair listed.0)
 
+    -- which is in order
     pub shard_holds : ShardHolds (shard_of pair.key) (shard_in sh now t (shard_of pair.key))
     shard_holds = subst (ShardHolds (shard_of pair.key)) (sym shard_is_now)
         (moved_holds sh u.may.parts (shard_of pair.key) (take done pairs) shard_there.0 (u.may.holds.shards t (shard_of pair.key) shard_there.0 shard_part))
 
+    -- the pairs before made no candidate of the target for the key
     pub not_there : (x : Places) → part_at sh u.may.parts (ShardOf t (shard_of pair.key)) ≡ Some (part.Shard x) → list_any (λ other. other == pair.target) (candidates_of (fold (places_moved sh u.may.parts (shard_of pair.key)) x (take done pairs)) pair.key) ≡ false
     not_there x is = go (list_any (λ other. other == pair.target) (candidates_of (fold (places_moved sh u.may.parts (shard_of pair.key)) x (take done pairs)) pair.key)) refl
       where
@@ -332,6 +360,7 @@ module _ (sh : Shape) (t : ℕ) (moves : List MovePair) (old now : Held) (pairs 
         go true e = absurd (never (candidate_from sh u.may.parts (shard_of pair.key) (take done pairs) x pair.key pair.target (has_among pair.target (candidates_of (fold (places_moved sh u.may.parts (shard_of pair.key)) x (take done pairs)) pair.key) e)))
         go false e = e
 
+    -- so the target is none yet in the hand's shard
     pub shard_new : list_any (λ other. other == pair.target) (candidates_of (shard_in sh now t (shard_of pair.key)) pair.key) ≡ false
     shard_new = ap (λ (x : Places). list_any (λ other. other == pair.target) (candidates_of x pair.key)) shard_is_now ∙ not_there shard_there.0 shard_part
 
@@ -373,6 +402,7 @@ module _ (sh : Shape) (t : ℕ) (moves : List MovePair) (old now : Held) (pairs 
         go true = fold_more (half_moved sh u.may.parts t ((desk_at sh u.may.parts).newest + 1) b) x (take done pairs) pair ∙ flip
         go false = refl
 
+    -- One pair more has moved.
     pub goes_on : (new : Held) (stamped : ℕ) → stamped ≡ (desk_at sh u.may.parts).newest + 1 → new ≡ after sh (pair_moved t stamped pair (row_in sh now t pair)) now → AreMoved sh t moves old new pairs (done + 1)
     goes_on new stamped same is = record {
       may = u.may;

@@ -42,6 +42,7 @@ module _ (sh : Shape) where
   all_placed [] = refl
   all_placed (n ∷ ns) = ap (λ places. Some (opening_part sh n) ∷ places) (all_placed ns)
 
+  -- the heads, the shards, the bodies and the desk, added in turn, are the opening core's places
   pub opened : (heads shards bodies desk : Held)
       → heads ≡ [] ++ placed sh (map HeadOf (tables_of sh))
       → shards ≡ heads ++ placed sh (flat_map (λ table. map (ShardOf table) (below 8)) (tables_of sh))

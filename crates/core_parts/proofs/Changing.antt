@@ -20,6 +20,7 @@ use Rattle.txn_desk.specs.Desk.{DeskState}
 
 -- ---- changes that leave a hand as it is
 
+-- changes that leave each of the named parts leave the hand
 pub left_alone : (c : Changes) (ns : List Name) (hand : Held) → ((n : Name) (x : CorePart) → Among n ns → changed c n x ≡ x) → hand_changed c ns hand ≡ hand
 left_alone c [] hand same = refl
 left_alone c (n ∷ ns) [] same = refl
@@ -29,6 +30,7 @@ left_alone c (n ∷ ns) (o ∷ hand) same = ap (λ p. p ∷ hand_changed c ns ha
     place None = refl
     place (Some x) = ap Some (same n x (inl refl))
 
+-- no change leaves the hand
 pub after_nothing : (sh : Shape) (hand : Held) → after sh nothing hand ≡ hand
 after_nothing sh hand = left_alone nothing (names sh) hand (λ n x a. nothing_changes n x)
 
@@ -71,15 +73,19 @@ laid_back_changed sh c hand taken new w p q only is out back =
 
 -- ---- the changes of one part of each kind
 
+-- the change of a table's head alone
 abbrev pub head_change : ℕ → (Head → Head) → Changes
 head_change t g = record nothing { head = at_table t g }
 
+-- the change of one shard alone
 abbrev pub shard_change : ℕ → ℕ → (Places → Places) → Changes
 shard_change t i g = record nothing { shard = at_both t i g }
 
+-- the change of a block's body alone
 abbrev pub body_change : ℕ → ℕ → (Body → Body) → Changes
 body_change t b g = record nothing { body = at_both t b g }
 
+-- the change of the desk alone
 abbrev pub desk_change : (DeskState → DeskState) → Changes
 desk_change g = record nothing { desk = g }
 
@@ -87,6 +93,7 @@ skip : {X : Type 0} (b : Bool) (x y : X) → b ≡ false → cond b x y ≡ y
 skip true x y e = cc
 skip false x y e = refl
 
+-- a head's change leaves all other parts
 pub head_only : (t : ℕ) (g : Head → Head) (x : Head) → Only (head_change t g) (HeadOf t) (part.Head x) (part.Head (g x))
 head_only t g x = record { here = ap (λ b. part.Head (cond b (g x) x)) (num_refl t); others = others }
   where
@@ -102,6 +109,7 @@ head_only t g x = record { here = ap (λ b. part.Head (cond b (g x) x)) (num_ref
 both_refl : (a b : ℕ) → ((a == a) && (b == b)) ≡ true
 both_refl a b = ap (λ x. x && (b == b)) (num_refl a) ∙ num_refl b
 
+-- so does a shard's
 pub shard_only : (t i : ℕ) (g : Places → Places) (x : Places) → Only (shard_change t i g) (ShardOf t i) (part.Shard x) (part.Shard (g x))
 shard_only t i g x = record { here = ap (λ b. part.Shard (cond b (g x) x)) (both_refl t i); others = others }
   where
@@ -114,6 +122,7 @@ shard_only t i g x = record { here = ap (λ b. part.Shard (cond b (g x) x)) (bot
     others (BodyOf u b) y e = nothing_changes (BodyOf u b) y
     others TheDesk y e = nothing_changes TheDesk y
 
+-- and a body's
 pub body_only : (t b : ℕ) (g : Body → Body) (x : Body) → Only (body_change t b g) (BodyOf t b) (part.Body x) (part.Body (g x))
 body_only t b g x = record { here = ap (λ c. part.Body (cond c (g x) x)) (both_refl t b); others = others }
   where
@@ -126,6 +135,7 @@ body_only t b g x = record { here = ap (λ c. part.Body (cond c (g x) x)) (both_
     others (BodyOf u d) (part.Desk y) e = refl
     others TheDesk y e = nothing_changes TheDesk y
 
+-- and the desk's
 pub desk_only : (g : DeskState → DeskState) (x : DeskState) → Only (desk_change g) TheDesk (part.Desk x) (part.Desk (g x))
 desk_only g x = record { here = refl; others = others }
   where
@@ -137,6 +147,7 @@ desk_only g x = record { here = refl; others = others }
 
 -- ---- one change after another
 
+-- two changes that are a third, one after the other, are so of a hand
 pub after_twice : (sh : Shape) (c d e : Changes) (hand : Held) → IsTwice c d e → after sh d (after sh c hand) ≡ after sh e hand
 after_twice sh c d e hand is = go (names sh) hand
   where
@@ -151,6 +162,7 @@ after_twice sh c d e hand is = go (names sh) hand
 
 -- ---- changes that do the same to each part that is held
 
+-- changes that do the same to each part in the hand make the same of it
 pub alike : (c d : Changes) (ns : List Name) (hand : Held) → ((k : ℕ) (n : Name) (x : CorePart) → slice_get ns k ≡ Some n → slice_get hand k ≡ Some (Some x) → changed c n x ≡ changed d n x)
     → hand_changed c ns hand ≡ hand_changed d ns hand
 alike c d [] hand same = refl
@@ -164,6 +176,7 @@ alike c d (n ∷ ns) (o ∷ hand) same =
 
 -- ---- a hand after changes
 
+-- a part of the hand after changes is the part changed
 pub in_after : (sh : Shape) (c : Changes) (hand : Held) (w : Name) → in_hand sh (after sh c hand) w ≡ option_map (changed c w) (in_hand sh hand w)
 in_after sh c hand w = go (names sh) hand
   where
@@ -185,6 +198,7 @@ in_after sh c hand w = go (names sh) hand
             ap (λ b. cond b (place_changed c n o) (held_named ns (hand_changed c ns hand) w)) e ∙ rest
             ∙ ap (λ b. option_map (changed c w) (cond b o (held_named ns hand w))) (sym e)
 
+-- changes keep how many places a hand has
 pub length-after : (c : Changes) (ns : List Name) (hand : Held) → length (hand_changed c ns hand) ≡ length hand
 length-after c [] hand = refl
 length-after c (n ∷ ns) [] = refl
@@ -196,6 +210,7 @@ away c (n ∷ ns) [] k is = is
 away c (n ∷ ns) (o ∷ hand) zero is = let e : o ≡ None = cc in ap (λ o. Some (place_changed c n o)) e
 away c (n ∷ ns) (o ∷ hand) (suc k) is = away c ns hand k is
 
+-- and which parts are in it
 pub held_after : (c : Changes) (ns : List Name) (hand : Held) (k : ℕ) → Holds hand k → Holds (hand_changed c ns hand) k
 held_after c [] hand k h = h
 held_after c (n ∷ ns) [] k h = h
@@ -205,6 +220,7 @@ held_after c (n ∷ ns) (o ∷ hand) zero h = let e : o ≡ Some h.0 = some_is o
     some_is o x e = cc
 held_after c (n ∷ ns) (o ∷ hand) (suc k) h = held_after c ns hand k h
 
+-- so the room is the same
 pub same_room : (sh : Shape) (c : Changes) (hand : Held) → SameRoom hand (after sh c hand)
 same_room sh c hand = record {
   places = length-after c (names sh) hand;

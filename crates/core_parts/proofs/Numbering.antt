@@ -10,11 +10,13 @@ use Rattle.core_parts.specs.Numbers.{first_bodies, after_bodies}
 use Rattle.event_spec.specs.Lawful.{HasBlock, HasTable}
 use Rattle.event_spec.specs.Parts.{Shape, Name, HeadOf, ShardOf, BodyOf, TheDesk, names, below, blocks_of, tables_of}
 
+-- what stands in the first of two lists
 pub get_left : {X : Type 0} (xs ys : List X) (k : ℕ) → k < length xs → slice_get (xs ++ ys) k ≡ slice_get xs k
 get_left [] ys k less = absurd (omega (arith, less))
 get_left (x ∷ xs) ys zero less = refl
 get_left (x ∷ xs) ys (suc k) less = get_left xs ys k (omega (arith, less))
 
+-- what stands in the second, behind the first
 pub get_right : {X : Type 0} (xs ys : List X) (k : ℕ) → slice_get (xs ++ ys) (length xs + k) ≡ slice_get ys k
 get_right [] ys k = ap (slice_get ys) (let e : 0 + k ≡ k = omega arith in e)
 get_right (x ∷ xs) ys k =
@@ -39,9 +41,6 @@ get_range f a (suc n) (suc k) less =
     get_range f (a + 1) n k (omega (arith, less)) ∙ ap (λ x. Some (f x)) (let e : a + 1 + k ≡ a + suc k = omega arith in e)
 
 -- ---- heads and shards
-
-shards_from : ℕ → ℕ → List Name
-shards_from a n = flat_map (λ t. map (ShardOf t) (below 8)) (range_with_len a n)
 
 shards_length : (a n : ℕ) → length (flat_map (λ t. map (ShardOf t) (below 8)) (range_with_len a n)) ≡ 8 * n
 shards_length a zero = omega arith
@@ -121,6 +120,7 @@ get_body blocks a from (decl ∷ tables) (suc t) b start each at less =
           ∙ r.2 ∙ ap (λ x. Some (BodyOf x b)) (let e : a + 1 + t ≡ a + suc t = omega arith in e),
     )
 
+-- what stands there is below the length
 pub got_within : {X : Type 0} (xs : List X) (k : ℕ) (x : X) → slice_get xs k ≡ Some x → k < length xs
 got_within [] k x is = cc
 got_within (y ∷ xs) zero x is = omega arith
@@ -154,6 +154,7 @@ module _ (sh : Shape) where
       length_join (heads ++ shards) bodies ∙ ap (λ n. n + length bodies) front_length
       ∙ bodies_length (blocks_of sh) 0 (9 * length sh.tables) sh.tables (blocks_are sh)
 
+  -- a head's name stands at its table's number
   pub head_at_number : (t : ℕ) → HasTable sh t → slice_get (names sh) t ≡ Some (HeadOf t)
   head_at_number t has =
       let h = heads_length in let f = front_length in let j = length_join (heads ++ shards) bodies in
@@ -163,6 +164,7 @@ module _ (sh : Shape) where
       ∙ get_left heads shards t (omega (arith, has, h))
       ∙ get_range HeadOf 0 (length sh.tables) t has ∙ ap (λ x. Some (HeadOf x)) (let e : 0 + t ≡ t = omega arith in e)
 
+  -- a shard's name stands behind the heads, eight to a table
   pub shard_at_number : (t i : ℕ) → HasTable sh t → i < 8 → slice_get (names sh) (length sh.tables + (8 * t + i)) ≡ Some (ShardOf t i)
   shard_at_number t i has small =
       let h = heads_length in let f = front_length in let j = length_join (heads ++ shards) bodies in
@@ -172,6 +174,7 @@ module _ (sh : Shape) where
       ∙ get_right heads shards (8 * t + i)
       ∙ get_shard 0 (length sh.tables) t i has small ∙ ap (λ x. Some (ShardOf x i)) (let e : 0 + t ≡ t = omega arith in e)
 
+  -- a body's name stands behind its table's first
   pub body_at_number : (t b start : ℕ) → HasBlock sh t b → slice_get (first_bodies (9 * length sh.tables) sh.tables) t ≡ Some start
       → slice_get (names sh) (start + b) ≡ Some (BodyOf t b)
   body_at_number t b start has at =
@@ -184,6 +187,7 @@ module _ (sh : Shape) where
       ∙ get_left (heads ++ shards ++ bodies) (TheDesk ∷ []) (length (heads ++ shards) + r.0) (omega (arith, j, less))
       ∙ get_right (heads ++ shards) bodies r.0 ∙ r.2 ∙ ap (λ x. Some (BodyOf x b)) (let e : 0 + t ≡ t = omega arith in e)
 
+  -- and the desk's name behind all bodies
   pub desk_at_number : slice_get (names sh) (after_bodies (9 * length sh.tables) sh.tables) ≡ Some TheDesk
   desk_at_number =
       let l = all_length in
@@ -200,10 +204,12 @@ first_at from [] t less = absurd (omega (arith, less))
 first_at from (decl ∷ tables) zero less = (from, refl)
 first_at from (decl ∷ tables) (suc t) less = first_at (from + decl.blocks) tables t (omega (arith, less))
 
+-- the number behind all bodies is no less than the first
 pub from_below : (from : ℕ) (tables : List TableDecl) → from ≤ after_bodies from tables
 from_below from [] = omega arith
 from_below from (decl ∷ tables) = let r = from_below (from + decl.blocks) tables in omega (arith, r)
 
+-- nor less than that behind one table's bodies
 pub start_below : (from : ℕ) (tables : List TableDecl) (t start : ℕ) (decl : TableDecl) → slice_get tables t ≡ Some decl → slice_get (first_bodies from tables) t ≡ Some start
     → start + decl.blocks ≤ after_bodies from tables
 start_below from [] t start decl at is = cc
@@ -246,6 +252,7 @@ counted tables bodies all next last i decl is kept = (
   ap (λ ts. after_bodies next ts) (sym (drop_next tables i decl is)) ∙ kept.1,
 )
 
+-- where all tables are counted, so are all numbers
 pub counted_all : (tables : List TableDecl) (bodies all : List ℕ) (next last i : ℕ) → length tables ≤ i
     → (bodies ++ first_bodies next (drop i tables) ≡ all) × (after_bodies next (drop i tables) ≡ last) → (bodies ≡ all) × (next ≡ last)
 counted_all tables bodies all next last i le kept = (
@@ -262,12 +269,15 @@ counted_below tables next last i decl is kept =
 -- ---- the numbers of a shape
 
 module _ (sh : Shape) (bodies : List ℕ) (desk : ℕ) (are : AreNumbers sh.tables bodies desk) where
+  -- heads and shards have numbers below the desk's
   pub heads_low : 9 * length sh.tables ≤ desk
   heads_low = let r = from_below (9 * length sh.tables) sh.tables in let e = are.desk_is in omega (arith, r, e)
 
+  -- each table has a first body
   pub start_there : (t : ℕ) → HasTable sh t → (start : ℕ) × (slice_get bodies t ≡ Some start)
   start_there t has = let r = first_at (9 * length sh.tables) sh.tables t has in (r.0, ap (λ xs. slice_get xs t) are.bodies_are ∙ r.1)
 
+  -- a body's number is that of its name, and below the desk's
   pub body_number : (t b start : ℕ) → HasBlock sh t b → slice_get bodies t ≡ Some start → (slice_get (names sh) (start + b) ≡ Some (BodyOf t b)) × (start + b < desk)
   body_number t b start has at =
       let is = ap (λ xs. slice_get xs t) (sym are.bodies_are) ∙ at in
@@ -290,6 +300,7 @@ read_there [] i x less is = absurd (omega (arith, less))
 read_there (y ∷ xs) zero x less is = ap Some (sym is)
 read_there (y ∷ xs) (suc i) x less is = read_there xs i x (omega (arith, less)) is
 
+-- what stands there is what is read there
 pub got_is : {X : Type 0} (xs : List X) (i : ℕ) (x d : X) → slice_get xs i ≡ Some x → slice_get xs i ≡ Some (get_or xs i d)
 got_is [] i x d is = cc
 got_is (y ∷ xs) zero x d is = refl

@@ -13,6 +13,7 @@ use Rattle.hall_rule.specs.Hands.{Agrees}
 
 -- ---- no name stands twice
 
+-- each of the names stands in one place alone
 abbrev pub NamedOnce : List Name → Type 0
 NamedOnce ns = (j k : ℕ) (n : Name) → slice_get ns j ≡ Some n → slice_get ns k ≡ Some n → j ≡ k
 
@@ -41,6 +42,7 @@ same_told : (j k : ℕ) → told j ≡ told k → j ≡ k
 unfolding number_in
 same_told j k e = ap number_in e
 
+-- a shape's names do
 pub named_once : (sh : Shape) → NamedOnce (names sh)
 named_once sh j k n a b =
     let x = part_is sh (marks 0 (names sh)) j n (told (0 + j)) a (mark_at 0 (names sh) j n a) in
@@ -68,6 +70,7 @@ once_head n ns once w a = go (same_name w n) refl (number w ns a)
 
 -- ---- a hand by names
 
+-- a part in a hand that agrees with a state is the state's
 pub in_state : (ns : List Name) (hand : Held) (s : Parts) (w : Name) (piece : CorePart) → Agrees hand s → held_named ns hand w ≡ Some piece → part_named ns s w ≡ Some piece
 in_state [] hand s w piece agrees is = cc
 in_state (n ∷ ns) [] s w piece agrees is = cc
@@ -86,6 +89,7 @@ in_state (n ∷ ns) (o ∷ hand) (p ∷ s) w piece agrees is =
     go false e at rest =
         ap (λ b. cond b (Some p) (part_named ns s w)) e ∙ rest (ap (λ b. cond b o (held_named ns hand w)) (sym e) ∙ at)
 
+-- a part in a hand has one of its names
 pub held_among : (ns : List Name) (hand : Held) (w : Name) (piece : CorePart) → held_named ns hand w ≡ Some piece → Among w ns
 held_among [] hand w piece is = cc
 held_among (n ∷ ns) [] w piece is = cc
@@ -140,6 +144,7 @@ laid_is (n ∷ ns) (p ∷ hand) w (suc k) new once is = go (same_name n w) refl 
 
 -- ---- laid twice
 
+-- what is laid at a name again stands for what was laid before
 pub laid_twice : (ns : List Name) (hand : Held) (w : Name) (one new : Option CorePart) → laid_at ns w new (laid_at ns w one hand) ≡ laid_at ns w new hand
 laid_twice [] hand w one new = refl
 laid_twice (n ∷ ns) [] w one new = refl
@@ -155,6 +160,7 @@ laid_twice (n ∷ ns) (p ∷ hand) w one new = go (same_name n w) refl (laid_twi
         ∙ ap (λ b. cond b (new ∷ laid_at ns w one hand) (p ∷ laid_at ns w new (laid_at ns w one hand))) e
         ∙ ap (λ h. p ∷ h) rest ∙ sym (ap (λ b. cond b (new ∷ hand) (p ∷ laid_at ns w new hand)) e)
 
+-- laying a part keeps how many places there are
 pub length-laid : (ns : List Name) (hand : Held) (w : Name) (new : Option CorePart) → length (laid_at ns w new hand) ≡ length hand
 length-laid [] hand w new = refl
 length-laid (n ∷ ns) [] w new = refl
@@ -166,6 +172,7 @@ length-laid (n ∷ ns) (p ∷ hand) w new = go (same_name n w) (length-laid ns h
 
 -- ---- other names stay
 
+-- laying a part leaves the parts of other names
 pub laid_other : (ns : List Name) (hand : Held) (w other : Name) (new : Option CorePart) → same_name w other ≡ false → held_named ns (laid_at ns w new hand) other ≡ held_named ns hand other
 laid_other [] hand w other new apart = refl
 laid_other (n ∷ ns) [] w other new apart = refl
@@ -198,8 +205,10 @@ lies sh hand w k p at is =
 pub found_there : (sh : Shape) (hand : Held) (w : Name) (k : ℕ) (p : CorePart) → slice_get (names sh) k ≡ Some w → slice_get hand k ≡ Some (Some p) → in_hand sh hand w ≡ Some p
 found_there sh hand w k p at is = held_at (names sh) hand w k (Some p) (named_once sh) at is
 
+-- what lies in a place is one part
 pub two_same : (o : Option (Option CorePart)) (p q : CorePart) → o ≡ Some (Some p) → o ≡ Some (Some q) → p ≡ q
 two_same o p q a b = cc
 
+-- a name's number is below their count
 pub number_less : (sh : Shape) (w : Name) (k : ℕ) → slice_get (names sh) k ≡ Some w → k < length (names sh)
 number_less sh w k at = within (names sh) k w at

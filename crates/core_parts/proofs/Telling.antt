@@ -2,8 +2,7 @@
 use Rattle.std.proofs.Common.{◌≡◌, ◌⊎◌, ℕ, zero, suc, ◌<◌, ℤ, List, [], ◌∷◌, ◌++◌, Option, None, Some, length, map, refl, sym, ap, ◌∙◌, arith, subst, true}
 use mathlib.Core.Logic.{inl, inr}
 use Rattle.std.specs.Prelude.{slice_get}
-use Rattle.block_layout.specs.Place.{block_of, slot_of}
-use Rattle.block_spec.specs.Bodies.{Body, slot_in}
+use Rattle.block_spec.specs.Bodies.{Body}
 use Rattle.core_parts.proofs.Changing.{after_nothing, alike}
 use Rattle.core_parts.proofs.Placing.{held_among, in_state}
 use Rattle.core_parts.specs.Hands.{Has, Held, Makes, MayRun, after, in_hand}
@@ -13,7 +12,7 @@ use Rattle.event_spec.specs.declared.part.Head.{Head}
 use Rattle.event_spec.specs.declared.part.Part.TheVariants as part
 use Rattle.event_spec.specs.Effects.{CoreEvent, changes_of}
 use Rattle.event_spec.specs.Lawful.{Among, HasBlock, HasTable}
-use Rattle.event_spec.specs.Parts.{Changes, CorePart, Parts, Shape, Name, HeadOf, ShardOf, BodyOf, TheDesk, below, blocks_of, body_at, body_from, changed, desk_at, desk_from, each_changed, head_at, head_from, names, nothing, places_at, shard_from, shard_of, slot_at}
+use Rattle.event_spec.specs.Parts.{Changes, CorePart, Parts, Shape, Name, HeadOf, ShardOf, BodyOf, TheDesk, below, blocks_of, body_at, body_from, changed, desk_at, desk_from, each_changed, head_at, head_from, names, nothing, places_at, shard_from, shard_of}
 use Rattle.event_spec.specs.Replies.{CoreReply, reply_to}
 use Rattle.event_spec.specs.Sound.{IsOfKind}
 use Rattle.frame_laws.proofs.Looks.{look, touches}
@@ -56,44 +55,52 @@ only_told sh e hand said m none replied = from_one sh e hand hand said m
 -- ---- parts of a hand on which an event may run
 
 module _ (sh : Shape) (e : CoreEvent) (hand : Held) (m : MayRun sh e hand) where
+  -- a part that the event touches is in the hand
   pub has_part : (w : Name) → Among w (names sh) → touches sh e hand w ≡ true → Has sh hand w
   has_part w a is = subst (IsOfKind w) (sym (look sh e hand m.parts w m.covers m.agrees is)) (at_name sh m.parts m.holds.sound.kinds w a)
 
+  -- so is a head that it touches
   pub has_head : (t : ℕ) → HasTable sh t → touches sh e hand (HeadOf t) ≡ true → Has sh hand (HeadOf t)
   has_head t has = has_part (HeadOf t) (head_named sh t has)
 
+  -- and a shard
   pub has_shard : (t i : ℕ) → HasTable sh t → i < 8 → touches sh e hand (ShardOf t i) ≡ true → Has sh hand (ShardOf t i)
   has_shard t i has small = has_part (ShardOf t i) (shard_named sh t i has small)
 
+  -- and a body
   pub has_body : (t b : ℕ) → HasBlock sh t b → touches sh e hand (BodyOf t b) ≡ true → Has sh hand (BodyOf t b)
   has_body t b has = has_part (BodyOf t b) (body_named sh t b has)
 
+  -- and the desk
   pub has_desk : touches sh e hand TheDesk ≡ true → Has sh hand TheDesk
   has_desk = has_part TheDesk (desk_named sh)
 
+  -- the hand has a place for each part
   pub room : length hand ≡ length (names sh)
   room = m.agrees.0 ∙ m.holds.sound.count
 
 -- ---- what a part in a hand is in the core
 
 module _ (sh : Shape) (hand : Held) (s : Parts) (agrees : Agrees hand s) where
+  -- a head in the hand is the core's
   pub head_is : (t : ℕ) (x : Head) → in_hand sh hand (HeadOf t) ≡ Some (part.Head x) → head_at sh s t ≡ x
   head_is t x is = ap head_from (in_state (names sh) hand s (HeadOf t) (part.Head x) agrees is)
 
+  -- a shard in the hand tells the core's candidates of its keys
   pub places_are : (t : ℕ) (key : ℤ) (x : Places) → in_hand sh hand (ShardOf t (shard_of key)) ≡ Some (part.Shard x) → places_at sh s t key ≡ candidates_of x key
   places_are t key x is = ap (λ o. candidates_of (shard_from o) key) (in_state (names sh) hand s (ShardOf t (shard_of key)) (part.Shard x) agrees is)
 
+  -- a body in the hand is the core's
   pub body_is : (t b : ℕ) (x : Body) → in_hand sh hand (BodyOf t b) ≡ Some (part.Body x) → body_at sh s t b ≡ x
   body_is t b x is = ap body_from (in_state (names sh) hand s (BodyOf t b) (part.Body x) agrees is)
 
-  pub slot_is_in : (t p : ℕ) (x : Body) → in_hand sh hand (BodyOf t (block_of p)) ≡ Some (part.Body x) → slot_at sh s t p ≡ slot_in x (slot_of p)
-  slot_is_in t p x is = ap (λ (b : Body). slot_in b (slot_of p)) (body_is t (block_of p) x is)
-
+  -- the desk in the hand is the core's
   pub desk_is : (x : DeskState) → in_hand sh hand TheDesk ≡ Some (part.Desk x) → desk_at sh s ≡ x
   desk_is x is = ap desk_from (in_state (names sh) hand s TheDesk (part.Desk x) agrees is)
 
 -- ---- the part of a name in a hand
 
+-- what the hand has under a head's name is a head
 pub a_head : (sh : Shape) (hand : Held) (t : ℕ) → Has sh hand (HeadOf t) → (x : Head) × (in_hand sh hand (HeadOf t) ≡ Some (part.Head x))
 a_head sh hand t has = go (in_hand sh hand (HeadOf t)) has
   where
@@ -104,6 +111,7 @@ a_head sh hand t has = go (in_hand sh hand (HeadOf t)) has
     go (Some (part.Body x)) k = absurd k
     go (Some (part.Desk x)) k = absurd k
 
+-- under a shard's name a shard
 pub a_shard : (sh : Shape) (hand : Held) (t i : ℕ) → Has sh hand (ShardOf t i) → (x : Places) × (in_hand sh hand (ShardOf t i) ≡ Some (part.Shard x))
 a_shard sh hand t i has = go (in_hand sh hand (ShardOf t i)) has
   where
@@ -114,6 +122,7 @@ a_shard sh hand t i has = go (in_hand sh hand (ShardOf t i)) has
     go (Some (part.Body x)) k = absurd k
     go (Some (part.Desk x)) k = absurd k
 
+-- under a body's name a body
 pub a_body : (sh : Shape) (hand : Held) (t b : ℕ) → Has sh hand (BodyOf t b) → (x : Body) × (in_hand sh hand (BodyOf t b) ≡ Some (part.Body x))
 a_body sh hand t b has = go (in_hand sh hand (BodyOf t b)) has
   where
@@ -124,6 +133,7 @@ a_body sh hand t b has = go (in_hand sh hand (BodyOf t b)) has
     go (Some (part.Body x)) k = (x, refl)
     go (Some (part.Desk x)) k = absurd k
 
+-- and under the desk's the desk
 pub a_desk : (sh : Shape) (hand : Held) → Has sh hand TheDesk → (x : DeskState) × (in_hand sh hand TheDesk ≡ Some (part.Desk x))
 a_desk sh hand has = go (in_hand sh hand TheDesk) has
   where
@@ -153,6 +163,7 @@ module _ (sh : Shape) where
       last (inl a) = middle (split (heads_in sh ++ shards_in sh) (bodies_in sh) n a)
       last (inr a) = four a
 
+  -- a head among the names is a table's
   pub table_of_head : (t : ℕ) → Among (HeadOf t) (names sh) → HasTable sh t
   table_of_head t a = among_four (HeadOf t) a
       (λ a. let x = map_member HeadOf (below (length sh.tables)) (HeadOf t) a in
@@ -171,6 +182,7 @@ module _ (sh : Shape) where
       last (inl e) = cc
       last (inr x) = absurd x
 
+  -- a shard among the names is one of a table's eight
   pub table_of_shard : (t i : ℕ) → Among (ShardOf t i) (names sh) → HasTable sh t × (i < 8)
   table_of_shard t i a = among_four (ShardOf t i) a
       (λ a. let x = map_member HeadOf (below (length sh.tables)) (ShardOf t i) a in absurd (no_head x.0 x.2))
@@ -196,6 +208,7 @@ module _ (sh : Shape) where
       last (inl e) = cc
       last (inr x) = absurd x
 
+  -- a body among the names is of a table's block
   pub block_of_body : (t b : ℕ) → Among (BodyOf t b) (names sh) → HasBlock sh t b
   block_of_body t b a = among_four (BodyOf t b) a
       (λ a. let x = map_member HeadOf (below (length sh.tables)) (BodyOf t b) a in absurd (no_head x.0 x.2))
@@ -222,11 +235,14 @@ module _ (sh : Shape) where
       last (inl e) = cc
       last (inr x) = absurd x
 
+  -- a head in the hand is a table's
   pub head_there : (hand : Held) (t : ℕ) → Has sh hand (HeadOf t) → HasTable sh t
   head_there hand t has = let x = a_head sh hand t has in table_of_head t (held_among (names sh) hand (HeadOf t) (part.Head x.0) x.1)
 
+  -- a shard in the hand is one of a table's eight
   pub shard_there : (hand : Held) (t i : ℕ) → Has sh hand (ShardOf t i) → HasTable sh t × (i < 8)
   shard_there hand t i has = let x = a_shard sh hand t i has in table_of_shard t i (held_among (names sh) hand (ShardOf t i) (part.Shard x.0) x.1)
 
+  -- a body in the hand is of a table's block
   pub body_there : (hand : Held) (t b : ℕ) → Has sh hand (BodyOf t b) → HasBlock sh t b
   body_there hand t b has = let x = a_body sh hand t b has in block_of_body t b (held_among (names sh) hand (BodyOf t b) (part.Body x.0) x.1)

@@ -37,9 +37,11 @@ module _ (columns : List Column) (key : begins_with_key columns ≡ true) (slots
       (cases_lt j (length slots))
 
 module _ (sh : Shape) (t : ℕ) (x : Body) (holds : BodyHolds sh t x) (key : begins_with_key (columns_in sh t) ≡ true) where
+  -- a row that a reader sees in the body has a key
   pub keys_seen : (stamp session j : ℕ) → IfSome (seen (slot_in x j) stamp session) HasKey
   keys_seen stamp session j = seen_keyed (columns_in sh t) key x.slots holds.versions j stamp session
 
+  -- each row of the body has a key
   pub has_keys : HasKeys x
   has_keys = record {
     columns = subst (λ (columns : List Column). 0 < length columns) (sym holds.columns) (some (columns_in sh t) key);

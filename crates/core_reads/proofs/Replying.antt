@@ -27,6 +27,7 @@ use Rattle.frame_laws.proofs.Looks.{name_self}
 use Rattle.hall_rule.specs.Hands.{Agrees}
 
 module _ (sh : Shape) (own : OwnTransaction) (t b : ℕ) (hand : Held) (m : MayRun sh (event.Read own t b) hand) where
+  -- the block's body is in the hand
   pub has_the_body : Has sh hand (BodyOf t b)
   has_the_body = has_body sh (event.Read own t b) hand m t b m.lawful.1 (name_self (BodyOf t b))
 
@@ -37,15 +38,19 @@ module _ (sh : Shape) (own : OwnTransaction) (t b : ℕ) (hand : Held) (m : MayR
     holds : BodyHolds sh t x
     holds = subst (BodyHolds sh t) here (m.holds.sound.bodies t b m.lawful.1)
 
+    -- the body has at most 2^15 slots
     pub slots_few : length x.slots ≤ 2 ^ 15
     slots_few = let few = (m.holds.measures.slots t m.lawful.1.0).1 in let same = holds.slots in omega (arith, few, same)
 
+    -- each row that the reader sees in it has a key
     pub keys_are : (columns : List Column) → columns ≡ columns_in sh t → IsSchema columns → (j : ℕ) → IfSome (seen (slot_in x j) own.snapshot.stamp own.session) HasKey
     keys_are columns same schema = keys_seen sh t x holds (subst (λ (cs : List Column). begins_with_key cs ≡ true) same schema.key) own.snapshot.stamp own.session
 
+    -- the image of an imaged body is whole
     pub shared_whole : (image : ImageValue) → is_imaged x.phase ≡ true → IsImageOf x.columns (map (λ (slot : Slot). slot.row) x.slots) image → IsWhole image
     shared_whole image imaged of = image_whole x.columns x.slots (in_front sh t x holds imaged) image of
 
+    -- a read of an imaged body replies the rows of its image
     pub replies_shared : (image : ImageValue) (all : List Row) → is_imaged x.phase ≡ true → IsImageOf x.columns (map (λ (slot : Slot). slot.row) x.slots) image → all ≡ rows_of image
         → Makes sh (event.Read own t b) hand hand (reply.Shared all)
     replies_shared image all imaged of told = only_told sh (event.Read own t b) hand (reply.Shared all) m refl
@@ -55,6 +60,7 @@ module _ (sh : Shape) (own : OwnTransaction) (t b : ℕ) (hand : Held) (m : MayR
         shared_reply : List Row → CoreReply
         shared_reply rows = reply.Shared rows
 
+    -- a read of any other replies the rows that the reader sees in it
     pub replies_rows : (rows : List Row) → is_imaged x.phase ≡ false → rows ≡ rows_in own t b x → Makes sh (event.Read own t b) hand hand (reply.Rows rows)
     replies_rows rows loose told = only_told sh (event.Read own t b) hand (reply.Rows rows) m refl
         (ap reply.Rows (told ∙ rows_are sh m.parts own t b x here slots_few)
@@ -67,6 +73,7 @@ module _ (sh : Shape) (own : OwnTransaction) (t b : ℕ) (hand : Held) (m : MayR
     pub none_read : (s : Parts) (old new : ℕ) → Agrees hand s → new ≡ old → new ≤ old + cond (is_imaged (body_at sh s t b).phase) 0 (slots_of sh t)
     none_read s old new agrees same = let least : old ≤ old + cond (is_imaged (body_at sh s t b).phase) 0 (slots_of sh t) = omega arith in omega (arith, least, same)
 
+    -- a read of a body that is not imaged reads no more rows than the block has slots
     pub each_read : (s : Parts) (old new : ℕ) → Agrees hand s → is_imaged x.phase ≡ false → new ≤ old + length x.slots → new ≤ old + cond (is_imaged (body_at sh s t b).phase) 0 (slots_of sh t)
     each_read s old new agrees loose few =
         let so = body_is sh hand s agrees t b x is in

@@ -28,6 +28,7 @@ module _ (sh : Shape) (s : Parts) (own : OwnTransaction) (t b : ℕ) (x : Body) 
       ∙ ap (λ c. slot_in (body_at sh s t c) j) (sym (block_is b j less))
       ∙ ap (slot_in (body_at sh s t (block_of (place_of b j)))) (sym (slot_is b j less))
 
+  -- the rows of the body that a reader sees are those of the core
   pub rows_are : rows_in own t b x ≡ rows_read sh s own t b
   rows_are =
       same_below (λ j. row_in own t (place_of b j) (slot_in x j)) (λ j. row_read sh s own t (place_of b j)) 0 (length x.slots)
@@ -82,6 +83,7 @@ module _ (own : OwnTransaction) (t b : ℕ) (none : own.writes ≡ []) where
       rest true both = both
       rest false both = cc
 
+  -- the rows of a body without entries are those that a reader without writes sees
   pub quiet_rows : (x : Body) → is_quiet x ≡ true → rows_of x ≡ rows_in own t b x
   quiet_rows x quiet = sym (sees_all x.slots x.slots 0 quiet (λ k less. ap (λ n. get_or x.slots n bare) (omega arith)))
 

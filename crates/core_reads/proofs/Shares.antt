@@ -20,9 +20,11 @@ module _ (sh : Shape) (t b : ℕ) (hand : Held) (has : Has sh hand (BodyOf t b))
     front : is_imaged x.phase ≡ true → is_front x.slots ≡ true
     front imaged = in_front sh t x (subst (BodyHolds sh t) (body_is sh hand s agrees t b x is) (holds.sound.bodies t b (body_there sh hand t b has))) imaged
 
+    -- the image of an imaged body is whole
     pub whole : (image : ImageValue) → is_imaged x.phase ≡ true → IsImageOf x.columns (map (λ (slot : Slot). slot.row) x.slots) image → IsWhole image
     whole image imaged of = image_whole x.columns x.slots (front imaged) image of
 
+    -- the rows of the image are what is shared of the block
     pub shares : (image : ImageValue) (all : List Row) → is_imaged x.phase ≡ true → IsImageOf x.columns (map (λ (slot : Slot). slot.row) x.slots) image → all ≡ rows_of image
         → Some all ≡ cond (is_imaged (body_at sh s t b).phase) (Some (bodies.rows_of (body_at sh s t b))) None
     shares image all imaged of told =
@@ -32,6 +34,7 @@ module _ (sh : Shape) (t b : ℕ) (hand : Held) (has : Has sh hand (BodyOf t b))
         some_rows : List Row → Option (List Row)
         some_rows rows = Some rows
 
+    -- a body that is not imaged shares none
     pub shares_none : is_imaged x.phase ≡ false → None ≡ cond (is_imaged (body_at sh s t b).phase) (Some (bodies.rows_of (body_at sh s t b))) None
     shares_none loose = ap (λ (i : Bool). cond i (some_rows (bodies.rows_of (body_at sh s t b))) None) (sym (ap (λ (y : Body). is_imaged y.phase) (body_is sh hand s agrees t b x is) ∙ loose))
       where

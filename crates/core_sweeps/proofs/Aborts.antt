@@ -32,15 +32,18 @@ use Rattle.txn_desk.specs.Oldest.{HasPass, snapshot_of}
 
 -- ---- a write that a map of them gives
 
+-- what is found in the map of writes is a write of the transaction
 pub there_by : (own : OwnTransaction) (entries : PlaceMap ℕ) (place : Place) (p : ℕ) → entries ≡ own.writes → lookup (is_place place) entries ≡ Some p → at_place own.writes place ≡ Some p
 there_by own entries place p same found = ap (lookup (is_place place)) (sym same) ∙ found
 
 -- ---- parts that are touched
 
 module _ (sh : Shape) (own : OwnTransaction) (old : Held) (m : MayRun sh (event.Abort own) old) where
+  -- a part in the hand is the core's part of its name
   pub part_there : (k : ℕ) (n : Name) (x : CorePart) → slice_get (names sh) k ≡ Some n → slice_get old k ≡ Some (Some x) → part_at sh m.parts n ≡ Some x
   part_there k n x is at = part_is sh m.parts k n x is (m.agrees.1 k x at)
 
+  -- at first no write is undone
   pub begins : IsUndone sh own old old []
   begins = record {
     may = m;
@@ -48,6 +51,7 @@ module _ (sh : Shape) (own : OwnTransaction) (old : Held) (m : MayRun sh (event.
         (λ k n x is at. at_first sh m.parts m.holds.measures m.holds.sound m.holds.shards own m.lawful.0 n x (part_there k n x is at)));
   }
 
+  -- the desk is in the hand
   pub has_the_desk : Has sh old TheDesk
   has_the_desk = has_desk sh (event.Abort own) old m refl
 
@@ -55,14 +59,17 @@ module _ (sh : Shape) (own : OwnTransaction) (old : Held) (m : MayRun sh (event.
     abbrev block : HasBlock sh t (block_of p)
     block = block_is_there sh m.parts m.holds.measures m.holds.sound m.holds.shards own m.lawful.0 t key p there
 
+    -- and the head of the table of each write
     pub has_its_head : Has sh old (HeadOf t)
     has_its_head = has_head sh (event.Abort own) old m t block.0 refl
 
+    -- and the shard of its key
     pub has_its_shard : Has sh old (ShardOf t (shard_of key))
     has_its_shard = has_shard sh (event.Abort own) old m t (shard_of key) block.0 (shard_small key)
         (or_left (is_shard_written own.writes (ShardOf t (shard_of key)) || false) false (or_left (is_shard_written own.writes (ShardOf t (shard_of key))) false
         (written_passes (λ u k r. (u == t) && (shard_of k == shard_of key)) own.writes t key p there (and_true (t == t) (shard_of key == shard_of key) (num_refl t) (num_refl (shard_of key))))))
 
+    -- and the body of its block
     pub has_its_body : Has sh old (BodyOf t (block_of p))
     has_its_body = has_body sh (event.Abort own) old m t (block_of p) block
         (or_left (is_body_written own.writes (BodyOf t (block_of p))) false
@@ -71,12 +78,15 @@ module _ (sh : Shape) (own : OwnTransaction) (old : Held) (m : MayRun sh (event.
 -- ---- one write more
 
 module _ (sh : Shape) (own : OwnTransaction) (old now : Held) (done : PlaceMap ℕ) (u : IsUndone sh own old now done) where
+  -- what was in the hand is in it still
   pub still : (w : Name) → Has sh old w → Has sh now w
   still w has = has_still sh (undone_so_far sh u.may.parts own.session done) old now w u.made has
 
+  -- the hand has a place for each part still
   pub room_now : length now ≡ length (names sh)
   room_now = room_still sh (undone_so_far sh u.may.parts own.session done) old now u.made (room sh (event.Abort own) old u.may)
 
+  -- one write more is undone
   pub goes_on : (new : Held) (t : ℕ) (key : ℤ) (p : ℕ) → at_place own.writes (place_at t key) ≡ Some p
       → new ≡ after sh (undone t key p own.session (rolled_back_in own.session (body_in sh now t (block_of p)))) now
       → IsUndone sh own old new (done ++ (place_at t key, p) ∷ [])
@@ -118,14 +128,18 @@ module _ (sh : Shape) (own : OwnTransaction) (old mid : Held) (u : IsUndone sh o
       desk_same : (o : Option CorePart) (a b : DeskState) → o ≡ Some (part.Desk a) → o ≡ Some (part.Desk b) → a ≡ b
       desk_same o a b e f = cc
 
+  -- the desk has a pass for the session
   pub pass_there : (x : DeskState) → in_hand sh mid TheDesk ≡ Some (part.Desk x) → HasPass x own.session
   pass_there x is = subst (λ (x : DeskState). HasPass x own.session) (desk_now x is)
       (has_pass (desk_at sh u.may.parts) own.session own.snapshot (all_open sh u.may.parts u.may.holds.sound own u.may.lawful.0))
 
+  -- and has its transaction open
   pub is_open : (x : DeskState) → in_hand sh mid TheDesk ≡ Some (part.Desk x) → IsSome (snapshot_of x own.session)
   is_open x is = subst (λ (x : DeskState). IsSome (snapshot_of x own.session)) (desk_now x is)
       (ap is_some (all_open sh u.may.parts u.may.holds.sound own u.may.lawful.0).is_open)
 
+  -- Behind all writes the desk closes the transaction, and that is what the abort makes of the
+  -- hand.
   pub ends : (taken new : Held) (x y : DeskState) → in_hand sh mid TheDesk ≡ Some (part.Desk x) → taken ≡ laid sh TheDesk None mid → y ≡ closed own.session x
       → new ≡ laid sh TheDesk (Some (part.Desk y)) taken → Makes sh (event.Abort own) old new reply.Aborted
   ends taken new x y is out made back = from_one sh (event.Abort own) old new reply.Aborted u.may

@@ -150,6 +150,7 @@ module _ (sh : Shape) (s : Parts) (shape : IsShape sh) (ok : Sound sh s) (shards
 
   -- ---- at first
 
+  -- before the first slot nothing is dropped
   pub first_dropped : (n : Name) (x : CorePart) → part_at sh s n ≡ Some x → changed (dropped_to sh s t b oldest 0) n x ≡ x
   first_dropped = rests_at (λ n x. part_at sh s n ≡ Some x) (dropped_to sh s t b oldest 0) (record {
     head = λ u x is. refl;
@@ -316,6 +317,7 @@ module _ (sh : Shape) (s : Parts) (shape : IsShape sh) (ok : Sound sh s) (shards
             ∙ ap (λ c. cond c (kept_places (keep_to b oldest (body_at sh s t b) from) x) x) e
             ∙ sym (ap (λ c. cond c (kept_places (keep_to b oldest (body_at sh s t b) (j + 1)) x) x) e)
 
+    -- with the next slot with entries, its candidate is dropped where it will be bare
     pub one_slot_more : (o : Option ℤ) → key_left oldest (slot_in (body_at sh s t b) j) ≡ o → (n : Name) (x : CorePart) → part_at sh s n ≡ Some x
         → changed (dropped_at t b j o) n (changed (dropped_to sh s t b oldest from) n x) ≡ changed (dropped_to sh s t b oldest (j + 1)) n x
     one_slot_more None is = twice_at (λ n x. part_at sh s n ≡ Some x) (dropped_to sh s t b oldest from) (dropped_at t b j None) (dropped_to sh s t b oldest (j + 1))
@@ -404,6 +406,7 @@ module _ (sh : Shape) (s : Parts) (shape : IsShape sh) (ok : Sound sh s) (shards
           ap (λ c. cond c (kept_places (keep_to b oldest (body_at sh s t b) from) x) x) e
           ∙ sym (ap (λ c. cond c (kept_places (λ p. not (is_bare (slot_in (cond ((u == t) && (block_of p == b)) (pruned_in oldest (body_at sh s u (block_of p))) (body_at sh s u (block_of p))) (slot_of p)))) x) x) e)
 
+  -- behind all slots the body is pruned and the head told, and that is the event's change
   pub last_pruned : (from : ℕ) → IsNextVersioned (body_at sh s t b) from None → (n : Name) (x : CorePart) → part_at sh s n ≡ Some x
       → changed (pruned_by t b oldest (pruned_in oldest (body_at sh s t b))) n (changed (dropped_to sh s t b oldest from) n x) ≡ changed (changes_of sh s (event.Prune t b oldest)) n x
   last_pruned from none = twice_at (λ n x. part_at sh s n ≡ Some x) (dropped_to sh s t b oldest from) (pruned_by t b oldest (pruned_in oldest (body_at sh s t b))) (changes_of sh s (event.Prune t b oldest))

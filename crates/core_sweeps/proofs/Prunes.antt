@@ -32,6 +32,7 @@ use Rattle.undo_chain.specs.declared.undo.Undo.{Undo}
 
 -- ---- the key of a version
 
+-- a row that fits columns with a key has one
 pub keyed : (columns : List Column) (row : Option Row) → begins_with_key columns ≡ true → IfSome row (Fits columns) → IfSome row HasKey
 keyed columns None key fit = fit
 keyed columns (Some row) key fit = fits-has_key columns row key fit
@@ -46,9 +47,11 @@ taken_key columns slot key fit = go slot.row slot.entries fit
 -- ---- parts that are touched
 
 module _ (sh : Shape) (t b oldest : ℕ) (old : Held) (m : MayRun sh (event.Prune t b oldest) old) where
+  -- a part in the hand is the core's part of its name
   pub part_there : (k : ℕ) (n : Name) (x : CorePart) → slice_get (names sh) k ≡ Some n → slice_get old k ≡ Some (Some x) → part_at sh m.parts n ≡ Some x
   part_there k n x is at = part_is sh m.parts k n x is (m.agrees.1 k x at)
 
+  -- at first nothing is dropped
   pub begins : IsDropped sh t b oldest 0 old old
   begins = record {
     may = m;
@@ -56,44 +59,55 @@ module _ (sh : Shape) (t b oldest : ℕ) (old : Held) (m : MayRun sh (event.Prun
         (λ k n x is at. first_dropped sh m.parts m.holds.measures m.holds.sound m.holds.shards t b oldest m.lawful.1 n x (part_there k n x is at)));
   }
 
+  -- the head of the table is in the hand
   pub has_the_head : Has sh old (HeadOf t)
   has_the_head = has_head sh (event.Prune t b oldest) old m t m.lawful.1.0 (or_left ((t == t) || false) false (or_left (t == t) false (num_refl t)))
 
+  -- and the body of the block
   pub has_the_body : Has sh old (BodyOf t b)
   has_the_body = has_body sh (event.Prune t b oldest) old m t b m.lawful.1 (or_left (false || ((t == t) && (b == b))) false (name_self (BodyOf t b)))
 
+  -- and each of the table's eight shards
   pub has_its_shard : (i : ℕ) → i < 8 → Has sh old (ShardOf t i)
   has_its_shard i small = has_shard sh (event.Prune t b oldest) old m t i m.lawful.1.0 small (num_refl t)
 
 -- ---- one slot more
 
 module _ (sh : Shape) (t b oldest from : ℕ) (old now : Held) (u : IsDropped sh t b oldest from old now) where
+  -- what was in the hand is in it still
   pub still : (w : Name) → Has sh old w → Has sh now w
   still w has = has_still sh (dropped_to sh u.may.parts t b oldest from) old now w u.made has
 
+  -- the hand has a place for each part still
   pub room_now : length now ≡ length (names sh)
   room_now = room_still sh (dropped_to sh u.may.parts t b oldest from) old now u.made (room sh (event.Prune t b oldest) old u.may)
 
   body_old : body_in sh old t b ≡ body_at sh u.may.parts t b
   body_old = let x = a_body sh old t b (has_the_body sh t b oldest old u.may) in body_is_in sh old t b x.0 x.1 ∙ sym (body_is sh old u.may.parts u.may.agrees t b x.0 x.1)
 
+  -- the body is the core's still
   pub body_now : body_in sh now t b ≡ body_at sh u.may.parts t b
   body_now = ap (λ h. body_in sh h t b) u.made ∙ body_in_after sh (dropped_to sh u.may.parts t b oldest from) old t b (has_the_body sh t b oldest old u.may) ∙ body_old
 
+  -- so is the one that is lent out of the hand
   pub body_lent : (x : Body) → in_hand sh now (BodyOf t b) ≡ Some (part.Body x) → x ≡ body_at sh u.may.parts t b
   body_lent x is = sym (body_is_in sh now t b x is) ∙ body_now
 
+  -- the body has at most 2^15 slots
   pub slots_small : length (body_at sh u.may.parts t b).slots ≤ 2 ^ 15
   slots_small = let long = (u.may.holds.sound.bodies t b u.may.lawful.1).slots in let most = (u.may.holds.measures.slots t u.may.lawful.1.0).1 in omega (arith, long, most)
 
+  -- as many as it had in the first hand
   pub slots_old : length (body_in sh old t b).slots ≡ length (body_at sh u.may.parts t b).slots
   slots_old = ap (λ (x : Body). length x.slots) body_old
 
+  -- the row of a slot whose newest change is taken back has a key
   pub key_there : (j : ℕ) → IsSchema (columns_in sh t) → IfSome (taken_back (slot_in (body_in sh now t b) j)).row HasKey
   key_there j schema = subst (λ (x : Body). IfSome (taken_back (slot_in x j)).row HasKey) (sym body_now)
       (taken_key (columns_in sh t) (slot_in (body_at sh u.may.parts t b) j) schema.key
       (index_all (λ (slot : Slot). VersionsFit (columns_in sh t) slot.row slot.entries) (body_at sh u.may.parts t b).slots bare j tt (u.may.holds.sound.bodies t b u.may.lawful.1).versions))
 
+  -- one slot more with entries: its candidate is dropped where it will be bare
   pub goes_on : (new : Held) (j : ℕ) → IsNextVersioned (body_at sh u.may.parts t b) from (Some j)
       → new ≡ after sh (dropped_at t b j (key_left oldest (slot_in (body_in sh now t b) j))) now → IsDropped sh t b oldest (j + 1) old new
   goes_on new j next is = record {
@@ -113,21 +127,28 @@ module _ (sh : Shape) (t b oldest : ℕ) (old mid : Held) (d : AreDropped sh t b
   abbrev u : IsDropped sh t b oldest d.from old mid
   u = d.dropped
 
+  -- what was in the hand is in it behind the slots
   pub has_mid : (w : Name) → Has sh old w → Has sh mid w
   has_mid w has = still sh t b oldest d.from old mid d.dropped w has
 
+  -- so is the body
   pub has_body_mid : Has sh mid (BodyOf t b)
   has_body_mid = has_mid (BodyOf t b) (has_the_body sh t b oldest old d.dropped.may)
 
+  -- and the head
   pub has_head_mid : Has sh mid (HeadOf t)
   has_head_mid = has_mid (HeadOf t) (has_the_head sh t b oldest old d.dropped.may)
 
+  -- and there is a place for each part
   pub room_mid : length mid ≡ length (names sh)
   room_mid = room_now sh t b oldest d.from old mid d.dropped
 
+  -- the body has at most 2^15 slots
   pub slots_mid : length (body_in sh mid t b).slots ≤ 2 ^ 15
   slots_mid = let same = ap (λ (x : Body). length x.slots) (body_now sh t b oldest d.from old mid d.dropped) in let most = slots_small sh t b oldest d.from old mid d.dropped in omega (arith, same, most)
 
+  -- Behind all slots the body is pruned and the head told, and that is what the event makes of the
+  -- hand.
   pub ends : (pruned new : Held) (count : ℕ) → pruned ≡ after sh (body_changed t b (pruned_in oldest)) mid → count ≡ dropped_from oldest (body_in sh mid t b)
       → new ≡ after sh (head_changed t (with_gain (is_empty (body_in sh pruned t b)) b)) pruned → Makes sh (event.Prune t b oldest) old new (reply.Dropped count)
   ends pruned new count made counted told = from_one sh (event.Prune t b oldest) old new (reply.Dropped count) d.dropped.may

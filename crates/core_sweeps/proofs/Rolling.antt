@@ -56,6 +56,7 @@ or_none false = refl
 pub any_more : {X : Type 0} (test : X → Bool) (xs : List X) (x : X) → list_any test (xs ++ x ∷ []) ≡ (list_any test xs || test x)
 any_more test xs x = list_any-append test xs (x ∷ []) ∙ ap (λ b. list_any test xs || b) (or_none (test x))
 
+-- unequal numbers are tested to be so
 pub differs : (a b : ℕ) → a ≢ b → (a == b) ≡ false
 differs a b ne = go (a == b) refl
   where
@@ -124,12 +125,14 @@ rolled_empty q body is =
 
 -- ---- a head and a shard that are told of one more
 
+-- heads that are told of the same empty blocks are the same
 pub empty_same : (blocks : ℕ) (empty after : ℕ → Bool) (x : Head) → x.block < blocks → ((b : ℕ) → b < blocks → after b ≡ empty b) → with_empty blocks after x ≡ with_empty blocks empty x
 empty_same blocks empty after x own same =
     ap (λ b. record x { taken = cond b 0 x.taken; empty = filter (λ b. after b && not (b == x.block)) (below blocks) }) (same x.block own)
     ∙ ap (λ bs. record x { taken = cond (empty x.block) 0 x.taken; empty = bs })
     (filter_same (λ b. empty b && not (b == x.block)) (λ b. after b && not (b == x.block)) (below blocks) (λ b a. ap (λ c. c && not (b == x.block)) (same b (let r = member_below 0 blocks b a in omega (arith, r)))))
 
+-- a head that is told of one block more knows which are empty then
 pub learns : (blocks block : ℕ) (empty after : ℕ → Bool) (x : Head) (now : Bool) → x.block < blocks → block < blocks
     → ((b : ℕ) → b ≢ block → after b ≡ empty b) → after block ≡ now → (empty block ≡ true → now ≡ true)
     → with_gain now block (with_empty blocks empty x) ≡ with_empty blocks after x
@@ -168,6 +171,7 @@ learns blocks block empty after x false own less others is more = sym (empty_sam
         go true e = let same = num b block e in ap after same ∙ is ∙ sym (none (empty block) refl) ∙ ap empty (sym same)
         go false e = others b (λ same. true_false (sym (ap (λ y. y == block) same ∙ num_refl block) ∙ e))
 
+-- a shard that loses a candidate keeps the others
 pub loses : (i : ℕ) (x : Places) (keep after : ℕ → Bool) (key : ℤ) (p : ℕ) (left : Bool) → ShardHolds i x → shard_of key ≡ i
     → (keep p && not left) ≡ after p → after p ≡ not left → ((r : ℕ) → r ≢ p → after r ≡ keep r)
     → ((other : ℤ) → other ≢ key → Among p (candidates_of x other) → ⊥)
@@ -222,12 +226,15 @@ module _ (sh : Shape) (s : Parts) (shape : IsShape sh) (ok : Sound sh s) (shards
   -- ---- what a write's place is
 
   module _ (t : ℕ) (key : ℤ) (p : ℕ) (there : at_place own.writes (place_at t key) ≡ Some p) where
+    -- a write's place is a candidate of its key
     pub candidate : Among p (places_at sh s t key)
     candidate = ((all_slots sh s ok own owns t key).there p there).0
 
+    -- the open entries on top of its slot are the session's
     pub wrote : writer_of (slot_at sh s t p).entries ≡ Some own.session
     wrote = ((all_slots sh s ok own owns t key).there p there).1
 
+    -- the block of the write is there
     pub block_is_there : HasBlock sh t (block_of p)
     block_is_there =
         let b = body_of sh s f.kinds t p (writer_filled (slot_at sh s t p) own.session wrote) in
@@ -246,6 +253,7 @@ module _ (sh : Shape) (s : Parts) (shape : IsShape sh) (ok : Sound sh s) (shards
   first_shard : (t i : ℕ) (x : Places) → part_at sh s (ShardOf t i) ≡ Some (part.Shard x) → (undone_so_far sh s own.session []).shard t i x ≡ x
   first_shard t i x is = sweep_rests i x (λ p. not (false && is_left sh s own.session t p)) (shards t i x is) (λ key p a. refl)
 
+  -- before the first write nothing is undone
   pub at_first : (n : Name) (x : CorePart) → part_at sh s n ≡ Some x → changed (undone_so_far sh s own.session []) n x ≡ x
   at_first = rests_at (λ n x. part_at sh s n ≡ Some x) (undone_so_far sh s own.session [])
       (record { head = first_head; shard = first_shard; body = λ t b x is. refl; desk = λ x is. refl })
@@ -431,6 +439,7 @@ module _ (sh : Shape) (s : Parts) (shape : IsShape sh) (ok : Sound sh s) (shards
                 true_false (sym (ap (λ y. i == y) (sym (ap shard_of key_is) ∙ shard_owns i x k r h c) ∙ num_refl i) ∙ b)
         go false d a b = skip (ap (λ c. c && (i == shard_of key)) a) ∙ rest (λ k r c. ap (λ c. c && (p == r)) (differs t u (λ same. true_false (sym (ap (λ y. u == y) same ∙ num_refl u) ∙ a))))
 
+    -- undoing one write more behind those before
     pub one_more : (n : Name) (x : CorePart) → part_at sh s n ≡ Some x
         → changed (undone t key p own.session (rolled_back_in own.session (body_at sh s t (block_of p)))) n (changed (undone_so_far sh s own.session done) n x) ≡ changed (undone_so_far sh s own.session (done ++ (place_at t key, p) ∷ [])) n x
     one_more = twice_at (λ n x. part_at sh s n ≡ Some x) (undone_so_far sh s own.session done) (undone t key p own.session (rolled_back_in own.session (body_at sh s t (block_of p))))
@@ -493,6 +502,7 @@ module _ (sh : Shape) (s : Parts) (shape : IsShape sh) (ok : Sound sh s) (shards
   last_body t b x is =
       subst (λ (y : Body). rolled own.session own.writes t b y ≡ rolled_back_in own.session y) (ap body_from is) (rolled_all t b (body_is_there sh s t b (part.Body x) is))
 
+  -- with the desk's closing behind all writes, it is the abort's change
   pub at_last : (n : Name) (x : CorePart) → part_at sh s n ≡ Some x
       → changed (record nothing { desk = closed own.session }) n (changed (undone_so_far sh s own.session own.writes) n x) ≡ changed (after_abort sh s own) n x
   at_last = twice_at (λ n x. part_at sh s n ≡ Some x) (undone_so_far sh s own.session own.writes) (record nothing { desk = closed own.session }) (after_abort sh s own)

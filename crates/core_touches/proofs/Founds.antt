@@ -120,6 +120,7 @@ module _ (sh : Shape) where
   same_names ws vs least here there =
       sym (all_absorbed ws vs least here) ∙ all_turned ws vs least ∙ all_absorbed vs ws least there
 
+  -- in any order the same least number is offered
   pub permuted : (ws vs : List Name) (least : Least) → IsPermutation ws vs → offered_all sh ws least ≡ offered_all sh vs least
   permuted ws vs least moved = same_names ws vs least
       (λ w a. among ws w (Contains-permutation vs ws w (IsPermutation-sym ws vs moved) (contains vs w a)))
@@ -159,9 +160,11 @@ module _ (sh : Shape) where
       go None e = ap (λ o. step o least) e
       go (Some n) e = ap (λ o. step o least) e ∙ each n (name_at (names sh) w n e)
 
+  -- where no part at the spots has a number from the first one on, nothing is offered
   pub none_offered : (kind : PartKind) (xs : List ℕ) (least : Least) → IsLeastOn kind sh least.from xs None → offered_all sh (map (name_on kind) xs) least ≡ least
   none_offered kind xs least is = settled kind xs least (λ k l. unless (name_on kind (get_or xs k 0)) least (λ n at. low_none n least (is k n l at)))
 
+  -- the least of the parts at the spots is offered for all of them
   pub least_offered : (kind : PartKind) (xs : List ℕ) (least : Least) (m : ℕ) → IsLeastOn kind sh least.from xs (Some m) → offered_all sh (map (name_on kind) xs) least ≡ offered m least
   least_offered kind xs least m is =
       let k = is.1.0 in
@@ -186,9 +189,11 @@ module _ (sh : Shape) where
   abbrev pub ArePassed : PartKind → ℕ → List ℕ → ℕ → Type 0
   ArePassed kind from xs i = (k n : ℕ) → k < i → slice_get (names sh) n ≡ Some (name_on kind (get_or xs k 0)) → n < from
 
+  -- spots below the first that counts are passed
   pub passed_first : (kind : PartKind) (from first : ℕ) (xs : List ℕ) (i : ℕ) → IsFirstSpot kind sh from first → ((k : ℕ) → k < i → get_or xs k 0 < first) → ArePassed kind from xs i
   passed_first kind from first xs i is low k n l at = (is (get_or xs k 0) n at).0 (low k l)
 
+  -- a spot without a part is passed
   pub passed_more : (kind : PartKind) (from : ℕ) (xs : List ℕ) (i : ℕ) → ArePassed kind from xs i → number_among (names sh) (name_on kind (get_or xs i 0)) ≡ None → ArePassed kind from xs (i + 1)
   passed_more kind from xs i passed none k n l at = go (nat_lt k i) refl
     where
@@ -206,9 +211,7 @@ module _ (sh : Shape) where
           number_at (names sh) n (name_on kind (get_or xs i 0)) (named_once sh) (at ∙ ap (λ j. Some (name_on kind (get_or xs j 0))) same) in
           let never : None ≡ Some n = sym none ∙ some in cc
 
-  pub passed_all : (kind : PartKind) (from : ℕ) (xs : List ℕ) (i : ℕ) → ArePassed kind from xs i → length xs ≤ i → IsLeastOn kind sh from xs None
-  passed_all kind from xs i passed le k n l at = passed k n (omega (arith, le, l)) at
-
+  -- the part at the first spot that has one is the least
   pub found : (kind : PartKind) (from first : ℕ) (xs : List ℕ) (i m : ℕ) → IsNonDecreasing xs → IsFirstSpot kind sh from first → ArePassed kind from xs i → i < length xs
       → first ≤ get_or xs i 0 → number_among (names sh) (name_on kind (get_or xs i 0)) ≡ Some m → IsLeastOn kind sh from xs (Some m)
   found kind from first xs i m rise is passed less high some = (low, (i, less, at), rest)

@@ -31,28 +31,35 @@ no_places : (key : ℤ) → candidates_of (shard_from None) key ≡ []
 no_places key = ap (λ o. unwrap_or o []) (finite.get-empty int_cmp key)
 
 module _ (sh : Shape) (hand : Held) (t : ℕ) (key : ℤ) where
+  -- a key of a table that there is not has no candidates
   pub no_table : length sh.tables ≤ t → [] ≡ held_places sh (in_hand sh hand) t key
   no_table high = sym (ap (λ o. candidates_of (shard_from o) key)
       (away sh hand (ShardOf t (shard_of key)) (λ a. let has = (table_of_shard sh t (shard_of key) a).0 in absurd (omega (arith, has, high)))) ∙ no_places key)
 
+  -- nor one whose shard lies beyond the hand
   pub no_room : (k : ℕ) → slice_get (names sh) k ≡ Some (ShardOf t (shard_of key)) → length hand ≤ k → [] ≡ held_places sh (in_hand sh hand) t key
   no_room k at high = sym (ap (λ o. candidates_of (shard_from o) key) (beyond sh hand (ShardOf t (shard_of key)) k at high) ∙ no_places key)
 
+  -- the candidates are those of the shard in the hand
   pub shard_held : (k : ℕ) (o : Option CorePart) → slice_get (names sh) k ≡ Some (ShardOf t (shard_of key)) → slice_get hand k ≡ Some o
       → held_places sh (in_hand sh hand) t key ≡ candidates_of (shard_from o) key
   shard_held k o at is = ap (λ o. candidates_of (shard_from o) key) (held_at (names sh) hand (ShardOf t (shard_of key)) k o (named_once sh) at is)
 
+  -- where the hand lacks the shard the key has no candidates
   pub none_there : (k : ℕ) (o : Option CorePart) → slice_get (names sh) k ≡ Some (ShardOf t (shard_of key)) → slice_get hand k ≡ Some o → shard_from o ≡ shard_from None
       → [] ≡ held_places sh (in_hand sh hand) t key
   none_there k o at is none = sym (shard_held k o at is ∙ ap (λ x. candidates_of x key) none ∙ no_places key)
 
 module _ (sh : Shape) (hand : Held) (t : ℕ) where
+  -- the next place of a table that there is not is that of no head
   pub no_head : length sh.tables ≤ t → next_place (head_from None) (slots_of sh t) ≡ held_next sh (in_hand sh hand) t
   no_head high = sym (ap (λ o. next_place (head_from o) (slots_of sh t)) (away sh hand (HeadOf t) (λ a. let has = table_of_head sh t a in absurd (omega (arith, has, high)))))
 
+  -- and so is that of a table whose head lies beyond the hand
   pub head_beyond : (k : ℕ) → slice_get (names sh) k ≡ Some (HeadOf t) → length hand ≤ k → next_place (head_from None) (slots_of sh t) ≡ held_next sh (in_hand sh hand) t
   head_beyond k at high = sym (ap (λ o. next_place (head_from o) (slots_of sh t)) (beyond sh hand (HeadOf t) k at high))
 
+  -- the next place is that of the head in the hand
   pub head_held : (k : ℕ) (o : Option CorePart) → slice_get (names sh) k ≡ Some (HeadOf t) → slice_get hand k ≡ Some o
       → next_place (head_from o) (slots_of sh t) ≡ held_next sh (in_hand sh hand) t
   head_held k o at is = sym (ap (λ o. next_place (head_from o) (slots_of sh t)) (held_at (names sh) hand (HeadOf t) k o (named_once sh) at is))

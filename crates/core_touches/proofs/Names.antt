@@ -169,6 +169,7 @@ module _ (sh : Shape) (hand : Held) (name : Name) (a : Among name (names sh)) wh
   then_desk : (ws : List Name) (b : Bool) → any ws name ≡ b → any (ws ++ TheDesk ∷ []) name ≡ (b || same_name TheDesk name)
   then_desk ws b is = any_two ws (TheDesk ∷ []) name ∙ both (any ws name) b (any (TheDesk ∷ []) name) (same_name TheDesk name) is (or_false (same_name TheDesk name))
 
+  -- An event touches a name where it is among those that are listed.
   pub touched_any : (e : CoreEvent) → any (touched_names sh (in_hand sh hand) e) name ≡ touched sh (in_hand sh hand) e name
   touched_any (event.Begin session) = or_false (same_name TheDesk name)
   touched_any (event.Get own t key) = on_key t key own.written

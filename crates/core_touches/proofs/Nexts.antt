@@ -17,6 +17,7 @@ use Rattle.hall_rule.specs.Hands.{IsNext}
 
 module _ (sh : Shape) (hand : Held) (e : CoreEvent) (from : ℕ) (least : Least)
     (is : least ≡ offered_all sh (touched_names sh (in_hand sh hand) e) (record { from = from; best = None })) where
+  -- the least number that is offered is the next part of all that the event touches
   pub whole : IsNext (touching sh e hand) from (length (names sh)) least.best
   whole = subst (λ (l : Least). IsNext (touching sh e hand) from (length (names sh)) l.best) (sym is)
       (next_same (λ k. list_any (λ w. passes_test (same_name w) (slice_get (names sh) k)) (touched_names sh (in_hand sh hand) e)) (touching sh e hand) from (length (names sh))
@@ -24,13 +25,16 @@ module _ (sh : Shape) (hand : Held) (e : CoreEvent) (from : ℕ) (least : Least)
       (touching_any sh hand e)
       (least_is_next sh from (touched_names sh (in_hand sh hand) e)))
 
+  -- it is the next in the hand where it is within
   pub found : (n : ℕ) → least.best ≡ Some n → n < length hand → IsNext (touching sh e hand) from (length hand) (Some n)
   found n at low = let w = subst (IsNext (touching sh e hand) from (length (names sh))) at whole in (w.0, low, w.2, w.3)
 
+  -- where it is beyond the hand there is none
   pub high : (n : ℕ) → least.best ≡ Some n → length hand ≤ n → IsNext (touching sh e hand) from (length hand) None
   high n at above = let w = subst (IsNext (touching sh e hand) from (length (names sh))) at whole in
       λ k low less. w.3 k low (omega (arith, above, less))
 
+  -- and none where none is offered
   pub none : least.best ≡ None → IsNext (touching sh e hand) from (length hand) None
   none at = let w = subst (IsNext (touching sh e hand) from (length (names sh))) at whole in λ k low less. go k low (split k (length (names sh)))
     where

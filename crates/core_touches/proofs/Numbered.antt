@@ -1,11 +1,11 @@
 -- Offered numbers of names, and the least of them.
-use Rattle.std.proofs.Common.{◌≡◌, ◌≢◌, ◌⊎◌, ℕ, zero, suc, ◌+◌, ◌<◌, ◌≤◌, Bool, true, false, cond, ◌&&◌, ◌||◌, List, [], ◌∷◌, ◌++◌, map, Option, None, Some, length, get_or, nat_le, nat_lt, refl, sym, ap, subst, ◌∙◌, arith}
+use Rattle.std.proofs.Common.{◌≡◌, ◌≢◌, ◌⊎◌, ℕ, zero, suc, ◌+◌, ◌<◌, ◌≤◌, Bool, true, false, cond, ◌&&◌, ◌||◌, List, [], ◌∷◌, ◌++◌, map, Option, None, Some, length, nat_le, nat_lt, refl, sym, ap, subst, ◌∙◌, arith}
 use mathlib.Core.Logic.{inl, inr}
-use Rattle.std.specs.Prelude.{fold, option_map, slice_get, take}
+use Rattle.std.specs.Prelude.{fold, option_map, slice_get}
 use Rattle.std.specs.List.{list_any, range_with_len}
 use Rattle.std.specs.Option.{option_map_or}
 use Rattle.std.proofs.lemmas.Bool.Decides.{nat_tests}
-use Rattle.std.proofs.lemmas.List.Sums.{fold-append, fold_more}
+use Rattle.std.proofs.lemmas.List.Sums.{fold-append}
 use Rattle.core_parts.proofs.Placing.{NamedOnce, named_once, number_less}
 use Rattle.core_touches.specs.declared.least.Least.{Least}
 use Rattle.core_touches.specs.Least.{number_among, offered, offered_all, offered_name}
@@ -21,6 +21,7 @@ use Rattle.hall_rule.specs.Hands.{IsNext}
 once_behind : (n : Name) (ns : List Name) → NamedOnce (n ∷ ns) → NamedOnce ns
 once_behind n ns once j k m a b = let e = once (suc j) (suc k) m a b in omega (arith, e)
 
+-- a name that stands once has its place as number
 pub number_at : (ns : List Name) (k : ℕ) (w : Name) → NamedOnce ns → slice_get ns k ≡ Some w → number_among ns w ≡ Some k
 number_at [] k w once is = cc
 number_at (n ∷ ns) zero w once is =
@@ -35,6 +36,7 @@ number_at (n ∷ ns) (suc k) w once is = go (same_name n w) refl (number_at ns k
         ∙ ap (option_map (λ k. k + 1)) behind
         ∙ ap Some (let e : k + 1 ≡ suc k = omega arith in e)
 
+-- at a name's number stands the name
 pub name_at : (ns : List Name) (w : Name) (k : ℕ) → number_among ns w ≡ Some k → slice_get ns k ≡ Some w
 name_at [] w k is = cc
 name_at (n ∷ ns) w k is = go (same_name n w) refl (λ j e. name_at ns w j e)
@@ -63,6 +65,7 @@ among_at (n ∷ ns) (suc k) w is = inr (among_at ns k w is)
 pub offered_there : (sh : Shape) (least : Least) (w : Name) (n : ℕ) → slice_get (names sh) n ≡ Some w → offered_name sh least w ≡ offered n least
 offered_there sh least w n at = ap (λ o. option_map_or (λ number. offered number least) o least) (number_at (names sh) n w (named_once sh) at)
 
+-- a name that there is not offers nothing
 pub offered_away : (sh : Shape) (least : Least) (w : Name) → (Among w (names sh) → ⊥) → offered_name sh least w ≡ least
 offered_away sh least w away = go (number_among (names sh) w) refl
   where
@@ -250,19 +253,10 @@ offered_twice sh ws vs one two three a b = b ∙ ap (offered_all sh vs) a ∙ sy
 
 -- ---- lists of names, one after another
 
+-- the names of some things are offered one after another
 pub offered_mapped : {X : Type 0} (sh : Shape) (f : X → Name) (xs : List X) (least : Least) → offered_all sh (map f xs) least ≡ fold (λ l x. offered_name sh l (f x)) least xs
 offered_mapped sh f [] least = refl
 offered_mapped sh f (x ∷ xs) least = offered_mapped sh f xs (offered_name sh least (f x))
-
--- one more of a slice
-pub offered_more : {X : Type 0} (sh : Shape) (f : X → Name) (xs : List X) (x : X) (i : ℕ) (least old new : Least) → i < length xs → x ≡ get_or xs i x
-    → old ≡ offered_all sh (map f (take i xs)) least → new ≡ offered_name sh old (f x) → new ≡ offered_all sh (map f (take (i + 1) xs)) least
-offered_more {X = X} sh f xs x i least old new within is was step =
-    let g : Least → X → Least = λ l y. offered_name sh l (f y) in
-    step ∙ ap (λ l. offered_name sh l (f x)) (was ∙ offered_mapped sh f (take i xs) least)
-    ∙ ap (λ y. g (fold g least (take i xs)) y) is
-    ∙ sym (fold_more g least xs i x within)
-    ∙ sym (offered_mapped sh f (take (i + 1) xs) least)
 
 -- one more of what an iterator yields
 pub offered_behind : {X : Type 0} (sh : Shape) (f : X → Name) (xs : List X) (x : X) (least old new : Least)

@@ -51,6 +51,7 @@ abbrev pub start_of : Shape → PartKind → ℕ → ℕ
 start_of sh kinds.Shard t = length sh.tables + 8 * t
 start_of sh kinds.Body t = get_or (first_bodies (9 * length sh.tables) sh.tables) t 0
 
+-- a table's part of a kind stands behind the first of these, as far as its index says
 pub number_of : (sh : Shape) (kind : PartKind) (t i : ℕ) → HasTable sh t → i < count_of sh kind t → slice_get (names sh) (start_of sh kind t + i) ≡ Some (name_of kind t i)
 number_of sh kinds.Shard t i has less =
     ap (slice_get (names sh)) (let e : length sh.tables + 8 * t + i ≡ length sh.tables + (8 * t + i) = omega arith in e) ∙ shard_at_number sh t i has less
@@ -63,6 +64,7 @@ has_part : (sh : Shape) (kind : PartKind) (t i : ℕ) → Among (name_of kind t 
 has_part sh kinds.Shard t i a = table_of_shard sh t i a
 has_part sh kinds.Body t i a = block_of_body sh t i a
 
+-- and what stands there is that part
 pub number_is : (sh : Shape) (kind : PartKind) (t i n : ℕ) → slice_get (names sh) n ≡ Some (name_of kind t i) → HasTable sh t × (i < count_of sh kind t) × (n ≡ start_of sh kind t + i)
 number_is sh kind t i n at =
     let has = has_part sh kind t i (among_at (names sh) n (name_of kind t i) at) in
@@ -79,12 +81,15 @@ no_part sh kind spot never = go (number_among (names sh) (name_on kind spot)) re
     go None e = sym e
     go (Some n) e = absurd (never (among_at (names sh) n (name_on kind spot) (name_at (names sh) (name_on kind spot) n e)))
 
+-- no part is at a spot of a table that there is not
 pub no_table : (sh : Shape) (kind : PartKind) (spot : ℕ) → length sh.tables ≤ spot / 2 ^ 32 → None ≡ number_among (names sh) (name_on kind spot)
 no_table sh kind spot high = no_part sh kind spot (λ a. let has = (has_part sh kind (spot / 2 ^ 32) (spot % 2 ^ 32) a).0 in absurd (omega (arith, has, high)))
 
+-- nor at a spot behind the last of its table
 pub no_place : (sh : Shape) (kind : PartKind) (spot : ℕ) → count_of sh kind (spot / 2 ^ 32) ≤ spot % 2 ^ 32 → None ≡ number_among (names sh) (name_on kind spot)
 no_place sh kind spot high = no_part sh kind spot (λ a. let has = (has_part sh kind (spot / 2 ^ 32) (spot % 2 ^ 32) a).1 in absurd (omega (arith, has, high)))
 
+-- a table's parts of a kind stand before those of a later table
 pub starts_rise : (sh : Shape) (kind : PartKind) (t u : ℕ) → t < u → HasTable sh u → start_of sh kind t + count_of sh kind t ≤ start_of sh kind u
 starts_rise sh kinds.Shard t u less has = omega (arith, less)
 starts_rise sh kinds.Body t u less has =
@@ -149,9 +154,6 @@ before_more kind sh from t before here spot n at less = go (by_order (spot / 2 ^
     go (inl under) = before spot n at under
     go (inr (inl same)) = low here same
     go (inr (inr over)) = absurd (omega (arith, over, less))
-
-pub before_none : (kind : PartKind) (sh : Shape) (from : ℕ) → AreBefore kind sh from 0
-before_none kind sh from spot n at less = absurd (omega (arith, less))
 
 -- behind all tables
 pub first_behind : (kind : PartKind) (sh : Shape) (from first : ℕ) → AreBefore kind sh from (length sh.tables) → first ≡ length sh.tables * 2 ^ 32 + 0 → IsFirstSpot kind sh from first

@@ -83,6 +83,7 @@ module _ (sh : Shape) (s : Parts) where
   event_by (event.Image t b image) = omega arith
   event_by (event.Thaw t b) = omega arith
 
+  -- an event raises the newest stamp by one at most
   pub newest_rises : Sound sh s → (e : CoreEvent) → (desk_at sh (effect sh s e)).newest ≤ (desk_at sh s).newest + 1
   newest_rises ok e =
       let f = follows_machine sh s ok in
@@ -133,6 +134,7 @@ module _ (sh : Shape) (s : Parts) (owns : List (Option OwnTransaction)) (n oldes
     known = kept.known;
   }
 
+  -- an event of no session keeps what is kept of a core
   pub kept_up : session_of e ≡ None → (told : CoreReply) (parts : Parts)
       → parts ≡ after sh s (record { event = e; refused = is_memory told }) → IsKept sh parts owns (n + 1) oldest
   kept_up none told parts is = subst (λ p. IsKept sh p owns (n + 1) oldest) (sym is) (go (is_memory told))
@@ -144,6 +146,7 @@ module _ (sh : Shape) (s : Parts) (owns : List (Option OwnTransaction)) (n oldes
       go true = refused
       go false = made owns (λ q. stays sh s e q (own_at owns q) kept.core lawful (other q) (kept.opened q))
 
+  -- an event of a session keeps it, with what the session has open then in its place
   pub kept_own : (q : ℕ) → session_of e ≡ Some q → q < length owns → (told : CoreReply) (parts : Parts) (new : Option OwnTransaction)
       → parts ≡ after sh s (record { event = e; refused = is_memory told })
       → told ≡ reply_after sh s (record { event = e; refused = is_memory told })

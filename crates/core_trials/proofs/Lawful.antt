@@ -28,6 +28,7 @@ some_same m n is = cc
 
 -- a block that a write has to thaw is imaged
 module _ (sh : Shape) (s : Parts) (t : ℕ) (key : ℤ) (b : ℕ) where
+  -- a block that a write has to thaw is imaged
   pub is_imaged_there : imaged_block sh s t key ≡ Some b → is_imaged (body_at sh s t b).phase ≡ true
   is_imaged_there = go (current_place (slot_at sh s t) (places_at sh s t key))
     where
@@ -42,6 +43,7 @@ module _ (sh : Shape) (s : Parts) (t : ℕ) (key : ℤ) (b : ℕ) where
       go (Some place) is = by place (is_imaged (body_at sh s t (block_of place)).phase) refl is
 
 module _ (t : TrialState) (is : IsTrial t) where
+  -- a trial's core has its one table
   pub has_table : HasTable t.shape 0
   has_table = subst (λ (tables : List TableDecl). 0 < length tables) (sym is.tables) (omega arith)
 
@@ -51,18 +53,23 @@ module _ (t : TrialState) (is : IsTrial t) where
   slots_are : slots_of t.shape 0 ≡ t.slots
   slots_are = ap (λ (tables : List TableDecl). slots_of (record { tables = tables; passes = t.shape.passes }) 0) is.tables
 
+  -- each number below the trial's blocks is one of the table's blocks
   pub has_block : (b : ℕ) → b < t.blocks → HasBlock t.shape 0 b
   has_block b less = (has_table, subst (λ n. b < n) (sym blocks_are) less)
 
+  -- a slot of one of the blocks has a place
   pub has_place : (place : ℕ) → block_of place < t.blocks → slot_of place < t.slots → HasPlace t.shape 0 place
   has_place place block slot = (has_block (block_of place) block, subst (λ n. slot_of place < n) (sym slots_are) slot)
 
+  -- a row of the trial's columns fits the table
   pub fits_table : (row : Row) → Fits t.schema row → FitsTable t.shape 0 row
   fits_table row fits = subst (λ (tables : List TableDecl). FitsTable (record { tables = tables; passes = t.shape.passes }) 0 row) (sym is.tables) fits
 
+  -- a stamp is left for the next event
   pub has_stamp : HasStamp t.shape t.parts
   has_stamp = omega (arith, is.kept.stamps, is.few)
 
+  -- a session has open what stands at its place
   pub opened_at : (q : ℕ) (own : Option OwnTransaction) → slice_get t.owns q ≡ Some own → HasOpened t.shape t.parts q own × (q < length t.owns)
   opened_at q own at = (subst (HasOpened t.shape t.parts q) here (is.kept.opened q), inside)
     where
@@ -72,10 +79,12 @@ module _ (t : TrialState) (is : IsTrial t) where
       inside : q < length t.owns
       inside = slice_get_within t.owns q own at
 
+  -- the sessions from 1 on are the trial's
   pub is_session : (q : ℕ) → 1 ≤ q → q < length t.owns → IsSession t.shape q
   is_session q some less = (some, omega (arith, less, is.passes, is.sessions))
 
   module _ (q : ℕ) where
+    -- a session with nothing open may begin
     pub may_begin : 1 ≤ q → slice_get t.owns q ≡ Some None → MayMake t q Opens (event.Begin q)
     may_begin some at =
         let rests = opened_at q None at in
@@ -98,6 +107,7 @@ module _ (t : TrialState) (is : IsTrial t) where
       inside : q < length t.owns
       inside = (opened_at q (Some own) at).1
 
+      -- a session with a transaction may get a key
       pub may_get : (key : ℤ) → MayMake t q Stays (event.Get (own_key 0 key own) 0 key)
       may_get key = record {
         lawful = (keys t.shape t.parts own 0 key owns_all, has_table);
@@ -107,6 +117,7 @@ module _ (t : TrialState) (is : IsTrial t) where
         marked = λ o told. refl;
       }
 
+      -- a session with a transaction may insert a row that fits
       pub may_insert : (row : Row) → Fits t.schema row → MayMake t q (Writes (key_of row)) (event.Insert (own_key 0 (key_of row) own) 0 row)
       may_insert row fits = record {
         lawful = (keys t.shape t.parts own 0 (key_of row) owns_all, (has_table, fits_table row fits));
@@ -116,6 +127,7 @@ module _ (t : TrialState) (is : IsTrial t) where
         marked = λ o told. refl;
       }
 
+      -- a session with a transaction may update a row that fits, whose block is not imaged
       pub may_update : (row : Row) → Fits t.schema row → IsThawed t.shape 0 (key_of row) t.parts
           → MayMake t q (Writes (key_of row)) (event.Update (own_key 0 (key_of row) own) 0 row)
       may_update row fits thawed = record {
@@ -126,6 +138,7 @@ module _ (t : TrialState) (is : IsTrial t) where
         marked = λ o told. refl;
       }
 
+      -- a session with a transaction may delete a key whose block is not imaged
       pub may_delete : (key : ℤ) → IsThawed t.shape 0 key t.parts → MayMake t q (Writes key) (event.Delete (own_key 0 key own) 0 key)
       may_delete key thawed = record {
         lawful = (keys t.shape t.parts own 0 key owns_all, (has_table, thawed));
@@ -135,6 +148,7 @@ module _ (t : TrialState) (is : IsTrial t) where
         marked = λ o told. refl;
       }
 
+      -- a session with a transaction may read a block
       pub may_read : (b : ℕ) → b < t.blocks → MayMake t q Stays (event.Read own 0 b)
       may_read b less = record {
         lawful = (owns_all, has_block b less);
@@ -144,6 +158,7 @@ module _ (t : TrialState) (is : IsTrial t) where
         marked = λ o told. refl;
       }
 
+      -- a session with a transaction may commit
       pub may_commit : MayMake t q Closes (event.Commit own)
       may_commit = record {
         lawful = (owns_all, has_stamp);
@@ -153,6 +168,7 @@ module _ (t : TrialState) (is : IsTrial t) where
         marked = λ o told. refl;
       }
 
+      -- a session with a transaction may abort
       pub may_abort : MayMake t q Closes (event.Abort own)
       may_abort = record {
         lawful = (owns_all, tt);
@@ -163,25 +179,24 @@ module _ (t : TrialState) (is : IsTrial t) where
       }
 
   module _ (b : ℕ) (less : b < t.blocks) where
-    pub may_observe : MayKeepUp t (event.Observe 0 b)
-    may_observe = record { lawful = (tt, has_block b less); keyed = tt; no_session = refl }
-
+    -- a block may be pruned up to the kept stamp
     pub may_prune : MayKeepUp t (event.Prune 0 b t.oldest)
     may_prune = record { lawful = (is.kept.known, has_block b less); keyed = tt; no_session = refl }
 
-    pub may_look : MayKeepUp t (event.Look 0 b)
-    may_look = record { lawful = (tt, has_block b less); keyed = tt; no_session = refl }
-
+    -- a block may be sealed
     pub may_seal : MayKeepUp t (event.Seal 0 b)
     may_seal = record { lawful = (tt, has_block b less); keyed = tt; no_session = refl }
 
+    -- an image that fits the body may be laid into its block
     pub may_image : (image : Option (List Row)) → IsImageOf image (body_at t.shape t.parts 0 b) (body_at t.shape t.parts 0 b).phase
         → MayKeepUp t (event.Image 0 b image)
     may_image image is_of = record { lawful = (tt, (has_block b less, is_of)); keyed = tt; no_session = refl }
 
+    -- an imaged block in which a key's row lies may be thawed
     pub may_thaw : (key : ℤ) → imaged_block t.shape t.parts 0 key ≡ Some b → MayKeepUp t (event.Thaw 0 b)
     may_thaw key imaged = record { lawful = (tt, (has_block b less, is_imaged_there t.shape t.parts 0 key b imaged)); keyed = tt; no_session = refl }
 
+  -- two pairs of the blocks' slots, none of which stands twice, may be moved
   pub may_move : (one other : MovePair) → IsOfBlocks t.slots t.blocks one → IsOfBlocks t.slots t.blocks other
       → NoPlaceTwice (one ∷ other ∷ []) → MayKeepUp t (event.Move 0 (one ∷ other ∷ []))
   may_move one other of_one of_other apart = record {

@@ -65,6 +65,7 @@ module _ (sh : Shape) (s : Parts) where
   event_narrow (event.Image u c image) lawful is = is
   event_narrow (event.Thaw u c) lawful is = is
 
+-- each event leaves the stamps below 2 ^ 63, and the commits no more than they are
 pub numbers_are_narrow : NumbersAreNarrow
 numbers_are_narrow sh s made ok lawful is = go made.refused
   where
@@ -75,5 +76,6 @@ numbers_are_narrow sh s made ok lawful is = go made.refused
     go true = is
     go false = subst IsNarrow (sym now) (event_narrow sh s made.event lawful is)
 
+-- in the opening core the stamps are below 2 ^ 63, and the commits no more than they are
 pub opens_narrow : OpensNarrow
 opens_narrow sh shape = subst IsNarrow (sym (desk sh shape)) (record { commits = omega arith; stamps = omega arith })

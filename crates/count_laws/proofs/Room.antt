@@ -423,6 +423,7 @@ module _ (sh : Shape) (s : Parts) (shape : IsShape sh) (ok : Sound sh s) (t : �
                     let before = least (b == (head_at sh s t).block) (is_empty (body_at sh s t b)) low in
                     omega (arith, then, before)
 
+    -- an insert takes one slot at most, which its head counts
     pub new_slot : Grows (Rattle.event_spec.specs.Parts.each_changed (after_insert sh s own t row (Ok p)) (names sh) s) 1
     new_slot = go (nat_lt (head_at sh s t).taken (slots_of sh t)) refl
       where
@@ -554,6 +555,7 @@ module _ (sh : Shape) (s : Parts) (shape : IsShape sh) (ok : Sound sh s) (t : �
   event_grows (event.Image u c image) lawful = calmly (event.Image u c image) refl (λ b hb. at_one u c imaged t b (body_at sh s t b) (λ e f empty. empty))
   event_grows (event.Thaw u c) lawful = calmly (event.Thaw u c) refl (λ b hb. at_one u c thawed t b (body_at sh s t b) (λ e f empty. empty))
 
+-- an event takes no more slots than its head counts, at most one for an insert
 pub room_is_counted : RoomIsCounted
 room_is_counted sh s made t shape ok lawful has = go made.refused
   where
@@ -565,6 +567,7 @@ all_bare : (n : ℕ) → list_all is_bare (replicate n bare) ≡ true
 all_bare zero = refl
 all_bare (suc n) = all_bare n
 
+-- in the opening core no slot is in use
 pub opens_empty : OpensEmpty
 opens_empty sh t shape has = (sum_zero (used_in sh (opening sh) t) 0 (blocks_of sh t) each, ap (λ (h : Head). h.inserts) head)
   where
@@ -583,6 +586,7 @@ opens_empty sh t shape has = (sum_zero (used_in sh (opening sh) t) 0 (blocks_of 
         ∙ ap (λ e. cond (b == 0) 0 (cond e 0 (slots_of sh t))) (all_bare (slots_of sh t))
         ∙ either (b == 0)
 
+-- without room for an insert all slots are in use
 pub full_is_full : FullIsFull
 full_is_full sh s own t none = all_least (used_in sh s t) (slots_of sh t) 0 (blocks_of sh t) each
   where

@@ -252,6 +252,7 @@ later : (x y z : Body) → y ≡ z → (is_loose x.phase ≡ false) ⊎ (1 ≤ z
 later x y z now (inl e) = inl e
 later x y z now (inr low) = let same = ap (λ (y : Body). y.last) now in inr (omega (arith, low, same))
 
+-- an event moves a block's last stamp on by its seals
 pub stamps_are_counted : StampsAreCounted
 stamps_are_counted sh s made t b shape ok lawful has = go made.refused
   where
@@ -268,11 +269,13 @@ stamps_are_counted sh s made t b shape ok lawful has = go made.refused
           frozen = λ e. later (body_at sh s t b) (body_at sh (effect sh s made.event) t b) ((changes_of sh s made.event).body t b (body_at sh s t b)) now (counts.frozen (ap (λ (y : Body). is_loose y.phase) (sym now) ∙ e));
         }
 
+-- in the opening core no block has a stamp
 pub opens_loose : OpensLoose
 opens_loose sh t b shape has =
     let is = ap body_from (part_there (opening_part sh) (names sh) (BodyOf t b) (body_named sh t b has)) in
     (ap (λ (y : Body). y.last) is, ap sealed_now is, ap (λ (y : Body). is_loose y.phase) is)
 
+-- a seal that is granted has the next stamp, and its block was not sealed
 pub seals_are_told : SealsAreTold
 seals_are_told sh s t b stamp is = go (seal_fault (is_head sh s t b) (body_at sh s t b)) refl is
   where
@@ -296,6 +299,7 @@ rows_few (x ∷ slots) = go x.row (rows_few slots)
     go None h = omega (arith, h)
     go (Some row) h = omega (arith, h)
 
+-- where one of the slots has a row, they have one row at least
 pub rows_some : (slots : List Slot) → list_any (λ (slot : Slot). is_some slot.row) slots ≡ true → 1 ≤ length (filter_map (λ (slot : Slot). slot.row) slots)
 rows_some [] e = absurd (true_false (sym e))
 rows_some (x ∷ slots) e = go x.row e (rows_some slots)
@@ -306,6 +310,7 @@ rows_some (x ∷ slots) e = go x.row e (rows_some slots)
     go None e rest = rest e
     go (Some row) e rest = omega arith
 
+-- an image is granted where the block is sealed, with 1 to as many rows as it has slots
 pub images_are_told : ImagesAreTold
 images_are_told sh s t b image ok has = record { granted = granted; none = none }
   where

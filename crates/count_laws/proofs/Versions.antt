@@ -47,6 +47,7 @@ num_refl a = grind (arith, nat_tests)
 
 -- ---- sums
 
+-- a bound that holds of each element holds of the sums
 pub sum_moves : {X : Type 0} (f d g e : X → ℕ) (xs : List X) → ((x : X) → Among x xs → f x + d x ≤ g x + e x)
     → sum_by f xs + sum_by d xs ≤ sum_by g xs + sum_by e xs
 sum_moves f d g e [] each = omega arith
@@ -56,6 +57,7 @@ sum_moves f d g e (x ∷ xs) each =
     let i = sum_by-cons f x xs in let j = sum_by-cons d x xs in let k = sum_by-cons g x xs in let l = sum_by-cons e x xs in
     omega (arith, here, rest, i, j, k, l)
 
+-- the sum of nothing each time is nothing
 pub sum_none : {X : Type 0} (f : X → ℕ) (xs : List X) → ((x : X) → Among x xs → f x ≡ 0) → sum_by f xs ≡ 0
 sum_none f [] each = refl
 sum_none f (x ∷ xs) each =
@@ -64,6 +66,7 @@ sum_none f (x ∷ xs) each =
     let i = sum_by-cons f x xs in
     omega (arith, here, rest, i)
 
+-- each of the values is no more than their sum
 pub sum_least : {X : Type 0} (f : X → ℕ) (x : X) (xs : List X) → Among x xs → f x ≤ sum_by f xs
 sum_least f x [] a = absurd a
 sum_least f x (y ∷ ys) (inl e) = let i = sum_by-cons f y ys in let same = ap f e in omega (arith, i, same)
@@ -122,16 +125,19 @@ count_parted p q (x ∷ xs) both = go (q x) refl (count_parted p q xs both)
 in_tables : (sh : Shape) (t : ℕ) → Among t (tables_of sh) → t < length sh.tables
 in_tables sh t a = let r = member_below 0 (length sh.tables) t a in omega (arith, r)
 
+-- a bound that holds of each block holds over all blocks
 pub total_moves : (sh : Shape) (f d g e : ℕ → ℕ → ℕ) → ((t b : ℕ) → HasBlock sh t b → f t b + d t b ≤ g t b + e t b)
     → total sh f + total sh d ≤ total sh g + total sh e
 total_moves sh f d g e each =
     sum_moves (λ t. sum_by (f t) (below (blocks_of sh t))) (λ t. sum_by (d t) (below (blocks_of sh t))) (λ t. sum_by (g t) (below (blocks_of sh t))) (λ t. sum_by (e t) (below (blocks_of sh t))) (tables_of sh)
     (λ t a. sum_moves (f t) (d t) (g t) (e t) (below (blocks_of sh t)) (λ b c. each t b (in_block sh t b (in_tables sh t a) c)))
 
+-- what is nothing in each block is nothing over all blocks
 pub total_none : (sh : Shape) (f : ℕ → ℕ → ℕ) → ((t b : ℕ) → HasBlock sh t b → f t b ≡ 0) → total sh f ≡ 0
 total_none sh f each = sum_none (λ t. sum_by (f t) (below (blocks_of sh t))) (tables_of sh)
     (λ t a. sum_none (f t) (below (blocks_of sh t)) (λ b c. each t b (in_block sh t b (in_tables sh t a) c)))
 
+-- the count of each block is no more than that over all blocks
 pub total_least : (sh : Shape) (f : ℕ → ℕ → ℕ) (t b : ℕ) → HasBlock sh t b → f t b ≤ total sh f
 total_least sh f t b has =
     let table = sum_least (λ t. sum_by (f t) (below (blocks_of sh t))) t (tables_of sh) (below_member 0 (length sh.tables) t (omega arith) (let h = has.0 in omega (arith, h))) in
@@ -141,6 +147,7 @@ total_least sh f t b has =
 abbrev only : ℕ → ℕ → ℕ → ℕ → ℕ → ℕ
 only u c n t b = cond ((t == u) && (b == c)) n 0
 
+-- a count of one place alone, summed over a range, is no more than that count
 pub sum_only : (k n a m : ℕ) → sum_by (λ b. cond (b == k) n 0) (range_with_len a m) ≤ n
 sum_only k n a zero = omega arith
 sum_only k n a (suc m) = go (a == k) refl (sum_only k n (a + 1) m)
@@ -559,6 +566,7 @@ module _ (sh : Shape) (s : Parts) (ok : Sound sh s) where
     event_owns (event.Image u c image) lawful = quiet_fewer (is_of r) (changes_of sh s (event.Image u c image)) u c imaged (λ t b y. refl) (λ y. omega arith)
     event_owns (event.Thaw u c) lawful = quiet_fewer (is_of r) (changes_of sh s (event.Thaw u c)) u c thawed (λ t b y. refl) (λ y. omega arith)
 
+-- entries are more by no more than an event writes or stamps, less what it drops
 pub versions_are_counted : VersionsAreCounted
 versions_are_counted sh s made ok lawful = go made.refused
   where
@@ -588,6 +596,7 @@ bare_none : (n : ℕ) (p : Undo Before → Bool) → sum_by (counts p) (replicat
 bare_none zero p = refl
 bare_none (suc n) p = let i = sum_by-cons (counts p) bare (replicate n bare) in let rest = bare_none n p in omega (arith, i, rest)
 
+-- in the opening core there is no entry with a stamp
 pub opens_without : OpensWithout
 opens_without sh shape = total_none sh (entries_at sh is_stamped (opening sh))
     (λ t b has. ap (entries_in is_stamped) (ap body_from (part_there (opening_part sh) (names sh) (BodyOf t b) (body_named sh t b has))) ∙ bare_none (slots_of sh t) is_stamped)
@@ -599,6 +608,7 @@ each_slot g (x ∷ slots) each =
     let rest = each_slot g slots (λ j less. each (suc j) (omega (arith, less))) in
     let i = sum_by-cons g x slots in omega (arith, here, rest, i)
 
+-- a session without a transaction has no entry
 pub idle_owns_none : IdleOwnNone
 idle_owns_none sh s q shape ok low idle = total_none sh (entries_at sh (is_of q) s) (λ t b has. each_slot (counts (is_of q)) (body_at sh s t b).slots (slot t b has))
   where

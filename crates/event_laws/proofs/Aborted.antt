@@ -85,6 +85,7 @@ kept_is keep ix k =
     go None = refl
     go (Some ps) = refl
 
+-- a place that is kept is one of the places, and passes
 pub among_filter : (keep : ℕ → Bool) (p : ℕ) (ps : List ℕ) → Among p (filter keep ps) → Among p ps × (keep p ≡ true)
 among_filter keep p [] a = absurd a
 among_filter keep p (x ∷ ps) a = go (keep x) refl a (among_filter keep p ps)
@@ -94,6 +95,7 @@ among_filter keep p (x ∷ ps) a = go (keep x) refl a (among_filter keep p ps)
     go true is (inr b) rest = let r = rest b in (inr r.0, r.1)
     go false is b rest = let r = rest b in (inr r.0, r.1)
 
+-- one of the places that passes is kept
 pub filter_among : (keep : ℕ → Bool) (p : ℕ) (ps : List ℕ) → Among p ps → keep p ≡ true → Among p (filter keep ps)
 filter_among keep p [] a k = absurd a
 filter_among keep p (x ∷ ps) a k = go (keep x) refl a (λ b. filter_among keep p ps b k)
@@ -128,6 +130,7 @@ writer_is q o is = ap (is_writer q) is ∙ self q
     self : (q : ℕ) → (q == q) ≡ true
     self q = grind (arith, nat_tests)
 
+-- In a body that is rolled back each sound slot is rolled back.
 pub rolled_slot : (q newest commits : ℕ) (body : Body) (j : ℕ) → IsSoundSlot newest commits (slot_in body j) → slot_in (rolled_back_in q body) j ≡ rolled_back q (slot_in body j)
 rolled_slot q newest commits body j ok = go (is_written_by q body) refl
   where
@@ -144,6 +147,7 @@ rolled_slot q newest commits body j ok = go (is_written_by q body) refl
 
 -- ---- abort
 
+-- An abort is answered as the machine may, and the parts follow.
 pub abort_serves : (sh : Shape) (s : Parts) (me : OwnTransaction) → HasOpen (desk_at sh s) me.session me.snapshot
     → Serves sh s (event.Abort me) (command_of me.session act.Abort)
 abort_serves sh s me has m f = (

@@ -100,5 +100,6 @@ module _ (sh : Shape) (s : Parts) (kinds : (name : Name) → KindIf name (part_n
       go (inl x) = at x.0 x.2 (new.2 k r (subst (Among r) x.1 a))
       go (inr x) = inl (subst (Among r) x.0 a)
 
+  -- the place is a candidate of the key, and all other candidates are as before
   pub place_added : IsAdded (places_at sh s) (places_at sh parts) t p key
   place_added = record { added = added; kept = kept; more = more }

@@ -45,6 +45,7 @@ pub record AreFar (one other : MovePair) : Type 0 where
   pub to : one.source ≢ other.target
   pub from : one.target ≢ other.source
 
+-- no two of the pairs share a place, nor is a pair's source its target
 abbrev pub Apart : List MovePair → Type 0
 Apart [] = Unit {0}
 Apart (first ∷ rest) = (first.source ≢ first.target) × ((other : MovePair) → Among other rest → AreFar first other) × Apart rest
@@ -74,11 +75,13 @@ apart_by (first ∷ rest) cross more ss ts = (
       (pairs_tail (λ a b. a ≢ b) first.target (map target_of rest) ts),
 )
 
+-- pairs of which no place stands twice are apart
 pub apart : (pairs : List MovePair) → NoPlaceTwice pairs → Apart pairs
 apart pairs all = apart_by pairs
     (λ one other a b. pairs_across (λ a b. a ≢ b) (map source_of pairs) (map target_of pairs) one.source other.target all (member_map source_of pairs one a) (member_map target_of pairs other b))
     (map target_of pairs) all (pairs_right (λ a b. a ≢ b) (map source_of pairs) (map target_of pairs) all)
 
+-- what is kept is among the list, and passes
 pub kept_among : {X : Type 0} (test : X → Bool) (xs : List X) (y : X) → Among y (filter test xs) → Among y xs × (test y ≡ true)
 kept_among test [] y a = absurd a
 kept_among {X} test (x ∷ xs) y a = go (test x) refl a (kept_among test xs y)
@@ -88,6 +91,7 @@ kept_among {X} test (x ∷ xs) y a = go (test x) refl a (kept_among test xs y)
     go true is (inr b) rest = let r = rest b in (inr r.0, r.1)
     go false is b rest = let r = rest b in (inr r.0, r.1)
 
+-- the pairs that are kept are apart
 pub apart_kept : (test : MovePair → Bool) (pairs : List MovePair) → Apart pairs → Apart (filter test pairs)
 apart_kept test [] far = tt
 apart_kept test (first ∷ rest) far = go (test first) (apart_kept test rest far.2)

@@ -217,9 +217,11 @@ module _ (sh : Shape) (s : Parts) (me : OwnKey) (t : ℕ) (key : ℤ)
       (machine_refuses answer.Missing (refusal_by newer.Nothing nn ∙ ap (λ o. cond (is_none o) (Some answer.Missing) None) fr))
   cases newer.Nothing (Some row) nn fr = found_one row nn fr
 
+  -- A change of a key's row is answered as the machine may, and the parts follow.
   pub change_served : Goal
   change_served = cases met (found sh s me t key) refl refl
 
+-- A delete is answered as the machine may, and the parts follow.
 pub delete_serves : (sh : Shape) (s : Parts) (own : OwnKey) (t : ℕ) (key : ℤ) → HasOpen (desk_at sh s) own.session own.snapshot
     → OwnSlot (slot_at sh s) (places_at sh s) own.session t key own.written
     → Serves sh s (event.Delete own t key) (command_of own.session (act.Delete t key))

@@ -27,6 +27,7 @@ use Rattle.undo_chain.specs.declared.undo.Undo.{Undo}
 use Rattle.undo_chain.specs.Entry.{is_in_view}
 use Rattle.undo_chain.proofs.Views.{images_at_view, images_passed}
 
+-- where each version fits, so does the row that stands there
 pub current_fits : (columns : List Column) (row : Option Row) (es : List (Undo Before)) → VersionsFit columns row es → IfSome row (Fits columns)
 current_fits columns row [] fit = fit
 current_fits columns row (e ∷ es) fit = fit.0
@@ -48,6 +49,7 @@ slot_fits columns [] j all = tt
 slot_fits columns (x ∷ slots) zero all = All-head (λ (slot : Slot). VersionsFit columns slot.row slot.entries) x slots all
 slot_fits columns (x ∷ slots) (suc j) all = slot_fits columns slots j (All-tail (λ (slot : Slot). VersionsFit columns slot.row slot.entries) x slots all)
 
+-- the versions of each slot fit its table's columns
 pub versions_fit : (sh : Shape) (s : Parts) (ok : Sound sh s) (t p : ℕ) → VersionsFit (columns_in sh t) (slot_at sh s t p).row (slot_at sh s t p).entries
 versions_fit sh s ok t p = go (part_named (names sh) s (BodyOf t (block_of p))) refl (each_kind sh s ok.kinds (BodyOf t (block_of p)))
   where
@@ -69,6 +71,7 @@ first_fits columns answer (p ∷ places) each = go (answer p) (each p) (first_fi
     go None a b = b
     go (Some row) a b = a
 
+-- the row that a transaction finds of a key fits the columns
 pub found_fits : (sh : Shape) (s : Parts) (ok : Sound sh s) (own : OwnKey) (t : ℕ) (key : ℤ) → IfSome (found sh s own t key) (Fits (columns_in sh t))
 found_fits sh s ok own t key = go own.written
   where
@@ -79,6 +82,7 @@ found_fits sh s ok own t key = go own.written
     go None = first_fits (columns_in sh t) (λ p. seen (slot_at sh s t p) own.snapshot.stamp own.session) (places_at sh s t key) at
     go (Some p) = at p
 
+-- a row that fits has a cell for each column
 pub fits_length : (columns : List Column) (row : Row) → Fits columns row → length row ≡ length columns
 fits_length columns row fit = go (length row == length columns) refl fit
   where
@@ -86,6 +90,7 @@ fits_length columns row fit = go (length row == length columns) refl fit
     go true is f = grind (arith, nat_tests)
     go false is f = cc
 
+-- a row that fits a table fits its columns
 pub fits_columns : (sh : Shape) (t : ℕ) (row : Row) → t < length sh.tables → FitsTable sh t row → Fits (columns_in sh t) row
 fits_columns sh t row has fit = go (slice_get sh.tables t) refl fit
   where

@@ -31,6 +31,7 @@ all_bare (x ∷ slots) (suc j) is = all_bare slots j (go (is_bare x) (list_all i
     go true b e = e
     go false b e = cc
 
+-- the first of those that pass is one of all, and passes
 pub filter_first : (p : ℕ → Bool) (xs : List ℕ) (b : ℕ) (rest : List ℕ) → filter p xs ≡ b ∷ rest → Among b xs × (p b ≡ true)
 filter_first p [] b rest is = cc
 filter_first p (x ∷ xs) b rest is = go (p x) refl is (filter_first p xs b rest)
@@ -39,12 +40,15 @@ filter_first p (x ∷ xs) b rest is = go (p x) refl is (filter_first p xs b rest
     go true px is more = let e : x ≡ b = cc in (inl (sym e), sym (ap p e) ∙ px)
     go false px is more = let r = more is in (inr r.0, r.1)
 
+-- a place has the block that it is made of
 pub block_is : (b j : ℕ) → j < 2 ^ 20 → block_of (place_of b j) ≡ b
 block_is b j lt = omega arith
 
+-- and the slot
 pub slot_is : (b j : ℕ) → j < 2 ^ 20 → slot_of (place_of b j) ≡ j
 slot_is b j lt = omega arith
 
+-- The slot that a table's head hands out next is there, and free.
 pub next_is_there : (sh : Shape) (s : Parts) (t : ℕ) → IsShape sh → Sound sh s → HasTable sh t → NextIsFree sh s t
 next_is_there sh s t shape ok has = λ p is. go p (nat_lt (head_at sh s t).taken S) refl is
   where

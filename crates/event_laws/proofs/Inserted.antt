@@ -185,6 +185,7 @@ module _ (sh : Shape) (s : Parts) (me : OwnKey) (t : ℕ) (row : Row) (inside : 
         ap (λ o. option_or o (cond (is_some (at_place (seen_rows m the) (place_of t row))) (Some answer.Exists) None)) clear
         ∙ ap (λ o. cond (is_some o) (Some answer.Exists) None) (sym found_here ∙ missing)
 
+    -- an insert that the core and the machine accept
     pub accepted : Goal
     accepted = (
       with_own me.session (place_of t row) (Some row) m,
@@ -227,5 +228,6 @@ module _ (sh : Shape) (s : Parts) (me : OwnKey) (t : ℕ) (row : Row) (inside : 
       accepted (sym conflict_here ∙ ap answer_of nn) fr p gp
       (ap (λ x. told x (found sh s me t key) goes) nn ∙ ap (λ o. told newer.Nothing o goes) fr ∙ ap (told newer.Nothing None) gp)
 
+  -- An insert is answered as the machine may, and the parts follow.
   pub insert_served : Goal
   insert_served = cases met (found sh s me t key) goes refl refl refl

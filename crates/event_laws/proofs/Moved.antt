@@ -31,6 +31,7 @@ abbrev pub Wide : Shape → Parts → ℕ → Type 0
 Wide sh s t = (b : ℕ) → HasBlock sh t b
     → (body : Body) × (part_named (names sh) s (BodyOf t b) ≡ Some (part.Body body)) × (length body.slots ≡ slots_of sh t)
 
+-- bodies that keep how many slots they have keep their table's
 pub wide_after : (sh : Shape) (s : Parts) (t : ℕ) (c : Changes) → ((b : ℕ) (x : Body) → length (c.body t b x).slots ≡ length x.slots)
     → Wide sh s t → Wide sh (each_changed c (names sh) s) t
 wide_after sh s t c same wide = λ b has. let old = wide b has in (
@@ -39,6 +40,7 @@ wide_after sh s t c same wide = λ b has. let old = wide b has in (
   same b old.0 ∙ old.2,
 )
 
+-- a change of one slot keeps how many slots a body has
 pub length_at : (t b : ℕ) (j : ℕ) (g : Slot → Slot) (u x : ℕ) (body : Body) → length (at_both t b (with_slot j g) u x body).slots ≡ length body.slots
 length_at t b j g u x body = go ((u == t) && (x == b))
   where
@@ -52,6 +54,7 @@ length_at t b j g u x body = go ((u == t) && (x == b))
 abbrev pub leaving : ℕ → ℕ → Row → (DeskState → DeskState) → MovePair → Changes
 leaving t stamp row g pair = record nothing { body = at_both t (block_of pair.source) (with_slot (slot_of pair.source) (moved_out stamp row)); desk = g }
 
+-- the changes of a pair's second half: the row comes to its target, a new candidate of its key
 abbrev pub coming : ℕ → ℕ → Row → MovePair → Changes
 coming t stamp row pair = record nothing {
   body = at_both t (block_of pair.target) (with_slot (slot_of pair.target) (moved_in stamp row));
@@ -80,6 +83,7 @@ module _ (sh : Shape) (s : Parts) (m : IsolationMachine) (f : FollowsMachine sh 
   abbrev second : Changes
   second = coming t stamp row pair
 
+  -- the parts after both halves of a pair
   abbrev pub pair_moved : Parts
   pair_moved = each_changed second (names sh) half
 
@@ -92,6 +96,7 @@ module _ (sh : Shape) (s : Parts) (m : IsolationMachine) (f : FollowsMachine sh 
   wide_half : Wide sh half t
   wide_half = wide_after sh s t first (λ b x. length_at t (block_of pair.source) (slot_of pair.source) (moved_out stamp row) t b x) wide
 
+  -- each body still has its table's slots
   pub pair_wide : Wide sh pair_moved t
   pair_wide = wide_after sh half t second (λ b x. length_at t (block_of pair.target) (slot_of pair.target) (moved_in stamp row) t b x) wide_half
 
@@ -119,6 +124,7 @@ module _ (sh : Shape) (s : Parts) (m : IsolationMachine) (f : FollowsMachine sh 
       let inside = ready.target_place.1 in let size = body.2 in
       write_else sh half second (moved_in stamp row) t pair.target body.0 kinds body.1 (omega (arith, inside, size)) (λ u b x. refl)
 
+  -- the row has moved from its source to its target
   pub pair_slots : IsMoved (slot_at sh s) (slot_at sh pair_moved) stamp t pair.source pair.target row
   pair_slots = record {
     source_before = ready.full;
@@ -131,16 +137,19 @@ module _ (sh : Shape) (s : Parts) (m : IsolationMachine) (f : FollowsMachine sh 
   half_places : (u : ℕ) (k : ℤ) → places_at sh half u k ≡ places_at sh s u k
   half_places u k = places_stay sh s first (λ t i x. refl) u k (f.kinds (ShardOf u (shard_of k)))
 
+  -- the target is a new candidate of the key
   pub pair_places : IsAdded (places_at sh s) (places_at sh pair_moved) t pair.target pair.key
   pair_places = subst (λ (places : ℕ → ℤ → List ℕ). IsAdded places (places_at sh pair_moved) t pair.target pair.key)
       (λ i u k. half_places u k i)
       (place_added sh half kinds shards second t pair.key pair.target has (λ u i x. refl))
 
+  -- the desk has the move's stamp, and is else as it was
   pub pair_desk : desk_at sh pair_moved ≡ record (desk_at sh s) { newest = stamp }
   pair_desk =
       desk_at_after sh half second (g f.desk.0) (desk_after sh s first f.desk.0 f.desk.1)
       ∙ desk_at_after sh s first f.desk.0 f.desk.1 ∙ is
 
+  -- After a pair has moved the parts still follow the machine.
   pub pair_follows : FollowsMachine sh pair_moved m
   pair_follows = record {
     kinds = kinds_after sh half second kinds;
@@ -167,13 +176,16 @@ module _ (sh : Shape) (s : Parts) (m : IsolationMachine) (f : FollowsMachine sh 
 abbrev pub left_half : ℕ → (MovePair → Row) → ℕ → MovePair → Body → Body
 left_half stamp row b pair body = cond (block_of pair.source == b) (with_slot (slot_of pair.source) (moved_out stamp (row pair)) body) body
 
+-- a body after both halves of a pair
 abbrev pub halves : ℕ → (MovePair → Row) → ℕ → Body → MovePair → Body
 halves stamp row b body pair =
     cond (block_of pair.target == b) (with_slot (slot_of pair.target) (moved_in stamp (row pair)) (left_half stamp row b pair body)) (left_half stamp row b pair body)
 
+-- a shard after a pair's candidate
 abbrev pub placed_pair : ℕ → Places → MovePair → Places
 placed_pair i places pair = cond (shard_of pair.key == i) (with_place pair.key pair.target places) places
 
+-- the changes of several pairs, and what they make of the desk
 abbrev pub moving : ℕ → ℕ → (MovePair → Row) → (DeskState → DeskState) → List MovePair → Changes
 moving t stamp row g pairs = record nothing {
   shard = λ u i x. cond (u == t) (fold (placed_pair i) x pairs) x;
@@ -191,6 +203,7 @@ pairing t stamp row g pair = record nothing {
 num_flip : (a b : ℕ) → (a == b) ≡ (b == a)
 num_flip a b = grind (arith, nat_tests)
 
+-- to move pairs is to move the first and then the rest
 pub moving_first : (t stamp : ℕ) (row : MovePair → Row) (g : DeskState → DeskState) (first : MovePair) (rest : List MovePair)
     → IsTwice (pairing t stamp (row first) g first) (moving t stamp row (λ desk. desk) rest) (moving t stamp row g (first ∷ rest))
 moving_first t stamp row g first rest = record {
@@ -249,6 +262,7 @@ cond_same : {X : Type 0} (b : Bool) (x : X) → cond b x x ≡ x
 cond_same true x = refl
 cond_same false x = refl
 
+-- to move no pair is to change nothing
 pub moving_none : (sh : Shape) (s : Parts) (t stamp : ℕ) (row : MovePair → Row) → each_changed (moving t stamp row (λ desk. desk) []) (names sh) s ≡ each_changed nothing (names sh) s
 moving_none sh s t stamp row = ap (λ (c : Changes). each_changed c (names sh) s) (λ i. record {
   head = λ u x. x;
@@ -257,6 +271,7 @@ moving_none sh s t stamp row = ap (λ (c : Changes). each_changed c (names sh) s
   desk = λ x. x;
 })
 
+-- Pairs that are apart and ready move one after another, and the parts follow the machine.
 pub rest_follows : (sh : Shape) (t stamp : ℕ) (row : MovePair → Row) (m : IsolationMachine) → HasTable sh t
     → (pairs : List MovePair) (s : Parts) → FollowsMachine sh s m → Wide sh s t
     → (desk_at sh s).newest ≡ stamp

@@ -15,6 +15,7 @@ use Rattle.event_spec.specs.Sound.{IsOfKind, Sound}
 use Rattle.key_index.specs.Candidates.{Places}
 use Rattle.txn_desk.specs.Desk.{DeskState}
 
+-- a name of which there is a part is one of the names
 pub named_member : (ns : List Name) (s : Parts) (w : Name) (piece : CorePart) → part_named ns s w ≡ Some piece → Among w ns
 named_member [] s w piece is = cc
 named_member (n ∷ ns) [] w piece is = cc
@@ -24,15 +25,19 @@ named_member (n ∷ ns) (p ∷ s) w piece is = go (same_name n w) refl is (named
     go true e x rest = inl (sym (name_is n w e))
     go false e x rest = inr (rest x)
 
+-- the names of all heads
 abbrev pub heads_in : Shape → List Name
 heads_in sh = map HeadOf (below (length sh.tables))
 
+-- the names of all shards
 abbrev pub shards_in : Shape → List Name
 shards_in sh = flat_map (λ t. map (ShardOf t) (below 8)) (below (length sh.tables))
 
+-- the names of all bodies
 abbrev pub bodies_in : Shape → List Name
 bodies_in sh = flat_map (λ t. map (BodyOf t) (below (blocks_of sh t))) (below (length sh.tables))
 
+-- a body that has a part is of a block that there is
 pub body_is_there : (sh : Shape) (s : Parts) (t b : ℕ) (piece : CorePart) → part_named (names sh) s (BodyOf t b) ≡ Some piece → HasBlock sh t b
 body_is_there sh s t b piece is =
     either (split (heads_in sh ++ shards_in sh ++ bodies_in sh) (TheDesk ∷ []) (BodyOf t b) (named_member (names sh) s (BodyOf t b) piece is))
@@ -73,6 +78,7 @@ body_is_there sh s t b piece is =
 
 -- ---- the names of a shape
 
+-- a table's head is named
 pub head_named : (sh : Shape) (t : ℕ) → HasTable sh t → Among (HeadOf t) (names sh)
 head_named sh t has =
     in_left (heads_in sh ++ shards_in sh ++ bodies_in sh) (TheDesk ∷ []) (HeadOf t)
@@ -80,6 +86,7 @@ head_named sh t has =
     (in_left (heads_in sh) (shards_in sh) (HeadOf t)
     (member_map HeadOf (below (length sh.tables)) t (below_member 0 (length sh.tables) t (omega arith) (omega (arith, has))))))
 
+-- each of its shards is
 pub shard_named : (sh : Shape) (t i : ℕ) → HasTable sh t → i < 8 → Among (ShardOf t i) (names sh)
 shard_named sh t i has small =
     in_left (heads_in sh ++ shards_in sh ++ bodies_in sh) (TheDesk ∷ []) (ShardOf t i)
@@ -89,6 +96,7 @@ shard_named sh t i has small =
     (below_member 0 (length sh.tables) t (omega arith) (omega (arith, has)))
     (member_map (ShardOf t) (below 8) i (below_member 0 8 i (omega arith) (omega (arith, small)))))))
 
+-- the body of each block is
 pub body_named : (sh : Shape) (t b : ℕ) → HasBlock sh t b → Among (BodyOf t b) (names sh)
 body_named sh t b has =
     let h0 = has.0 in let h1 = has.1 in
@@ -98,6 +106,7 @@ body_named sh t b has =
     (below_member 0 (length sh.tables) t (omega arith) (omega (arith, h0)))
     (member_map (BodyOf t) (below (blocks_of sh t)) b (below_member 0 (blocks_of sh t) b (omega arith) (omega (arith, h1))))))
 
+-- and the desk is
 pub desk_named : (sh : Shape) → Among TheDesk (names sh)
 desk_named sh = in_right (heads_in sh ++ shards_in sh ++ bodies_in sh) (TheDesk ∷ []) TheDesk (inl refl)
 
@@ -154,21 +163,27 @@ a_desk (Some (part.Body x)) k = absurd k
 a_desk (Some (part.Desk x)) k = (x, refl)
 
 module _ (sh : Shape) (s : Parts) (kinds : All (λ name. IsOfKind name (part_at sh s name)) (names sh)) where
+  -- what stands at a name is of its kind
   pub at_name : (name : Name) → Among name (names sh) → IsOfKind name (part_at sh s name)
   at_name name a = all_at (λ name. IsOfKind name (part_at sh s name)) (names sh) name kinds a
 
+  -- the head of a table is there
   pub head_there : (t : ℕ) → HasTable sh t → (x : Head) × (part_at sh s (HeadOf t) ≡ Some (part.Head x))
   head_there t has = a_head t (part_at sh s (HeadOf t)) (at_name (HeadOf t) (head_named sh t has))
 
+  -- each of its shards is
   pub shard_there : (t i : ℕ) → HasTable sh t → i < 8 → (x : Places) × (part_at sh s (ShardOf t i) ≡ Some (part.Shard x))
   shard_there t i has small = a_shard t i (part_at sh s (ShardOf t i)) (at_name (ShardOf t i) (shard_named sh t i has small))
 
+  -- the body of each block is
   pub body_there : (t b : ℕ) → HasBlock sh t b → (x : Body) × (part_at sh s (BodyOf t b) ≡ Some (part.Body x))
   body_there t b has = a_body t b (part_at sh s (BodyOf t b)) (at_name (BodyOf t b) (body_named sh t b has))
 
+  -- and the desk is
   pub desk_there : (x : DeskState) × (part_at sh s TheDesk ≡ Some (part.Desk x))
   desk_there = a_desk (part_at sh s TheDesk) (at_name TheDesk (desk_named sh))
 
+  -- what stands at any name, if something does, is of its kind
   pub each_kind : (name : Name) → KindIf name (part_at sh s name)
   each_kind name = go (part_at sh s name) refl
     where
@@ -177,6 +192,7 @@ module _ (sh : Shape) (s : Parts) (kinds : All (λ name. IsOfKind name (part_at 
       go (Some piece) is =
           kind_if name (Some piece) (subst (IsOfKind name) is (at_name name (named_member (names sh) s name piece is)))
 
+-- The parts of a sound state follow its machine.
 pub follows_machine : (sh : Shape) (s : Parts) (ok : Sound sh s) → FollowsMachine sh s ok.follows.0
 follows_machine sh s ok = record {
   kinds = each_kind sh s ok.kinds;

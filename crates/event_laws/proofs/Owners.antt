@@ -30,6 +30,7 @@ use Rattle.undo_chain.specs.declared.undo.Undo.{Undo}
 
 -- ---- a slot's key
 
+-- a slot of a key that is not bare tells the key
 pub slot_key_is : (key : ℤ) (slot : Slot) → Keyed key slot.row slot.entries → is_bare slot ≡ false → slot_key slot.row slot.entries ≡ Some key
 slot_key_is key slot keyed filled = go slot.row slot.entries keyed filled
   where
@@ -110,6 +111,7 @@ module _ (sh : Shape) (s : Parts) (ok : Sound sh s) (q : ℕ) where
 abbrev pub open_with : List Write → Snapshot → Opened
 open_with writes snapshot = record { snapshot = snapshot; writes = writes }
 
+-- what a session has open: its snapshot from the desk, and what it wrote
 pub transaction_is : (sh : Shape) (s : Parts) (q : ℕ) → 1 ≤ q → transaction sh s q ≡ option_map (open_with (writes_of sh s q)) (snapshot_of (desk_at sh s) q)
 transaction_is sh s zero some = absurd (omega (arith, some))
 transaction_is sh s (suc n) some = refl
@@ -131,6 +133,7 @@ module _ (sh : Shape) (s : Parts) (ok : Sound sh s) where
       let o = is_opened sh s own.session (λ has. IsOwnKey sh s own t key has) owns.0.0 owns.1 in
       record { counted = owns.0.0; is_open = o.1 ∙ ap Some (sym o.2.snapshot) }
 
+  -- what an event is handed of a key is the slot that the session wrote
   pub key_slot : (own : OwnKey) (t : ℕ) (key : ℤ) → OwnsKey sh own t key s
       → OwnSlot (slot_at sh s) (places_at sh s) own.session t key own.written
   key_slot own t key owns =
@@ -145,6 +148,7 @@ module _ (sh : Shape) (s : Parts) (ok : Sound sh s) where
       let o = is_opened sh s own.session (λ has. IsOwn sh s own has) owns.0.0 owns.1 in
       record { counted = owns.0.0; is_open = o.1 ∙ ap Some (sym o.2.snapshot) }
 
+  -- and so is what it is handed of all keys
   pub all_slots : (own : OwnTransaction) → OwnsAll sh own s → (t : ℕ) (key : ℤ)
       → OwnSlot (slot_at sh s) (places_at sh s) own.session t key (at_place own.writes (place_at t key))
   all_slots own owns t key =

@@ -22,16 +22,20 @@ use Rattle.std.specs.FinMap as finite
 abbrev pub has_place : ℕ → List ℕ → Bool
 has_place place places = list_any (λ other. other == place) places
 
+-- places of one block and slot are one
 pub same_place : (r p : ℕ) → block_of r ≡ block_of p → slot_of r ≡ slot_of p → r ≡ p
 same_place r p a b = omega arith
 
+-- a key's shard is one of eight
 pub shard_small : (key : ℤ) → shard_of key < 8
 shard_small (pos n) = omega arith
 shard_small (negsuc n) = omega arith
 
+-- the slot that is changed
 pub with_slot_here : (j : ℕ) (g : Slot → Slot) (body : Body) → j < length body.slots → slot_in (with_slot j g body) j ≡ g (slot_in body j)
 with_slot_here j g body inside = get_or-set_same body.slots j (g (slot_in body j)) bare inside
 
+-- another slot, which stays
 pub with_slot_else : (j i : ℕ) (g : Slot → Slot) (body : Body) → i ≢ j → slot_in (with_slot j g body) i ≡ slot_in body i
 with_slot_else j i g body ne = get_or-set_other body.slots j i (g (slot_in body j)) bare ne
 
@@ -48,6 +52,7 @@ inside_of body j filled = go (Rattle.std.proofs.Common.ltb j (length body.slots)
 
 -- ---- candidates
 
+-- a place that is found is one of the places
 pub has_among : (p : ℕ) (ps : List ℕ) → has_place p ps ≡ true → Among p ps
 has_among p [] is = cc
 has_among p (x ∷ ps) is = go (x == p) refl is (has_among p ps)
@@ -75,6 +80,7 @@ among_more r p (x ∷ ps) (inr a) = go (among_more r p ps a)
     go (inl b) = inl (inr b)
     go (inr e) = inr e
 
+-- two keys are the same or not
 pub key_cases : (k key : ℤ) → ((eq_by_cmp int_cmp k key ≡ true) × (k ≡ key)) ⊎ ((eq_by_cmp int_cmp k key ≡ false) × (k ≢ key))
 key_cases k key = go (int_cmp k key) refl
   where

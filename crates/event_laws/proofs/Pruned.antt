@@ -138,6 +138,7 @@ module _ (sh : Shape) (s : Parts) (t b oldest : ℕ) (m : IsolationMachine) (liv
       go (inl x) = subst (Among p) (sym x.1) (filter_among (keep u) p (places_at sh s u key) a (ap not (sym (seen_swept u p x.0) ∙ is)))
       go (inr x) = subst (Among p) (sym x.1) a
 
+  -- After a pruning the parts still follow the machine.
   pub prune_followed : FollowsMachine sh after m
   prune_followed = record {
     kinds = kinds_after sh s c f.kinds;

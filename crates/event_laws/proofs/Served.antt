@@ -31,6 +31,7 @@ use Rattle.txn_desk.specs.Oldest.{HasPass, snapshot_of}
 
 -- ---- begin
 
+-- A begin is answered as the machine may, and the parts follow.
 pub begin_serves : (sh : Shape) (s : Parts) (q : ℕ) → HasPass (desk_at sh s) q → snapshot_of (desk_at sh s) q ≡ None
     → Serves sh s (event.Begin q) (command_of q act.Begin)
 begin_serves sh s q pass idle m f = (
@@ -52,6 +53,7 @@ begin_serves sh s q pass idle m f = (
 
 -- ---- get
 
+-- A get is answered as the machine may, and the parts follow.
 pub get_serves : (sh : Shape) (s : Parts) (own : OwnKey) (t : ℕ) (key : ℤ) → HasOpen (desk_at sh s) own.session own.snapshot
     → OwnSlot (slot_at sh s) (places_at sh s) own.session t key own.written
     → Serves sh s (event.Get own t key) (command_of own.session (act.Get t key))
@@ -189,9 +191,6 @@ module _ (sh : Shape) (s : Parts) (me : OwnTransaction) (has : HasOpen (desk_at 
     },
   )
 
-  pub commit_slot : (t p : ℕ) → slot_at sh (effect sh s c) t p
-      ≡ cond (is_some_write me.writes) (committed q ((desk_at sh s).newest + 1) ((desk_at sh s).commits + 1) (slot_at sh s t p)) (slot_at sh s t p)
-  commit_slot = slot_when (is_some_write me.writes) refl
-
+  -- A commit is answered as the machine may, and the parts follow.
   pub commit_served : (m' : IsolationMachine) × IsTold m (command_of q act.Commit) (reply_to sh s c) m' × FollowsMachine sh (effect sh s c) m'
   commit_served = served (is_some_write me.writes) refl

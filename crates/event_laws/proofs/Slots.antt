@@ -11,9 +11,11 @@ use Rattle.event_laws.proofs.States.{named_changed, slot_after}
 use Rattle.event_laws.proofs.Places.{same_place, with_slot_here, with_slot_else, inside_of}
 use Rattle.event_spec.specs.declared.part.Part.TheVariants as part
 
+-- numbers that are tested as one are one
 pub num : (a b : ℕ) → (a == b) ≡ true → a ≡ b
 num a b e = grind (arith, nat_tests)
 
+-- a number is tested as itself
 pub num_refl : (a : ℕ) → (a == a) ≡ true
 num_refl a = grind (arith, nat_tests)
 
@@ -26,6 +28,7 @@ module _ (sh : Shape) (s : Parts) (c : Changes) (g : Slot → Slot) (t p : ℕ) 
   abbrev after : Parts
   after = each_changed c (names sh) s
 
+  -- the slot at its place is changed
   pub write_here : slot_at sh after t p ≡ g (slot_at sh s t p)
   write_here =
       ap (λ o. slot_in (body_from o) (slot_of p)) (named_changed c (names sh) s (BodyOf t (block_of p)) ∙ ap (option_map (changed c (BodyOf t (block_of p)))) there)
@@ -35,6 +38,7 @@ module _ (sh : Shape) (s : Parts) (c : Changes) (g : Slot → Slot) (t p : ℕ) 
       ∙ with_slot_here (slot_of p) g body inside
       ∙ ap (λ o. g (slot_in (body_from o) (slot_of p))) (sym there)
 
+  -- each other slot stays
   pub write_else : (u r : ℕ) → ((u ≡ t) → (r ≡ p) → ⊥) → slot_at sh after u r ≡ slot_at sh s u r
   write_else u r no' = slot_after sh s c (λ x. x) refl u r (kinds (BodyOf u (block_of r)))
       (ap (λ x. slot_in x (slot_of r)) (bodies u (block_of r) (body_at sh s u (block_of r))) ∙ go (u == t) (block_of r == block_of p) refl refl)

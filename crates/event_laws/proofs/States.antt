@@ -65,10 +65,12 @@ pub record IsTwice (c d e : Changes) : Type 0 where
   pub body : (t b : ℕ) (x : Body) → e.body t b x ≡ d.body t b (c.body t b x)
   pub desk : (x : DeskState) → e.desk x ≡ d.desk (c.desk x)
 
+-- one change after another, at one part
 pub changed_twice : (c d e : Changes) → IsTwice c d e → (n : Name) (piece : CorePart) → changed e n piece ≡ changed d n (changed c n piece)
 changed_twice c d e is n piece = sym (twice_at (λ n x. Unit {0}) c d e
     (record { head = λ t x h. sym (is.head t x); shard = λ t i x h. sym (is.shard t i x); body = λ t b x h. sym (is.body t b x); desk = λ x h. sym (is.desk x) }) n piece tt)
 
+-- and at all parts
 pub each_twice : (c d e : Changes) → IsTwice c d e → (ns : List Name) (s : Parts) → each_changed e ns s ≡ each_changed d ns (each_changed c ns s)
 each_twice c d e is [] s = refl
 each_twice c d e is (n ∷ ns) [] = refl
@@ -103,19 +105,24 @@ kind_changed c TheDesk (Some (part.Body x)) k = absurd k
 kind_changed c TheDesk (Some (part.Desk x)) k = tt
 
 module _ (sh : Shape) (s : Parts) (c : Changes) where
+  -- the parts after the changes
   abbrev pub after : Parts
   after = each_changed c (names sh) s
 
+  -- what stands at a name is still of its kind
   pub kinds_after : ((name : Name) → KindIf name (part_named (names sh) s name)) → (name : Name) → KindIf name (part_named (names sh) after name)
   kinds_after kinds name = subst (KindIf name) (sym (named_changed c (names sh) s name)) (kind_changed c name (part_named (names sh) s name) (kinds name))
 
+  -- the desk is still there, changed
   pub desk_after : (desk : DeskState) → part_named (names sh) s TheDesk ≡ Some (part.Desk desk) → part_named (names sh) after TheDesk ≡ Some (part.Desk (c.desk desk))
   desk_after desk is = named_changed c (names sh) s TheDesk ∙ ap (option_map (changed c TheDesk)) is
 
+  -- each shard is still there
   pub shards_after : ((t i : ℕ) → t < length sh.tables → i < 8 → (places : Places) × (part_named (names sh) s (ShardOf t i) ≡ Some (part.Shard places)))
       → (t i : ℕ) → t < length sh.tables → i < 8 → (places : Places) × (part_named (names sh) after (ShardOf t i) ≡ Some (part.Shard places))
   shards_after shards t i a b = let old = shards t i a b in (c.shard t i old.0, named_changed c (names sh) s (ShardOf t i) ∙ ap (option_map (changed c (ShardOf t i))) old.1)
 
+  -- the desk after the changes is the changed one
   pub desk_at_after : (desk : DeskState) → part_named (names sh) s TheDesk ≡ Some (part.Desk desk) → desk_at sh after ≡ c.desk (desk_at sh s)
   desk_at_after desk is = ap desk_from (desk_after desk is) ∙ ap (λ o. c.desk (desk_from o)) (sym is)
 

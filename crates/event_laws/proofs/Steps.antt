@@ -74,6 +74,7 @@ module _ (desk : DeskState) (bounds : (session : ℕ) (snapshot : Snapshot) → 
           subst (λ o. IfSome o (λ (snapshot : Snapshot). snapshot.stamp ≤ desk.newest)) (sym is)
           (bounds (i + 1) snapshot (omega arith) (ap (λ j. get_or desk.open_snapshots j None) here ∙ is))
 
+  -- what is not above the oldest stamp that the desk knows is not above any live one
   pub live_above : (oldest : ℕ) → oldest ≤ oldest_of desk → (stamp number : ℕ) → IsLive desk stamp number → oldest ≤ stamp
   live_above oldest low stamp number (inl both) =
       let le = (least_below desk.newest desk.open_snapshots begun).0 in let at = both.0 in
@@ -106,10 +107,12 @@ filled_plain : (row : Row) (slot : Slot) → slot ≡ plain row → is_bare slot
 filled_plain row slot is = ap is_bare is
 
 module _ (sh : Shape) (s : Parts) (ok : Sound sh s) (m : IsolationMachine) (f : FollowsMachine sh s m) (t : ℕ) (has : HasTable sh t) where
+  -- each body of the table has its slots
   pub wide : Wide sh s t
   wide = λ b has. let body = body_there sh s ok.kinds t b has in
       (body.0, body.1, ap (λ o. length (body_from o).slots) (sym body.1) ∙ (ok.bodies t b has).slots)
 
+  -- a pair that holds is ready to move
   pub ready : (pair : MovePair) → HasPlace sh t pair.source → HasPlace sh t pair.target → holds sh s t pair ≡ true → IsReady sh s t (moved_row sh s t pair) pair
   ready pair a b held = record {
     source_place = a;
@@ -147,6 +150,7 @@ module _ (sh : Shape) (s : Parts) (ok : Sound sh s) (m : IsolationMachine) (f : 
     later session snapshot open' =
         let le = (f.follows.desked.bounds session snapshot open'.counted open'.is_open).0 in omega (arith, le, stamp_is)
 
+    -- After some pairs moved, with one stamp, the parts still follow the machine.
     pub pairs_follow : (first : MovePair) (rest : List MovePair)
         → ((pair : MovePair) → Among pair (first ∷ rest) → IsReady sh s t (moved_row sh s t pair) pair) → Apart (first ∷ rest)
         → (g : DeskState → DeskState) → g (desk_at sh s) ≡ record (desk_at sh s) { newest = stamp }
@@ -254,5 +258,6 @@ module _ (sh : Shape) (s : Parts) (shape : IsShape sh) (ok : Sound sh s) (m : Is
   event_step (event.Image t b image) lawful = as_before (event.Image t b image) (slots_kept sh s t b imaged (λ body. refl) m f)
   event_step (event.Thaw t b) lawful = as_before (event.Thaw t b) (slots_kept sh s t b thawed (λ body. refl) m f)
 
+-- Each lawful event of a sound state is answered as the machine may, and the parts follow.
 pub steps : Steps
 steps sh s e shape ok lawful m f = event_step sh s shape ok m f e lawful

@@ -9,11 +9,13 @@ use Rattle.event_spec.specs.Parts.{Parts, Shape, Name, ShardOf, BodyOf, nothing,
 use Rattle.isolation_spec.specs.Machine.{IsolationMachine}
 use Rattle.txn_desk.specs.Desk.{DeskState}
 
+-- what changes nothing leaves all parts
 pub all_stay : (ns : List Name) (s : Parts) → each_changed nothing ns s ≡ s
 all_stay [] s = refl
 all_stay (n ∷ ns) [] = refl
 all_stay (n ∷ ns) (piece ∷ s) = ap (λ x. x ∷ each_changed nothing ns s) (nothing_changes n piece) ∙ ap (λ xs. piece ∷ xs) (all_stay ns s)
 
+-- Parts that nothing changes follow the machine as before.
 pub stays : (sh : Shape) (s : Parts) (m : IsolationMachine) → FollowsMachine sh s m → FollowsMachine sh (each_changed nothing (names sh) s) m
 stays sh s m f = subst (λ s'. FollowsMachine sh s' m) (sym (all_stay (names sh) s)) f
 

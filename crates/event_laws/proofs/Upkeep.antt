@@ -12,6 +12,7 @@ use Rattle.event_laws.proofs.States.{kinds_after, shards_after, desk_after, desk
 abbrev pub one_body : ℕ → ℕ → (Body → Body) → Changes
 one_body t b g = record nothing { body = at_both t b g }
 
+-- Where a body changes but its slots do not, the parts follow the machine as before.
 pub slots_kept : (sh : Shape) (s : Parts) (t b : ℕ) (g : Body → Body) → ((body : Body) → (g body).slots ≡ body.slots) → (m : IsolationMachine) → FollowsMachine sh s m
     → FollowsMachine sh (each_changed (one_body t b g) (names sh) s) m
 slots_kept sh s t b g same m f = record {

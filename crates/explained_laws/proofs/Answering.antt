@@ -72,6 +72,7 @@ needs_stands : (asked : Command) (own : Option OwnTransaction) (line : Said) →
 needs_stands asked None line is e = inr (subst (IsReplyWithout asked) (same_line said.NoTransaction line e) is)
 needs_stands asked (Some t) line is e = absurd (none_is line e)
 
+-- a refusal may stand where its command is due
 pub refusal_stands : (asked : Command) (own : Option OwnTransaction) (line : Said) → KeysFit own → refusal_of asked own ≡ Some line → MayStand asked line
 refusal_stands command.Begin None line fit e = absurd (none_is line e)
 refusal_stands command.Begin (Some t) line fit e = inl (sym (same_line said.InTransaction line e))
@@ -94,6 +95,7 @@ refusal_stands (command.Export table) (Some t) line fit e = go (least_written ta
     go None is e = absurd (none_is line e)
     go (Some key) is e = subst (MayStand (command.Export table)) (same_line (said.Dirty key) line e) (inl (least_fits table t key fit is))
 
+-- so may the lack of memory, where the command may lack it
 pub memory_stands : (asked : Command) → may_lack_memory asked ≡ true → MayStand asked said.Memory
 memory_stands command.Begin e = absurd (true_false (sym e))
 memory_stands (command.Get table key) e = inl tt

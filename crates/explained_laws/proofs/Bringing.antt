@@ -88,9 +88,11 @@ dropped_so (event.Thaw table block) r = refl
 
 -- ---- what a line counts
 
+-- the count that is told, 0 where none is
 abbrev pub count_in : (Said → Option ℕ) → Option Said → ℕ
 count_in f told = option_map_or (λ (n : ℕ). n) (option_and_then f told) 0
 
+-- what is told ends a transaction
 abbrev pub ends_told : Option Said → Bool
 ends_told told = option_map_or (λ (line : Said). is_end line) told false
 
@@ -573,6 +575,7 @@ module _ (script : Script) (parts : Parts) (front : List Occurrence) (lines : Li
             (others_stay script parts front lines seat (event.Move table moves) r low kept printed told asked made is_shown whose tt);
       }
 
+  -- An event that a call ends with brings to the counts what its line tells.
   pub brings_end : (e : CoreEvent) (refused : Bool) → Says e refused
   brings_end (event.Begin session) true named memory h all_told = absurd (true_false (sym (memory refl)))
   brings_end (event.Begin session) false named memory h all_told = reply_ending (event.Begin session) false 0 0 named h.1 refl
@@ -660,10 +663,12 @@ prune_counts script parts front lines entry count seat low high ok lawful kept q
     let m = sum_least (untold_at script front) seat (seats_of script) (below_member 1 (script.sessions + script.workers) seat low (omega (arith, high))) in
     omega (arith, k, v, s, d, m, all_told)
 
+-- what is printed is what the call told, and nothing where it told nothing
 pub shown_as : (who : Who) (call : Call) (printed : Option Entry) → IsPrinted who call printed
     → ((printed ≡ None) × (call.told ≡ None)) ⊎ ((line : Entry) × (printed ≡ Some line) × (call.told ≡ Some line.reply.said))
 shown_as who call None is = inl (refl, is)
 shown_as who call (Some line) is = inr (line, refl, is.0)
 
+-- a printed line is that of the call's session or worker, of its command
 pub whose_is : (who : Who) (call : Call) (printed : Option Entry) → IsPrinted who call printed → (line : Entry) → printed ≡ Some line → (line.reply.who ≡ who) × (line.command ≡ command_told who call.command)
 whose_is who call printed is line e = let all : IsPrinted who call (Some line) = subst (IsPrinted who call) e is in (all.1, all.2)

@@ -120,6 +120,7 @@ module _ (script : Script) (parts : Parts) (at : IsolationMachine) (follows : Fo
   first : (a : Answer × IsolationMachine) (b : Answer) (m : IsolationMachine) → a ≡ (b, m) → a.0 ≡ b
   first a b m e = ap (λ (p : Answer × IsolationMachine). p.0) e
 
+  -- an insert's conflict names one of the script's, or a commit that there was
   pub insert_small : (q table : ℕ) (row : Rattle.block_spec.specs.Slots.Row) → Small q (act.Insert table row)
   insert_small q table row = (
     λ r next e. one (transaction_of q at) r (first (step_of at (command_of q (act.Insert table row)) (transaction_of q at)) (answer.ConflictSession r) next e),
@@ -134,6 +135,7 @@ module _ (script : Script) (parts : Parts) (at : IsolationMachine) (follows : Fo
       two None n e = absurd (let never : ⊥ = cc e in never)
       two (Some t) n e = commit_small t (place_of table row) (is_some (Rattle.isolation_spec.specs.Contents.at_place (Rattle.isolation_spec.specs.Machine.seen_rows at t) (place_of table row))) answer.Exists n (λ x. let never : ⊥ = cc x in never) e
 
+  -- and so does an update's
   pub update_small : (q table : ℕ) (row : Rattle.block_spec.specs.Slots.Row) → Small q (act.Update table row)
   update_small q table row = (
     λ r next e. one (transaction_of q at) r (first (step_of at (command_of q (act.Update table row)) (transaction_of q at)) (answer.ConflictSession r) next e),
@@ -148,6 +150,7 @@ module _ (script : Script) (parts : Parts) (at : IsolationMachine) (follows : Fo
       two None n e = absurd (let never : ⊥ = cc e in never)
       two (Some t) n e = commit_small t (place_of table row) (is_none (Rattle.isolation_spec.specs.Contents.at_place (Rattle.isolation_spec.specs.Machine.seen_rows at t) (place_of table row))) answer.Missing n (λ x. let never : ⊥ = cc x in never) e
 
+  -- and a delete's
   pub delete_small : (q table : ℕ) (key : ℤ) → Small q (act.Delete table key)
   delete_small q table key = (
     λ r next e. one (transaction_of q at) r (first (step_of at (command_of q (act.Delete table key)) (transaction_of q at)) (answer.ConflictSession r) next e),

@@ -65,6 +65,7 @@ same_line a b e = cc
 
 -- ---- lines that say nothing of counts
 
+-- a line that says nothing of blocks or counts fits any lines in front
 pub plain_counts : (tables : List TableDecl) (lines : List Entry) (asked : Command) (line : Said) → is_plain line ≡ true → Counts tables lines asked line
 plain_counts tables lines asked (said.Freezing table block stamp) e = absurd (true_false (sym e))
 plain_counts tables lines asked (said.Sealed table block stamp) e = absurd (true_false (sym e))
@@ -77,6 +78,7 @@ plain_counts tables lines asked _ e = tt
 
 -- ---- a compaction moves 64 rows at most
 
+-- a filter keeps no more than there are
 pub kept_few : {X : Type 0} (p : X → Bool) (xs : List X) → length (filter p xs) ≤ length xs
 kept_few p [] = omega arith
 kept_few p (x ∷ xs) = go (p x) (kept_few p xs)
@@ -100,6 +102,7 @@ zip_few [] ys = omega arith
 zip_few (x ∷ xs) [] = omega arith
 zip_few (x ∷ xs) (y ∷ ys) = let h = zip_few xs ys in omega (arith, h)
 
+-- a compaction's plan has at most 64 moves
 pub plan_few : (looks : List BlockLook) → length (plan_of looks) ≤ 64
 plan_few looks = go (reverse (flat_map row_places (filter is_in_group looks))) (flat_map gap_places (filter is_in_group looks))
   where
@@ -115,6 +118,7 @@ plan_few looks = go (reverse (flat_map row_places (filter is_in_group looks))) (
 
 -- ---- the current row
 
+-- where a row is current there is a row
 pub current_row : (slot : ℕ → Rattle.block_spec.specs.Slots.Slot) (places : List ℕ) (place : ℕ) → Rattle.event_spec.specs.Judged.current_place slot places ≡ Some place → Rattle.std.specs.Prelude.is_some (slot place).row ≡ true
 current_row slot [] place e = absurd (let never : ⊥ = cc e in never)
 current_row slot (p ∷ places) place e = go (Rattle.std.specs.Prelude.is_some (slot p).row) refl e (current_row slot places place)
@@ -131,6 +135,7 @@ current_row slot (p ∷ places) place e = go (Rattle.std.specs.Prelude.is_some (
         ap (λ x. Rattle.std.specs.Prelude.is_some (slot x).row) (sym here) ∙ is
     go false is e rest = rest (ap (λ b. Rattle.std.specs.Option.option_or (cond b (Some p) None) (Rattle.event_spec.specs.Judged.current_place slot places)) (sym is) ∙ e)
 
+-- a slot with a row is not bare
 pub row_filled : (slot : Rattle.block_spec.specs.Slots.Slot) → Rattle.std.specs.Prelude.is_some slot.row ≡ true → Rattle.block_spec.specs.Slots.is_bare slot ≡ false
 row_filled slot e = go slot.row e
   where
@@ -140,6 +145,7 @@ row_filled slot e = go slot.row e
 
 -- ---- tables
 
+-- a table has as many blocks by the lines as by the shape
 pub blocks_same : (tables : List TableDecl) (n t : ℕ) → blocks_at tables t ≡ blocks_of (record { tables = tables; passes = n }) t
 blocks_same tables n t = go (slice_get tables t)
   where
@@ -147,6 +153,7 @@ blocks_same tables n t = go (slice_get tables t)
     go None = refl
     go (Some decl) = refl
 
+-- and as many slots
 pub slots_same : (tables : List TableDecl) (n t : ℕ) → slots_at tables t ≡ slots_of (record { tables = tables; passes = n }) t
 slots_same tables n t = go (slice_get tables t)
   where

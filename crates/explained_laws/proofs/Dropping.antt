@@ -34,9 +34,11 @@ true_false e = cc
 
 -- ---- what is untold, over all sessions and workers
 
+-- what the prunings of a session or a worker dropped and have not told
 abbrev pub untold_at : Script → List Occurrence → ℕ → ℕ
 untold_at script front seat = untold (all_blocks (shape_of script)) (way_of (under seat front))
 
+-- that of all sessions and workers
 abbrev pub all_untold : Script → List Occurrence → ℕ
 all_untold script front = sum_by (untold_at script front) (seats_of script)
 
@@ -66,6 +68,7 @@ idle_by_own shape parts front at q is_shape ok follows agrees low none =
         let open' = follows.follows.desked.begun q s low e in
         absurd (some_none (own_after (under q front)) (transaction_of q at) open'.0 none (agrees q).snapshot open'.1)
 
+-- the counts are right before the first moment
 pub kept_first : (script : Script) (at : IsolationMachine) → IsShape (shape_of script) → Sound (shape_of script) (opening (shape_of script))
     → FollowsMachine (shape_of script) (opening (shape_of script)) at → AgreesWith [] at → Kept script (opening (shape_of script)) [] []
 kept_first script at is_shape ok follows agrees = record {
@@ -131,6 +134,7 @@ module _ (script : Script) (parts : Parts) (front : List Occurrence) (lines afte
           ap (λ os. untold (all_blocks (shape_of script)) (way_of os)) (other_last q front (occurrence_of (shape_of script) parts entry) ne) in
           omega (arith, a, new)
 
+  -- the counts stay right with one moment more
   pub next_kept : (next : IsolationMachine) → IsShape (shape_of script) → Sound (shape_of script) parts → IsLawful (shape_of script) entry.made.event parts
       → Sound (shape_of script) (after (shape_of script) parts entry.made) → FollowsMachine (shape_of script) (after (shape_of script) parts entry.made) next
       → AgreesWith (front ++ occurrence_of (shape_of script) parts entry ∷ []) next

@@ -353,6 +353,7 @@ told_stands script log text valid ran fit =
     subst (λ dues. AllMayStand dues (told_in ran.rounds)) (sym (calls_answer script ran.rounds ran.asked))
     (rounds_stand 1 ran.rounds (each_call script log text ran AnswersIf each) fit)
 
+-- A run's text is explained, where the counts of its prunings have 64 bits.
 pub runs_are_explained : RunsAreExplained
 runs_are_explained script log text valid ran fit =
     subst (Explained script) (sym ran.printed)

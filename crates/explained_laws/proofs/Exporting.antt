@@ -123,6 +123,7 @@ module _ (table : ℕ) where
 count_more : {X : Type 0} (p : X → Bool) (x : X) (xs : List X) → count_by p (x ∷ xs) ≡ cond {A = ℕ} (p x) 1 0 + count_by p xs
 count_more p x xs = sum_by-cons (λ y. cond {A = ℕ} (p y) 1 0) x xs
 
+-- no more of a list pass a test than there are
 pub count_few : {X : Type 0} (p : X → Bool) (xs : List X) → count_by p xs ≤ length xs
 count_few p [] = omega arith
 count_few p (x ∷ xs) = let one = count_more p x xs in let rest = count_few p xs in let few = most (p x) in omega (arith, one, rest, few)
@@ -131,6 +132,7 @@ count_few p (x ∷ xs) = let one = count_more p x xs in let rest = count_few p x
     most true = omega arith
     most false = omega arith
 
+-- the reply tells a row at least
 abbrev pub has_rows : CoreReply → Bool
 has_rows told = is_some_row (rows_told told)
 
@@ -206,10 +208,12 @@ frozen_few own table lines (x ∷ made) (b ∷ blocks) e each =
         let one : cond {A = ℕ} (nat_lt 0 (freezes_in table b lines)) 1 0 ≡ 1 = ap (λ x. cond {A = ℕ} x 1 0) less in
         omega (arith, one)
 
+-- a range has as many numbers as it is asked for
 pub range_long : (a n : ℕ) → length (range_with_len a n) ≡ n
 range_long a zero = refl
 range_long a (suc n) = ap suc (range_long (a + 1) n)
 
+-- each event has a reply
 pub replies_long : (made : List Occurrence) → length (replies_in made) ≡ length (events_in made)
 replies_long [] = refl
 replies_long (x ∷ made) = ap suc (replies_long made)
@@ -218,6 +222,7 @@ replies_long (x ∷ made) = ap suc (replies_long made)
 
 module _ (script : Script) (valid : is_valid script ≡ true) (seat : ℕ) (parts : Parts) (front : List Occurrence) (at next : IsolationMachine) (call : Call)
     (ended : Ended script seat parts front at next call) (table : ℕ) (is : call.command ≡ command.Export table) where
+  -- an export is asked of a session, not of a worker
   pub export_low : seat ≤ script.sessions
   export_low = go (either script seat)
     where
@@ -245,6 +250,7 @@ module _ (script : Script) (valid : is_valid script ≡ true) (seat : ℕ) (part
         (subst (Among o.0.event) events (member_map (λ (o : Occurrence). o.event) call.made o.0 o.1)) in
         (o.0, b.0, o.1, o.2, b.2)
 
+    -- each read of a block tells no more rows than it has slots
     pub read_few : (y : CoreReply) → Among y (replies_in call.made) → length (rows_told y) ≤ slots_of (shape_of script) table
     read_few y a =
         let r = read_of y a in
@@ -258,6 +264,7 @@ module _ (script : Script) (valid : is_valid script ≡ true) (seat : ℕ) (part
         ap (λ r. is_some_row (rows_told r)) r.3
         ∙ (stand script valid seat parts front at next call ended own table (below (blocks_of (shape_of script) table)) events r.0 r.2 own table r.1 r.4).some (ap is_shared (sym r.3) ∙ shared)
 
+    -- the export read each block of the table once
     pub read_long : length (replies_in call.made) ≡ blocks_of (shape_of script) table
     read_long =
         replies_long call.made ∙ ap (λ (es : List CoreEvent). length es) events

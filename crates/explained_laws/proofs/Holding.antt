@@ -79,6 +79,7 @@ pub record Holds (script : Script) (parts : Parts) (front : List Occurrence) (at
   pub keys : KeysAgree front at
   pub kept : Kept script parts front lines
 
+-- what holds at each moment holds before the first
 pub holds_first : (script : Script) → IsShape (shape_of script) → Holds script (opening (shape_of script)) [] machine.opening []
 holds_first script is_shape = record {
   ok = sound (shape_of script) is_shape;
@@ -117,6 +118,7 @@ module _ (script : Script) (parts : Parts) (front : List Occurrence) (lines : Li
   abbrev worker : Bool
   worker = is_worker (who_at script seat)
 
+  -- each event of a call that ends here has its reply
   pub ends_replied : (entry : Logged) (line : Lined) → entry.session ≡ seat → AreReplied (shape_of script) front
       → Ends script front seat (Some (occurrence_of (shape_of script) parts entry)) line → AreReplied (shape_of script) line.call.made
   ends_replied entry line same replied ends =
@@ -131,6 +133,7 @@ module _ (script : Script) (parts : Parts) (front : List Occurrence) (lines : Li
           append [] r = ((entry.made.refused, refl), tt)
           append (x ∷ xs) r = (r.0, append xs r.1)
 
+  -- the call's line tells what its last event is replied
   pub ends_tells : (entry : Logged) (line : Lined) → entry.session ≡ seat → AreReplied (shape_of script) front
       → Ends script front seat (Some (occurrence_of (shape_of script) parts entry)) line
       → TellsAt (is_worker (who_at script seat)) line.call.made entry.made.event (reply_after (shape_of script) parts entry.made) line.call.command line.call.told
@@ -138,6 +141,7 @@ module _ (script : Script) (parts : Parts) (front : List Occurrence) (lines : Li
       last_events_are_told (shape_of script) (is_worker (who_at script seat)) seat ends.began line.call ends.done (occurrence_of (shape_of script) parts entry) ends.is_call
       (ends_replied entry line same replied ends) ends.made
 
+  -- and adds to the counts what this event does
   pub ends_adds : (entry : Logged) (line : Lined) → entry.session ≡ seat → AreReplied (shape_of script) front
       → Ends script front seat (Some (occurrence_of (shape_of script) parts entry)) line
       → AddsAt (shape_of script) parts entry.made line.call.told line.call.command
@@ -150,16 +154,19 @@ module _ (script : Script) (parts : Parts) (front : List Occurrence) (lines : Li
 
 -- ---- lines in front
 
+-- with the moment's line there are as many seals of a block more as it tells
 pub seals_with : (t b : ℕ) (lines : List Entry) (who : Who) (call : Call) (printed : Option Entry) → IsPrinted who call printed
     → seals_in t b (with_reply lines printed) ≡ seals_in t b lines + shown (stamp_in t b) call.told
 seals_with t b lines who call None is = let none = ap (shown (stamp_in t b)) is in omega (arith, none)
 seals_with t b lines who call (Some entry) is = shown_more (stamp_in t b) lines entry ∙ ap (λ o. seals_in t b lines + shown (stamp_in t b) o) (sym is.0)
 
+-- and as many images of a block
 pub freezes_with : (t b : ℕ) (lines : List Entry) (who : Who) (call : Call) (printed : Option Entry) → IsPrinted who call printed
     → freezes_in t b (with_reply lines printed) ≡ freezes_in t b lines + shown (rows_in t b) call.told
 freezes_with t b lines who call None is = let none = ap (shown (rows_in t b)) is in omega (arith, none)
 freezes_with t b lines who call (Some entry) is = shown_more (rows_in t b) lines entry ∙ ap (λ o. freezes_in t b lines + shown (rows_in t b) o) (sym is.0)
 
+-- and at least as many accepted inserts as its call had
 pub inserts_with : (t : ℕ) (lines : List Entry) (who : Who) (call : Call) (printed : Option Entry) → IsPrinted who call printed
     → (is_worker who ≡ true → accepted t call.command call.told ≡ 0)
     → inserts_in t lines + accepted t call.command call.told ≤ inserts_in t (with_reply lines printed)
@@ -190,6 +197,7 @@ imaged_loose Loose e = absurd (let never : ⊥ = cc e in never)
 imaged_loose (Sealed g) e = absurd (let never : ⊥ = cc e in never)
 imaged_loose (Imaged g) e = (refl, refl)
 
+-- what holds at each moment holds behind the next, with its event and its line
 pub next_holds : (script : Script) (parts : Parts) (front : List Occurrence) (at next : IsolationMachine) (lines after_lines : List Entry) (entry : Logged)
     → IsShape (shape_of script) → IsLawful (shape_of script) entry.made.event parts → IsNamed entry → KeyFits entry.made.event
     → IsStep (command_in entry.made.event) at (reply_after (shape_of script) parts entry.made) next

@@ -47,6 +47,7 @@ true_false e = cc
 
 -- ---- quiet events
 
+-- a quiet event leaves what a session has open
 pub quiet_own : (own : Option OwnTransaction) (e : CoreEvent) (told : CoreReply) → is_quiet e ≡ true → own_behind own e told ≡ own
 quiet_own own (event.Begin session) told q = absurd (true_false (sym q))
 quiet_own own (event.Get handed table key) told q = refl
@@ -83,6 +84,7 @@ quiet_calm (event.Seal table block) q = absurd (true_false (sym q))
 quiet_calm (event.Image table block image) q = absurd (true_false (sym q))
 quiet_calm (event.Thaw table block) q = (refl, refl)
 
+-- and it leaves the machine
 pub quiet_stays : (at next : IsolationMachine) (e : CoreEvent) (told : CoreReply) → is_quiet e ≡ true → IsStep (command_in e) at told next → next ≡ at
 quiet_stays at next e told q step = event_stays at next e told (quiet_calm e q).0 (ap (λ b. is_memory told || not b) (quiet_calm e q).1 ∙ last (is_memory told)) step
   where
@@ -140,9 +142,11 @@ least_is {X} table (e ∷ es) = go (e.0.table == table) (least_is table es)
 
 -- ---- one transaction
 
+-- the places that a session wrote by its own events
 abbrev pub places_own : Option OwnTransaction → Option (List Place)
 places_own own = option_map (λ (t : OwnTransaction). keys_of t.writes) own
 
+-- the places that the machine's transaction wrote
 abbrev pub places_open : Option Transaction → Option (List Place)
 places_open open' = option_map (λ (t : Transaction). keys_of t.own) open'
 
@@ -155,6 +159,7 @@ pub record SameKeys (own : Option OwnTransaction) (open' : Option Transaction) :
   pub places : places_own own ≡ places_open open'
   pub fit : KeysFit own
 
+-- what two `Some` hold is the same
 pub some_list : (a b : List Place) → Some a ≡ Some b → a ≡ b
 some_list a b e = cc
 
@@ -524,6 +529,7 @@ least_fits table own key fit is = go (keys_of own.writes) fit (sym (least_is tab
 abbrev pub KeysAgree : List Occurrence → IsolationMachine → Type 0
 KeysAgree front at = (session : ℕ) → SameKeys (own_after (under session front)) (transaction_of session at)
 
+-- at the start nothing is open, so nothing was written
 pub no_keys : KeysAgree [] machine.opening
 no_keys session = record { places = refl; fit = tt }
 
@@ -534,6 +540,7 @@ same_or_not a b = go (a == b) refl
     go true e = inl (grind (arith, nat_tests))
     go false e = inr (λ s. absurd (grind (arith, nat_tests)))
 
+-- the two wrote the same places behind one event more
 pub keys_go : (shape : Shape) (parts : Parts) (entry : Logged) (front : List Occurrence) (m next : IsolationMachine)
     → IsNamed entry → KeyFits entry.made.event → IsStep (command_in entry.made.event) m (reply_after shape parts entry.made) next
     → KeysAgree front m → KeysAgree (front ++ occurrence_of shape parts entry ∷ []) next

@@ -27,14 +27,17 @@ pub record Way : Type 0 where
   pub prunes : ℕ
   pub drops : ℕ
 
+-- an `oldest` begins anew, and a prune is one more with its drops
 abbrev pub goes_on : Way → CoreEvent → CoreReply → Way
 goes_on way event.Oldest told = record { prunes = 0; drops = 0 }
 goes_on way (event.Prune table block oldest) told = record { prunes = way.prunes + 1; drops = way.drops + dropped_told told }
 goes_on way _ told = way
 
+-- the way behind these events
 abbrev pub way_behind : Way → List Occurrence → Way
 way_behind way os = fold (λ way (o : Occurrence). goes_on way o.event o.reply) way os
 
+-- the way behind all events from the start
 abbrev pub way_of : List Occurrence → Way
 way_of os = way_behind (record { prunes = 0; drops = 0 }) os
 
@@ -46,9 +49,11 @@ all_blocks shape = length (at_all_blocks shape event.Observe)
 abbrev pub untold : ℕ → Way → ℕ
 untold blocks way = cond (nat_lt way.prunes blocks) way.drops 0
 
+-- the last event goes on from those before it
 pub way_last : (os : List Occurrence) (o : Occurrence) → way_of (os ++ o ∷ []) ≡ goes_on (way_of os) o.event o.reply
 way_last os o = fold-append (λ way (o : Occurrence). goes_on way o.event o.reply) (record { prunes = 0; drops = 0 }) os (o ∷ [])
 
+-- how many entries a prune drops, 0 for any other event
 abbrev pub dropped_at : CoreEvent → CoreReply → ℕ
 dropped_at (event.Prune table block oldest) told = dropped_told told
 dropped_at _ told = 0
@@ -87,6 +92,7 @@ abbrev is_prune : CoreEvent → Bool
 is_prune (event.Prune table block oldest) = true
 is_prune _ = false
 
+-- the event is of a pruning: an `oldest` or a prune
 abbrev pub is_pruning : CoreEvent → Bool
 is_pruning event.Oldest = true
 is_pruning (event.Prune table block oldest) = true
@@ -266,6 +272,7 @@ prunes_made shape began (x ∷ rest) events granted replied = go replied.0.0 (re
         zero_told : dropped_told x.reply ≡ 0
         zero_told = ap dropped_told e
 
+-- a call that is asked to prune does a whole pruning
 pub prune_calls : (shape : Shape) (worker : Bool) (session : ℕ) (began : List Occurrence) (call : Call) → IsCall shape worker session began call → AreReplied shape call.made → call.command ≡ command.Prune
     → Prunes shape began call.made
 prune_calls shape worker session began call is replied asked =

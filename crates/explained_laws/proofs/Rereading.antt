@@ -242,6 +242,7 @@ named_other : (o : Option ℕ) (q r : ℕ) → IfSome o (λ session. session ≡
 named_other None q r named ne e = none_same q e
 named_other (Some s) q r named ne e = ne (sym (some_same s q e) ∙ named)
 
+-- A read stands through the events of others, and behind reads of its own session.
 pub reads_stand : ReadsStand
 reads_stand shape parts front entry is_shape ok lawful named stands q began done is reads made among = go (same_number q entry.session)
   where

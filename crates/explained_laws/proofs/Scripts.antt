@@ -58,6 +58,7 @@ turns_upkeep script = upkeep_flat (λ turn. turn_of script.tables) (λ turn. eac
         (λ entry. upkeep_flat (λ block. command.Seal entry.0 block ∷ command.Gather entry.0 block ∷ []) (λ block. refl) (range_with_len 0 entry.1.blocks))
         (enumerate_from 0 script.tables)
 
+-- what is asked of a worker is upkeep
 pub worker_upkeep : (script : Script) (seat : ℕ) (asked : Command) → script.sessions < seat → IsAsked script seat asked → is_upkeep asked ≡ true
 worker_upkeep script seat asked high is =
     let e : nat_le seat script.sessions ≡ false = grind (arith, nat_tests, high) in
@@ -87,6 +88,7 @@ row_key (column ∷ columns) (cell ∷ cells) key fitting =
 -- ---- sessions
 
 module _ (script : Script) (valid : is_valid script ≡ true) where
+  -- a valid workload's head is valid: its version and its tables
   pub head : has_head script ≡ true
   head = and_first (has_head script) (nat_lt 0 (length script.rounds)) (and_first (has_head script && nat_lt 0 (length script.rounds)) (list_all (is_line script) (all_lines script))
       (and_first (has_head script && nat_lt 0 (length script.rounds) && list_all (is_line script) (all_lines script)) (nat_le (Rattle.std.specs.Prelude.count_by (λ line. is_export line.command) (all_lines script)) 1) valid))
@@ -95,6 +97,7 @@ module _ (script : Script) (valid : is_valid script ≡ true) where
   lines_are = and_second (has_head script && nat_lt 0 (length script.rounds)) (list_all (is_line script) (all_lines script))
       (and_first (has_head script && nat_lt 0 (length script.rounds) && list_all (is_line script) (all_lines script)) (nat_le (Rattle.std.specs.Prelude.count_by (λ line. is_export line.command) (all_lines script)) 1) valid)
 
+  -- what is asked of a session is a command of the tables
   pub session_asked : (seat : ℕ) (asked : Command) → seat ≤ script.sessions → IsAsked script seat asked → is_command script.tables asked ≡ true
   session_asked seat asked low is =
       let e : nat_le seat script.sessions ≡ true = grind (arith, nat_tests, low) in
@@ -121,6 +124,7 @@ module _ (script : Script) (valid : is_valid script ≡ true) where
   table_at (x ∷ tables) zero all less = (x, refl, and_first (is_table x) (list_all is_table tables) all)
   table_at (x ∷ tables) (suc t) all less = table_at tables t (and_second (is_table x) (list_all is_table tables) all) (omega (arith, less))
 
+  -- the tables of a valid workload are a shape
   pub is_shape : IsShape (shape_of script)
   is_shape = record { blocks = blocks; slots = slots }
     where
@@ -150,6 +154,7 @@ module _ (script : Script) (valid : is_valid script ≡ true) where
           let most : at.0.slots ≤ min (2 ^ 15) (8 * (2 ^ 20 / row_bits at.0.schema)) = grind (arith, nat_tests, high) in
           (omega (arith, is, least), omega (arith, is, most))
 
+  -- a table has at most 1,024 blocks
   pub blocks_few : (t : ℕ) → blocks_of (shape_of script) t ≤ 1024
   blocks_few t = go (nat_lt t (length script.tables)) refl
     where
@@ -186,6 +191,7 @@ module _ (script : Script) (valid : is_valid script ≡ true) where
           (and_first (begins_with_key at.0.schema && nat_le (length at.0.schema) most_columns && is_none (first_twins 0 at.0.schema)) (list_all (λ (column : Column). is_name column.name) at.0.schema) columns)) in
           row_key at.0.schema row begins (ap (λ o. option_map_or (λ (decl : TableDecl). fits decl.schema row) o false) (sym at.1) ∙ fitting)
 
+  -- what is asked and is no upkeep is a command of the tables
   pub asked_fits : (seat : ℕ) (asked : Command) → IsAsked script seat asked → is_upkeep asked ≡ false → is_command script.tables asked ≡ true
   asked_fits seat asked is not_upkeep = go (either script seat)
     where

@@ -38,10 +38,12 @@ true_false e = cc
 
 -- ---- one line more
 
+-- 1 where what is told shows the mark, and else 0
 abbrev pub shown : (Said → Option ℕ) → Option Said → ℕ
 shown f None = 0
 shown f (Some line) = option_map_or (λ n. 1) (f line) 0
 
+-- one more line adds this to the count of those that show it
 pub shown_more : (f : Said → Option ℕ) (lines : List Entry) (entry : Entry)
     → length (shown_in f (lines ++ entry ∷ [])) ≡ length (shown_in f lines) + shown f (Some entry.reply.said)
 shown_more f lines entry =
@@ -53,10 +55,12 @@ shown_more f lines entry =
     go None = refl
     go (Some n) = refl
 
+-- 1 where an insert into the table was accepted, and else 0
 abbrev pub accepted : ℕ → Command → Option Said → ℕ
 accepted table asked None = 0
 accepted table asked (Some line) = cond (is_accepted_insert table asked line) 1 0
 
+-- one more line adds this to the count of accepted inserts
 pub inserts_more : (table : ℕ) (lines : List Entry) (entry : Entry)
     → inserts_in table (lines ++ entry ∷ []) ≡ inserts_in table lines + cond (is_accepted_insert table entry.command entry.reply.said) 1 0
 inserts_more table lines entry =
@@ -66,6 +70,7 @@ inserts_more table lines entry =
 
 -- ---- lines of no seal and no image
 
+-- the line is of a seal or of an image
 abbrev pub is_frost : Said → Bool
 is_frost (said.Sealed table block stamp) = true
 is_frost (said.Frozen table block rows) = true
@@ -89,12 +94,14 @@ pub record Adds (table block : ℕ) (told : Option Said) (seals images : ℕ) : 
   pub seals_are : shown (stamp_in table block) told ≡ seals
   pub images_are : shown (rows_in table block) told ≡ images
 
+-- a line of neither adds to no count of them
 pub adds_none : (table block : ℕ) (told : Option Said) (line : Said) → told ≡ Some line → is_frost line ≡ false → Adds table block told 0 0
 adds_none table block told line is none = record {
   seals_are = ap (shown (stamp_in table block)) is ∙ ap (λ o. option_map_or (λ (n : ℕ). 1) o 0) (no_stamp table block line none);
   images_are = ap (shown (rows_in table block)) is ∙ ap (λ o. option_map_or (λ (n : ℕ). 1) o 0) (no_rows table block line none);
 }
 
+-- nor does a line that says nothing of counts, or one that moved nothing
 pub plain_adds : (table block : ℕ) (told : Option Said) (line : Said) → told ≡ Some line
     → (is_plain line ≡ true) ⊎ (line ≡ said.Moved 0) → Adds table block told 0 0
 plain_adds table block told line is (inl plain) = adds_none table block told line is (plain_frost line plain)
@@ -110,6 +117,7 @@ quiet_adds table block asked made told (line, is, inr (inr pruned)) = adds_none 
 told_as : (worker : Bool) (told : Option Said) (meant : Option Said) (line : Said) → told ≡ line_to worker meant → meant ≡ Some line → is_silent line ≡ false → told ≡ Some line
 told_as worker told meant line tells is loud = tells ∙ ap (line_to worker) is ∙ not_silent worker line loud
 
+-- of a line that may be silent either it is told or nothing
 pub silent_or : (worker : Bool) (line : Said) (told : Option Said) → told ≡ line_to worker (Some line) → (told ≡ None) ⊎ (told ≡ Some line)
 silent_or false line told e = inr e
 silent_or true line told e = go (is_silent line) e
@@ -142,6 +150,7 @@ zero_if : (x : Bool) → cond {A = ℕ} x 0 0 ≡ 0
 zero_if true = refl
 zero_if false = refl
 
+-- a write's reply is told by a line, which is of no seal and no image
 pub write_line : (table : ℕ) (r : Result ℕ WriteFault) → (line : Said) × (told_by table 0 (reply_to_write r) ≡ Some line) × (is_silent line ≡ false) × (is_frost line ≡ false)
 write_line table (Ok place) = (said.Accepted, refl, refl, refl)
 write_line table (Err (refusal.ConflictSession q)) = (said.ConflictSession q, refl, refl, refl)
@@ -195,6 +204,7 @@ module _ (shape : Shape) (parts : Parts) (t b : ℕ) (worker : Bool) (asked : Co
   move_adds r (inl h) = adds_none t b told said.Memory h.1 refl
   move_adds r (inr e) = adds_none t b told (said.Moved (Rattle.run_spec.specs.Told.moved_told r)) e refl
 
+  -- a line at an event adds as many seals and images as the event
   pub event_adds : (e : CoreEvent) (refused : Bool) → TellsAt worker made e (cond refused reply.Memory (reply_to shape parts e)) asked told
       → Adds t b told (sealed_by t b e (cond refused reply.Memory (reply_to shape parts e))) (imaged_by t b e (cond refused reply.Memory (reply_to shape parts e)))
   event_adds (event.Begin session) true h = adds_none t b told said.Memory (h.1 ∙ not_silent worker said.Memory refl) refl

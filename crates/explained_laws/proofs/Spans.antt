@@ -19,6 +19,7 @@ true_false e = cc
 
 -- ---- one span
 
+-- one of the replies ends a transaction
 abbrev pub ends_in : List Entry → Bool
 ends_in replies = list_any (λ (entry : Entry). is_end entry.reply.said) replies
 
@@ -32,6 +33,7 @@ done_in replies =
 abbrev pub open_in : List Entry → ℕ
 open_in replies = cond (ends_in replies) 0 (length (filter_map accepted_write replies))
 
+-- 1 where none of them ends it
 abbrev pub is_open_in : List Entry → ℕ
 is_open_in replies = cond (ends_in replies) 0 1
 
@@ -158,9 +160,11 @@ open_more xs entry none = go (ends_in xs) refl
 
 -- ---- all spans
 
+-- what is counted of the span that the line opens, 0 where it opens none
 abbrev pub of_span : (Who → List Entry → ℕ) → Entry → List Entry → ℕ
 of_span f x xs = option_map_or (λ (n : ℕ). f x.reply.who (x ∷ thread x.reply.who xs)) (snapshot_in x.reply.said) 0
 
+-- the sum of it over all spans
 pub over_spans : (Who → List Entry → ℕ) → List Entry → ℕ
 over_spans f [] = 0
 over_spans f (x ∷ xs) = of_span f x xs + over_spans f xs
@@ -210,12 +214,15 @@ over_grows f g entry each (x ∷ xs) = go (snapshot_in x.reply.said) (over_grows
 abbrev pub open_of : Who → Who → List Entry → ℕ
 open_of q who replies = cond (is_same q who) (open_in replies) 0
 
+-- 1 for a span of one's own that is open
 abbrev pub is_open_of : Who → Who → List Entry → ℕ
 is_open_of q who replies = cond (is_same q who) (is_open_in replies) 0
 
+-- the accepted writes of all open spans of one's
 abbrev pub open_writes : Who → List Entry → ℕ
 open_writes q lines = over_spans (open_of q) lines
 
+-- how many spans one has open
 abbrev pub open_spans : Who → List Entry → ℕ
 open_spans q lines = over_spans (is_open_of q) lines
 
@@ -223,6 +230,7 @@ none_behind : (xs : List Entry) → xs ++ [] ≡ xs
 none_behind [] = refl
 none_behind (x ∷ xs) = ap (λ ys. x ∷ ys) (none_behind xs)
 
+-- a line more takes no committed write away
 pub committed_rises : (lines : List Entry) (entry : Entry) → writes_committed_in lines ≤ writes_committed_in (lines ++ entry ∷ [])
 committed_rises lines entry =
     let a = committed_sum lines in let c = committed_sum (lines ++ entry ∷ []) in
@@ -263,6 +271,7 @@ pub record StaysOpen (lines : List Entry) (entry : Entry) (q : Who) : Type 0 whe
   pub writes : open_writes q lines ≤ open_writes q (lines ++ entry ∷ [])
   pub spans : open_spans q lines ≤ open_spans q (lines ++ entry ∷ [])
 
+-- a line that ends none of one's spans leaves them open
 pub stays_open : (lines : List Entry) (entry : Entry) (q : Who) → (is_end entry.reply.said ≡ false) ⊎ ((who : Who) → is_same q who ≡ true → is_same entry.reply.who who ≡ false) → StaysOpen lines entry q
 stays_open lines entry q why = record {
   writes = let h = over_grows (open_of q) (open_of q) entry (λ who replies. (each who replies).0) lines in omega (arith, h);
@@ -320,6 +329,7 @@ begin_opens lines entry q n whose at =
 
 -- ---- lines that show a count
 
+-- a line adds its count to the sum of those shown
 pub sum_more : (f : Said → Option ℕ) (lines : List Entry) (entry : Entry) → sum (shown_in f (lines ++ entry ∷ [])) ≡ sum (shown_in f lines) + option_map_or (λ n. n) (f entry.reply.said) 0
 sum_more f lines entry =
     ap sum (filter_map-append (λ (entry : Entry). f entry.reply.said) lines (entry ∷ []))

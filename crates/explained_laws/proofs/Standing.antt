@@ -249,6 +249,7 @@ module _ (script : Script) (valid : is_valid script ≡ true) (seat : ℕ) (part
         let n : count_by is_shared (replies_in call.made) < 2 ^ 32 = omega (arith, images, long, small) in n,
       ))
 
+  -- what a call that ended tells may stand where it is due
   pub may_stand : MayStand call.command line
   may_stand = go (refusal_of call.command (own_after ended.began)) refl ended.is_call
     where

@@ -73,6 +73,7 @@ quiet_after own (x ∷ xs) q =
     ap (λ o. fold (λ own (o : Occurrence). own_behind own o.event o.reply) o xs) (quiet_own own x.event x.reply (and_first (is_quiet x.event) (list_all is_quiet (events_in xs)) q))
     ∙ quiet_after own xs (and_second (is_quiet x.event) (list_all is_quiet (events_in xs)) q)
 
+-- quiet events leave what a session has open
 pub own_same : (began done : List Occurrence) → list_all is_quiet (events_in done) ≡ true → own_after (began ++ done) ≡ own_after began
 own_same began done q = fold-append (λ own (o : Occurrence). own_behind own o.event o.reply) None began done ∙ quiet_after (own_after began) done q
 
@@ -87,6 +88,7 @@ front_quiet shape worker seat began call pre (x ∷ xs) last is all = Rattle.ran
     here [] all = calls_go_on_quietly shape worker seat began call pre x last [] is all
     here (y ∷ ys) all = calls_go_on_quietly shape worker seat began call pre x y (ys ++ last ∷ []) is all
 
+-- a call ends with its last event's step of the machine
 pub ends_at : (done : List Occurrence) (last : Occurrence) (at next : IsolationMachine) → IsStep (command_in last.event) at last.reply next → EndsAt (done ++ last ∷ []) at next
 ends_at [] last at next step = step
 ends_at (x ∷ []) last at next step = step
@@ -121,6 +123,7 @@ pub record Ended (script : Script) (seat : ℕ) (parts : Parts) (front : List Oc
   -- what it had open
   pub keys : SameKeys (own_after began) (transaction_of seat at)
 
+-- where a session has a transaction open, so has the machine for it
 pub one_open : (seat : ℕ) (m : IsolationMachine) (own : OwnTransaction) → OpenAs seat (Some own) (transaction_of seat m)
     → (t : Transaction) × (transaction_of seat m ≡ Some t)
 one_open seat m own open' = go (transaction_of seat m) open'.snapshot refl
@@ -130,6 +133,7 @@ one_open seat m own open' = go (transaction_of seat m) open'.snapshot refl
     go None e is = absurd (let never : ⊥ = cc e in never)
     go (Some t) e is = (t, is)
 
+-- and where it has none, the machine has none
 pub none_open : (seat : ℕ) (m : IsolationMachine) → OpenAs seat None (transaction_of seat m) → transaction_of seat m ≡ None
 none_open seat m open' = go (transaction_of seat m) open'.snapshot
   where
@@ -137,6 +141,7 @@ none_open seat m open' = go (transaction_of seat m) open'.snapshot
     go None e = refl
     go (Some t) e = absurd (let never : ⊥ = cc e in never)
 
+-- a place at which a table stands is below their count
 pub has_table : (tables : List TableDecl) (t : ℕ) → is_some (slice_get tables t) ≡ true → t < length tables
 has_table tables t e = go (nat_lt t (length tables)) refl
   where
@@ -149,6 +154,7 @@ module _ (script : Script) (valid : is_valid script ≡ true) (seat : ℕ) (part
   sh : Shape
   sh = shape_of script
 
+  -- a call that asks nothing of the machine leaves it as it is
   pub stays : is_single call.command ≡ false → next ≡ at
   stays other = stays_at call.made at next (others_ask_nothing (shape_of script) (is_worker (who_at script seat)) seat ended.began call other ended.is_call) ended.ends
 
@@ -161,9 +167,11 @@ module _ (script : Script) (valid : is_valid script ≡ true) (seat : ℕ) (part
       go [] = refl
       go (b ∷ bs) = go bs
 
+  -- each read of a call of reads alone stands
   pub stand : (own : OwnTransaction) (table : ℕ) (blocks : List ℕ) → events_in call.made ≡ map (event.Read own table) blocks → (o : Occurrence) → Among o call.made → Stands (shape_of script) parts seat o
   stand own table blocks e o a = ended.reads seat ended.began call.made ended.whole (all_reads own table blocks e) o a
 
+  -- so, where there is a block to read, the core has the transaction open that the call reads with
   pub owns_it : (own : OwnTransaction) (table : ℕ) → (0 < blocks_of (shape_of script) table) → events_in call.made ≡ at_blocks (shape_of script) table (event.Read own table) → OwnsAll (shape_of script) own parts
   owns_it own table some e = go (blocks_of (shape_of script) table) refl some
     where
@@ -187,6 +195,7 @@ module _ (script : Script) (valid : is_valid script ≡ true) (seat : ℕ) (part
     pub rows : in_key_order table (flat_map rows_told (replies_in call.made)) ≡ contents_of table (seen_rows next t)
     pub count : length (flat_map rows_told (replies_in call.made)) ≡ length (contents_of table (seen_rows next t))
 
+  -- reads of all blocks told what the machine's transaction sees
   pub scanned : (own : OwnTransaction) (table : ℕ) → own_after ended.began ≡ Some own → is_single call.command ≡ false → is_some (slice_get script.tables table) ≡ true
       → events_in call.made ≡ at_blocks (shape_of script) table (event.Read own table) → list_any is_refused call.made ≡ false → Scanned own table
   scanned own table mine other has e granted =
@@ -259,6 +268,7 @@ module _ (script : Script) (valid : is_valid script ≡ true) (seat : ℕ) (part
 
 -- ---- a line
 
+-- a line, by whose it is, what it was asked and what it told
 abbrev pub entry_as : Entry → Who → Command → Said → Entry
 entry_as entry who asked line = record {
   number = entry.number;

@@ -88,6 +88,7 @@ none_some x e = cc
 
 -- ---- silence leaves the machine
 
+-- what is told is not nothing
 pub told_something : (told : Option Said) (line : Said) → told ≡ Some line → told ≡ None → ⊥
 told_something told line is none = none_some line (sym none ∙ is)
 
@@ -192,6 +193,7 @@ module _ (script : Script) (valid : is_valid script ≡ true) where
     alone_adds : (t b : ℕ) → Adds t b line.call.told 0 0
     alone_adds t b = plain_adds t b line.call.told plain.0 plain.1 plain.2
 
+    -- what holds at each moment holds behind one without an event
     pub alone_held : Holds script parts front at (with_reply lines line.printed)
     alone_held = same_holds script parts front at lines (with_reply lines line.printed)
         (λ t b. let w = seals_with t b lines (who_at script seat) line.call line.printed ends.printed in let a = (alone_adds t b).seals_are in omega (arith, w, a))
@@ -201,6 +203,7 @@ module _ (script : Script) (valid : is_valid script ≡ true) where
         (shown_as (who_at script seat) line.call line.printed ends.printed) (whose_is (who_at script seat) line.call line.printed ends.printed) plain.0 plain.1 plain.2)
         held
 
+    -- a call that ends without an event leaves the machine
     pub alone_ended : Ended script seat parts front at at line.call
     alone_ended = record {
       began = ends.began;
@@ -243,6 +246,7 @@ module _ (script : Script) (valid : is_valid script ≡ true) where
     abbrev made : Occurrence
     made = occurrence_of (shape_of script) parts entry
 
+    -- an event is a step of the machine, and the parts go on following it
     pub moved : (next : IsolationMachine) × IsStep (command_in entry.made.event) at (reply_after (shape_of script) parts entry.made) next × FollowsMachine (shape_of script) (after (shape_of script) parts entry.made) next
     moved = made_step (shape_of script) parts entry.made at (is_shape script valid) held.ok held.follows lawful memory
 
@@ -327,6 +331,7 @@ module _ (script : Script) (valid : is_valid script ≡ true) where
       prune_counted asked = prune_counts script parts front lines entry (sum_by dropped_told (replies_in line.call.made)) seat low high held.ok lawful held.kept
           (pruning_quiet entry.made.event (pruning asked)) (all_told asked)
 
+      -- what holds at each moment holds behind one with an event
       pub after_held : Holds script (after (shape_of script) parts entry.made) (front ++ occurrence_of (shape_of script) parts entry ∷ []) moved.0 (with_reply lines line.printed)
       after_held = next_holds script parts front at moved.0 lines (with_reply lines line.printed) entry (is_shape script valid) lawful is_named
           (event_key script valid seat (is_worker (who_at script seat)) line.call.made entry.made.event (reply_after (shape_of script) parts entry.made) line.call.command line.call.told ends.asked
@@ -347,9 +352,11 @@ module _ (script : Script) (valid : is_valid script ≡ true) where
       call_replied = rest_replied (shape_of script) ends.began line.call.made
           (subst (AreReplied (shape_of script)) whole (under_replied (shape_of script) seat (front ++ occurrence_of (shape_of script) parts entry ∷ []) after_held.replied))
 
+      -- the line tells what the event is replied
       pub tells_at : TellsAt (is_worker (who_at script seat)) line.call.made entry.made.event (reply_after (shape_of script) parts entry.made) line.call.command line.call.told
       tells_at = last_events_are_told (shape_of script) (is_worker (who_at script seat)) seat ends.began line.call ends.done (occurrence_of (shape_of script) parts entry) ends.is_call call_replied ends.made
 
+      -- the call that ends with the event ended between the two states
       pub ended : Ended script seat (after (shape_of script) parts entry.made) (front ++ occurrence_of (shape_of script) parts entry ∷ []) at moved.0 line.call
       ended = record {
         began = ends.began;
@@ -398,12 +405,15 @@ module _ (script : Script) (valid : is_valid script ≡ true) where
 
   -- ---- all moments
 
+  -- a list with an event is not empty
   pub no_event : (o : Occurrence) (os : List Occurrence) → o ∷ os ≡ [] → ⊥
   no_event o os e = cc
 
+  -- equal lists have the same first
   pub first_is : (a b : Occurrence) (xs ys : List Occurrence) → a ∷ xs ≡ b ∷ ys → a ≡ b
   first_is a b xs ys e = cc
 
+  -- and the same rest
   pub rest_is : (a b : Occurrence) (xs ys : List Occurrence) → a ∷ xs ≡ b ∷ ys → xs ≡ ys
   rest_is a b xs ys e = cc
 
@@ -449,11 +459,13 @@ module _ (script : Script) (valid : is_valid script ≡ true) where
       (subst (λ o. AreMoments script (front ++ o ∷ []) ms) same rest)
       (rest_is o (occurrence_of (shape_of script) parts entry) (events_at ms) (occurrences_from (shape_of script) (after (shape_of script) parts entry.made) log) events))
 
+  -- where it holds, the lines of all moments to come come about one behind the other
   pub all_run : (ms : List Moment) → On ms
   all_run [] log parts front at lines held lawful are moments events = tt
   all_run (m ∷ ms) log parts front at lines held lawful are moments events =
       one m.session moments.0.low moments.0.high m.event m.line ms (all_run ms) log parts front at lines held lawful are moments.0.event_is moments.0.stands moments.1 events
 
+-- The moments of a run are a timeline of its printed replies.
 pub runs_give_timelines : RunsGiveTimelines
 runs_give_timelines script log text valid ran =
     let moments = runs_have_moments script log text ran in

@@ -29,6 +29,7 @@ module _ (shape : Shape) (session : ℕ) (old new : List Logged) (own : OwnTrans
       → IsCall shape false session (own_in shape session old) (export_call table made line)
   is_call line by = subst (λ r. IsCallBy shape false session (own_after (own_in shape session old)) r (export_call table made line)) (sym free) by
 
+-- Reads of all blocks, none refused memory, are an export that tells what they told.
 pub all_reads_are_an_export : AllReadsAreAnExport
 all_reads_are_an_export shape session old new own table made reads all granted = record {
   goes_on = reads.goes_on;
@@ -40,6 +41,7 @@ all_reads_are_an_export shape session old new own table made reads all granted =
   }));
 }
 
+-- Reads that broke off are an export that found no memory.
 pub some_reads_are_an_export : SomeReadsAreAnExport
 some_reads_are_an_export shape session old new own table made reads cut = record {
   goes_on = reads.goes_on;
@@ -53,6 +55,7 @@ some_reads_are_an_export shape session old new own table made reads cut = record
   }));
 }
 
+-- An export without a transaction, or with one that wrote the table, makes no event.
 pub refused_exports_read_nothing : RefusedExportsReadNothing
 refused_exports_read_nothing shape session log table line refused = record {
   goes_on = ([], sym (append-nil log));

@@ -41,6 +41,7 @@ module _ (table : ℕ) where
           (then_other (nat_cmp table w.0.table) (int_cmp key w.0.key) (other_number table w.0.table is))
           ∙ rest none
 
+  -- a write set without a key of the table leaves what the table has
   pub contents_stay : (writes : WriteSet) (rows : State) → InOrder rows → InOrder writes → least_key table writes ≡ None
       → contents_of table (laid_over rows writes) ≡ contents_of table rows
   contents_stay writes rows order ordered none = same_contents table (laid_over rows writes) rows

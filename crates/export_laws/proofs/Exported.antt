@@ -28,6 +28,7 @@ use Rattle.timeline_laws.proofs.Walk.{shown-opening}
 use Rattle.timeline_spec.specs.Printed.{printed_of, text_of}
 use Rattle.timeline_spec.specs.Timeline.{Timeline}
 
+-- A run's printed lines say what its export sent.
 pub exports_are_said : ExportsAreSaid
 exports_are_said script log text bytes valid ran fit sent =
     let told : List (Option Rattle.workload_spec.specs.declared.reply.Said.Said) = told_in ran.rounds in

@@ -52,6 +52,7 @@ some_long : (rows : List Row) → is_some_row rows ≡ true → 0 < length rows
 some_long [] is = absurd (let never : ⊥ = cc is in never)
 some_long (row ∷ rows) is = omega arith
 
+-- the rows of all groups are those of each, one group behind the other
 pub rows_together : {X : Type 0} (rows_in : X → List Row) (xs : List X) → all_rows (map rows_in xs) ≡ flat_map rows_in xs
 rows_together rows_in [] = refl
 rows_together rows_in (x ∷ xs) = ap (λ rows. rows_in x ++ rows) (rows_together rows_in xs)

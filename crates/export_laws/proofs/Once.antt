@@ -69,6 +69,7 @@ change_behind who asked told machine after (commits c) =
     ∙ ap (λ w. option_map_or (λ (t : Transaction). committed (number_of w) t.own machine) (transaction_of (number_of w) machine) machine) (sym c.who_is)
     ∙ ap (λ s. behind who asked s machine) (sym c.said_is)
 
+-- a reply allows one machine behind it
 pub change_once : (who : Who) (asked : Command) (told : Said) (machine a b : IsolationMachine) → Change who asked told machine a → Change who asked told machine b → a ≡ b
 change_once who asked told machine a b one other = change_behind who asked told machine a one ∙ sym (change_behind who asked told machine b other)
 
@@ -85,6 +86,7 @@ scan_stays machine session table Freezing after allows = allows.2
 scan_stays machine session table Full after allows = allows.2
 scan_stays machine session table Memory after allows = allows.2
 
+-- a command that asks nothing of the machine leaves it
 pub others_stay : (tables : List TableDecl) (front : List Entry) (machine : IsolationMachine) (entry : Entry) (after : IsolationMachine) (who : Who) (asked : Command)
     → is_single asked ≡ false → TakesAs tables front machine entry after (request_of who asked) → after ≡ machine
 others_stay tables front machine entry after (Worker worker) asked other takes = takes.1

@@ -84,5 +84,6 @@ module _ (table : ℕ) where
           let few = at_most rows (with_row acc row) in
           absurd (let never : ⊥ = omega (arith, all, few, same) in never)
 
+-- Rows that are as many as are left in the order of their keys are the same rows.
 pub ordered_rows_are_the_rows : OrderedRowsAreTheRows
 ordered_rows_are_the_rows table rows long = each_once table rows [] (let all : length rows ≡ length (contents_of table (put table [] rows)) = long in omega (arith, all))

@@ -35,6 +35,7 @@ none_member p (y ∷ xs) x none among = go (p y) refl (list_any p xs) none among
     go false is b e (inl same) rest = ap p same ∙ is
     go false is b e (inr a) rest = rest e a
 
+-- upkeep is no export
 pub upkeep_no_export : (asked : Command) → is_upkeep asked ≡ true → is_export asked ≡ false
 upkeep_no_export (command.Export table) e = absurd (let never : false ≡ true = e in let no : ⊥ = cc in no)
 upkeep_no_export _ e = refl
@@ -72,6 +73,7 @@ module _ (script : Script) (quiet : list_any (λ (line : Line). is_export line.c
 
 -- ---- all calls
 
+-- the call is an export
 abbrev pub is_one : Call → Bool
 is_one call = is_export call.command
 
@@ -95,6 +97,7 @@ rounds_none (round ∷ rounds) each =
     list_any-append is_one (flat_map (λ (share : Share). share.calls) round.shares) (calls_in rounds)
     ∙ neither (list_any is_one (flat_map (λ (share : Share). share.calls) round.shares)) (list_any is_one (calls_in rounds)) (shares_none round.shares each.0) (rounds_none rounds each.1)
 
+-- Where no line of a script is an export, its run sends nothing.
 pub without_an_export_nothing_is_sent : WithoutAnExportNothingIsSent
 without_an_export_nothing_is_sent script log text bytes ran sent quiet =
     let moments = runs_have_moments script log text ran in

@@ -33,6 +33,7 @@ use Rattle.workload_spec.specs.Valid.{all_lines, has_head, is_export, is_line, i
 
 -- ---- one behind the other
 
+-- What more calls send stands behind what the first sent.
 pub sendings_join : SendingsJoin
 sendings_join tables [] more sent bytes before behind =
     subst (CallsSend tables more) (sym (ap (λ (xs : List ℕ). xs ++ bytes) before)) behind
@@ -44,6 +45,7 @@ sendings_join tables (call ∷ calls) more sent bytes before behind = (
   sendings_join tables calls more before.1 bytes before.4 behind,
 )
 
+-- What one call more sends stands behind what was sent before.
 pub sending_goes_on : SendingGoesOn
 sending_goes_on tables calls call sent bytes before one =
     sendings_join tables calls (call ∷ []) sent bytes before
@@ -310,6 +312,7 @@ module _ (script : Script) where
 
 -- ---- what the lines say
 
+-- A run's printed lines say all that its calls sent.
 pub runs_say_all_sent : RunsSayAllSent
 runs_say_all_sent script log text bytes valid ran fit sent =
     let were = were_sent script log text valid ran bytes sent in record {
@@ -317,5 +320,6 @@ runs_say_all_sent script log text bytes valid ran fit sent =
       quiet = without_an_export_nothing_is_sent script log text bytes ran were;
     }
 
+-- The empty text of a workload without a round says that nothing was sent.
 pub nothing_says_nothing : NothingSaysNothing
 nothing_says_nothing script = record { says = tt; quiet = λ none. refl }

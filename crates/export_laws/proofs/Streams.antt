@@ -49,5 +49,6 @@ groups_counted (y ∷ ys) =
     go true rest = omega (Rattle.std.proofs.Common.arith, rest)
     go false rest = omega (Rattle.std.proofs.Common.arith, rest)
 
+-- the groups that reads told have as many rows as the reads
 pub rows_counted : (made : List Occurrence) → length (all_rows (groups_told made)) ≡ length (flat_map rows_told (replies_in made))
 rows_counted made = ap (λ (rows : List Row). length rows) (rows_kept (map rows_told (replies_in made)) ∙ rows_together rows_told (replies_in made))

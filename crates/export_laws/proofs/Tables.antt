@@ -54,6 +54,7 @@ columns_same tables n t = go (slice_get tables t)
     go None = refl
     go (Some decl) = refl
 
+-- the columns of each table of a valid script can be told by a stream
 pub are_told : (script : Script) → is_valid script ≡ true → (t : ℕ) → is_some (slice_get script.tables t) ≡ true → AreTold (columns_at script.tables t)
 are_told script valid t has =
     let h = head script valid in

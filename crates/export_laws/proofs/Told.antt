@@ -20,6 +20,7 @@ use Rattle.told_laws.proofs.Splits.{heads, none_some, tails}
 true_false : true ≡ false → ⊥
 true_false e = cc
 
+-- where neither of two holds, each does not
 pub or_false : (a b : Bool) → (a || b) ≡ false → (a ≡ false) × (b ≡ false)
 or_false true b e = absurd (true_false e)
 or_false false b e = (refl, e)
@@ -66,6 +67,7 @@ module _ (sh : Shape) (s : Parts) (session : ℕ) (own : OwnTransaction) (t : �
   one_more told here made blocks same true first = ap (λ rows. rows ∷ (groups_told made ++ first.more)) same ∙ ap (λ groups. here ∷ groups) first.split
   one_more told here made blocks same false first = first.split
 
+  -- reads that were made tell the first groups of a table, and all where none is missing
   pub tells_first : (made : List Occurrence) (missed : List CoreEvent) (blocks : List ℕ)
       → map (event.Read own t) blocks ≡ events_in made ++ missed → is_cut_short made ≡ true
       → ((o : Occurrence) → Among o made → Stands sh s session o) → TellsFirst made blocks

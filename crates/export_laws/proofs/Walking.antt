@@ -206,6 +206,7 @@ module _ (script : Script) (valid : is_valid script ≡ true) (printed timeline 
 
   -- ---- all moments
 
+  -- where it holds, each line of an export to come says what was sent
   pub all_say : (ms : List Moment) → On ms
   all_say [] log parts front at lines held lawful are moments events sent rest = tt
   all_say (m ∷ ms) log parts front at lines held lawful are moments events sent rest =

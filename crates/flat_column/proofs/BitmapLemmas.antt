@@ -20,13 +20,16 @@ use Rattle.arrow_spec.specs.Bytes.{byte_of_bits, bitmap}
 by_cases_lt : {P : Type 0} (m n : ℕ) → (m < n → P) → (n ≤ m → P) → P
 by_cases_lt m n f g = elim (cases_lt m n) [ inl h ↦ f h | inr h ↦ g h ]
 
+-- there are as many chunks as were asked for
 pub length-first_chunks : {X : Type 0} (n k : ℕ) (xs : List X) → length (first_chunks n k xs) ≡ k
 length-first_chunks n zero xs = refl
 length-first_chunks n (suc k) xs = ap suc (length-first_chunks n k (drop n xs))
 
+-- a bitmap has a byte for each eight bits that were begun
 pub length-bitmap : (bits : List Bool) → length (bitmap bits) ≡ (length bits + 7) / 8
 length-bitmap bits = length-map _ _ ∙ length-first_chunks 8 ((length bits + 7) / 8) bits
 
+-- what is made of the chunk at a place is made of its elements of the list
 pub get_or-map-first_chunks : {X Y : Type 0} (f : List X → Y) (n k : ℕ) (xs : List X) (j : ℕ) (d : Y) → j < k
     → get_or (map f (first_chunks n k xs)) j d ≡ f (take n (drop (n * j) xs))
 get_or-map-first_chunks f n zero xs j d h = absurd (omega arith)
@@ -39,12 +42,14 @@ get_or-map-first_chunks f n (suc k) xs (suc j) d h =
 digit : Bool → ℕ
 digit bit = cond bit 1 0
 
+-- the byte of so many bits is below that power of two
 pub byte_of_bits-lt : (bits : List Bool) (k : ℕ) → length bits ≤ k → byte_of_bits bits < 2 ^ k
 byte_of_bits-lt [] k h = pow_pos k
 byte_of_bits-lt (bit ∷ bits) zero h = absurd (omega arith)
 byte_of_bits-lt (true ∷ bits) (suc k) h = let r = byte_of_bits-lt bits k (omega arith) in omega arith
 byte_of_bits-lt (false ∷ bits) (suc k) h = let r = byte_of_bits-lt bits k (omega arith) in omega arith
 
+-- each bit of a byte is the one at its place, and zero behind the list
 pub bit_at-byte_of_bits : (bits : List Bool) (i : ℕ) → bit_at (byte_of_bits bits) i ≡ cond (get_or bits i false) 1 0
 bit_at-byte_of_bits [] i = bit_at-zero i
 bit_at-byte_of_bits (true ∷ bits) zero = bit_at_lowest (1 + 2 * byte_of_bits bits) ∙ omega arith
@@ -100,6 +105,7 @@ same_bitmaps xs ys same p q bits =
     let e = rw (byte, place) at (bits (8 * k + j) (omega arith)) in
     same_bit (bit_at (get_or xs k 0) j) (bit_at (get_or ys k 0) j) (bit_at-lt (get_or xs k 0) j) (bit_at-lt (get_or ys k 0) j) e))
 
+-- a bitmap is made of bytes
 pub AreBytes-bitmap : (bits : List Bool) → AreBytes (bitmap bits)
 AreBytes-bitmap bits = record {
   below = λ k.
@@ -414,6 +420,7 @@ All-from_count (false ∷ bits) e k d h =
     let most = count_by-le-length (λ (bit : Bool). bit) bits in
     absurd (omega arith)
 
+-- where all bits are ones, there are as many ones as bits
 pub count-from_All : (bits : List Bool) → ((k : ℕ) (d : Bool) → k < length bits → get_or bits k d ≡ true)
     → count_by (λ bit. bit) bits ≡ length bits
 count-from_All [] all = refl
@@ -447,6 +454,7 @@ pub record Holds (bytes : List ℕ) (len : ℕ) (bits : List Bool) : Type 0 wher
   pub padded : bytes ≡ bitmap bits
   pub size : len ≡ length bits
 
+-- bytes that keep the invariant hold the bits that they show
 pub Holds-from : (bytes : List ℕ) (len : ℕ) (bits : List Bool) → bitmap_bits bytes len ≡ bits → IsPadded bytes len
     → Holds bytes len bits
 Holds-from bytes len bits view invariant = record {
@@ -454,15 +462,19 @@ Holds-from bytes len bits view invariant = record {
   size = sym (length-map-range_with_len (bitmap_bit bytes) 0 len) ∙ ap length view;
 }
 
+-- bytes that hold a list have one byte for each eight bits that were begun
 pub Holds-length : (bytes : List ℕ) (len : ℕ) (bits : List Bool) → Holds bytes len bits → length bytes ≡ (length bits + 7) / 8
 Holds-length bytes len bits h = ap length h.padded ∙ length-bitmap bits
 
+-- an eighth that is rounded up, by the sum with seven
 pub div_ceil-eight : (n : ℕ) → div_ceil n 8 ≡ (n + 7) / 8
 div_ceil-eight n = grind (arith, common_steps)
 
+-- bytes show the bits that they hold
 pub Holds-view : (bytes : List ℕ) (len : ℕ) (bits : List Bool) → Holds bytes len bits → bitmap_bits bytes len ≡ bits
 Holds-view bytes len bits h = bitmap_bits_is bytes len bits h.padded h.size
 
+-- bytes that hold a list of bits keep the invariant
 pub Holds-invariant : (bytes : List ℕ) (len : ℕ) (bits : List Bool) → Holds bytes len bits → len < 2 ^ 64 → IsPadded bytes len
 Holds-invariant bytes len bits h fits = record { padded = bitmap_is bytes len bits h.padded h.size; fits = fits }
 
@@ -490,6 +502,7 @@ PutsBit-or old place small low = record {
   others = λ i below apart. bit_at_set_other w8 old place low i apart;
 }
 
+-- a byte without one bit is a byte into which a zero was put there
 pub PutsBit-and : (old place : ℕ) → old < 256 → place < 8
     → PutsBit old (bit_and old (255 - 1 * 2 ^ place % 256)) place false
 PutsBit-and old place small low = record {
@@ -524,6 +537,7 @@ Holds-get bytes len bits index byte h within read =
     (sym (ap (λ (n : ℕ). eqb n 1) (shr_and_one byte (index % 8) ∙ ap (λ (n : ℕ). bit_at n (index % 8)) (read ∙ ap (λ (all : List ℕ). get_or all (index / 8) 0) h.padded))
     ∙ bitmap_bit-bitmap bits index))
 
+-- the ones of the bytes are those of the bits that they hold
 pub Holds-count : (bytes : List ℕ) (len : ℕ) (bits : List Bool) → Holds bytes len bits
     → sum_by count_ones bytes ≡ count_by (λ bit. bit) bits
 Holds-count bytes len bits h = ap (sum_by count_ones) h.padded ∙ sum_by-bitmap bits

@@ -31,12 +31,14 @@ pub record Sized (width : ℕ) : Type 0 where
   pub whole : 256 ^ (width / 8) ≡ 2 ^ width
   pub halves : 2 ^ width ≡ 2 * 2 ^ (width - 1)
 
+-- each of the four widths has its sizes
 pub sized : (width : ℕ) → IsWidth width → Sized width
 sized width (inl e) = rw e (record { bytes = omega arith; whole = refl; halves = refl })
 sized width (inr (inl e)) = rw e (record { bytes = omega arith; whole = refl; halves = refl })
 sized width (inr (inr (inl e))) = rw e (record { bytes = omega arith; whole = refl; halves = refl })
 sized width (inr (inr (inr e))) = rw e (record { bytes = omega arith; whole = refl; halves = refl })
 
+-- a number in range is the value of its two's complement
 pub value_of-twos_complement : (width : ℕ) (signed : Bool) (value : ℤ) → 2 ^ width ≡ 2 * 2 ^ (width - 1)
     → IsInRange width signed value → value_of width signed (twos_complement width value) ≡ value
 value_of-twos_complement width true (pos n) halves h =
@@ -49,6 +51,7 @@ value_of-twos_complement width true (negsuc n) halves h =
 value_of-twos_complement width false (pos n) halves h = refl
 value_of-twos_complement width false (negsuc n) halves h = absurd (omega (arith, ints))
 
+-- the two's complement of a number in range fits the width
 pub twos_complement-lt : (width : ℕ) (signed : Bool) (value : ℤ) → 2 ^ width ≡ 2 * 2 ^ (width - 1)
     → IsInRange width signed value → twos_complement width value < 2 ^ width
 twos_complement-lt width true (pos n) halves h = omega (arith, ints)
@@ -57,6 +60,7 @@ twos_complement-lt width true (negsuc n) halves h =
 twos_complement-lt width false (pos n) halves h = omega (arith, ints)
 twos_complement-lt width false (negsuc n) halves h = absurd (omega (arith, ints))
 
+-- a number has as many bytes as its width
 pub length-bytes_of : (width : ℕ) (value : ℤ) → length (bytes_of width value) ≡ width / 8
 length-bytes_of width value = length-bytes_low_first 0 (width / 8) (twos_complement width value)
 
@@ -71,6 +75,7 @@ first_value-bytes_of width signed value rest known ranged =
 
 -- ---- pieces of one length
 
+-- pieces of one size have that size in all, so many times
 pub length-pieces : {X : Type 0} (f : X → List ℕ) (size : ℕ) (xs : List X) → ((x : X) → length (f x) ≡ size)
     → length (flat_map f xs) ≡ size * length xs
 length-pieces f size [] each = omega arith
@@ -78,6 +83,7 @@ length-pieces f size (x ∷ xs) each =
     let one = each x in let more = length-pieces f size xs each in
     length-append (f x) (flat_map f xs) ∙ grind arith
 
+-- behind the first pieces of one size stand the others
 pub drop-pieces : {X : Type 0} (f : X → List ℕ) (size : ℕ) (xs : List X) (i : ℕ) → ((x : X) → length (f x) ≡ size)
     → drop (size * i) (flat_map f xs) ≡ flat_map f (drop i xs)
 drop-pieces f size xs zero each = let e : size * zero ≡ 0 = omega arith in rw e refl
@@ -87,6 +93,7 @@ drop-pieces f size (x ∷ xs) (suc i) each =
     let e : size * suc i ≡ length (f x) + size * i = grind arith in
     rw e (drop-append-add (f x) (flat_map f xs) (size * i) ∙ drop-pieces f size xs i each)
 
+-- the first pieces of one size are those of the first elements
 pub take-pieces : {X : Type 0} (f : X → List ℕ) (size : ℕ) (xs : List X) (i : ℕ) → ((x : X) → length (f x) ≡ size)
     → take (size * i) (flat_map f xs) ≡ flat_map f (take i xs)
 take-pieces f size xs zero each = let e : size * zero ≡ 0 = omega arith in rw e refl
@@ -104,6 +111,7 @@ pub record Holds (width : ℕ) (signed : Bool) (bytes : List ℕ) (values : List
   pub ranged : All (IsInRange width signed) values
   pub stored : bytes ≡ all_bytes width values
 
+-- numbers have as many bytes as their width, for each of them
 pub length-all_bytes : (width : ℕ) (values : List ℤ) → length (all_bytes width values) ≡ width / 8 * length values
 length-all_bytes width values = length-pieces (bytes_of width) (width / 8) values (length-bytes_of width)
 
@@ -138,6 +146,7 @@ pub record Opened (width : ℕ) (signed : Bool) (bytes : List ℕ) (now : Number
 abbrev shown : ℕ → Bool → List ℕ → Numbers
 shown width signed bytes = record { width = width; signed = signed; values = values_in width signed bytes }
 
+-- fields that are stored hold the value that they show
 pub opened : (width : ℕ) (signed : Bool) (bytes : List ℕ) (now : Numbers) → shown width signed bytes ≡ now
     → IsStored width signed bytes → Opened width signed bytes now
 opened width signed bytes now view invariant =
@@ -152,6 +161,7 @@ opened width signed bytes now view invariant =
       };
     })
 
+-- bytes show the numbers that they hold
 pub Holds-view : (width : ℕ) (signed : Bool) (bytes : List ℕ) (values : List ℤ) → Holds width signed bytes values
     → values_in width signed bytes ≡ values
 Holds-view width signed bytes values h =
@@ -178,17 +188,20 @@ closed width signed bytes now values same_width same_signed h =
       Holds-invariant now.width now.signed bytes values h,
     )
 
+-- bytes that hold a list have the width of each number
 pub Holds-length : (width : ℕ) (signed : Bool) (bytes : List ℕ) (values : List ℤ) → Holds width signed bytes values
     → length bytes ≡ width / 8 * length values
 Holds-length width signed bytes values h = ap length h.stored ∙ length-all_bytes width values
 
 -- ---- what the code does with the bytes
 
+-- the bytes have room for each front of the numbers
 pub Holds-front : (width : ℕ) (signed : Bool) (bytes : List ℕ) (values : List ℤ) (n : ℕ) → Holds width signed bytes values
     → n ≤ length values → width / 8 * n ≤ length bytes
 Holds-front width signed bytes values n h within =
     rw (Holds-length width signed bytes values h) (mul-le-mul_left (width / 8) within)
 
+-- the bytes have room for the number at each place
 pub Holds-room : (width : ℕ) (signed : Bool) (bytes : List ℕ) (values : List ℤ) (i : ℕ) → Holds width signed bytes values
     → i < length values → width / 8 * i + width / 8 ≤ length bytes
 Holds-room width signed bytes values i h within =
@@ -196,6 +209,7 @@ Holds-room width signed bytes values i h within =
     let e : width / 8 * (i + 1) ≡ width / 8 * i + width / 8 = grind arith in
     omega arith
 
+-- the number that is read at a place is the list's, and in range
 pub Holds-get : (width : ℕ) (signed : Bool) (bytes : List ℕ) (values : List ℤ) (i : ℕ) (value : ℤ) → Holds width signed bytes values
     → i < length values → value ≡ first_value width signed (drop (width / 8 * i) bytes)
     → (slice_get values i ≡ Some value) × IsInRange width signed value
@@ -206,11 +220,13 @@ Holds-get width signed bytes values i value h within read =
     let P : ℤ → Type 0 = λ v. IsInRange width signed v in
     (slice_get-get_or values i (pos 0) within ∙ ap (λ (v : ℤ). Some v) (sym same), subst P (sym same) (h.ranged i (pos 0) within))
 
+-- a front of the bytes is that of the first numbers
 pub Holds-take : (width : ℕ) (signed : Bool) (bytes : List ℕ) (values : List ℤ) (n : ℕ) → Holds width signed bytes values
     → take (width / 8 * n) bytes ≡ all_bytes width (take n values)
 Holds-take width signed bytes values n h =
     ap (take (width / 8 * n)) h.stored ∙ take-pieces (bytes_of width) (width / 8) values n (length-bytes_of width)
 
+-- bytes into which a number was written hold the list with it
 pub Holds-set : (width : ℕ) (signed : Bool) (bytes new : List ℕ) (values : List ℤ) (i : ℕ) (value : ℤ) → Holds width signed bytes values
     → i < length values → IsInRange width signed value
     → new ≡ take (width / 8 * i) bytes ++ (bytes_of width value ++ drop (width / 8) (drop (width / 8 * i) bytes))
@@ -255,6 +271,7 @@ All-zeros width signed n k d h =
     let P : ℤ → Type 0 = λ v. IsInRange width signed v in
     subst P (sym (get_or-replicate n k (pos 0) d within)) (IsInRange-zero width signed)
 
+-- bytes that were filled up with zeros hold the list with zeros at its end
 pub Holds-extended : (width : ℕ) (signed : Bool) (bytes new : List ℕ) (values : List ℤ) (n size len : ℕ) → Holds width signed bytes values
     → size ≡ width / 8 * (length values + n) → len ≡ length bytes → new ≡ take size bytes ++ replicate (size - len) 0
     → Holds width signed new (values ++ replicate n (pos 0))

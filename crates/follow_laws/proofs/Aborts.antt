@@ -26,6 +26,7 @@ rolled_writer_is q r newest commits slot ok w = go (same_option (writer_of slot.
         let same : rolled_back q slot ≡ slot = rolled_back_other q slot ok.lawful ne in
         (λ e. ne (sym (ap (λ (s : Slot). writer_of s.entries) same) ∙ w ∙ ap Some e), same)
 
+-- a slot that is current behind a roll-back was current before it
 pub rolled_current : (q newest commits : ℕ) (slot : Slot) → IsSoundSlot newest commits slot → is_current (rolled_back q slot) ≡ true → is_current slot ≡ true
 rolled_current q newest commits slot ok is = go (same_option (writer_of slot.entries) q)
   where
@@ -48,9 +49,11 @@ module _ (slot : ℕ → ℕ → Slot) (places left : ℕ → ℤ → List ℕ) 
   abbrev rolled : ℕ → ℕ → Slot
   rolled t p = rolled_back q (slot t p)
 
+  -- the transactions of others stay when one ends
   pub ended_other : (r : ℕ) → r ≢ q → transaction_of r (without q m) ≡ transaction_of r m
   ended_other r ne = of-without r q m.open_transactions ne
 
+  -- one whose transaction ended has none
   pub ended_own : transaction_of q (without q m) ≡ None
   ended_own = of-without-own q m.open_transactions
 
@@ -124,6 +127,7 @@ module _ (slot : ℕ → ℕ → Slot) (places left : ℕ → ℤ → List ℕ) 
       some_same : (a b : ℕ) → Some a ≡ Some b → a ≡ b
       some_same a b e = cc
 
+  -- an abort keeps what holds between the core and the machine
   pub abort_keeps : Follows rolled left (closed q desk) (without q m)
   abort_keeps = record {
     slots = λ t p. sound_rolled q desk.newest desk.commits (slot t p) (f.slots t p);

@@ -68,6 +68,7 @@ module _ (slot : ℕ → ℕ → Slot) (places : ℕ → ℤ → List ℕ) (desk
   no_writer p none a = none_from (writer_of (slot t p).entries) (λ w is.
       none_not (written) p none (mine_at.all p a (is ∙ ap Some (no_rival p w a is))))
 
+  -- of a key that the session did not write, the newest state shows what the slots have
   pub settled_row : (p : ℕ) → written ≡ None → Among p (places t key) → seen (slot t p) desk.newest 0 ≡ (slot t p).row
   settled_row p none a = seen_settled (slot t p).row (slot t p).entries desk.newest desk.newest 0 (f.slots t p).stamps (omega arith) (no_writer p none a)
 
@@ -141,5 +142,6 @@ module _ (slot : ℕ → ℕ → Slot) (places : ℕ → ℤ → List ℕ) (desk
       first : current_place (slot t) (places t key) ≡ Some here.0
       first = first_is (λ p. cond (is_some (slot t p).row) (Some p) None) (places t key) here.0 here.0 here.1 (ap (λ b. cond b (Some here.0) None) (ap is_some here.2)) once
 
+  -- where a slot of the key has a row, no other slot of the key is current
   pub alone_with : (p : ℕ) (row : Row) → Among p (places t key) → (slot t p).row ≡ Some row → (p' : ℕ) → Among p' (places t key) → is_current (slot t p') ≡ true → p' ≡ p
   alone_with p row a is p' b now = f.current t key p' p b a now (row_current (slot t p) row is)

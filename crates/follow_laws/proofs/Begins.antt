@@ -17,6 +17,7 @@ use Rattle.follow_laws.proofs.Desks.{same_number, opened_own, opened_other, live
 abbrev pub new_of : IsolationMachine → ℕ → Transaction
 new_of m q = record { session = q; snapshot = length m.history; own = [] }
 
+-- the machine with the transaction that a begin opens
 abbrev pub begun_machine : IsolationMachine → ℕ → IsolationMachine
 begun_machine m q = record m { open_transactions = m.open_transactions ++ new_of m q ∷ [] }
 
@@ -84,6 +85,7 @@ module _ (slot : ℕ → ℕ → Slot) (places : ℕ → ℤ → List ℕ) (desk
           let never : None ≡ Some value = ap (λ (t' : Transaction). at_place t'.own (place_at t key)) same ∙ at in absurd (cc)
       written' r tr t key value is at (inr ne) = f.own.written r tr t key value (sym (other r ne) ∙ is) at
 
+  -- a begin keeps what holds between the core and the machine
   pub begin_keeps : Follows slot places (opened q desk) (begun_machine m q)
   begin_keeps = record {
     slots = f.slots;

@@ -33,6 +33,7 @@ true_false e = cc
 value_same : (a b : Option Row) → Some a ≡ Some b → a ≡ b
 value_same a b e = cc
 
+-- a slot with a writer after a commit is another's, and as it was
 pub committed_writer_is : (q r newest commits : ℕ) (slot : Slot) → IsSoundSlot newest commits slot → writer_of (committed q (newest + 1) (commits + 1) slot).entries ≡ Some r
     → (r ≢ q) × (committed q (newest + 1) (commits + 1) slot ≡ slot)
 committed_writer_is q r newest commits slot ok w = go (same_option (writer_of slot.entries) q)
@@ -43,6 +44,7 @@ committed_writer_is q r newest commits slot ok w = go (same_option (writer_of sl
         let same : committed q (newest + 1) (commits + 1) slot ≡ slot = committed_other q (newest + 1) (commits + 1) slot ok.lawful ne in
         (λ e. ne (sym (ap (λ (s : Slot). writer_of s.entries) same) ∙ w ∙ ap Some e), same)
 
+-- a slot that is current after a commit was current before it
 pub committed_current : (q newest commits : ℕ) (slot : Slot) → IsSoundSlot newest commits slot → is_current (committed q (newest + 1) (commits + 1) slot) ≡ true → is_current slot ≡ true
 committed_current q newest commits slot ok is = go (same_option (writer_of slot.entries) q)
   where
@@ -71,6 +73,7 @@ module _ (slot : ℕ → ℕ → Slot) (places : ℕ → ℤ → List ℕ) (desk
   abbrev after_desk : DeskState
   after_desk = closed q (numbered desk)
 
+  -- the machine without the transaction, and with its writes in the history
   abbrev pub after_commit : IsolationMachine
   after_commit = record (without q m) { history = m.history ++ tr.own ∷ [] }
 
@@ -306,6 +309,7 @@ module _ (slot : ℕ → ℕ → Slot) (places : ℕ → ℤ → List ℕ) (desk
         (old.0, old.1, ap (λ (s : Slot). writer_of s.entries) same ∙ old.2);
   }
 
+  -- a commit of some writes keeps what holds between the core and the machine
   pub commit_keeps : Follows stamped_slot places after_desk after_commit
   commit_keeps = record {
     slots = λ t p. sound_committed q desk.newest desk.commits (slot t p) (f.slots t p);

@@ -8,6 +8,7 @@ use Rattle.txn_desk.specs.declared.Snapshot.{Snapshot}
 use Rattle.event_spec.specs.Effects.{opened, closed, numbered}
 use Rattle.event_spec.specs.Follows.{IsLive}
 
+-- two numbers are the same or not
 pub same_number : (a b : ℕ) → (a ≡ b) ⊎ (a ≢ b)
 same_number a b = go (a == b) refl
   where
@@ -15,21 +16,27 @@ same_number a b = go (a == b) refl
     go true e = inl (grind (arith, nat_tests))
     go false e = inr (λ s. absurd (grind (arith, nat_tests)))
 
+-- a begin opens a snapshot with the newest stamp and the number of commits
 pub opened_own : (q : ℕ) (desk : DeskState) → HasPass desk q → snapshot_of (opened q desk) q ≡ Some (record { stamp = desk.newest; number = desk.commits })
 opened_own q desk pass = get_or-set_same desk.open_snapshots (q - 1) (Some (record { stamp = desk.newest; number = desk.commits })) None (let a = pass.0 in let b = pass.1 in omega (arith, a, b))
 
+-- a begin leaves the snapshots of others
 pub opened_other : (q r : ℕ) (desk : DeskState) → 1 ≤ q → 1 ≤ r → r ≢ q → snapshot_of (opened q desk) r ≡ snapshot_of desk r
 opened_other q r desk a b ne = get_or-set_other desk.open_snapshots (q - 1) (r - 1) (Some (record { stamp = desk.newest; number = desk.commits })) None (λ e. ne (omega (arith, e, a, b)))
 
+-- who ended has no snapshot
 pub closed_own : (q : ℕ) (desk : DeskState) → HasPass desk q → snapshot_of (closed q desk) q ≡ None
 closed_own q desk pass = get_or-set_same desk.open_snapshots (q - 1) None None (let a = pass.0 in let b = pass.1 in omega (arith, a, b))
 
+-- an end leaves the snapshots of others
 pub closed_other : (q r : ℕ) (desk : DeskState) → 1 ≤ q → 1 ≤ r → r ≢ q → snapshot_of (closed q desk) r ≡ snapshot_of desk r
 closed_other q r desk a b ne = get_or-set_other desk.open_snapshots (q - 1) (r - 1) None None (λ e. ne (omega (arith, e, a, b)))
 
+-- nothing is not something
 pub none_not : {X : Type 0} (a : Option X) (x : X) → a ≡ None → a ≡ Some x → ⊥
 none_not a x n s = cc
 
+-- what two `Some` hold is the same
 pub some_is : (a b : Snapshot) → Some a ≡ Some b → a ≡ b
 some_is a b e = cc
 

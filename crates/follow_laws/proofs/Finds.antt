@@ -19,6 +19,7 @@ use Rattle.follow_laws.proofs.Sessions.{some_is, option_cases, none_from, tr, mi
 module _ (slot : ℕ → ℕ → Slot) (places : ℕ → ℤ → List ℕ) (desk : DeskState) (m : IsolationMachine) (f : Follows slot places desk m)
     (q : ℕ) (snapshot : Snapshot) (has : HasOpen desk q snapshot)
     (t : ℕ) (key : ℤ) (written : Option ℕ) (mine_at : OwnSlot slot places q t key written) where
+  -- a session that has no slot of its own for a key wrote nothing of it
   pub none_own : written ≡ None → at_place (tr slot places desk m f q snapshot has).own (place_at t key) ≡ None
   none_own none = none_from (at_place (tr slot places desk m f q snapshot has).own (place_at t key)) (λ value is.
       let w = f.own.written q (tr slot places desk m f q snapshot has) t key value (mine slot places desk m f q snapshot has) is in none_not written w.0 none (mine_at.all w.0 w.1 w.2))

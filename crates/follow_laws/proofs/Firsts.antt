@@ -24,10 +24,12 @@ true_false e = cc
 
 -- ---- the first answer
 
+-- where no place answers, there is no first answer
 pub first_none : {X : Type 0} (answer : ℕ → Option X) (ps : List ℕ) → ((p : ℕ) → Among p ps → answer p ≡ None) → first_at answer ps ≡ None
 first_none answer [] none = refl
 first_none answer (p ∷ ps) none = ap (λ a. option_or a (first_at answer ps)) (none p (inl refl)) ∙ first_none answer ps (λ p' a. none p' (inr a))
 
+-- where all places that answer say the same, the first answer says it
 pub first_is : {X : Type 0} (answer : ℕ → Option X) (ps : List ℕ) (p : ℕ) (x : X) → Among p ps → answer p ≡ Some x
     → ((p' : ℕ) (y : X) → Among p' ps → answer p' ≡ Some y → y ≡ x) → first_at answer ps ≡ Some x
 first_is answer [] p x a is once = absurd a
@@ -63,6 +65,7 @@ fold_among (n ∷ ns) x = go (fold_among ns (max x n)) (max_cases x n)
     go (inl e) (inr b) = inr (inl (e ∙ b))
     go (inr a) c = inr (inr a)
 
+-- a number among others that none exceeds is their largest
 pub largest_is : (ns : List ℕ) (x : ℕ) → Among x ns → ((k : ℕ) → Among k ns → k ≤ x) → largest ns ≡ Some x
 largest_is [] x a all = absurd a
 largest_is (n ∷ ns) x a all =
@@ -79,6 +82,7 @@ largest_is (n ∷ ns) x a all =
     below' (inl e) = let h = all n (inl refl) in omega (arith, e, h)
     below' (inr b) = all (fold max n ns) (inr b)
 
+-- of no numbers there is no largest
 pub largest_none : (ns : List ℕ) → ((k : ℕ) → Among k ns → ⊥) → largest ns ≡ None
 largest_none [] none = refl
 largest_none (n ∷ ns) none = absurd (none n (inl refl))
@@ -101,6 +105,7 @@ append_right : (k : ℕ) (xs ys : List ℕ) → Among k ys → Among k (xs ++ ys
 append_right k [] ys a = a
 append_right k (x ∷ xs) ys a = inr (append_right k xs ys a)
 
+-- what is among joined lists is in the list of one of the places
 pub among_flat : (numbers : ℕ → List ℕ) (ps : List ℕ) (k : ℕ) → Among k (flat_map numbers ps) → (p : ℕ) × Among p ps × Among k (numbers p)
 among_flat numbers [] k a = absurd a
 among_flat numbers (p ∷ ps) k a = go (among_append k (numbers p) (flat_map numbers ps) a) (among_flat numbers ps k)
@@ -110,6 +115,7 @@ among_flat numbers (p ∷ ps) k a = go (among_append k (numbers p) (flat_map num
     go (inl a) rest = (p, inl refl, a)
     go (inr b) rest = let r = rest b in (r.0, inr r.1, r.2)
 
+-- what is in the list of one of the places is among the joined lists
 pub flat_among : (numbers : ℕ → List ℕ) (ps : List ℕ) (p k : ℕ) → Among p ps → Among k (numbers p) → Among k (flat_map numbers ps)
 flat_among numbers [] p k a n = absurd a
 flat_among numbers (x ∷ ps) p k (inl e) n = append_left k (numbers x) (flat_map numbers ps) (subst (λ y. Among k (numbers y)) e n)
@@ -122,6 +128,7 @@ open_top (Some x) move session w q head n s ne = cc
 open_top None true session w q head n s ne = cc
 open_top None false session w q head n s ne = grind (arith, nat_tests)
 
+-- a writer who is not this session is the other one
 pub other_is : (es : List (Undo Before)) (w q : ℕ) → IsLawful es → writer_of es ≡ Some w → w ≢ q → other_writer es q ≡ Some w
 other_is [] w q lawful is ne = cc
 other_is (e ∷ es) w q lawful is ne =
@@ -135,12 +142,14 @@ closed_top e None true q st none = refl
 closed_top e None false q st none =
     let same : e.session ≡ q = none e.session (ap (λ o. cond (is_none o) (Some e.session) None) st) in grind (arith, nat_tests)
 
+-- where this session alone may be the writer, there is no other
 pub other_none : (es : List (Undo Before)) (q : ℕ) → IsLawful es → ((w : ℕ) → writer_of es ≡ Some w → w ≡ q) → other_writer es q ≡ None
 other_none [] q lawful none = refl
 other_none (e ∷ es) q lawful none = ap (option_map (λ (undo : Undo Before). undo.session)) (none_of_another q e es lawful (closed_top e e.stamp (is_move e.kind) q refl none))
 
 -- ---- a search among transactions
 
+-- what a search finds is among the transactions and passes the test
 pub find_among : (test : Transaction → Bool) (ts : List Transaction) (t : Transaction) → find test ts ≡ Some t → Among t ts × (test t ≡ true)
 find_among test [] t is = cc
 find_among test (x ∷ ts) t is = go (test x) refl is (find_among test ts t)
@@ -149,6 +158,7 @@ find_among test (x ∷ ts) t is = go (test x) refl is (find_among test ts t)
     go true e is rest = let same : t ≡ x = cc in (inl same, ap test same ∙ e)
     go false e is rest = let r = rest is in (inr r.0, r.1)
 
+-- where one passes the test, a search finds one
 pub find_some : (test : Transaction → Bool) (ts : List Transaction) (t : Transaction) → Among t ts → test t ≡ true → is_some (find test ts) ≡ true
 find_some test [] t a is = absurd a
 find_some test (x ∷ ts) t a is = go (test x) refl a (λ b. find_some test ts t b is)
@@ -158,6 +168,7 @@ find_some test (x ∷ ts) t a is = go (test x) refl a (λ b. find_some test ts t
     go false e (inl s) rest = absurd (true_false (sym is ∙ ap test s ∙ e))
     go false e (inr b) rest = rest b
 
+-- where each session has one transaction at most, one that is among them is its session's
 pub of_among : (ts : List Transaction) (t : Transaction) → OneEach ts → Among t ts → of t.session ts ≡ Some t
 of_among [] t one a = absurd a
 of_among (x ∷ ts) t one a = go (x.session == t.session) refl a (λ b. of_among ts t one.1 b)

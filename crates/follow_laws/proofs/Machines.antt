@@ -15,9 +15,7 @@ use Rattle.isolation_spec.specs.declared.place.Place.{Place}
 use Rattle.event_spec.specs.Follows.{InOrder, OneEach}
 use Rattle.follow_laws.proofs.Overlays.{at-laid_over, over}
 
-eq_sym : (a b : ℕ) → (a == b) ≡ (b == a)
-eq_sym a b = grind (arith, nat_tests)
-
+-- the transaction of a session among some
 abbrev pub of : ℕ → List Transaction → Option Transaction
 of q ts = find (λ t. t.session == q) ts
 
@@ -32,6 +30,7 @@ found_session q (x ∷ ts) t is = go (x.session == q) refl (found_session q ts t
 
 -- ---- a transaction more
 
+-- the transaction of a session behind one more is the old one, or else the new one
 pub of-append : (q : ℕ) (ts : List Transaction) (new : Transaction) → of q (ts ++ new ∷ []) ≡ option_or (of q ts) (cond (new.session == q) (Some new) None)
 of-append q [] new = go (new.session == q)
   where
@@ -54,15 +53,18 @@ ne_false a b ne = grind (arith, nat_tests)
 eq_true : (a b : ℕ) → a ≡ b → (a == b) ≡ true
 eq_true a b e = grind (arith, nat_tests)
 
+-- a transaction more leaves those of other sessions
 pub of-append-other : (q : ℕ) (ts : List Transaction) (new : Transaction) → new.session ≢ q → of q (ts ++ new ∷ []) ≡ of q ts
 of-append-other q ts new ne =
     of-append q ts new ∙ ap (λ b. option_or (of q ts) (cond b (Some new) None)) (ne_false new.session q ne) ∙ or_none (of q ts)
 
+-- a session that had none has the one that was added
 pub of-append-new : (ts : List Transaction) (new : Transaction) → of new.session ts ≡ None → of new.session (ts ++ new ∷ []) ≡ Some new
 of-append-new ts new none =
     of-append new.session ts new ∙ ap (λ a. option_or a (cond (new.session == new.session) (Some new) None)) none
     ∙ ap (λ b. cond b (Some new) None) (eq_true new.session new.session refl)
 
+-- each session still has one transaction at most, where the new one's had none
 pub one-append : (ts : List Transaction) (new : Transaction) → OneEach ts → of new.session ts ≡ None → OneEach (ts ++ new ∷ [])
 one-append [] new one none = (refl, tt)
 one-append (x ∷ ts) new one none = go (x.session == new.session) refl none (one-append ts new one.1)
@@ -76,6 +78,7 @@ one-append (x ∷ ts) new one none = go (x.session == new.session) refl none (on
 abbrev kept : ℕ → List Transaction → List Transaction
 kept q ts = filter (λ t. not (t.session == q)) ts
 
+-- without one session's transaction those of others stay
 pub of-without : (r q : ℕ) (ts : List Transaction) → r ≢ q → of r (kept q ts) ≡ of r ts
 of-without r q [] ne = refl
 of-without r q (x ∷ ts) ne = go (x.session == q) (x.session == r) refl refl (of-without r q ts ne)
@@ -86,6 +89,7 @@ of-without r q (x ∷ ts) ne = go (x.session == q) (x.session == r) refl refl (o
     go true false b c rest = ap (λ b. of r (cond (not b) (x ∷ kept q ts) (kept q ts))) b ∙ rest ∙ ap (λ c. cond c (Some x) (of r ts)) (sym c)
     go false c' b c rest = ap (λ b. of r (cond (not b) (x ∷ kept q ts) (kept q ts))) b ∙ ap (cond (x.session == r) (Some x)) rest
 
+-- without its transaction a session has none
 pub of-without-own : (q : ℕ) (ts : List Transaction) → of q (kept q ts) ≡ None
 of-without-own q [] = refl
 of-without-own q (x ∷ ts) = go (x.session == q) refl (of-without-own q ts)
@@ -101,6 +105,7 @@ none_kept r q ts none = go (r == q) refl
     go true e = let same : r ≡ q = grind (arith, nat_tests) in subst (λ p. of p (kept q ts) ≡ None) (sym same) (of-without-own q ts)
     go false e = of-without r q ts (λ same. let t : (r == q) ≡ true = eq_true r q same in let never : true ≡ false = sym t ∙ e in cc) ∙ none
 
+-- each session still has one transaction at most, without one
 pub one-without : (q : ℕ) (ts : List Transaction) → OneEach ts → OneEach (kept q ts)
 one-without q [] one = tt
 one-without q (x ∷ ts) one = go (x.session == q) (one-without q ts one.1)
@@ -111,6 +116,7 @@ one-without q (x ∷ ts) one = go (x.session == q) (one-without q ts one.1)
 
 -- ---- with a write
 
+-- one session's transaction with a write more; the others as they are
 abbrev pub enters : ℕ → Place → Option (List Cell) → Transaction → Transaction
 enters q place value t = cond (t.session == q) (entered place value t) t
 
@@ -121,6 +127,7 @@ enters_session q place value t = go (t.session == q)
     go true = refl
     go false = refl
 
+-- the transaction of a session with a write entered is the one that it had, with it
 pub of-map : (r q : ℕ) (place : Place) (value : Option (List Cell)) (ts : List Transaction) → of r (map (enters q place value) ts) ≡ option_map (enters q place value) (of r ts)
 of-map r q place value [] = refl
 of-map r q place value (x ∷ ts) =
@@ -132,12 +139,14 @@ of-map r q place value (x ∷ ts) =
     go true rest = refl
     go false rest = rest
 
+-- the session's own transaction has the write that was entered
 pub of-with_own : (q : ℕ) (place : Place) (value : Option (List Cell)) (ts : List Transaction) (tr : Transaction) → of q ts ≡ Some tr
     → of q (map (enters q place value) ts) ≡ Some (entered place value tr)
 of-with_own q place value ts tr is =
     of-map q q place value ts ∙ ap (option_map (enters q place value)) is
     ∙ ap (λ b. Some (cond b (entered place value tr) tr)) (eq_true tr.session q (found_session q ts tr is))
 
+-- the transactions of others stay when a write is entered
 pub of-with_own-other : (r q : ℕ) (place : Place) (value : Option (List Cell)) (ts : List Transaction) → r ≢ q → of r (map (enters q place value) ts) ≡ of r ts
 of-with_own-other r q place value ts ne = of-map r q place value ts ∙ go (of r ts) refl
   where
@@ -145,6 +154,7 @@ of-with_own-other r q place value ts ne = of-map r q place value ts ∙ go (of r
     go None is = refl
     go (Some t) is = ap (λ b. Some (cond b (entered place value t) t)) (ne_false t.session q (λ e. ne (sym (found_session r ts t is) ∙ e)))
 
+-- each session still has one transaction at most, with a write entered
 pub one-with_own : (q : ℕ) (place : Place) (value : Option (List Cell)) (ts : List Transaction) → OneEach ts → OneEach (map (enters q place value) ts)
 one-with_own q place value [] one = tt
 one-with_own q place value (x ∷ ts) one = (
@@ -181,18 +191,22 @@ last-writer-after place n history w le =
 abbrev pub last_behind : Place → ℕ → History → Option ℕ
 last_behind place number history = last_or None (later_writers history number place)
 
+-- one commit more is the last that wrote a place if it wrote it, and else it is the one before
 pub last-after : (place : Place) (n : ℕ) (history : History) (w : WriteSet) → n ≤ length history
     → last_behind place n (history ++ w ∷ []) ≡ cond (writes_place place w) (Some (length history + 1)) (last_behind place n history)
 last-after place n history w le =
     last-later (history ++ w ∷ []) n place ∙ last-writer-after place n history w le
     ∙ ap (cond (writes_place place w) (Some (length history + 1))) (sym (last-later history n place))
 
+-- no commit is behind a snapshot of all of them
 pub last-none : (place : Place) (n : ℕ) (history : History) → length history ≤ n → last_behind place n history ≡ None
 last-none place n history le = last-later history n place ∙ ap (last_writer place (n + 1)) (drop_all n history le)
 
+-- one commit more leaves the states of earlier numbers
 pub state-before : (history : History) (w : WriteSet) (n : ℕ) → n ≤ length history → state_at (history ++ w ∷ []) n ≡ state_at history n
 state-before history w n le = ap (fold laid_over []) (take-append-le n history (w ∷ []) le)
 
+-- the state after one commit more is the one before with its writes laid over
 pub state-after : (history : History) (w : WriteSet) → state_at (history ++ w ∷ []) (length history + 1) ≡ laid_over (state_at history (length history)) w
 state-after history w =
     ap (fold laid_over []) (take_all (length history + 1) (history ++ w ∷ []) (let l : length (history ++ w ∷ []) ≡ length history + 1 = length_push history w in omega (arith, l)))
@@ -214,6 +228,7 @@ All-drop zero ws all = all
 All-drop (suc n) [] all = all
 All-drop (suc n) (w ∷ ws) all = All-drop n ws (All-tail InOrder w ws all)
 
+-- the rows of each state stand in order where the writes of each commit do
 pub state-order : (history : History) (n : ℕ) → All InOrder history → InOrder (state_at history n)
 state-order history n all = order_onto [] (take n history) tt (All-take n history all)
 
@@ -235,6 +250,7 @@ stays_onto place at rows (w ∷ ws) order all none =
     nothing None e = refl
     nothing (Some x) e = cc
 
+-- a place that no later commit wrote has at last what it had
 pub state-stays : (place : Place) (history : History) (n : ℕ) → All InOrder history → last_behind place n history ≡ None
     → at_place (state_at history (length history)) place ≡ at_place (state_at history n) place
 state-stays place history n all none =

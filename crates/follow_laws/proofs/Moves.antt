@@ -265,6 +265,7 @@ module _ (slot : ℕ → ℕ → Slot) (places : ℕ → ℤ → List ℕ) (desk
     history_order = f.desked.history_order;
   }
 
+  -- a move of a row keeps what holds between the core and the machine
   pub move_keeps : Follows slot' places' desk' m
   move_keeps = record {
     slots = sound';

@@ -30,6 +30,7 @@ none_below (e ∷ es) k q same all =
     ap (λ (r : Ordering). cond (is_eq r) (Some e.1) (at_place es q)) (sym alike ∙ less)
     ∙ none_below es k q same (All-tail (λ place. place_cmp k place ≡ Less) e.0 (keys_of es) all)
 
+-- what was inserted is found at its place, and elsewhere what was there
 pub at-insert : {X : Type 0} (es : PlaceMap X) (k : Place) (v : X) (q : Place) → at_place (insert_entry place_cmp es k v) q ≡ cond (is_place q k) (Some v) (at_place es q)
 at-insert es k v q = lookup-insert_entry place_cmp-total es k v q
 
@@ -45,6 +46,7 @@ cond_same : {Y : Type 0} (b : Bool) (y : Y) → y ≡ cond b y y
 cond_same true y = refl
 cond_same false y = refl
 
+-- what was removed is not found at its place, and elsewhere what was there is
 pub at-remove : {X : Type 0} (es : PlaceMap X) (k q : Place) → InOrder es → at_place (remove_entry (is_place k) es) q ≡ cond (is_place q k) None (at_place es q)
 at-remove [] k q order = cond_same (is_place q k) None
 at-remove (e ∷ es) k q order = go (is_place k e.0) (is_place q k) refl refl (at-remove es k q order.1)
@@ -74,6 +76,7 @@ at-remove (e ∷ es) k q order = go (is_place k e.0) (is_place q k) refl refl (a
         ∙ ap (cond (is_place q e.0) (Some e.1)) (rest ∙ ap (λ c. cond c None (at_place es q)) qk)
         ∙ ap (λ c. cond c None (at_place (e ∷ es) q)) (sym qk)
 
+-- an insertion leaves the places in order
 pub order-insert : {X : Type 0} (es : PlaceMap X) (k : Place) (v : X) → InOrder es → InOrder (insert_entry place_cmp es k v)
 order-insert [] k v order = (All-nil (λ place. place_cmp k place ≡ Less), tt)
 order-insert (e ∷ es) k v order = go (place_cmp k e.0) refl (order-insert es k v order.1)
@@ -91,6 +94,7 @@ order-insert (e ∷ es) k v order = go (place_cmp k e.0) refl (order-insert es k
       rest,
     )
 
+-- a removal leaves the places in order
 pub order-remove : {X : Type 0} (es : PlaceMap X) (k : Place) → InOrder es → InOrder (remove_entry (is_place k) es)
 order-remove [] k order = order
 order-remove (e ∷ es) k order = go (is_place k e.0) (order-remove es k order.1)
@@ -101,6 +105,7 @@ order-remove (e ∷ es) k order = go (is_place k e.0) (order-remove es k order.1
 
 -- ---- write sets
 
+-- a write leaves the rows in order
 pub order-write : (rows : State) (place : Place) (value : Option (List Cell)) → InOrder rows → InOrder (with_write rows place value)
 order-write rows place (Some row) order = order-insert rows place row order
 order-write rows place None order = order-remove rows place order

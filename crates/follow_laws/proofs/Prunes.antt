@@ -54,6 +54,7 @@ module _ (slot : ℕ → ℕ → Slot) (places left : ℕ → ℤ → List ℕ) 
       go s (inl b) is = let same : is_bare (pruned o s) ≡ true = ap (λ x. is_bare (pruned o x)) (bare_is s b) in let never : true ≡ false = sym same ∙ is in cc
       go s (inr b) is = b
 
+  -- a pruning keeps what holds between the core and the machine
   pub prune_keeps : Follows slot' left desk m
   prune_keeps = record {
     slots = at_slot (λ x t p. IsSoundSlot desk.newest desk.commits x) (λ t p. sound_pruned o desk.newest desk.commits (slot t p) (f.slots t p)) f.slots;

@@ -32,13 +32,16 @@ true_false e = cc
 row_same : (a b : Option Row) → Some a ≡ Some b → a ≡ b
 row_same a b e = cc
 
+-- what two `Some` hold is the same
 pub some_is : {X : Type 0} (a b : X) → Some a ≡ Some b → a ≡ b
 some_is a b e = cc
 
+-- there is nothing, or something
 pub option_cases : {X : Type 0} (a : Option X) → (a ≡ None) ⊎ ((value : X) × (a ≡ Some value))
 option_cases None = inl refl
 option_cases (Some v) = inr (v, refl)
 
+-- where nothing can be there, nothing is
 pub none_from : {X : Type 0} (a : Option X) → ((value : X) → a ≡ Some value → ⊥) → a ≡ None
 none_from None no' = refl
 none_from (Some v) no' = absurd (no' v refl)
@@ -53,21 +56,26 @@ module _ (slot : ℕ → ℕ → Slot) (places : ℕ → ℤ → List ℕ) (desk
   pub tr : Transaction
   tr = (f.desked.begun q snapshot has.counted has.is_open).0
 
+  -- the session's transaction of the machine is this one
   pub mine : transaction_of q m ≡ Some tr
   unfolding tr
   mine = (f.desked.begun q snapshot has.counted has.is_open).1
 
+  -- its snapshot is that of the session's snapshot of the desk, by number
   pub at_number : tr.snapshot ≡ snapshot.number
   unfolding tr
   at_number = (f.desked.begun q snapshot has.counted has.is_open).2
 
+  -- it is the session's
   pub of_session : tr.session ≡ q
   unfolding tr
   of_session = (f.desked.begun q snapshot has.counted has.is_open).3
 
+  -- the session's snapshot is live
   pub live : IsLive desk snapshot.stamp snapshot.number
   live = inr (q, has.counted, has.is_open)
 
+  -- at its snapshot the slots show the state of its number
   abbrev pub before : Shows slot places snapshot.stamp (state_at m.history snapshot.number)
   before = f.shows snapshot.stamp snapshot.number live
 
@@ -78,14 +86,17 @@ module _ (slot : ℕ → ℕ → Slot) (places : ℕ → ℤ → List ℕ) (desk
       let k : old.2 ≡ key = f.index.one_key t p old.2 key old.3 a in
       sym (ap (λ (x : Transaction). at_place x.own (place_at t key)) (some_is old.0 tr (sym old.1 ∙ mine))) ∙ ap (λ k. at_place old.0.own (place_at t k)) (sym k) ∙ old.4
 
+  -- the session sees what it wrote at a place, and else what its snapshot has there
   pub at_seen : (place : Place) → at_place (seen_rows m tr) place ≡ over (at_place tr.own place) (at_place (state_at m.history tr.snapshot) place)
   at_seen place = (at-laid_over (state_at m.history tr.snapshot) tr.own place (state-order m.history tr.snapshot f.desked.history_order) (f.desked.own_order q tr mine)).0
 
+  -- a row that a candidate of a key shows has this key
   pub key_shown : (t p : ℕ) (key : ℤ) (s r : ℕ) (row : Row) → Among p (places t key) → seen (slot t p) s r ≡ Some row → key_of row ≡ key
   key_shown t p key s r row a is = subst (HasKey key) is (seen_keyed key (slot t p).row (slot t p).entries s r (f.index.keyed t p key a))
 
   -- ---- conflicts
 
+  -- another session's transaction wrote the place
   abbrev pub rival_test : Place → Transaction → Bool
   rival_test place u = not (u.session == q) && writes_place place u.own
 
@@ -143,6 +154,7 @@ module _ (slot : ℕ → ℕ → Slot) (places : ℕ → ℤ → List ℕ) (desk
           ap (option_map (λ (u : Transaction). u.session)) e
           ∙ sym r.2 ∙ ap (λ x. writer_of (slot t x).entries) same ∙ is
 
+  -- the first other writer of the key's slots is the machine's rival
   pub rival_is : (t : ℕ) (key : ℤ) → first_at (λ p. other_writer (slot t p).entries q) (places t key)
       ≡ option_map (λ (u : Transaction). u.session) (rival_of m q (place_at t key))
   rival_is t key = go (rival_of m q (place_at t key)) refl
@@ -170,6 +182,7 @@ module _ (slot : ℕ → ℕ → Slot) (places : ℕ → ℤ → List ℕ) (desk
               let w : writer_of (slot t p').entries ≡ Some u.session = ap (λ x. writer_of (slot t x).entries) same ∙ r.2 in
               some_is y u.session (sym is ∙ other_is (slot t p').entries u.session q (f.slots t p').lawful w r.3)
 
+  -- the largest number of the key's slots above the snapshot is the last commit that wrote it
   pub number_is : (t : ℕ) (key : ℤ) → largest (flat_map (λ p. numbers_above (slot t p).entries snapshot.stamp) (places t key))
       ≡ last_behind (place_at t key) snapshot.number m.history
   number_is t key = go (option_cases (last_behind (place_at t key) snapshot.number m.history))

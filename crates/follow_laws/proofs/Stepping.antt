@@ -33,6 +33,7 @@ get_inside [] i snapshot is = absurd (none_not (get_or [] i None) snapshot refl 
 get_inside (first ∷ snapshots) zero snapshot is = omega arith
 get_inside (first ∷ snapshots) (suc i) snapshot is = let less = get_inside snapshots i snapshot is in omega (arith, less)
 
+-- a session with a snapshot has a place at the desk
 pub has_pass : (desk : DeskState) (session : ℕ) (snapshot : Snapshot) → HasOpen desk session snapshot → HasPass desk session
 has_pass desk session snapshot has =
     let less : session - 1 < length desk.open_snapshots = get_inside desk.open_snapshots (session - 1) snapshot has.is_open in
@@ -40,11 +41,13 @@ has_pass desk session snapshot has =
 
 -- ---- what a session is told
 
+-- both ways to say what a conflict is answered are one
 pub answers : (rival number : Option ℕ) → answer_of (conflict_by rival number) ≡ sessions.answer_of rival number
 answers (Some writer) number = refl
 answers None (Some number) = refl
 answers None None = refl
 
+-- a session is told the machine's rows and conflicts
 pub judges : Judges
 judges slot places desk machine session snapshot table key written follows has own = record {
   open' = sessions.tr slot places desk machine follows session snapshot has;
@@ -55,12 +58,14 @@ judges slot places desk machine session snapshot table key written follows has o
 
 -- ---- begins and writes
 
+-- a begin follows the machine's
 pub begin_follows : BeginFollows
 begin_follows slot places desk machine session follows pass idle =
     subst (λ (x : Answer × IsolationMachine). Follows slot places (opened session desk) x.1)
     (sym (ap (step_of machine (command_of session act.Begin)) (follows.desked.idle session pass.0 idle)))
     (begin_keeps slot places desk machine follows session pass idle)
 
+-- a write that the session may make follows the machine's
 pub write_follows : WriteFollows
 write_follows slot after places added desk machine session snapshot table place key change follows has may is more =
     write_keeps slot places desk machine follows session has.counted
@@ -71,6 +76,7 @@ write_follows slot after places added desk machine session snapshot table place 
 
 -- ---- ends
 
+-- a commit with writes follows the machine's
 pub commit_follows : CommitFollows
 commit_follows slot places desk machine session snapshot open' first rest follows has is own =
     subst (λ (x : Answer × IsolationMachine). Follows
@@ -92,6 +98,7 @@ no_entry slot places desk machine session snapshot open' follows has same none t
     (ap (λ (x : Transaction). at_place x.own (record { table = table; key = old.2 })) same
     ∙ sessions.wrote_here slot places desk machine follows session snapshot has table place old.2 old.3 writes)
 
+-- a commit without writes follows the machine's
 pub empty_commit_follows : EmptyCommitFollows
 empty_commit_follows slot places desk machine session snapshot open' follows has is none =
     let mine = sessions.tr slot places desk machine follows session snapshot has in
@@ -107,6 +114,7 @@ empty_commit_follows slot places desk machine session snapshot open' follows has
     (λ table place key a. (a, ap is_bare (stays table place) ∙ follows.index.filled table place key a))
     (λ table place key a x. a)))
 
+-- an abort follows the machine's
 pub abort_follows : AbortFollows
 abort_follows slot places swept desk machine session snapshot follows has is =
     let open' = sessions.tr slot places desk machine follows session snapshot has in
@@ -118,10 +126,12 @@ abort_follows slot places swept desk machine session snapshot follows has is =
 
 -- ---- upkeep
 
+-- a pruning changes nothing of the machine
 pub prune_follows : PruneFollows
 prune_follows slot after places swept desk machine oldest follows old is sweep =
     prune_keeps slot places swept desk machine follows oldest old after is sweep.kept sweep.stays
 
+-- a move changes nothing of the machine
 pub move_follows : MoveFollows
 move_follows slot after places added desk machine stamp table source target key row follows newest later listed is more =
     move_keeps slot places desk machine follows stamp newest

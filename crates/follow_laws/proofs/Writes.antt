@@ -31,9 +31,11 @@ use Rattle.follow_laws.proofs.Sessions.{some_is}
 abbrev entry : ℕ → Change → Slot → Undo Before
 entry q change slot = record { session = q; stamp = None; number = 0; kind = kind_of change; before = image_before slot.row change }
 
+-- a place is itself
 pub place_self : (place : Place) → is_place place place ≡ true
 place_self place = ap is_eq (tied_itself place_cmp-total place)
 
+-- places that test as one have one table and one key
 pub place_is : (t u : ℕ) (k l : ℤ) → is_place (place_at t k) (place_at u l) ≡ true → (t ≡ u) × (k ≡ l)
 place_is t u k l is = go (nat_cmp t u) refl is
   where
@@ -81,6 +83,7 @@ module _ (slot : ℕ → ℕ → Slot) (places : ℕ → ℤ → List ℕ) (desk
   abbrev place : Place
   place = place_at t key
 
+  -- the machine with the write in the session's own
   abbrev pub wrote : IsolationMachine
   wrote = with_own q place value m
 
@@ -301,6 +304,7 @@ module _ (slot : ℕ → ℕ → Slot) (places : ℕ → ℤ → List ℕ) (desk
               let old = f.own.written q tr u k v mine (sym (own_at u k ∙ ap (λ b. cond b (Some value) (at_place tr.own (place_at u k))) no') ∙ ap (λ (x : Transaction). at_place x.own (place_at u k)) (own_is r tr' e is) ∙ at) in
               (old.0, kept u old.0 k old.1, at_slot (λ x u' r'. (u' ≡ u) → (r' ≡ old.0) → writer_of x.entries ≡ Some r) (λ a b. ap Some (sym e)) (λ u' r' a b. ap (λ u. writer_of (slot u r').entries) a ∙ ap (λ r. writer_of (slot u r).entries) b ∙ old.2 ∙ ap Some (sym e)) u old.0 refl refl)
 
+  -- a write keeps what holds between the core and the machine
   pub write_keeps : Follows slot' places' desk wrote
   write_keeps = record {
     slots = at_slot (λ x u r. IsSoundSlot desk.newest desk.commits x) (sound_written q desk.newest desk.commits change (slot t p) pass free (f.slots t p)) f.slots;

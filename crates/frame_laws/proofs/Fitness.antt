@@ -26,6 +26,7 @@ use Rattle.txn_desk.specs.Desk.{DeskState}
 some_is : {X : Type 0} (a b : X) → Some a ≡ Some b → a ≡ b
 some_is a b e = cc
 
+-- the current place of a key is one of its places
 pub current_among : (slot : ℕ → Slot) (places : List ℕ) (p : ℕ) → current_place slot places ≡ Some p → Among p places
 current_among slot [] p is = cc
 current_among slot (x ∷ places) p is = go (slot x).row refl is (current_among slot places p)
@@ -34,6 +35,7 @@ current_among slot (x ∷ places) p is = go (slot x).row refl is (current_among 
     go None here is rest = inr (rest (sym (ap (λ (o : Option Row). option_or (cond (is_some o) (Some x) None) (current_place slot places)) here) ∙ is))
     go (Some row) here is rest = inl (sym (some_is x p (sym (ap (λ (o : Option Row). option_or (cond (is_some o) (Some x) None) (current_place slot places)) here) ∙ is)))
 
+-- and is the same where the slots at these places are
 pub current_same : (slot other : ℕ → Slot) (places : List ℕ) → ((p : ℕ) → Among p places → other p ≡ slot p) → current_place other places ≡ current_place slot places
 current_same slot other [] same = refl
 current_same slot other (x ∷ places) same =
@@ -44,6 +46,7 @@ current_same slot other (x ∷ places) same =
 pub body_touched : (t : ℕ) (key : ℤ) (first places : List ℕ) (p : ℕ) → Among p places → touched_by_key t key (first ++ places) (BodyOf t (block_of p)) ≡ true
 body_touched t key first places p a = and_true (t == t) (list_any (λ place. block_of place == block_of p) (first ++ places)) (num_refl t) (block_among (first ++ places) p (in_right first places p a))
 
+-- what touches a key touches its shard
 pub shard_touched : (t : ℕ) (key : ℤ) (places : List ℕ) → touched_by_key t key places (ShardOf t (shard_of key)) ≡ true
 shard_touched t key places = or_left (same_name (ShardOf t (shard_of key)) (ShardOf t (shard_of key))) false (name_self (ShardOf t (shard_of key)))
 
@@ -55,6 +58,7 @@ module _ (sh : Shape) (e : CoreEvent) (hand : List (Option CorePart)) (s u : Par
   stamp_same : touches sh e hand TheDesk ≡ true → HasStamp sh s → HasStamp sh u
   stamp_same is less = subst (λ (desk : DeskState). desk.newest + 1 < 2 ^ 63) (sym (ap desk_from (part_same TheDesk is))) less
 
+  -- a body that is touched is the same in both
   pub body_same : (t b : ℕ) → touches sh e hand (BodyOf t b) ≡ true → body_at sh u t b ≡ body_at sh s t b
   body_same t b is = ap body_from (part_same (BodyOf t b) is)
 
@@ -85,6 +89,7 @@ module _ (sh : Shape) (e : CoreEvent) (hand : List (Option CorePart)) (s u : Par
           subst (λ o. IfSome o (λ place. is_imaged (body_at sh u t (block_of place)).phase ≡ false)) (sym (current ∙ is))
           (ap (λ (x : Body). is_imaged x.phase) (body p (current_among (slot_at sh s t) (places_at sh s t key) p is)) ∙ free)
 
+-- What an event asks of its parts hangs on those that it touches.
 pub local : Local
 local sh (event.Begin q) hand s u covers here there fits = tt
 local sh (event.Get own t key) hand s u covers here there fits = fits

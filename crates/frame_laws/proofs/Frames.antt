@@ -98,6 +98,7 @@ rests_nothing n piece = record {
 elsewhere : {X : Type 0} (t b : ℕ) (g : X → X) (u x : ℕ) (y : X) → ((t == u) && (b == x)) ≡ false → at_both t b g u x y ≡ y
 elsewhere t b g u x y e = ap (λ c. cond c (g y) y) (ap (λ d. d && (x == b)) (num_flip u t) ∙ ap (λ d. (t == u) && d) (num_flip x b) ∙ e)
 
+-- what is chosen by a test that fails
 pub skipped : {X : Type 0} (b : Bool) (x y : X) → b ≡ false → cond b x y ≡ y
 skipped true x y e = cc
 skipped false x y e = refl
@@ -182,6 +183,7 @@ module _ (sh : Shape) (s : Parts) (shape : IsShape sh) (ok : Sound sh s) (own : 
       part_of : slot_of (place_of b j) ≡ j
       part_of = slot_is b j small
 
+  -- a commit leaves a body that its transaction did not write
   pub commit_stays : (t b : ℕ) (body : Body) → part_at sh s (BodyOf t b) ≡ Some (part.Body body) → is_body_written own.writes (BodyOf t b) ≡ false
       → (stamp number : ℕ) → committed_in own.session stamp number body ≡ body
   commit_stays t b body is none stamp number = ap (λ slots. record body { slots = slots }) (map_same (committed own.session stamp number) body.slots at)
@@ -192,6 +194,7 @@ module _ (sh : Shape) (s : Parts) (shape : IsShape sh) (ok : Sound sh s) (own : 
           subst (λ (x : Slot). committed own.session stamp number x ≡ x) here.0
           (committed_other own.session stamp number (slot_at sh s t (place_of b j)) (f.follows.slots t (place_of b j)).lawful here.1)
 
+  -- and so does an abort
   pub abort_stays : (t b : ℕ) (body : Body) → part_at sh s (BodyOf t b) ≡ Some (part.Body body) → is_body_written own.writes (BodyOf t b) ≡ false
       → rolled_back_in own.session body ≡ body
   abort_stays t b body is none =
@@ -421,6 +424,7 @@ module _ (sh : Shape) (s : Parts) (hand : List (Option CorePart)) (agrees : Agre
   event_rests shape ok shards (event.Thaw t b) covers lawful n piece is away =
       rests_block t b thawed n piece (block_away (event.Thaw t b) t b n away (name_self (BodyOf t b)))
 
+-- A lawful event changes only parts in a hand that has all that it touches.
 pub frame : Frame
 frame sh e hand s shape ok shards covers agrees lawful = frames_by sh s e hand covers agrees
     (event_rests sh s hand agrees shape ok shards e covers lawful)

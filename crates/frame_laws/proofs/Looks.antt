@@ -12,25 +12,31 @@ use Rattle.event_spec.specs.Parts.{CorePart, Parts, Shape, Name, HeadOf, ShardOf
 use Rattle.event_spec.specs.Touched.{touched, touching, passes_test}
 use Rattle.hall_rule.specs.Hands.{Agrees, Covers, Holds}
 
+-- no test both holds and fails
 pub true_false : true ≡ false → ⊥
 true_false e = cc
 
+-- where neither of two holds, both fail
 pub or_false : (a b : Bool) → (a || b) ≡ false → (a ≡ false) × (b ≡ false)
 or_false true b e = cc
 or_false false b e = (refl, e)
 
+-- one of two holds where the first does
 pub or_left : (a b : Bool) → a ≡ true → (a || b) ≡ true
 or_left true b e = refl
 or_left false b e = cc
 
+-- or the second
 pub or_right : (a b : Bool) → b ≡ true → (a || b) ≡ true
 or_right true b e = refl
 or_right false b e = e
 
+-- both hold where each does
 pub and_true : (a b : Bool) → a ≡ true → b ≡ true → (a && b) ≡ true
 and_true true b x y = y
 and_true false b x y = cc
 
+-- a name is its own
 pub name_self : (n : Name) → same_name n n ≡ true
 name_self (HeadOf t) = num_refl t
 name_self (ShardOf t i) = ap (λ b. b && (i == i)) (num_refl t) ∙ num_refl i
@@ -39,11 +45,13 @@ name_self TheDesk = refl
 
 -- ---- tests of lists
 
+-- a member that passes makes some pass
 pub any_true : {X : Type 0} (test : X → Bool) (xs : List X) (x : X) → Among x xs → test x ≡ true → list_any test xs ≡ true
 any_true test [] x a is = absurd a
 any_true test (y ∷ xs) x (inl e) is = or_left (test y) (list_any test xs) (ap test (sym e) ∙ is)
 any_true test (y ∷ xs) x (inr a) is = or_right (test y) (list_any test xs) (any_true test xs x a is)
 
+-- where none passes a member fails
 pub any_false : {X : Type 0} (test : X → Bool) (xs : List X) (x : X) → list_any test xs ≡ false → Among x xs → test x ≡ false
 any_false test [] x none a = absurd a
 any_false test (y ∷ xs) x none (inl e) = ap test e ∙ (or_false (test y) (list_any test xs) none).0
@@ -53,6 +61,7 @@ any_false test (y ∷ xs) x none (inr a) = any_false test xs x (or_false (test y
 pub block_among : (ps : List ℕ) (p : ℕ) → Among p ps → list_any (λ place. block_of place == block_of p) ps ≡ true
 block_among ps p a = any_true (λ place. block_of place == block_of p) ps p a (num_refl (block_of p))
 
+-- what stands at a place is a member
 pub got_among : {X : Type 0} (xs : List X) (k : ℕ) (x : X) → slice_get xs k ≡ Some x → Among x xs
 got_among [] k x is = cc
 got_among (y ∷ xs) zero x is = inl (some_is y x is)
@@ -61,6 +70,7 @@ got_among (y ∷ xs) zero x is = inl (some_is y x is)
     some_is a b e = cc
 got_among (y ∷ xs) (suc k) x is = inr (got_among xs k x is)
 
+-- a place where something stands is within
 pub within : {X : Type 0} (xs : List X) (k : ℕ) (x : X) → slice_get xs k ≡ Some x → k < length xs
 within [] k x is = cc
 within (y ∷ xs) zero x is = omega arith

@@ -107,6 +107,7 @@ kept_alike i keep other ix h same = fold_alike
     ap (with_candidates now e.0) (filter_same keep other (candidates_of ix e.0) (λ p b. same e.0 p (h.own e.0 there.0 there.1) b)))
     ix
 
+-- a head that has a part is of a table that there is
 pub head_is_there : (sh : Shape) (s : Parts) (t : ℕ) (piece : CorePart) → part_at sh s (HeadOf t) ≡ Some piece → HasTable sh t
 head_is_there sh s t piece is = last (split (heads_in sh ++ shards_in sh ++ bodies_in sh) (TheDesk ∷ []) (HeadOf t) (named_member (names sh) s (HeadOf t) piece is))
   where
@@ -349,6 +350,7 @@ module _ (sh : Shape) (hand : List (Option CorePart)) (s u : Parts) (shape : IsS
   event_made (event.Image t b image) covers lawful also n piece is was = alike_by _ _ refl n piece
   event_made (event.Thaw t b) covers lawful also n piece is was = alike_by _ _ refl n piece
 
+-- What an event makes of the parts in the hand hangs on those that it touches.
 pub makes : Makes
 makes sh e hand s u shape ok fine shards lawful also here there covers k held =
     let is = here.1 k held.0 held.1 in let was = there.1 k held.0 held.1 in

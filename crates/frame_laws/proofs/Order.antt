@@ -51,22 +51,26 @@ ranked_at (x ∷ ns) (suc j) zero m n r le a b = absurd (omega (arith, le))
 ranked_at (x ∷ ns) (suc j) (suc k) m n r le a b = ranked_at ns j k m n r.1 (omega (arith, le)) a b
 
 module _ (sh : Shape) where
+  -- heads come first
   pub head_rank : (w : Name) → Among w (heads_in sh) → rank w ≡ 0
   unfolding rank
   head_rank w a = let x = map_member HeadOf (below (length sh.tables)) w a in ap rank x.2
 
+  -- then shards
   pub shard_rank : (w : Name) → Among w (shards_in sh) → rank w ≡ 1
   unfolding rank
   shard_rank w a =
       let x = flat_member (λ t. map (ShardOf t) (below 8)) (below (length sh.tables)) w a in
       let y = map_member (ShardOf x.0) (below 8) w x.2 in ap rank y.2
 
+  -- then bodies
   pub body_rank : (w : Name) → Among w (bodies_in sh) → rank w ≡ 2
   unfolding rank
   body_rank w a =
       let x = flat_member (λ t. map (BodyOf t) (below (blocks_of sh t))) (below (length sh.tables)) w a in
       let y = map_member (BodyOf x.0) (below (blocks_of sh x.0)) w x.2 in ap rank y.2
 
+  -- and the desk last
   pub desk_rank : (w : Name) → Among w (TheDesk ∷ []) → rank w ≡ 3
   unfolding rank
   desk_rank w (inl e) = ap rank e
@@ -95,6 +99,7 @@ module _ (sh : Shape) where
           at (inr a) = let x = shard_rank m a in omega (arith, x, y)
       under m n y (inr a) = let x = body_rank m a in omega (arith, x, y)
 
+-- each table's head is of the first kind
 pub head_low : (t : ℕ) → rank (HeadOf t) ≡ 0
 unfolding rank
 head_low t = refl
@@ -196,6 +201,7 @@ module _ (sh : Shape) (one other : List (Option CorePart)) (k : ℕ) (same : (j 
   by_name (event.Image t b image) n is = refl
   by_name (event.Thaw t b) n is = refl
 
+-- Whether an event touches a part the parts before it tell.
 pub ascends : Ascends
 ascends sh e one other k same = go (slice_get (names sh) k) refl
   where

@@ -4,9 +4,11 @@ use Rattle.frame_laws.specs.Laws.{CoreKept, CoreOpens}
 use Rattle.run_laws.proofs.Logs.{opens}
 use Rattle.sound_laws.proofs.Invariant.{keeps}
 
+-- The opening core holds.
 pub core_opens : CoreOpens
 core_opens sh shape = record { measures = shape; sound = opens sh shape; shards = shards_open sh }
 
+-- Every lawful event leaves a core that holds.
 pub core_kept : CoreKept
 core_kept sh e s holds lawful = record {
   measures = holds.measures;

@@ -55,6 +55,7 @@ kept_same one other [] same = refl
 kept_same one other (p ∷ ps) same =
     ap (λ y. cons_option y (filter_map other ps)) (same p (inl refl)) ∙ ap (cons_option (one p)) (kept_same one other ps (λ r a. same r (inr a)))
 
+-- tests that agree on each member keep the same
 pub filter_same : {X : Type 0} (one other : X → Bool) (xs : List X) → ((x : X) → Among x xs → other x ≡ one x) → filter other xs ≡ filter one xs
 filter_same one other [] same = refl
 filter_same one other (x ∷ xs) same =
@@ -116,12 +117,15 @@ module _ (slot other : ℕ → Slot) (places : List ℕ) (own : OwnKey) (same : 
 -- ---- the parts that are touched
 
 module _ (sh : Shape) (e : CoreEvent) (hand : List (Option CorePart)) (s u : Parts) (covers : Covers (touching sh e) hand) (here : Agrees hand s) (there : Agrees hand u) where
+  -- a desk that is touched is the same in both
   pub desk_same : touches sh e hand TheDesk ≡ true → desk_at sh u ≡ desk_at sh s
   desk_same is = ap desk_from (part_same sh e hand s u covers here there TheDesk is)
 
+  -- and so is a head
   pub head_same : (t : ℕ) → touches sh e hand (HeadOf t) ≡ true → head_at sh u t ≡ head_at sh s t
   head_same t is = ap head_from (part_same sh e hand s u covers here there (HeadOf t) is)
 
+  -- and each slot of a body
   pub slot_same : (t p : ℕ) → touches sh e hand (BodyOf t (block_of p)) ≡ true → slot_at sh u t p ≡ slot_at sh s t p
   slot_same t p is = ap (λ x. slot_in x (slot_of p)) (body_same sh e hand s u covers here there t (block_of p) is)
 
@@ -148,6 +152,7 @@ module _ (sh : Shape) (e : CoreEvent) (hand : List (Option CorePart)) (s u : Par
       ap (λ ps. found_by (slot_at sh u t) ps own) reads.places
       ∙ found_same (slot_at sh s t) (slot_at sh u t) (places_at sh s t key) own (λ p a. ap (λ x. slot_in x (slot_of p)) (reads.bodies p a)) reads.mine
 
+  -- a change of a key is judged alike in both
   pub change_alike : (own : OwnKey) (t : ℕ) (key : ℤ) → ReadsKey own t key → change_judged sh u own t key ≡ change_judged sh s own t key
   change_alike own t key reads =
       ap (λ ps. judged_change (slot_at sh u t) ps (λ block. (body_at sh u t block).phase) own) reads.places
@@ -184,10 +189,12 @@ module _ (sh : Shape) (hand : List (Option CorePart)) (s u : Parts) (here : Agre
   get_reads own t key covers = reads_key sh (event.Get own t key) hand s u covers here there own t key
       (shard_touched t key (option_to_list own.written ++ in_hand t key)) (body_touched t key (option_to_list own.written) (in_hand t key)) (own_touched t key own.written (in_hand t key))
 
+  -- what an update reads of its key is the same in both
   pub update_reads : (own : OwnKey) (t : ℕ) (row : Row) → (covers : Covers (touching sh (event.Update own t row)) hand) → ReadsKey sh (event.Update own t row) hand s u covers here there own t (key_of row)
   update_reads own t row covers = reads_key sh (event.Update own t row) hand s u covers here there own t (key_of row)
       (shard_touched t (key_of row) (option_to_list own.written ++ in_hand t (key_of row))) (body_touched t (key_of row) (option_to_list own.written) (in_hand t (key_of row))) (own_touched t (key_of row) own.written (in_hand t (key_of row)))
 
+  -- and what a delete reads
   pub delete_reads : (own : OwnKey) (t : ℕ) (key : ℤ) → (covers : Covers (touching sh (event.Delete own t key)) hand) → ReadsKey sh (event.Delete own t key) hand s u covers here there own t key
   delete_reads own t key covers = reads_key sh (event.Delete own t key) hand s u covers here there own t key
       (shard_touched t key (option_to_list own.written ++ in_hand t key)) (body_touched t key (option_to_list own.written) (in_hand t key)) (own_touched t key own.written (in_hand t key))
@@ -204,12 +211,14 @@ module _ (sh : Shape) (hand : List (Option CorePart)) (s u : Parts) (here : Agre
   insert_head : (own : OwnKey) (t : ℕ) (row : Row) → touches sh (event.Insert own t row) hand (HeadOf t) ≡ true
   insert_head own t row = or_left (t == t) _ (num_refl t)
 
+  -- an insert is judged alike in both
   pub inserts_alike : (own : OwnKey) (t : ℕ) (row : Row) → (covers : Covers (touching sh (event.Insert own t row)) hand) → insert_judged sh u own t (key_of row) ≡ insert_judged sh s own t (key_of row)
   inserts_alike own t row covers = insert_alike sh (event.Insert own t row) hand s u covers here there own t (key_of row) (insert_reads own t row covers)
       (head_same sh (event.Insert own t row) hand s u covers here there t (insert_head own t row))
 
   -- ---- moves
 
+  -- a move touches the bodies of each of its pairs
   pub pair_touched : (t : ℕ) (moves : List MovePair) (pair : MovePair) (p : ℕ) → Among pair moves → Among p (pair.source ∷ pair.target ∷ []) → touches sh (event.Move t moves) hand (BodyOf t (block_of p)) ≡ true
   pair_touched t moves pair p a b = or_left (is_body_moved t moves (BodyOf t (block_of p))) false
       (any_true (λ (pair : MovePair). is_body_of t (pair.source ∷ pair.target ∷ []) (BodyOf t (block_of p))) moves pair a
@@ -218,6 +227,7 @@ module _ (sh : Shape) (hand : List (Option CorePart)) (s u : Parts) (here : Agre
   move_head : (t : ℕ) (moves : List MovePair) → touches sh (event.Move t moves) hand (HeadOf t) ≡ true
   move_head t moves = or_left (((t == t) || false) || is_body_moved t moves (HeadOf t)) false (or_left ((t == t) || false) (is_body_moved t moves (HeadOf t)) (or_left (t == t) false (num_refl t)))
 
+  -- the same pairs hold in both
   pub pairs_alike : (t : ℕ) (moves : List MovePair) → Covers (touching sh (event.Move t moves)) hand → held_pairs sh u t moves ≡ held_pairs sh s t moves
   pairs_alike t moves covers = filter_same (holds sh s t) (holds sh u t) moves at
     where
@@ -260,6 +270,7 @@ module _ (sh : Shape) (hand : List (Option CorePart)) (s u : Parts) (here : Agre
 abbrev begun_of : DeskState → CoreReply
 begun_of desk = reply.Begun (record { stamp = desk.newest; number = desk.commits })
 
+-- What an event replies hangs on the parts that it touches.
 pub replies : Replies
 replies sh (event.Begin q) hand s u shape ok fits here there covers = ap begun_of (desk_same sh (event.Begin q) hand s u covers here there refl)
 replies sh (event.Get own t key) hand s u shape ok fits here there covers =

@@ -105,6 +105,7 @@ kept_holds i keep ix h = go (finite.entries ix) (λ e a. let x = entry_there ix 
         go es (λ x a. own x (inr a)) (with_candidates now e.0 (filter keep (candidates_of ix e.0)))
         (with_holds i now e.0 (filter keep (candidates_of ix e.0)) holds (own e (inl refl)))
 
+-- a shard in order is so after pairs moved
 pub moved_holds : (sh : Shape) (s : Parts) (i : ℕ) (pairs : List MovePair) (ix : Places) → ShardHolds i ix → ShardHolds i (fold (places_moved sh s i) ix pairs)
 moved_holds sh s i [] ix h = h
 moved_holds sh s i (pair ∷ pairs) ix h = moved_holds sh s i pairs (places_moved sh s i ix pair) (go (shard_of pair.key == i) refl)
@@ -115,6 +116,7 @@ moved_holds sh s i (pair ∷ pairs) ix h = moved_holds sh s i pairs (places_move
 
 -- ---- a shard of which all candidates are kept
 
+-- steps that change nothing leave what was there
 pub fold_same : {X Y : Type 0} (step : X → Y → X) (x : X) (ys : List Y) → ((y : Y) → Among y ys → step x y ≡ x) → fold step x ys ≡ x
 fold_same step x [] same = refl
 fold_same step x (y ∷ ys) same = ap (λ z. fold step z ys) (same y (inl refl)) ∙ fold_same step x ys (λ z a. same z (inr a))
@@ -134,6 +136,7 @@ put_same ix key (p ∷ ps) is some = same_map int_cmp_total int_cmp-IsAntisymmet
     go q (inl x) = ap (λ b. cond b (Some (p ∷ ps)) (finite.get ix q)) x.0 ∙ sym is ∙ ap (finite.get ix) (sym x.1)
     go q (inr x) = ap (λ b. cond b (Some (p ∷ ps)) (finite.get ix q)) x.0
 
+-- a shard in order stays where each candidate of its keys is kept
 pub kept_stays : (i : ℕ) (keep : ℕ → Bool) (ix : Places) → ShardHolds i ix
     → ((key : ℤ) (p : ℕ) → shard_of key ≡ i → Among p (candidates_of ix key) → keep p ≡ true) → kept_places keep ix ≡ ix
 kept_stays i keep ix h all = fold_same (λ now (e : ℤ × List ℕ). with_candidates now e.0 (filter keep (candidates_of ix e.0))) ix (finite.entries ix) same
@@ -226,6 +229,7 @@ module _ (sh : Shape) (s : Parts) where
   event_holds (event.Image t b image) u i x h = h
   event_holds (event.Thaw t b) u i x h = h
 
+-- Shards that are in order are so after every event.
 pub shards_kept : ShardsKept
 shards_kept sh e s holds = shards_after sh s (changes_of sh s e) (event_holds sh s e) holds
 
@@ -248,6 +252,7 @@ bare_holds i = record {
   some = λ k is. no_entry k (finite.get (finite.empty {X = List ℕ} {R = int_cmp}) k) [] (get-empty int_cmp k) is;
 }
 
+-- Those of the opening core are in order.
 pub shards_open : ShardsOpen
 shards_open sh t i places is =
     subst (ShardHolds i)

@@ -235,6 +235,7 @@ module _ (sh : Shape) (s : Parts) (shape : IsShape sh) (ok : Sound sh s) (t b : 
   event_same (event.Image u y image) lawful ne = at_one u y imaged t b (body_at sh s t b) (λ e e'. record { slots = refl; stamp = imaged_stamp (body_at sh s t b).phase })
   event_same (event.Thaw u y) lawful ne = at_one u y thawed t b (body_at sh s t b) (λ e e'. absurd (ne (ap (λ u. event.Thaw u y) (sym e) ∙ ap (event.Thaw t) (sym e'))))
 
+-- Each event but its thaw leaves a sealed or imaged block its slots and its stamp.
 pub frozen_stays : FrozenStays
 frozen_stays sh s e t b stamp shape ok lawful has ne frozen =
     let stays = event_same sh s shape ok t b has stamp frozen e lawful ne in
@@ -244,6 +245,8 @@ frozen_stays sh s e t b stamp shape ok lawful has ne frozen =
       stamp = ap (λ (x : Body). stamp_of x.phase) now ∙ stays.stamp;
     }
 
+-- A sealed or imaged block has no entry, its rows in front and its last stamp, and takes no
+-- inserts.
 pub frozen_is_settled : FrozenIsSettled
 frozen_is_settled sh s t b stamp ok has frozen = record {
   quiet = (ok.bodies t b has).quiet closed;

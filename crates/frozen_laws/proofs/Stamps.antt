@@ -100,10 +100,12 @@ module _ (sh : Shape) (s : Parts) (t b : ℕ) where
   event_last (event.Image u x image) y = at_one u x imaged (λ y. omega arith) t b y
   event_last (event.Thaw u x) y = at_one u x thawed (λ y. omega arith) t b y
 
+-- A block's last stamp never falls.
 pub stamps_rise : StampsRise
 stamps_rise sh s e t b shape ok lawful has =
     subst (λ (y : Body). (body_at sh s t b).last ≤ y.last) (sym (body_after sh s (shaped sh s ok) (changes_of sh s e) t b has)) (event_last sh s t b e (body_at sh s t b))
 
+-- A seal's stamp is above the block's last, and is the last then.
 pub seals_are_new : SealsAreNew
 seals_are_new sh s t b stamp shape ok has is = go (seal_fault (is_head sh s t b) (body_at sh s t b)) refl
   where

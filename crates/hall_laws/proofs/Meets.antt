@@ -10,6 +10,7 @@ use Rattle.part_laws.proofs.Lasting.{outlives}
 use Rattle.part_laws.proofs.Leaving.{leaves}
 use Rattle.part_laws.proofs.Standing.{depends, rests}
 
+-- the core's events have the laws that a hall asks
 pub has_laws : HasHallLaws
 has_laws sh start passes blocks = record {
   keeps = λ e s holds stands fits. core_kept sh e s holds (stands, fits);
@@ -21,5 +22,6 @@ has_laws sh start passes blocks = record {
   outlives = λ e oldest s holds stands fits low. outlives sh e oldest s holds.sound (stands, fits) low;
 }
 
+-- the opening core is one to start at: it holds, and nothing is open in it
 pub starts : StartsAtRest
 starts sh shape = (core_opens sh shape, λ q. rests sh q shape)

@@ -36,6 +36,7 @@ module _ {E : Type 0} where
       let h = own_fewer ps es in
       elim (has e.pass ps) as (λ b. length (cond b (e ∷ own ps es) (own ps es)) ≤ length (e ∷ es)) [ true ↦ omega (arith, h) | false ↦ omega (arith, h) ]
 
+-- places with each part of a state are all of them in hand
 pub all_at : {P : Type 0} (xs : List (Option P)) (ps : List P) → length xs ≡ length ps → ((k : ℕ) → k < length ps → (p : P) × (slice_get ps k ≡ Some p) × (get_elem? xs k ≡ maybe.some (Some p))) → xs ≡ all_in ps
 all_at [] [] n each = refl
 all_at [] (p ∷ ps) n each = absurd (omega (arith, n))
@@ -52,6 +53,7 @@ module _ {P E T F : Type 0} (M : Meaning P E T F) (log : List (Entry E)) (o : Ow
   handless : (j : ℕ) (u : View E) → j ≢ id → get_elem? s.views j ≡ maybe.some u → hands_of u ≡ 0
   handless j u ne there = let t = total_pair hands_of s.views id j v u ne at there in let h = kept.hands.handed in omega (arith, t, h, all)
 
+  -- each part is at home: no other pass has a hand to hold one
   pub all_home : (k : ℕ) → k < length M.start → AtHome M log s.homes k
   all_home k lt = by_cases (slice_index s.words (suc k)) 0 (AtHome M log s.homes k) (kept.at_home.free k lt)
       (λ taken.
@@ -60,6 +62,8 @@ module _ {P E T F : Type 0} (M : Meaning P E T F) (log : List (Entry E)) (o : Ow
       (λ e. absurd (h.3 (ap (λ u. stage u k) (maybe.some-injective h.0 v (sym h.1 ∙ (ap (get_elem? s.views) e ∙ at))) ∙ empty k)))
       (λ ne. absurd (h.3 (kept.hands.idle (o.part k) h.0 h.1 (handless (o.part k) h.0 ne h.1) k))))
 
+  -- the pass has seen the whole log, since all entries are its own or those of passes that it took
+  -- in
   pub whole_log : log ≡ v.log
   whole_log =
       let l = kept.one_log.each id v at live in

@@ -108,6 +108,8 @@ module _ {P E T F : Type 0} (M : Meaning P E T F) (laws : Laws M) where
             };
           }
 
+    -- An event of a pass, with its parts in the hand, adds an entry to the log and keeps the
+    -- invariant.
     pub adds : Allows (Rule M) slots id (v, []) 0 (λ n. (n + 1) % 2 ^ 64) (Adds M id v e)
     adds s kept deep at fits =
         let log = kept.0 in

@@ -17,6 +17,7 @@ use Rattle.hall_rule.proofs.Moved.{still_open, still_true}
 use Rattle.hall_rule.proofs.Named.{among_is, only_more}
 use Rattle.hall_rule.proofs.Numbers.{distinct_append, has_append, has_left, has_right}
 
+-- a list of length 0 is empty
 pub length_zero : {A : Type 0} (l : List A) → length l ≡ 0 → l ≡ []
 length_zero [] e = refl
 length_zero (x ∷ xs) e = absurd (omega (arith, e))
@@ -38,12 +39,14 @@ between (x ∷ xs) (y ∷ ys) cs bs e le =
     (t.0, (λ i. sym (ap (head_of x) e) i ∷ t.1 i), t.2)
 
 module _ {E : Type 0} where
+  -- where more entries add none of the passes' own, none of those is theirs
   pub own_rest : (ps : List ℕ) (xs ys : List (Entry E)) → own ps (xs ++ ys) ≡ own ps xs → own ps ys ≡ []
   own_rest ps xs ys e =
       let a : length (own ps (xs ++ ys)) ≡ length (own ps xs) + length (own ps ys) = ap length (own_append ps xs ys) ∙ length-append (own ps xs) (own ps ys) in
       let b : length (own ps (xs ++ ys)) ≡ length (own ps xs) = ap length e in
       length_zero (own ps ys) (omega (arith, a, b))
 
+  -- where none of all entries is theirs, none of the later ones is
   pub own_back : (ps : List ℕ) (xs ys : List (Entry E)) → own ps (xs ++ ys) ≡ [] → own ps ys ≡ []
   own_back ps xs ys e =
       let a : length (own ps (xs ++ ys)) ≡ length (own ps xs) + length (own ps ys) = ap length (own_append ps xs ys) ∙ length-append (own ps xs) (own ps ys) in
@@ -70,10 +73,12 @@ module _ {E : Type 0} where
       omega (arith, h, a', c', d')))
 
 module _ {P E T F : Type 0} (M : Meaning P E T F) where
+  -- a part that no entry changes is not changed by the later ones
   pub untouched_rest : (k : ℕ) (s : List P) (xs ys : List (Entry E)) → Untouched M k s (xs ++ ys) → Untouched M k (replay_from M s xs) ys
   untouched_rest k s [] ys a = a
   untouched_rest k s (x ∷ xs) ys a = untouched_rest k (after M x s) xs ys a.1
 
+  -- where no entry is of a session, none of the later ones is
   pub spares_rest : (q : ℕ) (xs ys : List (Entry E)) → Spares M q (xs ++ ys) → Spares M q ys
   spares_rest q [] ys a = a
   spares_rest q (x ∷ xs) ys a = spares_rest q xs ys a.1
@@ -83,14 +88,17 @@ module _ {P E T F : Type 0} (M : Meaning P E T F) where
     mid : (m : List (Entry E)) × (l ≡ v.log ++ m) × (since v log ≡ m ++ drop (length l) log)
     mid = between v.log l (since v log) (drop (length l) log) (sym on ∙ on') le
 
+    -- where no entry since a log is of a session, none since a longer one is
     pub spares_later : (q : ℕ) → Spares M q (since v log) → Spares M q (drop (length l) log)
     spares_later q a = spares_rest q mid.0 (drop (length l) log) (subst (Spares M q) mid.2 a)
 
+    -- a part that no entry since a log changes, none since a longer one changes
     pub untouched_later : (k : ℕ) → Untouched M k (replay M v.log) (since v log) → Untouched M k (replay M l) (drop (length l) log)
     untouched_later k a =
         let b : Untouched M k (replay_from M (replay M v.log) mid.0) (drop (length l) log) = untouched_rest k (replay M v.log) mid.0 (drop (length l) log) (subst (Untouched M k (replay M v.log)) mid.2 a) in
         subst (λ (t : List P). Untouched M k t (drop (length l) log)) (sym (ap (replay M) mid.1 ∙ replay_append M M.start v.log mid.0)) b
 
+    -- where no entry since a log is the passes' own, none since a longer one is
     pub own_later : (ps : List ℕ) → own ps (since v log) ≡ [] → own ps (drop (length l) log) ≡ []
     own_later ps a = own_back ps mid.0 (drop (length l) log) (ap (own ps) (sym mid.2) ∙ a)
 
@@ -162,6 +170,7 @@ module _ {P E T F : Type 0} (M : Meaning P E T F) where
     mine : own (id ∷ both.joined) log ≡ both.mine
     mine = ap (own (id ∷ both.joined)) goes_on ∙ (own_append (id ∷ both.joined) both.log (since both log) ∙ (ap (λ x. own (id ∷ both.joined) both.log ++ x) none_since ∙ append-nil (own (id ∷ both.joined) both.log)))
 
+    -- the joined pass has as many entries as the two had
     pub count : length both.mine ≡ length v.mine + length u.mine
     count =
         let n = own_sum (id ∷ v.joined) (other ∷ u.joined) log apart in
@@ -273,6 +282,7 @@ module _ {P E T F : Type 0} (M : Meaning P E T F) where
     there' : get_elem? (set s.views id both) other ≡ maybe.some u
     there' = set_else s.views id other both else ∙ there
 
+    -- the invariant holds of the hall with the two passes in one
     pub join_kept : HallInvariant M log record { part = o.part; number = number; session = session } record { words = s.words; homes = s.homes; views = views }
     join_kept = record {
       one_log = record {
@@ -329,6 +339,7 @@ module _ {P E T F : Type 0} (M : Meaning P E T F) where
       };
     }
 
+  -- A pass takes in another that holds no part, and the invariant is kept.
   pub joins : (laws : Laws M) (id : ℕ) (v : View E) (other : ℕ) (u : View E) → v.spent ≡ false → u.spent ≡ false → ((k : ℕ) → stage u k ≡ 0) → Joins (Rule M) id v other u (joined_by id other v u) spent_view
   joins laws id v other u live alive empty s held at else there' =
       let there : get_elem? s.views other ≡ maybe.some u = sym (set_else s.views id other (joined_by id other v u) else) ∙ there' in (

@@ -19,12 +19,15 @@ use Rattle.hall_rule.proofs.Moved.{later_lawful, later_state}
 use Rattle.hall_rule.proofs.Numbers.{has_here, has_left, has_right}
 use Rattle.hall_rule.proofs.Quiet.{Stirs, stirred}
 
+-- the stage of a part after it was set
 pub stage_here : {E : Type 0} (v : View E) (k n : ℕ) → k < length v.stages → slice_index (set v.stages k n) k ≡ n
 stage_here v k n lt = get_or-set_same v.stages k n 0 lt
 
+-- the stages of other parts stay
 pub stage_else : {E : Type 0} (v : View E) (k n i : ℕ) → i ≢ k → slice_index (set v.stages k n) i ≡ stage v i
 stage_else v k n i ne = get_or-set_other v.stages k i n 0 ne
 
+-- setting what stands there already changes nothing
 pub unset : (l : List ℕ) (i : ℕ) → set l i (get_or l i 0) ≡ l
 unset [] i = refl
 unset (x ∷ xs) zero = refl
@@ -119,6 +122,7 @@ module _ {P E T F : Type 0} (M : Meaning P E T F) (laws : Laws M) where
           };
         }
 
+    -- A free latch word is taken, and the part with it; one that is taken stays as it is.
     pub latches : stage v k ≡ 0 → hands_of v ≢ 0 → Allows (Rule M) slots id (v, []) (suc k) (λ n. either (eqb n 0) 1 n) (Latches M v k)
     latches away hand s held deep at fits =
         let n : ℕ = slice_index s.words (suc k) in
@@ -186,6 +190,7 @@ module _ {P E T F : Type 0} (M : Meaning P E T F) (laws : Laws M) where
           };
         }
 
+    -- The event word is loaded behind a latch: the pass sees the whole log, and the slot goes out.
     pub loads : stage v k ≡ 1 → v.out ≡ 0 → Allows (Rule M) slots id (v, []) 0 (λ n. n) (Loads M id v k)
     loads one none_out s held deep at fits =
         let log = held.0 in
@@ -239,6 +244,7 @@ module _ {P E T F : Type 0} (M : Meaning P E T F) (laws : Laws M) where
     in_slots : (s : State (Option P) (View E)) → (log : List (Entry E)) (o : Owners) → HallInvariant M log o s → k < length s.homes
     in_slots s log o kept = let d = kept.at_home.deep in omega (arith, d, lt)
 
+    -- The slot that is out is given home empty, and the part stays in the hand.
     pub homes : stage v k ≡ 2 → v.out ≡ suc k → Allows (Rule M) slots id (v, (k, None) ∷ []) 0 (λ n. n) (Homes M v)
     homes two is_out s held deep at fits =
         let log = held.0 in
@@ -261,6 +267,7 @@ module _ {P E T F : Type 0} (M : Meaning P E T F) (laws : Laws M) where
           (refl, refl),
         )
 
+    -- The empty slot of a part in the hand goes out again.
     pub draws : stage v k ≡ 2 → v.out ≡ 0 → Allows (Rule M) slots id (v, []) (suc k) (λ n. n) (Draws M v k)
     draws two none_out s held deep at fits =
         let log = held.0 in
@@ -334,6 +341,7 @@ module _ {P E T F : Type 0} (M : Meaning P E T F) (laws : Laws M) where
           };
         }
 
+    -- The slot is given home with its part, and the latch is free again.
     pub gives_back : (p : P) → stage v k ≡ 2 → v.out ≡ suc k → slice_get (replay M v.log) k ≡ Some p → Allows (Rule M) slots id (v, (k, Some p) ∷ []) (suc k) (λ _. 0) (λ _. Gives M v k 0)
     gives_back p two is_out value s held deep at fits =
         let log = held.0 in

@@ -2,7 +2,6 @@
 use Rattle.std.proofs.Common.{◌≡◌, ◌≢◌, ℕ, true, false, ◌+◌, ◌-◌, ◌*◌, ◌/◌, ◌%◌, ◌^◌, ◌<◌, ◌≤◌, List, Option, Some, None, length, get_or, set, length-set, bit_and, bit_or, w64, refl, sym, ap, subst, ◌∙◌, inl, inr, arith, get_or-set_same, get_or-set_other}
 use Rattle.std.specs.Int.{bit_at, bit_not, trailing_zeros}
 use Rattle.std.proofs.lemmas.Bool.{cases_eq, cases_lt}
-use Rattle.std.proofs.lemmas.List.{get_or_past}
 use Rattle.std.proofs.lemmas.Nat.Bits.{bit_at-zero, bit_at-lt, bit_at_and, bit_at_mask_inside, bit_at_mask_below, bit_at-trailing_zeros, bit_at_set_same, bit_at_set_other, bit_at_clear_same, bit_at_clear_other, ones_shl}
 use Rattle.std.specs.Option.{is_some}
 use Rattle.std.specs.Prelude.{slice_get}
@@ -23,41 +22,41 @@ module _ (words : List ℕ) (number word : ℕ) (within : number / 64 < length w
       ]
 
 module _ (words : List ℕ) (number : ℕ) (within : number / 64 < length words) where
+  -- the number whose bit is set is marked
   pub IsMarked-set : IsMarked (set words (number / 64) (bit_or (get_or words (number / 64) 0) (1 * 2 ^ (number % 64) % 2 ^ 64))) number
   IsMarked-set =
       let index : number % 64 < 64 = omega arith in
       mark_of-set_same words number _ within ∙ bit_at_set_same w64 (get_or words (number / 64) 0) (number % 64) index
 
+  -- setting a bit leaves the marks of other numbers
   pub IsSameMark-set : (other : ℕ) → other ≢ number → IsSameMark words (set words (number / 64) (bit_or (get_or words (number / 64) 0) (1 * 2 ^ (number % 64) % 2 ^ 64))) other
   IsSameMark-set other differs =
       let index : number % 64 < 64 = omega arith in
       mark_of-set_other words number _ within (λ i below apart. bit_at_set_other w64 (get_or words (number / 64) 0) (number % 64) index i apart) other differs
 
+  -- the number whose bit is cleared is not marked
   pub IsMarked-clear : ¬ IsMarked (set words (number / 64) (bit_and (get_or words (number / 64) 0) (bit_not w64 (1 * 2 ^ (number % 64) % 2 ^ 64)))) number
   IsMarked-clear is =
       let index : number % 64 < 64 = omega arith in
       let e = sym is ∙ mark_of-set_same words number _ within ∙ bit_at_clear_same w64 (get_or words (number / 64) 0) (number % 64) index in
       absurd (omega (arith, e))
 
+  -- clearing a bit leaves the marks of other numbers
   pub IsSameMark-clear : (other : ℕ) → other ≢ number → IsSameMark words (set words (number / 64) (bit_and (get_or words (number / 64) 0) (bit_not w64 (1 * 2 ^ (number % 64) % 2 ^ 64)))) other
   IsSameMark-clear other differs =
       let index : number % 64 < 64 = omega arith in
       mark_of-set_other words number _ within (λ i below apart. bit_at_clear_other w64 (get_or words (number / 64) 0) (number % 64) index i below apart) other differs
-
--- behind the words nothing is marked
-pub unmarked_behind : (words : List ℕ) (k : ℕ) → length words ≤ k / 64 → ¬ IsMarked words k
-unmarked_behind words k le is =
-    let e = sym is ∙ ap (λ n. bit_at n (k % 64)) (get_or_past words (k / 64) 0 le) ∙ bit_at-zero (k % 64) in
-    absurd (omega (arith, e))
 
 -- What is left of a word without its bits below one.
 pub record IsRest (word shift rest : ℕ) : Type 0 where
   pub low : (i : ℕ) → i < shift → bit_at rest i ≡ 0
   pub high : (i : ℕ) → shift ≤ i → i < 64 → bit_at rest i ≡ bit_at word i
 
+-- all of a word is what is left from bit 0 on
 pub whole_rest : (word : ℕ) → IsRest word 0 word
 whole_rest word = record { low = λ i below. absurd (omega arith); high = λ i from below. refl }
 
+-- a mask of the upper bits leaves those, and none below
 pub masked_rest : (word shift : ℕ) → shift < 64 → IsRest word shift (bit_and word ((2 ^ 64 - 1) * 2 ^ shift % 2 ^ 64))
 masked_rest word shift within =
     rw (ones_shl 64 shift (omega arith)) (record {
@@ -74,6 +73,7 @@ module _ (words : List ℕ) (at shift rest : ℕ) (is : IsRest (get_or words at 
       let z : bit_at rest (k % 64) ≡ 0 = rw empty (bit_at-zero (k % 64)) in
       absurd (omega (arith, e, z))
 
+  -- the lowest bit that is left is the next mark
   pub lowest_left : 0 < rest → rest < 2 ^ 64 → IsNextMark words (at * 64 + shift) (Some (at * 64 + trailing_zeros w64 rest))
   lowest_left some fits =
       let lowest = bit_at-trailing_zeros w64 rest some fits in
@@ -104,9 +104,11 @@ next_further words from start (Some m) le none is =
 module _ {P : Type 0} where
   -- a place whose mark was set by whether a part lies in it
   module _ (hand : List (Option P)) (words : List ℕ) (part : ℕ) (place : Option P) (at : slice_get hand part ≡ Some place) where
+    -- a part that is in the hand at this place is marked
     pub held_here : (is_some place ≡ true → IsMarked words part) → Holds hand part → IsMarked words part
     held_here marks held = bool_cases (is_some place) (IsMarked words part) marks (λ none. absurd (none_there hand part place at none held))
 
+    -- a mark of this place is of a part that is in the hand
     pub marked_here : (is_some place ≡ false → ¬ IsMarked words part) → IsMarked words part → Holds hand part
     marked_here clears is =
         bool_cases (is_some place) (Holds hand part) (λ some. let x = is_there place some in (x.0, at ∙ ap Some x.1)) (λ none. absurd (clears none is))

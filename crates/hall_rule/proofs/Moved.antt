@@ -15,6 +15,7 @@ use Rattle.hall_rule.proofs.Lists.{at_below, by_cases, each_set, not_true, total
 use Rattle.hall_rule.proofs.Logs.{AllBy, begins_more, fact_stands, goes_on_more, has_head, lawful_front, lawful_rest, made_append, made_by, own_all, own_append, own_none, replay_append, rest_is, since_more, sound_after, spares_append, spares_others, transaction_stands, untouched_append, untouched_same}
 
 module _ {P E T F : Type 0} (M : Meaning P E T F) where
+  -- the slots: out, or at home with a part or without one
   abbrev pub Homes : Type 0
   Homes = List (maybe.Option (Option P))
 
@@ -60,6 +61,7 @@ module _ {P E T F : Type 0} (M : Meaning P E T F) where
   later_state log v on = ap (replay M) on ∙ replay_append M M.start v.log (since v log)
 
   module _ (laws : Laws M) where
+    -- what a view has seen of a lawful log is lawful, and so is what it has not
     pub later_lawful : (log : List (Entry E)) (v : View E) → GoesOn v log → LawfulFrom M M.start log → LawfulFrom M M.start v.log × LawfulFrom M (replay M v.log) (since v log)
     later_lawful log v on a = let b = subst (LawfulFrom M M.start) on a in (lawful_front M M.start v.log (since v log) b, lawful_rest M M.start v.log (since v log) b)
 
@@ -69,12 +71,14 @@ module _ {P E T F : Type 0} (M : Meaning P E T F) where
         let b = later_lawful log v on a in
         ap (λ t. M.transaction t q) (later_state log v on) ∙ transaction_stands M laws q (replay M v.log) (since v log) (sound_after M laws M.start v.log ok b.0) b.1 spared
 
+    -- a lasting fact that a view knows is true of the whole log
     pub still_true : (log : List (Entry E)) (v : View E) (f : F) → M.sound M.start → GoesOn v log → LawfulFrom M M.start log → M.fact f (replay M v.log) → M.fact f (replay M log)
     still_true log v f ok on a h =
         let b = later_lawful log v on a in
         subst (M.fact f) (sym (later_state log v on)) (fact_stands M laws f (replay M v.log) (since v log) (sound_after M laws M.start v.log ok b.0) b.1 h)
 
   module _ (log more : List (Entry E)) (o : Owners) (part : ℕ → ℕ) (s : State (Option P) (View E)) (words : List ℕ) (homes : Homes) (id : ℕ) (v w : View E) where
+    -- the hall behind the step
     abbrev pub after_move : State (Option P) (View E)
     after_move = record { words = words; homes = homes; views = set s.views id w }
 
@@ -87,6 +91,7 @@ module _ {P E T F : Type 0} (M : Meaning P E T F) where
         not_mine : has id (j ∷ u.joined) ≡ false
         not_mine = not_true (has id (j ∷ u.joined)) (apart id (has_head id v.joined))
 
+        -- another pass's view of the log stays right when the log grows
         pub other_log : SeesLog M (log ++ more) o.number (length (set s.views id w)) j u
         other_log =
             let l = kept.one_log.each j u there alive in
@@ -122,12 +127,15 @@ module _ {P E T F : Type 0} (M : Meaning P E T F) where
                   (only_others q (j ∷ u.joined) v.sessions more (λ mine. else (sym (other_sessions.sessions q h) ∙ (kept.lawful.each id v at live).sessions q mine)) m.under);
             }
 
+        -- no entry that another pass has not seen, old or new, is of a session of its
         pub other_spared : (q : ℕ) → has q u.sessions ≡ true → Spares M q (since u (log ++ more))
         other_spared q h = spared_from q h u.log (kept.one_log.each j u there alive).goes_on (other_sessions.spared q h)
 
+        -- nor is one since its last join of a session that it had then
         pub other_stood : (q : ℕ) → has q u.stood ≡ true → has q u.sessions ≡ true → Spares M q (Rattle.std.proofs.Common.drop (length u.before) (log ++ more))
         other_stood q was h = spared_from q h u.before (kept.one_log.each j u there alive).before (other_sessions.stood q was h)
 
+        -- nor one since the joined pass's log of a session that came with it
         pub other_came : (q : ℕ) → has q u.came ≡ true → has q u.sessions ≡ true → Spares M q (Rattle.std.proofs.Common.drop (length u.heard) (log ++ more))
         other_came q was h = spared_from q h u.heard (kept.one_log.each j u there alive).heard (other_sessions.came q was h)
 
@@ -143,6 +151,7 @@ module _ {P E T F : Type 0} (M : Meaning P E T F) where
         stays : (k : ℕ) → stage u k ≢ 0 → (slice_index words (suc k) ≡ slice_index s.words (suc k)) × (get_elem? homes k ≡ get_elem? s.homes k) × (part k ≡ o.part k)
         stays k held = m.same k ((kept.at_home.each j u there alive).holds k held).0 (not_before k held) (not_after k held)
 
+        -- what another pass holds stays held and in place
         pub other_parts : HoldsParts M (log ++ more) part words homes j u
         other_parts =
             let old = kept.at_home.each j u there alive in
@@ -290,5 +299,6 @@ module _ {P E T F : Type 0} (M : Meaning P E T F) where
           each = λ j u there alive f. still_true laws (log ++ more) u f kept.lawful.begins ((one_log).each j u there alive).goes_on m.lawful;
         }
 
+        -- A step that keeps what it owes keeps the invariant.
         pub moved : HallInvariant M (log ++ more) (with_parts o part) after_move
         moved = record { one_log = one_log; at_home = at_home; lawful = lawful; facts = facts; hands = hands }

@@ -19,10 +19,12 @@ least_of q (r ∷ rs) = ⊎_elim
     (λ t. has_later (fold min (min q r) rs) q (r ∷ rs) (has_later (fold min (min q r) rs) r rs t))
     (has_cons (fold min (min q r) rs) (min q r) rs (least_of (min q r) rs))
 
+-- the least of some sessions is one of them
 pub least_there : (qs : List ℕ) → 0 < length qs → has (least qs) qs ≡ true
 least_there [] h = absurd (omega (arith, h))
 least_there (q ∷ qs) h = least_of q qs
 
+-- what is among others is in both lists
 pub among_is : (sessions qs : List ℕ) (q : ℕ) → has q (among sessions qs) ≡ true → (has q qs ≡ true) × (has q sessions ≡ true)
 among_is sessions [] q h = absurd (true≢false (sym h))
 among_is sessions (r ∷ rs) q h = bool_cases (has r sessions) ((has q (r ∷ rs) ≡ true) × (has q sessions ≡ true))
@@ -42,18 +44,22 @@ module _ {E : Type 0} where
   UnderThese sessions [] = Unit {0}
   UnderThese sessions (e ∷ es) = (has e.session sessions ≡ true) × UnderThese sessions es
 
+  -- entries that stand under sessions up to a number, and more of them
   pub named_append : (n : ℕ) (xs ys : List (Entry E)) → NamedTo n xs → NamedTo n ys → NamedTo n (xs ++ ys)
   named_append n [] ys a b = b
   named_append n (x ∷ xs) ys a b = (a.0, a.1, named_append n xs ys a.2 b)
 
+  -- entries that stand under a pass's sessions stand under such
   pub named_by : (n : ℕ) (sessions : List ℕ) (es : List (Entry E)) → ((q : ℕ) → has q sessions ≡ true → (0 < q) × (q ≤ n)) → UnderThese sessions es → NamedTo n es
   named_by n sessions [] within a = tt
   named_by n sessions (e ∷ es) within a = ((within e.session a.0).0, (within e.session a.0).1, named_by n sessions es within a.1)
 
+  -- entries that are only of some passes under a session, and more of them
   pub only_append : (q : ℕ) (ps : List ℕ) (xs ys : List (Entry E)) → OnlyBy q ps xs → OnlyBy q ps ys → OnlyBy q ps (xs ++ ys)
   only_append q ps [] ys a b = b
   only_append q ps (x ∷ xs) ys a b = (a.0, only_append q ps xs ys a.1 b)
 
+  -- entries that are only of some passes are only of more passes too
   pub only_more : (q : ℕ) (ps qs : List ℕ) (es : List (Entry E)) → ((i : ℕ) → has i ps ≡ true → has i qs ≡ true) → OnlyBy q ps es → OnlyBy q qs es
   only_more q ps qs [] more a = tt
   only_more q ps qs (e ∷ es) more a = ((λ is. more e.pass (a.0 is)), only_more q ps qs es more a.1)

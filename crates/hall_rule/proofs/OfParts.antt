@@ -5,6 +5,7 @@ use Rattle.hall_rule.specs.Meaning.{Laws, meaning}
 use Rattle.hall_rule.specs.declared.parts.Parts.{Ghosts}
 
 module _ {C P E R S T F : Type 0} (t : Ghosts C P E R S T F) where
+  -- What a core's trait says of its events are the laws that a hall needs of their meaning.
   pub laws_of : ((sh : S) (e : E) (s : List P) → t.sound sh s → t.stands sh e s → t.fits sh e s → t.sound sh (t.effect sh e s))
       → ((sh : S) (e : E) (h : List (Option P)) (s : List P) → t.sound sh s → Covers (t.touching sh e) h → Agrees h s → t.stands sh e s → t.fits sh e s → OnlyHeld h s (t.effect sh e s))
       → ((sh : S) (e : E) (s : List P) → t.sound sh s → length (t.effect sh e s) ≡ length s)

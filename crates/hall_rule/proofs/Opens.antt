@@ -12,15 +12,18 @@ use Rattle.hall_rule.specs.Opening.{first_view, sessions_to}
 use Rattle.hall_rule.specs.declared.view.View.{View}
 use Rattle.hall_rule.proofs.Numbers.{distinct_append, has_append, has_cons}
 
+-- the sessions 1 to n are n
 pub sessions_to-length : (n : ℕ) → length (sessions_to n) ≡ n
 sessions_to-length zero = refl
 sessions_to-length (suc n) = let h = sessions_to-length n in let e : length (sessions_to n ++ suc n ∷ []) ≡ length (sessions_to n) + 1 = length-append (sessions_to n) (suc n ∷ []) in omega (arith, h, e)
 
+-- a list of zeros has 0 everywhere
 pub zeros : (n k : ℕ) → slice_index (replicate n 0) k ≡ 0
 zeros zero k = refl
 zeros (suc n) zero = refl
 zeros (suc n) (suc k) = zeros n k
 
+-- each part of the first state is at home in its slot
 pub in_all : {P : Type 0} (xs : List P) (k : ℕ) → k < length xs → (p : P) × (slice_get xs k ≡ Some p) × (get_elem? (map maybe.some (map Some xs)) k ≡ maybe.some (maybe.some (Some p)))
 in_all [] k lt = absurd (omega arith)
 in_all (x ∷ xs) zero lt = (x, refl, refl)
@@ -34,14 +37,17 @@ map-length : {A B : Type 0} (f : A → B) (xs : List A) → length (map f xs) �
 map-length f [] = refl
 map-length f (x ∷ xs) = let h = map-length f xs in omega (arith, h)
 
+-- each of the first sessions is above 0
 pub above_to : (n q : ℕ) → has q (sessions_to n) ≡ true → 0 < q
 above_to zero q h = absurd (true≢false (sym h))
 above_to (suc n) q h = ⊎_elim (λ a. above_to n q a) (λ b. ⊎_elim (λ e. omega (arith, e)) (λ z. absurd (true≢false (sym z))) (has_cons q (suc n) [] b)) (has_append q (sessions_to n) (suc n ∷ []) h)
 
+-- and at most their count
 pub below_to : (n q : ℕ) → has q (sessions_to n) ≡ true → q ≤ n
 below_to zero q h = absurd (true≢false (sym h))
 below_to (suc n) q h = ⊎_elim (λ a. let r = below_to n q a in omega (arith, r)) (λ b. ⊎_elim (λ e. omega (arith, e)) (λ z. absurd (true≢false (sym z))) (has_cons q (suc n) [] b)) (has_append q (sessions_to n) (suc n ∷ []) h)
 
+-- each of the first sessions stands once
 pub sessions_to-distinct : (n : ℕ) → Distinct (sessions_to n)
 sessions_to-distinct zero = tt
 sessions_to-distinct (suc n) = distinct_append (sessions_to n) (suc n ∷ []) (sessions_to-distinct n) (refl, tt) (λ q a b. ⊎_elim (λ e. absurd (let r = below_to n q a in omega (arith, r, e))) (λ z. true≢false (sym z)) (has_cons q (suc n) [] b))
@@ -106,5 +112,6 @@ module _ {P E T F : Type 0} (M : Meaning P E T F) (begins : M.sound M.start) (so
     };
   }
 
+  -- The hall with its first pass, which has every hand, keeps the invariant.
   pub opens : Rule M (opening words (all_in M.start) (first_view M.start M.passes))
   opens = ([], owners, kept)

@@ -35,9 +35,6 @@ module _ {P E T F : Type 0} (M : Meaning P E T F) where
 
   module _ (laws : Laws M) (log : List (Entry E)) (o : Owners) (part : ℕ → ℕ) (s : State (Option P) (View E)) (words : List ℕ) (homes : Homes M) (id : ℕ) (v w : View E)
       (kept : HallInvariant M log o s) (at : get_elem? s.views id ≡ maybe.some v) (live : v.spent ≡ false) (q : Stirs log o part s words homes id v w) where
-    same_log : (w' : View E) (l : List (Entry E)) → w.log ≡ l → (R : List (Entry E) → Type 0) → R l → R w.log
-    same_log w' l e R r = subst R (sym e) r
-
     goes_on : GoesOn w log
     goes_on = ⊎_elim
         (λ e. subst (λ l. log ≡ l ++ Rattle.std.proofs.Common.drop (length l) log) (sym e) (kept.one_log.each id v at live).goes_on)
@@ -103,5 +100,6 @@ module _ {P E T F : Type 0} (M : Meaning P E T F) where
           parts = subst (λ l. HoldsParts M l part words homes id w) (sym nil) q.parts;
         }
 
+    -- A step that makes no event keeps the invariant.
     pub stirred : HallInvariant M log (with_parts M o part) (after_move M log [] o part s words homes id v w)
     stirred = subst (λ l. HallInvariant M l (with_parts M o part) (after_move M log [] o part s words homes id v w)) (append-nil log) (moved M log [] o part s words homes id v w kept at live owed laws)

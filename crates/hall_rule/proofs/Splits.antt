@@ -17,6 +17,7 @@ use Rattle.hall_rule.proofs.Logs.{made_more}
 use Rattle.hall_rule.proofs.Numbers.{greatest_in, has_cons, has_without, without_distinct, without_gone, without_length}
 use Rattle.hall_rule.proofs.Opens.{zeros}
 
+-- what is there with one more view was there before, or is the new one
 pub at_snoc_index : {A : Type 0} (l : List A) (a b : A) (j : ℕ) → get_elem? (l ++ a ∷ []) j ≡ maybe.some b → (get_elem? l j ≡ maybe.some b) ⊎ ((j ≡ length l) × (a ≡ b))
 at_snoc_index [] a b zero e = inr (refl, maybe.some-injective a b e)
 at_snoc_index [] a b (suc j) e = absurd (maybe.some-ne-none b (sym e))
@@ -24,12 +25,14 @@ at_snoc_index (x ∷ xs) a b zero e = inl e
 at_snoc_index (x ∷ xs) a b (suc j) e = ⊎_elim (λ t. inl t) (λ t. inr (ap suc t.0, t.1)) (at_snoc_index xs a b j e)
 
 module _ {E : Type 0} where
+  -- a pass that is yet to be made has no entries
   pub own_unmade : (n : ℕ) (es : List (Entry E)) → MadeBelow n es → own (n ∷ []) es ≡ []
   own_unmade n [] made = refl
   own_unmade n (e ∷ es) made =
       let b : has e.pass (n ∷ []) ≡ false = not_true (has e.pass (n ∷ [])) (λ h. ⊎_elim (λ same. absurd (let lt = made.0 in omega (arith, lt, same))) (λ z. true≢false (sym z)) (has_cons e.pass n [] h)) in
       ap (λ c. cond c (e ∷ own (n ∷ []) es) (own (n ∷ []) es)) b ∙ own_unmade n es made.1
 
+  -- a beginning of a log has entries of passes that were made alone
   pub made_front : (n : ℕ) (xs ys : List (Entry E)) → MadeBelow n (xs ++ ys) → MadeBelow n xs
   made_front n [] ys a = tt
   made_front n (x ∷ xs) ys a = (a.0, made_front n xs ys a.1)
@@ -133,6 +136,7 @@ module _ {P E T F : Type 0} (M : Meaning P E T F) (log : List (Entry E)) (o : Ow
       (λ t. subst B t.1 there)
       (at_snoc_index (set s.views id left) right u j found)
 
+  -- the invariant holds of the hall with the new pass
   pub split_kept : HallInvariant M log record { part = o.part; number = number; session = session } record { words = s.words; homes = s.homes; views = views }
   split_kept = record {
     one_log = record {
@@ -198,6 +202,7 @@ module _ {P E T F : Type 0} (M : Meaning P E T F) (log : List (Entry E)) (o : Ow
     };
   }
 
+-- the greatest of some sessions is one of them
 pub greatest_there : (qs : List ℕ) → 0 < length qs → has (greatest qs) qs ≡ true
 greatest_there [] h = absurd (omega (arith, h))
 greatest_there (q ∷ qs) h = greatest_in q qs

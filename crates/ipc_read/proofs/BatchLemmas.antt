@@ -30,6 +30,7 @@ module _ {X : Type 0} (p : X → Bool) (xs : List X) (k : ℕ) (x : X) (all : li
   all_by true e = e
   all_by false e = let none : list_all p xs ≡ false = list_all_at p xs k x lt (ap p (sym is) ∙ e) in absurd (let f : true ≡ false = sym all ∙ none in cc)
 
+  -- what all pass each passes
   pub all_at : p x ≡ true
   all_at = all_by (p x) refl
 
@@ -69,6 +70,7 @@ module _ (body : List ℕ) (rows : ℕ) where
       ap (λ x. by x (w ∷ take dc more) (drop dc more)) (sym same)
       ∙ ap (λ k. by v (take k (w ∷ more)) (drop k (w ∷ more))) (sym one)
 
+  -- the columns from one on are the view of this one and those behind it
   pub column_step : (columns : List Column) (nodes : List FieldNode) (buffers : List BufferPlace) (i : ℕ) (c : Column) (n : FieldNode) (v : BufferPlace)
       → i < length columns → c ≡ get_or columns i c → i < length nodes → n ≡ get_or nodes i n
       → length buffers ≡ buffer_count (drop i columns) → v ≡ get_or (take (1 + data_count (values_of c.kind)) buffers) 0 v
@@ -125,11 +127,6 @@ pub behind_more : (front : List (List Cell)) (cells : List Cell) (one : Result (
 behind_more front cells one (Ok items) is = ap (λ (r : Result (List Cell) Cause). behind front (r >>= λ cells. Ok (cells ∷ items))) is ∙ ap Ok (sym (append_assoc front (cells ∷ []) items))
 behind_more front cells one (Err cause) is = ap (λ (r : Result (List Cell) Cause). behind front (r >>= λ cells. Err cause)) is
 
--- one that is not is the answer
-pub behind_fails : (front : List (List Cell)) (cause : Cause) (one : Result (List Cell) Cause) (rest : Result (List (List Cell)) Cause)
-    → one ≡ Err cause → behind front (one >>= λ cells. rest >>= λ items. Ok (cells ∷ items)) ≡ Err cause
-behind_fails front cause one rest is = ap (λ (r : Result (List Cell) Cause). behind front (r >>= λ cells. rest >>= λ items. Ok (cells ∷ items))) is
-
 -- ---- rows
 
 map_same : {A B : Type 0} (f g : A → B) → ((x : A) → f x ≡ g x) → (xs : List A) → map f xs ≡ map g xs
@@ -153,6 +150,7 @@ row_of_cells rows i lt views =
     map_map (cells_in rows) (λ cells. slice_index_or cells i Null) views
     ∙ map_same (λ view. slice_index_or (cells_in rows view) i Null) (λ view. cell_in view i) (λ view. get_or-map-range_with_len (cell_in view) 0 rows i i Null lt (omega arith)) views
 
+-- the rows of the columns' cells are those of their views
 pub rows_of_cells : (rows : ℕ) (views : List View) → map (row_at (map (cells_in rows) views)) (range_with_len 0 rows) ≡ rows_in rows views
 rows_of_cells rows views = range_same (row_at (map (cells_in rows) views)) (row_in views) 0 rows (λ i low high. row_of_cells rows i (omega (arith, high)) views)
 
@@ -185,6 +183,7 @@ holding columns batch body views nodes buffers slots read =
     ∙ (ap (λ cells. by true true true cells) read
     ∙ ap Ok (rows_of_cells batch.rows views))))
 
+-- a batch whose columns are viewed reads as their rows
 pub batch_reads : (columns : List Column) (batch : BatchTable) (body : List ℕ) (rows : ℕ) (nodes : List FieldNode) (buffers : List BufferPlace) (views : List View)
     → rows ≡ batch.rows → nodes ≡ batch.nodes → buffers ≡ batch.buffers
     → length nodes ≡ length columns → (length buffers == buffer_count columns) ≡ true → list_all (λ node. int_eq node.length (pos rows)) nodes ≡ true

@@ -41,6 +41,7 @@ room_at k i rows length lt room =
     let more : need_of k (i + 1) ≤ need_of k rows = grows k i rows lt in
     omega (arith, all, more)
 
+-- two tests that pass each pass together
 pub anded : (a b : Bool) → a ≡ true → b ≡ true → (a && b) ≡ true
 anded a b p q = ap (λ (x : Bool). x && b) p ∙ q
 
@@ -137,15 +138,19 @@ checked counted rising encoded cells = do
   c ← rule cause.Utf8 encoded
   Ok cells
 
+-- a wrong count of nulls is the fault
 pub count_fails : (counted rising encoded : Bool) (cells : List Cell) → counted ≡ false → checked counted rising encoded cells ≡ Err cause.NullCount
 count_fails counted rising encoded cells is = ap (λ (b : Bool). checked b rising encoded cells) is
 
+-- offsets that are not lawful are, where the count is right
 pub offsets_fail : (counted rising encoded : Bool) (cells : List Cell) → counted ≡ true → rising ≡ false → checked counted rising encoded cells ≡ Err cause.Offsets
 offsets_fail counted rising encoded cells a is = ap (λ (b : Bool). checked b rising encoded cells) a ∙ ap (λ (b : Bool). checked true b encoded cells) is
 
+-- a text that is no UTF-8 is, where the offsets are lawful
 pub texts_fail : (counted rising encoded : Bool) (cells : List Cell) → counted ≡ true → rising ≡ true → encoded ≡ false → checked counted rising encoded cells ≡ Err cause.Utf8
 texts_fail counted rising encoded cells a b is = ap (λ (x : Bool). checked x rising encoded cells) a ∙ (ap (λ (x : Bool). checked true x encoded cells) b ∙ ap (λ (x : Bool). checked true true x cells) is)
 
+-- where all hold, the cells are read
 pub all_hold : (counted rising encoded : Bool) (cells : List Cell) → counted ≡ true → rising ≡ true → encoded ≡ true → checked counted rising encoded cells ≡ Ok cells
 all_hold counted rising encoded cells a b is = ap (λ (x : Bool). checked x rising encoded cells) a ∙ (ap (λ (x : Bool). checked true x encoded cells) b ∙ ap (λ (x : Bool). checked true true x cells) is)
 

@@ -209,10 +209,12 @@ module _ {K X : Type 0} {R : K → K → Ordering} (o : IsTotalOrder R) where
       inserted-inserted_onto before (insert_entry R gathered e.0 e.1) es apart.1 (has_none-insert gathered e.0 e.1 es apart.0 none.1)
       ∙ ap (λ (now : List (K × X)). inserted R now es) (inserted-more before gathered e.0 e.1 none.0)
 
+  -- no entry has a key among none
   pub none_in_none : (es : List (K × X)) → HasNone R [] es
   none_in_none [] = tt
   none_in_none (e ∷ es) = (refl, none_in_none es)
 
+  -- entries gathered among themselves and then inserted are as inserted one by one
   pub inserted-inserted : (before es : List (K × X)) → AreApart R es → inserted R before (inserted R [] es) ≡ inserted R before es
   inserted-inserted before es apart = inserted-inserted_onto before [] es apart (none_in_none es)
 

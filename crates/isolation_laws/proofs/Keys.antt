@@ -7,6 +7,7 @@ use Rattle.cell_model.specs.declared.cell.Cell.{Cell}
 use Rattle.isolation_spec.specs.Contents.{key_of}
 use Rattle.isolation_laws.specs.Inserts.{has_key, are_distinct, row_at}
 
+-- a key of two lists of rows is in one of them
 pub has_key-append : (key : ℤ) (front rest : List (List Cell)) → has_key key (front ++ rest) ≡ (has_key key front || has_key key rest)
 has_key-append key front rest = list_any-append (λ row. int_eq (key_of row) key) front rest
 
@@ -17,6 +18,7 @@ with_one_more false fresh true true = refl
 with_one_more false fresh false true = refl
 with_one_more false fresh distinct false = refl
 
+-- one more row keeps the keys distinct where its key is new
 pub are_distinct-push : (rows : List (List Cell)) (row : List Cell)
     → are_distinct (rows ++ row ∷ []) ≡ (are_distinct rows && not (has_key (key_of row) rows))
 are_distinct-push [] row = refl
@@ -31,6 +33,7 @@ front_parts : (among rest : Bool) → not (among || rest) ≡ true → not among
 front_parts true rest holds = holds
 front_parts false rest holds = refl
 
+-- rows in front have distinct keys where all have
 pub are_distinct-front : (front rest : List (List Cell)) → are_distinct (front ++ rest) ≡ true → are_distinct front ≡ true
 are_distinct-front [] rest distinct = refl
 are_distinct-front (row ∷ front) rest distinct =
@@ -40,6 +43,7 @@ are_distinct-front (row ∷ front) rest distinct =
     (front_parts (has_key (key_of row) front) (has_key (key_of row) rest) both)
     (are_distinct-front front rest parts.1)
 
+-- and so have those behind them
 pub are_distinct-rest : (front rest : List (List Cell)) → are_distinct (front ++ rest) ≡ true → are_distinct rest ≡ true
 are_distinct-rest [] rest distinct = distinct
 are_distinct-rest (row ∷ front) rest distinct = are_distinct-rest front rest (and_parts (not (has_key (key_of row) (front ++ rest))) (are_distinct (front ++ rest)) distinct).1
@@ -48,6 +52,7 @@ found-where : (b : Bool) (row : List Cell) (rest : Option (List Cell)) (has : Bo
 found-where true row rest has is = refl
 found-where false row rest has is = is
 
+-- a row is found at a key exactly where one has it
 pub is_some-row_at : (key : ℤ) (rows : List (List Cell)) → is_some (row_at key rows) ≡ has_key key rows
 is_some-row_at key [] = refl
 is_some-row_at key (row ∷ rows) = found-where (int_eq (key_of row) key) row (row_at key rows) (has_key key rows) (is_some-row_at key rows)

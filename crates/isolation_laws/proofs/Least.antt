@@ -1,5 +1,5 @@
 -- The least key that inserts wrote.
-use Rattle.std.proofs.Common.{◌≡◌, ℕ, ℤ, Bool, true, false, cond, ◌||◌, ◌==◌, List, [], ◌∷◌, ◌++◌, Option, None, Some, Ordering, Less, Equal, Greater, All, Contains, ◌⊎◌, inl, inr, fold, map, find, int_lt, int_le, nat_cmp, int_cmp, int_eq, ◌≤ℤ◌, option_map, arith, eq-eqb, refl, ap, sym, ◌∙◌}
+use Rattle.std.proofs.Common.{◌≡◌, ℕ, ℤ, Bool, true, false, cond, ◌||◌, ◌==◌, List, [], ◌∷◌, ◌++◌, Option, Some, Ordering, Less, Equal, Greater, All, Contains, ◌⊎◌, inl, inr, fold, map, find, int_lt, int_le, nat_cmp, int_cmp, int_eq, ◌≤ℤ◌, option_map, arith, eq-eqb, refl, ap, sym, ◌∙◌}
 use Rattle.std.specs.BTreeMap.{insert_entry}
 use Rattle.std.specs.Cmp.{nat_cmp_total, int_eq_equiv, tied_itself}
 use Rattle.std.specs.Int.{int_min}
@@ -76,6 +76,7 @@ least_onto table own least (row ∷ rows) all is =
     (least_key-insert_entry table own (key_of row) (Some row) all
     ∙ ap (λ (found : Option ℤ). Some (option_map_or (λ (least : ℤ). int_min least (key_of row)) found (key_of row))) is)
 
+-- the least key that inserts wrote is the least of their rows
 pub least_key-writes_of : (table : ℕ) (rows : List (List Cell)) → least_key table (writes_of table rows) ≡ least_of rows
 least_key-writes_of table [] = refl
 least_key-writes_of table (row ∷ rows) =
@@ -83,17 +84,13 @@ least_key-writes_of table (row ∷ rows) =
     (All-keys-insert_entry place_cmp (place_of table row) (Some row) (IsOf table) [] (All-nil (IsOf table)) refl)
     (least_first table (place_of table row) (Some row) [] refl)
 
+-- with one more row it is the lesser of the least and its key
 pub least_of-push : (rows : List (List Cell)) (row : List Cell)
     → least_of (rows ++ row ∷ []) ≡ Some (option_map_or (λ least. int_min least (key_of row)) (least_of rows) (key_of row))
 least_of-push [] row = refl
 least_of-push (first ∷ rows) row =
     ap (λ (keys : List ℤ). Some (fold int_min (key_of first) keys)) (map-append key_of rows (row ∷ []))
     ∙ ap Some (fold-append int_min (key_of first) (map key_of rows) (key_of row ∷ []))
-
--- none exactly where there is no row
-pub least_of-None : (rows : List (List Cell)) → least_of rows ≡ None → rows ≡ []
-least_of-None [] none = refl
-least_of-None (row ∷ rows) none = cc
 
 has_key-from_any : (key : ℤ) (rows : List (List Cell)) → list_any (int_eq key) (map key_of rows) ≡ has_key key rows
 has_key-from_any key [] = refl

@@ -18,6 +18,7 @@ use Rattle.isolation_laws.specs.Inserts.{has_key, are_distinct, row_at, writes_o
 use Rattle.isolation_laws.proofs.Entries.{inserted, map_values, AreApart, HasNone, inserted-inserted, lookup-inserted, has_none-insert, none_in_none, insert_entry-map_values, All-keys-inserted, IsPermutation-insert_entry}
 use Rattle.isolation_laws.proofs.Keys.{are_distinct-front, are_distinct-rest, row_at-None}
 
+-- places are in a total order
 pub place_cmp-total : IsTotalOrder place_cmp
 place_cmp-total = then_total (on_total (λ (place : Place). place.table) nat_cmp_total) (on_total (λ (place : Place). place.key) int_cmp_total)
 
@@ -120,6 +121,7 @@ at_place-with_rows table rows key distinct =
     ∙ or_None (at_place (entries_of table rows) (place_at table key))
     ∙ lookup-entries_of table key rows
 
+-- at each key a transaction sees the row that has it, of the commits or its own
 pub at_place-seen : (table : ℕ) (groups : List (List (List Cell))) (own : List (List Cell)) (key : ℤ)
     → are_distinct (all_rows groups ++ own) ≡ true
     → at_place (laid_over (state_after table groups) (writes_of table own)) (place_at table key) ≡ row_at key (all_rows groups ++ own)
@@ -159,12 +161,14 @@ pub contents_of-with_rows : (table : ℕ) (rows : List (List Cell)) → are_dist
 contents_of-with_rows table rows distinct =
     contents-onto table [] rows (apart_from_distinct table rows distinct) (none_in_none place_cmp-total (entries_of table rows))
 
+-- the commits leave the rows of all groups, in another order
 pub contents_of-state_after : (table : ℕ) (groups : List (List (List Cell))) → are_distinct (all_rows groups) ≡ true
     → IsPermutation (all_rows groups) (contents_of table (state_after table groups))
 contents_of-state_after table groups distinct =
     subst (λ (now : State). IsPermutation (all_rows groups) (contents_of table now)) (sym (state_after-with_rows table groups distinct))
     (contents_of-with_rows table (all_rows groups) distinct)
 
+-- and as many as these are
 pub length-contents_of : (table : ℕ) (groups : List (List (List Cell))) → are_distinct (all_rows groups) ≡ true
     → length (contents_of table (state_after table groups)) ≡ length (all_rows groups)
 length-contents_of table groups distinct =
@@ -180,6 +184,7 @@ all_of_table : (table : ℕ) (rows : List (List Cell)) → All (IsOf table) (key
 all_of_table table [] = All-nil (IsOf table)
 all_of_table table (row ∷ rows) = All-cons (IsOf table) (place_of table row) (keys_of (entries_of table rows)) refl (all_of_table table rows)
 
+-- places of one table are so still with more of its rows
 pub All-with_rows : (table : ℕ) (before : State) (rows : List (List Cell)) → All (IsOf table) (keys_of before)
     → All (IsOf table) (keys_of (with_rows table before rows))
 All-with_rows table before rows all = All-keys-inserted place_cmp (IsOf table) before (entries_of table rows) all (all_of_table table rows)

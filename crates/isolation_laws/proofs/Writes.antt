@@ -1,15 +1,14 @@
 -- How write sets, histories and rows go on from row to row and from commit to commit.
-use Rattle.std.proofs.Common.{◌≡◌, ℕ, ℤ, true, List, [], ◌∷◌, ◌++◌, Option, Some, Ordering, Less, Equal, Greater, IsPermutation, fold, length, append-nil, refl, ap, sym, subst, ◌∙◌}
+use Rattle.std.proofs.Common.{◌≡◌, ℕ, List, [], ◌∷◌, ◌++◌, Option, Some, Ordering, Less, Equal, Greater, fold, length, append-nil, refl, ap, ◌∙◌}
 use Rattle.std.specs.BTreeMap.{insert_entry}
 use Rattle.std.specs.Ordering.{match_ordering}
 use Rattle.std.proofs.lemmas.List.{length-map, map-append}
 use Rattle.std.proofs.lemmas.List.Concat.{flat_map-append}
 use Rattle.std.proofs.lemmas.List.Sums.{fold-append}
 use Rattle.cell_model.specs.declared.cell.Cell.{Cell}
-use Rattle.isolation_spec.specs.Contents.{place_cmp, at_place, WriteSet, History, laid_over, state_at, contents_of, place_at, place_of}
+use Rattle.isolation_spec.specs.Contents.{place_cmp, WriteSet, History, state_at, place_of}
 use Rattle.isolation_spec.specs.declared.place.Place.{Place}
-use Rattle.isolation_laws.specs.Inserts.{are_distinct, row_at, writes_of, history_of, state_after, all_rows}
-use Rattle.isolation_laws.proofs.Rows.{at_place-seen, contents_of-state_after, length-contents_of}
+use Rattle.isolation_laws.specs.Inserts.{writes_of, history_of, state_after, all_rows}
 
 -- one more row is one more entry
 pub writes_of-push : (table : ℕ) (rows : List (List Cell)) (row : List Cell)
@@ -48,11 +47,13 @@ pub history_of-push : (table : ℕ) (groups : List (List (List Cell))) (group : 
     → history_of table (groups ++ group ∷ []) ≡ history_of table groups ++ writes_of table group ∷ []
 history_of-push table groups group = map-append (writes_of table) groups (group ∷ [])
 
+-- the rows of one more group stand behind those before
 pub all_rows-push : (groups : List (List (List Cell))) (group : List (List Cell)) → all_rows (groups ++ group ∷ []) ≡ all_rows groups ++ group
 all_rows-push groups group =
     flat_map-append (λ (rows : List (List Cell)). rows) groups (group ∷ [])
     ∙ ap (λ (rows : List (List Cell)). all_rows groups ++ rows) (append-nil group)
 
+-- there are as many commits as groups
 pub length-history_of : (table : ℕ) (groups : List (List (List Cell))) → length (history_of table groups) ≡ length groups
 length-history_of table groups = length-map groups (writes_of table)
 
@@ -62,27 +63,3 @@ pub state_at-history : (table : ℕ) (groups : List (List (List Cell))) (history
 state_at-history table groups history is =
     ap (λ (known : History). state_at known (length known)) is
     ∙ ap (state_at (history_of table groups)) (length-history_of table groups)
-
--- the laws at a history and a write set that are known to be of inserts
-pub at_place-history : (table : ℕ) (groups : List (List (List Cell))) (own : List (List Cell)) (history : History) (writes : WriteSet) (key : ℤ)
-    → history ≡ history_of table groups → writes ≡ writes_of table own → are_distinct (all_rows groups ++ own) ≡ true
-    → at_place (laid_over (state_at history (length history)) writes) (place_at table key) ≡ row_at key (all_rows groups ++ own)
-at_place-history table groups own history writes key is wrote distinct =
-    ap (λ (known : WriteSet). at_place (laid_over (state_at history (length history)) known) (place_at table key)) wrote
-    ∙ ap (λ (state : List (Place × List Cell)). at_place (laid_over state (writes_of table own)) (place_at table key)) (state_at-history table groups history is)
-    ∙ at_place-seen table groups own key distinct
-
-pub contents_of-history : (table : ℕ) (groups : List (List (List Cell))) (history : History)
-    → history ≡ history_of table groups → are_distinct (all_rows groups) ≡ true
-    → IsPermutation (all_rows groups) (contents_of table (state_at history (length history)))
-contents_of-history table groups history is distinct =
-    subst (λ (state : List (Place × List Cell)). IsPermutation (all_rows groups) (contents_of table state))
-    (sym (state_at-history table groups history is))
-    (contents_of-state_after table groups distinct)
-
-pub length-contents_of-history : (table : ℕ) (groups : List (List (List Cell))) (history : History)
-    → history ≡ history_of table groups → are_distinct (all_rows groups) ≡ true
-    → length (contents_of table (state_at history (length history))) ≡ length (all_rows groups)
-length-contents_of-history table groups history is distinct =
-    ap (λ (state : List (Place × List Cell)). length (contents_of table state)) (state_at-history table groups history is)
-    ∙ length-contents_of table groups distinct

@@ -16,6 +16,7 @@ use Rattle.key_index.specs.Candidates.{candidates_of}
 use Rattle.key_judge.specs.Slots.{HasSlot, HasSlots}
 use Rattle.sound_laws.proofs.Written.{filled_there}
 
+-- a key's shard is one of eight
 pub small_shard : (key : ℤ) → shard_of key < 8
 small_shard (pos n) = omega arith
 small_shard (negsuc n) = omega arith
@@ -23,6 +24,7 @@ small_shard (negsuc n) = omega arith
 module _ (sh : Shape) (e : CoreEvent) (hand : Held) (m : MayRun sh e hand) (own : OwnKey) (t : ℕ) (key : ℤ) (has : HasTable sh t) (owns : OwnsKey sh own t key m.parts)
     (shard : touches sh e hand (ShardOf t (shard_of key)) ≡ true)
     (bodies : (p : ℕ) → Among p (candidates_in sh hand t key) → touches sh e hand (BodyOf t (block_of p)) ≡ true) where
+  -- the key's shard is in the hand
   pub the_shard : Has sh hand (ShardOf t (shard_of key))
   the_shard = has_shard sh e hand m t (shard_of key) has (small_shard key) shard
 
@@ -37,6 +39,7 @@ module _ (sh : Shape) (e : CoreEvent) (hand : Held) (m : MayRun sh e hand) (own 
         slot = subst (λ o. slot_of p < length (body_from o).slots) (sym same) there.1;
       }
 
+  -- the slots of the key's candidates are in the hand
   pub the_slots : HasSlots sh hand t (candidates_in sh hand t key)
   the_slots p a = a_slot p a
 

@@ -47,6 +47,7 @@ stand whole at (x ∷ old) (y ∷ new) same from =
         ap (λ (c : Cell). record { column = at; cell = c } ∷ map (standing whole) (differences (at + 1) new old)) here
         ∙ ap (λ ds. record { column = at; cell = y } ∷ ds) rest
 
+-- the cells that an update changes fit their columns
 pub differences_fit : (columns : List Column) (old new : Row) → length old ≡ length new → Fits columns new → PatchFits columns (differences 0 old new)
 differences_fit columns old new same fit =
     subst (PatchFits columns) (stand new 0 old new same (λ j less. ap (λ k. get_or new k Null) (let e : 0 + j ≡ j = omega arith in e))) (image_fits columns new old fit)

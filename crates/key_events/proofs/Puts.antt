@@ -23,6 +23,7 @@ use Rattle.part_changes.specs.Laws.{AddedIsDropped}
 use Rattle.part_changes.specs.Shards.{without_place}
 use Rattle.slot_writes.specs.Writes.{TakesAt, TakesChange, of_body, of_head, of_shard}
 
+-- a hand has a place for each part still, after a change
 pub still_room : (sh : Shape) (c : Changes) (hand new : Held) → length hand ≡ length (names sh) → new ≡ after sh c hand → length new ≡ length (names sh)
 still_room sh c hand new room is = ap length is ∙ length-after c (names sh) hand ∙ room
 
@@ -67,10 +68,12 @@ was_there sh hand one t key place has there is =
     skip true x y e = refl
     skip false x y e = cc
 
+-- what is not, where its negation is
 pub not_true : (b : Bool) → true ≡ not b → b ≡ false
 not_true true e = cc
 not_true false e = refl
 
+-- what is, where its negation is not
 pub not_false : (b : Bool) → false ≡ not b → b ≡ true
 not_false true e = refl
 not_false false e = cc
@@ -121,6 +124,7 @@ slot_taken sh hand one two own t key p row none is back =
     ∙ after_twice sh (row_changes own.session t key p row) (of_head t (taken_by (slots_of sh t))) (put_changes sh own t key p row) hand
     (record { head = λ u x. ap (λ w. at_table t (cond (is_some w) (λ h. h) (taken_by (slots_of sh t))) u x) none; shard = λ u j x. refl; body = λ u b x. refl; desk = λ x. refl })
 
+-- where the session wrote the key before, a put leaves the slot that the head gives
 pub slot_kept : (sh : Shape) (hand one : Held) (own : OwnKey) (t : ℕ) (key : ℤ) (p : ℕ) (row : Row) → is_some own.written ≡ true → one ≡ after sh (row_changes own.session t key p row) hand
     → one ≡ after sh (put_changes sh own t key p row) hand
 slot_kept sh hand one own t key p row some is =
@@ -132,15 +136,18 @@ slot_kept sh hand one own t key p row some is =
     both true x = refl
     both false x = refl
 
+-- a shard that was in the hand is there still, when it has changed
 pub still_shard : (sh : Shape) (hand one : Held) (t i : ℕ) (g : Places → Places) → one ≡ after sh (of_shard t i g) hand → Has sh hand (ShardOf t i) → Has sh one (ShardOf t i)
 still_shard sh hand one t i g is has =
     let x = a_shard sh hand t i has in
     subst (IsOfKind (ShardOf t i)) (sym (ap (λ h. in_hand sh h (ShardOf t i)) is ∙ in_after sh (of_shard t i g) hand (ShardOf t i) ∙ ap (option_map (changed (of_shard t i g) (ShardOf t i))) x.1)) tt
 
+-- what holds where there is an answer is weakened
 pub on_ok : {A E : Type 0} (r : Result A E) (P Q : Type 0) → OnOk r P → (P → Q) → OnOk r Q
 on_ok (Ok a) P Q is then = then is
 on_ok (Err e) P Q is then = tt
 
+-- where nothing is tested to be there, there is nothing
 pub none_by : (o : Option ℕ) → is_some o ≡ false → o ≡ None
 none_by None e = refl
 none_by (Some x) e = cc

@@ -90,6 +90,7 @@ bare_both slot e = go slot.row slot.entries e
 
 module _ (sh : Shape) (s : Parts) (shape : IsShape sh) (ok : Sound sh s) (own : OwnKey) (t : ℕ) (row : Row) (lawful : IsLawful sh (event.Insert own t row) s) (p : ℕ)
     (goes : insert_judged sh s own t (key_of row) ≡ Ok p) where
+  -- nothing is against the insert, and this is the place that it takes
   abbrev pub fine : (option_or (fault_of (newer_by (slot_at sh s t) (places_at sh s t (key_of row)) own)) (cond (is_some (found sh s own t (key_of row))) (Some Exists) None) ≡ None)
       × (option_or own.written (next_place (head_at sh s t) (slots_of sh t)) ≡ Some p)
   fine = judged_ok
@@ -147,6 +148,7 @@ module _ (sh : Shape) (s : Parts) (shape : IsShape sh) (ok : Sound sh s) (own : 
         },
       )
 
+  -- the body at the place of an insert takes its row
   pub insert_takes : HasBlock sh t (block_of p) × TakesChange (body_at sh s t (block_of p)) (slot_of p) own.session (change.Put row)
   insert_takes = go own.written refl fine.1
     where
@@ -165,9 +167,11 @@ module _ (sh : Shape) (s : Parts) (ok : Sound sh s) (own : OwnKey) (t : ℕ) (ke
   rest = cond (is_none (found sh s own t key)) (Some Missing)
       (option_and_then (λ place. freezing_of (block_of place) (body_at sh s t (block_of place)).phase) (current_place (slot_at sh s t) (places_at sh s t key)))
 
+  -- the change goes to a slot with a row in a loose body
   pub changes : ChangesRow sh s ok t p
   changes = change_goes sh s ok own t key p thawed goes
 
+  -- the body at the place of an update or delete takes the change
   pub change_takes : (new : Change) → wants_row new ≡ true → ChangeFits (body_at sh s t (block_of p)).columns new → TakesChange (body_at sh s t (block_of p)) (slot_of p) own.session new
   change_takes new wants fits =
       let fine = judged_ok (option_or (fault_of (newer_by (slot_at sh s t) (places_at sh s t key) own)) rest) (current_place (slot_at sh s t) (places_at sh s t key)) Missing p goes in
@@ -187,6 +191,7 @@ module _ (sh : Shape) (s : Parts) (ok : Sound sh s) (own : OwnKey) (t : ℕ) (ke
       subst (λ columns. ChangeFits columns (change.Patch (differences 0 changes.row row))) (sym (ok.bodies t (block_of p) changes.spot.has).columns)
       (differences_fit (columns_of (columns_in sh t)) changes.row row (fits_length (columns_in sh t) changes.row old ∙ sym (fits_length (columns_in sh t) row fit)) (fits_unnamed (columns_in sh t) row fit))
 
+  -- the place of an update or delete is one of the key's candidates
   pub changed_place : Among p (places_at sh s t key)
   changed_place = current_among (slot_at sh s t) (places_at sh s t key) p
       (judged_ok (option_or (fault_of (newer_by (slot_at sh s t) (places_at sh s t key) own)) rest) (current_place (slot_at sh s t) (places_at sh s t key)) Missing p goes).1

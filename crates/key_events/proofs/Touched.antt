@@ -26,35 +26,43 @@ use Rattle.key_judge.specs.Slots.{HasSlot, HasSlots}
 use Rattle.event_spec.specs.Parts.{held_named}
 
 module _ (sh : Shape) (hand : Held) (own : OwnKey) (t : ℕ) (key : ℤ) (m : MayRun sh (event.Delete own t key) hand) where
+  -- of a delete the key's shard is in the hand
   pub delete_shard : Has sh hand (ShardOf t (shard_of key))
   delete_shard = the_shard sh (event.Delete own t key) hand m own t key m.lawful.1.0 m.lawful.0
       (shard_touched t key (option_to_list own.written ++ candidates_in sh hand t key)) (body_touched t key (option_to_list own.written) (candidates_in sh hand t key))
 
+  -- of a delete the slots of the key's candidates are in the hand
   pub delete_slots : HasSlots sh hand t (candidates_in sh hand t key)
   delete_slots = the_slots sh (event.Delete own t key) hand m own t key m.lawful.1.0 m.lawful.0
       (shard_touched t key (option_to_list own.written ++ candidates_in sh hand t key)) (body_touched t key (option_to_list own.written) (candidates_in sh hand t key))
 
+  -- of a delete the slot of the own write is in the hand, if there is one
   pub delete_own : IfSome own.written (HasSlot sh hand t)
   delete_own = own_slot sh (event.Delete own t key) hand m own t key m.lawful.1.0 m.lawful.0
       (shard_touched t key (option_to_list own.written ++ candidates_in sh hand t key)) (body_touched t key (option_to_list own.written) (candidates_in sh hand t key))
 
+  -- of a delete the core's candidates of the key are the hand's
   pub delete_same : (s : Parts) → Agrees hand s → places_at sh s t key ≡ candidates_in sh hand t key
   delete_same = candidates_are sh (event.Delete own t key) hand m own t key m.lawful.1.0 m.lawful.0
       (shard_touched t key (option_to_list own.written ++ candidates_in sh hand t key)) (body_touched t key (option_to_list own.written) (candidates_in sh hand t key))
 
 module _ (sh : Shape) (hand : Held) (own : OwnKey) (t : ℕ) (row : Row) (m : MayRun sh (event.Update own t row) hand) where
+  -- of an update the key's shard is in the hand
   pub update_shard : Has sh hand (ShardOf t (shard_of (key_of row)))
   update_shard = the_shard sh (event.Update own t row) hand m own t (key_of row) m.lawful.1.0 m.lawful.0
       (shard_touched t (key_of row) (option_to_list own.written ++ candidates_in sh hand t (key_of row))) (body_touched t (key_of row) (option_to_list own.written) (candidates_in sh hand t (key_of row)))
 
+  -- of an update the slots of the key's candidates are in the hand
   pub update_slots : HasSlots sh hand t (candidates_in sh hand t (key_of row))
   update_slots = the_slots sh (event.Update own t row) hand m own t (key_of row) m.lawful.1.0 m.lawful.0
       (shard_touched t (key_of row) (option_to_list own.written ++ candidates_in sh hand t (key_of row))) (body_touched t (key_of row) (option_to_list own.written) (candidates_in sh hand t (key_of row)))
 
+  -- of an update the slot of the own write is in the hand, if there is one
   pub update_own : IfSome own.written (HasSlot sh hand t)
   update_own = own_slot sh (event.Update own t row) hand m own t (key_of row) m.lawful.1.0 m.lawful.0
       (shard_touched t (key_of row) (option_to_list own.written ++ candidates_in sh hand t (key_of row))) (body_touched t (key_of row) (option_to_list own.written) (candidates_in sh hand t (key_of row)))
 
+  -- of an update the core's candidates of the key are the hand's
   pub update_same : (s : Parts) → Agrees hand s → places_at sh s t (key_of row) ≡ candidates_in sh hand t (key_of row)
   update_same = candidates_are sh (event.Update own t row) hand m own t (key_of row) m.lawful.1.0 m.lawful.0
       (shard_touched t (key_of row) (option_to_list own.written ++ candidates_in sh hand t (key_of row))) (body_touched t (key_of row) (option_to_list own.written) (candidates_in sh hand t (key_of row)))
@@ -63,22 +71,27 @@ module _ (sh : Shape) (hand : Held) (own : OwnKey) (t : ℕ) (row : Row) (m : Ma
   abbrev taken : Option ℕ
   taken = option_or own.written (held_next sh (held_named (names sh) hand) t)
 
+  -- of an insert the key's shard is in the hand
   pub insert_shard : Has sh hand (ShardOf t (shard_of (key_of row)))
   insert_shard = the_shard sh (event.Insert own t row) hand m own t (key_of row) m.lawful.1.0 m.lawful.0
       (shard_touched t (key_of row) (option_to_list taken ++ candidates_in sh hand t (key_of row))) (body_touched t (key_of row) (option_to_list taken) (candidates_in sh hand t (key_of row)))
 
+  -- of an insert the slots of the key's candidates are in the hand
   pub insert_slots : HasSlots sh hand t (candidates_in sh hand t (key_of row))
   insert_slots = the_slots sh (event.Insert own t row) hand m own t (key_of row) m.lawful.1.0 m.lawful.0
       (shard_touched t (key_of row) (option_to_list taken ++ candidates_in sh hand t (key_of row))) (body_touched t (key_of row) (option_to_list taken) (candidates_in sh hand t (key_of row)))
 
+  -- of an insert the slot of the own write is in the hand, if there is one
   pub insert_own : IfSome own.written (HasSlot sh hand t)
   insert_own = own_slot sh (event.Insert own t row) hand m own t (key_of row) m.lawful.1.0 m.lawful.0
       (shard_touched t (key_of row) (option_to_list taken ++ candidates_in sh hand t (key_of row))) (body_touched t (key_of row) (option_to_list taken) (candidates_in sh hand t (key_of row)))
 
+  -- of an insert the core's candidates of the key are the hand's
   pub insert_same : (s : Parts) → Agrees hand s → places_at sh s t (key_of row) ≡ candidates_in sh hand t (key_of row)
   insert_same = candidates_are sh (event.Insert own t row) hand m own t (key_of row) m.lawful.1.0 m.lawful.0
       (shard_touched t (key_of row) (option_to_list taken ++ candidates_in sh hand t (key_of row))) (body_touched t (key_of row) (option_to_list taken) (candidates_in sh hand t (key_of row)))
 
+  -- of an insert the table's head is in the hand
   pub insert_head : Has sh hand (HeadOf t)
   insert_head = has_head sh (event.Insert own t row) hand m t m.lawful.1.0 (or_left (t == t) false (num_refl t))
 

@@ -80,6 +80,7 @@ pub with_candidates-some : (index : Places) (key : ℤ) (places : List ℕ) → 
 with_candidates-some index key [] some = absurd (some refl)
 with_candidates-some index key (p ∷ places) some = refl
 
+-- what holds anyway holds where there is a fault
 pub OnErr-from : {X E : Type 0} (P : Type 0) (r : Result X E) → P → OnErr r P
 OnErr-from P (Ok x) holds = tt
 OnErr-from P (Err e) holds = holds

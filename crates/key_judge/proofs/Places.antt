@@ -29,11 +29,13 @@ pub slot_told : (sh : Shape) (hand : Held) (s : Parts) (t p b j : ℕ) (x : Body
 slot_told sh hand s t p b j x agrees block slot is =
     ap (λ (y : Body). slot_in y (slot_of p)) (body_is sh hand s agrees t (block_of p) x (ap (λ n. in_hand sh hand (BodyOf t n)) (sym block) ∙ is)) ∙ ap (slot_in x) (sym slot)
 
+-- the row at a place among the rows of slots is that slot's
 pub row_at : (slots : List Slot) (j : ℕ) → get_or (map (λ slot. slot.row) slots) j None ≡ (get_or slots j bare).row
 row_at [] j = refl
 row_at (x ∷ slots) zero = refl
 row_at (x ∷ slots) (suc j) = row_at slots j
 
+-- what tells whether there is a row is that test
 pub as_told : (b : Bool) (o : Option Row) → IsTrue b ↔ IsSome o → b ≡ is_some o
 as_told true None told = absurd (none_some (told.0 refl))
   where
@@ -48,17 +50,20 @@ as_told false (Some x) told = absurd (none_some (told.1 refl))
 
 -- ---- going over places
 
+-- the next of some places is one of them
 pub next_among : (places : List ℕ) (i : ℕ) (p : ℕ) → i < length places → p ≡ get_or places i p → Among p places
 next_among [] i p less is = absurd (omega (arith, less))
 next_among (q ∷ places) zero p less is = inl is
 next_among (q ∷ places) (suc i) p less is = inr (next_among places i p (omega (arith, less)) is)
 
+-- the places from the next on are it and those behind it
 pub drop_next : (places : List ℕ) (i : ℕ) (p : ℕ) → i < length places → p ≡ get_or places i p → drop i places ≡ p ∷ drop (i + 1) places
 drop_next [] i p less is = absurd (omega (arith, less))
 drop_next (q ∷ places) zero p less is = ap (λ x. x ∷ places) (sym is)
 drop_next (q ∷ places) (suc i) p less is =
     drop_next places i p (omega (arith, less)) is ∙ ap (λ k. p ∷ drop k (q ∷ places)) (let e : suc (i + 1) ≡ suc i + 1 = omega arith in e)
 
+-- at the end none is left
 pub drop_end : (places : List ℕ) (i : ℕ) → length places ≤ i → drop i places ≡ []
 drop_end [] zero le = refl
 drop_end [] (suc i) le = refl
@@ -85,10 +90,12 @@ passed {X} answer places i p next so none =
     no_answer None e = refl
     no_answer (Some x) e = cc
 
+-- what follows of a value, where a result is one
 pub ok_more : {A E : Type 0} (r : Result A E) (P Q : A → Type 0) → IfOk r P → ((a : A) → P a → Q a) → IfOk r Q
 ok_more (Ok a) P Q is then = then a is
 ok_more (Err e) P Q is then = tt
 
+-- what is met at no further slot is what was met
 pub combined_nothing : (n : Newer) → combined n newer.Nothing ≡ n
 combined_nothing newer.Nothing = refl
 combined_nothing (newer.Session w) = refl

@@ -14,6 +14,7 @@ use Rattle.mainline.specs.Words.{Asked, ToRun, ToShow, ToCheck, asked_by, asked_
 pub mainline_is_free : is_simple_and_free mainline_app ≡ true
 mainline_is_free = refl
 
+-- the app is a simple one
 pub mainline_is_simple : is_simple mainline_app ≡ true
 mainline_is_simple = refl
 
@@ -53,6 +54,7 @@ met (Some b) name rows named has =
     let rows_are : rows ≡ rows_of (found_of (out-SubCommand (box_value b)).matches) = cc in
     ap₂ (λ (n : Text) (r : List Row). Some (n, r)) (sym name_is) (sym rows_are)
 
+-- a subcommand that is met with its name and its rows is the one that the words name
 pub subcommand_met : (matches : ArgMatches) (name : Text) (rows : List Row)
     → Some name ≡ subcommand_name_of matches → Some rows ≡ option_map (λ p. p.1) (subcommand_rows (out-ArgMatches matches).subcommand)
     → subcommand_rows_of matches ≡ Some (name, rows)

@@ -19,6 +19,7 @@ is_text : (script : Script) (old output : List ℕ) (sent sent_now : Option (Lis
     → (goes : GoesWhole (WentBy script sent sent_now) script (Some old) (Some output)) → output ≡ goes.text
 is_text script old output sent sent_now none goes = goes.printed ∙ ap (λ (bytes : List ℕ). bytes ++ goes.text) none
 
+-- A generated workload that went whole ran with the counts that are told of its output.
 pub ran_generated : (seed size : ℕ) (script other : Script) (old output : List ℕ) (sent sent_now : Option (List ℕ)) (told : Option Counts)
     → size ≤ most_size → script ≡ generated seed size → other ≡ generated seed size → old ≡ []
     → GoesWhole (WentBy script sent sent_now) script (Some old) (Some output) → IsTold other output told → IfSome told (λ counts. RanGenerated seed size counts)

@@ -65,6 +65,7 @@ checked_valid bytes found is = go (place_of_parting (parts line_feed bytes)) is
         let same : script ≡ found.0 = cc in
         ap is_valid (sym same) ∙ (read_is_text whole front.bytes script refl (ap (script_in whole) front.are ∙ read)).1.valid)
 
+-- what is checked, where it is read, has a workload that is valid
 pub valid_checked : {X : Type 0} (view : X → Script × List ℕ) (bytes : List ℕ) (read : Result X ScriptFault) → LineGives view read (checked_of bytes) → IfOk read (λ x. is_valid (view x).0 ≡ true)
 valid_checked view bytes (Ok found) gives = checked_valid bytes (view found) gives
 valid_checked view bytes (Err bad) gives = tt

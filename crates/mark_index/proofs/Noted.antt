@@ -16,6 +16,7 @@ use Rattle.mark_index.specs.Marks.{highest, part, count_below, AreCounted, last_
 
 -- ---- tests that all pass
 
+-- what passes a test passes one that it implies
 pub all-weaker : {X : Type 0} (p q : X → Bool) → ((x : X) → p x ≡ true → q x ≡ true) → (xs : List X) → list_all p xs ≡ true → list_all q xs ≡ true
 all-weaker p q so [] h = refl
 all-weaker p q so (x ∷ xs) h =
@@ -36,6 +37,7 @@ filter-all p (x ∷ xs) h =
     let parts = and_parts (p x) (list_all p xs) h in
     rw parts.0 (ap (λ (ys : List _). x ∷ ys) (filter-all p xs parts.1))
 
+-- where all pass all are counted
 pub count-all : {X : Type 0} (p : X → Bool) (xs : List X) → list_all p xs ≡ true → count_by p xs ≡ length xs
 count-all p [] h = refl
 count-all p (x ∷ xs) h =
@@ -43,6 +45,7 @@ count-all p (x ∷ xs) h =
     let rest = count-all p xs parts.1 in
     sum_by-cons (λ y. cond (p y) 1 0) x xs ∙ rw parts.0 (omega (arith, rest))
 
+-- how many pass with one element more
 pub count-push : {X : Type 0} (p : X → Bool) (xs : List X) (x : X) → count_by p (xs ++ x ∷ []) ≡ count_by p xs + cond (p x) 1 0
 count-push p xs x =
     let whole = sum_by-append (λ y. cond (p y) 1 0) xs (x ∷ []) in
@@ -68,9 +71,11 @@ up-to-next place n h = by (cases_lt n place)
 -- ---- an element more
 
 module _ {X : Type 0} (xs front : List X) (x : X) (rest : List X) (n : ℕ) (whole : xs ≡ front ++ x ∷ rest) (far : length front ≡ n) where
+  -- the elements up to the next are those in front of it
   pub take-front : take n xs ≡ front
   take-front = ap (take n) whole ∙ take_at front (x ∷ rest) n far
 
+  -- and with the next one they are one more
   pub take-next : take (n + 1) xs ≡ take n xs ++ x ∷ []
   take-next =
       let long : length (front ++ x ∷ []) ≡ n + 1 = length-append front (x ∷ []) ∙ ap (λ (k : ℕ). k + 1) far in
@@ -94,6 +99,7 @@ module _ {X : Type 0} (xs front : List X) (x : X) (rest : List X) (n : ℕ) (who
         let next : count_by test (take (n + 1) xs) ≡ length places = count-next ∙ ap (λ (b : Bool). count_by test (take n xs) + cond b 1 0) fails ∙ (let s = same-count in omega (arith, s)) in
         rw at (all-counted (n + 1) (omega arith) ∙ sym next)
 
+    -- an element that fails leaves the places as they are
     pub counted-no : test x ≡ false → AreCounted test xs (n + 1) places
     counted-no fails = record {
       rise = counted.rise;
@@ -116,6 +122,7 @@ module _ {X : Type 0} (xs front : List X) (x : X) (rest : List X) (n : ℕ) (who
         let next : count_by test (take (n + 1) xs) ≡ length places + 1 = count-next ∙ ap (λ (b : Bool). count_by test (take n xs) + cond b 1 0) passes ∙ ap (λ (k : ℕ). k + 1) same-count in
         rw at (pushed ∙ sym next)
 
+    -- one that passes puts its place behind the others
     pub counted-yes : test x ≡ true → AreCounted test xs (n + 1) (places ++ n ∷ [])
     counted-yes passes = record {
       rise = rises-push (λ p. p) places n counted.rise counted.within;
@@ -125,10 +132,12 @@ module _ {X : Type 0} (xs front : List X) (x : X) (rest : List X) (n : ℕ) (who
 
 -- ---- the highest
 
+-- the highest value with one element more
 pub highest-push : {X : Type 0} (value : X → ℕ) (xs : List X) (x : X) → highest value (xs ++ x ∷ []) ≡ max (highest value xs) (value x)
 highest-push value [] x = omega arith
 highest-push value (y ∷ xs) x = let rest = highest-push value xs x in omega (arith, rest)
 
+-- the highest value of two lists in a row
 pub highest-append : {X : Type 0} (value : X → ℕ) (xs ys : List X) → highest value (xs ++ ys) ≡ max (highest value xs) (highest value ys)
 highest-append value [] ys = omega arith
 highest-append value (x ∷ xs) ys = let rest = highest-append value xs ys in omega (arith, rest)
@@ -202,6 +211,7 @@ module _ {X : Type 0} (value : X → ℕ) (starts : ℕ → ℕ) (xs front : Lis
   missed-own none place inside (inl low) = noted.own place low inside
   missed-own none place inside (inr at) = subst (λ (k : ℕ). own_below (starts k) k peaks ≡ highest value (part (starts k) k xs)) (sym at) (missed-own-at none (omega (arith, inside, at)) (begins.go_on n (omega (arith, inside, at))))
 
+  -- an element whose value is 0 leaves the peaks as they are
   pub peaks-missed : value x ≡ 0 → ArePeaks value starts xs (n + 1) peaks
   peaks-missed none = record {
     rise = noted.rise;
@@ -247,6 +257,7 @@ module _ {X : Type 0} (value : X → ℕ) (starts : ℕ → ℕ) (xs front : Lis
   pushed-own place inside (inl low) = ap (λ (o : Option Peak). option_map_or (λ peak. if nat_lt peak.place (starts place) then 0 else peak.own) o 0) (pushed-old place low) ∙ noted.own place low inside
   pushed-own place inside (inr at) = subst (λ (k : ℕ). own_below (starts k) k (peaks ++ mark ∷ []) ≡ highest value (part (starts k) k xs)) (sym at) (pushed-own-at (omega (arith, inside, at)) (begins.go_on n (omega (arith, inside, at))))
 
+  -- the next element's peak, put behind the others, tells of it too
   pub peaks-pushed : ArePeaks value starts xs (n + 1) (peaks ++ mark ∷ [])
   peaks-pushed = record {
     rise = rises-push (λ (p : Peak). p.place) peaks mark noted.rise noted.within;
@@ -257,6 +268,7 @@ module _ {X : Type 0} (value : X → ℕ) (starts : ℕ → ℕ) (xs front : Lis
 
 -- ---- at the start
 
+-- before the first element no place is counted
 pub counted-nil : {X : Type 0} (test : X → Bool) (xs : List X) → AreCounted test xs 0 []
 counted-nil test xs = record {
   rise = λ i j d h k. absurd (omega (arith, k));
@@ -264,6 +276,7 @@ counted-nil test xs = record {
   count = λ place h. let e : place ≡ 0 = omega (arith, h) in rw e refl;
 }
 
+-- and there is no peak
 pub peaks-nil : {X : Type 0} (value : X → ℕ) (starts : ℕ → ℕ) (xs : List X) → AreStarts xs starts → ArePeaks value starts xs 0 []
 peaks-nil value starts xs begins = record {
   rise = λ i j d h k. absurd (omega (arith, k));
@@ -277,6 +290,7 @@ peaks-nil value starts xs begins = record {
 
 -- ---- an element more, by a test
 
+-- the places follow the next element, be it one that passes or not
 pub counted-next : {X : Type 0} (test : X → Bool) (xs front : List X) (x : X) (rest : List X) (n : ℕ) → xs ≡ front ++ x ∷ rest → length front ≡ n
     → (old new : List ℕ) → AreCounted test xs n old → (passes : Bool) → test x ≡ passes → new ≡ (if passes then old ++ n ∷ [] else old) → AreCounted test xs (n + 1) new
 counted-next test xs front x rest n whole far old new counted true is now =
@@ -284,6 +298,7 @@ counted-next test xs front x rest n whole far old new counted true is now =
 counted-next test xs front x rest n whole far old new counted false is now =
     subst (AreCounted test xs (n + 1)) (sym now) (counted-no xs front x rest n whole far test old counted is)
 
+-- so do the peaks, where an element without one has the value 0
 pub peaks-next : {X : Type 0} (value : X → ℕ) (starts : ℕ → ℕ) (xs front : List X) (x : X) (rest : List X) (n : ℕ) → xs ≡ front ++ x ∷ rest → length front ≡ n
     → AreStarts xs starts → (old new : List Peak) → ArePeaks value starts xs n old
     → (passes : Bool) → (passes ≡ false → value x ≡ 0) → new ≡ (if passes then old ++ next_peak old n (starts n) (value x) ∷ [] else old) → ArePeaks value starts xs (n + 1) new
@@ -326,6 +341,7 @@ module _ {X : Type 0} (value : X → ℕ) (xs front : List X) (x : X) (rest : Li
       let same = ap (λ (o : Option Sum). option_map_or (λ sum. sum.total) o 0) same-sum in
       subst (λ (k : ℕ). total_below k sums ≤ k * 2 ^ 64) (sym at) (omega (arith, small, same))
 
+  -- an element whose value is 0 leaves the sums as they are
   pub sums-missed : value x ≡ 0 → AreSums value xs (n + 1) sums
   sums-missed none = record {
     rise = summed.rise;
@@ -367,6 +383,7 @@ module _ {X : Type 0} (value : X → ℕ) (xs front : List X) (x : X) (rest : Li
       let new = new-total in
       subst (λ (k : ℕ). total_below k (sums ++ sum_mark ∷ []) ≤ k * 2 ^ 64) (sym at) (omega (arith, small, new, fits))
 
+  -- the next element's sum, put behind the others, tells of it too
   pub sums-pushed : value x < 2 ^ 64 → AreSums value xs (n + 1) (sums ++ sum_mark ∷ [])
   sums-pushed fits = record {
     rise = rises-push (λ (s : Sum). s.place) sums sum_mark summed.rise summed.within;
@@ -375,6 +392,7 @@ module _ {X : Type 0} (value : X → ℕ) (xs front : List X) (x : X) (rest : Li
     small = λ place h. small-pushed fits place (up-to-next place n h);
   }
 
+-- the sums follow the next element, where one without a sum has the value 0
 pub sums-next : {X : Type 0} (value : X → ℕ) (xs front : List X) (x : X) (rest : List X) (n : ℕ) → xs ≡ front ++ x ∷ rest → length front ≡ n
     → (old new : List Sum) → AreSums value xs n old → value x < 2 ^ 64
     → (passes : Bool) → (passes ≡ false → value x ≡ 0) → new ≡ (if passes then old ++ next_sum old n (value x) ∷ [] else old) → AreSums value xs (n + 1) new
@@ -382,11 +400,3 @@ sums-next value xs front x rest n whole far old new summed fits true none now =
     subst (AreSums value xs (n + 1)) (sym now) (sums-pushed value xs front x rest n whole far old summed fits)
 sums-next value xs front x rest n whole far old new summed fits false none now =
     subst (AreSums value xs (n + 1)) (sym now) (sums-missed value xs front x rest n whole far old summed (none refl))
-
-pub sums-nil : {X : Type 0} (value : X → ℕ) (xs : List X) → AreSums value xs 0 []
-sums-nil value xs = record {
-  rise = λ i j d h k. absurd (omega (arith, k));
-  within = refl;
-  total = λ place h. let e : place ≡ 0 = omega (arith, h) in rw e refl;
-  small = λ place h. omega arith;
-}

@@ -27,6 +27,7 @@ passed-front p [] zero within point = refl
 passed-front p [] (suc i) within point = absurd (omega (arith, within))
 passed-front p (x ∷ xs) i within point = filter-take p (x ∷ xs) i x within (λ k below. point.0 k x (omega arith) below) (λ k from below. point.1 k x from below)
 
+-- as many pass as stand in front of the partition point
 pub passed-count : {X : Type 0} (p : X → Bool) (xs : List X) (i : ℕ) → i ≤ length xs → IsPartitionPoint (λ x. p x ≡ true) (λ x. p x ≡ false) xs i → i ≡ count_by p xs
 passed-count p xs i within point = sym (length-take-le i xs within) ∙ ap length (sym (passed-front p xs i within point)) ∙ length-filter p xs
 

@@ -33,6 +33,7 @@ module _ {K M : Type 0} (cmp : K → K → Ordering) (total : IsTotalOrder cmp) 
   same : is_eq (cmp key other) ≡ true → get cmp before key ≡ get cmp before other
   same h = same-lookup (is_at (cmp key)) (is_at (cmp other)) (λ x. ap is_eq (total.congr key other x (equal (cmp key other) h))) before.entries
 
+  -- a mark behind those of one key stands behind its own and leaves those of the others
   pub pushed : (mark : M) → list.items ≡ marks_of (get cmp before key) ++ mark ∷ [] → marks_of (get cmp now other) ≡ with_mark (is_eq (cmp key other)) mark (marks_of (get cmp before other))
   pushed mark is = ap marks_of put ∙ by (is_eq (cmp key other)) refl
     where

@@ -14,6 +14,7 @@ use Rattle.ran_laws.proofs.Dues.{calls_answer}
 use Rattle.ran_laws.specs.Dues.{dues_answered}
 use Rattle.moment_laws.specs.Moments.{all_printed, due_of, lined, printed_by, printed_in, shares_lined, with_reply}
 
+-- what is put in front goes before what follows too
 pub cons_append : {X : Type 0} (o : Option X) (xs ys : List X) → cons_option o xs ++ ys ≡ cons_option o (xs ++ ys)
 cons_append None xs ys = refl
 cons_append (Some x) xs ys = refl
@@ -41,9 +42,11 @@ calls_printed tables earlier number who (call ∷ calls) dues rest =
     ∙ ap (λ es. cons_option here (more ++ printed_from tables es dues rest)) (sym (with_cons earlier here more))
     ∙ sym (cons_append here more (printed_from tables (earlier ++ cons_option here more) dues rest))
 
+-- what is due for the calls of a share
 abbrev pub share_dues : ℕ → Share → List Due
 share_dues number share = map (due_of number share.who) share.calls
 
+-- what they told
 abbrev pub share_told : Share → List (Option Said)
 share_told share = map (λ (call : Call). call.told) share.calls
 

@@ -167,6 +167,7 @@ have_rounds script front earlier number (round ∷ rounds) (lines ∷ asked) e w
           (Each-weaker (λ entry. entry.reply.round ≡ number) (λ entry. number ≤ entry.reply.round) (λ entry is. omega (arith, is)) (replies_at here) own) up);
     }
 
+-- A run's moments have its events in order, and the printed replies of each session and worker.
 pub runs_have_moments : RunsHaveMoments
 runs_have_moments script log text ran =
     let all = have_rounds script [] [] 1 ran.rounds script.rounds ran.asked (λ lines a. a) ran.done in

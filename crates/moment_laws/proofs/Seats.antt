@@ -23,17 +23,21 @@ use Rattle.moment_laws.specs.Laws.{IsAsked, IsPrinted, commands_at}
 use Rattle.moment_laws.specs.Moments.{due_of, lined, pending_at, pending_of, printed_by, printed_in, seats_of, shares_lined, who_at, with_reply}
 use Rattle.moment_laws.proofs.Standing.{Awaits, Waits}
 
+-- the number is the seat of a session or a worker of the script
 abbrev pub Seat : Script → ℕ → Type 0
 Seat script seat = (1 ≤ seat) × (seat ≤ script.sessions + script.workers)
 
 -- ---- who stands at a seat
 
+-- the first seats are those of the sessions
 pub session_at : (script : Script) (q : ℕ) → q ≤ script.sessions → who_at script q ≡ Session q
 session_at script q low = ap (λ b. cond b (Session q) (Worker (q - script.sessions))) (let e : nat_le q script.sessions ≡ true = grind (arith, nat_tests, low) in e)
 
+-- and the others those of the workers
 pub worker_at : (script : Script) (q : ℕ) → script.sessions < q → who_at script q ≡ Worker (q - script.sessions)
 worker_at script q high = ap (λ b. cond b (Session q) (Worker (q - script.sessions))) (let e : nat_le q script.sessions ≡ false = grind (arith, nat_tests, high) in e)
 
+-- a seat is one of these or of those
 pub either : (script : Script) (q : ℕ) → (q ≤ script.sessions) ⊎ (script.sessions < q)
 either script q = go (nat_le q script.sessions) refl
   where
@@ -49,6 +53,7 @@ stands_at script q = go (either script q)
     go (inl low) = ap (session_of script) (session_at script q low)
     go (inr high) = ap (session_of script) (worker_at script q high) ∙ omega (arith, high)
 
+-- two seats of one session or worker are one
 pub same_seat : (script : Script) (q r : ℕ) → is_same (who_at script q) (who_at script r) ≡ true → q ≡ r
 same_seat script q r e =
     sym (stands_at script q)
@@ -57,6 +62,7 @@ same_seat script q r e =
 
 -- ---- the shares stand in the order of the seats
 
+-- the shares are those of the seats from a number on, with what each is asked
 abbrev pub Aligned : Script → List Line → ℕ → ℕ → List Share → Type 0
 Aligned script lines a zero [] = Unit {0}
 Aligned script lines a zero (share ∷ shares) = ⊥
@@ -119,6 +125,7 @@ module _ (script : Script) (lines : List Line) where
             (tails (agenda_of share) (session_agenda a) (map agenda_of shares) (map session_agenda (range_with_len (a + 1) n) ++ rest) e),
       )
 
+  -- a round's shares are those of all seats
   pub aligned : (shares : List Share) → map agenda_of shares ≡ agendas_in script lines
       → Aligned script lines 1 (script.sessions + script.workers) shares
   aligned shares e = sessions_aligned 1 script.sessions shares (map worker_agenda (range_with_len 1 script.workers)) script.workers
@@ -234,6 +241,7 @@ lined_await script q number earlier began (call ∷ calls) are asked = (
 
 module _ (script : Script) (lines : List Line) (there : Among lines script.rounds) (number : ℕ) (front : List Occurrence) (earlier : List Entry) (round : RoundRun) (is : IsRound script front round)
     (al : Aligned script lines 1 (script.sessions + script.workers) round.shares) where
+  -- the calls of the round at a seat
   abbrev pub calls_at : ℕ → List Pending
   calls_at = pending_at (seats_of script) (shares_lined script.tables earlier number round.shares)
 
@@ -260,6 +268,7 @@ module _ (script : Script) (lines : List Line) (there : Among lines script.round
       ne low high (inl less) e = absurd (let never : ⊥ = omega (arith, low, less, e) in never)
       ne low high (inr more) e = absurd (let never : ⊥ = omega (arith, high, more, e) in never)
 
+  -- the events of the round are parted into those of the calls at each seat
   pub parted : AreParted round.made calls_at
   parted q = go (seat_or q)
     where
@@ -274,6 +283,7 @@ module _ (script : Script) (lines : List Line) (there : Among lines script.round
           nobody q out round.made is.nobody_else
           ∙ ap events_to_come (sym (none_at 1 (script.sessions + script.workers) (shares_lined script.tables earlier number round.shares) q out))
 
+  -- at each seat its calls of the round wait behind what its session or worker made before
   pub waits : (q : ℕ) → Waits script q front (calls_at q)
   waits q = go (seat_or q)
     where
@@ -301,6 +311,7 @@ module _ (script : Script) (lines : List Line) (there : Among lines script.round
             (sym (none_at 1 (script.sessions + script.workers) (shares_lined script.tables earlier number round.shares) q out)) tt;
       }
 
+  -- each of the script's seats is one
   pub all_seats_are : All (Seat script) (seats_of script)
   all_seats_are = go 1 (script.sessions + script.workers) (omega arith) (omega arith)
     where

@@ -34,11 +34,13 @@ pub record Waits (script : Script) (seat : ℕ) (front : List Occurrence) (calls
 abbrev IsSeat : Script → ℕ → Type 0
 IsSeat script seat = (1 ≤ seat) × (seat ≤ script.sessions + script.workers)
 
+-- an event of a session is the last of its own
 pub own_last : (front : List Occurrence) (made : Occurrence) → under made.session (front ++ made ∷ []) ≡ under made.session front ++ made ∷ []
 own_last front made =
     filter-append (λ (o : Occurrence). o.session == made.session) front (made ∷ [])
     ∙ ap (λ b. under made.session front ++ cond b (made ∷ []) []) (test_same made.session)
 
+-- it leaves those of another
 pub other_last : (seat : ℕ) (front : List Occurrence) (made : Occurrence) → made.session ≢ seat → under seat (front ++ made ∷ []) ≡ under seat front
 other_last seat front made ne =
     filter-append (λ (o : Occurrence). o.session == seat) front (made ∷ [])
@@ -219,6 +221,7 @@ left_over script front seat is (call ∷ calls) waits none =
 
 -- ---- appended moments
 
+-- moments behind moments are moments
 pub with_events : (script : Script) (front : List Occurrence) (xs ys : List Moment) → AreMoments script front xs
     → AreMoments script (front ++ events_at xs) ys → AreMoments script front (xs ++ ys)
 with_events script front [] ys are more = subst (λ f. AreMoments script f ys) (append-nil front) more

@@ -94,6 +94,7 @@ thread_of_seat script front q (m ∷ ms) are =
 abbrev pub IsStranger : Script → Who → Type 0
 IsStranger script who = (q : ℕ) → Seat script q → is_same (who_at script q) who ≡ false
 
+-- one who is not of the script has no reply
 pub thread_of_stranger : (script : Script) (front : List Occurrence) (who : Who) (moments : List Moment) → IsStranger script who → AreMoments script front moments
     → thread who (replies_at moments) ≡ []
 thread_of_stranger script front who [] out are = refl
@@ -104,6 +105,7 @@ thread_of_stranger script front who (m ∷ ms) out are =
     (reply_is script front m.session m.event m.line are.0.stands))
     ∙ thread_of_stranger script (with_event front m.event) who ms out are.1
 
+-- each session or worker stands at a seat, or is not of the script
 pub of_script : (script : Script) (who : Who) → ((q : ℕ) × Seat script q × (who ≡ who_at script q)) ⊎ IsStranger script who
 of_script script who = go (nat_le 1 q && nat_le q n && is_same (who_at script q) who) refl
   where
@@ -236,6 +238,7 @@ module _ (script : Script) (asked_lines : List Rattle.workload_spec.specs.declar
       go None xs each = each
       go (Some said) xs each = (refl, each)
 
+  -- each printed reply of a round has its number
   pub shares_in : (tables : List TableDecl) (earlier : List Entry) (shares : List Share) → Each IsIn (all_printed (shares_lined tables earlier number shares))
   shares_in tables earlier [] = tt
   shares_in tables earlier (share ∷ shares) = Each-append IsIn (printed_in (lined tables earlier number share.who share.calls))
@@ -243,6 +246,7 @@ module _ (script : Script) (asked_lines : List Rattle.workload_spec.specs.declar
       (lined_in tables earlier share.who share.calls)
       (shares_in tables (earlier ++ printed_in (lined tables earlier number share.who share.calls)) shares)
 
+-- a number within a range stands in it once
 pub once : (a n q : ℕ) → a ≤ q → q < a + n → filter (λ other. other == q) (range_with_len a n) ≡ q ∷ []
 once a zero q low high = absurd (let never : ⊥ = omega (arith, low, high) in never)
 once a (suc n) q low high = go (a == q) refl (λ ne. once (a + 1) n q ne (omega (arith, high)))
@@ -267,6 +271,7 @@ once a (suc n) q low high = go (a == q) refl (λ ne. once (a + 1) n q ne (omega 
 
 -- ---- order
 
+-- the rounds of the replies never fall
 abbrev pub Rises : List Entry → Type 0
 Rises [] = Unit {0}
 Rises (entry ∷ rest) = Each (λ later. entry.reply.round ≤ later.reply.round) rest × Rises rest
@@ -318,6 +323,7 @@ in_order (e ∷ rest) rises each = (
     tail who true h = h.1
     tail who false h = h
 
+-- replies of one round rise in front of those of no earlier one
 pub rises_append : (number : ℕ) (xs ys : List Entry) → Each (λ entry. entry.reply.round ≡ number) xs → Each (λ entry. number ≤ entry.reply.round) ys → Rises ys
     → Rises (xs ++ ys)
 rises_append number [] ys in_round later rises = rises

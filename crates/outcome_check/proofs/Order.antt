@@ -12,12 +12,14 @@ use Rattle.outcome_check.specs.Sides.{Sides, is_past, is_beside, is_own, round_a
 
 -- ---- a test that all pass, or none
 
+-- what passes one test, which implies another, is kept by the other
 pub keep-all : {X : Type 0} (p q : X → Bool) → ((x : X) → p x ≡ true → q x ≡ true) → (xs : List X) → list_all p xs ≡ true → filter q xs ≡ xs
 keep-all p q so [] h = refl
 keep-all p q so (x ∷ xs) h =
     let parts = and_parts (p x) (list_all p xs) h in
     rw (so x parts.0) (ap (λ ys. x ∷ ys) (keep-all p q so xs parts.1))
 
+-- what passes one test, which excludes another, is dropped by the other
 pub keep-none : {X : Type 0} (p q : X → Bool) → ((x : X) → p x ≡ true → q x ≡ false) → (xs : List X) → list_all p xs ≡ true → filter q xs ≡ []
 keep-none p q so [] h = refl
 keep-none p q so (x ∷ xs) h =
@@ -124,6 +126,7 @@ module _ (q : Entry → Bool) where
       ∙ ap (λ xs. filter q b ++ xs) (filter-append q c (entry ∷ (d ++ (e ++ f)))
       ∙ ap (λ xs. filter q c ++ cond (q entry) (entry ∷ xs) xs) (filter-append q d (e ++ f) ∙ ap (λ xs. filter q d ++ xs) (filter-append q e f))))
 
+-- before a reply are those of earlier rounds and its own in front of it
 pub sides-before : (entries : List Entry) (entry : Entry) (sides : Sides entries entry) → before entries entry ≡ sides.past ++ sides.own
 sides-before entries entry sides =
     let q : Entry → Bool = λ other. is_before other entry in
@@ -137,6 +140,7 @@ sides-before entries entry sides =
     ∙ split-six q sides.past sides.front sides.own entry sides.rest sides.back sides.later
     ∙ rw (kept_past, kept_front, kept_own, kept_rest, kept_back, kept_later, not-before-itself entry, append-nil) refl
 
+-- not after it are these, itself, and the others' of its round
 pub sides-not_after : (entries : List Entry) (entry : Entry) (sides : Sides entries entry) → not_after entries entry ≡ sides.past ++ (sides.front ++ (sides.own ++ entry ∷ sides.back))
 sides-not_after entries entry sides =
     let q : Entry → Bool = λ other. is_not_after other entry in
@@ -150,6 +154,7 @@ sides-not_after entries entry sides =
     ∙ split-six q sides.past sides.front sides.own entry sides.rest sides.back sides.later
     ∙ rw (kept_past, kept_front, kept_own, kept_rest, kept_back, kept_later, not-before-itself entry, append-nil) refl
 
+-- after it are its own behind it and those of later rounds
 pub sides-after : (entries : List Entry) (entry : Entry) (sides : Sides entries entry) → after entries entry ≡ sides.rest ++ sides.later
 sides-after entries entry sides =
     let q : Entry → Bool = λ other. is_before entry other in
@@ -183,9 +188,11 @@ module _ (f : Entry → ℕ) where
       ∙ ap (λ n. sum_by f a + n) (sum_by-append f b (c ++ entry ∷ d)
       ∙ ap (λ n. sum_by f b + n) (sum_by-append f c (entry ∷ d) ∙ ap (λ n. sum_by f c + n) (sum-cons entry d)))
 
+  -- a sum over those before it
   pub sums-before : (entries : List Entry) (entry : Entry) (sides : Sides entries entry) → sum_by f (before entries entry) ≡ sum_by f sides.past + sum_by f sides.own
   sums-before entries entry sides = ap (sum_by f) (sides-before entries entry sides) ∙ sum_by-append f sides.past sides.own
 
+  -- a sum over those not after it and its own behind it, by earlier rounds and its round
   pub sums-not_after : (entries : List Entry) (entry : Entry) (sides : Sides entries entry)
       → sum_by f (not_after entries entry) + sum_by f sides.rest ≡ sum_by f sides.past + sum_by f (round_about sides)
   sums-not_after entries entry sides =

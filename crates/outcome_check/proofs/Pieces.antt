@@ -11,12 +11,15 @@ Parted p [] = Unit {0}
 Parted p (x ∷ xs) = (p x ≡ false → list_all (λ y. not (p y)) xs ≡ true) × Parted p xs
 
 module _ {X : Type 0} (p : X → Bool) where
+  -- how many pass with one element more in front
   pub count-cons : (x : X) (xs : List X) → count_by p (x ∷ xs) ≡ cond (p x) 1 0 + count_by p xs
   count-cons x xs = sum_by-cons (λ y. cond (p y) 1 0) x xs
 
+  -- how many pass of two lists in a row
   pub count-append : (xs ys : List X) → count_by p (xs ++ ys) ≡ count_by p xs + count_by p ys
   count-append xs ys = sum_by-append (λ y. cond (p y) 1 0) xs ys
 
+  -- where all fail none is counted
   pub count-none : (xs : List X) → list_all (λ y. not (p y)) xs ≡ true → count_by p xs ≡ 0
   count-none [] h = refl
   count-none (x ∷ xs) h =
@@ -38,6 +41,7 @@ module _ {X : Type 0} (p : X → Bool) where
       let e : 0 + count_by p xs ≡ 0 = omega (arith, none_pass) in
       rw e refl
 
+  -- as many in front as pass all pass
   pub parted-front : (xs : List X) → Parted p xs → list_all p (take (count_by p xs) xs) ≡ true
   parted-front [] h = refl
   parted-front (x ∷ xs) h = rw (count-cons x xs) (front-step x xs (p x) refl h.0 (parted-front xs h.1))
@@ -52,10 +56,12 @@ module _ {X : Type 0} (p : X → Bool) where
       let e : 0 + count_by p xs ≡ 0 = omega (arith, none_pass) in
       rw (e, is) (none is)
 
+  -- and all behind these fail
   pub parted-back : (xs : List X) → Parted p xs → list_all (λ y. not (p y)) (drop (count_by p xs) xs) ≡ true
   parted-back [] h = refl
   parted-back (x ∷ xs) h = rw (count-cons x xs) (back-step x xs (p x) refl h.0 (parted-back xs h.1))
 
+  -- where all pass the first of them do
   pub all-take : (n : ℕ) (xs : List X) → list_all p xs ≡ true → list_all p (take n xs) ≡ true
   all-take zero xs h = refl
   all-take (suc n) [] h = refl
@@ -63,6 +69,7 @@ module _ {X : Type 0} (p : X → Bool) where
       let parts = and_parts (p x) (list_all p xs) h in
       and_from (p x) (list_all p (take n xs)) parts.0 (all-take n xs parts.1)
 
+  -- and the last of them
   pub all-drop : (n : ℕ) (xs : List X) → list_all p xs ≡ true → list_all p (drop n xs) ≡ true
   all-drop zero xs h = h
   all-drop (suc n) [] h = refl
@@ -85,6 +92,7 @@ module _ {X : Type 0} (p : X → Bool) where
       let rec : n ≤ length front = front-reaches n front x rest is (and_parts (p y) (list_all p (take n (front ++ x ∷ rest))) h).1 in
       omega (arith, rec)
 
+  -- one that passes stands in front of those that all fail
   pub back-reaches : (n : ℕ) (front : List X) (x : X) (rest : List X) → p x ≡ true → list_all (λ y. not (p y)) (drop n (front ++ x ∷ rest)) ≡ true → length front < n
   back-reaches zero [] x rest is h =
       let first : not (p x) ≡ true = (and_parts (not (p x)) (list_all (λ y. not (p y)) rest) h).0 in
@@ -97,6 +105,7 @@ module _ {X : Type 0} (p : X → Bool) where
       let rec : length front < n = back-reaches n front x rest is h in
       omega (arith, rec)
 
+-- what passes a test passes one that it implies
 pub all-weaker : {X : Type 0} (p q : X → Bool) → ((x : X) → p x ≡ true → q x ≡ true) → (xs : List X) → list_all p xs ≡ true → list_all q xs ≡ true
 all-weaker p q so [] h = refl
 all-weaker p q so (x ∷ xs) h =
@@ -115,6 +124,7 @@ all-both p q r so (x ∷ xs) h k =
 pub cut-between : {X : Type 0} (m n : ℕ) (xs : List X) → m ≤ n → take n xs ≡ take m xs ++ drop m (take n xs)
 cut-between m n xs h = sym (take-append-drop m (take n xs)) ∙ ap (λ ys. ys ++ drop m (take n xs)) (take-take m n xs h)
 
+-- what stands from one place on stands between it and another, or from that on
 pub drop-between : {X : Type 0} (m n : ℕ) (xs : List X) → m ≤ n → drop m xs ≡ drop m (take n xs) ++ drop n xs
 drop-between zero n xs h = sym (take-append-drop n xs)
 drop-between (suc m) zero xs h = absurd (omega (arith, h))
@@ -129,6 +139,7 @@ weaker-step p q x xs true false is_a is_b so rest = absurd (let e : true ≡ fal
 weaker-step p q x xs false true is_a is_b so rest = omega (arith, rest)
 weaker-step p q x xs false false is_a is_b so rest = omega (arith, rest)
 
+-- no more pass a test than one that it implies
 pub count-weaker : {X : Type 0} (p q : X → Bool) → ((x : X) → p x ≡ true → q x ≡ true) → (xs : List X) → count_by p xs ≤ count_by q xs
 count-weaker p q so [] = omega arith
 count-weaker p q so (x ∷ xs) =

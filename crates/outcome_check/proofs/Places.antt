@@ -24,12 +24,14 @@ earlier-apart (Session a) (Worker b) h = refl
 earlier-apart (Worker a) (Session b) h = refl
 earlier-apart (Worker a) (Worker b) h = grind (arith, nat_tests)
 
+-- who is earlier is not later
 pub earlier-not : (a b : Who) → is_earlier a b ≡ true → is_earlier b a ≡ false
 earlier-not (Session a) (Session b) h = grind (arith, nat_tests)
 earlier-not (Session a) (Worker b) h = refl
 earlier-not (Worker a) (Session b) h = absurd (let never : ⊥ = cc in never)
 earlier-not (Worker a) (Worker b) h = grind (arith, nat_tests)
 
+-- sessions or workers that are taken as one are one
 pub same-is : (a b : Who) → is_same a b ≡ true → a ≡ b
 same-is (Session a) (Session b) h = let e : a ≡ b = grind (arith, nat_tests) in ap (λ n. Session n) e
 same-is (Session a) (Worker b) h = absurd (let never : ⊥ = cc in never)
@@ -45,10 +47,12 @@ earlier-trans (Worker a) (Session b) c h k = absurd (let never : ⊥ = cc in nev
 earlier-trans (Worker a) (Worker b) (Session c) h k = absurd (let never : ⊥ = cc in never)
 earlier-trans (Worker a) (Worker b) (Worker c) h k = grind (arith, nat_tests)
 
+-- nobody is earlier than himself
 pub earlier-itself : (a : Who) → is_earlier a a ≡ false
 earlier-itself (Session a) = grind (arith, nat_tests)
 earlier-itself (Worker a) = grind (arith, nat_tests)
 
+-- each is the same as himself
 pub same-itself : (a : Who) → is_same a a ≡ true
 same-itself (Session a) = grind (arith, nat_tests)
 same-itself (Worker a) = grind (arith, nat_tests)
@@ -87,6 +91,7 @@ among-beside chosen entry other round h =
     or_right (is_past entry other) (eqb other.reply.round entry.reply.round && chosen other.reply.who)
     (and_from (eqb other.reply.round entry.reply.round) (chosen other.reply.who) (grind (arith, nat_tests)) h)
 
+-- ahead of another by its round, in it by its session or worker, or by its index
 pub ahead-cases : (x y : Entry) → is_ahead x y ≡ true → Behind x y ⊎ (Beside x y ⊎ Own x y)
 ahead-cases x y h = by (or_cases (is_in_front y x) (is_own y x && nat_lt x.reply.index y.reply.index) h)
   where
@@ -166,22 +171,27 @@ parted-by p stays (x ∷ entries) h = (
   parted-by p stays entries h.1,
 )
 
+-- the replies of earlier rounds stand in front of the others
 pub past-parts : (entry : Entry) (entries : List Entry) → Rises entries → Parted (is_past entry) entries
 past-parts entry entries rises = parted-by (is_past entry) (past-stays entry) entries rises
 
+-- so do those in front of the reply's own
 pub front-parts : (entry : Entry) (entries : List Entry) → Rises entries → Parted (is_in_front entry) entries
 front-parts entry entries rises =
     parted-by (is_in_front entry) (among-stays (λ w. is_earlier w entry.reply.who) (earlier-front entry.reply.who) entry) entries rises
 
+-- and those up to its own
 pub own-parts : (entry : Entry) (entries : List Entry) → Rises entries → Parted (is_up_to_own entry) entries
 own-parts entry entries rises =
     parted-by (is_up_to_own entry) (among-stays (λ w. is_up_to w entry.reply.who) (up-to-front entry.reply.who) entry) entries rises
 
+-- and those up to its round
 pub round-parts : (entry : Entry) (entries : List Entry) → Rises entries → Parted (is_up_to_round entry) entries
 round-parts entry entries rises = parted-by (is_up_to_round entry) (round-stays entry) entries rises
 
 -- ---- the replies about one
 
+-- each reply in front is ahead of it
 pub front-ahead : (front : List Entry) (entry : Entry) (rest : List Entry) → Rises (front ++ entry ∷ rest) → list_all (λ other. is_ahead other entry) front ≡ true
 front-ahead [] entry rest h = refl
 front-ahead (x ∷ front) entry rest h =
@@ -189,6 +199,7 @@ front-ahead (x ∷ front) entry rest h =
     let behind = and_parts (list_all (is_ahead x) front) (list_all (is_ahead x) (entry ∷ rest)) split in
     and_from (is_ahead x entry) (list_all (λ other. is_ahead other entry) front) (and_parts (is_ahead x entry) (list_all (is_ahead x) rest) behind.1).0 (front-ahead front entry rest h.1)
 
+-- and it is ahead of each behind
 pub rest-behind : (front : List Entry) (entry : Entry) (rest : List Entry) → Rises (front ++ entry ∷ rest) → list_all (is_ahead entry) rest ≡ true
 rest-behind [] entry rest h = h.0
 rest-behind (x ∷ front) entry rest h = rest-behind front entry rest h.1
@@ -213,13 +224,6 @@ own-front entry other late ahead = by (or_cases (is_in_front entry other) (is_ow
     by : (is_in_front entry other ≡ true) ⊎ ((is_own entry other && nat_lt other.reply.index entry.reply.index) ≡ true) → (is_own entry other && nat_lt other.reply.index entry.reply.index) ≡ true
     by (inl front) = absurd (let e = not-true (is_in_front entry other) late in let never : true ≡ false = sym front ∙ e in let impossible : ⊥ = cc in impossible)
     by (inr own) = own
-
-turned-own : (entry other : Entry) → is_own other entry ≡ true → is_own entry other ≡ true
-turned-own entry other h =
-    let parts = and_parts (eqb entry.reply.round other.reply.round) (is_same entry.reply.who other.reply.who) h in
-    let round : eqb other.reply.round entry.reply.round ≡ true = grind (arith, nat_tests, parts.0) in
-    and_from (eqb other.reply.round entry.reply.round) (is_same other.reply.who entry.reply.who) round
-    (same-of other.reply.who entry.reply.who (sym (same-is entry.reply.who other.reply.who parts.1)))
 
 -- behind a reply, up to its own: its own
 own-back : (entry other : Entry) → is_ahead entry other ≡ true → is_up_to_own entry other ≡ true → (is_own entry other && nat_lt entry.reply.index other.reply.index) ≡ true
@@ -318,12 +322,15 @@ module _ (front : List Entry) (entry : Entry) (rest : List Entry) (rises : Rises
   pub os-at : os ≤ at
   os-at = front-reaches (is_in_front entry) os front entry rest itself-not-front (parted-front (is_in_front entry) es front-parted)
 
+  -- the reply stands in front of where its own end
   pub at-oe : at < oe
   at-oe = back-reaches (is_up_to_own entry) oe front entry rest itself-own (parted-back (is_up_to_own entry) es own-parted)
 
+  -- its round begins not behind where its own begin
   pub rs-os : rs ≤ os
   rs-os = count-weaker (is_past entry) (is_in_front entry) (λ x h. or_left (is_past entry x) (eqb x.reply.round entry.reply.round && is_earlier x.reply.who entry.reply.who) h) es
 
+  -- its own end not behind where its round ends
   pub oe-re : oe ≤ re
   oe-re = count-weaker (is_up_to_own entry) (is_up_to_round entry) (λ x h. in-round x (among-parts (λ w. is_up_to w entry.reply.who) entry x h)) es
     where
@@ -390,10 +397,12 @@ module _ (front : List Entry) (entry : Entry) (rest : List Entry) (rises : Rises
   front-more : take (at + 1) es ≡ front ++ entry ∷ []
   front-more = ap (λ ys. take (at + 1) ys) (sym (append_assoc front (entry ∷ []) rest)) ∙ take_at (front ++ entry ∷ []) rest (at + 1) (length-append front (entry ∷ []))
 
+  -- before the reply are those in front of its round, and its own in front of it
   pub places-before : before es entry ≡ take rs es ++ between os at es
   unfolding sides
   places-before = sides-before es entry sides
 
+  -- not after it are those up to it and the rest of its round that is not its own
   pub places-not_after : not_after es entry ≡ take (at + 1) es ++ between oe re es
   unfolding sides
   places-not_after =
@@ -403,6 +412,7 @@ module _ (front : List Entry) (entry : Entry) (rest : List Entry) (rises : Rises
       ∙ sym (append_assoc front (entry ∷ []) (between oe re es))
       ∙ ap (λ ys. ys ++ between oe re es) (sym front-more)
 
+  -- after it are its own behind it and those behind its round
   pub places-after : after es entry ≡ between (at + 1) oe es ++ drop re es
   unfolding sides
   places-after = sides-after es entry sides

@@ -16,6 +16,7 @@ use Rattle.outcome_conflicts.proofs.Whos.{same-is, same-itself}
 
 -- ---- what is in a list
 
+-- the list has the element
 abbrev pub Among : {X : Type 0} → X → List X → Type 0
 Among {X} x xs = (q : X → Bool) → q x ≡ true → list_any q xs ≡ true
 
@@ -39,6 +40,7 @@ none-fails p (x ∷ xs) h =
     let parts = and_parts (p x) (list_all p xs) h in
     ap (λ (b : Bool). not b || list_any (λ y. not (p y)) xs) parts.0 ∙ none-fails p xs parts.1
 
+-- what all of a list pass, one that it has passes
 pub all-at : {X : Type 0} (p : X → Bool) (xs : List X) (x : X) → list_all p xs ≡ true → Among x xs → p x ≡ true
 all-at p xs x h among = by (p x) refl
   where
@@ -87,6 +89,7 @@ pub record LineOf {X : Type 0} (p : X → Bool) (xs : List X) (x : X) : Type 0 w
   pub passes : p x ≡ true
   pub among : Among x xs
 
+-- what is found passes, and is in the list
 pub line-of : {X : Type 0} (p : X → Bool) (xs : List X) (x : X) → find p xs ≡ Some x → LineOf p xs x
 line-of p [] x h = absurd (let never : ⊥ = cc in never)
 line-of {X = X} p (y ∷ xs) x h = by (p y) refl h (line-of p xs x)
@@ -95,6 +98,7 @@ line-of {X = X} p (y ∷ xs) x h = by (p y) refl h (line-of p xs x)
     by true is k rest = let e : y ≡ x = cc in subst (LineOf p (y ∷ xs)) e (record { passes = is; among = among-first y xs })
     by false is k rest = let later = rest k in record { passes = later.passes; among = among-behind x y xs later.among }
 
+-- a reply is itself
 pub reply-itself : (x : Entry) → is_reply x x ≡ true
 reply-itself x = and_from (eqb x.reply.round x.reply.round && is_same x.reply.who x.reply.who) (eqb x.reply.index x.reply.index)
     (and_from (eqb x.reply.round x.reply.round) (is_same x.reply.who x.reply.who) (grind (arith, nat_tests)) (same-itself x.reply.who)) (grind (arith, nat_tests))
@@ -121,9 +125,11 @@ module _ (entries : List Entry) (entry : Entry) (numbers : List ℕ) where
   abbrev value : Entry → ℕ
   value x = number_told entries numbers x
 
+  -- the line of the number stands before the reply
   abbrev pub comes_before : ℕ → Bool
   comes_before number = option_map_or (λ line. is_before line entry) (commit_line entries number) false
 
+  -- the number is up to the bound, or its line does not come before
   abbrev pub is_free : ℕ → ℕ → Bool
   is_free bound later = nat_le later bound || not (comes_before later)
 
@@ -191,6 +197,7 @@ module _ (entries : List Entry) (entry : Entry) (numbers : List ℕ) where
         by None is = ap (λ (o : Option Entry). nat_le later bound || not (option_map_or (λ l. is_before l entry) o false)) is ∙ or-right (nat_le later bound) true refl
         by (Some line) is = ap (λ (o : Option Entry). nat_le later bound || not (option_map_or (λ l. is_before l entry) o false)) is ∙ by-before line is (is_before line entry) refl
 
+    -- the highest number told before the reply keeps to a bound where each does, or comes later
     pub none-above : nat_le (highest value (before entries entry)) bound ≡ list_all (is_free bound) (filter (nat_lt snapshot) numbers)
     none-above = both-ways _ _
         (λ h. all-from (is_free bound) (filter (nat_lt snapshot) numbers) (each-free (grind (arith, nat_tests, h))))

@@ -12,6 +12,7 @@ use Rattle.outcome_conflicts.specs.Writers.{count_up_to, is_number_in}
 below-up : (number : ℕ) (xs : List ℕ) → count_below number xs ≤ count_up_to number xs
 below-up number xs = count-weaker (λ x. nat_lt x number) (λ x. nat_le x number) (λ x h. grind (arith, nat_tests, h)) xs
 
+-- a number is among them exactly where more are up to it than below it
 pub number-found : (number : ℕ) (xs : List ℕ) → nat_lt (count_below number xs) (count_up_to number xs) ≡ is_number_in xs number
 number-found number [] = grind (arith, nat_tests)
 number-found number (x ∷ xs) =
@@ -35,6 +36,7 @@ number-found number (x ∷ xs) =
 
 -- ---- those above a bound
 
+-- all that a filter keeps pass exactly where each passes or is not kept
 pub all-filter : {X : Type 0} (p q : X → Bool) (xs : List X) → list_all p (filter q xs) ≡ list_all (λ x. not (q x) || p x) xs
 all-filter p q [] = refl
 all-filter p q (x ∷ xs) = by (q x) refl (all-filter p q xs)
@@ -70,6 +72,7 @@ none-above low high h (x ∷ xs) =
     by false true cb cu k so = absurd (let e = so refl in let never : ⊥ = cc in never)
     by false false cb cu k so = grind (arith, nat_tests)
 
+-- none is above a bound and below another exactly where the counts say so
 pub none-between : (low high : ℕ) (xs : List ℕ) → nat_le (count_below high xs) (count_up_to low xs) ≡ list_all (nat_le high) (filter (nat_lt low) xs)
 none-between low high xs = by (cases_lt low high) ∙ sym (all-filter (nat_le high) (nat_lt low) xs)
   where

@@ -49,6 +49,7 @@ module _ (replies : List KeptReply) (at : ℕ) (stretch : Stretch) (asked : IsAs
   round : e.reply.round + 1 < 2 ^ 33
   round = let s = small in omega (arith, s)
 
+  -- the marks of a session's writes tell whether it may be named
   pub names-judged : (of : RowKey) (session : ℕ) → is_same reply.who (Session session) ≡ false → (none : KeptReply) (tables : List TableDecl) (t : Span) → t.who ≡ (asked_at replies at none).reply.who
       → nat_lt reply.round (most_below stretch.round_end (marks_at writer_cmp rivals.writers (writer_at of session)))
       ≡ names_session (run_of tables es) t (place_in of) (asked_at replies at none) session
@@ -61,6 +62,7 @@ module _ (replies : List KeptReply) (at : ℕ) (stretch : Stretch) (asked : IsAs
       ∙ sym (names-by es e asked.rises round tables t of session (who ∙ ap (λ (x : Entry). x.reply.who) (same none)) apart)
       ∙ ap (λ (x : Entry). names_session (run_of tables es) t (place_in of) x session) (sym (same none))
 
+  -- the leads of a place tell whether no other session is in the way
   pub passes-judged : (of : RowKey) (none : KeptReply) (tables : List TableDecl) (t : Span) → t.who ≡ (asked_at replies at none).reply.who
       → nat_le (but_of reply.who (lead_below stretch.round_start (marks_at key_cmp rivals.leads of))) (reply.round + 1)
       ≡ passes_no_session (run_of tables es) t (place_in of) (asked_at replies at none)

@@ -90,6 +90,7 @@ module _ {X : Type 0} (whose : X → Who) (value : X → ℕ) (xs front : List X
       highest-next own ∙ ap (max (highest (but_own own whose value) (take n xs))) zero ∙ omega arith in
       rw at (ap (but_of own) (last-is (n + 1) (omega arith) ∙ sym (last-is n (omega arith))) ∙ old ∙ sym next)
 
+  -- an element of value 0 leaves them leads, of one element more
   pub leads-missed : value x ≡ 0 → AreLeads whose value xs (n + 1) leads
   leads-missed none = record {
     rise = noted.rise;
@@ -121,6 +122,7 @@ module _ {X : Type 0} (whose : X → Who) (value : X → ℕ) (xs front : List X
         rw at (ap (but_of own) pushed-last ∙ most own ∙ ap (λ (o : Option Lead). max (but_of own o) (but_own own whose value x)) (sym (last-is n (omega arith)))
         ∙ ap (λ (k : ℕ). max k (but_own own whose value x)) old ∙ sym (highest-next own))
 
+    -- with a lead that takes it in, they are leads of one element more
     pub leads-pushed : AreLeads whose value xs (n + 1) (leads ++ lead ∷ [])
     leads-pushed = record {
       rise = IsNonDecreasingBy-push (λ (l : Lead). l.place) leads lead noted.rise
@@ -130,6 +132,7 @@ module _ {X : Type 0} (whose : X → Who) (value : X → ℕ) (xs front : List X
       most = λ own place h. pushed own place (up-to-next place n h);
     }
 
+-- leads that follow an element are leads of one element more
 pub leads-next : {X : Type 0} (whose : X → Who) (value : X → ℕ) (xs front : List X) (x : X) (rest : List X) (n : ℕ) → xs ≡ front ++ x ∷ rest → length front ≡ n
     → (old new : List Lead) → AreLeads whose value xs n old → (put : Bool) (until : ℕ) → (if put then until else 0) ≡ value x → AreFollowed put n (whose x) until old new → AreLeads whose value xs (n + 1) new
 leads-next whose value xs front x rest n whole far old new noted true until is followed =
@@ -139,6 +142,7 @@ leads-next whose value xs front x rest n whole far old new noted true until is f
 leads-next whose value xs front x rest n whole far old new noted false until is followed =
     subst (AreLeads whose value xs (n + 1)) (sym (followed.same refl)) (leads-missed whose value xs front x rest n whole far old noted (sym is))
 
+-- no leads are those of no elements
 pub leads-nil : {X : Type 0} (whose : X → Who) (value : X → ℕ) (xs : List X) → AreLeads whose value xs 0 []
 leads-nil whose value xs = record {
   rise = λ i j d h k. absurd (omega (arith, k));

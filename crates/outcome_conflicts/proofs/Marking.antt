@@ -46,6 +46,7 @@ then-swapped Greater Less c = refl
 then-swapped Greater Equal c = refl
 then-swapped Greater Greater c = refl
 
+-- two writers compare as one where their sessions and their rows do
 pub writer-same : (a b : Writer) → is_eq (writer_cmp a b) ≡ (is_same (Session a.session) (Session b.session) && is_eq (key_cmp (row_of a) (row_of b)))
 writer-same a b =
     then-swapped (nat_cmp a.table b.table) (nat_cmp a.session b.session) (int_cmp a.key b.key)
@@ -59,6 +60,7 @@ same-starts xs = record {
   go_on = λ place inside. inl refl;
 }
 
+-- where what one reply more holds is marked, the marks are those of one more
 pub rivals-next : (entries : List Entry) (front : List Held) (held : Held) (rest : List Held) (n : ℕ) → held_in entries ≡ front ++ held ∷ rest → length front ≡ n
     → (before now : Rivals) → AreRivals entries n before → IsMarked held n before now → AreRivals entries (n + 1) now
 rivals-next entries front held rest n whole far before now marked noted = record {
@@ -75,6 +77,7 @@ rivals-next entries front held rest n whole far before now marked noted = record
     as-value true until mark marks = refl
     as-value false until mark marks = refl
 
+-- no marks are those of no replies
 pub rivals-nil : (entries : List Entry) (rivals : Rivals) → ((writer : Writer) → marks_at writer_cmp rivals.writers writer ≡ []) → ((of : RowKey) → marks_at key_cmp rivals.leads of ≡ []) → AreRivals entries 0 rivals
 rivals-nil entries rivals writers leads = record {
   writers = λ writer. rw (writers writer) (peaks-nil (writer_until writer) (λ place. place) (held_in entries) (same-starts (held_in entries)));
@@ -93,6 +96,7 @@ then-equal Greater b h = absurd (let never : ⊥ = cc in never)
 equal-eq : (o : Ordering) → o ≡ Equal → is_eq o ≡ true
 equal-eq o h = ap is_eq h
 
+-- keys that compare as one are one
 pub key-one : (a b : RowKey) → is_eq (key_cmp a b) ≡ true → a ≡ b
 key-one a b h =
     let parts = then-equal (nat_cmp a.table b.table) (int_cmp a.key b.key) h in
@@ -100,6 +104,7 @@ key-one a b h =
     let key : a.key ≡ b.key = int_cmp-IsAntisymmetric a.key b.key parts.1 in
     ap (λ (n : ℕ). record a { table = n }) table ∙ ap (λ (k : ℤ). record b { key = k }) key
 
+-- so are writers
 pub writer-one : (a b : Writer) → is_eq (writer_cmp a b) ≡ true → a ≡ b
 writer-one a b h =
     let parts = then-equal (nat_cmp a.table b.table) (ordering_then (nat_cmp a.session b.session) (int_cmp a.key b.key)) h in
@@ -117,6 +122,7 @@ pub pushed-own : {K M : Type 0} (key other : K) (one : Bool) → (one ≡ true �
 pushed-own key other true same marks mark = ap (λ (k : _). marks other ++ mark (marks k) ∷ []) (same refl)
 pushed-own key other false same marks mark = refl
 
+-- the image at a place is that of the element there
 pub map-got : {X Y : Type 0} (f : X → Y) (xs front : List X) (x : X) (rest : List X) (place : ℕ) (none : Y) → xs ≡ front ++ x ∷ rest → length front ≡ place → get_or (map f xs) place none ≡ f x
 map-got f xs front x rest place none whole far =
     ap (λ (ys : List _). get_or (map f ys) place none) whole ∙ ap (λ (n : ℕ). get_or (map f (front ++ x ∷ rest)) n none) (sym far) ∙ by front

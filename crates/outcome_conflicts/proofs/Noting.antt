@@ -37,6 +37,7 @@ step-there n entry None (Some found) keyed there = absurd (let never : ⊥ = cc 
 step-there n entry (Some old) None keyed there = absurd (let never : ⊥ = cc in never)
 step-there n entry (Some old) (Some found) keyed there = refl
 
+-- with one more reply a number's line stays the old one, or is this one where it has the number
 pub line-next : (entries front : List Entry) (entry : Entry) (rest : List Entry) (n : ℕ) → entries ≡ front ++ entry ∷ rest → length front ≡ n → (number : ℕ) (old new : Option ℕ) → IsLine entries n number old
     → new ≡ option_or old (if is_keyed nat_cmp number (commit_in entry.reply.said) then Some n else None) → IsLine entries (n + 1) number new
 line-next entries front entry rest n whole far number old new line is =

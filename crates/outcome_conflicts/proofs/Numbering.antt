@@ -42,10 +42,12 @@ use Rattle.outcome_conflicts.specs.Writers.{history_in, is_written, numbers_up_t
 
 -- ---- what holds of each, where it came about
 
+-- what is equal where it came about goes on by what is equal anyway
 pub on-each : {T E K X : Type 0} (r : Result T E) (f g h : K → X) → OnOk r ((k : K) → f k ≡ g k) → ((k : K) → g k ≡ h k) → OnOk r ((k : K) → f k ≡ h k)
 on-each (Ok x) f g h same next = λ k. same k ∙ next k
 on-each (Err e) f g h same next = tt
 
+-- the same, for each of a second kind too
 pub on-each-of : {T E N K X : Type 0} (r : Result T E) (f g : K → X) (h : N → K → X) → OnOk r ((k : K) → f k ≡ g k) → ((n : N) (k : K) → g k ≡ h n k) → OnOk r ((n : N) (k : K) → f k ≡ h n k)
 on-each-of (Ok x) f g h same next = λ n k. same k ∙ next n k
 on-each-of (Err e) f g h same next = tt
@@ -56,6 +58,7 @@ not-true : (b : Bool) → not b ≡ true → b ≡ false
 not-true true h = absurd (let never : ⊥ = cc in never)
 not-true false h = refl
 
+-- `or false` changes nothing
 pub or-none : (b : Bool) → (b || false) ≡ b
 or-none true = refl
 or-none false = refl
@@ -128,9 +131,11 @@ module _ (openings : List (Option ℕ)) (entries : List Entry) (output : IsOutpu
   abbrev os : List (Option ℕ)
   os = openings_in entries
 
+  -- the transaction that was opened there wrote the row up to this place
   abbrev pub wrote_from : RowKey → ℕ → Option ℕ → Bool
   wrote_from of place opening = option_map_or (λ owner. is_written of place (marks_at nat_cmp changes.own owner)) opening false
 
+  -- the transaction whose commit stands there wrote the row
   abbrev pub wrote_at : RowKey → Option ℕ → Bool
   wrote_at of first = option_map_or (λ place. wrote_from of place (opening_of openings place)) first false
 
@@ -159,6 +164,7 @@ module _ (openings : List (Option ℕ)) (entries : List Entry) (output : IsOutpu
       ∙ ap (λ (ws : List TimedWrite). list_any (λ (c : Place × Option (List Cell)). is_place (place_in of) c.0) (changes_of (up_to place ws))) (sym (own owner))
       ∙ changed-any of place (marks_at nat_cmp changes.own owner)
 
+  -- a commit wrote a place where the changes of its transaction have it
   pub wrote-line : (of : RowKey) (number : ℕ) (first : Option ℕ) → first_of (commits_as number) entries ≡ first
       → writes_place (place_in of) (committed_writes entries (transactions_of entries) number) ≡ wrote_at of first
   wrote-line of number None is = ap (λ (o : Option Entry). writes_place (place_in of) (of_line o)) (first-none (commits_as number) 0 entries is)
@@ -168,6 +174,7 @@ module _ (openings : List (Option ℕ)) (entries : List Entry) (output : IsOutpu
 
 -- ---- the numbers with a commit more
 
+-- the history has what each commit wrote, by its number
 pub history-at : (entries : List Entry) (at : ℕ) → at < commit_count entries → write_set_at (history_in entries) (at + 1) ≡ committed_writes entries (transactions_of entries) (at + 1)
 history-at entries at inside =
     let back : at + 1 - 1 ≡ at = omega arith in
@@ -178,6 +185,7 @@ put-by : (b : Bool) (xs : List ℕ) (n : ℕ) → xs ++ cond b (n ∷ []) [] ≡
 put-by true xs n = refl
 put-by false xs n = push-none xs
 
+-- with one more commit a place has its number too, where that wrote it
 pub numbers-next : (entries : List Entry) (at : ℕ) (place : Place) → at < commit_count entries
     → numbers_up_to (at + 1) entries place ≡ with_mark (writes_place place (committed_writes entries (transactions_of entries) (at + 1))) (at + 1) (numbers_up_to at entries place)
 numbers-next entries at place inside =
@@ -200,6 +208,7 @@ rises-push place xs x rise within =
     IsNonDecreasingBy-push place xs x rise
     (λ d some. let last = below-got (λ y. nat_lt (place y) (place x)) xs (length xs - 1) d (omega (arith, some)) within in grind (arith, nat_tests, last))
 
+-- a higher number keeps them rising
 pub numbers-rise : (b : Bool) (n : ℕ) (xs : List ℕ) → IsNonDecreasing xs → list_all (λ number. nat_lt number n) xs ≡ true → IsNonDecreasing (with_mark b n xs)
 numbers-rise true n xs rise below = rises-push (λ (k : ℕ). k) xs n rise below
 numbers-rise false n xs rise below = rise
@@ -207,6 +216,7 @@ numbers-rise false n xs rise below = rise
 numbers-weaker : (n : ℕ) (xs : List ℕ) → list_all (λ number. nat_lt number n) xs ≡ true → list_all (λ number. nat_lt number (n + 1)) xs ≡ true
 numbers-weaker n xs h = all-weaker (λ number. nat_lt number n) (λ number. nat_lt number (n + 1)) (λ number k. grind (arith, nat_tests, k)) xs h
 
+-- and below the next
 pub numbers-below : (b : Bool) (n : ℕ) (xs : List ℕ) → list_all (λ number. nat_lt number n) xs ≡ true → list_all (λ number. nat_lt number (n + 1)) (with_mark b n xs) ≡ true
 numbers-below true n xs h =
     let own : nat_lt n (n + 1) ≡ true = grind (arith, nat_tests) in
@@ -220,10 +230,12 @@ none-same n xs h = all-weaker (λ number. nat_lt number n) (λ number. not (numb
 
 -- ---- the peaks with one more
 
+-- a peak at a later place keeps them rising
 pub peaks-rise : (b : Bool) (peak : Peak) (peaks : List Peak) → IsNonDecreasingBy (λ its. its.place) peaks → list_all (λ its. nat_lt its.place peak.place) peaks ≡ true
     → IsNonDecreasingBy (λ its. its.place) (with_mark b peak peaks)
 peaks-rise true peak peaks rise below = rises-push (λ (its : Peak). its.place) peaks peak rise below
 peaks-rise false peak peaks rise below = rise
 
+-- where all peaks are below a place, none is at it
 pub none-there : (place : ℕ) (peaks : List Peak) → list_all (λ peak. nat_lt peak.place place) peaks ≡ true → list_all (λ peak. not (peak.place == place)) peaks ≡ true
 none-there place peaks h = all-weaker (λ (peak : Peak). nat_lt peak.place place) (λ (peak : Peak). not (peak.place == place)) (λ peak k. grind (arith, nat_tests, k)) peaks h

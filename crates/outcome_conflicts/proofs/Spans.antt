@@ -22,6 +22,7 @@ or-right : (a b : Bool) → b ≡ true → (a || b) ≡ true
 or-right true b h = refl
 or-right false b h = h
 
+-- where some element passes there is one, and each test that it passes finds one
 pub found-in : {X : Type 0} (p : X → Bool) (xs : List X) → list_any p xs ≡ true → Found p xs
 found-in p [] h = absurd (let never : ⊥ = cc in never)
 found-in p (x ∷ xs) h = by (p x) refl h (found-in p xs)
@@ -32,18 +33,21 @@ found-in p (x ∷ xs) h = by (p x) refl h (found-in p xs)
         let later = behind k in
         record { item = later.item; passes = later.passes; found = λ q its. or-right (q x) (list_any q xs) (later.found q its) }
 
+-- two tests that follow from each other are one
 pub both-ways : (a b : Bool) → (a ≡ true → b ≡ true) → (b ≡ true → a ≡ true) → a ≡ b
 both-ways true true f g = refl
 both-ways true false f g = sym (f refl)
 both-ways false true f g = g refl
 both-ways false false f g = refl
 
+-- two tests that agree on each element find one in the same lists
 pub any-agree : {X : Type 0} (p q : X → Bool) → ((x : X) → p x ≡ q x) → (xs : List X) → list_any p xs ≡ list_any q xs
 any-agree p q same [] = refl
 any-agree p q same (x ∷ xs) = ap (λ (b : Bool). b || list_any p xs) (same x) ∙ ap (λ (b : Bool). q x || b) (any-agree p q same xs)
 
 -- ---- up to the end
 
+-- up to its end a transaction lasts as long as it does with what follows
 pub stop-up : (entries : List Entry) → stop_in (up_to_end entries) ≡ stop_in entries
 stop-up [] = refl
 stop-up (entry ∷ entries) = by (is_end entry.reply.said) refl (stop-up entries)
@@ -66,6 +70,7 @@ module _ (test : Entry → Bool) (quiet : (entry : Entry) → is_accepted entry.
   abbrev pub is_passing : Who → Span → Bool
   is_passing who t = is_same t.who who && (list_any test t.replies && far (stop_in t.replies))
 
+  -- the reply is one's own and passes, and so does how long it is held
   abbrev pub is_held : Who → Held → Bool
   is_held who held = is_same held.entry.reply.who who && (test held.entry && far held.until)
 
@@ -226,6 +231,7 @@ module _ (test : Entry → Bool) (quiet : (entry : Entry) → is_accepted entry.
       by true rest = refl
       by false rest = refl
 
+  -- one's transactions pass exactly where one of one's replies that are held does
   pub held-behind : (who : Who) (front entries : List Entry)
       → (list_any (is_passing who) (transactions_of entries) || (is_within who front && passes (thread who entries))) ≡ list_any (is_held who) (held_behind front entries)
   held-behind who front [] = by (is_within who front)

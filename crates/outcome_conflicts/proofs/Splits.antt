@@ -11,21 +11,26 @@ use Rattle.mark_index.proofs.Noted.{take-front, take-next}
 use Rattle.outcome_conflicts.specs.Held.{Held, stop_of, stops_of, held_at, held_behind, held_in}
 
 module _ {X : Type 0} (xs front : List X) (x : X) (rest : List X) (place : ℕ) (whole : xs ≡ front ++ x ∷ rest) (far : length front ≡ place) where
+  -- from its place on a list goes on with the element there
   pub drop-here : drop place xs ≡ x ∷ rest
   drop-here = ap (drop place) whole ∙ drop_at front (x ∷ rest) place far
 
+  -- and then with those behind it
   pub drop-behind : drop (place + 1) xs ≡ rest
   drop-behind =
       ap (drop (place + 1)) (whole ∙ sym (append_assoc front (x ∷ []) rest))
       ∙ drop_at (front ++ x ∷ []) rest (place + 1) (length-append front (x ∷ []) ∙ ap (λ (n : ℕ). n + 1) far)
 
+-- a list the other way round ends with its first element
 pub reverse-more : {X : Type 0} (x : X) (xs : List X) → reverse (x ∷ xs) ≡ reverse xs ++ x ∷ []
 reverse-more x xs = reverse_onto xs x []
 
+-- there are as many stops as replies
 pub stops-long : (entries : List Entry) → length (stops_of entries) ≡ length entries
 stops-long [] = refl
 stops-long (entry ∷ entries) = ap suc (stops-long entries)
 
+-- the stop at a place is that of its reply's session or worker from there on
 pub stop-at : (entries front : List Entry) (entry : Entry) (rest : List Entry) (place none : ℕ) → entries ≡ front ++ entry ∷ rest → length front ≡ place
     → get_or (stops_of entries) place none ≡ stop_of entry.reply.who (entry ∷ rest)
 stop-at entries front entry rest place none whole far = ap (λ (es : List Entry). get_or (stops_of es) place none) whole ∙ ap (λ (n : ℕ). get_or (stops_of (front ++ entry ∷ rest)) n none) (sym far) ∙ by front
@@ -43,6 +48,7 @@ module _ (entries front : List Entry) (entry : Entry) (rest : List Entry) (place
   behind : drop above entries ≡ rest
   behind = ap (λ (n : ℕ). drop n entries) (sym up) ∙ drop-behind entries front entry rest place whole far
 
+  -- up to when each one's transaction lasts is known from one reply further in front
   pub next-back : (old new : Who → ℕ) → ((who : Who) → old who ≡ stop_of who (drop above entries))
       → ((who : Who) → new who ≡ (if is_same entry.reply.who who then (if is_end entry.reply.said then entry.reply.round + 1 else old who) else old who))
       → (who : Who) → new who ≡ stop_of who (drop place entries)
@@ -50,6 +56,7 @@ module _ (entries front : List Entry) (entry : Entry) (rest : List Entry) (place
       is who ∙ ap (λ (n : ℕ). if is_same entry.reply.who who then (if is_end entry.reply.said then entry.reply.round + 1 else n) else n) (was who ∙ ap (stop_of who) behind)
       ∙ sym (stop-next who entry rest) ∙ ap (stop_of who) (sym here)
 
+  -- the stops, kept from the end, take in one reply further in front
   pub stops-back : (old new : List ℕ) (got : ℕ) → old ≡ reverse (stops_of (drop above entries)) → new ≡ old ++ got ∷ [] → got ≡ stop_of entry.reply.who (drop place entries)
       → new ≡ reverse (stops_of (drop place entries))
   stops-back old new got was is stop =
@@ -60,6 +67,7 @@ module _ (entries front : List Entry) (entry : Entry) (rest : List Entry) (place
 -- ---- from the start, a reply more behind
 
 module _ (entries front : List Entry) (entry : Entry) (rest : List Entry) (place : ℕ) (whole : entries ≡ front ++ entry ∷ rest) (far : length front ≡ place) where
+  -- who is in a transaction is known behind one reply more
   pub within-on : (old new : Who → Bool) → ((who : Who) → old who ≡ is_within who (take place entries))
       → ((who : Who) → new who ≡ (if is_same entry.reply.who who then within_behind (old who) entry.reply.said else old who))
       → (who : Who) → new who ≡ is_within who (take (place + 1) entries)
@@ -70,10 +78,12 @@ module _ (entries front : List Entry) (entry : Entry) (rest : List Entry) (place
 
 -- ---- what is held
 
+-- there are as many that are held as replies
 pub held-long : (before entries : List Entry) → length (held_behind before entries) ≡ length entries
 held-long before [] = refl
 held-long before (entry ∷ entries) = ap suc (held-long (before ++ entry ∷ []) entries)
 
+-- and they are those replies
 pub held-entries : (before entries : List Entry) → map (λ (held : Held). held.entry) (held_behind before entries) ≡ entries
 held-entries before [] = refl
 held-entries before (entry ∷ entries) = ap (λ (es : List Entry). entry ∷ es) (held-entries (before ++ entry ∷ []) entries)
@@ -102,6 +112,7 @@ held-behind-at before (x ∷ front) entry rest =
       far = ap suc later.far;
     }
 
+-- what is held at a place is that of the reply there
 pub held-at : (entries front : List Entry) (entry : Entry) (rest : List Entry) (place : ℕ) → entries ≡ front ++ entry ∷ rest → length front ≡ place → HeldAt (held_in entries) (held_at front entry rest) place
 held-at entries front entry rest place whole far =
     let its = held-behind-at [] front entry rest in
@@ -115,6 +126,7 @@ held-at entries front entry rest place whole far =
 -- ---- until when, a reply more behind
 
 module _ (entries front : List Entry) (entry : Entry) (rest : List Entry) (place : ℕ) (whole : entries ≡ front ++ entry ∷ rest) (far : length front ≡ place) where
+  -- until when each is held is kept for one reply more
   pub untils-on : (old new : List ℕ) (got : ℕ) → old ≡ map (λ (h : Held). h.until) (take place (held_in entries)) → new ≡ old ++ got ∷ [] → got ≡ (held_at front entry rest).until
       → new ≡ map (λ (h : Held). h.until) (take (place + 1) (held_in entries))
   untils-on old new got was is until =

@@ -31,6 +31,7 @@ use Rattle.outcome_conflicts.proofs.Whos.{same-itself, same-is, same-turned}
 
 -- ---- what is found among those that pass
 
+-- one that passes among those kept is one that passes both tests
 pub any-filter : {X : Type 0} (p q : X → Bool) (xs : List X) → list_any p (filter q xs) ≡ list_any (λ x. p x && q x) xs
 any-filter p q [] = refl
 any-filter p q (x ∷ xs) = by (p x) (q x) refl ∙ ap (λ (b : Bool). (p x && q x) || b) (any-filter p q xs)
@@ -77,6 +78,7 @@ all-up s (entry ∷ entries) h = by (is_end entry.reply.said) refl (and_parts (s
     by true is parts rest = rw (is, parts.0) refl
     by false is parts rest = rw (is, parts.0) (rest parts.1)
 
+-- the replies of a transaction are all its session's
 pub span-same : (entry : Entry) (entries : List Entry) → list_all (λ (x : Entry). is_same x.reply.who entry.reply.who) (up_to_end (entry ∷ thread entry.reply.who entries)) ≡ true
 span-same entry entries =
     all-up (λ (x : Entry). is_same x.reply.who entry.reply.who) (entry ∷ thread entry.reply.who entries)
@@ -95,6 +97,7 @@ spans-agree p q same (entry ∷ entries) = by (snapshot_in entry.reply.said) ref
 
 -- ---- the highest tells whether one is above
 
+-- one that is chosen is above a bound where the highest of them is
 pub any-above : {X : Type 0} (c near : X → Bool) (u v : X → ℕ) (bound : ℕ) → ((x : X) → v x ≡ (if c x then u x else 0)) → (xs : List X)
     → list_any (λ x. near x && (c x && nat_lt bound (u x))) xs ≡ nat_lt bound (highest v (filter near xs))
 any-above c near u v bound is [] = grind (arith, nat_tests)
@@ -117,6 +120,7 @@ filter-none p (x ∷ xs) h = by (p x) refl (and_parts (not (p x)) (list_all (λ 
     by true is parts rest = absurd (let e : not true ≡ true = ap not (sym is) ∙ parts.0 in let never : ⊥ = cc in never)
     by false is parts rest = rw is (rest parts.1)
 
+-- where those that pass stand in front, the filter keeps the front
 pub filter-parted : {X : Type 0} (p : X → Bool) (xs : List X) → Parted p xs → filter p xs ≡ take (count_by p xs) xs
 filter-parted p [] h = refl
 filter-parted {X = X} p (x ∷ xs) h = rw (count-cons p x xs) (by (p x) refl h.0 (filter-parted p xs h.1))
@@ -176,6 +180,7 @@ module _ (place : Place) (own : Who) (chosen : Who → Bool) (others : (who : Wh
   moved false w true f = refl
   moved false w false f = refl
 
+  -- another's transaction is in the way where the highest hold is above the bound
   pub any-rival : (entries : List Entry)
       → list_any (λ t. chosen t.who && (has_write place (filter counts t.replies) && option_map_or ends (ending_of t) true)) (transactions_of entries)
       ≡ nat_lt bound (highest (λ (h : Held). if chosen h.entry.reply.who && writes_to place h.entry then h.until else 0) (filter (λ (h : Held). near h.entry) (held_in entries)))
@@ -215,6 +220,7 @@ module _ (entries : List Entry) (entry : Entry) (rises : Rises entries) (round :
   abbrev r : ℕ
   r = entry.reply.round
 
+  -- a session may be named where its writer holds the place up to the round or beyond
   pub names-by : (tables : List TableDecl) (t : Span) (of : RowKey) (session : ℕ) → t.who ≡ entry.reply.who → is_same entry.reply.who (Session session) ≡ false
       → names_session (run_of tables entries) t (place_in of) entry session
       ≡ nat_lt r (highest (writer_until (writer_at of session)) (take (round_end entries entry) (held_in entries)))
@@ -244,6 +250,7 @@ module _ (entries : List Entry) (entry : Entry) (rises : Rises entries) (round :
       not-earlier : (n m : ℕ) → not (nat_lt n m) ≡ nat_lt m (n + 1)
       not-earlier n m = grind (arith, nat_tests)
 
+  -- no other session is in the way where none holds the place beyond the round
   pub passes-by : (tables : List TableDecl) (t : Span) (of : RowKey) → t.who ≡ entry.reply.who
       → passes_no_session (run_of tables entries) t (place_in of) entry
       ≡ not (nat_lt (r + 1) (highest (but_own entry.reply.who (λ (h : Held). h.entry.reply.who) (holds_until (place_in of))) (take (round_start entries entry) (held_in entries))))

@@ -35,6 +35,7 @@ later-test : (snapshot n : ℕ) (writes : Bool) → (nat_lt snapshot n && writes
 later-test snapshot n true = grind (arith, nat_tests)
 later-test snapshot n false = grind (arith, nat_tests)
 
+-- the later writers of a place are its numbers above the snapshot
 pub later-above : (entries : List Entry) (snapshot : ℕ) (place : Place) → later_writers (history_in entries) snapshot place ≡ filter (nat_lt snapshot) (numbers_of entries place)
 later-above entries snapshot place = filter-twice (nat_lt snapshot) _ _ (λ n. later-test snapshot n _) _
 
@@ -44,6 +45,7 @@ all-agree p q same (x ∷ xs) = ap (λ (b : Bool). b && list_all p xs) (same x) 
 
 -- ---- none before
 
+-- no commit in front is passed over where the highest number told before is in the snapshot
 pub passes-commit : (tables : List TableDecl) (entries : List Entry) (t : Span) (place : Place) (entry : Entry)
     → nat_le (highest (number_told entries (numbers_of entries place)) (before entries entry)) t.snapshot ≡ passes_no_commit (run_of tables entries) t place entry
 passes-commit tables entries t place entry =
@@ -76,6 +78,7 @@ number-above snapshot number ns =
     turned : (later : ℕ) → (eqb later number && nat_lt snapshot later) ≡ (nat_lt snapshot number && eqb later number)
     turned later = grind (arith, nat_tests)
 
+-- a commit may be named where its number is kept and the highest of those told before
 pub names-commit : (tables : List TableDecl) (entries : List Entry) (t : Span) (place : Place) (entry : Entry) (number : ℕ)
     → (((nat_lt t.snapshot number && is_number_in (numbers_of entries place) number) && is_committed_not_after (run_of tables entries) entry number)
     && nat_le (highest (number_told entries (numbers_of entries place)) (before entries entry)) number) ≡ names_commit (run_of tables entries) t place entry number
@@ -94,6 +97,7 @@ names-commit tables entries t place entry number =
 
 -- ---- the first to update
 
+-- a transaction is the first to update a place where the counts of numbers say so
 pub first-updater : (tables : List TableDecl) (entries : List Entry) (span : Span) (place : Place) (t : Transaction) → transaction_told span ≡ t
     → option_map_or (λ number. nat_le (count_below number (numbers_of entries place)) (count_up_to t.snapshot (numbers_of entries place))) t.committed true
     ≡ is_first_updater (run_of tables entries) span place
@@ -120,6 +124,7 @@ spans-own (entry ∷ entries) = by (snapshot_in entry.reply.said) (spans-own ent
     by None rest = rest
     by (Some snapshot) rest = and_from (is_own_span (span_from entry entries snapshot)) (list_all is_own_span (transactions_of entries)) (span-same entry entries) rest
 
+-- a reply's transaction is its own session's
 pub whose : (entries : List Entry) (entry : Entry) (t : Span) → transaction_with (transactions_of entries) entry ≡ Some t → t.who ≡ entry.reply.who
 whose entries entry t is =
     let its = line-of (λ (s : Span). list_any (is_reply entry) s.replies) (transactions_of entries) t is in

@@ -131,6 +131,7 @@ under : (a b c : Bool) → (a ≡ true → b ≡ c) → (a && b) ≡ (a && c)
 under true b c h = h refl
 under false b c h = refl
 
+-- a number is kept for a place exactly where its commit wrote it
 pub number-in : (entries : List Entry) (place : Place) (number : ℕ)
     → is_number_in (numbers_of entries place) number ≡ ((nat_le 1 number && nat_le number (commit_count entries)) && writes_place place (committed_writes entries (transactions_of entries) number))
 number-in entries place number =
@@ -189,6 +190,7 @@ line-marks false number value place start old low is =
     let test : nat_lt 0 value ≡ false = grind (arith, nat_tests, is) in
     sym (ap (λ (b : Bool). with_mark b (next_peak old place start value) old) test)
 
+-- a value of 0 makes no mark
 pub no-marks : (value place start : ℕ) (old : List Peak) → value ≡ 0 → old ≡ with_mark (nat_lt 0 value) (next_peak old place start value) old
 no-marks value place start old is =
     let test : nat_lt 0 value ≡ false = grind (arith, nat_tests, is) in
@@ -203,6 +205,7 @@ same-first : (first : Option ℕ) (place : ℕ) → option_map_or (λ its. its =
 same-first None place h = absurd (let never : ⊥ = cc in never)
 same-first (Some first) place h = ap (λ (n : ℕ). Some n) (eqb-true first place h)
 
+-- where a number is told, the reply is its line
 pub line-first : (entries : List Entry) (count place number : ℕ) (entry : Entry) → line_told entries count place entry ≡ Some number → IsLineAt entries place number
 line-first entries count place number entry = by (commit_in entry.reply.said)
   where

@@ -78,10 +78,12 @@ in-parts tables entries entry = by (transaction_of (run_of tables entries) entry
     by (Some t) None = refl
     by (Some t) (Some write) = rule-parts tables entries t write.0 entry entry.reply.said
 
+-- outside of a transaction nothing is asked
 pub no-transaction : (f : Span → Bool) (own : Option Span) → option_map transaction_told own ≡ None → true ≡ option_map_or f own true
 no-transaction f None h = refl
 no-transaction f (Some t) h = absurd (let never : ⊥ = cc in never)
 
+-- where there is a transaction and a write, what is asked of both is the answer
 pub both-there : (f : Span → Place → Bool) (own : Option Span) (t : Transaction) (write : Option (Place × Option (List Cell))) (of : RowKey) (answer : Bool)
     → option_map transaction_told own ≡ Some t → Some (place_in of) ≡ option_map (λ w. w.0) write → ((span : Span) → own ≡ Some span → transaction_told span ≡ t → answer ≡ f span (place_in of))
     → answer ≡ option_map_or (λ s. option_map_or (λ w. f s w.0) write true) own true

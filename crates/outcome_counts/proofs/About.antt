@@ -47,12 +47,14 @@ module _ (test : Entry → Bool) (replies : List KeptReply) (at : ℕ) (stretch 
     its : KeptAt replies at (slice_index_or replies at none)
     its = kept-at replies at (slice_index_or replies at none) asked.inside (get_or_default replies at none (slice_index_or replies at none) asked.inside)
 
+    -- the places before the reply that is judged are as many as pass the test before it
     pub about-before : count_before places at stretch ≡ count_by test (before es (asked_at replies at none))
     about-before =
         ap (count_before places at) (asked.places none)
         ∙ ap (λ (n : ℕ). count_before places n (stretch_of es (asked_at replies at none))) (sym its.far)
         ∙ counted-before test es its.front (asked_at replies at none) its.rest its.whole asked.rises places whole-counted
 
+    -- the places not after it are as many as pass the test not after it
     pub about-not-after : count_not_after places at stretch ≡ count_by test (not_after es (asked_at replies at none))
     about-not-after =
         ap (count_not_after places at) (asked.places none)
@@ -61,16 +63,19 @@ module _ (test : Entry → Bool) (replies : List KeptReply) (at : ℕ) (stretch 
 
 -- ---- what the definitions count
 
+-- the seals of a block are counted as the definitions count them
 pub seals-counted : (block : Block) (entries : List Entry) → seals_in block.table block.block entries ≡ count_by (is_seal_of block) entries
 seals-counted block entries =
     length-shown (λ (e : Entry). stamp_in block.table block.block e.reply.said) entries
     ∙ count-agree (λ e. is_some (stamp_in block.table block.block e.reply.said)) (is_seal_of block) (λ e. seal-told block e.reply.said) entries
 
+-- the freezes of a block are counted as the definitions count them
 pub freezes-counted : (block : Block) (entries : List Entry) → freezes_in block.table block.block entries ≡ count_by (is_freeze_of block) entries
 freezes-counted block entries =
     length-shown (λ (e : Entry). rows_in block.table block.block e.reply.said) entries
     ∙ count-agree (λ e. is_some (rows_in block.table block.block e.reply.said)) (is_freeze_of block) (λ e. freeze-told block e.reply.said) entries
 
+-- the seals under a stamp are counted as the definitions count them
 pub stamps-counted : (stamp : Stamp) (entries : List Entry) → stamp_count stamp.of.table stamp.of.block stamp.stamp entries ≡ count_by (is_stamp_of stamp) entries
 stamps-counted stamp entries =
     count-shown (λ shown. shown == stamp.stamp) (λ (e : Entry). stamp_in stamp.of.table stamp.of.block e.reply.said) entries
@@ -92,10 +97,12 @@ none-into : (table : ℕ) (accepted : Bool) → false ≡ is_keyed nat_cmp table
 none-into table true = refl
 none-into table false = refl
 
+-- an insert into the table was accepted exactly where its reply is counted for the table
 pub insert-told : (table : ℕ) (asked : Command) (told : Said) → is_accepted_insert table asked told ≡ is_keyed nat_cmp table (if is_accepted told then inserted_table asked else None)
 insert-told table (command.Insert into row) told = insert-into table into (is_accepted told)
 insert-told table _ told = none-into table (is_accepted told)
 
+-- the accepted inserts into a table are counted as the definitions count them
 pub inserts-counted : (table : ℕ) (entries : List Entry) → inserts_in table entries ≡ count_by (is_insert_into table) entries
 inserts-counted table entries =
     count-agree (λ (e : Entry). is_accepted_insert table e.command e.reply.said) (is_insert_into table) (λ e. insert-told table e.command e.reply.said) entries

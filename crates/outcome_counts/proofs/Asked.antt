@@ -3,7 +3,6 @@ use Rattle.std.proofs.Common.{◌≡◌, ℕ, ◌<◌, true, List, length, refl,
 use Rattle.std.specs.Option.{option_map_or}
 use Rattle.std.specs.Prelude.{slice_index_or}
 use Rattle.std.proofs.lemmas.List.{get_or_read}
-use Rattle.workload_spec.specs.declared.command.Command.{Command}
 use Rattle.workload_spec.specs.declared.reply.Said.{Said}
 use Rattle.workload_spec.specs.declared.reply.Said.TheVariants as said
 use Rattle.outcome_spec.specs.Entries.{Entry}
@@ -19,13 +18,12 @@ use Rattle.outcome_counts.specs.Keys.{freezing_told, full_told}
 pub asked-is : (replies : List KeptReply) (at : ℕ) (reply none : KeptReply) → at < length replies → reply ≡ slice_index_or replies at reply → entry_of reply ≡ asked_at replies at none
 asked-is replies at reply none within is = ap entry_of (get_or_read replies at reply within is none)
 
+-- what is asked of a reply that says `freezing` is asked by its stamp
 pub freezing-by : (run : Run) (entry : Entry) (told : Said) → freezing_reply_holds run entry told ≡ option_map_or (λ stamp. is_freezing run.entries stamp entry) (freezing_told told) true
 freezing-by run entry (said.Freezing table block stamp) = refl
 freezing-by run entry _ = refl
 
-full-asked : (run : Run) (entry : Entry) (asked : Command) → entry.command ≡ asked → full_reply_holds run entry said.Full ≡ option_map_or (λ table. is_full run.tables run.entries table entry) (full_told asked said.Full) true
-full-asked run entry asked is = ap (λ (a : Command). option_map_or (λ table. is_full run.tables run.entries table entry) (full_told a said.Full) true) is
-
+-- what is asked of a reply that says `full` is asked by its table
 pub full-by : (run : Run) (entry : Entry) (told : Said) → full_reply_holds run entry told ≡ option_map_or (λ table. is_full run.tables run.entries table entry) (full_told entry.command told) true
 full-by run entry said.Full = refl
 full-by run entry _ = refl

@@ -46,6 +46,7 @@ by-these entries round who = record {
   round_end = count_by (λ (other : Entry). nat_le other.reply.round round) entries;
 }
 
+-- what is turned around from true is not true
 pub no-other : not true ≡ true → ⊥
 no-other h = let never : ⊥ = cc in never
 
@@ -102,6 +103,7 @@ all-kept p [] j d within h = absurd (omega (arith, within))
 all-kept p (x ∷ xs) zero d within h = (and_parts (p (entry_of x)) (list_all p (entries_of xs)) h).0
 all-kept p (x ∷ xs) (suc j) d within h = all-kept p xs j d (omega (arith, within)) (and_parts (p (entry_of x)) (list_all p (entries_of xs)) h).1
 
+-- what all in front of a place pass, each reply there passes
 pub front-kept : (p : Entry → Bool) (xs : List Kept) (n j : ℕ) (d : Kept) → j < n → j < length xs → list_all p (take n (entries_of xs)) ≡ true → p (entry_of (get_or xs j d)) ≡ true
 front-kept p [] n j d below within h = absurd (omega (arith, within))
 front-kept p (x ∷ xs) zero j d below within h = absurd (omega (arith, below))
@@ -109,12 +111,14 @@ front-kept p (x ∷ xs) (suc n) zero d below within h = (and_parts (p (entry_of 
 front-kept p (x ∷ xs) (suc n) (suc j) d below within h =
     front-kept p xs n j d (omega (arith, below)) (omega (arith, within)) (and_parts (p (entry_of x)) (list_all p (take n (entries_of xs))) h).1
 
+-- what all from a place on pass, each reply there passes
 pub back-kept : (p : Entry → Bool) (xs : List Kept) (n j : ℕ) (d : Kept) → n ≤ j → j < length xs → list_all p (drop n (entries_of xs)) ≡ true → p (entry_of (get_or xs j d)) ≡ true
 back-kept p [] n j d past within h = absurd (omega (arith, within))
 back-kept p (x ∷ xs) zero j d past within h = all-kept p (x ∷ xs) j d within h
 back-kept p (x ∷ xs) (suc n) zero d past within h = absurd (omega (arith, past))
 back-kept p (x ∷ xs) (suc n) (suc j) d past within h = back-kept p xs n j d (omega (arith, past)) (omega (arith, within)) h
 
+-- of replies that rise, each is ahead of all behind it
 pub ahead-of : (xs : List Kept) (i j : ℕ) (d : Kept) → Rises (entries_of xs) → i < j → j < length xs → is_ahead (entry_of (get_or xs i d)) (entry_of (get_or xs j d)) ≡ true
 ahead-of [] i j d rises less within = absurd (omega (arith, within))
 ahead-of (x ∷ xs) zero zero d rises less within = absurd (omega (arith, less))

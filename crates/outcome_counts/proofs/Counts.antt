@@ -3,7 +3,7 @@ use Rattle.std.proofs.Common.{◌≡◌, ℕ, ◌+◌, ◌<◌, ◌≤◌, Bool,
 use Rattle.std.specs.List.{count_by, filter_map, cons_option}
 use Rattle.std.specs.Option.{option_map_or}
 use Rattle.std.specs.Prelude.{is_some}
-use Rattle.std.proofs.lemmas.List.{take_all, length-append}
+use Rattle.std.proofs.lemmas.List.{length-append}
 use Rattle.std.proofs.lemmas.List.Sums.{count_by-le-length}
 use Rattle.outcome_spec.specs.Entries.{Entry, before, not_after}
 use Rattle.outcome_check.specs.Places.{Rises, round_start, own_start, own_end, round_end, between}
@@ -22,6 +22,7 @@ pub record InOrder (entries : List Entry) (entry : Entry) (at : ℕ) : Type 0 wh
   pub closes : own_end entries entry ≤ round_end entries entry
   pub within : round_end entries entry ≤ length entries
 
+-- of replies that rise, the places about each stand in order about it
 pub in-order : (entries front : List Entry) (entry : Entry) (rest : List Entry) → entries ≡ front ++ entry ∷ rest → Rises entries → InOrder entries entry (length front)
 in-order entries front entry rest whole rises =
     let r : Rises (front ++ entry ∷ rest) = subst Rises whole rises in
@@ -49,9 +50,7 @@ module _ (test : Entry → Bool) (entries front : List Entry) (entry : Entry) (r
       counted.count to k ∙ ap (count_by test) (cut-between from to entries h) ∙ count-append test (take from entries) (between from to entries)
       ∙ ap (λ (n : ℕ). n + count_by test (between from to entries)) (sym (counted.count from (omega (arith, h, k))))
 
-  pub counted-whole : count_below (length entries) places ≡ count_by test entries
-  counted-whole = counted.count (length entries) (omega arith) ∙ ap (count_by test) (take_all (length entries) entries (omega arith))
-
+  -- the places before a reply are as many as pass the test before it
   pub counted-before : count_before places (length front) (stretch_of entries entry) ≡ count_by test (before entries entry)
   counted-before =
       let past = counted.count (round_start entries entry) (let a = order.starts in let b = order.rounds in omega (arith, a, b, at-within)) in
@@ -60,6 +59,7 @@ module _ (test : Entry → Bool) (entries front : List Entry) (entry : Entry) (r
       ap (count_by test) (by-places front entry rest entries whole rises).0 ∙ count-append test (take (round_start entries entry) entries) (between (own_start entries entry) (length front) entries) in
       omega (arith, past, own, split)
 
+  -- the places not after a reply are as many as pass the test not after it
   pub counted-not-after : count_not_after places (length front) (stretch_of entries entry) ≡ count_by test (not_after entries entry)
   counted-not-after =
       let here = counted.count (length front + 1) (omega (arith, at-within)) in
@@ -70,6 +70,7 @@ module _ (test : Entry → Bool) (entries front : List Entry) (entry : Entry) (r
 
 -- ---- counts of what is shown
 
+-- two tests that agree count the same
 pub count-agree : {X : Type 0} (p q : X → Bool) → ((x : X) → p x ≡ q x) → (xs : List X) → count_by p xs ≡ count_by q xs
 count-agree p q same [] = refl
 count-agree p q same (x ∷ xs) =
@@ -79,6 +80,7 @@ shown-step : (p : ℕ → Bool) (o : Option ℕ) (others : List ℕ) → count_b
 shown-step p None others = sym (zero-add (count_by p others))
 shown-step p (Some n) others = count-cons p n others
 
+-- what is shown and passes is counted as what shows such a thing
 pub count-shown : {X : Type 0} (p : ℕ → Bool) (shown : X → Option ℕ) (xs : List X) → count_by p (filter_map shown xs) ≡ count_by (λ x. option_map_or p (shown x) false) xs
 count-shown p shown [] = refl
 count-shown p shown (x ∷ xs) =
@@ -89,6 +91,7 @@ length-step : (o : Option ℕ) (others : List ℕ) → length (cons_option o oth
 length-step None others = sym (zero-add (length others))
 length-step (Some n) others = omega arith
 
+-- there are as many shown as show something
 pub length-shown : {X : Type 0} (shown : X → Option ℕ) (xs : List X) → length (filter_map shown xs) ≡ count_by (λ x. is_some (shown x)) xs
 length-shown shown [] = refl
 length-shown shown (x ∷ xs) =

@@ -22,6 +22,7 @@ then-equal Equal Equal h = (refl, refl)
 then-equal Equal Greater h = absurd (let never : ⊥ = cc in never)
 then-equal Greater b h = absurd (let never : ⊥ = cc in never)
 
+-- numbers that compare as one are one
 pub nat-one : (a b : ℕ) → is_eq (nat_cmp a b) ≡ true → a ≡ b
 nat-one a b h = by (nat_cmp a b) refl h
   where
@@ -30,15 +31,9 @@ nat-one a b h = by (nat_cmp a b) refl h
     by Equal is k = nat_cmp-IsAntisymmetric a b is
     by Greater is k = absurd (let never : ⊥ = cc in never)
 
-pub block-one : (a b : Block) → is_eq (block_cmp a b) ≡ true → a ≡ b
-block-one a b h =
-    let parts = then-equal (nat_cmp a.table b.table) (nat_cmp a.block b.block) h in
-    let table : a.table ≡ b.table = nat_cmp-IsAntisymmetric a.table b.table parts.0 in
-    let block : a.block ≡ b.block = nat_cmp-IsAntisymmetric a.block b.block parts.1 in
-    ap (λ (n : ℕ). record a { table = n }) table ∙ ap (λ (n : ℕ). record b { block = n }) block
-
 -- ---- as tests of numbers
 
+-- numbers compare as one exactly where they are equal
 pub nat-same : (a b : ℕ) → is_eq (nat_cmp a b) ≡ eqb a b
 nat-same a b = by (cases_eq a b)
   where
@@ -51,12 +46,14 @@ then-same Less b = refl
 then-same Equal b = refl
 then-same Greater b = refl
 
+-- blocks compare as one exactly where table and number are equal
 pub block-same : (a b : Block) → is_eq (block_cmp a b) ≡ (eqb a.table b.table && eqb a.block b.block)
 block-same a b =
     then-same (nat_cmp a.table b.table) (nat_cmp a.block b.block)
     ∙ ap (λ (t : Bool). t && is_eq (nat_cmp a.block b.block)) (nat-same a.table b.table)
     ∙ ap (λ (t : Bool). eqb a.table b.table && t) (nat-same a.block b.block)
 
+-- stamps compare as one exactly where their blocks and numbers are equal
 pub stamp-same : (a b : Stamp) → is_eq (stamp_cmp a b) ≡ ((eqb a.of.table b.of.table && eqb a.of.block b.of.block) && eqb a.stamp b.stamp)
 stamp-same a b =
     then-same (block_cmp a.of b.of) (nat_cmp a.stamp b.stamp)
@@ -69,11 +66,13 @@ some-if : (b : Bool) (n : ℕ) → is_some (if b then Some n else None) ≡ b
 some-if true n = refl
 some-if false n = refl
 
+-- a reply shows a stamp of the block exactly where it seals it
 pub seal-told : (block : Block) (told : Said) → is_some (stamp_in block.table block.block told) ≡ is_keyed block_cmp block (block_sealed told)
 seal-told block (said.Sealed table of stamp) =
     some-if (eqb table block.table && eqb of block.block) stamp ∙ sym (block-same (record { table = table; block = of }) block)
 seal-told block _ = refl
 
+-- a reply shows rows of the block exactly where it says that it was frozen
 pub freeze-told : (block : Block) (told : Said) → is_some (rows_in block.table block.block told) ≡ is_keyed block_cmp block (block_frozen told)
 freeze-told block (said.Frozen table of rows) =
     some-if (eqb table block.table && eqb of block.block) rows ∙ sym (block-same (record { table = table; block = of }) block)
@@ -83,6 +82,7 @@ counted-if : (b : Bool) (n stamp : ℕ) → option_map_or (λ shown. shown == st
 counted-if true n stamp = refl
 counted-if false n stamp = refl
 
+-- a reply shows this stamp of its block exactly where it seals it under it
 pub stamp-said : (stamp : Stamp) (told : Said) → option_map_or (λ shown. shown == stamp.stamp) (stamp_in stamp.of.table stamp.of.block told) false ≡ is_keyed stamp_cmp stamp (stamp_told told)
 stamp-said stamp (said.Sealed table of shown) =
     counted-if (eqb table stamp.of.table && eqb of stamp.of.block) shown stamp.stamp
@@ -93,6 +93,7 @@ above-if : (b : Bool) (n : ℕ) → option_map_or (λ stamp. stamp + 1) (if b th
 above-if true n = refl
 above-if false n = refl
 
+-- one more than the stamp that a reply shows of a block is what is kept for the highest
 pub above-said : (block : Block) (told : Said) → option_map_or (λ stamp. stamp + 1) (stamp_in block.table block.block told) 0 ≡ above_told block (stamp_told told)
 above-said block (said.Sealed table of shown) =
     above-if (eqb table block.table && eqb of block.block) shown

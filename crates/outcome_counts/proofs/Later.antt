@@ -24,10 +24,12 @@ use Rattle.outcome_counts.proofs.Starts.{at-place, get-at, KeptAt, kept-at}
 
 -- ---- lists from their ends
 
+-- a list that is turned around has the same element where it is split
 pub turned-at : {X : Type 0} (front : List X) (x : X) (rest : List X) → reverse (front ++ x ∷ rest) ≡ reverse rest ++ x ∷ reverse front
 turned-at front x rest =
     ap reverse (sym (append_assoc front (x ∷ []) rest)) ∙ reverse-append (front ++ x ∷ []) rest ∙ ap (λ ys. reverse rest ++ ys) (reverse-append front (x ∷ []))
 
+-- the highest of a list that is turned around is the same
 pub highest-reverse : {X : Type 0} (f : X → ℕ) (xs : List X) → highest f (reverse xs) ≡ highest f xs
 highest-reverse f [] = refl
 highest-reverse f (x ∷ xs) =
@@ -35,6 +37,7 @@ highest-reverse f (x ∷ xs) =
     let whole : highest f (reverse (x ∷ xs)) ≡ max (highest f (reverse xs)) (f x) = ap (highest f) (reverse-append (x ∷ []) xs) ∙ highest-push f (reverse xs) x in
     omega (arith, rest, whole)
 
+-- the front of a list that is turned around is the turned rest
 pub take-reverse : {X : Type 0} (n : ℕ) (xs : List X) → n ≤ length xs → take (length xs - n) (reverse xs) ≡ reverse (drop n xs)
 take-reverse n xs h =
     ap (λ ys. take (length xs - n) ys) (ap reverse (sym (take-append-drop n xs)) ∙ reverse-append (take n xs) (drop n xs))
@@ -42,6 +45,7 @@ take-reverse n xs h =
 
 -- ---- where own replies begin from the end
 
+-- where the own replies of a reply begin from the end, by where they end
 pub end-at : (entries front : List Entry) (entry : Entry) (rest : List Entry) (back : ℕ) → entries ≡ front ++ entry ∷ rest → length rest ≡ back → ends_in entries back ≡ length entries - own_end entries entry
 end-at entries front entry rest back whole far =
     let found : slice_get (reverse entries) back ≡ Some entry =
@@ -123,6 +127,7 @@ pub record FromEnd (entries : List Entry) (back : ℕ) : Type 0 where
   pub whole : entries ≡ front ++ entry ∷ rest
   pub far : length rest ≡ back
 
+-- each place from the end has a reply, with those in front of it and behind it
 pub from-end : (entries : List Entry) (back : ℕ) → back < length entries → FromEnd entries back
 from-end entries back h =
     let at = at-place entries (length entries - 1 - back) (omega (arith, h)) in
@@ -131,6 +136,7 @@ from-end entries back h =
     let far = at.far in
     record { front = at.front; entry = at.item; rest = at.rest; whole = at.whole; far = omega (arith, h, l, m, far) }
 
+-- from the end, too, each reply's own begin at it or where those of the one in front do
 pub ends-are : (entries : List Entry) → Rises entries → AreStarts (reverse entries) (ends_in entries)
 ends-are entries rises = record {
   up_to = λ back inside.
@@ -222,6 +228,7 @@ module _ (replies : List KeptReply) (at : ℕ) (stretch : Stretch) (asked : IsAs
   swapped : (a b : ℕ) → max a b ≡ max b a
   swapped a b = omega arith
 
+  -- the peaks from the end give the highest after the reply that is judged
   pub peaks-after : max (most_below (length replies - stretch.round_end) peaks) (own_below (length replies - stretch.own_end) (length replies - 1 - at) peaks) ≡ highest below_commit (after es e)
   peaks-after =
       ap (λ (s : Stretch). max (most_below (length replies - s.round_end) peaks) (own_below (length replies - s.own_end) (length replies - 1 - at) peaks)) (asked.places none)
@@ -242,6 +249,7 @@ above-step top number small (Some n) others high h = ap (λ (b : Bool). nat_lt n
     both : (top number n high : ℕ) → number < top → (nat_lt number n && nat_lt high (top - number)) ≡ nat_lt (max (top - n) high) (top - number)
     both top number n high small = grind (arith, nat_tests)
 
+-- numbers are all above one exactly where none of them is as far below a top
 pub all-above : {X : Type 0} (top number : ℕ) → number < top → (shown : X → Option ℕ) (xs : List X)
     → list_all (λ n. nat_lt number n) (filter_map shown xs) ≡ nat_lt (highest (λ x. option_map_or (λ n. top - n) (shown x) 0) xs) (top - number)
 all-above top number small shown [] = let e : nat_lt 0 (top - number) ≡ true = grind (arith, nat_tests) in sym e
@@ -249,9 +257,11 @@ all-above top number small shown (x ∷ xs) = above-step top number small (shown
 
 -- ---- one reply more, from the end
 
+-- a list that is split at an element, turned around, is split at it
 pub turned-front : (entries front : List Entry) (entry : Entry) (rest : List Entry) → entries ≡ front ++ entry ∷ rest → reverse entries ≡ reverse rest ++ entry ∷ reverse front
 turned-front entries front entry rest whole = ap reverse whole ∙ turned-at front entry rest
 
+-- where no number is, the distance is 0
 pub none-below : (number : Option ℕ) → is_some number ≡ false → below number ≡ 0
 none-below None h = refl
 none-below (Some n) h = absurd (let never : ⊥ = cc in never)

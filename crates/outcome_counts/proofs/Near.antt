@@ -6,13 +6,8 @@ use Rattle.std.proofs.lemmas.List.{take-append-drop, length-take-le}
 use Rattle.outcome_check.proofs.Pieces.{Parted, all-take, count-append, count-cons, count-none, cut-between}
 use Rattle.outcome_counts.proofs.Parts.{first-passes}
 
-pub drop-past : {X : Type 0} (n : ℕ) (xs : List X) → length xs ≤ n → drop n xs ≡ []
-drop-past zero [] h = refl
-drop-past (suc n) [] h = refl
-drop-past zero (x ∷ xs) h = absurd (omega (arith, h))
-drop-past (suc n) (x ∷ xs) h = drop-past n xs (omega (arith, h))
-
 module _ {X : Type 0} (p : X → Bool) where
+  -- where all pass, as many are counted as there are
   pub count-all : (xs : List X) → list_all p xs ≡ true → count_by p xs ≡ length xs
   count-all [] h = refl
   count-all (x ∷ xs) h =
@@ -42,6 +37,7 @@ module _ {X : Type 0} (p : X → Bool) where
   parted-drop (suc n) [] h = tt
   parted-drop (suc n) (x ∷ xs) h = parted-drop n xs h.1
 
+  -- a part of a list that is parted is parted
   pub parted-near : (from to : ℕ) (xs : List X) → Parted p xs → Parted p (drop from (take to xs))
   parted-near from to xs h = parted-drop from (take to xs) (parted-take to xs h)
 
@@ -52,6 +48,7 @@ module _ {X : Type 0} (p : X → Bool) where
   front-passes (x ∷ xs) (suc i) d h within is =
       and_from (p x) (list_all p (take (suc i) xs)) (first-passes p x xs i d (p x) refl h.0 (omega (arith, within)) is) (front-passes xs i d h.1 (omega (arith, within)) is)
 
+  -- where one of a parted list fails, all from it on do
   pub back-fails : (xs : List X) (i : ℕ) (d : X) → Parted p xs → i < length xs → p (get_or xs i d) ≡ false → list_all (λ y. not (p y)) (drop i xs) ≡ true
   back-fails [] i d h within is = absurd (omega (arith, within))
   back-fails (x ∷ xs) zero d h within is = and_from (not (p x)) (list_all (λ y. not (p y)) xs) (ap not is) (h.0 is)

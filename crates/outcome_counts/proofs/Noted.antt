@@ -16,6 +16,7 @@ none-above : (block : Block) (told : Option Stamp) → is_keyed block_cmp block 
 none-above block None h = refl
 none-above block (Some stamp) h = ap (λ (b : Bool). if b then stamp.stamp + 1 else 0) h
 
+-- the marks of blocks are those of one reply more once it is noted
 pub block-marks-next : (entries front : List Entry) (entry : Entry) (rest : List Entry) (n : ℕ) → entries ≡ front ++ entry ∷ rest → length front ≡ n → AreStarts entries (starts_in entries)
     → (before now : BlockMarks) → AreBlockMarks entries n before → IsNoted entry n (starts_in entries n) before now → AreBlockMarks entries (n + 1) now
 block-marks-next entries front entry rest n whole far begins before now marked noted = record {

@@ -15,6 +15,7 @@ none-above : (number : Option ℕ) → is_some number ≡ false → above number
 none-above None h = refl
 none-above (Some n) h = absurd (let never : ⊥ = cc in never)
 
+-- the marks of numbers are those of one reply more once it is noted
 pub number-marks-next : (entries front : List Entry) (entry : Entry) (rest : List Entry) (n : ℕ) → entries ≡ front ++ entry ∷ rest → length front ≡ n → AreStarts entries (starts_in entries)
     → (before now : NumberMarks) → AreNumberMarks entries n before → IsNumbered entry n (starts_in entries n) before now → AreNumberMarks entries (n + 1) now
 number-marks-next entries front entry rest n whole far begins before now marked noted = record {

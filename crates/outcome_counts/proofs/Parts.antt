@@ -17,6 +17,7 @@ first-passes p x xs j d false is stops within h =
     let e : p (get_or xs j d) ≡ false = not-true (p (get_or xs j d)) (all-get (λ y. not (p y)) xs j d within (stops is)) in
     absurd (let never : true ≡ false = sym h ∙ e in let impossible : ⊥ = cc in impossible)
 
+-- of a list that is parted, all in front of one that passes pass
 pub parted-at : {X : Type 0} (p : X → Bool) (xs : List X) → Parted p xs → IsPartitionedBy p xs
 parted-at p [] h i j d low within is = absurd (omega (arith, within))
 parted-at p (x ∷ xs) h zero zero d low within is = is
@@ -28,10 +29,12 @@ all-map : {X Y : Type 0} (f : X → Y) (p : Y → Bool) (xs : List X) → list_a
 all-map f p [] = refl
 all-map f p (x ∷ xs) = ap (λ (b : Bool). p (f x) && b) (all-map f p xs)
 
+-- a list is parted where its images are
 pub parted-map : {X Y : Type 0} (f : X → Y) (p : Y → Bool) (xs : List X) → Parted p (map f xs) → Parted (λ x. p (f x)) xs
 parted-map f p [] h = tt
 parted-map f p (x ∷ xs) h = (λ fails. sym (all-map f (λ y. not (p y)) xs) ∙ h.0 fails, parted-map f p xs h.1)
 
+-- as many images pass as elements whose image does
 pub count-map : {X Y : Type 0} (f : X → Y) (p : Y → Bool) (xs : List X) → count_by p (map f xs) ≡ count_by (λ x. p (f x)) xs
 count-map f p [] = refl
 count-map f p (x ∷ xs) = count-cons p (f x) (map f xs) ∙ ap (λ (n : ℕ). cond (p (f x)) 1 0 + n) (count-map f p xs) ∙ sym (count-cons (λ y. p (f y)) x xs)

@@ -52,6 +52,7 @@ module _ (value : Entry → ℕ) (replies : List KeptReply) (at : ℕ) (stretch 
       let l = long in
       subst (λ (n : ℕ). own_below n at peaks ≡ highest value (part n at es)) start (noted.own at (omega (arith, i)) (omega (arith, i, l)))
 
+  -- the peaks give the highest before the reply that is judged
   pub peaks-before : peak_before peaks at stretch ≡ highest value (before es e)
   peaks-before =
       ap (peak_before peaks at) (asked.places none)
@@ -76,10 +77,12 @@ pub all-below : {X : Type 0} (shown : X → Option ℕ) (bound : ℕ) (xs : List
 all-below shown bound [] = grind (arith, nat_tests)
 all-below shown bound (x ∷ xs) = below-step (shown x) (filter_map shown xs) (highest (λ y. option_map_or (λ n. n + 1) (shown y) 0) xs) bound (all-below shown bound xs)
 
+-- two values that agree have the same highest
 pub highest-agree : {X : Type 0} (f g : X → ℕ) → ((x : X) → f x ≡ g x) → (xs : List X) → highest f xs ≡ highest g xs
 highest-agree f g same [] = refl
 highest-agree f g same (x ∷ xs) = ap (λ (n : ℕ). max n (highest f xs)) (same x) ∙ ap (λ (n : ℕ). max (g x) n) (highest-agree f g same xs)
 
+-- the block's stamps are all below one exactly where the highest, plus one, is at most it
 pub stamps-below : (block : Block) (stamp : ℕ) (entries : List Entry) → list_all (λ earlier. nat_lt earlier stamp) (shown_in (stamp_in block.table block.block) entries) ≡ nat_le (highest (above_stamp block) entries) stamp
 stamps-below block stamp entries =
     all-below (λ (e : Entry). stamp_in block.table block.block e.reply.said) stamp entries

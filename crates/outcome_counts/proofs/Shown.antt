@@ -23,12 +23,15 @@ commit-told : (number : ℕ) (told : Option ℕ) → option_map_or (λ shown. sh
 commit-told number None = refl
 commit-told number (Some n) = sym (nat-same n number)
 
+-- the commits with a number are counted as the definitions count them
 pub commits-counted : (number : ℕ) (entries : List Entry) → count_by (commits_as number) entries ≡ count_by (is_commit_of number) entries
 commits-counted number entries = count-agree (commits_as number) (is_commit_of number) (λ e. commit-told number (commit_in e.reply.said)) entries
 
+-- the commits with any number are counted as the definitions count them
 pub numbered-counted : (entries : List Entry) → commit_count entries ≡ count_by is_numbered entries
 numbered-counted entries = length-shown (λ (e : Entry). commit_in e.reply.said) entries
 
+-- commit numbers are all below one exactly where the highest, plus one, is at most it
 pub commits-below : (number : ℕ) (entries : List Entry) → list_all (λ earlier. nat_lt earlier number) (shown_in commit_in entries) ≡ nat_le (highest above_commit entries) number
 commits-below number entries = all-below (λ (e : Entry). commit_in e.reply.said) number entries
 
@@ -36,6 +39,7 @@ all-agree : {X : Type 0} (p q : X → Bool) → ((x : X) → p x ≡ q x) → (x
 all-agree p q same [] = refl
 all-agree p q same (x ∷ xs) = ap (λ (b : Bool). b && list_all p xs) (same x) ∙ ap (λ (b : Bool). q x && b) (all-agree p q same xs)
 
+-- the numbers that are shown are all up to one exactly where the highest is
 pub shown-up-to : (number : ℕ) (entries : List Entry) → list_all (λ earlier. nat_le earlier number) (shown_in number_shown entries) ≡ nat_le (highest above_shown entries) (number + 1)
 shown-up-to number entries =
     all-agree (λ n. nat_le n number) (λ n. nat_lt n (number + 1)) (λ n. same n number) (shown_in number_shown entries)
@@ -44,9 +48,11 @@ shown-up-to number entries =
     same : (n number : ℕ) → nat_le n number ≡ nat_lt n (number + 1)
     same n number = grind (arith, nat_tests)
 
+-- commit numbers are all above one exactly where none of them is as far below 2 ^ 64
 pub commits-above : (number : ℕ) → number < 2 ^ 64 → (entries : List Entry) → list_all (λ later. nat_lt number later) (shown_in commit_in entries) ≡ nat_lt (highest below_commit entries) (2 ^ 64 - number)
 commits-above number small entries = all-above (2 ^ 64) number small (λ (e : Entry). commit_in e.reply.said) entries
 
+-- what is asked of a reply that shows a snapshot is asked by its number
 pub snapshot-by : (run : Run) (entry : Entry) (told : Said) → snapshot_holds run entry told ≡ option_map_or (λ number. is_snapshot run.entries number entry) (snapshot_in told) true
 snapshot-by run entry (said.At number) = refl
 snapshot-by run entry _ = refl

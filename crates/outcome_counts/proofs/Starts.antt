@@ -25,6 +25,7 @@ pub record At {X : Type 0} (xs : List X) (place : ℕ) : Type 0 where
   pub far : length front ≡ place
   pub found : slice_get xs place ≡ Some item
 
+-- each place of a list has an element, with those in front of it and behind it
 pub at-place : {X : Type 0} (xs : List X) (place : ℕ) → place < length xs → At xs place
 at-place [] place h = absurd (omega (arith, h))
 at-place (x ∷ xs) zero h = record { front = []; item = x; rest = xs; whole = refl; far = refl; found = refl }
@@ -39,6 +40,7 @@ at-place (x ∷ xs) (suc place) h =
       found = later.found;
     }
 
+-- behind a front stands the element that follows it
 pub get-at : {X : Type 0} (front : List X) (x : X) (rest : List X) → slice_get (front ++ x ∷ rest) (length front) ≡ Some x
 get-at [] x rest = refl
 get-at (y ∷ front) x rest = get-at front x rest
@@ -141,5 +143,6 @@ kept-front (kept ∷ replies) (suc place) reply within is =
       there = later.there;
     }
 
+-- each kept reply is found at its place among the replies
 pub kept-at : (replies : List KeptReply) (place : ℕ) (reply : KeptReply) → place < length replies → reply ≡ slice_index_or replies place reply → KeptAt replies place reply
 kept-at replies place reply within is = kept-front replies place reply within (sym is)

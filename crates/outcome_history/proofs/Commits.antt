@@ -71,6 +71,7 @@ first-pushed true n (place ∷ places) = refl
 first-pushed false n [] = refl
 first-pushed false n (place ∷ places) = refl
 
+-- the first reply that passes, with one reply more
 pub first-next : (test : Entry → Bool) (entries front : List Entry) (entry : Entry) (rest : List Entry) (n : ℕ) → entries ≡ front ++ entry ∷ rest → length front ≡ n
     → (old : Option ℕ) (b : Bool) → test entry ≡ b → old ≡ first_of test (take n entries) → option_or old (if b then Some n else None) ≡ first_of test (take (n + 1) entries)
 first-next test entries front entry rest n whole far old b is are =
@@ -82,19 +83,23 @@ keyed-by : (number : ℕ) (told : Option ℕ) → is_keyed nat_cmp number told �
 keyed-by number None = refl
 keyed-by number (Some shown) = nat-same shown number
 
+-- a reply has a number as its key where it commits as it
 pub commit-keyed : (number : ℕ) (entry : Entry) → is_keyed nat_cmp number (commit_in entry.reply.said) ≡ commits_as number entry
 commit-keyed number entry = keyed-by number (commit_in entry.reply.said)
 
 -- ---- a change is laid over the others
 
+-- what is made of something is there where that is
 pub some-mapped : {X Y : Type 0} (f : X → Y) (o : Option X) → is_some o ≡ is_some (option_map f o)
 some-mapped f None = refl
 some-mapped f (Some x) = refl
 
+-- what follows where a result is one that went well
 pub on-ok : {T E : Type 0} (P Q : Type 0) (r : Result T E) → (P → Q) → OnOk r P → OnOk r Q
 on-ok P Q (Ok x) f h = f h
 on-ok P Q (Err e) f h = tt
 
+-- what is kept of a row goes by the time of its writes
 pub lay-rise : (time : ℕ) (writes : Writes) → CanLay time writes → (spot : Spot) → IsNonDecreasingBy (λ left. left.time) (marks_at spot_cmp writes.left spot)
 lay-rise time writes can spot = can.laid.kept.left_rise spot
 
@@ -107,6 +112,7 @@ row-of front writes laid spot owner bound =
     ∙ sym (at-after [] (up_to bound (laid.written 0)) (place_in (row_at spot)) tt)
     ∙ ap (λ (ws : List TimedWrite). at_place (after_writes [] (up_to bound ws)) (place_in (row_at spot))) laid.own
 
+-- what is kept with one write more, made no earlier than the others
 pub laid-one : (front : List TimedWrite) (before now : Writes) (spot : Spot) (left : Left) (had : Bool) → spot.owner ≡ 0 → IsLaid front before → AreLater left.time front
     → had ≡ is_some (unwrap_or (row_up_to left.time (marks_at spot_cmp before.left spot)) None) → IsNoted spot left had before now → IsLaid (front ++ write_noted spot left ∷ []) now
 laid-one front before now spot left had owner laid later has noted =
@@ -128,6 +134,7 @@ all-made : (number : ℕ) (changes : List (Place × Option (List Cell))) → Are
 all-made number [] = refl
 all-made number (change ∷ changes) = let e : nat_le number number ≡ true = grind (arith, nat_tests) in rw e (all-made number changes)
 
+-- changes made at a time, added, leave no write behind it
 pub later-with : (number : ℕ) (front : List TimedWrite) (changes : List (Place × Option (List Cell))) → AreLater number front → AreLater number (front ++ timed number changes)
 later-with number front changes h = list_all-append (λ w. nat_le w.time number) front (timed number changes) ∙ rw h (all-made number changes)
 
@@ -147,6 +154,7 @@ made-next number bound own change b is =
         ∙ map-push (timed_one number) (changes_of (up_to bound (map written_by own))) ((written_by change).place, (written_by change).row)
     by false = ap (λ (ws : List TimedWrite). timed number (changes_of ws)) (push-none (up_to bound (map written_by own))) ∙ sym (push-none (timed number (changes_of (up_to bound (map written_by own)))))
 
+-- the first elements with one more
 pub take-next-one : {X : Type 0} (xs : List X) (i : ℕ) (x : X) → i < length xs → x ≡ get_or xs i x → take (i + 1) xs ≡ take i xs ++ x ∷ []
 take-next-one {X = X} xs i x within is = let e : i + 1 ≡ suc i = omega arith in ap (λ (n : ℕ). take n xs) e ∙ by xs i within is
   where
@@ -155,6 +163,7 @@ take-next-one {X = X} xs i x within is = let e : i + 1 ≡ suc i = omega arith i
     by (y ∷ xs) zero within is = ap (λ (z : X). z ∷ []) (sym is)
     by (y ∷ xs) (suc i) within is = ap (λ (zs : List X). y ∷ zs) (by xs i (omega (arith, within)) is)
 
+-- a change more of a commit, made up to its bound
 pub made-first : (front : List TimedWrite) (number bound : ℕ) (own : List Change) (i : ℕ) (change : Change) → take (i + 1) own ≡ take i own ++ change ∷ [] → change.left.time ≤ bound
     → front ++ timed number (changes_of (up_to bound (map written_by (take (i + 1) own))))
     ≡ (front ++ timed number (changes_of (up_to bound (map written_by (take i own))))) ++ made_at number (written_by change) ∷ []
@@ -164,6 +173,7 @@ made-first front number bound own i change next h =
     ∙ ap (λ (ws : List TimedWrite). front ++ ws) (made-next number bound (take i own) change true test)
     ∙ sym (append_assoc front (timed number (changes_of (up_to bound (map written_by (take i own))))) (made_at number (written_by change) ∷ []))
 
+-- a change made behind the bound is not the commit's
 pub made-past : (front : List TimedWrite) (number bound : ℕ) (own : List Change) (i : ℕ) (change : Change) → take (i + 1) own ≡ take i own ++ change ∷ [] → bound < change.left.time
     → front ++ timed number (changes_of (up_to bound (map written_by (take (i + 1) own)))) ≡ front ++ timed number (changes_of (up_to bound (map written_by (take i own))))
 made-past front number bound own i change next h =
@@ -173,6 +183,7 @@ made-past front number bound own i change next h =
 
 -- ---- nothing is laid
 
+-- nothing is kept of owners that wrote nothing
 pub laid-none : (writes : Writes) → ((spot : Spot) → marks_at spot_cmp writes.left spot ≡ []) → ((shelf : Shelf) → marks_at shelf_cmp writes.gained shelf ≡ [])
     → ((shelf : Shelf) → marks_at shelf_cmp writes.lost shelf ≡ []) → (bases : ℕ → State) → AreKept bases (λ owner. []) writes
 laid-none writes left gained lost bases = record {
@@ -191,6 +202,7 @@ laid-none writes left gained lost bases = record {
 -- ---- commits one after another
 
 module _ (openings : List (Option ℕ)) (entries : List Entry) where
+  -- the writes of one commit more
   pub commits-next : (first count : ℕ) → commits_from openings entries first (count + 1) ≡ commits_from openings entries first count ++ commit_writes openings entries (first + count)
   commits-next first zero =
       let e : first ≡ first + 0 = omega arith in
@@ -211,12 +223,15 @@ module _ (openings : List (Option ℕ)) (entries : List Entry) where
   commit-at-by number None = refl
   commit-at-by number (Some place) = made-at-by number place (opening_of openings place)
 
+  -- no write of a commit is made behind its number
   pub commit-at : (number : ℕ) → AreLater number (commit_writes openings entries number)
   commit-at number = commit-at-by number (first_of (commits_as number) entries)
 
+  -- what has no write behind a time has none behind a later one
   pub lower : (low high : ℕ) → low ≤ high → (writes : List TimedWrite) → AreLater low writes → AreLater high writes
   lower low high h writes k = all-weaker (λ w. nat_le w.time low) (λ w. nat_le w.time high) (λ w is. grind (arith, nat_tests, h, is)) writes k
 
+  -- no write of the commits up to a number is made behind it
   pub commits-later : (first count bound : ℕ) → first + count ≤ bound + 1 → AreLater bound (commits_from openings entries first count)
   commits-later first zero bound h = refl
   commits-later first (suc count) bound h =

@@ -31,6 +31,7 @@ abbrev pub held_from : ℕ → (Who → Option ℕ) → List Entry → Who → O
 held_from place held [] = held
 held_from place held (entry ∷ entries) = held_from (place + 1) (open_next entry place held) entries
 
+-- where the open transaction of each session is opened, behind these replies
 abbrev pub held_behind : List Entry → Who → Option ℕ
 held_behind entries = held_from 0 (λ who. None) entries
 
@@ -40,6 +41,7 @@ held-append place held (first ∷ front) entry =
     let e : (place + 1) + length front ≡ place + suc (length front) = omega arith in
     held-append (place + 1) (open_next first place held) front entry ∙ ap (λ (n : ℕ). open_next entry n (held_from (place + 1) (open_next first place held) front)) e
 
+-- the openings of two lists of replies in a row
 pub openings-append : (place : ℕ) (held : Who → Option ℕ) (front back : List Entry)
     → openings_from place held (front ++ back) ≡ openings_from place held front ++ openings_from (place + length front) (held_from place held front) back
 openings-append place held [] back = let e : place ≡ place + 0 = omega arith in ap (λ (n : ℕ). openings_from n held back) e
@@ -49,6 +51,7 @@ openings-append place held (first ∷ front) back =
     (openings-append (place + 1) (open_next first place held) front back
     ∙ ap (λ (n : ℕ). openings_from (place + 1) (open_next first place held) front ++ openings_from n (held_from (place + 1) (open_next first place held) front) back) e)
 
+-- each reply has an opening or none
 pub openings-long : (place : ℕ) (held : Who → Option ℕ) (entries : List Entry) → length (openings_from place held entries) ≡ length entries
 openings-long place held [] = refl
 openings-long place held (entry ∷ entries) = ap suc (openings-long (place + 1) (open_next entry place held) entries)
@@ -57,9 +60,11 @@ openings-long place held (entry ∷ entries) = ap suc (openings-long (place + 1)
 abbrev pub so_far : ℕ → List Entry → List TimedWrite
 so_far owner front = own_writes owner 0 (openings_in front) front
 
+-- where the transaction of the next reply is opened, if it has one
 abbrev pub opening_here : List Entry → Entry → Option ℕ
 opening_here front entry = opening_next entry (length front) (held_behind front)
 
+-- the openings with a reply more
 pub openings-push : (front : List Entry) (entry : Entry) → openings_in (front ++ entry ∷ []) ≡ openings_in front ++ opening_here front entry ∷ []
 openings-push front entry =
     openings-append 0 (λ who. None) front (entry ∷ [])
@@ -238,6 +243,7 @@ module _ (entries front : List Entry) (entry : Entry) (rest : List Entry) (whole
   idle-by k false false w s = stands.idle k
   idle-by k false true w s = impossible (sym (ap is_worker (same-is its (Worker k) s)) ∙ w)
 
+  -- With a reply more, what stands behind the replies still does.
   pub stands-next : Stands (front ++ entry ∷ [])
   stands-next = record {
     idle = λ k. ap (λ (h : Who → Option ℕ). h (Worker k)) (held-push front entry) ∙ idle-by k (is_worker its) (is_same its (Worker k)) refl refl;

@@ -40,6 +40,7 @@ pub record FirstAt (test : Entry → Bool) (place : ℕ) (entries : List Entry) 
 some-number : (a b : ℕ) → Some a ≡ Some b → a ≡ b
 some-number a b h = ap (λ (o : Option ℕ). unwrap_or o a) h
 
+-- where no place is the first that passes, nothing passes
 pub first-none : (test : Entry → Bool) (place : ℕ) (entries : List Entry) → slice_get (places_of test place entries) 0 ≡ None → find test entries ≡ None
 first-none test place [] h = refl
 first-none test place (entry ∷ entries) h = by (test entry) (first-none test (place + 1) entries) h
@@ -49,6 +50,7 @@ first-none test place (entry ∷ entries) h = by (test entry) (first-none test (
     by true rest h = absurd (let never : ⊥ = cc in never)
     by false rest h = rest h
 
+-- what stands at the first place that passes
 pub first-some : (test : Entry → Bool) (place : ℕ) (entries : List Entry) (first : ℕ) → slice_get (places_of test place entries) 0 ≡ Some first → FirstAt test place entries first
 first-some test place [] first h = absurd (let never : ⊥ = cc in never)
 first-some test place (entry ∷ entries) first h = by (test entry) refl (first-some test (place + 1) entries first) h
@@ -71,6 +73,7 @@ first-some test place (entry ∷ entries) first h = by (test entry) refl (first-
           passes = later.passes;
         }
 
+-- what commits ends its transaction
 pub commits-end : (number : ℕ) (told : Said) → option_map_or (λ shown. shown == number) (commit_in told) false ≡ true → is_end told ≡ true
 commits-end number (said.Committed shown) h = refl
 commits-end number _ h = absurd (let never : ⊥ = cc in never)

@@ -1,8 +1,7 @@
 -- What the definitions say a transaction sees is what is kept of it.
-use Rattle.std.proofs.Common.{◌≡◌, ℕ, ◌<◌, zero, suc, Bool, true, List, [], ◌∷◌, length, take, Option, None, Some, Result, Ok, Err, IfOk, refl, sym, ap, ◌∙◌, subst, arith}
+use Rattle.std.proofs.Common.{◌≡◌, ℕ, ◌<◌, Bool, true, List, [], ◌∷◌, length, take, Option, None, Some, Result, Ok, Err, IfOk, refl, sym, ap, ◌∙◌, subst, arith}
 use Rattle.std.specs.Option.{option_map_or}
 use Rattle.std.specs.Prelude.{option_and_then, slice_index_or}
-use Rattle.std.proofs.lemmas.Bool.{and_parts}
 use Rattle.std.proofs.lemmas.List.{length-map, take_all}
 use Rattle.cell_model.specs.declared.cell.Cell.{Cell}
 use Rattle.cell_model.specs.declared.table.TableDecl.{TableDecl}
@@ -13,7 +12,7 @@ use Rattle.outcome_spec.specs.Entries.{Entry, before, snapshot_in}
 use Rattle.outcome_spec.specs.Runs.{Run, Span, run_of, seen_at, transaction_of, writes_in}
 use Rattle.outcome_counts.specs.Asked.{asked_at}
 use Rattle.outcome_counts.proofs.Starts.{kept-at, KeptAt}
-use Rattle.output_read.specs.Kept.{are_told, entries_of, entry_of, is_told}
+use Rattle.output_read.specs.Kept.{entries_of, entry_of}
 use Rattle.output_read.specs.declared.kept.KeptReply.{KeptReply}
 use Rattle.outcome_spans.specs.Openings.{AreOpenings, opening_of, openings_in}
 use Rattle.outcome_history.specs.Timed.{TimedWrite, after_writes, timed, up_to}
@@ -45,11 +44,13 @@ module _ (tables : List TableDecl) (openings : List (Option ℕ)) (replies : Lis
   own : AreOpenings entries (openings_in entries)
   own = subst (AreOpenings entries) output.each output.own
 
+  -- a reply that has an opening is in the transaction that is opened there
   pub span-of : (owner : ℕ) → opening_of openings at ≡ Some owner → IsSpan entries at entry owner
   span-of owner h =
       let there : opening_of (openings_in entries) (length its.front) ≡ Some owner = ap (λ (os : List (Option ℕ)). opening_of os (length its.front)) (sym output.each) ∙ ap (opening_of openings) its.far ∙ h in
       subst (λ (n : ℕ). IsSpan entries n entry owner) its.far (spanned entries its.front entry its.rest its.whole output.rises output.outside own owner there)
 
+  -- a reply without one is in none
   pub none-of : opening_of openings at ≡ None → transaction_of run entry ≡ None
   none-of h =
       unspanned entries its.front entry its.rest its.whole output.rises output.outside own
@@ -76,6 +77,7 @@ module _ (tables : List TableDecl) (openings : List (Option ℕ)) (replies : Lis
   pub writes-none : opening_of openings at ≡ None → true ≡ writes_hold run entry
   writes-none h = sym (ap (λ (o : Option Span). option_map_or (λ t. write_holds (is_acceptable (seen_at run t entry) entry.command) entry.reply.said) o true) (none-of h))
 
+  -- a write is judged by what its transaction sees
   pub writes-some : (owner : ℕ) → opening_of openings at ≡ Some owner
       → writes_hold run entry ≡ write_holds (is_acceptable (seen_up_to openings entries (length replies) owner at) entry.command) entry.reply.said
   writes-some owner h =
@@ -83,9 +85,11 @@ module _ (tables : List TableDecl) (openings : List (Option ℕ)) (replies : Lis
       ap (λ (o : Option Span). option_map_or (λ t. write_holds (is_acceptable (seen_at run t entry) entry.command) entry.reply.said) o true) span.found
       ∙ ap (λ (s : State). write_holds (is_acceptable s entry.command) entry.reply.said) (seen-is owner span)
 
+  -- a read without a transaction holds
   pub reads-none : opening_of openings at ≡ None → true ≡ reads_hold run entry
   reads-none h = sym (ap (λ (o : Option Span). option_map_or (λ t. read_holds (seen_at run t entry) entry.command entry.reply.said) o true) (none-of h))
 
+  -- a read is judged by what its transaction sees
   pub reads-some : (owner : ℕ) → opening_of openings at ≡ Some owner
       → read_holds (seen_up_to openings entries (length replies) owner at) entry.command entry.reply.said ≡ reads_hold run entry
   reads-some owner h =
@@ -98,8 +102,3 @@ pub if-each : {E : Type 0} (r : Result Bool E) (f g : KeptReply → Bool) → ((
     → IfOk r (λ answer. (none : KeptReply) → answer ≡ g none)
 if-each (Ok answer) f g h k = λ none. h none ∙ k none
 if-each (Err refused) f g h k = tt
-
-pub told-at : (replies : List KeptReply) (at : ℕ) (reply : KeptReply) → at < length replies → reply ≡ slice_index_or replies at reply → are_told replies ≡ true → is_told reply.told ≡ true
-told-at [] at reply inside is h = absurd (omega (arith, inside))
-told-at (kept ∷ replies) zero reply inside is h = ap (λ (k : KeptReply). is_told k.told) is ∙ (and_parts (is_told kept.told) (are_told replies) h).0
-told-at (kept ∷ replies) (suc at) reply inside is h = told-at replies at reply (omega (arith, inside)) is (and_parts (is_told kept.told) (are_told replies) h).1

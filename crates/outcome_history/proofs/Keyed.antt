@@ -25,10 +25,12 @@ abbrev pub IsKeyed : Place → Option (List Cell) → Type 0
 IsKeyed place None = Unit {0}
 IsKeyed place (Some row) = place ≡ place_of place.table row
 
+-- each row stands at the place of its key
 abbrev pub AreKeyed : State → Type 0
 AreKeyed [] = Unit {0}
 AreKeyed (entry ∷ rows) = (entry.0 ≡ place_of entry.0.table entry.1) × AreKeyed rows
 
+-- each write leaves a row, if any, at the place of its key
 abbrev pub EachKeyed : List TimedWrite → Type 0
 EachKeyed [] = Unit {0}
 EachKeyed (write ∷ writes) = IsKeyed write.place write.row × EachKeyed writes
@@ -57,6 +59,7 @@ keyed-write : (rows : State) (place : Place) (change : Option (List Cell)) → I
 keyed-write rows place None h k = keyed-remove rows (is_place place) k
 keyed-write rows place (Some row) h k = keyed-insert rows place row h k
 
+-- rows after such writes stand at the places of their keys
 pub keyed-after : (rows : State) (writes : List TimedWrite) → EachKeyed writes → AreKeyed rows → AreKeyed (after_writes rows writes)
 keyed-after rows [] h k = k
 keyed-after rows (write ∷ writes) h k = keyed-after (with_write rows write.place write.row) writes h.1 (keyed-write rows write.place write.row h.0 k)
@@ -67,6 +70,7 @@ keyed-append : (a b : List TimedWrite) → EachKeyed a → EachKeyed b → EachK
 keyed-append [] b h k = k
 keyed-append (write ∷ a) b h k = (h.0, keyed-append a b h.1 k)
 
+-- of such writes those up to a time are such
 pub keyed-up-to : (bound : ℕ) (writes : List TimedWrite) → EachKeyed writes → EachKeyed (up_to bound writes)
 keyed-up-to bound [] h = tt
 keyed-up-to bound (write ∷ writes) h = by (nat_le write.time bound) (keyed-up-to bound writes h.1)
@@ -108,6 +112,7 @@ keyed-one true time None h = tt
 keyed-one true time (Some change) h = (h, tt)
 keyed-one false time change h = tt
 
+-- a transaction's own writes are such
 pub keyed-own : (owner place : ℕ) (openings : List (Option ℕ)) (entries : List Entry) → EachKeyed (own_writes owner place openings entries)
 keyed-own owner place [] entries = tt
 keyed-own owner place (opening ∷ openings) [] = tt
@@ -125,6 +130,7 @@ module _ (openings : List (Option ℕ)) (entries : List Entry) where
   keyed-line number None = tt
   keyed-line number (Some place) = keyed-made number place (opening_of openings place)
 
+  -- and so are those of commits
   pub keyed-commits : (number count : ℕ) → EachKeyed (commits_from openings entries number count)
   keyed-commits number zero = tt
   keyed-commits number (suc count) =

@@ -19,6 +19,7 @@ use Rattle.outcome_history.specs.Timed.{TimedWrite, after_writes, left_at, timed
 
 -- ---- one write
 
+-- places that rise still rise after a write
 pub rises-write : (rows : State) (place : Place) (change : Option (List Cell)) → Rises rows → Rises (with_write rows place change)
 rises-write rows place change h = rises-laid rows ((place, change) ∷ []) h
 
@@ -26,11 +27,13 @@ unwrapped : (b : Bool) (change : Option (List Cell)) (was : Option (List Cell)) 
 unwrapped true change was = refl
 unwrapped false change was = refl
 
+-- what stands at a place after a write of another place or of it
 pub at-write : (rows : State) (place : Place) (change : Option (List Cell)) (q : Place) → Rises rows → at_place (with_write rows place change) q ≡ cond (is_place q place) change (at_place rows q)
 at-write rows place change q h = at-laid rows ((place, change) ∷ []) q h (tt, tt) ∙ unwrapped (is_place q place) change (at_place rows q)
 
 -- ---- writes one after another
 
+-- places that rise still rise after all writes
 pub rises-after : (rows : State) (writes : List TimedWrite) → Rises rows → Rises (after_writes rows writes)
 rises-after rows [] h = h
 rises-after rows (write ∷ writes) h = rises-after (with_write rows write.place write.row) writes (rises-write rows write.place write.row h)
@@ -38,9 +41,6 @@ rises-after rows (write ∷ writes) h = rises-after (with_write rows write.place
 last-some : {X : Type 0} (x : X) (xs : List X) (P : Option X → Type 0) → ((y : X) → P (Some y)) → P (last_or (Some x) xs)
 last-some x [] P h = h x
 last-some x (y ∷ xs) P h = last-some y xs P h
-
-last-any : {X : Type 0} (a : Option X) (x : X) (xs : List X) → last_or a (x ∷ xs) ≡ last_or (Some x) xs
-last-any a x xs = refl
 
 left-onto : (was : Option (List Cell)) (write : TimedWrite) (xs : List TimedWrite)
     → unwrap_or (option_map (λ w. w.row) (last_or None xs)) write.row ≡ unwrap_or (option_map (λ w. w.row) (last_or (Some write) xs)) was
@@ -61,6 +61,7 @@ at-after rows (write ∷ writes) q h =
     ∙ ap (unwrap_or (left_at q writes)) (at-write rows write.place write.row q h)
     ∙ left-step (at_place rows q) q write writes (is_place q write.place)
 
+-- the rows after writes and further ones
 pub after-append : (rows : State) (front back : List TimedWrite) → after_writes rows (front ++ back) ≡ after_writes (after_writes rows front) back
 after-append rows [] back = refl
 after-append rows (write ∷ front) back = after-append (with_write rows write.place write.row) front back
@@ -143,6 +144,7 @@ laid-insert rows writes place change h k =
     ∙ ap (cond (is_place q place) change) (sym (at-laid rows writes q h k))
     ∙ sym (at-write (laid_over rows writes) place change q (rises-laid rows writes h)))
 
+-- a write set with changes entered into it
 abbrev pub entered : WriteSet → List (Place × Option (List Cell)) → WriteSet
 entered writes changes = fold (λ writes write. insert_entry place_cmp writes write.0 write.1) writes changes
 
@@ -153,5 +155,6 @@ laid-entered time rows writes (change ∷ changes) h k =
     laid-entered time rows (insert_entry place_cmp writes change.0 change.1) changes h (rises-insert change.0 change.1 writes k)
     ∙ ap (λ (s : State). after_writes s (timed time changes)) (laid-insert rows writes change.0 change.1 h k)
 
+-- A transaction's write set, laid over rows, leaves what its writes leave one after another.
 pub laid-writes : (time : ℕ) (rows : State) (entries : List Entry) → Rises rows → laid_over rows (writes_in entries) ≡ after_writes rows (timed time (filter_map accepted_write entries))
 laid-writes time rows entries h = laid-entered time rows [] (filter_map accepted_write entries) h tt

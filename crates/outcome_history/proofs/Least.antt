@@ -79,6 +79,7 @@ least-first table place row false = refl
 abbrev first_key : ℕ → Bool → Place × Option (List Cell) → WriteSet → Option ℤ
 first_key table b write writes = option_map (λ (w : Place × Option (List Cell)). w.0.key) (cond b (Some write) (find (λ (w : Place × Option (List Cell)). w.0.table == table) writes))
 
+-- the least key of a write set with a place more
 pub least-insert : (table : ℕ) (writes : WriteSet) (place : Place) (row : Option (List Cell)) → Rises writes
     → least_key table (insert_entry place_cmp writes place row) ≡ least_with table (least_key table writes) place
 least-insert table [] place row h = least-first table place row (place.table == table)
@@ -129,6 +130,7 @@ least-timed : (table : ℕ) (writes : List TimedWrite) (least : Option ℤ)
 least-timed table [] least = refl
 least-timed table (write ∷ writes) least = least-timed table writes (least_with table least write.place)
 
+-- the least key that is kept of a transaction's changes is that of its writes up to a time
 pub least-changed : (table bound : ℕ) (own : List Change) (least : Option ℤ)
     → fold (least_next table bound) least own ≡ fold (λ (least : Option ℤ) (write : TimedWrite). least_with table least write.place) least (up_to bound (map written_by own))
 least-changed table bound [] least = refl
@@ -164,11 +166,13 @@ module _ (tables : List TableDecl) (openings : List (Option ℕ)) (replies : Lis
         ∙ least-timed table (up_to at (own_writes owner 0 (openings_in entries) entries)) None);
   }
 
+  -- an export without a transaction holds
   pub exports-none : opening_of openings at ≡ None → true ≡ exports_hold run entry
   exports-none h =
       sym (ap (λ (o : Option Span). option_map_or (λ t. option_map_or (λ table. export_reply_holds run t entry table entry.reply.said) (exported_table entry.command) true) o true)
       (none-of tables openings replies output at inside none h))
 
+  -- an export is judged by the transaction that its opening tells
   pub exports-some : (answer : Bool) (owner : ℕ) → opening_of openings at ≡ Some owner
       → ((t : Span) → IsKnown openings entries owner at entry t → answer ≡ option_map_or (λ table. export_reply_holds run t entry table entry.reply.said) (exported_table entry.command) true)
       → answer ≡ exports_hold run entry

@@ -31,13 +31,16 @@ use Rattle.outcome_history.proofs.Rows.{rows-write}
 
 -- ---- one more behind a list
 
+-- what passes with one element more
 pub filter-push : {X : Type 0} (p : X → Bool) (xs : List X) (x : X) → filter p (xs ++ x ∷ []) ≡ filter p xs ++ cond (p x) (x ∷ []) []
 filter-push p xs x = filter-append p xs (x ∷ [])
 
+-- the last of a list with one element more is that one
 pub last-push : {X : Type 0} (first : Option X) (xs : List X) (x : X) → last_or first (xs ++ x ∷ []) ≡ Some x
 last-push first [] x = refl
 last-push first (y ∷ xs) x = last-push (Some y) xs x
 
+-- a list with nothing behind it
 pub push-none : {X : Type 0} (xs : List X) → xs ++ [] ≡ xs
 push-none [] = refl
 push-none (x ∷ xs) = ap (λ (ys : List _). x ∷ ys) (push-none xs)
@@ -57,6 +60,7 @@ within-by : {X : Type 0} (p : X → Bool) (put : Bool) (x : X) (xs : List X) →
 within-by p true x xs h one = list_all-append p xs (x ∷ []) ∙ rw (h, one refl) refl
 within-by p false x xs h one = h
 
+-- where all pass all are kept
 pub filter-all : {X : Type 0} (p : X → Bool) (xs : List X) → list_all p xs ≡ true → filter p xs ≡ xs
 filter-all p [] h = refl
 filter-all p (x ∷ xs) h =
@@ -98,6 +102,7 @@ shelf-same a b =
     ∙ ap (λ (t : Bool). t && is_eq (nat_cmp a.table b.table)) (nat-same a.owner b.owner)
     ∙ ap (λ (t : Bool). eqb a.owner b.owner && t) (nat-same a.table b.table)
 
+-- two places are tested as one in either order
 pub symmetric : (a b : Place) → is_place a b ≡ is_place b a
 symmetric = (eq_by_cmp_equiv place_cmp-total).symm
 

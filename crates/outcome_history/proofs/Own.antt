@@ -17,6 +17,7 @@ use Rattle.outcome_history.specs.declared.changes.Change.{Change}
 use Rattle.outcome_history.specs.declared.changes.Changes.{Changes}
 use Rattle.outcome_history.proofs.Noted.{push-none}
 
+-- a transaction's writes in two lists of replies in a row
 pub own-append : (owner place : ℕ) (openings openings2 : List (Option ℕ)) (entries entries2 : List Entry) → length openings ≡ length entries
     → own_writes owner place (openings ++ openings2) (entries ++ entries2) ≡ own_writes owner place openings entries ++ own_writes owner (place + length entries) openings2 entries2
 own-append owner place [] openings2 [] entries2 long = let e : place + 0 ≡ place = omega arith in ap (λ (n : ℕ). own_writes owner n openings2 entries2) (sym e)
@@ -45,6 +46,7 @@ pushed-by : (b : Bool) (time : ℕ) (change : Option Change) (told : Option (Pla
 pushed-by true time change told changes h = pushed time change told changes h
 pushed-by false time change told changes h = sym (push-none (map written_by changes))
 
+-- a transaction's writes with a reply more
 pub own-next : (owner : ℕ) (entries front : List Entry) (entry : Entry) (rest : List Entry) (openings ofront : List (Option ℕ)) (opening : Option ℕ) (orest : List (Option ℕ)) (n : ℕ)
     → entries ≡ front ++ entry ∷ rest → length front ≡ n → openings ≡ ofront ++ opening ∷ orest → length ofront ≡ n
     → own_writes owner 0 (take (n + 1) openings) (take (n + 1) entries) ≡ own_writes owner 0 (take n openings) (take n entries) ++ own_one owner n opening entry
@@ -59,6 +61,7 @@ own-next owner entries front entry rest openings ofront opening orest n whole fa
     ∙ ap (λ (xs : List (Option ℕ)). own_writes owner 0 xs front ++ own_one owner n opening entry) (sym (take-front openings ofront opening orest n owhole ofar))
     ∙ ap (λ (xs : List Entry). own_writes owner 0 (take n openings) xs ++ own_one owner n opening entry) (sym (take-front entries front entry rest n whole far))
 
+-- what is kept of the changes with a reply more
 pub changes-next : (entries front : List Entry) (entry : Entry) (rest : List Entry) (openings ofront : List (Option ℕ)) (opening : Option ℕ) (orest : List (Option ℕ)) (n : ℕ)
     → entries ≡ front ++ entry ∷ rest → length front ≡ n → openings ≡ ofront ++ opening ∷ orest → length ofront ≡ n
     → (before now : Changes) (given : Option ℕ) (change : Option Change) → given ≡ opening → option_map written_by change ≡ option_map (timed_one (n + 1)) (accepted_write entry)

@@ -24,6 +24,7 @@ module _ (table : ℕ) where
   cons-by x xs true is = rw is (omega arith)
   cons-by x xs false is = rw is (omega arith)
 
+  -- how many rows of a table there are with one row more
   pub rows-cons : (x : Place × List Cell) (xs : State) → rows_in table (x ∷ xs) ≡ one (here x.0) + rows_in table xs
   rows-cons x xs = cons-by x xs (here x.0) refl
 

@@ -33,6 +33,7 @@ abbrev pub Under : ℕ → Place → List (List Cell) → Type 0
 Under table place [] = Unit {0}
 Under table place (row ∷ rows) = (place_cmp place (place_of table row) ≡ Less) × Under table place rows
 
+-- the places of the rows rise
 abbrev pub Ordered : ℕ → List (List Cell) → Type 0
 Ordered table [] = Unit {0}
 Ordered table (row ∷ rows) = Under table (place_of table row) rows × Ordered table rows
@@ -289,12 +290,14 @@ module _ (table : ℕ) where
 
 -- ---- one more row
 
+-- a row above the last that is found leaves the rest to be judged
 pub found-step : (table : ℕ) (seen : State) (last : Option ℤ) (row : List Cell) (rest : List (List Cell)) (a b : Bool) → a ≡ is_above last (key_of row) → b ≡ is_found table seen row → a ≡ true → b ≡ true
     → are_found table seen last (row ∷ rest) ≡ are_found table seen (Some (key_of row)) rest
 found-step table seen last row rest a b one two h k =
     ap (λ (x : Bool). x && (is_found table seen row && are_found table seen (Some (key_of row)) rest)) (sym one ∙ h)
     ∙ ap (λ (x : Bool). x && are_found table seen (Some (key_of row)) rest) (sym two ∙ k)
 
+-- one that is not leaves the rows not found
 pub found-stop : (table : ℕ) (seen : State) (last : Option ℤ) (row : List Cell) (rest : List (List Cell)) (a b : Bool) → a ≡ is_above last (key_of row) → b ≡ is_found table seen row → (a && b) ≡ false
     → are_found table seen last (row ∷ rest) ≡ false
 found-stop table seen last row rest a b one two h = ap (λ (x : Bool). x && (is_found table seen row && are_found table seen (Some (key_of row)) rest)) (sym one) ∙ ap (λ (x : Bool). a && (x && are_found table seen (Some (key_of row)) rest)) (sym two) ∙ by a b h
@@ -303,6 +306,7 @@ found-stop table seen last row rest a b one two h = ap (λ (x : Bool). x && (is_
     by true b h = ap (λ (x : Bool). x && are_found table seen (Some (key_of row)) rest) h
     by false b h = refl
 
+-- the elements from one on are it and those behind it
 pub drop-next-one : {X : Type 0} (xs : List X) (i : ℕ) (x : X) → i < length xs → x ≡ get_or xs i x → drop i xs ≡ x ∷ drop (i + 1) xs
 drop-next-one {X = X} xs i x within is = let e : i + 1 ≡ suc i = omega arith in by xs i within is ∙ ap (λ (n : ℕ). x ∷ drop n xs) (sym e)
   where

@@ -44,6 +44,7 @@ row-committed openings entries output writes commits number of =
     ∙ ap (λ (os : List (Option ℕ)). at_place (after_writes [] (up_to number (commits_from os entries 1 (commit_count entries)))) (place_in of)) output.each
     ∙ ap (λ (s : State). at_place s (place_in of)) (sym (state-is entries output.rises output.outside (subst (AreOpenings entries) output.each output.own) number))
 
+-- the places of the rows at a snapshot rise
 pub base-rises : (entries : List Entry) (owner : ℕ) → Rises (base_at entries owner)
 base-rises entries owner = rises-fold [] (take (snapshot_at entries owner) (history_of entries)) tt
 
@@ -60,6 +61,7 @@ row-seen openings entries taken writes own owner at of =
 pub seen-rises : (openings : List (Option ℕ)) (entries : List Entry) (taken owner at : ℕ) → Rises (seen_up_to openings entries taken owner at)
 seen-rises openings entries taken owner at = rises-after (base_at entries owner) (up_to at (own_writes owner 0 (take taken openings) (take taken entries))) (base-rises entries owner)
 
+-- the rows that a transaction sees stand at the places of their keys
 pub seen-keyed : (openings : List (Option ℕ)) (entries : List Entry) → IsOutput openings entries → (taken owner at : ℕ) → AreKeyed (seen_up_to openings entries taken owner at)
 seen-keyed openings entries output taken owner at =
     let number = snapshot_at entries owner in
@@ -82,6 +84,7 @@ rows-committed openings entries output writes commits number table =
     let none : rows_in table [] ≡ 0 = refl in
     omega (arith, rows, same, none)
 
+-- how many rows of a table a transaction sees, by the counts of those it gained and lost
 pub rows-own : (openings : List (Option ℕ)) (entries : List Entry) (taken : ℕ) (writes : Writes) → AreOwn openings entries taken writes → (owner table at : ℕ)
     → rows_in table (seen_up_to openings entries taken owner at) + count_up_to at (marks_at shelf_cmp writes.lost (shelf_of owner table))
     ≡ rows_in table (base_at entries owner) + count_up_to at (marks_at shelf_cmp writes.gained (shelf_of owner table))
@@ -89,6 +92,7 @@ rows-own openings entries taken writes own owner table at =
     ap (λ (ws : List TimedWrite). rows_in table (after_writes (base_at entries owner) (up_to at ws)) + count_up_to at (marks_at shelf_cmp writes.lost (shelf_of owner table))) (sym (own.own owner))
     ∙ own.kept.rows owner table at
 
+-- what the list of openings has at a place is the opening there
 pub opening-cut : (openings : List (Option ℕ)) (place : ℕ) (item : Option ℕ) → slice_get openings place ≡ Some item → item ≡ opening_of openings place
 opening-cut openings place item found = sym (ap (option_and_then (λ (o : Option ℕ). o)) found)
 
@@ -96,6 +100,7 @@ none-accepted : (time : ℕ) (told : Option (Place × Option (List Cell))) → o
 none-accepted time None h = refl
 none-accepted time (Some told) h = absurd (let never : ⊥ = cc in never)
 
+-- the change of a write that is accepted is that one write
 pub some-change : (time : ℕ) (change : Change) (told : Option (Place × Option (List Cell))) → option_map written_by (Some change) ≡ option_map (timed_one time) told
     → option_map_or (λ its. timed_one time its ∷ []) told [] ≡ written_by change ∷ []
 some-change time change None h = absurd (let never : ⊥ = cc in never)
@@ -142,6 +147,7 @@ module _ (openings : List (Option ℕ)) (entries front : List Entry) (entry : En
   pub own-outside : opening ≡ None → (writes : Writes) → AreOwn openings entries n writes → AreOwn openings entries (n + 1) writes
   own-outside closed writes own = none-with writes (λ owner. ap (λ (o : Option ℕ). own_one owner n o entry) closed) own
 
+  -- what is kept of the transactions' writes, with an accepted write of a reply more
   pub own-noted : (owner : ℕ) → opening ≡ Some owner → (change : Change) → option_map written_by (Some change) ≡ option_map (timed_one (n + 1)) (accepted_write entry) → (before now : Writes) (had : Bool)
       → AreOwn openings entries n before → had ≡ is_some (at_place (seen_up_to openings entries n owner n) (place_in change.of))
       → IsNoted (spot_at owner change.of) change.left had before now → AreOwn openings entries (n + 1) now
@@ -182,6 +188,7 @@ module _ (openings : List (Option ℕ)) (entries front : List Entry) (entry : En
               ∙ ap (λ (ws : List TimedWrite). own_writes other 0 (take n openings) (take n entries) ++ ws) (sym (some-change (n + 1) change (accepted_write entry) told))
           branch false = own.own other ∙ sym (push-none (own_writes other 0 (take n openings) (take n entries)))
 
+-- and with a reply that is in no transaction
 pub own-unopened : (openings : List (Option ℕ)) (replies : List KeptReply) (ofront : List (Option ℕ)) (opening : Option ℕ) (orest : List (Option ℕ)) (n : ℕ) → n < length replies
     → openings ≡ ofront ++ opening ∷ orest → length ofront ≡ n → opening ≡ None → (writes : Writes) → AreOwn openings (entries_of replies) n writes → AreOwn openings (entries_of replies) (n + 1) writes
 own-unopened openings replies ofront opening orest n inside owhole ofar closed writes own = by (entries_of replies) (at-place (entries_of replies) n (let l = length-map replies entry_of in omega (arith, inside, l))) own

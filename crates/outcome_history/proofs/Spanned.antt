@@ -89,6 +89,7 @@ own-late bound owner place (o ∷ openings) (e ∷ entries) h =
     one true None = refl
     one false change = refl
 
+-- all that is written in front of a bound is written up to it
 pub own-early : (bound owner place : ℕ) (openings : List (Option ℕ)) (entries : List Entry) → place + length entries ≤ bound → up_to bound (own_writes owner place openings entries) ≡ own_writes owner place openings entries
 own-early bound owner place [] entries h = refl
 own-early bound owner place (o ∷ openings) [] h = refl
@@ -118,6 +119,7 @@ own-up-to owner front rest =
     ∙ ap (λ (ws : List TimedWrite). so_far owner front ++ ws) (own-late (length front) owner (0 + length front) (openings_from (0 + length front) (held_behind front) rest) rest (omega (arith, start)))
     ∙ push-none (so_far owner front)
 
+-- the opening at a reply's place is the one that the replies in front of it tell
 pub opening-at : (front : List Entry) (entry : Entry) (rest : List Entry) → opening_of (openings_in (front ++ entry ∷ rest)) (length front) ≡ opening_here front entry
 opening-at front entry rest =
     let start : 0 + length front ≡ length front = omega arith in

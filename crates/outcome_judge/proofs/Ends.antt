@@ -61,6 +61,7 @@ module _ (p q : Entry → Bool) (replies : List KeptReply) where
 
 -- a loop over the places ends at the first that fails, or at the bound
 module _ (test : Entry → Bool) (replies : List KeptReply) where
+  -- a loop that comes to a reply that fails the test ends there
   pub stops-at : (until at : ℕ) → at < until → list_all test (take at (entries_of replies)) ≡ true → ((none : KeptReply) → false ≡ test (asked_at replies at none)) → EndsAt test replies until at
   stops-at until at below front bad = record {
     within = omega (arith, below);
@@ -68,6 +69,7 @@ module _ (test : Entry → Bool) (replies : List KeptReply) where
     fails = λ none less. sym (bad none);
   }
 
+  -- a loop that comes to its bound ends there, with all in front passing
   pub goes-through : (until at : ℕ) → until ≤ at → list_all test (take at (entries_of replies)) ≡ true → EndsAt test replies until until
   goes-through until at past front = record {
     within = omega arith;
@@ -83,5 +85,6 @@ known-behind replies at stretch asked = subst (λ (n : ℕ). IsAsked replies n s
 pub ends-in-front : (test : Entry → Bool) (replies : List KeptReply) (at line : ℕ) → at < length replies → EndsAt test replies (length replies) at → ((none : KeptReply) → line ≡ (asked_at replies at none).number) → Some line ≡ failing test replies
 ends-in-front test replies at line below ends is = found-first test replies at line below ends.front (λ none. sym (ends.fails none below)) is
 
+-- where no reply is left, none fails the test
 pub ends-behind : (test : Entry → Bool) (replies : List KeptReply) (at : ℕ) → length replies ≤ at → EndsAt test replies (length replies) at → None ≡ failing test replies
 ends-behind test replies at most ends = none-found test replies at most ends.front

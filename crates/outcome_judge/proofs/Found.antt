@@ -15,6 +15,7 @@ any-index (reply ∷ replies) zero a b few = refl
 any-index (reply ∷ replies) (suc at) a b few = any-index replies at a b (omega (arith, few))
 
 module _ (sound : Entry → Bool) where
+  -- the line of the first reply that is not sound
   abbrev pub failing : List KeptReply → Option ℕ
   failing replies = option_map (λ entry. entry.number) (find (λ entry. not (sound entry)) (entries_of replies))
 
@@ -25,6 +26,7 @@ module _ (sound : Entry → Bool) where
       let parts = and_parts (sound (entry_of reply)) (list_all sound (take at (entries_of replies))) all in
       and_from (sound (entry_of reply)) (list_all sound (take (suc at) (entries_of replies))) parts.0 (so-far replies at (omega (arith, few)) parts.1 good)
 
+  -- one sound reply more in front of the next place
   pub sound-so-far : (replies : List KeptReply) (at : ℕ) → at < length replies → list_all sound (take at (entries_of replies)) ≡ true → ((none : KeptReply) → true ≡ sound (asked_at replies at none)) → list_all sound (take (at + 1) (entries_of replies)) ≡ true
   sound-so-far replies at few all good = subst (λ (n : ℕ). list_all sound (take n (entries_of replies)) ≡ true) (let e : suc at ≡ at + 1 = omega arith in e) (so-far replies at few all good)
 
@@ -32,6 +34,7 @@ module _ (sound : Entry → Bool) where
   passed reply replies good =
       ap (λ (b : Bool). option_map (λ (entry : Entry). entry.number) (cond (not b) (Some (entry_of reply)) (find (λ entry. not (sound entry)) (entries_of replies)))) (sym good)
 
+  -- the first reply that is not sound is found, with its line
   pub found-first : (replies : List KeptReply) (at line : ℕ) → at < length replies → list_all sound (take at (entries_of replies)) ≡ true → ((none : KeptReply) → false ≡ sound (asked_at replies at none)) → ((none : KeptReply) → line ≡ (asked_at replies at none).number) → Some line ≡ failing replies
   found-first [] at line few all bad is = absurd (omega (arith, few))
   found-first (reply ∷ replies) zero line few all bad is =
@@ -41,6 +44,7 @@ module _ (sound : Entry → Bool) where
       let parts = and_parts (sound (entry_of reply)) (list_all sound (take at (entries_of replies))) all in
       found-first replies at line (omega (arith, few)) parts.1 bad is ∙ passed reply replies parts.0
 
+  -- where no reply is left and all were sound, none is found
   pub none-found : (replies : List KeptReply) (at : ℕ) → length replies ≤ at → list_all sound (take at (entries_of replies)) ≡ true → None ≡ failing replies
   none-found [] at most all = refl
   none-found (reply ∷ replies) zero most all = absurd (omega (arith, most))

@@ -1,5 +1,5 @@
 -- The ends of transactions, from the last reply on.
-use Rattle.std.proofs.Common.{◌≡◌, ℕ, ◌+◌, ◌<◌, ◌≤◌, ◌⊎◌, inl, inr, zero, suc, Bool, true, false, cond, ◌&&◌, not, List, [], ◌∷◌, ◌++◌, length, drop, take, Option, None, Some, refl, sym, ap, ◌∙◌, arith}
+use Rattle.std.proofs.Common.{◌≡◌, ℕ, ◌+◌, ◌<◌, ◌≤◌, ◌⊎◌, inl, inr, zero, suc, Bool, true, false, cond, ◌&&◌, not, List, [], ◌∷◌, ◌++◌, length, drop, take, Option, Some, refl, sym, ap, ◌∙◌, arith}
 use Rattle.std.specs.List.{slice_get, find}
 use Rattle.std.specs.Prelude.{unwrap_or, if◌then◌else◌}
 use Rattle.std.proofs.lemmas.Bool.{cases_lt}
@@ -40,6 +40,7 @@ worker-quiet : (a : Who) (k : ℕ) → is_worker a ≡ true → is_same a (Sessi
 worker-quiet (Session n) k h = absurd (let never : ⊥ = cc in never)
 worker-quiet (Worker n) k h = refl
 
+-- with one reply more in front, the ends are known from it on
 pub known-next : (entries front : List Entry) (entry : Entry) (rest : List Entry) (place : ℕ) → length front ≡ place → (ended : Who → Option ℕ)
     → Known entries (front ++ entry ∷ []) rest ended → Known entries front (entry ∷ rest) (ended_next entry place ended)
 known-next entries front entry rest place far ended known k =
@@ -48,9 +49,6 @@ known-next entries front entry rest place far ended known k =
     (λ worker. ap (λ (b : Bool). b && is_end entry.reply.said) (worker-quiet entry.reply.who k worker)) refl
     (known k ∙ ap (λ (n : ℕ). n + next_end (Session k) rest) long)
     ∙ ap (λ (n : ℕ). n + next_end (Session k) (entry ∷ rest)) (sym far)
-
-pub known-none : (entries : List Entry) (ended : Who → Option ℕ) → ((k : ℕ) → ended (Session k) ≡ None) → Known entries entries [] ended
-known-none entries ended none k = ap (λ (o : Option ℕ). unwrap_or o (length entries)) (none k) ∙ omega arith
 
 own-of : (entries front rest : List Entry) (who : Who) (ended : Who → Option ℕ) → is_worker who ≡ false → Known entries front rest ended → unwrap_or (ended who) (length entries) ≡ length front + next_end who rest
 own-of entries front rest (Session k) ended h known = known k
@@ -85,6 +83,7 @@ ends-next entries n backs end old here = record {
     by front entry rest whole session (inr at) =
         ap (slice_get (backs ++ end ∷ [])) (at ∙ sym old.long) ∙ get-at backs end [] ∙ ap (λ (k : ℕ). Some k) (here front entry rest whole session at)
 
+-- the end of a reply's transaction is the first of its session's from it on
 pub own-end : (entries front : List Entry) (entry : Entry) (rest : List Entry) (ended : Who → Option ℕ) → is_worker entry.reply.who ≡ false → Known entries front (entry ∷ rest) ended
     → unwrap_or (ended entry.reply.who) (length entries) ≡ length front + next_end entry.reply.who (entry ∷ rest)
 own-end entries front entry rest ended session known = own-of entries front (entry ∷ rest) entry.reply.who ended session known

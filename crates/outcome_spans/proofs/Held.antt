@@ -27,6 +27,7 @@ use Rattle.outcome_spans.proofs.Ordered.{at-rising}
 impossible : {P : Type 0} → true ≡ false → P
 impossible h = absurd (let never : ⊥ = cc in never)
 
+-- what opens a transaction does not end one
 pub opens-not-end : (told : Said) (n : ℕ) → snapshot_in told ≡ Some n → is_end told ≡ false
 opens-not-end (said.At number) n h = refl
 opens-not-end _ n h = absurd (let never : ⊥ = cc in never)
@@ -52,6 +53,7 @@ goes-out _ b h = impossible (sym h)
 
 -- ---- threads with a reply more
 
+-- one's own reply is the last of one's thread
 pub thread-own : (who : Who) (front : List Entry) (entry : Entry) → is_same entry.reply.who who ≡ true → thread who (front ++ entry ∷ []) ≡ thread who front ++ entry ∷ []
 thread-own who front entry same =
     filter-append (λ e. is_same e.reply.who who) front (entry ∷ []) ∙ ap (λ (b : Bool). thread who front ++ cond b (entry ∷ []) []) same
@@ -60,6 +62,7 @@ append-none : {X : Type 0} (xs : List X) → xs ++ [] ≡ xs
 append-none [] = refl
 append-none (x ∷ xs) = ap (λ ys. x ∷ ys) (append-none xs)
 
+-- another's reply adds nothing to it
 pub thread-other : (who : Who) (front : List Entry) (entry : Entry) → is_same entry.reply.who who ≡ false → thread who (front ++ entry ∷ []) ≡ thread who front
 thread-other who front entry apart =
     filter-append (λ e. is_same e.reply.who who) front (entry ∷ []) ∙ ap (λ (b : Bool). thread who front ++ cond b (entry ∷ []) []) apart ∙ append-none (thread who front)
@@ -98,10 +101,12 @@ pub record IsIdle (who : Who) (front : List Entry) : Type 0 where
   pub spanned : Past who (thread who front) None
   pub within : is_within who front ≡ false
 
+-- one has a transaction open behind the replies, opened at this place, or none
 abbrev pub Standing : Who → List Entry → Option ℕ → Type 0
 Standing who front None = IsIdle who front
 Standing who front (Some place) = IsOpen who front place
 
+-- before all replies one has none
 pub standing-nil : (who : Who) → Standing who [] None
 standing-nil who = record { spanned = past-nil who; within = refl }
 
@@ -132,6 +137,7 @@ other-open who front entry place apart held =
       within = within-other who front entry apart ∙ held.within;
     }
 
+-- another's reply leaves it open or not
 pub standing-other : (who : Who) (front : List Entry) (entry : Entry) (held : Option ℕ) → is_same entry.reply.who who ≡ false → Standing who front held → Standing who (front ++ entry ∷ []) held
 standing-other who front entry None apart h = other-idle who front entry apart h
 standing-other who front entry (Some place) apart h = other-open who front entry place apart h
@@ -195,6 +201,7 @@ module _ (who : Who) (front : List Entry) (entry : Entry) (same : is_same entry.
     within = within-own who front entry same ∙ goes-out entry.reply.said (is_within who front) ends;
   }
 
+  -- one's own opens it, ends it or leaves it
   pub standing-own : (held : Option ℕ) (place : ℕ) → length front ≡ place → (shown : Option ℕ) → snapshot_in entry.reply.said ≡ shown → (is_some shown ≡ true → is_within who front ≡ false)
       → (ends : Bool) → is_end entry.reply.said ≡ ends → Standing who front held
       → Standing who (front ++ entry ∷ []) (if is_some shown then Some place else (if ends then None else held))
@@ -213,6 +220,7 @@ up-to-append (e ∷ a) b h =
     let parts = or_parts (is_end e.reply.said) (list_any (λ x. is_end x.reply.said) a) h in
     rw parts.0 (ap (λ (es : List Entry). e ∷ es) (up-to-append a b parts.1))
 
+-- what is opened at a place is what the reply there opens
 pub opened-there : (entries ahead : List Entry) (opening : Entry) (behind : List Entry) (place : ℕ) → entries ≡ ahead ++ opening ∷ behind → length ahead ≡ place
     → opened_at place entries ≡ option_map (span_from opening behind) (snapshot_in opening.reply.said)
 opened-there entries ahead opening behind place whole far =
@@ -270,10 +278,6 @@ there entries front entry rest whole (Some place) None opens h s is =
 
 -- ---- what is open behind a reply more
 
-not-worker : (who : Who) → is_worker who ≡ true → (k : ℕ) → (who ≡ Session k → ⊥)
-not-worker (Session n) h k e = impossible (sym h)
-not-worker (Worker n) h k e = let never : ⊥ = cc in never
-
 module _ (entries front : List Entry) (entry : Entry) (rest : List Entry) (whole : entries ≡ front ++ entry ∷ rest) (outside : OpensOutside entries) (held : Who → Option ℕ)
     (idle : (k : ℕ) → held (Worker k) ≡ None) (standing : (who : Who) → Standing who front (held who)) where
   worker-none : (who : Who) → is_worker who ≡ true → held who ≡ None
@@ -304,5 +308,6 @@ module _ (entries front : List Entry) (entry : Entry) (rest : List Entry) (whole
   by who false true w s = own-session who s
   by who false false w s = standing-other who front entry (held who) s (standing who)
 
+  -- what each one has open is known with one reply more
   pub standing-next : (who : Who) → Standing who (front ++ entry ∷ []) (open_next entry (length front) held who)
   standing-next who = by who (is_worker entry.reply.who) (is_same entry.reply.who who) refl refl

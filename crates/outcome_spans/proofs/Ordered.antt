@@ -58,6 +58,7 @@ follows-by x y (inr (inr o)) =
       in_turn = λ s. rw (less2, equal, same, index) refl;
     }
 
+-- Replies that rise are in order.
 pub rises-in-order : (entries : List Entry) → Rises entries → InOrder entries
 rises-in-order [] h = tt
 rises-in-order (x ∷ entries) h = (each entries h.0, rises-in-order entries h.1)

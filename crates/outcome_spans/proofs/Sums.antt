@@ -43,6 +43,7 @@ module _ (value : Entry → ℕ) (replies : List KeptReply) (at : ℕ) (stretch 
       summed.total to k ∙ ap (sum_by value) (cut-between from to es h) ∙ sum_by-append value (take from es) (between from to es)
       ∙ ap (λ (n : ℕ). n + sum_by value (between from to es)) (sym (summed.total from (omega (arith, h, k))))
 
+  -- the sums tell that of the replies before the one that is judged
   pub sums-before : sum_before sums at stretch ≡ sum_by value (before es e)
   sums-before =
       let i = asked.inside in
@@ -55,6 +56,7 @@ module _ (value : Entry → ℕ) (replies : List KeptReply) (at : ℕ) (stretch 
       ∙ sum_by-append value (take (round_start es e) es) (between (own_start es e) at es) in
       ap (sum_before sums at) (asked.places none) ∙ omega (arith, others, own, past, split)
 
+  -- and that of those not after it
   pub sums-not-after : sum_not_after sums at stretch ≡ sum_by value (not_after es e)
   sums-not-after =
       let i = asked.inside in
@@ -77,6 +79,7 @@ shown-step : (o : Option ℕ) (others : List ℕ) → sum (cons_option o others)
 shown-step None others = omega arith
 shown-step (Some n) others = sum_by-cons (λ (x : ℕ). x) n others
 
+-- the sum of what is shown, where 0 stands for what shows nothing
 pub sum-shown : {X : Type 0} (shown : X → Option ℕ) (xs : List X) → sum (filter_map shown xs) ≡ sum_by (λ x. unwrap_or (shown x) 0) xs
 sum-shown shown [] = refl
 sum-shown shown (x ∷ xs) =

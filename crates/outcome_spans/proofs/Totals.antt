@@ -225,6 +225,7 @@ pub record Counted (entries : List Entry) (who : Who) (front : List Entry) : Typ
   pub standing : Standing who front held
   pub same : total who (thread who front) ≡ sum_by (committed_by entries) (thread who front)
 
+-- before all replies nothing was committed
 pub counted-nil : (entries : List Entry) (who : Who) → Counted entries who []
 counted-nil entries who = record { held = None; standing = standing-nil who; same = refl }
 
@@ -309,6 +310,7 @@ module _ (entries front : List Entry) (x : Entry) (rest : List Entry) (whole : e
         same = ap (total who) same ∙ c.same ∙ ap (sum_by (committed_by entries)) (sym same);
       }
 
+  -- what one has committed, with one reply more
   pub counted-step : (who : Who) → Counted entries who front → Counted entries who (front ++ x ∷ [])
   counted-step who c = by (is_same its who) refl
     where

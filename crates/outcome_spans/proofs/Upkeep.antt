@@ -16,6 +16,7 @@ gathered-by : (f : ℕ → ℕ → Bool) (asked : Command) → option_map_or (λ
 gathered-by f (command.Gather table block) = refl
 gathered-by f _ = refl
 
+-- what sealing, gathering and moving tell holds
 abbrev pub block_by : List TableDecl → List Entry → Entry → Said → Bool
 block_by tables entries entry told =
     option_map_or (λ stamp. is_seal entries stamp entry) (stamp_told told)
@@ -23,6 +24,7 @@ block_by tables entries entry told =
     (option_map_or (λ block. is_idle entries block entry) (idle_told entry.command told)
     (option_map_or (λ count. nat_le count most_moved) (moved_in told) true)))
 
+-- a reply to upkeep holds by what it tells: of a block, of moves or of a pruning
 pub upkeep-told : (run : Run) (entry : Entry) (told : Said) → upkeep_reply_holds run entry told ≡ option_map_or (prune_holds run entry) (pruned_in told) (block_by run.tables run.entries entry told)
 upkeep-told run entry said.NotFrozen = gathered-by (λ table block. is_idle run.entries (record { table = table; block = block }) entry) entry.command
 upkeep-told run entry _ = refl

@@ -21,6 +21,7 @@ found-step : {X : Type 0} (p : X → Bool) (x y : X) (xs : List X) (b : Bool) �
 found-step p x y xs true is h rest = let e : x ≡ y = cc in ap p (sym e) ∙ is
 found-step p x y xs false is h rest = rest h
 
+-- what is found passes the test
 pub found-passes : {X : Type 0} (p : X → Bool) (xs : List X) (y : X) → find p xs ≡ Some y → p y ≡ true
 found-passes p [] y h = absurd (let never : ⊥ = cc in never)
 found-passes p (x ∷ xs) y h = found-step p x y xs (p x) refl h (found-passes p xs y)

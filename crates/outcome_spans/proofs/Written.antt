@@ -1,5 +1,5 @@
 -- The writes of a transaction, counted.
-use Rattle.std.proofs.Common.{◌≡◌, ℕ, ◌+◌, ◌-◌, ◌<◌, ◌≤◌, ◌⊎◌, inl, inr, min, zero, suc, Bool, true, false, cond, ◌&&◌, ◌||◌, List, [], ◌∷◌, ◌++◌, length, map, take, drop, nat_lt, Option, None, Some, refl, sym, ap, ◌∙◌, arith}
+use Rattle.std.proofs.Common.{◌≡◌, ℕ, ◌+◌, ◌-◌, ◌<◌, ◌≤◌, ◌⊎◌, inl, inr, min, zero, suc, Bool, true, false, cond, ◌&&◌, ◌||◌, List, [], ◌∷◌, ◌++◌, length, take, drop, nat_lt, Option, None, Some, refl, sym, ap, ◌∙◌, arith}
 use Rattle.std.specs.List.{count_by, filter, list_any}
 use Rattle.std.specs.Option.{option_map_or}
 use Rattle.std.specs.Ordering.{nat_cmp}
@@ -36,6 +36,7 @@ any-step : {X : Type 0} (p : X → Bool) (x : X) (xs : List X) (b : Bool) → li
 any-step p x xs true h = let e : nat_lt 0 (1 + count_by p xs) ≡ true = grind (arith, nat_tests) in sym e
 any-step p x xs false h = h ∙ (let e : 0 + count_by p xs ≡ count_by p xs = omega arith in ap (nat_lt 0) (sym e))
 
+-- some element passes where more than none are counted
 pub any-counted : {X : Type 0} (p : X → Bool) (xs : List X) → list_any p xs ≡ nat_lt 0 (count_by p xs)
 any-counted p [] = refl
 any-counted p (x ∷ xs) = any-step p x xs (p x) (any-counted p xs) ∙ ap (nat_lt 0) (sym (count-cons p x xs))
@@ -45,10 +46,12 @@ filter-step : {X : Type 0} (p q : X → Bool) (x : X) (xs : List X) (b : Bool) �
 filter-step p q x xs true is h = count-cons p x (filter q xs) ∙ ap (λ (n : ℕ). cond (p x) 1 0 + n) h
 filter-step p q x xs false is h = h ∙ (let e : 0 + count_by (λ y. q y && p y) xs ≡ count_by (λ y. q y && p y) xs = omega arith in sym e)
 
+-- of those that a filter keeps are counted those that pass both
 pub count-filter : {X : Type 0} (p q : X → Bool) (xs : List X) → count_by p (filter q xs) ≡ count_by (λ x. q x && p x) xs
 count-filter p q [] = refl
 count-filter p q (x ∷ xs) = filter-step p q x xs (q x) refl (count-filter p q xs) ∙ sym (count-cons (λ y. q y && p y) x xs)
 
+-- the places counted below one are those below an earlier, and those between
 pub counted-between : {X : Type 0} (test : X → Bool) (xs : List X) (taken : ℕ) (places : List ℕ) → AreCounted test xs taken places → (from to : ℕ) → from ≤ to → to ≤ taken
     → count_below to places ≡ count_below from places + count_by test (drop from (take to xs))
 counted-between test xs taken places counted from to h k =
@@ -71,6 +74,7 @@ by-write (Session n) k false = sym (and-false (n == k))
 by-write (Worker n) k true = refl
 by-write (Worker n) k false = refl
 
+-- a session's writes are those of its thread
 pub writes-by : (k : ℕ) (entries : List Entry) → count_by is_write (thread (Session k) entries) ≡ count_by (is_write_by k) entries
 writes-by k entries =
     count-filter is_write (λ e. is_same e.reply.who (Session k)) entries
@@ -91,15 +95,19 @@ module _ (entries front : List Entry) (entry : Entry) (rest : List Entry) (whole
   shown : (n : ℕ) × (snapshot_in entry.reply.said ≡ Some n) × (span_from entry rest n ≡ t)
   shown = some-mapped (span_from entry rest) (snapshot_in entry.reply.said) t (sym (opened-there entries front entry rest (length front) whole refl) ∙ opened)
 
+  -- a transaction is opened by a session
   pub opens-session : is_worker entry.reply.who ≡ false
   opens-session = (outside front entry rest whole (ap is_some shown.1)).1
 
+  -- and not by a worker
   pub opens-not-worker : {P : Type 0} → ((k : ℕ) → entry.reply.who ≡ Session k → ⊥) → P
   opens-not-worker never = worker-not entry.reply.who never opens-session
 
+  -- the snapshot that is told at the opening is the transaction's
   pub snapshot-is : unwrap_or (snapshot_in entry.reply.said) 0 ≡ t.snapshot
   snapshot-is = ap (λ (o : Option ℕ). unwrap_or o 0) shown.1 ∙ ap (λ (u : Span). u.snapshot) shown.2
 
+  -- the transaction ends with the reply at its end's place, or has no end
   pub ending-is : (end : ℕ) → end ≡ length front + next_end entry.reply.who (entry ∷ rest) → ending_of t ≡ slice_get entries end
   ending-is end is = ap ending_of (sym shown.2) ∙ span-ending entries front entry rest shown.0 whole ∙ ap (slice_get entries) (sym is)
 
@@ -124,6 +132,7 @@ module _ (entries front : List Entry) (entry : Entry) (rest : List Entry) (whole
 
 -- ---- what is there
 
+-- the place at which a transaction is opened is one of a reply
 pub opened-inside : (entries : List Entry) (place : ℕ) → is_some (opened_at place entries) ≡ true → place < length entries
 opened-inside entries place h = by (cases_lt place (length entries))
   where
@@ -146,16 +155,13 @@ transaction-asked replies openings opened at inside none =
     let its = kept-at replies at (slice_index_or replies at none) inside (get_or_default replies at none (slice_index_or replies at none) inside) in
     opened.own its.front (asked_at replies at none) its.rest its.whole ∙ ap (λ (n : ℕ). option_and_then (λ place. opened_at place (entries_of replies)) (opening_of openings n)) its.far
 
+-- what is read of the openings is what they say
 pub got-opening : (openings : List (Option ℕ)) (at : ℕ) (o : Option ℕ) → at < length openings → o ≡ slice_index_or openings at o → opening_of openings at ≡ o
 got-opening [] at o h is = absurd (omega (arith, h))
 got-opening (x ∷ openings) zero o h is = sym is
 got-opening (x ∷ openings) (suc at) o h is = got-opening openings at o (omega (arith, h)) is
 
-pub get-mapped : {X Y : Type 0} (f : X → Y) (xs : List X) (i : ℕ) → slice_get (map f xs) i ≡ option_map f (slice_get xs i)
-get-mapped f [] i = refl
-get-mapped f (x ∷ xs) zero = refl
-get-mapped f (x ∷ xs) (suc i) = get-mapped f xs i
-
+-- past the end nothing stands
 pub got-none : {X : Type 0} (xs : List X) (i : ℕ) → length xs ≤ i → slice_get xs i ≡ None
 got-none [] i h = refl
 got-none (x ∷ xs) zero h = absurd (omega (arith, h))

@@ -28,6 +28,7 @@ use Rattle.reply_text.specs.Shown.{is_cell, is_row}
 use Rattle.word_read.specs.Numbers.{magnitude}
 use Rattle.std.specs.Prelude.{codes}
 
+-- false is not true
 pub never : false ≡ true → ⊥
 never h = let n : ⊥ = cc in n
 

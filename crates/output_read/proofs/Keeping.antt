@@ -27,9 +27,11 @@ pub record Kept (old new : Reader) (kept : KeptReply) (n : ℕ) : Type 0 where
   pub shorter : length new.rest.now + n ≤ length old.rest.now
   pub some : 1 ≤ n
 
+-- behind a kept reply one more was read, which is the last
 pub read-more : (old new : Reader) (kept : KeptReply) (n : ℕ) → Kept old new kept n → read_by new ≡ read_by old ++ entry_of kept ∷ []
 read-more old new kept n k = ap entries_of k.items ∙ map-append entry_of old.replies.items (kept ∷ [])
 
+-- behind a kept reply that says something, the next line is behind all that were read
 pub still-reading : (old new : Reader) (kept : KeptReply) (n : ℕ) → Kept old new kept n → IsReading old → is_told kept.told ≡ true → line_count old.tables.now (entry_of kept) ≡ n → IsReading new
 still-reading old new kept n k reading told count = record {
   line = k.line ∙ ap (λ (m : ℕ). m + n) reading.line ∙ ap (λ (m : ℕ). next_line old.tables.now (read_by old) + m) (sym count)
@@ -59,6 +61,7 @@ module _ (old new : Reader) (kept : KeptReply) (n : ℕ) (k : Kept old new kept 
       ∙ ap (λ (es : List Entry). reading T dues es (lines_left new)) (sym (read-more old new kept n k))
       ∙ ap (λ (ts : List TableDecl). reading ts dues (read_by new) (lines_left new)) (sym k.tables)
 
+  -- what is due is read where its reply is found in the next line and is kept
   pub passes : (line : List ℕ) (behind : List (List ℕ)) → lines_left old ≡ line ∷ behind → reply_at T E due line behind ≡ Some (entry_behind T E due told) → Passes old new (due ∷ [])
   passes line behind front at dues anew = passes-all line behind front at dues
 
@@ -70,11 +73,13 @@ fails-at reader due line behind n reading speaks front at begun dues =
     ∙ failed reader.tables.now due dues (read_by reader) line behind speaks at
     ∙ ap Err (let a = reading.line in let e : next_line reader.tables.now (read_by reader) + lines_begun reader.tables.now (read_by reader) due line behind ≡ reader.line + n = omega (arith, a, begun) in e)
 
+-- what may not be silent fails where no line is left
 pub fails-end : (reader : Reader) (due : Due) → IsReading reader → may_be_silent due ≡ false → lines_left reader ≡ [] → FailsAll reader (due ∷ []) reader.line
 fails-end reader due reading speaks end dues =
     ap (Rattle.outcome_spec.specs.Forms.reading reader.tables.now (due ∷ dues) (read_by reader)) end
     ∙ missing reader.tables.now due dues (read_by reader) speaks ∙ ap Err (sym reading.line)
 
+-- what fails whatever comes behind it fails where that begins anew
 pub fails-anew : (reader : Reader) (dues : List Due) (n : ℕ) → FailsAll reader dues n → FailsAt reader dues n
 fails-anew reader dues n h rest anew = h rest
 
@@ -83,9 +88,11 @@ fails-anew reader dues n h rest anew = h rest
 count-more : (test : Entry → Bool) (entries : List Entry) (entry : Entry) → test entry ≡ true → count_by test (entries ++ entry ∷ []) ≡ count_by test entries + 1
 count-more test entries entry is = sum_by_push (λ e. cond (test e) 1 0) entries entry ∙ ap (λ (b : Bool). count_by test entries + cond b 1 0) is
 
+-- one reply more of a round to one raises its next index by one
 pub next-index : (round : ℕ) (who : Who) (entries : List Entry) (entry : Entry) → is_of round who entry ≡ true → next_index round who (entries ++ entry ∷ []) ≡ next_index round who entries + 1
 next-index round who entries entry is = let e = count-more (is_of round who) entries entry is in omega (arith, e)
 
+-- whether one is in a transaction behind a reply more is told by what it says
 pub within-more : (who : Who) (entries : List Entry) (entry : Entry) → is_same entry.reply.who who ≡ true → is_within who (entries ++ entry ∷ []) ≡ within_behind (is_within who entries) entry.reply.said
 within-more who entries entry is =
     ap (λ (es : List Entry). fold within_behind false (map (λ e. e.reply.said) es)) (filter-append (λ e. is_same e.reply.who who) entries (entry ∷ []))
@@ -100,6 +107,7 @@ within-other who entries entry is =
     ∙ ap (λ (b : Bool). fold within_behind false (map (λ e. e.reply.said) (filter (λ e. is_same e.reply.who who) entries ++ cond b (entry ∷ []) []))) is
     ∙ ap (λ (es : List Entry). fold within_behind false (map (λ e. e.reply.said) es)) (append-nil (filter (λ e. is_same e.reply.who who) entries))
 
+-- the next index in a round is not above the number of the line
 pub index-few : (reader : Reader) (round : ℕ) (who : Who) → IsReading reader → next_index round who (read_by reader) ≤ reader.line
 index-few reader round who reading =
     let a = count_by-le-length (is_of round who) (read_by reader) in

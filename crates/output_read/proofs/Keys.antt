@@ -35,20 +35,24 @@ use Rattle.output_read.specs.Fronts.{has_head, said_at}
 use Rattle.output_read.proofs.Fitting.{never}
 use Rattle.output_read.proofs.Answering.{Answered, IsListed, answer-reply, each-due}
 
+-- something is not nothing
 pub absurdly : {A : Type 0} {a : A} → Some a ≡ None → ⊥
 absurdly h = let n : ⊥ = cc in n
 
+-- what two `Some` hold is the same
 pub same-said : {A : Type 0} (a b : A) → Some a ≡ Some b → a ≡ b
 same-said a b h = cc
 
 -- ---- whom is answered
 
+-- those who are tested as the same are the same
 pub same-who : (a b : Who) → is_same a b ≡ true → a ≡ b
 same-who (Session m) (Session n) h = ap Session (eqb-true m n h)
 same-who (Session m) (Worker n) h = absurd (never h)
 same-who (Worker m) (Session n) h = absurd (never h)
 same-who (Worker m) (Worker n) h = ap Worker (eqb-true m n h)
 
+-- everyone is tested as the same as oneself
 pub who-same : (who : Who) → is_same who who ≡ true
 who-same (Session n) = eq-eqb n n refl
 who-same (Worker n) = eq-eqb n n refl
@@ -87,6 +91,7 @@ within-scanned tables (command.Seal table block) rows = refl
 within-scanned tables (command.Gather table block) rows = refl
 within-scanned tables (command.Export table) rows = refl
 
+-- a scan's rows answer no command in one line, in a transaction or without one
 pub chosen-scanned : (tables : List TableDecl) (asked : Command) (rows : List (List _)) (b : Bool) → cond b (answers_within tables asked (said.Scanned rows)) (answers_without asked (said.Scanned rows)) ≡ true → ⊥
 chosen-scanned tables asked rows true h = never (sym (within-scanned tables asked rows) ∙ h)
 chosen-scanned tables asked rows false h = never (sym (without-scanned asked rows) ∙ h)
@@ -117,15 +122,19 @@ module _ (tables : List TableDecl) (are : are_tables tables ≡ true) where
   one-line reply fit one = ap lines_of (one-text reply one) ∙ lines_behind_first (first_line tables reply) [] (first-whole reply fit)
 
   module _ (earlier : List Entry) (due : Due) where
+    -- the index of the next reply to whom it is due
     abbrev pub next : ℕ
     next = 1 + count_by (λ entry. entry.reply.round == due.round && is_same entry.reply.who due.who) earlier
 
+    -- what a line says as the reply that is due
     abbrev pub said_there : List ℕ → Option Said
     said_there line = said_at tables due.round due.who next line
 
+    -- what is due may be told this, by the replies before it
     abbrev pub may : Said → Bool
     may told = may_say tables (is_within due.who earlier) due told
 
+    -- the reply to what is due that says this
     abbrev pub reply_of : Said → ReplyLine
     reply_of told = (entry_behind tables earlier due told).reply
 
@@ -134,6 +143,7 @@ module _ (tables : List TableDecl) (are : are_tables tables ≡ true) where
       pub fits : is_said tables told ≡ true
       pub text : reply_text tables (reply_of told) ≡ line
 
+    -- a line that says something is the text of a reply that fits the tables
     pub said-is : (line : List ℕ) (told : Said) → said_there line ≡ Some told → Says line told
     said-is line told h =
         step (reply_in tables line) _ told h (λ reply read e.
@@ -175,6 +185,7 @@ module _ (tables : List TableDecl) (are : are_tables tables ≡ true) where
     both-true : (a b : Bool) → (a && b) ≡ true → a ≡ true
     both-true a b h = (and_parts a b h).0
 
+    -- the text of a reply that has its widths is read as what it says
     pub reads-own : (line : List ℕ) (told : Said) → is_reply tables (reply_of told) ≡ true → reply_text tables (reply_of told) ≡ line → said_there line ≡ Some told
     reads-own line told is text =
         let read : reply_in tables line ≡ Some (reply_of told) = ap (reply_in tables) (sym text) ∙ reply_back tables (reply_of told) are is in
@@ -188,11 +199,13 @@ module _ (tables : List TableDecl) (are : are_tables tables ≡ true) where
       pub who : is_who due.who ≡ true
       pub index : is_u64 next ≡ true
 
+    -- a reply to what is due has its widths where what is due has its own
     pub is-reply : IsNarrow → (told : Said) → is_said tables told ≡ true → is_reply tables (reply_of told) ≡ true
     is-reply narrow told fit =
         and_from (is_u32 due.round && is_who due.who && is_u64 next) (is_said tables told)
         (and_from (is_u32 due.round && is_who due.who) (is_u64 next) (and_from (is_u32 due.round) (is_who due.who) narrow.round narrow.who) narrow.index) fit
 
+    -- lines that begin with a reply of one line have its text as the first of them
     pub begins-own : (line : List ℕ) (behind : List (List ℕ)) (told : Said) → is_said tables told ≡ true → lines_behind told ≡ []
         → begins_with tables (line ∷ behind) (entry_behind tables earlier due told) ≡ true → reply_text tables (reply_of told) ≡ line
     begins-own line behind told fit one h =
@@ -200,6 +213,7 @@ module _ (tables : List TableDecl) (are : are_tables tables ≡ true) where
         let first : (bytes_eq own line && true) ≡ true = sym (ap (starts_with bytes_eq (line ∷ behind)) (one-line (reply_of told) fit one)) ∙ h in
         one-text (reply_of told) one ∙ (bytes_eq-Decides own line).0 (both-true (bytes_eq own line) true first)
 
+    -- a reply that is found for what is due is what the line says, and may be said
     pub spoken : IsNarrow → (line : List ℕ) (behind : List (List ℕ)) (entry : Entry)
         → ((is_within due.who earlier || is_upkeep due.command) ≡ true → IsListed tables (drop 3 (words_in line)) behind due.command)
         → reply_at tables earlier due line behind ≡ Some entry → Spoken line entry

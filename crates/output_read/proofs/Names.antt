@@ -49,11 +49,13 @@ table-name decl h =
     let third = and_parts (is_name decl.name && are_columns decl.schema) (are_slots decl.schema decl.slots) last.0 in
     and_parts (is_name decl.name) (are_columns decl.schema) third.0
 
+-- the names of valid tables are plain words
 pub names-plain : (tables : List TableDecl) → list_all is_table tables ≡ true → NamesPlain tables
 names-plain [] h table = refl
 names-plain (decl ∷ tables) h zero = name-plain decl.name (table-name decl (and_parts (is_table decl) (list_all is_table tables) h).0).0
 names-plain (decl ∷ tables) h (suc table) = names-plain tables (and_parts (is_table decl) (list_all is_table tables) h).1 table
 
+-- each of tables that are valid together is valid
 pub tables-valid : (tables : List TableDecl) → are_tables tables ≡ true → list_all is_table tables ≡ true
 tables-valid tables h = (and_parts (list_all is_table tables) (have_own_names tables) h).0
 

@@ -25,38 +25,48 @@ use Rattle.output_read.proofs.Keys.{same-who}
 
 -- ---- dues that begin anew
 
+-- these dues begin anew, with a rest that does
 abbrev pub OpensAnew : List Due → Type 0
 OpensAnew dues = (rest : List Due) → begins_anew rest ≡ true → begins_anew (dues ++ rest) ≡ true
 
+-- where nothing is due, what begins is the rest, which begins anew
 pub anew-none : OpensAnew []
 anew-none rest anew = anew
 
+-- what is due to a session begins anew
 pub anew-session : (round session : ℕ) (commands : List Command) → OpensAnew (dues_to round (Session session) commands)
 anew-session round session [] rest anew = anew
 anew-session round session (asked ∷ commands) rest anew = refl
 
+-- dues behind others begin anew where both do
 pub anew-append : (a b : List Due) → OpensAnew a → OpensAnew b → OpensAnew (a ++ b)
 anew-append a b h k rest anew = ap begins_anew (append_assoc a b rest) ∙ h (b ++ rest) (k rest anew)
 
 -- ---- one list after another
 
+-- where nothing is due, the reading goes on from where it stands
 pub passes-none : (reader : Reader) → Passes reader reader []
 passes-none reader dues anew = refl
 
+-- what is due passes part by part, where the second part begins anew
 pub passes-append : (a b c : Reader) (p q : List Due) → Passes a b p → Passes b c q → OpensAnew q → Passes a c (p ++ q)
 passes-append a b c p q h k opens dues anew = ap (reads a) (append_assoc p q dues) ∙ h (q ++ dues) (opens dues anew) ∙ k dues anew
 
+-- behind what passed, what fails there fails the whole
 pub passes-fails : (a b : Reader) (p q : List Due) (n : ℕ) → Passes a b p → FailsAt b q n → OpensAnew q → FailsAt a (p ++ q) n
 passes-fails a b p q n h k opens dues anew = ap (reads a) (append_assoc p q dues) ∙ h (q ++ dues) (opens dues anew) ∙ k dues anew
 
+-- what fails also fails with more behind it that begins anew
 pub fails-more : (a : Reader) (p q : List Due) (n : ℕ) → FailsAt a p n → OpensAnew q → FailsAt a (p ++ q) n
 fails-more a p q n h opens dues anew = ap (reads a) (append_assoc p q dues) ∙ h (q ++ dues) (opens dues anew)
 
 -- ---- replies that were added
 
+-- a reader has read no reply more than itself
 pub adds-none : (reader : Reader) (round : ℕ) (who : Who) → AddsAll reader reader round who
 adds-none reader round who = record { added = []; is = sym (append-nil (read_by reader)); own = refl }
 
+-- replies of a round to one that were read in two parts are replies to that one
 pub adds-append : (a b c : Reader) (round : ℕ) (who : Who) → AddsAll a b round who → AddsAll b c round who → AddsAll a c round who
 adds-append a b c round who h k = record {
   added = h.added ++ k.added;
@@ -64,6 +74,7 @@ adds-append a b c round who h k = record {
   own = list_all-append (is_of round who) h.added k.added ∙ and_from (list_all (is_of round who) h.added) (list_all (is_of round who) k.added) h.own k.own;
 }
 
+-- one reply of a round to one, read behind the others, is a list of such replies
 pub adds-one : (a b : Reader) (round : ℕ) (who : Who) → Adds a b round who → AddsAll a b round who
 adds-one a b round who h = record { added = h.entry ∷ []; is = h.is; own = and_from (is_of round who h.entry) true h.own refl }
 
@@ -99,6 +110,7 @@ count-none round who (entry ∷ entries) h =
     ∙ ap (λ (b : Bool). cond b 1 0 + count_by (is_of round who) entries) (ahead-other round who entry p.0)
     ∙ (let e = count-none round who entries p.1 in let m : 0 + count_by (is_of round who) entries ≡ 0 = omega (arith, e) in m)
 
+-- where all that was read is ahead of one in a round, its next index is 1
 pub first-index : (round : ℕ) (who : Who) (entries : List Entry) → are_ahead round who entries ≡ true → 0 + 1 ≡ next_index round who entries
 first-index round who entries h = let e = count-none round who entries h in omega (arith, e)
 
@@ -134,6 +146,7 @@ ahead-next a b round who next h ahead on before =
     ∙ and_from (are_ahead round next (read_by a)) (are_ahead round next h.added) (all-on (is_ahead round who) (is_ahead round next) (ahead-on round who next on) (read_by a) ahead)
     (all-on (is_of round who) (is_ahead round next) (own-on round who next before) h.added h.own)
 
+-- what is ahead of one is ahead of whoever comes behind that one
 pub ahead-later : (round : ℕ) (who next : Who) (entries : List Entry) → ((other : Who) → comes_before other who ≡ true → comes_before other next ≡ true) → are_ahead round who entries ≡ true → are_ahead round next entries ≡ true
 ahead-later round who next entries on h = all-on (is_ahead round who) (is_ahead round next) (ahead-on round who next on) entries h
 
@@ -143,8 +156,10 @@ ahead-round round who next entries h = all-on (is_ahead round who) (is_ahead (ro
 
 -- ---- the commands of a session
 
+-- what a session is asked in one line more stands behind its commands so far
 pub commands-more : (session : ℕ) (lines : List Line) (line : Line) → commands_of session (lines ++ line ∷ []) ≡ commands_of session lines ++ commands_of session (line ∷ [])
 commands-more session lines line = filter_map-append (λ l. cond (l.session == session) (Some l.command) None) lines (line ∷ [])
 
+-- what is due of commands in two parts is due of one part after the other
 pub dues-more : (round : ℕ) (who : Who) (a b : List Command) → dues_to round who (a ++ b) ≡ dues_to round who a ++ dues_to round who b
 dues-more round who a b = map-append (λ (asked : Command). record { round = round; who = who; command = asked }) a b

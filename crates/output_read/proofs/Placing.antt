@@ -32,22 +32,27 @@ steps_left tables steps =
 -- ---- which of them says something
 
 module _ (test : Command → Bool) (table : ℕ) where
+  -- a step that does not say it is passed over
   pub miss-one : (asked : Command) (steps : List Command) → test asked ≡ false → first_hit test (asked ∷ steps) ≡ first_hit test steps
   miss-one asked steps h = ap (λ (b : Bool). cond b (Some steps) (first_hit test steps)) h
 
+  -- a step that says it is the first, and the others are left
   pub hit-one : (asked : Command) (steps : List Command) → test asked ≡ true → first_hit test (asked ∷ steps) ≡ Some steps
   hit-one asked steps h = ap (λ (b : Bool). cond b (Some steps) (first_hit test steps)) h
 
+  -- no step over a range of blocks says what no seal and no gathering does
   pub none-says : ((block : ℕ) → test (command.Seal table block) ≡ false) → ((block : ℕ) → test (command.Gather table block) ≡ false) → (first count : ℕ) → first_hit test (blocks_from table first count) ≡ None
   none-says seals gathers first zero = refl
   none-says seals gathers first (suc count) =
       miss-one (command.Seal table first) _ (seals first) ∙ miss-one (command.Gather table first) _ (gathers first) ∙ none-says seals gathers (first + 1) count
 
+  -- what every gathering says, and no seal, is said by the first block's gathering
   pub memory-says : ((block : ℕ) → test (command.Seal table block) ≡ false) → ((block : ℕ) → test (command.Gather table block) ≡ true) → (first count : ℕ)
       → first_hit test (blocks_from table first (suc count)) ≡ Some (blocks_from table (first + 1) count)
   memory-says seals gathers first count = miss-one (command.Seal table first) _ (seals first) ∙ hit-one (command.Gather table first) _ (gathers first)
 
   module _ (block : ℕ) where
+    -- what the seal of a block alone says leaves its gathering and the blocks behind it
     pub seal-says : ((at : ℕ) → test (command.Seal table at) ≡ (block == at)) → ((at : ℕ) → test (command.Gather table at) ≡ false) → (first count : ℕ) → first ≤ block → block < first + count
         → first_hit test (blocks_from table first count) ≡ Some (command.Gather table block ∷ blocks_from table (block + 1) (first + count - (block + 1)))
     seal-says seals gathers first zero low high = absurd (omega (arith, low, high))
@@ -72,6 +77,7 @@ module _ (test : Command → Bool) (table : ℕ) where
                 above : (a b : ℕ) → b ≤ a → (a ≡ b → ⊥) → b + 1 ≤ a
                 above a b low h = omega (arith, low, h)
 
+    -- what the gathering of a block alone says leaves the blocks behind it
     pub gather-says : ((at : ℕ) → test (command.Seal table at) ≡ false) → ((at : ℕ) → test (command.Gather table at) ≡ (block == at)) → (first count : ℕ) → first ≤ block → block < first + count
         → first_hit test (blocks_from table first count) ≡ Some (blocks_from table (block + 1) (first + count - (block + 1)))
     gather-says seals gathers first zero low high = absurd (omega (arith, low, high))
@@ -101,6 +107,7 @@ module _ (test : Command → Bool) (table : ℕ) where
         miss-one (command.Seal table first) _ (seals first ∙ ne_eqb block first (out first (omega arith) (omega arith))) ∙ miss-one (command.Gather table first) _ (gathers first)
         ∙ seal-none seals gathers (first + 1) count (λ at low high. out at (omega (arith, low)) (omega (arith, high)))
 
+    -- what only the gathering of a block says, no step of a range without the block says
     pub gather-none : ((at : ℕ) → test (command.Seal table at) ≡ false) → ((at : ℕ) → test (command.Gather table at) ≡ (block == at)) → (first count : ℕ) → ((at : ℕ) → first ≤ at → at < first + count → block ≡ at → ⊥)
         → first_hit test (blocks_from table first count) ≡ None
     gather-none seals gathers first zero out = refl
@@ -114,6 +121,7 @@ abbrev no_table : TableDecl
 no_table = record { name = []; schema = []; slots = 0; blocks = 0 }
 
 module _ (tables : List TableDecl) where
+  -- the table at a place
   abbrev pub decl_at : ℕ → TableDecl
   decl_at table = get_or tables table no_table
 
@@ -121,15 +129,18 @@ module _ (tables : List TableDecl) where
   abbrev pub entries_at : ℕ → List (ℕ × TableDecl)
   entries_at table = drop table (enumerate_from 0 tables)
 
+  -- the tables from a place on begin with the one there
   pub entries-first : (table : ℕ) → table < length tables → entries_at table ≡ (table, decl_at table) ∷ entries_at (table + 1)
   entries-first table few =
       drop-cons (enumerate_from 0 tables) table (0, no_table) (let e = length-enumerate_from 0 tables in omega (arith, e, few))
       ∙ ap (λ (e : ℕ × TableDecl). e ∷ drop (suc table) (enumerate_from 0 tables)) (get_or-enumerate_from 0 tables table (0, no_table) few ∙ ap (λ (n : ℕ). (n, decl_at table)) (let m : 0 + table ≡ table = omega arith in m))
       ∙ ap (λ (n : ℕ). (table, decl_at table) ∷ drop n (enumerate_from 0 tables)) (let m : suc table ≡ table + 1 = omega arith in m)
 
+  -- how many blocks a table at a place has
   pub blocks-is : (table : ℕ) → table < length tables → blocks_at tables table ≡ (decl_at table).blocks
   blocks-is table few = ap (λ (o : Option TableDecl). option_map_or (λ decl. decl.blocks) o 0) (slice_get-get_or tables table no_table few)
 
+  -- a block belongs to a table that is there
   pub has-blocks : (table block : ℕ) → block < blocks_at tables table → table < length tables
   has-blocks table block few = by (nat_lt table (length tables)) refl
     where
@@ -145,6 +156,7 @@ module _ (tables : List TableDecl) where
   entries-past (x ∷ xs) zero few = absurd (omega (arith, few))
   entries-past (x ∷ xs) (suc k) few = entries-past xs k (omega (arith, few))
 
+  -- from behind the last table on there is none
   pub entries-none : (table : ℕ) → length tables ≤ table → entries_at table ≡ []
   entries-none table few = entries-past (enumerate_from 0 tables) table (let e = length-enumerate_from 0 tables in omega (arith, e, few))
 
@@ -153,6 +165,7 @@ module _ (tables : List TableDecl) where
   length-left [] (suc k) = let e : 0 ≡ 0 - suc k = omega arith in e
   length-left (x ∷ xs) (suc k) = let e = length-left xs k in let m : length xs - k ≡ length (x ∷ xs) - suc k = omega arith in e ∙ m
 
+  -- how many tables there are from a place on
   pub entries-count : (table : ℕ) → length (entries_at table) ≡ length tables - table
   entries-count table = length-left (enumerate_from 0 tables) table ∙ ap (λ (n : ℕ). n - table) (length-enumerate_from 0 tables)
 
@@ -174,6 +187,7 @@ module _ (tables : List TableDecl) where
     valid-at (t ∷ ts) zero all few = (and_parts (is_table t) (list_all is_table ts) all).0
     valid-at (t ∷ ts) (suc k) all few = valid-at ts k (and_parts (is_table t) (list_all is_table ts) all).1 (omega (arith, few))
 
+    -- a valid table has at most 1024 blocks
     pub few-blocks : (table : ℕ) → table < length tables → blocks_at tables table ≤ 1024
     few-blocks table few =
         let is = valid-at tables table valid few in
@@ -187,6 +201,7 @@ module _ (tables : List TableDecl) where
     pub blocks-whole : (table : ℕ) → table < length tables → blocks_of (table, decl_at table) ≡ blocks_from table 0 (blocks_at tables table)
     blocks-whole table few = ap (blocks_from table 0) (sym (blocks-is table few))
 
+    -- the steps over a table's blocks may all leave no line
     pub entry-quiet : (table : ℕ) → table < length tables → AreQuiet tables round worker (blocks_of (table, decl_at table))
     entry-quiet table few =
         subst (AreQuiet tables round worker) (sym (blocks-whole table few)) (blocks-quiet table few 0 (blocks_at tables table) (let e = few-blocks table few in omega (arith, e)))
@@ -213,9 +228,11 @@ module _ (tables : List TableDecl) where
         ((refl, (λ words behind. (is-place table few, fits)), refl, refl), blocks-quiet table few (block + 1) (blocks_at tables table - (block + 1)) (let a = there refl in let b = few-blocks table few in omega (arith, a, b)))
     left-by table block few false most there = blocks-quiet table few block (blocks_at tables table - block) (let b = few-blocks table few in omega (arith, most, b))
 
+    -- the steps that are left of a table may all leave no line
     pub left-quiet : (steps : NextSteps) → InTurn steps → AreQuiet tables round worker (steps_left tables steps)
     left-quiet steps in_turn = left-by steps.table steps.block in_turn.table steps.sealed in_turn.block in_turn.sealed
 
+    -- the steps over the blocks of further tables may all leave no line
     pub further-quiet : (steps : NextSteps) → InTurn steps → AllQuiet tables round worker [] (entries_at (steps.table + 1))
     further-quiet steps in_turn = quiet-from (length tables - (steps.table + 1)) (steps.table + 1) (let e = in_turn.table in omega (arith, e))
 
@@ -228,6 +245,8 @@ module _ (tables : List TableDecl) where
       abbrev pub from_next : NextSteps → List Entry → List (List ℕ) → Reading
       from_next steps earlier lines = from_steps tables round worker dues (steps_left tables steps) (entries_at (steps.table + 1)) (steps.until - (steps.table + 1)) earlier lines
 
+      -- the steps over the blocks of further tables may all leave no line, whatever is due behind
+      -- them
       pub quiet-next : (steps : NextSteps) → InTurn steps → AllQuiet tables round worker dues (entries_at (steps.table + 1))
       quiet-next steps in_turn = all-quiet-dues dues (entries_at (steps.table + 1)) (further-quiet steps in_turn)
 

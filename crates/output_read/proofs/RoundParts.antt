@@ -5,7 +5,7 @@ use Rattle.std.specs.List.{list_all, flat_map, range_with_len, enumerate_from, c
 use Rattle.std.proofs.lemmas.Bool.{and_from, and_parts, eq-eqb, eqb-true, ne_eqb, leb-true}
 use Rattle.std.proofs.lemmas.Bool.Decides.{nat_tests}
 use Rattle.std.proofs.lemmas.List.Folds.{list_all-append}
-use Rattle.std.proofs.Common.{drop-cons, take_all}
+use Rattle.std.proofs.Common.{drop-cons}
 use Rattle.std.proofs.lemmas.List.{get_or-set_same, get_or-set_other, length-set, length_push, take-append-drop, take_more}
 use Rattle.cell_model.specs.declared.table.TableDecl.{TableDecl}
 use Rattle.workload_spec.specs.declared.reply.Who.{Who}
@@ -34,6 +34,7 @@ pub record IsSound (script : Script) : Type 0 where
   pub sessions : script.sessions ≤ 64
   pub lines : list_all (is_line script) (all_lines script) ≡ true
 
+-- what of a valid script the reading uses
 pub script-sound : (script : Script) → is_valid script ≡ true → IsSound script
 script-sound script h =
     let a = and_parts (has_head script && nat_lt 0 (length script.rounds) && list_all (is_line script) (all_lines script)) (nat_le (count_by (λ line. is_export line.command) (all_lines script)) 1) h in
@@ -59,6 +60,7 @@ script-sound script h =
       lines = b.1;
     }
 
+-- the commands of valid lines are valid
 pub commands-valid : (script : Script) (lines : List Line) → list_all (is_line script) lines ≡ true → list_all (λ line. is_command script.tables line.command) lines ≡ true
 commands-valid script [] h = refl
 commands-valid script (line ∷ lines) h =
@@ -69,6 +71,7 @@ commands-valid script (line ∷ lines) h =
 pub ask-tables : (script : Script) (reader : Reader) → is_valid script ≡ true → reader.tables.now ≡ script.tables → are_tables reader.tables.now ≡ true
 ask-tables script reader valid same = subst (λ (ts : List TableDecl). are_tables ts ≡ true) (sym same) (script-sound script valid).tables
 
+-- a reader with the tables of a valid script has few of them, and at least one
 pub ask-few : (script : Script) (reader : Reader) → is_valid script ≡ true → reader.tables.now ≡ script.tables → IsFew (length reader.tables.now)
 ask-few script reader valid same = subst (λ (ts : List TableDecl). IsFew (length ts)) (sym same) (script-sound script valid).few
 
@@ -142,6 +145,7 @@ module _ (script : Script) (round : ℕ) (lines : List Line) (old : Reader) wher
     pub stands : Stands script round (Session (at + 1)) cur within
     pub passes : Passes old cur (session_part round lines at)
 
+  -- before the first session of a round nothing of it was read
   pub sessions-start : (within : List Bool) → Stands script round (Session 1) old within → SessionsOn old within 0
   sessions-start within h = record {
     tables = refl;
@@ -150,15 +154,11 @@ module _ (script : Script) (round : ℕ) (lines : List Line) (old : Reader) wher
   }
 
   module _ (cur : Reader) (within : List Bool) (at : ℕ) (few : at < script.sessions) (h : SessionsOn cur within at) where
-    pub here-is : (d : Bool) → get_or within at d ≡ is_within (Session (at + 1)) (read_by cur)
-    here-is d = h.stands.within_are.are at d few
-
-    pub here-there : at < length within
-    here-there = let m = h.stands.within_are.many in omega (arith, m, few)
-
+    -- the commands of the round's lines fit the reader's tables
     pub ask-lines : list_all (is_line script) lines ≡ true → list_all (λ line. is_command cur.tables.now line.command) lines ≡ true
     ask-lines valid = subst (λ (ts : List TableDecl). list_all (λ line. is_command ts line.command) lines ≡ true) (sym h.stands.tables) (commands-valid script lines valid)
 
+    -- a session that was read and whose flag was set leaves one more session read
     pub sessions-next : (new : Reader) (after : Bool) → new.tables.now ≡ cur.tables.now → SessionGoes cur new round (at + 1) after lines → SessionsOn new (set within at after) (at + 1)
     sessions-next new after tables g = record {
       tables = tables ∙ h.tables;
@@ -188,9 +188,11 @@ module _ (script : Script) (round : ℕ) (lines : List Line) (old : Reader) wher
             ∙ h.stands.within_are.are other d some
             ∙ sym (within-as-before cur new round (Session (other + 1)) (Session (at + 1)) g.adds (apart other no_same))
 
+    -- where the next session fails, the sessions of the round fail at that line
     pub sessions-fail : (line : ℕ) → FailsAt cur (of_session (at + 1)) line → FailsAt old (session_part round lines script.sessions) line
     sessions-fail line f = part-fails of_session (λ n. anew-session round n (commands_of n lines)) old cur at h.passes script.sessions line few f
 
+  -- behind the last session of a round the first worker comes next
   pub sessions-end : (cur : Reader) (within : List Bool) (at : ℕ) → SessionsOn cur within at → Stands script round (Worker 1) cur within
   sessions-end cur within at h = record {
     tables = h.stands.tables;
@@ -215,6 +217,7 @@ module _ (script : Script) (round : ℕ) (old : Reader) (tables_are : old.tables
     pub within_as : (session : ℕ) → is_within (Session session) (read_by cur) ≡ is_within (Session session) (read_by old)
     pub passes : Passes old cur (worker_part script round at)
 
+  -- before the first worker of a round nothing of the workers was read
   pub workers-start : IsReading old → are_ahead round (Worker 1) (read_by old) ≡ true → WorkersOn old 0
   workers-start reading ahead = record {
     tables = refl;
@@ -228,6 +231,7 @@ module _ (script : Script) (round : ℕ) (old : Reader) (tables_are : old.tables
     turns-are : dues_to round (Worker (at + 1)) (turns_of script.turns cur.tables.now) ≡ of_worker (at + 1)
     turns-are = ap (λ (ts : List TableDecl). dues_to round (Worker (at + 1)) (turns_of script.turns ts)) (h.tables ∙ tables_are)
 
+    -- one worker that was read leaves one more worker read
     pub workers-next : (new : Reader) → new.tables.now ≡ cur.tables.now → WorkGoes cur new round (at + 1) (turns_of script.turns cur.tables.now) → WorkersOn new (at + 1)
     workers-next new tables g = record {
       tables = tables ∙ h.tables;
@@ -237,44 +241,50 @@ module _ (script : Script) (round : ℕ) (old : Reader) (tables_are : old.tables
       passes = part-passes of_worker worker-anew old cur at h.passes new (subst (Passes cur new) turns-are g.passes);
     }
 
+    -- where the next worker fails, the workers of the round fail at that line
     pub workers-fail : at < script.workers → (line : ℕ) → FailsAt cur (dues_to round (Worker (at + 1)) (turns_of script.turns cur.tables.now)) line → FailsAt old (worker_part script round script.workers) line
     workers-fail few line f =
         part-fails of_worker worker-anew old cur at h.passes script.workers line few (subst (λ (ds : List Due). FailsAt cur ds line) turns-are f)
 
+    -- the workers' lines leave it as it was which sessions are in transactions
     pub workers-within : (within : List Bool) → AreWithin script.sessions within (read_by old) → AreWithin script.sessions within (read_by cur)
     workers-within within w = record { many = w.many; are = λ n d few. w.are n d few ∙ sym (h.within_as (n + 1)) }
 
+    -- behind the workers of a round the first session of the next one comes
     pub workers-ahead : are_ahead (round + 1) (Session 1) (read_by cur) ≡ true
     workers-ahead = ahead-round round (Worker (at + 1)) (Session 1) (read_by cur) h.ahead
 
-  pub workers-open : OpensAnew (worker_part script round script.workers)
-  workers-open = parts-anew of_worker worker-anew 1 script.workers
-
 -- ---- rounds
 
+-- what is due to the sessions of a round begins anew
 pub sessions-open : (round : ℕ) (lines : List Line) (sessions : ℕ) → OpensAnew (session_part round lines sessions)
 sessions-open round lines sessions = parts-anew (λ session. dues_to round (Session session) (commands_of session lines)) (λ n. anew-session round n (commands_of n lines)) 1 sessions
 
+-- what is due in a round begins anew
 pub round-opens : (script : Script) (round : ℕ) (lines : List Line) → OpensAnew (dues_in script round lines)
 round-opens script round lines =
     anew-append (session_part round lines script.sessions) (worker_part script round script.workers) (sessions-open round lines script.sessions)
     (parts-anew (λ worker. dues_to round (Worker worker) (flat_map (λ turn. turn_of script.tables) (range_with_len 1 script.turns))) (λ n. anew-turns round n 1 script.turns script.tables) 1 script.workers)
 
+-- a round passes where its sessions and then its workers do
 pub round-passes : (script : Script) (round : ℕ) (lines : List Line) (a b c : Reader) → Passes a b (session_part round lines script.sessions) → Passes b c (worker_part script round script.workers) → Passes a c (dues_in script round lines)
 round-passes script round lines a b c h k =
     passes-append a b c (session_part round lines script.sessions) (worker_part script round script.workers) h k
     (parts-anew (λ worker. dues_to round (Worker worker) (flat_map (λ turn. turn_of script.tables) (range_with_len 1 script.turns))) (λ n. anew-turns round n 1 script.turns script.tables) 1 script.workers)
 
+-- a round fails where its sessions do
 pub round-fails-first : (script : Script) (round : ℕ) (lines : List Line) (a : Reader) (n : ℕ) → FailsAt a (session_part round lines script.sessions) n → FailsAt a (dues_in script round lines) n
 round-fails-first script round lines a n h =
     fails-more a (session_part round lines script.sessions) (worker_part script round script.workers) n h
     (parts-anew (λ worker. dues_to round (Worker worker) (flat_map (λ turn. turn_of script.tables) (range_with_len 1 script.turns))) (λ n. anew-turns round n 1 script.turns script.tables) 1 script.workers)
 
+-- a round fails where its workers do, behind sessions that passed
 pub round-fails-then : (script : Script) (round : ℕ) (lines : List Line) (a b : Reader) (n : ℕ) → Passes a b (session_part round lines script.sessions) → FailsAt b (worker_part script round script.workers) n → FailsAt a (dues_in script round lines) n
 round-fails-then script round lines a b n h k =
     passes-fails a b (session_part round lines script.sessions) (worker_part script round script.workers) n h k
     (parts-anew (λ worker. dues_to round (Worker worker) (flat_map (λ turn. turn_of script.tables) (range_with_len 1 script.turns))) (λ n. anew-turns round n 1 script.turns script.tables) 1 script.workers)
 
+-- what is due in rounds that are counted from a number on
 abbrev pub rounds_from : Script → ℕ → List (List Line) → List Due
 rounds_from script first rounds = flat_map (λ entry. dues_in script entry.0 entry.1) (enumerate_from first rounds)
 
@@ -307,32 +317,8 @@ outside-at zero at d few = absurd (omega (arith, few))
 outside-at (suc n) zero d few = refl
 outside-at (suc n) (suc at) d few = outside-at n at d (omega (arith, few))
 
-outside-many : (n : ℕ) → length (Rattle.std.specs.Prelude.replicate n false) ≡ n
-outside-many zero = refl
-outside-many (suc n) = let e = outside-many n in omega (arith, e)
-
-pub outside-more : (n : ℕ) → Rattle.std.specs.Prelude.replicate (n + 1) false ≡ Rattle.std.specs.Prelude.replicate n false ++ false ∷ []
-outside-more zero = refl
-outside-more (suc n) =
-    ap (λ (k : ℕ). Rattle.std.specs.Prelude.replicate k false) (let e : suc n + 1 ≡ suc (n + 1) = omega arith in e) ∙ ap (λ (bs : List Bool). false ∷ bs) (outside-more n)
-
-pub rounds-start : (script : Script) (old : Reader) (within : List Bool) → old.tables.now ≡ script.tables → IsReading old → read_by old ≡ [] → within ≡ Rattle.std.specs.Prelude.replicate script.sessions false → RoundsOn script old old within 0 []
-rounds-start script old within tables reading none outside = record {
-  tables = refl;
-  stands = record {
-    tables = tables;
-    reading = reading;
-    ahead = ap (are_ahead (0 + 1) (Session 1)) none;
-    within_are = record {
-      many = ap (λ (bs : List Bool). length bs) outside ∙ outside-many script.sessions;
-      are = λ at d few. ap (λ (bs : List Bool). get_or bs at d) outside ∙ outside-at script.sessions at d few ∙ sym (ap (is_within (Session (at + 1))) none);
-    };
-  };
-  passes = passes-none old;
-  many = refl;
-}
-
 module _ (script : Script) (old cur : Reader) (within : List Bool) (i number : ℕ) (item : List Line) (few : i < length script.rounds) (is : item ≡ get_or script.rounds i item) (same : number ≡ i) (h : RoundsOn script old cur within number (take i script.rounds)) where
+  -- the lines of a round of a valid script are valid
   pub item-lines : is_valid script ≡ true → list_all (is_line script) item ≡ true
   item-lines valid = ap (list_all (is_line script)) is ∙ lines-valid script script.rounds i item few (script-sound script valid).lines
 
@@ -342,6 +328,7 @@ module _ (script : Script) (old cur : Reader) (within : List Bool) (i number : �
   one : rounds_from script (1 + length (take i script.rounds)) (item ∷ []) ≡ dues_in script (number + 1) item
   one = append-nil (dues_in script (1 + length (take i script.rounds)) item) ∙ ap (λ (n : ℕ). dues_in script n item) (let m = h.many in let e : 1 + length (take i script.rounds) ≡ number + 1 = omega (arith, m) in e)
 
+  -- a round that passed leaves one more round read
   pub rounds-next : (new : Reader) (after : List Bool) → new.tables.now ≡ cur.tables.now → Stands script (number + 1 + 1) (Session 1) new after → Passes cur new (dues_in script (number + 1) item) → RoundsOn script old new after (number + 1) (take (i + 1) script.rounds)
   rounds-next new after tables stands g = record {
     tables = tables ∙ h.tables;
@@ -351,6 +338,7 @@ module _ (script : Script) (old cur : Reader) (within : List Bool) (i number : �
     many = ap (λ (ls : List (List Line)). length ls) taken ∙ length_push (take i script.rounds) item ∙ ap (λ (n : ℕ). n + 1) h.many;
   }
 
+  -- where the next round fails, the script fails at that line
   pub rounds-fail : (line : ℕ) → FailsAt cur (dues_in script (number + 1) item) line → FailsAt old (dues_of script) line
   rounds-fail line f =
       let rest = rounds_from script (1 + length (take i script.rounds) + 1) (drop (i + 1) script.rounds) in
@@ -364,6 +352,3 @@ module _ (script : Script) (old cur : Reader) (within : List Bool) (i number : �
       (passes-fails old cur (rounds_from script 1 (take i script.rounds)) (dues_in script (number + 1) item ++ rest) line h.passes
       (fails-more cur (dues_in script (number + 1) item) rest line f (rounds-open script (1 + length (take i script.rounds) + 1) (drop (i + 1) script.rounds)))
       (anew-append (dues_in script (number + 1) item) rest (round-opens script (number + 1) item) (rounds-open script (1 + length (take i script.rounds) + 1) (drop (i + 1) script.rounds))))
-
-pub rounds-end : (script : Script) (old cur : Reader) (within : List Bool) (i number : ℕ) → length script.rounds ≤ i → RoundsOn script old cur within number (take i script.rounds) → Passes old cur (dues_of script)
-rounds-end script old cur within i number past h = subst (λ (ls : List (List Line)). Passes old cur (rounds_from script 1 ls)) (take_all i script.rounds past) h.passes

@@ -89,16 +89,6 @@ pub record Walked (columns : List Column) (count : ℕ) (lines : List ℕ) (rows
   pub fit : list_all (fits columns) done ≡ true
   pub on : rows_above columns None (take count (lines_of lines)) ≡ done ++ rows_above columns below (take (count - rows) (lines_of rest))
 
-pub walk-starts : (columns : List Column) (count : ℕ) (lines : List ℕ) → Walked columns count lines 0 None lines
-walk-starts columns count lines = record {
-  done = [];
-  counted = refl;
-  within = omega arith;
-  text = refl;
-  fit = refl;
-  on = ap (λ (n : ℕ). rows_above columns None (take n (lines_of lines))) (let e : count ≡ count - 0 = omega arith in e);
-}
-
 -- nothing more is read
 walk-ends : (columns : List Column) (count : ℕ) (lines : List ℕ) (rows : ℕ) (below : Option ℤ) (rest : List ℕ) → Walked columns count lines rows below rest
     → rows_above columns below (take (count - rows) (lines_of rest)) ≡ [] → AreAbove columns count lines rows rest
@@ -109,10 +99,6 @@ walk-ends columns count lines rows below rest w none = record {
   text = w.text;
   fit = w.fit;
 }
-
-pub walk-full : (columns : List Column) (count : ℕ) (lines : List ℕ) (rows : ℕ) (below : Option ℤ) (rest : List ℕ) → Walked columns count lines rows below rest → count ≤ rows → AreAbove columns count lines rows rest
-walk-full columns count lines rows below rest w full =
-    walk-ends columns count lines rows below rest w (ap (λ (n : ℕ). rows_above columns below (take n (lines_of rest))) (let e : count - rows ≡ 0 = omega (arith, full) in e))
 
 above-none : (columns : List Column) (below : Option ℤ) (line : List ℕ) (lines : List (List ℕ)) → row_at columns line ≡ None → rows_above columns below (line ∷ lines) ≡ []
 above-none columns below line lines is =
@@ -162,6 +148,7 @@ module _ (columns : List Column) (some : 0 < length columns) (count : ℕ) (line
         fallen zero = refl
         fallen (suc n) = above-some columns below (line ++ 10 ∷ []) (take n (lines_of others)) row false (row-line columns some line ∙ at) falls
 
+    -- a line that is a row with a key above the last is one row more
     pub walk-on : (row : List Cell) → row_behind columns line ≡ Some row → option_map_or (λ last. int_lt last (key_of row)) below true ≡ true → rows < count
         → Walked columns count lines (rows + 1) (Some (key_of row)) others
     walk-on row at rises few =
@@ -213,16 +200,20 @@ module _ (columns : List Column) (some : 0 < length columns) (count : ℕ) (line
             rising row at (option_map_or (λ last. int_lt last (key_of row)) below true) refl
             (is ∙ ap (λ (o : Option (List Cell)). o >>= λ r. where_true (option_map_or (λ last. int_lt last (key_of r)) below true) (key_of r)) at)
 
+    -- a line without a key above the last ends the rows
     pub key-none : None ≡ key_above columns below line → rows < count → AreAbove columns count lines rows rest
     key-none is few = (key-cases None is few).0 refl
 
+    -- a line with a key above the last is one row more, and that key is the last
     pub key-some : (key : ℤ) → Some key ≡ key_above columns below line → rows < count → Walked columns count lines (rows + 1) (Some key) others
     key-some key is few = (key-cases (Some key) is few).1 key refl
 
+    -- where the line has no key above the last, as an option tells, the rows end
     pub key-lacks : (key : Option ℤ) → key ≡ key_above columns below line → is_some key ≡ false → rows < count → AreAbove columns count lines rows rest
     key-lacks None is none few = key-none is few
     key-lacks (Some key) is none few = absurd (never (sym none))
 
+    -- where the line has a key above the last, as an option tells, it is one row more
     pub key-kept : (key : Option ℤ) → key ≡ key_above columns below line → is_some key ≡ true → rows < count → Walked columns count lines (rows + 1) key others
     key-kept None is some few = absurd (never some)
     key-kept (Some key) is some few = key-some key is few

@@ -27,7 +27,7 @@ use Rattle.reply_text.proofs.PieceLemmas.{step, where_is, gives, cut_is, cut_bac
 use Rattle.reply_text.proofs.Spelled.{u64_is, u64_back}
 use Rattle.reply_text.proofs.Readings.{head_is}
 use Rattle.reply_text.proofs.SaidBack.{plain_whole}
-use Rattle.reply_text.proofs.RepliesBack.{head_text, head_back}
+use Rattle.reply_text.proofs.RepliesBack.{head_back}
 use Rattle.timeline_laws.proofs.Lines.{a-word, ended, first_line, lines-alone, IsSaid, IsRead, reply-unbroken, is_said as is_spoken, reply-read, who-word, all-words}
 use Rattle.timeline_laws.proofs.ReadBack.{NamesPlain, reply-back}
 use Rattle.timeline_laws.proofs.ReadLines.{words_of_line}
@@ -40,19 +40,19 @@ use Rattle.output_read.proofs.Keys.{absurdly, same-who, who-same, said_there, ne
 
 -- ---- the first line of a scan
 
+-- the words of a scan's first line
 abbrev pub scan_words : ℕ → Who → ℕ → ℕ → List (List ℕ)
 scan_words round who index count = decimal round ∷ who_text who ∷ decimal index ∷ codes "rows" ∷ decimal count ∷ []
 
+-- the text of a scan's first line
 abbrev pub scan_text : ℕ → Who → ℕ → ℕ → List ℕ
 scan_text round who index count = spaced (scan_words round who index count) ++ 10 ∷ []
-
-scan-lined : (round index count : ℕ) (who : Who) → spaced (scan_words round who index count) ≡ head_text round who index (codes "rows " ++ decimal count)
-scan-lined round index count who = refl
 
 pub record IsScanLine (round : ℕ) (who : Who) (index : ℕ) (line : List ℕ) (count : ℕ) : Type 0 where
   pub text : line ≡ scan_text round who index count
   pub fits : is_u64 count ≡ true
 
+-- a line that says a count of rows is a scan's first line with that count
 pub scan-is : (round index count : ℕ) (who : Who) (line : List ℕ) → count_at round who index line ≡ Some count → IsScanLine round who index line count
 scan-is round index count who line h =
     step (words_at round who index line) _ count h (λ words is h1.
@@ -78,6 +78,7 @@ scan-is round index count who line h =
       fits = n.fits;
     }))))
 
+-- the words of a scan's first line have no end of a line among them
 pub scan-whole : (round index count : ℕ) (who : Who) → is_whole (spaced (scan_words round who index count)) ≡ true
 scan-whole round index count who =
     let rows : is_whole (codes "rows " ++ decimal count) ≡ true = whole_append (codes "rows ") (decimal count) refl (plain_whole (decimal count) (plain_decimal count)) in
@@ -85,6 +86,7 @@ scan-whole round index count who =
     (whole_append (who_text who) (32 ∷ (decimal index ++ 32 ∷ (codes "rows " ++ decimal count))) (who-word who).whole
     (whole_append (decimal index) (32 ∷ (codes "rows " ++ decimal count)) (plain_whole (decimal index) (plain_decimal index)) rows))
 
+-- the count is read back from a scan's first line
 pub scan-back : (round index count : ℕ) (who : Who) → is_u32 round ≡ true → is_who who ≡ true → is_u64 index ≡ true → is_u64 count ≡ true → count_at round who index (scan_text round who index count) ≡ Some count
 scan-back round index count who a b c d =
     let words : List ℕ = codes "rows " ++ decimal count in
@@ -120,6 +122,7 @@ pub record AreRows (columns : List Column) (key : Option ℤ) (all : List (List 
 no-rows : (columns : List Column) (key : Option ℤ) (lines : List (List ℕ)) → AreRows columns key lines []
 no-rows columns key lines = record { rise = tt; behind = lines; lines = refl; few = omega arith }
 
+-- the rows that are read from lines stand at their front, with rising keys
 pub are-rows : (columns : List Column) (key : Option ℤ) (lines : List (List ℕ)) → AreRows columns key lines (rows_above columns key lines)
 are-rows columns key [] = no-rows columns key []
 are-rows columns key (line ∷ lines) = by (row_at columns line) refl (λ row. are-rows columns (Some (key_of row)) lines)
@@ -154,6 +157,7 @@ rejoined (suc n) [] = refl
 rejoined (suc n) (line ∷ lines) = ap (λ (ls : List (List ℕ)). line ∷ ls) (rejoined n lines)
 
 module _ (tables : List TableDecl) (are : are_tables tables ≡ true) (names : NamesPlain tables) (earlier : List Entry) (round session table : ℕ) where
+  -- what is due of a session's scan of a table
   abbrev pub scan_due : Due
   scan_due = record { round = round; who = Session session; command = command.Scan table }
 
@@ -163,12 +167,14 @@ module _ (tables : List TableDecl) (are : are_tables tables ≡ true) (names : N
   abbrev there : ℕ
   there = next tables are earlier scan_due
 
+  -- the rows at the front of the lines behind, up to so many
   abbrev pub rows_of : ℕ → List (List ℕ) → List (List Cell)
   rows_of count behind = rows_above columns None (take count behind)
 
   abbrev scanned : ℕ → List (List ℕ) → Said
   scanned count behind = said.Scanned (rows_of count behind)
 
+  -- no more rows are read than are counted
   pub rows-few : (count : ℕ) (behind : List (List ℕ)) → length (rows_of count behind) ≤ count
   rows-few count behind = let a = (are-rows columns None (take count behind)).few in let b = most count behind in omega (arith, a, b)
 

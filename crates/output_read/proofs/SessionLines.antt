@@ -3,11 +3,10 @@ use Rattle.std.proofs.Common.{◌≡◌, ℕ, ◌+◌, ◌<◌, ◌^◌, Bool, t
 use Rattle.std.specs.Prelude.{◌==◌}
 use Rattle.std.specs.List.{cons_option}
 use Rattle.std.proofs.lemmas.Bool.{ne_eqb, eq-eqb}
-use Rattle.std.proofs.Common.{◌≤◌, drop-cons, take_all}
+use Rattle.std.proofs.Common.{drop-cons}
 use Rattle.std.proofs.lemmas.List.{take-append-drop, take_more}
 use Rattle.output_read.specs.Order.{are_ahead}
 use Rattle.outcome_spec.specs.Forms.{is_within}
-use Rattle.output_read.specs.Threads.{SessionGoes}
 use Rattle.output_read.proofs.Passing.{first-index}
 use Rattle.workload_spec.specs.declared.reply.Who.TheVariants.{Session}
 use Rattle.workload_spec.specs.declared.script.Line.{Line}
@@ -16,37 +15,19 @@ use Rattle.output_read.specs.declared.reader.Reader.{Reader}
 use Rattle.output_read.specs.declared.sessions.Thread.{Thread}
 use Rattle.output_read.specs.Order.{AddsAll}
 use Rattle.output_read.specs.Readers.{FailsAt, IsReading, Passes, read_by}
-use Rattle.output_read.specs.Threads.{IsThread, LineGoes, ThreadGoes, line_dues, session_due}
-use Rattle.output_read.proofs.Passing.{adds-none, adds-one, adds-append, anew-session, anew-append, commands-more, dues-more, fails-more, passes-append, passes-fails, passes-none}
+use Rattle.output_read.specs.Threads.{IsThread, LineGoes, line_dues, session_due}
+use Rattle.output_read.proofs.Passing.{adds-none, adds-append, anew-session, anew-append, commands-more, dues-more, fails-more, passes-append, passes-fails, passes-none}
 
 one-line : (thread : Thread) (line : Line) (b : Bool) → (line.session == thread.session) ≡ b → line_dues thread line ≡ dues_to thread.round (Session thread.session) (cons_option (cond b (Some line.command) None) [])
 one-line thread line b is = ap (λ (x : Bool). dues_to thread.round (Session thread.session) (cons_option (cond x (Some line.command) None) [])) is
 
+-- a line of the session has its command due
 pub own-line : (thread : Thread) (line : Line) → line.session ≡ thread.session → line_dues thread line ≡ session_due thread line.command ∷ []
 own-line thread line is = one-line thread line true (eq-eqb line.session thread.session is)
 
+-- a line of another session has nothing due
 pub other-line : (thread : Thread) (line : Line) → (line.session ≡ thread.session → ⊥) → line_dues thread line ≡ []
 other-line thread line apart = one-line thread line false (ne_eqb line.session thread.session apart)
-
-pub line-goes : (old new : Reader) (thread after : Thread) (line : Line) → line.session ≡ thread.session → ThreadGoes old new thread after line.command → LineGoes old new thread after line
-line-goes old new thread after line is h = record {
-  reading = h.reading;
-  thread_on = h.thread_on;
-  round = h.round;
-  session = h.session;
-  passes = subst (Passes old new) (sym (own-line thread line is)) h.passes;
-  adds = adds-one old new thread.round (Session thread.session) h.adds;
-}
-
-pub line-stays : (old : Reader) (thread : Thread) (line : Line) → IsReading old → IsThread thread (read_by old) → (line.session ≡ thread.session → ⊥) → LineGoes old old thread thread line
-line-stays old thread line reading is apart = record {
-  reading = reading;
-  thread_on = is;
-  round = refl;
-  session = refl;
-  passes = subst (Passes old old) (sym (other-line thread line apart)) (passes-none old);
-  adds = adds-none old thread.round (Session thread.session);
-}
 
 -- what was due of the lines so far was read
 pub record LinesGo (old new : Reader) (round session : ℕ) (thread : Thread) (lines : List Line) : Type 0 where
@@ -71,6 +52,7 @@ module _ (old cur : Reader) (round session : ℕ) (thread : Thread) (lines : Lis
       (ap (dues_to round (Session session)) (Rattle.std.proofs.lemmas.List.Elements.filter_map-append (λ l. cond (l.session == session) (Some l.command) None) (line ∷ []) rest)
       ∙ dues-more round (Session session) (commands_of session (line ∷ [])) (commands_of session rest))
 
+  -- one line more was read behind those so far
   pub lines-more : (new : Reader) (after : Thread) (line : Line) → new.tables.now ≡ cur.tables.now → LineGoes cur new thread after line → LinesGo old new round session after (lines ++ line ∷ [])
   lines-more new after line tables g = record {
     tables = tables ∙ h.tables;
@@ -84,6 +66,7 @@ module _ (old cur : Reader) (round session : ℕ) (thread : Thread) (lines : Lis
     adds = adds-append old cur new round (Session session) h.adds (subst (λ (s : ℕ). AddsAll cur new round (Session s)) h.session_is (subst (λ (r : ℕ). AddsAll cur new r (Session thread.session)) h.round_is g.adds));
   }
 
+  -- where the next line fails, the session's lines fail there
   pub lines-fail : (line : Line) (rest : List Line) (n : ℕ) → FailsAt cur (line_dues thread line) n → FailsAt old (dues_to round (Session session) (commands_of session (lines ++ line ∷ rest))) n
   lines-fail line rest n f =
       let own = dues_to round (Session session) (commands_of session (line ∷ [])) in
@@ -98,6 +81,7 @@ item-next lines i item few is =
     sym (take-append-drop i lines)
     ∙ ap (λ (ls : List Line). take i lines ++ ls) (drop-cons lines i item few ∙ ap (λ (l : Line). l ∷ drop (suc i) lines) (sym is) ∙ ap (λ (n : ℕ). item ∷ drop n lines) (let e : suc i ≡ i + 1 = omega arith in e))
 
+-- before the first line nothing of the session's round was read
 pub lines-start : (old : Reader) (round session : ℕ) (within : Bool) → round < 2 ^ 32 → session < 2 ^ 32 → IsReading old → are_ahead round (Session session) (read_by old) ≡ true → within ≡ is_within (Session session) (read_by old)
     → LinesGo old old round session (record { round = round; session = session; index = 0; within = within }) []
 lines-start old round session within small_round small_session reading ahead within_is = record {
@@ -111,18 +95,12 @@ lines-start old round session within small_round small_session reading ahead wit
 }
 
 module _ (old cur : Reader) (round session : ℕ) (thread : Thread) (all : List Line) (i : ℕ) (item : Line) (few : i < length all) (is : item ≡ get_or all i item) (h : LinesGo old cur round session thread (take i all)) where
+  -- the next line of the round was read, for the step of the loop
   pub lines-next : (new : Reader) (after : Thread) → new.tables.now ≡ cur.tables.now → LineGoes cur new thread after item → LinesGo old new round session after (take (i + 1) all)
   lines-next new after tables g =
       subst (LinesGo old new round session after) (sym (take_more all i item few ∙ ap (λ (l : Line). take i all ++ l ∷ []) (sym is))) (lines-more old cur round session thread (take i all) h new after item tables g)
 
+  -- where a line of the round fails, what the session has due in the round fails
   pub lines-failed : (n : ℕ) → FailsAt cur (line_dues thread item) n → FailsAt old (dues_to round (Session session) (commands_of session all)) n
   lines-failed n f =
       subst (λ (ls : List Line). FailsAt old (dues_to round (Session session) (commands_of session ls)) n) (sym (item-next all i item few is)) (lines-fail old cur round session thread (take i all) h item (drop (i + 1) all) n f)
-
-pub lines-end : (old cur : Reader) (round session : ℕ) (thread : Thread) (all : List Line) (i : ℕ) → length all ≤ i → LinesGo old cur round session thread (take i all) → SessionGoes old cur round session thread.within all
-lines-end old cur round session thread all i past h = record {
-  reading = h.reading;
-  within_is = h.thread_is.within ∙ ap (λ (s : ℕ). is_within (Session s) (read_by cur)) h.session_is;
-  passes = subst (λ (ls : List Line). Passes old cur (dues_to round (Session session) (commands_of session ls))) (take_all i all past) h.passes;
-  adds = h.adds;
-}

@@ -64,6 +64,7 @@ pub record Line (T : List TableDecl) (round : ℕ) (who : Who) (index : ℕ) (li
   pub is : lines ≡ line ∷ behind
   pub says : said_at T round who index line ≡ Some told
 
+-- where the first of lines says something, there is a line that says it
 pub line-of : (T : List TableDecl) (round : ℕ) (who : Who) (index : ℕ) (lines : List (List ℕ)) (told : Said) → Some told ≡ said_first T round who index lines → Line T round who index lines told
 line-of T round who index [] told h = absurd (absurdly h)
 line-of T round who index (line ∷ behind) told h = record { line = line; behind = behind; is = refl; says = sym h }
@@ -81,6 +82,7 @@ pub record CountLine (round : ℕ) (who : Who) (index : ℕ) (lines : List (List
   pub is : lines ≡ line ∷ behind
   pub counts : count_at round who index line ≡ Some count
 
+-- where the first of lines says a count of rows, there is a line that says it
 pub count-of : (round : ℕ) (who : Who) (index : ℕ) (lines : List (List ℕ)) (count : ℕ) → Some count ≡ count_first round who index lines → CountLine round who index lines count
 count-of round who index [] count h = absurd (absurdly h)
 count-of round who index (line ∷ behind) count h = record { line = line; behind = behind; is = refl; counts = sym h }
@@ -96,6 +98,7 @@ pub record Scans (within : Bool) (asked : Command) (table : ℕ) : Type 0 where
   pub is_within : within ≡ true
   pub is_scan : asked ≡ command.Scan table
 
+-- a table is scanned only by a scan in a transaction
 pub scans : (within : Bool) (asked : Command) (table : ℕ) → scanned_by within asked ≡ Some table → Scans within asked table
 scans true (command.Scan of) table h = record { is_within = refl; is_scan = ap command.Scan (same-said of table h) }
 scans false (command.Scan of) table h = absurd (absurdly (sym h))
@@ -117,12 +120,14 @@ module _ (old : Reader) (thread : Thread) (asked : Command) (are : are_tables ol
   abbrev heading : ℕ
   heading = thread.index + 1
 
+  -- the names of the reader's tables are plain words
   pub plain : NamesPlain T
   plain = names-plain T (tables-valid T are)
 
   few-index : next_index thread.round who E < 2 ^ 64
   few-index = let a = index-few old thread.round who reading in let b = reading.room in omega (arith, a, b)
 
+  -- the next index fits 64 bits
   pub heading-small : heading < 2 ^ 64
   heading-small = let a = few-index in let b = is_thread.index in omega (arith, a, b)
 
@@ -170,6 +175,7 @@ module _ (old : Reader) (thread : Thread) (asked : Command) (are : are_tables ol
     abbrev after : Thread
     after = record { round = thread.round; session = thread.session; index = heading; within = within }
 
+    -- what was due was read: the reader behind it, and the session's thread
     pub goes : ThreadGoes old new thread after asked
     goes = record {
       reading = still-reading old new kept n k reading told_ok counted;
@@ -237,6 +243,7 @@ module _ (old : Reader) (thread : Thread) (asked : Command) (are : are_tables ol
 
   -- ---- a reply of one line is kept
 
+  -- the session goes on where its reply of one line was kept
   pub single-goes : (new : Reader) (kept : KeptReply) (told : Said) (within : Bool) → Kept old new kept 1
       → kept ≡ record { number = old.line; command = kept.command; round = thread.round; who = who; index = heading; told = kept.told } → option_map_or (λ c. c.now) kept.command command.Observe ≡ asked
       → said_of kept.told ≡ told → is_told kept.told ≡ true → within ≡ within_behind thread.within told
@@ -261,15 +268,18 @@ module _ (old : Reader) (thread : Thread) (asked : Command) (are : are_tables ol
     abbrev scan_due : Due
     scan_due = session_due thread (command.Scan table)
 
+    -- the command is a scan of the table, in a transaction
     pub its_scan : Scans thread.within asked table
     its_scan = scans thread.within asked table scan
 
     in_transaction : is_within who E ≡ true
     in_transaction = sym is_thread.within ∙ (its_scan).is_within
 
+    -- the table that is scanned is one of the tables
     pub table-there : is_table_place T table ≡ true
     table-there = subst (λ (a : Command). is_command T a ≡ true) (its_scan).is_scan valid
 
+    -- a table that is scanned has columns
     pub columns-some : 0 < length columns
     columns-some = subst (λ (cs : List Column). 0 < length cs) columns_is (place-columns T table (tables-valid T are) table-there)
 
@@ -332,6 +342,7 @@ module _ (old : Reader) (thread : Thread) (asked : Command) (are : are_tables ol
         rows-many : length rows_there ≡ many
         rows-many = ap (λ (rs : List (List Cell)). length rs) rows-are ∙ above.counted
 
+        -- no more rows stand there than the scan's first line counts
         pub rows-most : many ≤ count
         rows-most = let a = rows-few T are plain E thread.round thread.session table count behind in let b = rows-many in omega (arith, a, b)
 
@@ -362,17 +373,20 @@ module _ (old : Reader) (thread : Thread) (asked : Command) (are : are_tables ol
           rows-text : Rattle.reply_text.specs.Readers.rows_in (parts 10 (lines_text (map row_line above.rows))) ≡ Some above.rows
           rows-text = lines_back above.rows (rows-fit above.rows above.fit)
 
+          -- the text of the rows that was taken is kept as the scan's reply
           pub taken-said : (taken : List ℕ) → taken ≡ lines_text (map row_line above.rows) → said.Scanned (Rattle.std.specs.Option.unwrap_or (Rattle.reply_text.specs.Readers.rows_in (parts 10 taken)) []) ≡ its_said
           taken-said taken is =
               ap (λ (t : List ℕ). said.Scanned (Rattle.std.specs.Option.unwrap_or (Rattle.reply_text.specs.Readers.rows_in (parts 10 t)) [])) is
               ∙ ap (λ (o : Option (List (List Cell))). said.Scanned (Rattle.std.specs.Option.unwrap_or o [])) rows-text ∙ ap said.Scanned (sym rows-are)
 
+          -- the rows of the text that was taken are as many as the first line counts
           pub taken-told : (taken : List ℕ) → taken ≡ lines_text (map row_line above.rows) → option_map_or (λ rows. length rows == count) (Rattle.reply_text.specs.Readers.rows_in (parts 10 taken)) false ≡ true
           taken-told taken is =
               ap (λ (t : List ℕ). option_map_or (λ rows. length rows == count) (Rattle.reply_text.specs.Readers.rows_in (parts 10 t)) false) is
               ∙ ap (λ (o : Option (List (List Cell))). option_map_or (λ rows. length rows == count) o false) rows-text
               ∙ eq-eqb (length above.rows) count (above.counted ∙ full)
 
+          -- what the lines have in front of the rest is the text of the rows
           pub taken-text : (n : ℕ) → n ≡ length lines - length rest → take n lines ≡ lines_text (map row_line above.rows)
           taken-text n is =
               ap (λ (t : List ℕ). take n t) above.text
@@ -402,6 +416,7 @@ module _ (old : Reader) (thread : Thread) (asked : Command) (are : are_tables ol
               let e = above.counted in
               omega (arith, a, b, d, e, few, full)
 
+          -- the session goes on where a scan with all its rows was kept
           pub scan-goes : (new : Reader) (kept : KeptReply) (told : Told) → new.tables.now ≡ old.tables.now → new.replies.items ≡ old.replies.items ++ kept ∷ [] → new.line ≡ old.line + (1 + count) → new.rest.now ≡ rest
               → length lines < length old.rest.now
               → kept ≡ record { number = old.line; command = kept.command; round = thread.round; who = who; index = heading; told = told } → option_map_or (λ c. c.now) kept.command command.Observe ≡ asked

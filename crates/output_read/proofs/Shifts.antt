@@ -14,6 +14,7 @@ use Rattle.output_read.specs.Readers.{IsReading, Passes, PassesAll, FailsAll, Fa
 use Rattle.output_read.specs.Work.{IsFew, IsShift, ShiftGoes, StepRead, WorkGoes, steps_behind, turns_of, work_dues}
 use Rattle.output_read.proofs.Passing.{OpensAnew, adds-append, adds-none, dues-more, first-index, passes-none, passes-append, passes-fails, fails-more}
 
+-- there is a first table
 pub first-place : (T : List TableDecl) → 0 < length T → is_table_place T 0 ≡ true
 first-place [] some = absurd (omega (arith, some))
 first-place (t ∷ T) some = refl
@@ -34,6 +35,7 @@ pub record Partly (old cur : Reader) (begun shift : Shift) (steps : List Command
   pub passes : PassesAll old cur (work_dues begun steps)
   pub adds : AddsAll old cur begun.round (Worker begun.worker)
 
+-- before its first step nothing of a turn was read
 pub partly-none : (old : Reader) (begun : Shift) → IsReading old → IsShift begun old → Partly old old begun begun []
 partly-none old begun reading is = record { tables = refl; reading = reading; shift_is = is; round = refl; worker = refl; passes = λ dues. refl; adds = adds-none old begun.round (Worker begun.worker) }
 
@@ -45,6 +47,7 @@ module _ (old cur : Reader) (begun shift : Shift) (steps : List Command) (h : Pa
       ∙ h.passes (work_dues begun more ++ dues)
       ∙ ap (λ (ds : List Due). reads cur (ds ++ dues)) (sym (moved-dues begun shift more h.round h.worker))
 
+  -- one step of a turn more was read
   pub partly-more : (new : Reader) (after : Shift) (asked : Command) → new.tables.now ≡ cur.tables.now → StepRead cur new shift after asked → Partly old new begun after (steps ++ asked ∷ [])
   partly-more new after asked tables g = record {
     tables = tables ∙ h.tables;
@@ -56,9 +59,11 @@ module _ (old cur : Reader) (begun shift : Shift) (steps : List Command) (h : Pa
     adds = adds-append old cur new begun.round (Worker begun.worker) h.adds (moved-adds cur new begun shift h.round h.worker g.adds);
   }
 
+  -- where the next step fails, the turn fails there, whatever steps follow
   pub partly-fails : (asked : Command) (more : List Command) (n : ℕ) → FailsAll cur (work_dues shift (asked ∷ [])) n → FailsAt old (work_dues begun (steps ++ asked ∷ more)) n
   partly-fails asked more n f dues anew = joined (asked ∷ more) dues ∙ f (work_dues shift more ++ dues)
 
+  -- a turn whose first steps were read is read where the rest of it is
   pub partly-ends : (new : Reader) (after : Shift) (more : List Command) → ShiftGoes cur new shift after (work_dues shift more) → ShiftGoes old new begun after (work_dues begun (steps ++ more))
   partly-ends new after more g = record {
     reading = g.reading;
@@ -69,6 +74,7 @@ module _ (old cur : Reader) (begun shift : Shift) (steps : List Command) (h : Pa
     adds = adds-append old cur new begun.round (Worker begun.worker) h.adds (moved-adds cur new begun shift h.round h.worker g.adds);
   }
 
+  -- a turn whose first steps were read fails where the rest of it does
   pub partly-lacks : (more : List Command) (n : ℕ) → FailsAt cur (work_dues shift more) n → FailsAt old (work_dues begun (steps ++ more)) n
   partly-lacks more n f dues anew = joined more dues ∙ f dues anew
 
@@ -76,6 +82,7 @@ module _ (old cur : Reader) (begun shift : Shift) (steps : List Command) (h : Pa
 abbrev pub three : List Command
 three = command.Observe ∷ command.Prune ∷ command.Compact 0 ∷ []
 
+-- a turn is its first three steps and those behind them
 pub turn-steps : (T : List TableDecl) → 0 < length T → three ++ steps_behind T ≡ turn_of T
 turn-steps [] some = absurd (omega (arith, some))
 turn-steps (t ∷ T) some = refl
@@ -88,6 +95,7 @@ turns-more T first (suc n) =
     ap (λ (k : ℕ). flat_map (λ (turn : ℕ). turn_of T) (range_with_len first k)) (let e : suc n + 1 ≡ suc (n + 1) = omega arith in e)
     ∙ ap (λ (cs : List Command). turn_of T ++ cs) (turns-more T (first + 1) n) ∙ sym (append_assoc (turn_of T) (flat_map (λ (turn : ℕ). turn_of T) (range_with_len (first + 1) n)) (turn_of T))
 
+-- what is due to a worker in turns begins anew
 pub anew-turns : (round worker first n : ℕ) (T : List TableDecl) → OpensAnew (dues_to round (Worker worker) (flat_map (λ (turn : ℕ). turn_of T) (range_with_len first n)))
 anew-turns round worker first zero T rest anew = anew
 anew-turns round worker first (suc n) T rest anew = refl
@@ -111,6 +119,7 @@ pub record Turned (old cur : Reader) (round worker : ℕ) (shift : Shift) (turns
   pub passes : Passes old cur (dues_to round (Worker worker) (turns_of turns old.tables.now))
   pub adds : AddsAll old cur round (Worker worker)
 
+-- before its first turn nothing of a worker's round was read
 pub turned-start : (old : Reader) (round worker : ℕ) → round < 2 ^ 32 → worker < 2 ^ 32 → IsReading old → are_ahead round (Worker worker) (read_by old) ≡ true
     → Turned old old round worker (record { round = round; worker = worker; index = 0 }) 0
 turned-start old round worker a b reading ahead = record {
@@ -129,6 +138,7 @@ module _ (old cur : Reader) (round worker : ℕ) (shift : Shift) (turns : ℕ) (
       ap (λ (ts : List TableDecl). work_dues shift (turn_of ts)) h.tables ∙ ap (λ (n : ℕ). dues_to n (Worker shift.worker) (turn_of old.tables.now)) h.round_is
       ∙ ap (λ (n : ℕ). dues_to round (Worker n) (turn_of old.tables.now)) h.worker_is
 
+  -- one turn more of a worker was read
   pub turned-more : (new : Reader) (after : Shift) → new.tables.now ≡ cur.tables.now → ShiftGoes cur new shift after (work_dues shift (turn_of cur.tables.now)) → Turned old new round worker after (turns + 1)
   turned-more new after tables g = record {
     tables = tables ∙ h.tables;
@@ -142,6 +152,7 @@ module _ (old cur : Reader) (round worker : ℕ) (shift : Shift) (turns : ℕ) (
         (subst (λ (n : ℕ). AddsAll cur new round (Worker n)) h.worker_is (subst (λ (n : ℕ). AddsAll cur new n (Worker shift.worker)) h.round_is g.adds));
   }
 
+  -- where the next turn fails, the worker's turns fail there
   pub turned-fails : (many : ℕ) → turns < many → (n : ℕ) → FailsAt cur (work_dues shift (turn_of cur.tables.now)) n → FailsAt old (dues_to round (Worker worker) (turns_of many old.tables.now)) n
   turned-fails many few n f =
       let T = old.tables.now in
@@ -158,11 +169,14 @@ module _ (old cur : Reader) (round worker : ℕ) (shift : Shift) (turns : ℕ) (
       (anew-turns round worker (1 + turns + 1) (many - (turns + 1)) T))
       (λ rest anew. refl))
 
+  -- behind all its turns, what was due to the worker in the round was read
   pub turned-ends : WorkGoes old cur round worker (turns_of turns old.tables.now)
   turned-ends = record { reading = h.reading; passes = h.passes; adds = h.adds }
 
+  -- the tables are still valid behind some turns
   pub asks-tables : Rattle.reply_text.specs.Shown.are_tables old.tables.now ≡ true → Rattle.reply_text.specs.Shown.are_tables cur.tables.now ≡ true
   asks-tables are = subst (λ (ts : List TableDecl). Rattle.reply_text.specs.Shown.are_tables ts ≡ true) (sym h.tables) are
 
+  -- there are still few tables behind some turns
   pub asks-few : IsFew (length old.tables.now) → IsFew (length cur.tables.now)
   asks-few few = subst (λ (ts : List TableDecl). IsFew (length ts)) (sym h.tables) few

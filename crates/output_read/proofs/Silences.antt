@@ -26,6 +26,7 @@ first_hit test (asked ∷ steps) = if test asked then Some steps else first_hit 
 abbrev pub blocks_of : ℕ × TableDecl → List Command
 blocks_of entry = flat_map (λ block. command.Seal entry.0 block ∷ command.Gather entry.0 block ∷ []) (range_with_len 0 entry.1.blocks)
 
+-- the steps over tables: the compaction of each, and those over its blocks
 abbrev pub steps_of : List (ℕ × TableDecl) → List Command
 steps_of entries = flat_map (λ entry. command.Compact entry.0 ∷ blocks_of entry) entries
 
@@ -36,6 +37,7 @@ Covers a b = further a b ≡ a
 covers-more : (a b c : Reading) → Covers b c → Covers (further a b) c
 covers-more a b c h = further-assoc a b c ∙ ap (further a) h
 
+-- a reading that fails at no line adds nothing to another
 pub no-first : (r : Reading) → further r (Err 0) ≡ r
 no-first (Ok entries) = refl
 no-first (Err line) = ap Err (let e : max line 0 ≡ line = omega arith in e)
@@ -45,6 +47,7 @@ abbrev pub beyond : List (ℕ × TableDecl) → ℕ → ℕ
 beyond [] k = suc k
 beyond (entry ∷ entries) k = suc (beyond entries k)
 
+-- these are as many as the tables, and one and the number more
 pub beyond-is : (entries : List (ℕ × TableDecl)) (k : ℕ) → beyond entries k ≡ length entries + 1 + k
 beyond-is [] k = omega arith
 beyond-is (entry ∷ entries) k = let e = beyond-is entries k in omega (arith, e)
@@ -54,6 +57,7 @@ module _ (tables : List TableDecl) (round worker : ℕ) where
   abbrev pub worker_dues : List Command → List Due
   worker_dues steps = dues_to round (Worker worker) steps
 
+  -- each of these steps seals or gathers a block of a table that is there, and scans nothing
   abbrev pub AreQuiet : List Command → Type 0
   AreQuiet [] = Unit {0}
   AreQuiet (asked ∷ steps) = ((is_seal_or_gather asked ≡ true) × ((words behind : List (List ℕ)) → IsListed tables words behind asked) × (scanned_by true asked ≡ None) × (scanned_by false asked ≡ None)) × AreQuiet steps
@@ -114,6 +118,7 @@ module _ (tables : List TableDecl) (round worker : ℕ) where
     abbrev pub from_steps : List Command → List (ℕ × TableDecl) → ℕ → List Entry → List (List ℕ) → Reading
     from_steps steps entries n earlier lines = further (reading tables (worker_dues steps ++ tail entries) earlier lines) (joined n entries earlier lines)
 
+    -- what is due from a table on begins with its compaction and the steps over its blocks
     pub tail-first : (entry : ℕ × TableDecl) (entries : List (ℕ × TableDecl)) → tail (entry ∷ entries) ≡ step_due round worker (command.Compact entry.0) ∷ (worker_dues (blocks_of entry) ++ tail entries)
     tail-first entry entries = ap (λ (ds : List Due). step_due round worker (command.Compact entry.0) ∷ ds) (dues-append (blocks_of entry) (steps_of entries) dues)
 
@@ -123,9 +128,6 @@ module _ (tables : List TableDecl) (round worker : ℕ) where
     AllQuiet (entry ∷ entries) = AreQuiet (blocks_of entry) × AllQuiet entries
 
     module _ (earlier : List Entry) where
-      abbrev here_line : ℕ
-      here_line = next_line tables earlier
-
       -- ---- where no step takes what is there
 
       module _ (lines : List (List ℕ)) (ends : Reading) (late_ends : Late (next_line tables earlier) ends)
@@ -170,15 +172,19 @@ module _ (tables : List TableDecl) (round worker : ℕ) where
           (found : (asked : Command) → is_seal_or_gather asked ≡ true → says asked ≡ true → reply_at tables earlier (step_due round worker asked) line behind ≡ Some entry)
           (missed : (asked : Command) → ((words others : List (List ℕ)) → IsListed tables words others asked) → says asked ≡ false → reply_at tables earlier (step_due round worker asked) line behind ≡ None)
           (begun : (asked : Command) → scanned_by true asked ≡ None → scanned_by false asked ≡ None → lines_begun tables earlier (step_due round worker asked) line behind ≡ 0) where
+        -- the replies before it, with the one that the line is
         abbrev pub further_on : List Entry
         further_on = earlier ++ entry ∷ []
 
+        -- the lines that are left behind the reply
         abbrev pub lines_left : List (List ℕ)
         lines_left = drop (line_count tables entry) (line ∷ behind)
 
+        -- what these dues read behind the reply
         abbrev pub onward : List Due → Reading
         onward ds = reading tables ds further_on lines_left
 
+        -- what these dues read from the line on
         abbrev pub now_read : List Due → Reading
         now_read ds = reading tables ds earlier (line ∷ behind)
 
@@ -287,6 +293,7 @@ module _ (tables : List TableDecl) (round worker : ℕ) where
             tail-off [] = end
             tail-off (e ∷ entries) = ap now_read (tail-first e entries) ∙ stops e.0 (worker_dues (blocks_of e) ++ tail entries)
 
+            -- no step over the blocks of these tables says what the line says
             abbrev pub NoneHit : List (ℕ × TableDecl) → Type 0
             NoneHit [] = Unit {0}
             NoneHit (e ∷ entries) = (first_hit says (blocks_of e) ≡ None) × NoneHit entries
@@ -362,6 +369,7 @@ module _ (tables : List TableDecl) (round worker : ℕ) where
                 ∙ ap (λ (r : Reading). further r more) (further-self line_here)
                 ∙ joined-few n front entries (omega (arith, few)) quiet.1 none.1
 
+            -- a line that no step at hand and none of the reached tables says fails there
             pub one-none : (steps : List Command) → AreQuiet steps → (n : ℕ) (front entries : List (ℕ × TableDecl)) → n ≤ length front → AllQuiet (front ++ entries) → first_hit says steps ≡ None → NoneHit front
                 → from_steps steps (front ++ entries) n earlier (line ∷ behind) ≡ Err (next_line tables earlier)
             one-none steps quiet n front entries few all is none =

@@ -36,6 +36,7 @@ is_step_said (said.Sealed table block stamp) = true
 is_step_said (said.Frozen table block rows) = true
 is_step_said _ = false
 
+-- what a step says stands on one line
 pub one-kind : (told : Said) → is_step_said told ≡ true → lines_behind told ≡ []
 one-kind (said.Moved count) h = refl
 one-kind said.Memory h = refl
@@ -81,6 +82,7 @@ quiet-upkeep (command.Seal table block) is = refl
 quiet-upkeep (command.Gather table block) is = refl
 quiet-upkeep _ is = absurd (never is)
 
+-- what leads on to further steps is one of the four kinds that a step says
 pub unsaid : (tables : List TableDecl) (steps : NextSteps) (told : Said) (after : NextSteps) → next_steps tables steps told ≡ Some after → is_step_said told ≡ true
 unsaid tables steps (said.Moved count) after h = refl
 unsaid tables steps said.Memory after h = refl
@@ -94,6 +96,7 @@ module _ (tables : List TableDecl) (are : are_tables tables ≡ true) (names : N
   abbrev due : Command → Due
   due asked = step_due round worker asked
 
+  -- what is read from the steps that may be next on
   abbrev pub from_here : NextSteps → List Entry → List (List ℕ) → Reading
   from_here steps es ls = from_next tables round worker valid dues steps es ls
 
@@ -122,6 +125,7 @@ module _ (tables : List TableDecl) (are : are_tables tables ≡ true) (names : N
         by (said.Frozen table block rows) is e k = frozen-read tables are names valid round worker earlier small_round small_worker small_there line behind table block rows is dues e steps in_turn
         by _ is e k = absurd (never k)
 
+    -- a line that one of the steps that may be next says is read, and the steps behind it are next
     pub step-on : (steps after : NextSteps) → InTurn tables round worker valid steps → next_steps tables steps told ≡ Some after
         → from_here steps earlier (line ∷ behind) ≡ from_here after (earlier ++ the_entry told ∷ []) (drop (line_count tables (the_entry told)) (line ∷ behind))
     step-on steps after in_turn is =
@@ -172,6 +176,7 @@ module _ (tables : List TableDecl) (are : are_tables tables ≡ true) (names : N
   zero-more : (n k : ℕ) → k ≡ 0 → n + k ≡ n
   zero-more n k e = omega (arith, e)
 
+  -- where no line is left, what is due behind the turn is read if its end was reached, or it fails
   pub stop-end : (steps : NextSteps) → InTurn tables round worker valid steps → from_here steps earlier [] ≡ outcome (steps.until == length tables) (reading tables dues earlier [])
   stop-end steps in_turn =
       stopped [] (λ asked quiet listed a b rest. silenced tables (due asked) rest earlier quiet) (λ table rest. missing tables (due (command.Compact table)) rest earlier refl) steps in_turn

@@ -113,6 +113,7 @@ module _ (tables : List TableDecl) (round worker : ℕ) (valid : list_all is_tab
       subst In (same-said _ after e) (one-in table block false (block + 1) few (omega (arith, few)) (λ f. absurd (never f)))
   gather-in steps after table block false t e = absurd (absurdly (sym e))
 
+  -- the steps behind one that was said are steps of the turn
   pub after-in : (steps after : NextSteps) (told : Said) → In steps → next_steps tables steps told ≡ Some after → In after
   after-in steps after (said.Moved count) is h = table-in steps after is h
   after-in steps after said.Memory is h = memory-in steps after is h
@@ -152,6 +153,7 @@ module _ (old : Reader) (begun : Shift) (are : are_tables old.tables.now ≡ tru
       ∙ ap (λ (n : ℕ). work_dues begun (blocks_from 0 0 n) ++ (work_dues begun (steps_of (enumerate_from (0 + 1) ts)) ++ dues)) (let e : t.blocks ≡ t.blocks - 0 = omega arith in e))
       ∙ sym (no-first (reading (t ∷ ts) (work_dues begun (blocks_from 0 0 (t.blocks - 0)) ++ (work_dues begun (steps_of (enumerate_from (0 + 1) ts)) ++ dues)) es ls))
 
+  -- behind the turn's first steps those over the first table's blocks may be next
   pub step-starts : IsFew (length T) → IsReading old → IsShift begun old → Stepped old begun first_steps
   step-starts few reading_is is_shift = record {
     tables = refl;
@@ -248,6 +250,7 @@ module _ (old : Reader) (begun : Shift) (are : are_tables old.tables.now ≡ tru
               (λ told says. sym (ap (λ (ts : List TableDecl). next_steps ts steps told) s.tables)
               ∙ none told (sym says ∙ sym (heading-is (line ∷ behind)) ∙ ap (λ (ls : List (List ℕ)). said_first cur.tables.now shift.round (Worker shift.worker) (shift.index + 1) ls) (sym is))))
 
+      -- where the turn's end was reached and the next line is none of its steps', the turn was read
       pub step-ends : steps.until ≡ length cur.tables.now → ShiftGoes old cur begun shift (work_dues begun (steps_behind T))
       step-ends whole = record {
         reading = s.reading_is;
@@ -258,6 +261,8 @@ module _ (old : Reader) (begun : Shift) (are : are_tables old.tables.now ≡ tru
         adds = s.adds;
       }
 
+      -- where the turn's end was not reached and the next line is none of its steps', it fails
+      -- there
       pub step-fails : (steps.until ≡ length cur.tables.now → ⊥) → FailsAt old (work_dues begun (steps_behind T)) cur.line
       step-fails apart dues anew =
           stops dues anew
@@ -268,8 +273,10 @@ module _ (old : Reader) (begun : Shift) (are : are_tables old.tables.now ≡ tru
   pub asks-tables : (cur : Reader) (shift : Shift) (steps : NextSteps) → Stepped cur shift steps → are_tables cur.tables.now ≡ true
   asks-tables cur shift steps s = subst (λ (ts : List TableDecl). are_tables ts ≡ true) (sym s.tables) are
 
+  -- the tables are still few behind some steps
   pub asks-few : (cur : Reader) (shift : Shift) (steps : NextSteps) → Stepped cur shift steps → IsFew (length T) → IsFew (length cur.tables.now)
   asks-few cur shift steps s few = subst (λ (ts : List TableDecl). IsFew (length ts)) (sym s.tables) few
 
+  -- the steps that may be next are those of a table that is there
   pub asks-steps : (cur : Reader) (shift : Shift) (steps : NextSteps) → Stepped cur shift steps → steps.table < length cur.tables.now
   asks-steps cur shift steps s = subst (λ (ts : List TableDecl). steps.table < length ts) (sym s.tables) s.in_turn.table

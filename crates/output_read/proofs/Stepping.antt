@@ -119,13 +119,16 @@ module _ (tables : List TableDecl) (are : are_tables tables ≡ true) (names : N
 
 module _ (tables : List TableDecl) (are : are_tables tables ≡ true) (names : NamesPlain tables) (valid : list_all is_table tables ≡ true) (round worker : ℕ) (earlier : List Entry)
     (small_round : is_u32 round ≡ true) (small_worker : is_u32 worker ≡ true) where
+  -- what is due of a worker's step
   abbrev pub due_of : Command → Due
   due_of asked = step_due round worker asked
 
+  -- the index of the worker's next reply
   abbrev pub there : ℕ
   there = next tables are earlier (due_of command.Observe)
 
   module _ (small_there : is_u64 there ≡ true) where
+    -- the numbers of what is due to the worker have their widths
     pub narrow : (asked : Command) → IsNarrow tables are earlier (due_of asked)
     narrow asked = record { round = small_round; who = small_worker; index = small_there }
 
@@ -133,6 +136,7 @@ module _ (tables : List TableDecl) (are : are_tables tables ≡ true) (names : N
     begun-by f true asked h k = ap (λ (o : Option ℕ). option_map_or f o 0) h
     begun-by f false asked h k = ap (λ (o : Option ℕ). option_map_or f o 0) k
 
+    -- of a step that scans nothing no line was begun
     pub step-begun : (line : List ℕ) (behind : List (List ℕ)) (asked : Command) → scanned_by true asked ≡ None → scanned_by false asked ≡ None → lines_begun tables earlier (due_of asked) line behind ≡ 0
     step-begun line behind asked h k = begun-by (lines_of_scan tables (entry_behind tables earlier (due_of asked) said.Memory).reply line behind) (is_within (Worker worker) earlier) asked h k
 
@@ -147,23 +151,29 @@ module _ (tables : List TableDecl) (are : are_tables tables ≡ true) (names : N
         ∙ ap Err (zero-more (next_line tables earlier) (lines_begun tables earlier (due_of asked) line behind) (step-begun line behind asked a b))
 
     module _ (line : List ℕ) (behind : List (List ℕ)) (told : Said) (spoken : said_there tables are earlier (due_of command.Observe) line ≡ Some told) where
+      -- a step may say what the line says
       abbrev pub says : Command → Bool
       says asked = may tables are earlier (due_of asked) told
 
+      -- the reply that the line is, as it is kept of a worker
       abbrev pub the_entry : Entry
       the_entry = entry_behind tables earlier (due_of command.Observe) told
 
+      -- upkeep may say what answers it and is no silence
       pub says-is : (asked : Command) → is_upkeep asked ≡ true → says asked ≡ (not (is_silent told) && answers_within tables asked told)
       says-is asked up =
           ap (λ (b : Bool). not (is_silent told) && cond (is_within (Worker worker) earlier || b) (answers_within tables asked told) (answers_without asked told)) up
           ∙ ap (λ (b : Bool). not (is_silent told) && cond b (answers_within tables asked told) (answers_without asked told)) (or-last (is_within (Worker worker) earlier))
 
+      -- a step that may say what the line says finds its reply there
       pub found : (asked : Command) → says asked ≡ true → reply_at tables earlier (due_of asked) line behind ≡ Some (entry_behind tables earlier (due_of asked) told)
       found asked h = matches tables are earlier (due_of asked) names line behind told spoken h
 
+      -- the reply that a seal or gathering finds is the one that is kept
       pub found-quiet : (asked : Command) → is_seal_or_gather asked ≡ true → says asked ≡ true → reply_at tables earlier (due_of asked) line behind ≡ Some the_entry
       found-quiet asked quiet h = found asked h
 
+      -- a step that may not say what the line says finds no reply there
       pub missed : (asked : Command) → ((words others : List (List ℕ)) → IsListed tables words others asked) → says asked ≡ false → reply_at tables earlier (due_of asked) line behind ≡ None
       missed asked listed h =
           misses tables are earlier (due_of asked) (narrow asked) line behind (λ up. listed (drop 3 (words_in line)) behind)
@@ -173,15 +183,19 @@ module _ (tables : List TableDecl) (are : are_tables tables ≡ true) (names : N
           says_of s = may tables are earlier (due_of asked) s
 
       module _ (dues : List Due) (end : reading tables dues earlier (line ∷ behind) ≡ Err (next_line tables earlier)) where
+        -- what is read from the line on, with the steps that may be next
         abbrev pub now : NextSteps → Reading
         now steps = from_next tables round worker valid dues steps earlier (line ∷ behind)
 
+        -- what is read behind the line, with the steps that may be next behind it
         abbrev pub later : NextSteps → Reading
         later steps = from_next tables round worker valid dues steps (earlier ++ the_entry ∷ []) (drop (Rattle.outcome_spec.specs.Forms.line_count tables the_entry) (line ∷ behind))
 
+        -- what is read behind the line, or the fault at it where no step takes it
         abbrev pub outcome : Option NextSteps → Reading
         outcome o = elim o as (λ x. Reading) [ Some steps ↦ later steps | None ↦ Err (next_line tables earlier) ]
 
+        -- the steps that may be next are steps of the turn
         abbrev pub StepsIn : NextSteps → Type 0
         StepsIn steps = InTurn tables round worker valid steps
 
@@ -383,6 +397,7 @@ module _ (tables : List TableDecl) (are : are_tables tables ≡ true) (names : N
 module _ (test : Command → Bool) (table : ℕ) (block : ℕ) where
   -- a test that holds at one seal of the table, or of none
   module _ (own : Bool) (seals : (at : ℕ) → test (command.Seal table at) ≡ (own && block == at)) (gathers : (at : ℕ) → test (command.Gather table at) ≡ false) where
+    -- what a block's seal says leaves its gathering and the blocks behind, where the range has it
     pub seal-range : (first count : ℕ) → first_hit test (blocks_from table first count)
         ≡ cond (own && (not (nat_lt block first) && nat_lt block (first + count))) (Some (command.Gather table block ∷ blocks_from table (block + 1) (first + count - (block + 1)))) None
     seal-range first count = by own refl
@@ -406,6 +421,7 @@ module _ (test : Command → Bool) (table : ℕ) (block : ℕ) where
 
   -- a test that holds at one gathering of the table, or of none
   module _ (own : Bool) (seals : (at : ℕ) → test (command.Seal table at) ≡ false) (gathers : (at : ℕ) → test (command.Gather table at) ≡ (own && block == at)) where
+    -- what a block's gathering says leaves the blocks behind it, where the range has it
     pub gather-range : (first count : ℕ) → first_hit test (blocks_from table first count)
         ≡ cond (own && (not (nat_lt block first) && nat_lt block (first + count))) (Some (blocks_from table (block + 1) (first + count - (block + 1)))) None
     gather-range first count = by own refl

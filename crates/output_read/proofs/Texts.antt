@@ -24,6 +24,7 @@ pub first-line : (text line rest : List ℕ) → text ≡ line ++ 10 ∷ rest �
 first-line text line rest is whole = ap lines_of is ∙ lines_behind_first line rest whole
 
 module _ (round : ℕ) (who : Who) (index : ℕ) where
+  -- a line with its end says the words that it says without it
   pub words-line : (line : List ℕ) → list_all (λ byte. not (byte == 10)) line ≡ true → words_at round who index (line ++ 10 ∷ []) ≡ words_behind round who index line
   words-line line whole = ap (λ (o : Option (List ℕ × List ℕ)). o >>= λ both. head_in both.0 >>= λ head. where_true (bytes_eq both.1 [] && head.round == round && is_same head.who who && head.index == index) head.words) (cut_back 10 line [] whole)
 
@@ -68,6 +69,7 @@ module _ (round : ℕ) (who : Who) (index : ℕ) where
       by true e n later = absurd (never n)
       by false e n later = ap (λ (o : Option (List ℕ × List ℕ)). option_map (λ both. (byte ∷ both.0, both.1)) o) later
 
+  -- a text without an end of a line is one line or none
   pub lines-one : (text : List ℕ) → list_all (λ byte. not (byte == 10)) text ≡ true → (lines_of text ≡ []) ⊎ (lines_of text ≡ text ∷ [])
   lines-one [] h = inl refl
   lines-one (byte ∷ text) h =
@@ -96,6 +98,7 @@ module _ (round : ℕ) (who : Who) (index : ℕ) where
       by true e n later = absurd (never n)
       by false e n later = onto later (empty-or text)
 
+  -- a text without an end of a line says no words
   pub no-words : (text : List ℕ) → list_all (λ byte. not (byte == 10)) text ≡ true → words_first round who index (lines_of text) ≡ None
   no-words text h = elim (lines-one text h) [
     | inl none ↦ ap (words_first round who index) none
@@ -131,6 +134,7 @@ module _ (round : ℕ) (who : Who) (index : ℕ) where
         >>= λ reply. where_true (has_head round who index reply) reply.said) (cut_back 10 line [] whole)
         ∙ said-by (head_in line)
 
+    -- a text without an end of a line says nothing
     pub no-said : (text : List ℕ) → list_all (λ byte. not (byte == 10)) text ≡ true → said_first tables round who index (lines_of text) ≡ None
     no-said text h = elim (lines-one text h) [
       | inl none ↦ ap (said_first tables round who index) none
@@ -189,8 +193,10 @@ module _ (round : ℕ) (who : Who) (index : ℕ) where
       | inr none ↦ no-said text none ∙ ap (λ (o : Option (List ℕ)). o >>= λ words. told_in tables words []) (sym (no-words text none))
     ]
 
+    -- what the words of the first line say is what that line says
     pub said-some : (text : List ℕ) (words : List ℕ) (o : Option Said) → Some words ≡ words_first round who index (lines_of text) → o ≡ told_in tables words [] → o ≡ said_first tables round who index (lines_of text)
     said-some text words o is told = told ∙ ap (λ (w : Option (List ℕ)). w >>= λ ws. told_in tables ws []) is ∙ sym (said-first text)
 
+    -- where the first line has no words for this reply, it says nothing
     pub said-none : (text : List ℕ) → None ≡ words_first round who index (lines_of text) → None ≡ said_first tables round who index (lines_of text)
     said-none text is = ap (λ (w : Option (List ℕ)). w >>= λ ws. told_in tables ws []) is ∙ sym (said-first text)

@@ -60,12 +60,15 @@ module _ (tables : List TableDecl) (are : are_tables tables ≡ true) (names : N
     abbrev test : Command → Bool
     test asked = says tables are names valid round worker earlier small_round small_worker small_there line behind told spoken asked
 
+    -- what is read from the line on
     abbrev pub read_now : NextSteps → Reading
     read_now steps = now tables are names valid round worker earlier small_round small_worker small_there line behind told spoken dues end steps
 
+    -- what is read behind the line
     abbrev pub read_later : NextSteps → Reading
     read_later steps = later tables are names valid round worker earlier small_round small_worker small_there line behind told spoken dues end steps
 
+    -- what is read behind the line, or the fault at it
     abbrev pub read_on : Option NextSteps → Reading
     read_on o = outcome tables are names valid round worker earlier small_round small_worker small_there line behind told spoken dues end o
 
@@ -121,6 +124,7 @@ module _ (tables : List TableDecl) (are : are_tables tables ≡ true) (names : N
         ∙ seal-left at (from + 1) (blocks_at tables at) (let e = some refl in omega (arith, e))
         ∙ ap (λ (b : Bool). cond (table == at && nat_lt block (blocks_at tables at) && b) (Some (seal_hit at)) None) (sym (behind-seal from block))
 
+    -- a line that says that a block was sealed leads to the steps behind its seal
     pub sealed-read : (steps : NextSteps) → InTurnHere steps
         → read_now (said.Sealed table block stamp) spoken dues end steps ≡ read_on (said.Sealed table block stamp) spoken dues end (next_steps tables steps (said.Sealed table block stamp))
     sealed-read steps in_turn =
@@ -193,6 +197,7 @@ module _ (tables : List TableDecl) (are : are_tables tables ≡ true) (names : N
     gather-by at from until false most some = gather-left at from (blocks_at tables at) most
     gather-by at from until true most some = gather-first at from (blocks_at tables at) (some refl)
 
+    -- a line that says that a block was frozen leads to the steps behind its gathering
     pub frozen-read : (steps : NextSteps) → InTurnHere steps
         → read_now (said.Frozen table block rows) spoken dues end steps ≡ read_on (said.Frozen table block rows) spoken dues end (next_steps tables steps (said.Frozen table block rows))
     frozen-read steps in_turn =
@@ -320,6 +325,7 @@ module _ (tables : List TableDecl) (are : are_tables tables ≡ true) (names : N
         miss-one (test (said.Moved count) spoken dues end) table (command.Gather table first) (blocks_from table (first + 1) (blocks_at tables table - (first + 1))) (moved-is (command.Gather table first) refl)
         ∙ none-says (test (said.Moved count) spoken dues end) table (λ x. moved-is (command.Seal table x) refl) (λ x. moved-is (command.Gather table x) refl) (first + 1) (blocks_at tables table - (first + 1))
 
+    -- a line that says that rows were moved leads to the steps behind the next compaction
     pub moved-read : (steps : NextSteps) → InTurnHere steps → read_now (said.Moved count) spoken dues end steps ≡ read_on (said.Moved count) spoken dues end (next_steps tables steps (said.Moved count))
     moved-read steps in_turn =
         compact-on (said.Moved count) spoken dues end (λ table. moved-is (command.Compact table) refl) steps in_turn (moved-none steps.table steps.block steps.until steps.sealed)
@@ -344,6 +350,7 @@ module _ (tables : List TableDecl) (are : are_tables tables ≡ true) (names : N
         ap (λ (n : ℕ). first_hit (test said.Memory spoken dues end) (blocks_from table first n)) (let e : blocks_at tables table - first ≡ 0 = omega (arith, past) in e)
     memory-none table first until true past some = absurd (let e = some refl in omega (arith, e, past))
 
+    -- a line that says that memory was refused leads to all steps that may have said it
     pub memory-read : (steps : NextSteps) → InTurnHere steps → read_now said.Memory spoken dues end steps ≡ read_on said.Memory spoken dues end (next_steps tables steps said.Memory)
     memory-read steps in_turn = by (nat_lt steps.block (blocks_at tables steps.table)) refl
       where

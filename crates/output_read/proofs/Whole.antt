@@ -33,12 +33,15 @@ module _ (script : Script) (old : Reader) (tables_are : old.tables.now ≡ scrip
       ∙ ap (λ (tables : List TableDecl). reading tables (dues_of script) (read_by old) (lines_left old)) (sym tables_are)
       ∙ ap (λ (dues : List Due). reads old dues) (sym (append-nil (dues_of script)))
 
+  -- the output fails at the line at which its dues do
   pub whole-failed : (line : ℕ) → FailsAt old (dues_of script) line → replies_of script old.rest.now ≡ Err line
   whole-failed line fails = from-start ∙ fails [] refl
 
   module _ (new : Reader) (passes : Passes old new (dues_of script)) where
+    -- where all dues passed and nothing is left, the output is the replies that were read
     pub whole-read : length new.rest.now ≡ 0 → replies_of script old.rest.now ≡ Ok (read_by new)
     whole-read empty = from-start ∙ passes [] refl ∙ none-left new.rest.now new.tables.now (read_by new) empty
 
+    -- where all dues passed and something is left, the output fails at that line
     pub whole-left : IsReading new → (length new.rest.now ≡ 0 → ⊥) → replies_of script old.rest.now ≡ Err new.line
     whole-left reading_is some = from-start ∙ passes [] refl ∙ left-over new.rest.now new.tables.now (read_by new) some ∙ ap (λ (n : ℕ). Err n) (sym reading_is.line)

@@ -95,12 +95,14 @@ module _ (old : Reader) (shift : Shift) (are : are_tables old.tables.now ≡ tru
   abbrev due : Command → Due
   due asked = step_due shift.round shift.worker asked
 
+  -- the names of the reader's tables are plain words
   pub plain : NamesPlain T
   plain = names-plain T (tables-valid T are)
 
   few-index : next_index shift.round who E < 2 ^ 64
   few-index = let a = index-few old shift.round who reading_is in let b = reading_is.room in omega (arith, a, b)
 
+  -- the next index fits 64 bits
   pub heading-small : heading < 2 ^ 64
   heading-small = let a = few-index in let b = is_shift.index in omega (arith, a, b)
 
@@ -113,12 +115,14 @@ module _ (old : Reader) (shift : Shift) (are : are_tables old.tables.now ≡ tru
   narrow-of : (asked : Command) → IsNarrow T are E (due asked)
   narrow-of asked = record { round = small_round; who = small_worker; index = lt-ltb (next T are E (due asked)) (2 ^ 64) few-index }
 
+  -- what a line says at the shift's next index is what it says as the reply that is due
   pub said-there : (asked : Command) (line : List ℕ) (told : Said) → said_at T shift.round who heading line ≡ Some told → said_there T are E (due asked) line ≡ Some told
   said-there asked line told h = ap (λ (n : ℕ). said_at T shift.round who n line) (sym is_shift.index) ∙ h
 
   said-here : (asked : Command) (line : List ℕ) (told : Said) → said_there T are E (due asked) line ≡ Some told → said_at T shift.round who heading line ≡ Some told
   said-here asked line told h = ap (λ (n : ℕ). said_at T shift.round who n line) is_shift.index ∙ h
 
+  -- what was kept of a worker's line is the reply to the step
   pub kept-entry : (asked : Command) (kept : KeptReply) (told : Said) → kept ≡ record { number = old.line; command = None; round = shift.round; who = who; index = heading; told = kept.told } → said_of kept.told ≡ told
       → entry_of kept ≡ entry_behind T E (due asked) told
   kept-entry asked kept told is said_is =
@@ -136,9 +140,11 @@ module _ (old : Reader) (shift : Shift) (are : are_tables old.tables.now ≡ tru
     abbrev after : Shift
     after = record { round = shift.round; worker = shift.worker; index = heading }
 
+    -- the reader behind a kept line reads on
     pub reads-on : IsReading new
     reads-on = still-reading old new kept 1 k reading_is told_ok (ap (line_count T) entry ∙ count)
 
+    -- the shift behind a kept line counts one line more
     pub shift-on : IsShift after new
     shift-on = record {
       round = is_shift.round;
@@ -147,6 +153,7 @@ module _ (old : Reader) (shift : Shift) (are : are_tables old.tables.now ≡ tru
           let e : heading + 1 ≡ next_index shift.round who (E ++ entry_of kept ∷ []) = omega (arith, a, b) in e) ∙ ap (next_index shift.round who) (sym (read-more old new kept 1 k));
     }
 
+    -- a kept line adds a reply to the worker
     pub adds-it : AddsAll old new shift.round who
     adds-it = adds-one old new shift.round who (record { entry = entry_of kept; is = read-more old new kept 1 k; own = own })
 
@@ -164,6 +171,7 @@ module _ (old : Reader) (shift : Shift) (are : are_tables old.tables.now ≡ tru
     one-line : (told : Said) → answers T true asked told ≡ true → line_count T (entry_behind T E (due asked) told) ≡ 1
     one-line told h = ap (λ (ls : List (List ℕ)). suc (length ls)) (alone T true asked told h)
 
+    -- a step is read where a line that answers it was kept
     pub work-goes : (new : Reader) (kept : KeptReply) (told : Said) → Kept old new kept 1 → kept ≡ record { number = old.line; command = None; round = shift.round; who = who; index = heading; told = kept.told }
         → said_of kept.told ≡ told → is_told kept.told ≡ true → Some told ≡ said_first T shift.round who heading (lines_left old) → answers T true asked told ≡ true
         → StepRead old new shift (record { round = shift.round; worker = shift.worker; index = heading }) asked
@@ -192,12 +200,15 @@ module _ (old : Reader) (shift : Shift) (are : are_tables old.tables.now ≡ tru
         (λ told is can. none told (sym (said-here asked line told is)) (and_parts (not (is_silent told)) (answers T true asked told) (sym (may-is told) ∙ can)).1))
         (ap (λ (o : Option ℕ). option_map_or (lines_of_scan T (entry_behind T E (due asked) said.Memory).reply line behind) o 0) (spoken-unscanned (is_within who E) asked spoken)))
 
+    -- a step that has a line in any case fails where the next line says nothing
     pub work-nothing : None ≡ said_first T shift.round who heading (lines_left old) → FailsAll old (work_dues shift (asked ∷ [])) old.line
     work-nothing none = work-fails (lines_left old) refl (λ told is can. absurdly (is ∙ sym none))
 
+    -- a step that has a line in any case fails where the next line says what does not answer it
     pub work-other : (told : Said) → Some told ≡ said_first T shift.round who heading (lines_left old) → answers T true asked told ≡ false → FailsAll old (work_dues shift (asked ∷ [])) old.line
     work-other told is cannot = work-fails (lines_left old) refl (λ other other_is can. never (sym cannot ∙ ap (answers T true asked) (same-said told other (is ∙ sym other_is)) ∙ can))
 
+    -- what answers a step stands on one line
     pub work-single : (told : Said) → answers T true asked told ≡ true → is_single told ≡ true
     work-single told can = by told can
       where

@@ -48,6 +48,7 @@ use Rattle.txn_desk.specs.declared.Snapshot.{Snapshot}
 use Rattle.txn_desk.specs.Desk.{DeskState}
 use Rattle.txn_desk.specs.Oldest.{HasPass, snapshot_of}
 
+-- in the opening core no session has anything open
 pub rests : RestsAtFirst
 rests sh q shape = at_rest sh q shape
 
@@ -60,6 +61,7 @@ moved_open sh s u own same owns = (owns.0, subst (λ o. IsSomeAnd o (IsOwn sh u 
     go None x = absurd x
     go (Some has) x = record { snapshot = x.snapshot; writes = x.writes }
 
+-- behind any other lawful event a session has open what it had
 pub stays : OwnStays
 stays sh s e q own holds lawful other has = go own has
   where
@@ -72,6 +74,7 @@ stays sh s e q own holds lawful other has = go own has
 
 -- ---- keys
 
+-- an event on one key is handed its write alone
 pub keys : KeysAreOwned
 keys sh s own t key owns = (owns.0, go (transaction sh s own.session) owns.1)
   where
@@ -300,5 +303,6 @@ module _ (sh : Shape) (s : Parts) (holds : CoreHolds sh s) where
   own_goes (event.Image t b image) q own lawful is has = absurd (none_is q is)
   own_goes (event.Thaw t b) q own lawful is has = absurd (none_is q is)
 
+-- behind a lawful event of its own a session has open what the event and its reply tell
 pub goes : OwnGoesOn
 goes sh s e q own holds lawful is has = own_goes sh s holds e q own lawful is has

@@ -40,6 +40,7 @@ self-equal Less h = absurd (let never : ⊥ = cc in never)
 self-equal Equal h = refl
 self-equal Greater h = absurd (let never : ⊥ = cc in never)
 
+-- places that are tested as one have one table and one key
 pub same_place : (u t : ℕ) (k key : ℤ) → is_place (place_at u k) (place_at t key) ≡ true → (u ≡ t) × (k ≡ key)
 same_place u t k key e =
     let parts = then-equal (nat_cmp u t) (int_cmp k key) (is-equal (place_cmp (place_at u k) (place_at t key)) e) in
@@ -50,6 +51,7 @@ same_place u t k key e =
 pub record Owns (slot : ℕ → ℕ → Slot) (places : ℕ → ℤ → List ℕ) (q : ℕ) (writes : PlaceMap ℕ) : Type 0 where
   pub each : (t : ℕ) (key : ℤ) → OwnSlot slot places q t key (at_place writes (place_at t key))
 
+-- a session whose snapshot and slots are the desk's and the core's owns what it has open
 pub owns_all : (sh : Shape) (s : Parts) → Sound sh s → (own : OwnTransaction) → IsSession sh own.session → snapshot_of (desk_at sh s) own.session ≡ Some own.snapshot
     → Owns (slot_at sh s) (places_at sh s) own.session own.writes → OwnsAll sh own s
 owns_all sh s ok own counted open' owns = (
@@ -99,6 +101,7 @@ module _ (slot slot' : ℕ → ℕ → Slot) (places places' : ℕ → ℤ → L
       found r a w (inl b) = (owns.each u k).all r b (sym (ap (λ (z : Slot). writer_of z.entries) (others u r (not_there r a))) ∙ w)
       found r a w (inr n) = absurd (other n.0 n.2)
 
+  -- with one write more the session's slots are those of its writes still
   pub goes_on : Owns slot' places' q (insert_entry place_cmp writes (place_at t key) p)
   goes_on = record { each = λ u k. subst (OwnSlot slot' places' q u k) (sym (at-insert writes (place_at t key) p (place_at u k))) (go u k (is_place (place_at u k) (place_at t key)) refl) }
     where

@@ -36,6 +36,7 @@ order a b = go (nat_lt a b) (nat_lt b a) refl refl
 
 -- ---- ascending lists
 
+-- blocks that rise from a number rise from a lower one
 pub rises_more : (least more limit : ℕ) (xs : List ℕ) → least ≤ more → Rises more limit xs → Rises least limit xs
 rises_more least more limit [] le r = r
 rises_more least more limit (x ∷ xs) le r = let a = r.0 in (omega (arith, a, le), r.1, r.2)
@@ -46,6 +47,7 @@ from_least least limit (x ∷ xs) zero r less = r.0
 from_least least limit (x ∷ xs) (suc j) r less =
     let rest = from_least (x + 1) limit xs j r.2 (omega (arith, less)) in let a = r.0 in omega (arith, rest, a)
 
+-- of two places in blocks that rise the later has no lower block
 pub sorted : (least limit : ℕ) (xs : List ℕ) → Rises least limit xs → (i j : ℕ) → i ≤ j → j < length xs → get_or xs i 0 ≤ get_or xs j 0
 sorted least limit [] r i j le less = absurd (omega (arith, less))
 sorted least limit (x ∷ xs) r zero zero le less = omega arith
@@ -84,6 +86,7 @@ there least limit (x ∷ xs) (suc at) block r less is =
     ∙ ap (λ b. cond b (x ∷ xs) (x ∷ with_block block xs)) (eq_false block x (omega (arith, is, more)))
     ∙ ap (λ ys. x ∷ ys) (there (x + 1) limit xs at block r.2 (omega (arith, less)) is)
 
+-- with one block more, put in its place, they still rise
 pub rises_with : (least limit : ℕ) (xs : List ℕ) (block : ℕ) → Rises least limit xs → least ≤ block → block < limit → Rises least limit (with_block block xs)
 rises_with least limit [] block r le less = (le, less, tt)
 rises_with least limit (x ∷ xs) block r le less = go (order block x) (λ a. rises_with (x + 1) limit xs block r.2 a less)
@@ -107,6 +110,7 @@ room_for xs at block room r most less within is =
     let long : length (with_block block xs) ≡ length xs + 1 = ap length (sym is) ∙ length-insert xs at block within in
     omega (arith, all, long, most)
 
+-- numbers that go up by one rise
 pub rises_range : (least limit a n : ℕ) → least ≤ a → a + n ≤ limit → Rises least limit (range_with_len a n)
 rises_range least limit a zero le room = tt
 rises_range least limit a (suc n) le room = (le, omega (arith, room), rises_range (a + 1) limit (a + 1) n (omega arith) (omega (arith, room)))
@@ -125,6 +129,7 @@ all_but_first (suc n) k is =
     let same : k ≡ n = omega (arith, is) in
     ap (range_with_len 1) same ∙ sym (positive 1 n (omega arith)) ∙ sym (ap (λ b. cond (not b) (0 ∷ filter (λ block. not (block == 0)) (range_with_len (0 + 1) n)) (filter (λ block. not (block == 0)) (range_with_len (0 + 1) n))) (num_refl 0))
 
+-- with the next at the end they go up further
 pub range_more : (a n : ℕ) → range_with_len a n ++ (a + n) ∷ [] ≡ range_with_len a (n + 1)
 range_more a zero =
     let one : a + 0 ≡ a = omega arith in let two : 0 + 1 ≡ suc 0 = omega arith in
@@ -209,6 +214,7 @@ with_filter p a (suc n) block le less = go (order a block) (p a) refl (λ x y. w
 
 -- ---- the laws
 
+-- A head that knows the empty blocks and gains one knows them all again.
 pub gains_go_on : GainsGoOn
 gains_go_on blocks block empty after head knows less is own = go (block == head.block) refl
   where
@@ -281,6 +287,7 @@ gains_go_on blocks block empty after head knows less is own = go (block == head.
         ∙ with_filter (λ x. empty x && not (x == head.block)) 0 blocks block (omega arith) (omega (arith, less))
         ∙ sym (filter_same (λ x. (empty x && not (x == head.block)) || (x == block)) (λ x. after x && not (x == head.block)) (below blocks) (λ x a. there_is x e (others x a))))
 
+-- A head that knows them is as if it went over all blocks.
 pub knowing_rests : KnowingRests
 knowing_rests blocks empty after head knows own is =
     ap (λ n. record head { taken = n; empty = filter (λ x. after x && not (x == head.block)) (below blocks) }) (taken (after head.block) refl)
@@ -292,6 +299,7 @@ knowing_rests blocks empty after head knows own is =
     taken true e = ap (λ b. cond b 0 head.taken) e ∙ sym (knows.own (sym (is head.block own) ∙ e))
     taken false e = ap (λ b. cond b 0 head.taken) e
 
+-- A head knows them after it went over all.
 pub swept_knows : SweptKnows
 swept_knows blocks empty head = record {
   others = refl;

@@ -26,6 +26,7 @@ true_false e = cc
 abbrev pub Filled : Places → Type 0
 Filled ix = (key : ℤ) → finite.get ix key ≢ Some []
 
+-- shards without an empty entry that have the same candidates are one
 pub shard_is : (x y : Places) → Filled x → Filled y → ((key : ℤ) → candidates_of x key ≡ candidates_of y key) → x ≡ y
 shard_is x y some more same = same_map int_cmp_total int_cmp-IsAntisymmetric x y (λ q. gets (finite.get x q) (finite.get y q) (some q) (more q) (same q))
   where
@@ -37,6 +38,7 @@ shard_is x y some more same = same_map int_cmp_total int_cmp-IsAntisymmetric x y
     gets (Some (p ∷ ps)) None s m e = cc
     gets (Some (p ∷ ps)) (Some qs) s m e = ap Some e
 
+-- the candidates of a key after those of one key were put
 pub put_is : (ix : Places) (key k : ℤ) (ps : List ℕ) → candidates_of (with_candidates ix key ps) k ≡ cond (eq_by_cmp int_cmp k key) ps (candidates_of ix k)
 put_is ix key k [] = ap (λ o. unwrap_or o []) (get-remove int_cmp_total ix key k) ∙ go (eq_by_cmp int_cmp k key)
   where
@@ -95,6 +97,7 @@ put_twice ix key ps qs = same_map int_cmp_total int_cmp-IsAntisymmetric (with_ca
     at (x ∷ qs) q =
         get-insert int_cmp_total (with_candidates ix key ps) key (x ∷ qs) q ∙ inner ps q (Some (x ∷ qs)) ∙ sym (get-insert int_cmp_total ix key (x ∷ qs) q)
 
+-- a key has the candidates that were put for it
 pub put_itself : (ix : Places) (key : ℤ) (ps : List ℕ) → candidates_of (with_candidates ix key ps) key ≡ ps
 put_itself ix key ps = at (key_cases key key)
   where
@@ -139,6 +142,7 @@ without_cons place x ps = go (x == place)
     go true = found_first x ps
     go false = ap (λ n. found n (x ∷ ps)) (more (position_or_len (λ other. other == place) ps)) ∙ found_next (position_or_len (λ other. other == place) ps) x ps
 
+-- one occurrence of a place less leaves the other places
 pub without_others : (place : ℕ) (ps : List ℕ) → others_of place (without place ps) ≡ others_of place ps
 without_others place [] = refl
 without_others place (x ∷ ps) = ap (others_of place) (without_cons place x ps) ∙ go (x == place) refl (without_others place ps)
@@ -150,6 +154,7 @@ without_others place (x ∷ ps) = ap (others_of place) (without_cons place x ps)
         ap (λ b. others_of place (cond b ps (x ∷ without place ps))) is
         ∙ ap (λ ys. cond (not (x == place)) (x ∷ ys) ys) rest
 
+-- where the place stands the list gets shorter
 pub without_shorter : (place : ℕ) (ps : List ℕ) → list_any (λ other. other == place) ps ≡ true → length (without place ps) < length ps
 without_shorter place [] is = absurd (true_false (sym is))
 without_shorter place (x ∷ ps) is = subst (λ ys. length ys < length (x ∷ ps)) (sym (without_cons place x ps)) (go (x == place) is (without_shorter place ps))
@@ -159,6 +164,7 @@ without_shorter place (x ∷ ps) is = subst (λ ys. length ys < length (x ∷ ps
     go true e rest = omega arith
     go false e rest = let r = rest e in omega (arith, r)
 
+-- where it does not, all are other places
 pub none_others : (place : ℕ) (ps : List ℕ) → list_any (λ other. other == place) ps ≡ false → others_of place ps ≡ ps
 none_others place [] is = refl
 none_others place (x ∷ ps) is = go (x == place) is (none_others place ps)
@@ -174,9 +180,11 @@ pub record Dropping (old new : Places) (key : ℤ) (place : ℕ) : Type 0 where
   pub put : new ≡ with_candidates old key candidates
   pub rest : others_of place candidates ≡ others_of place (candidates_of old key)
 
+-- a first one of the key's candidates at the place is dropped
 pub drop_begins : (old new : Places) (key : ℤ) (place : ℕ) → new ≡ with_candidates old key (without place (candidates_of old key)) → Dropping old new key place
 drop_begins old new key place is = record { candidates = without place (candidates_of old key); put = is; rest = without_others place (candidates_of old key) }
 
+-- and a further one
 pub drop_goes_on : (old now new : Places) (key : ℤ) (place : ℕ) → Dropping old now key place → new ≡ with_candidates now key (without place (candidates_of now key))
     → Dropping old new key place
 drop_goes_on old now new key place d is = record {
@@ -187,6 +195,7 @@ drop_goes_on old now new key place d is = record {
   rest = without_others place d.candidates ∙ d.rest;
 }
 
+-- where none is left the place is no candidate of the key any more
 pub drop_ends : (old new : Places) (key k : ℤ) (place : ℕ) → k ≡ key → Dropping old new k place → list_any (λ other. other == place) (candidates_of new k) ≡ false
     → new ≡ without_place key place old
 drop_ends old new key k place same d none = d.put ∙ ap (with_candidates old k) (sym (none_others place d.candidates (sym (ap (list_any (λ other. other == place)) left) ∙ none)) ∙ d.rest) ∙ ap (λ k. without_place k place old) same
@@ -194,6 +203,7 @@ drop_ends old new key k place same d none = d.put ∙ ap (with_candidates old k)
     left : candidates_of new k ≡ d.candidates
     left = ap (λ y. candidates_of y k) d.put ∙ put_itself old k d.candidates
 
+-- each drop leaves the key fewer candidates
 pub drop_smaller : (now new : Places) (key : ℤ) (place : ℕ) → new ≡ with_candidates now key (without place (candidates_of now key))
     → list_any (λ other. other == place) (candidates_of now key) ≡ true → length (candidates_of new key) < length (candidates_of now key)
 drop_smaller now new key place is there =
@@ -202,6 +212,7 @@ drop_smaller now new key place is there =
 
 -- ---- the laws
 
+-- A shard after a sweep loses one candidate more as if the sweep had not kept it.
 pub drops_go_on : DropsGoOn
 drops_go_on i ix keep after key place h own here others = shard_is
     (without_place key place (kept_places keep ix)) (kept_places after ix)
@@ -233,13 +244,16 @@ drops_go_on i ix keep after key place h own here others = shard_is
         ∙ sym (filter_same keep after (candidates_of ix k) (λ p a. others k p x.1 a))
         ∙ sym (kept_is after ix k)
 
+-- Sweeps that keep the same candidates are one.
 pub sweeps_agree : SweepsAgree
 sweeps_agree i ix keep after h same = shard_is (kept_places after ix) (kept_places keep ix) (filled_kept after ix h.some) (filled_kept keep ix h.some)
     (λ k. kept_is after ix k ∙ filter_same keep after (candidates_of ix k) (λ p a. same k p a) ∙ sym (kept_is keep ix k))
 
+-- A sweep that keeps all candidates changes nothing.
 pub sweep_rests : SweepRests
 sweep_rests i ix keep h all = kept_stays i keep ix h (λ key p own a. all key p a)
 
+-- A candidate that was added is taken back.
 pub added_is_dropped : AddedIsDropped
 added_is_dropped i ix key place h own none = shard_is (without_place key place (with_place key place ix)) ix
     (subst (λ y. Filled (without_place key place y)) (sym added) (filled_with (with_candidates ix key (candidates_of ix key ++ place ∷ [])) key

@@ -96,15 +96,18 @@ module _ (sh : Shape) (s : Parts) (ok : Sound sh s) where
   desk_now : (e : CoreEvent) → desk_at sh (effect sh s e) ≡ (changes_of sh s e).desk (desk_at sh s)
   desk_now e = let f = follows_machine sh s ok in desk_at_after sh s (changes_of sh s e) f.desk.0 f.desk.1
 
+  -- a stamp that no live snapshot is below stays one after an event, whichever it is
   pub event_outlives : (e : CoreEvent) (oldest : ℕ) → IsLawful sh e s → IsOldest sh oldest s → IsOldest sh oldest (effect sh s e)
   event_outlives e oldest lawful low =
       let up = event_up e lawful in
       let is : oldest_of (desk_at sh (effect sh s e)) ≡ oldest_of ((changes_of sh s e).desk (desk_at sh s)) = ap oldest_of (desk_now e) in
       omega (arith, low, up, is)
 
+-- A stamp that no live snapshot is below stays one after each lawful event.
 pub outlives : Outlives
 outlives sh e oldest s ok lawful low = event_outlives sh s ok e oldest lawful low
 
+-- The reply to an `oldest` is one.
 pub learns : Learns
 learns sh (event.Begin q) oldest s teaches = absurd teaches
 learns sh (event.Get own t key) oldest s teaches = absurd teaches

@@ -380,6 +380,7 @@ module _ (sh : Shape) (s : Parts) (shape : IsShape sh) (ok : Sound sh s) (q : �
   event_snapshot (event.Image t b image) some lawful ne = refl
   event_snapshot (event.Thaw t b) some lawful ne = refl
 
+  -- an event leaves another session's transaction, whichever it is
   pub event_leaves : (e : CoreEvent) → 1 ≤ q → IsLawful sh e s → session_of e ≢ Some q → transaction sh (effect sh s e) q ≡ transaction sh s q
   event_leaves e some lawful ne =
       transaction_is sh (effect sh s e) q some
@@ -388,6 +389,7 @@ module _ (sh : Shape) (s : Parts) (shape : IsShape sh) (ok : Sound sh s) (q : �
       (ap (λ (desk : DeskState). snapshot_of desk q) (desk_at_after sh s (changes_of sh s e) f.desk.0 f.desk.1) ∙ event_snapshot e some lawful ne)
       ∙ sym (transaction_is sh s q some)
 
+-- A lawful event leaves the transaction of every session but its own.
 pub leaves : Leaves
 leaves sh e s zero shape ok lawful ne = refl
 leaves sh e s (suc n) shape ok lawful ne = event_leaves sh s shape ok (suc n) e (omega arith) lawful ne

@@ -35,6 +35,8 @@ module _ (sh : Shape) (s u : Parts) where
     subst (λ o. IsSomeAnd o (IsOwn sh u own)) (sym same) (all_by sh s u own (transaction sh s own.session) owns.1),
   )
 
+-- What an event asks besides its parts depends on its session's transaction and on lasting facts
+-- alone.
 pub depends : Depends
 depends sh (event.Begin q) s u same facts stands = (stands.0, same q (λ i. Some q) ∙ stands.1)
 depends sh (event.Get own t key) s u same facts stands = owns_key sh s u own t key (same own.session (λ i. Some own.session)) stands
@@ -53,6 +55,7 @@ depends sh (event.Seal t b) s u same facts stands = tt
 depends sh (event.Image t b image) s u same facts stands = tt
 depends sh (event.Thaw t b) s u same facts stands = tt
 
+-- No session has a transaction in the opening core.
 pub rests : Rests
 rests sh zero shape = λ i. None
 rests sh (suc n) shape =

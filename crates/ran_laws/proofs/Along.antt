@@ -29,14 +29,17 @@ use Rattle.ran_laws.proofs.Open.{nothing_is_open, opens_as, with_own_is}
 not_true : false ≡ true → ⊥
 not_true e = cc
 
+-- of two that hold together the first does
 pub and_first : (a b : Bool) → (a && b) ≡ true → a ≡ true
 and_first true b e = refl
 and_first false b e = absurd (not_true e)
 
+-- of two that hold together the second does
 pub and_second : (a b : Bool) → (a && b) ≡ true → b ≡ true
 and_second true b e = e
 and_second false b e = absurd (not_true e)
 
+-- where each of two holds, both do
 pub both : (a b : Bool) → a ≡ true → b ≡ true → (a && b) ≡ true
 both true b e f = f
 both false b e f = absurd (not_true e)
@@ -44,6 +47,7 @@ both false b e f = absurd (not_true e)
 number_is : (a b : ℕ) → (a == b) ≡ true → a ≡ b
 number_is a b e = grind (arith, nat_tests, e)
 
+-- an event that is of a session or of none names no other
 pub named : (session : ℕ) (e : CoreEvent) → is_of session e ≡ true → IfSome (session_of e) (λ other. other ≡ session)
 named session e is = go (session_of e) is
   where
@@ -80,6 +84,7 @@ along shape parts front before (entry ∷ log) are agrees answered = (
       answered.2,
 )
 
+-- the machine goes along every lawful log whose events stand under their sessions
 pub machines_go_along : MachinesGoAlong
 machines_go_along shape log is_shape lawful are = along
     shape
@@ -144,6 +149,7 @@ events_append : (xs ys : List Occurrence) → events_in (xs ++ ys) ≡ events_in
 events_append [] ys = refl
 events_append (x ∷ xs) ys = ap (λ (es : List CoreEvent). x.event ∷ es) (events_append xs ys)
 
+-- where the events in front and those behind are a session's, all are
 pub all_append : (session : ℕ) (xs ys : List Occurrence) → list_all (is_of session) (events_in xs) ≡ true
     → list_all (is_of session) (events_in ys) ≡ true → list_all (is_of session) (events_in (xs ++ ys)) ≡ true
 all_append session xs ys e f =
@@ -151,6 +157,7 @@ all_append session xs ys e f =
     ∙ list_all-append (is_of session) (events_in xs) (events_in ys)
     ∙ both (list_all (is_of session) (events_in xs)) (list_all (is_of session) (events_in ys)) e f
 
+-- the events of calls that go on from a session's are that session's
 pub calls_are_the_sessions : CallsAreTheSessions
 calls_are_the_sessions shape worker session front [] are h = refl
 calls_are_the_sessions shape worker session front (call ∷ calls) are h =

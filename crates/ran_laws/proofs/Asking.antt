@@ -35,10 +35,12 @@ and_first true b e = refl
 and_first false b e = e
 
 module _ (p : CoreEvent → Bool) where
+  -- a test that each mapped event passes all of them pass
   pub all_map : (f : ℕ → CoreEvent) → ((n : ℕ) → p (f n) ≡ true) → (ns : List ℕ) → list_all p (map f ns) ≡ true
   all_map f each [] = refl
   all_map f each (n ∷ ns) = both (p (f n)) (list_all p (map f ns)) (each n) (all_map f each ns)
 
+  -- a test that all events of each list pass those of the joined lists pass
   pub all_flat : (f : ℕ → List CoreEvent) → ((n : ℕ) → list_all p (f n) ≡ true) → (ns : List ℕ)
       → list_all p (flat_map f ns) ≡ true
   all_flat f each [] = refl
@@ -46,12 +48,15 @@ module _ (p : CoreEvent → Bool) where
       list_all-append p (f n) (flat_map f ns)
       ∙ both (list_all p (f n)) (list_all p (flat_map f ns)) (each n) (all_flat f each ns)
 
+  -- a test that those in front and those behind pass all pass
   pub all_append : (xs ys : List CoreEvent) → list_all p xs ≡ true → list_all p ys ≡ true → list_all p (xs ++ ys) ≡ true
   all_append xs ys e f = list_all-append p xs ys ∙ both (list_all p xs) (list_all p ys) e f
 
+  -- a test that an event passes it passes alone
   pub one : (e : CoreEvent) → p e ≡ true → list_all p (e ∷ []) ≡ true
   one e h = both (p e) true h refl
 
+  -- a test that the event of each block passes those of all blocks pass
   pub all_blocks : (shape : Shape) (f : ℕ → ℕ → CoreEvent) → ((table block : ℕ) → p (f table block) ≡ true)
       → list_all p (at_all_blocks shape f) ≡ true
   all_blocks shape f each = all_flat
@@ -59,6 +64,7 @@ module _ (p : CoreEvent → Bool) where
       (λ table. all_map (f table) (each table) (below (blocks_of shape table)))
       (tables_of shape)
 
+  -- a test that each pruning passes all events of a pruning command pass
   pub all_prunes : (shape : Shape) (made : List Occurrence) → ((table block oldest : ℕ) → p (event.Prune table block oldest) ≡ true)
       → list_all p (prunes shape made) ≡ true
   all_prunes shape made each = all_flat
@@ -66,11 +72,13 @@ module _ (p : CoreEvent → Bool) where
       (λ oldest. all_blocks shape (λ table block. event.Prune table block oldest) (λ table block. each table block oldest))
       (filter_map oldest_told (replies_in made))
 
+  -- a test that a move passes the moves of a compaction pass
   pub all_moves : (table : ℕ) (pairs : List MovePair) → ((pairs : List MovePair) → p (event.Move table pairs) ≡ true)
       → list_all p (moves table pairs) ≡ true
   all_moves table [] each = refl
   all_moves table (pair ∷ pairs) each = one (event.Move table (pair ∷ pairs)) (each (pair ∷ pairs))
 
+  -- a test that a thaw passes the thaw of a block passes, if there is one
   pub all_thaws : (table : ℕ) (block : Option ℕ) → ((block : ℕ) → p (event.Thaw table block) ≡ true)
       → list_all p (map (event.Thaw table) (option_to_list block)) ≡ true
   all_thaws table block each = all_map (event.Thaw table) each (option_to_list block)
@@ -87,12 +95,14 @@ module _ (p : CoreEvent → Bool) where
       (list_all p h.missed)
       (sym (list_all-append p (events_in call.made) h.missed) ∙ ap (list_all p) (sym h.events) ∙ passes)
 
+  -- a test that each read of the open transaction passes those of a scan pass
   pub reads : (shape : Shape) (own : Option OwnTransaction) (table : ℕ)
       → ((t : OwnTransaction) → own ≡ Some t → (block : ℕ) → p (event.Read t table block) ≡ true)
       → list_all p (Rattle.run_spec.specs.Asked.by_own own (λ t. at_blocks shape table (event.Read t table))) ≡ true
   reads shape None table each = refl
   reads shape (Some t) table each = all_map (event.Read t table) (each t refl) (below (blocks_of shape table))
 
+  -- a test that looks and moves pass the events of a compaction pass
   pub compacts : (shape : Shape) (table : ℕ) (made : List Occurrence) → ((block : ℕ) → p (event.Look table block) ≡ true)
       → ((pairs : List MovePair) → p (event.Move table pairs) ≡ true)
       → list_all p (at_blocks shape table (event.Look table) ++ moves table (plan_of (looks_in made))) ≡ true
@@ -119,6 +129,7 @@ asks shape own session (command.Seal table block) made other = refl
 asks shape own session (command.Gather table block) made other = refl
 asks shape own session (command.Export table) made other = reads asks_nothing shape own table (λ t is block. refl)
 
+-- scans, exports and upkeep ask the machine nothing
 pub others_ask_nothing : OthersAskNothing
 others_ask_nothing shape worker session front call other is = call_passes
     asks_nothing
@@ -194,6 +205,7 @@ stand shape own session (command.Gather table block) made same = refl
 stand shape own session (command.Export table) made same =
     reads (is_of session) shape own table (λ t is block. owned session own t same is)
 
+-- the events of a call are of its own session
 pub events_are_the_sessions : EventsAreTheSessions
 events_are_the_sessions shape worker session front call same is = call_passes
     (is_of session)

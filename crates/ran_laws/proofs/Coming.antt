@@ -139,6 +139,7 @@ refused_stays m n request told e h = (subst
     (memory_is told (was_refused (is_memory told) e))
     h).2
 
+-- at an event that begins and ends nothing, and is refused memory or not final, the machine stays
 pub event_stays : (m n : IsolationMachine) (e : CoreEvent) (told : CoreReply) → is_calm e ≡ true
     → (is_memory told || not (is_final e)) ≡ true → IsStep (command_in e) m told n → n ≡ m
 event_stays m n (event.Begin session) told calm cut h = absurd (not_true calm)
@@ -366,6 +367,7 @@ module _ (session : ℕ) (made : List Occurrence) (told : Option Said) (line : S
   line_taken shape (command.Gather table block) own single open' h = absurd (not_true single)
   line_taken shape (command.Export table) own single open' h = absurd (not_true single)
 
+-- what a session is told the machine answers at the call's last event
 pub lines_come_about : LinesComeAbout
 lines_come_about shape session front call line machine next single is tells open' ends = line_taken
     session

@@ -93,5 +93,6 @@ rounds_answer script number (lines ∷ asked) (round ∷ rounds) e =
     (map (agendas_in script) asked)
     e))
 
+-- the calls of a run answer what is due, in order
 pub calls_answer : CallsAnswerDues
 calls_answer script rounds asked = rounds_answer script 1 script.rounds rounds asked

@@ -40,6 +40,7 @@ tells_of here meant tells outcome line o l = subst
     (some_is here outcome o)
     (subst (λ (x : Said). Tells here x) (some_is meant line l) tells)
 
+-- what a reply says by itself tells its outcome
 pub lines_tell : LinesTellOutcomes
 lines_tell table block (reply.Begun snapshot) outcome line o l =
     tells_of (store.Answered (answer.At snapshot.number)) (said.At snapshot.number) refl outcome line o l

@@ -86,6 +86,7 @@ between shape session first met later a b same =
     ∙ ap (λ (made : List Occurrence). own_in shape session first ++ made) (none_of_none since more none)
     ∙ append-nil (own_in shape session first)
 
+-- what one brings to the end of a round in which all met is its share of it
 pub met_rounds_are_done : MetRoundsAreDone
 met_rounds_are_done script finished now share brings =
     let shape = shape_of script in

@@ -7,9 +7,11 @@ use Rattle.std.proofs.lemmas.List.Elements.{filter-append, filter_map-append}
 use Rattle.run_spec.specs.Occurrences.{Occurrence, under}
 use Rattle.ran_laws.specs.Moments.{AreParted, Lined, Moment, MomentsAreTheRound, Pending, advanced, advanced_by, ended_at, events_at, lines_at, lines_of, merged, with_pending}
 
+-- the events that pending calls have yet to make
 abbrev pub events_to_come : List Pending → List Occurrence
 events_to_come calls = flat_map (λ call. call.made) calls
 
+-- a session is tested as itself
 pub test_same : (q : ℕ) → (q == q) ≡ true
 test_same q = grind (arith, nat_tests)
 
@@ -20,6 +22,7 @@ same_number a b = go (a == b) refl
     go true e = inl (grind (arith, nat_tests))
     go false e = inr (λ s. absurd (grind (arith, nat_tests)))
 
+-- another session is not tested as this one
 pub test_other : (r q : ℕ) → r ≢ q → (r == q) ≡ false
 test_other r q ne = go (r == q) refl
   where
@@ -27,9 +30,11 @@ test_other r q ne = go (r == q) refl
     go true e = absurd (ne (grind (arith, nat_tests)))
     go false e = refl
 
+-- lists that are one are one behind their first elements
 pub tail_is : (a b : Occurrence) (xs ys : List Occurrence) → a ∷ xs ≡ b ∷ ys → xs ≡ ys
 tail_is a b xs ys e = cc
 
+-- a list with an element is not empty
 pub no_tail : (a : Occurrence) (xs : List Occurrence) → a ∷ xs ≡ [] → ⊥
 no_tail a xs e = cc
 
@@ -44,13 +49,6 @@ line_at q event line moments = ap (λ (b : Bool). filter_map (λ (moment : Momen
     go : (l : Option Lined) → filter_map (λ (moment : Moment). moment.line) (record { session = q; event = event; line = l } ∷ filter (λ (moment : Moment). moment.session == q) moments) ≡ with_line l (lines_at q moments)
     go None = refl
     go (Some l) = refl
-
-with_line_append : (line : Option Lined) (xs ys : List Lined) → with_line line xs ++ ys ≡ with_line line (xs ++ ys)
-with_line_append None xs ys = refl
-with_line_append (Some line) xs ys = refl
-
-lines_first : (call : Pending) (calls : List Pending) → lines_of (call ∷ calls) ≡ call.line ∷ lines_of calls
-lines_first call calls = refl
 
 -- the lines of one event's moments and those that are left are the lines
 lines_of_one : (q : ℕ) (made : Occurrence) (calls : List Pending) → lines_at q (advanced q made calls).moments ++ lines_of (advanced q made calls).pending ≡ lines_of calls
@@ -101,12 +99,14 @@ other_first : (q : ℕ) (made : Occurrence) (others : List Occurrence) → made.
 other_first q made others ne = ap (λ (b : Bool). cond b (made ∷ under q others) (under q others)) (test_other made.session q ne)
 
 module _ (made : Occurrence) (others : List Occurrence) (calls : ℕ → List Pending) (parted : AreParted (made ∷ others) calls) where
+  -- the calls that are pending behind the event
   abbrev pub left : List Pending
   left = (advanced made.session made (calls made.session)).pending
 
   one : (events_at (advanced made.session made (calls made.session)).moments ≡ made ∷ []) × (under made.session others ≡ events_to_come left)
   one = events_of_one made.session made (under made.session others) (calls made.session) (sym (own_first made others) ∙ parted made.session)
 
+  -- the events to come are those of the calls that are pending still
   pub still_parted : AreParted others (with_pending calls made.session left)
   still_parted r = go (same_number r made.session)
     where
@@ -160,6 +160,7 @@ left_lines q (r ∷ sessions) calls =
     go true = refl
     go false = refl
 
+-- the moments of a round have its events in order, and each session's calls in theirs
 pub moments_are_the_round : MomentsAreTheRound
 moments_are_the_round sessions [] calls parted = (
   all_ended sessions calls,

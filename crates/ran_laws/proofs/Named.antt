@@ -232,6 +232,7 @@ run_named script log text ran =
     (rounds_own script [] ran.rounds script.rounds ran.asked ran.done (λ q low high. refl))
     (all_of_script script [] ran.rounds ran.done)
 
+-- the machine goes along the log of a run
 pub runs_go_along : RunsGoAlong
 runs_go_along script log text is_shape ran = machines_go_along
     (shape_of script)

@@ -351,6 +351,7 @@ same_or_not a b = go (a == b) refl
     go true e = inl (grind (arith, nat_tests))
     go false e = inr (λ s. absurd (grind (arith, nat_tests)))
 
+-- a session's event more changes what it has open by its reply
 pub own_more : (q : ℕ) (front : List Occurrence) (last : Occurrence) → last.session ≡ q
     → own_after (under q (front ++ last ∷ [])) ≡ own_behind (own_after (under q front)) last.event last.reply
 own_more q front last same =
@@ -361,6 +362,7 @@ own_more q front last same =
     here : (last.session == q) ≡ true
     here = grind (arith, nat_tests, same)
 
+-- an event more leaves what others have open
 pub others_more : (q : ℕ) (front : List Occurrence) (last : Occurrence) → last.session ≢ q
     → own_after (under q (front ++ last ∷ [])) ≡ own_after (under q front)
 others_more q front last apart =
@@ -372,9 +374,11 @@ others_more q front last apart =
     go true e = absurd (apart (grind (arith, nat_tests)))
     go false e = refl
 
+-- before the first event nothing is open
 pub nothing_is_open : NothingIsOpen
 nothing_is_open session = record { snapshot = refl; session_is = tt }
 
+-- an event that the machine goes with leaves open in it what the sessions have
 pub opens_as : OpensAsTheMachine
 opens_as shape parts entry front m next named h agrees =
     let last : Occurrence = occurrence_of shape parts entry in

@@ -166,17 +166,20 @@ module _ (shape : Shape) (worker : Bool) (session : ℕ) (own : Option OwnTransa
       (says (line_of own (command.Gather table block) (replies_in made)) w.line)
   told_so (command.Gather table block) is (inr p) = cut p.line
 
+-- the line of an upkeep command is one of upkeep
 pub upkeep_is_told_so : UpkeepIsToldSo
 upkeep_is_told_so shape worker session front call line upkeep replied is tells =
     told_so shape worker session (own_after front) call.made call.told line replied tells call.command upkeep is
 
 -- ---- replies of a log
 
+-- the replies of a log are the replay's
 pub logs_are_replied : LogsAreReplied
 logs_are_replied shape parts [] = tt
 logs_are_replied shape parts (entry ∷ log) =
     ((entry.made.refused, refl), logs_are_replied shape (after shape parts entry.made) log)
 
+-- where the replies of events are the replay's, those under one session are
 pub under_replied : (shape : Shape) (session : ℕ) (made : List Occurrence) → AreReplied shape made
     → AreReplied shape (under session made)
 under_replied shape session [] replied = tt
@@ -188,10 +191,12 @@ under_replied shape session (first ∷ rest) replied =
     go true later = (replied.0, later)
     go false later = later
 
+-- where the replies of events are the replay's, those of a front of them are
 pub front_replied : (shape : Shape) (xs ys : List Occurrence) → AreReplied shape (xs ++ ys) → AreReplied shape xs
 front_replied shape [] ys replied = tt
 front_replied shape (x ∷ xs) ys replied = (replied.0, front_replied shape xs ys replied.1)
 
+-- where the replies of events are the replay's, those of the rest of them are
 pub rest_replied : (shape : Shape) (xs ys : List Occurrence) → AreReplied shape (xs ++ ys) → AreReplied shape ys
 rest_replied shape [] ys replied = replied
 rest_replied shape (x ∷ xs) ys replied = rest_replied shape xs ys replied.1
@@ -207,6 +212,7 @@ calls_replied shape (call ∷ calls) replied = (
       (rest_replied shape call.made (flat_map (λ (call : Call). call.made) calls) replied),
 )
 
+-- where the replies of a round are the replay's, those of each call of a share are
 pub shares_are_replied : SharesAreReplied
 shares_are_replied script front made share replied done = calls_replied
     (shape_of script)

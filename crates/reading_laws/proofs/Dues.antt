@@ -20,6 +20,7 @@ use Rattle.outcome_check.specs.Places.{is_earlier, is_up_to}
 abbrev pub is_ahead_of : ℕ → Who → Due → Bool
 is_ahead_of round who due = nat_lt round due.round || eqb round due.round && is_up_to who due.who
 
+-- each of the dues is ahead of all behind it
 abbrev pub DuesRise : List Due → Type 0
 DuesRise [] = Unit {0}
 DuesRise (due ∷ dues) = (list_all (is_ahead_of due.round due.who) dues ≡ true) × DuesRise dues
@@ -141,6 +142,7 @@ to-within p who so round dues h =
     all-weaker (is_to round who) (is_within_round p round) (λ d k. let parts = and_parts (eqb d.round round) (is_same d.who who) k in and_from (eqb d.round round) (p d.who) parts.0 (so d.who parts.1)) dues h
 
 module _ (round : ℕ) (asked : ℕ → List Command) where
+  -- what is due to the sessions from one on stands in order, all of the round
   pub sessions-from : (a n : ℕ) → DuesRise (flat_map (λ s. dues_to round (Session s) (asked s)) (range_with_len a n)) × (list_all (is_within_round (from_session a) round) (flat_map (λ s. dues_to round (Session s) (asked s)) (range_with_len a n)) ≡ true)
   sessions-from a zero = (tt, refl)
   sessions-from a (suc n) =
@@ -153,6 +155,7 @@ module _ (round : ℕ) (asked : ℕ → List Command) where
             (within-weaker (from_session (a + 1)) (from_session a) (session-later a) round (flat_map (λ s. dues_to round (Session s) (asked s)) (range_with_len (a + 1) n)) rest.1),
       )
 
+  -- what is due to the workers from one on stands in order, all of the round
   pub workers-from : (a n : ℕ) → DuesRise (flat_map (λ w. dues_to round (Worker w) (asked w)) (range_with_len a n)) × (list_all (is_within_round (from_worker a) round) (flat_map (λ w. dues_to round (Worker w) (asked w)) (range_with_len a n)) ≡ true)
   workers-from a zero = (tt, refl)
   workers-from a (suc n) =
@@ -190,6 +193,7 @@ of-round : (p : Who → Bool) (round : ℕ) (dues : List Due) → list_all (is_w
 of-round p round dues h = all-weaker (is_within_round p round) (λ d. eqb d.round round) (λ d k. (and_parts (eqb d.round round) (p d.who) k).0) dues h
 
 module _ (script : Script) where
+  -- what is due in a round stands in order, all of it of the round
   pub round-rises : (round : ℕ) (lines : List Line) → DuesRise (dues_in script round lines) × (list_all (λ d. eqb d.round round) (dues_in script round lines) ≡ true)
   round-rises round lines =
       let first = sessions-from round (λ session. commands_of session lines) 1 script.sessions in
@@ -231,11 +235,13 @@ module _ (script : Script) where
         all-append (λ d. nat_le round d.round) a b (round-least round a own.1) (rounds-later round b rest.1),
       )
 
+  -- what a script has due stands in order
   pub dues-rise : DuesRise (dues_of script)
   dues-rise = (rounds-from 1 script.rounds).0
 
 -- ---- a worker is asked upkeep alone
 
+-- what is due is a session's, or upkeep
 abbrev pub is_upkeep_due : Due → Bool
 is_upkeep_due due = not (is_worker due.who) || is_upkeep due.command
 
@@ -249,10 +255,12 @@ to-worker round w (asked ∷ commands) h =
     let parts = and_parts (is_upkeep asked) (list_all is_upkeep commands) h in
     and_from (is_upkeep asked) (list_all is_upkeep_due (dues_to round (Worker w) commands)) parts.0 (to-worker round w commands parts.1)
 
+-- a test that all of each list pass all of the joined lists pass
 pub all-flat : {X Y : Type 0} (p : Y → Bool) (f : X → List Y) → ((x : X) → list_all p (f x) ≡ true) → (xs : List X) → list_all p (flat_map f xs) ≡ true
 all-flat p f each [] = refl
 all-flat p f each (x ∷ xs) = all-append p (f x) (flat_map f xs) (each x) (all-flat p f each xs)
 
+-- whatever a script has due to a worker is upkeep
 pub dues-upkeep : (script : Script) → list_all is_upkeep_due (dues_of script) ≡ true
 dues-upkeep script =
     all-flat is_upkeep_due (λ entry. dues_in script entry.0 entry.1)

@@ -102,10 +102,6 @@ module _ (tables : List TableDecl) (may : List Entry → Due → Said → Bool)
 
 -- ---- the order
 
--- a reply is in front of, or with, what is due
-abbrev is_for : Due → Entry → Bool
-is_for due x = is_ahead_of x.reply.round x.reply.who due
-
 -- another of the same round and to the same one
 abbrev is_with : ℕ → Who → Entry → Bool
 is_with round who y = eqb y.reply.round round && is_same y.reply.who who

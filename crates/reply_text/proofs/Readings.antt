@@ -103,6 +103,7 @@ pub record IsHead (line : List ℕ) (head : Heading) : Type 0 where
   pub index : is_u64 head.index ≡ true
   pub text : line ≡ decimal head.round ++ 32 ∷ (who_text head.who ++ 32 ∷ (decimal head.index ++ 32 ∷ head.words))
 
+-- a head that is read is its text
 pub head_is : (line : List ℕ) (head : Heading) → head_in line ≡ Some head → IsHead line head
 head_is line head e =
     step (cut 32 line) _ head e (λ first c1 e1.
@@ -131,6 +132,7 @@ pub record SomeWords (words : List (List ℕ)) : Type 0 where
   pub others : List (List ℕ)
   pub is : words ≡ first ∷ others
 
+-- what is said has a word at least
 pub said_some : (tables : List TableDecl) (told : Said) → SomeWords (said_words tables told)
 said_some tables (said.At number) = record { first = _; others = _; is = refl }
 said_some tables said.InTransaction = record { first = _; others = _; is = refl }
@@ -159,6 +161,7 @@ said_some tables (said.Exported number rows batches frozen) = record { first = _
 said_some tables (said.Dirty key) = record { first = _; others = _; is = refl }
 said_some tables said.Memory = record { first = _; others = _; is = refl }
 
+-- a line is its head and its words, with a space between each two
 pub words_spaced : (round who index : List ℕ) (words : List (List ℕ)) → SomeWords words → spaced (round ∷ who ∷ index ∷ words) ≡ round ++ 32 ∷ (who ++ 32 ∷ (index ++ 32 ∷ spaced words))
 words_spaced round who index words some =
     ap (λ (ws : List (List ℕ)). spaced (round ∷ who ∷ index ∷ ws)) some.is ∙ ap (λ (ws : List (List ℕ)). round ++ 32 ∷ (who ++ 32 ∷ (index ++ 32 ∷ spaced ws))) (sym some.is)

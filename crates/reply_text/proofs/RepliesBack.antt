@@ -55,6 +55,7 @@ reply_parts tables reply fits =
 abbrev pub head_text : ℕ → Who → ℕ → List ℕ → List ℕ
 head_text round who index words = decimal round ++ 32 ∷ (who_text who ++ 32 ∷ (decimal index ++ 32 ∷ words))
 
+-- a head is read back from its text
 pub head_back : (round index : ℕ) (who : Who) (words : List ℕ) → is_u32 round ≡ true → is_who who ≡ true → is_u64 index ≡ true
     → head_in (head_text round who index words) ≡ Some (record { round = round; who = who; index = index; words = words })
 head_back round index who words a b c =
@@ -81,6 +82,7 @@ reply_lined tables reply =
     ∙ ap (λ (line : List ℕ). line ++ 10 ∷ lines_text (lines_behind reply.said))
     (words_spaced (decimal reply.round) (who_text reply.who) (decimal reply.index) (said_words tables reply.said) (said_some tables reply.said))
 
+-- a reply over tables is read back from its text
 pub reply_back : (tables : List TableDecl) (reply : ReplyLine) → are_tables tables ≡ true → is_reply tables reply ≡ true → reply_in tables (reply_text tables reply) ≡ Some reply
 reply_back tables reply are fits =
     let r = reply_parts tables reply fits in

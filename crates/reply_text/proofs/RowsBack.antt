@@ -20,6 +20,7 @@ use Rattle.reply_text.proofs.PieceLemmas.{gives}
 use Rattle.reply_text.proofs.RowLemmas.{first_line}
 use Rattle.reply_text.proofs.Spelled.{cells_back}
 
+-- the spelling of an integer has plain bytes alone
 pub integer_plain : (z : ℤ) → nat_lt (magnitude z) (2 ^ 64) ≡ true → list_all is_plain (signed_decimal z) ≡ true
 integer_plain (pos n) small = signed_plain (pos n) (ltb-true n (2 ^ 64) small)
 integer_plain (negsuc n) small = signed_plain (negsuc n) (ltb-true (n + 1) (2 ^ 64) small)
@@ -36,6 +37,7 @@ are_words : (cells : List Cell) → list_all is_cell cells ≡ true → AreWords
 are_words [] fit = tt
 are_words (cell ∷ cells) fit = let b = both (is_cell cell) (list_all is_cell cells) fit in (cell_word cell b.0, are_words cells b.1)
 
+-- a row is read back from its words
 pub row_back : (row : List Cell) → is_row row ≡ true → row_in (spaced (cell_words row)) ≡ Some row
 row_back [] fits = absurd cc
 row_back (key ∷ cells) fits = ap cells_in (words_apart (cell_text key) (cell_words cells) (are_words (key ∷ cells) fits)) ∙ cells_back (key ∷ cells) fits

@@ -29,12 +29,15 @@ use Rattle.reply_text.proofs.PieceLemmas.{gives, cut_back, plain_apart}
 use Rattle.reply_text.proofs.Spelled.{u64_back, u32_back, key_back}
 use Rattle.reply_text.proofs.RowsBack.{row_back, row_whole, lines_back}
 
+-- a number of 32 bits has at most 64
 pub u32_small : (n : ℕ) → is_u32 n ≡ true → n < 2 ^ 64
 u32_small n fits = let below : n < 2 ^ 32 = ltb-true n (2 ^ 32) fits in omega (arith, below)
 
+-- the digits of a number of 64 bits are plain bytes
 pub u64_plain : (n : ℕ) → is_u64 n ≡ true → list_all is_plain (decimal n) ≡ true
 u64_plain n fits = decimal_plain n (ltb-true n (2 ^ 64) fits)
 
+-- so are those of one of 32 bits
 pub u32_plain : (n : ℕ) → is_u32 n ≡ true → list_all is_plain (decimal n) ≡ true
 u32_plain n fits = decimal_plain n (u32_small n fits)
 
@@ -226,6 +229,7 @@ said_back tables said.Memory are fits = refl
 
 -- A reply's words stand on one line.
 
+-- plain bytes have no line feed among them
 pub plain_whole : (word : List ℕ) → list_all is_plain word ≡ true → is_whole word ≡ true
 plain_whole word plain = let w = plain_word word plain in w.whole
 
@@ -244,6 +248,7 @@ export_whole number rows batches frozen fits =
 u64_whole : (n : ℕ) → is_u64 n ≡ true → is_whole (decimal n) ≡ true
 u64_whole n fits = plain_whole (decimal n) (u64_plain n fits)
 
+-- the words of what is said stand on one line
 pub said_whole : (tables : List TableDecl) (told : Said) → are_tables tables ≡ true → is_said tables told ≡ true → is_whole (spaced (said_words tables told)) ≡ true
 said_whole tables (said.At number) are fits = u64_whole number fits
 said_whole tables said.InTransaction are fits = refl

@@ -202,9 +202,11 @@ row_by (word ∷ words) (cell ∷ cells) bytes e text some =
     let c = cells_are (word ∷ words) (cell ∷ cells) e in
     record { fits = c.fit; text = ap spaced c.text ∙ text; first = cell_text cell; others = cell_words cells; words = refl }
 
+-- a row that is read is its bytes
 pub row_is : (bytes : List ℕ) (row : List Cell) → row_in bytes ≡ Some row → IsRowOf row bytes
 row_is bytes row e = row_by (words_of bytes) row bytes e (line_joined bytes) (λ none. omega (arith, words_some AtStart bytes, ap length none))
 
+-- a row behind a front is the front, a space and its bytes
 pub row_words : (front : List ℕ) (row : List Cell) (bytes : List ℕ) → IsRowOf row bytes → spaced (front ∷ cell_words row) ≡ front ++ 32 ∷ bytes
 row_words front row bytes is = ap (λ (ws : List (List ℕ)). spaced (front ∷ ws)) is.words ∙ ap (λ (ws : List (List ℕ)). front ++ 32 ∷ spaced ws) (sym is.words) ∙ ap (λ (w : List ℕ). front ++ 32 ∷ w) is.text
 

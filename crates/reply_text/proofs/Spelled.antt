@@ -35,9 +35,11 @@ small_by (Some v) n e = by (is_small v) refl e
     by true s f = let same : v ≡ n = cc in (f, ap is_small (sym same) ∙ s)
     by false s f = absurd cc
 
+-- a number of 64 bits that is read is its word
 pub u64_is : (word : List ℕ) (n : ℕ) → u64_in word ≡ Some n → IsNumber n word (is_u64 n)
 u64_is word n e = let s = small_by (natural_of word) n e in record { text = spelled_as decimal word (value_of_digits word) n s.0; fits = s.1 }
 
+-- and is read back from its digits
 pub u64_back : (n : ℕ) → is_u64 n ≡ true → u64_in (decimal n) ≡ Some n
 u64_back n small = rw (natural_back n (ltb-true n (2 ^ 64) small), small) refl
 
@@ -49,17 +51,20 @@ within_by low high (Some v) n e = by (is_within low high v) refl e
     by true s f = let same : v ≡ n = cc in (f, ap (is_within low high) (sym same) ∙ s)
     by false s f = absurd cc
 
+-- a number of 32 bits that is read is its word
 pub u32_is : (word : List ℕ) (n : ℕ) → u32_in word ≡ Some n → IsNumber n word (is_u32 n)
 u32_is word n e =
     let s = within_by 0 (2 ^ 32 - 1) (natural_of word) n e in
     let most : n ≤ 2 ^ 32 - 1 = leb-true n (2 ^ 32 - 1) (both (nat_le 0 n) (nat_le n (2 ^ 32 - 1)) s.1).1 in
     record { text = spelled_as decimal word (value_of_digits word) n s.0; fits = lt-ltb n (2 ^ 32) (omega (arith, most)) }
 
+-- and is read back from its digits
 pub u32_back : (n : ℕ) → is_u32 n ≡ true → u32_in (decimal n) ≡ Some n
 u32_back n small =
     let below : n < 2 ^ 32 = ltb-true n (2 ^ 32) small in
     within_back 0 (2 ^ 32 - 1) n (omega (arith, below)) (joined (le-leb 0 n (omega arith)) (le-leb n (2 ^ 32 - 1) (omega (arith, below))))
 
+-- a key that is read is its word
 pub key_is : (word : List ℕ) (key : ℤ) → key_in word ≡ Some key → (signed_decimal key ≡ word) × (is_key_number key ≡ true)
 key_is word key e =
     step (integer_of word) _ key e (λ found is f.
@@ -74,6 +79,7 @@ integer_back : (z : ℤ) → nat_lt (magnitude z) (2 ^ 64) ≡ true → integer_
 integer_back (pos n) small = integer_of_back (pos n) (ltb-true n (2 ^ 64) small)
 integer_back (negsuc n) small = integer_of_back (negsuc n) (ltb-true (n + 1) (2 ^ 64) small)
 
+-- and is read back from its spelling
 pub key_back : (key : ℤ) → is_key_number key ≡ true → key_in (signed_decimal key) ≡ Some key
 key_back key is = rw (integer_back key (magnitude_small key is), is) refl
 
@@ -130,6 +136,7 @@ value_is word cell e = by (truth_of word) (text_of word) (blob_of word) refl ref
     by None None (Some bytes) a b c f = let same : Blob bytes ≡ cell = cc in let s = blob_is word bytes c in record { text = ap cell_text (sym same) ∙ s.text; fits = ap is_cell (sym same) ∙ s.fits }
     by None None None a b c f = number_is word cell f
 
+-- a cell that is read is its word
 pub cell_is : (word : List ℕ) (cell : Cell) → cell_in word ≡ Some cell → Spells word cell
 cell_is word cell e = by (bytes_eq word (codes "null")) refl e
   where
@@ -174,6 +181,7 @@ number_back : (z : ℤ) → nat_lt (magnitude z) (2 ^ 64) ≡ true → cell_in (
 number_back (pos n) small = digits_value (decimal n) (decimal_begins n (ltb-true n (2 ^ 64) small))
 number_back (negsuc n) small = refl
 
+-- a cell is read back from its text
 pub cell_back : (cell : Cell) → is_cell cell ≡ true → cell_in (cell_text cell) ≡ Some cell
 cell_back Null fits = refl
 cell_back (Num z) fits = number_back z fits ∙ rw (integer_back z fits, fits) refl
@@ -190,6 +198,7 @@ pub record SpellCells (words : List (List ℕ)) (cells : List Cell) : Type 0 whe
   pub text : cell_words cells ≡ words
   pub fit : list_all is_cell cells ≡ true
 
+-- cells that are read are their words
 pub cells_are : (words : List (List ℕ)) (cells : List Cell) → cells_in words ≡ Some cells → SpellCells words cells
 cells_are [] cells e = let same : [] ≡ cells = cc in record { text = ap cell_words (sym same); fit = ap (list_all is_cell) (sym same) }
 cells_are (word ∷ words) cells e =
@@ -203,6 +212,7 @@ cells_are (word ∷ words) cells e =
       fit = ap (list_all is_cell) (sym same) ∙ joined c.fits m.fit;
     }))
 
+-- and are read back from their texts
 pub cells_back : (cells : List Cell) → list_all is_cell cells ≡ true → cells_in (cell_words cells) ≡ Some cells
 cells_back [] fit = refl
 cells_back (cell ∷ cells) fit = let b = both (is_cell cell) (list_all is_cell cells) fit in rw (cell_back cell b.0, cells_back cells b.1) refl

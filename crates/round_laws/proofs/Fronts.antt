@@ -68,6 +68,7 @@ first_are session counts (line ∷ lines) =
         (λ own. subst (λ n. counts n ≡ 0) (own_is own) (let none : counts line.session ≡ 0 = grind (arith, nat_tests, e) in none))
         left
 
+-- The first lines of a round are the first of each session.
 pub first_lines_are_so : FirstLinesAreSo
 first_lines_are_so counts lines session = (
   drop (counts session) (lines_of session lines),
@@ -87,6 +88,7 @@ asked_of session (line ∷ lines) = go (line.session == session) (asked_of sessi
     go true rest = ap (λ (cs : List Command). line.command ∷ cs) rest
     go false rest = rest
 
+-- They ask each session its first so many commands.
 pub first_lines_ask : FirstLinesAsk
 first_lines_ask counts lines session =
     asked_of session (first_lines counts lines)
@@ -193,10 +195,12 @@ front_is script front rest split some whole =
       once = omega (arith, whole.once, counted, ap (count_by is_sent) all);
     }
 
+-- The first rounds of a workload are a workload.
 pub first_rounds_are_valid : FirstRoundsAreValid
 first_rounds_are_valid script first whole rest split valid =
     joined script (first ∷ whole) (front_is script (first ∷ whole) rest split (omega arith) (parted script valid))
 
+-- And so they are with first lines of the next round.
 pub fronts_are_valid : FrontsAreValid
 fronts_are_valid script counts round whole rest split valid =
     let kept : List Line = first_lines counts round in

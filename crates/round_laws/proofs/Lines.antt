@@ -13,6 +13,7 @@ use Rattle.run_spec.specs.Calls.{Call}
 use Rattle.run_spec.specs.Ran.{RoundRun}
 use Rattle.round_laws.specs.Lines.{RoundsGrow, SharesGrow, line_behind, line_of, lines_told, round_text, told_by}
 
+-- two lists in a row, numbered on
 pub enumerate_append : {X : Type 0} (n : ℕ) (xs ys : List X)
     → enumerate_from n (xs ++ ys) ≡ enumerate_from n xs ++ enumerate_from (n + length xs) ys
 enumerate_append n [] ys = ap (λ k. enumerate_from k ys) (let z : n ≡ n + 0 = omega arith in z)
@@ -49,12 +50,14 @@ module _ (tables : List TableDecl) (round : ℕ) (who : Who) (calls : List Call)
       ∙ flat_map-append (reply_text tables) (lines_told round who calls) (last ∷ [])
       ∙ ap (λ text. replies_text tables (lines_told round who calls) ++ text) (append-nil (reply_text tables last))
 
+-- With one call more a share's text grows by the call's line.
 pub shares_grow : SharesGrow
 shares_grow tables round who calls call =
     ap (λ all. replies_text tables (map (λ (entry : ℕ × Said). line_of round who entry.0 entry.1) (enumerate_from 1 all)))
     (filter_map-append (λ (call : Call). call.told) calls (call ∷ []))
     ∙ text_more tables round who calls call.told
 
+-- With one round more the text grows by the round's.
 pub rounds_grow : RoundsGrow
 rounds_grow tables number rounds round =
     let text : ℕ × RoundRun → List ℕ = λ entry. round_text tables entry.0 entry.1.shares in

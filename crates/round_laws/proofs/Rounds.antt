@@ -12,6 +12,7 @@ use Rattle.run_spec.specs.Ran.{Agenda, AreRounds, IsDone, IsOfScript, IsRound, R
 use Rattle.ran_laws.proofs.Meeting.{met_rounds_are_done}
 use Rattle.round_laws.specs.Rounds.{IsNamedIn, NothingRan, RoundsGoOn, made_in, round_behind}
 
+-- Before the first round nothing ran.
 pub nothing_ran : NothingRan
 nothing_ran script = record { lawful = tt; agendas = refl; parted = refl; done = tt }
 
@@ -81,10 +82,12 @@ made_append (first ∷ rounds) round =
     ap (λ (made : List Occurrence). first.made ++ made) (made_append rounds round)
     ∙ sym (append_assoc first.made (made_by rounds) round.made)
 
+-- a list with one element more, mapped
 pub map_last : {X Y : Type 0} (f : X → Y) (xs : List X) (x : X) → map f (xs ++ x ∷ []) ≡ map f xs ++ f x ∷ []
 map_last f [] x = refl
 map_last f (y ∷ xs) x = ap (λ ys. f y ∷ ys) (map_last f xs x)
 
+-- A further round in which all met extends the run.
 pub rounds_go_on : RoundsGoOn
 rounds_go_on script asked rounds finished now lines shares ran met =
     let shape = shape_of script in

@@ -196,6 +196,7 @@ all_text script earlier number (lines ∷ asked) (round ∷ rounds) e none =
     (λ q low. none number (who_at script q) (omega arith)))
     ∙ ap (λ text. round_text script.tables number round.shares ++ text) (all_text script (earlier ++ here) (number + 1) asked rounds rest later)
 
+-- The text that calls told is that of their lines.
 pub texts_are_lines : TextsAreLines
 texts_are_lines script asked rounds e =
     ap (text_at script.tables) (printed_are (with_rounds asked script) rounds e)
@@ -221,6 +222,7 @@ module _ (script : Script) (asked : List (List Line)) where
     rounds_done (front ++ round.made) rounds are.1,
   )
 
+-- The rounds that ran are a run of a script of just these rounds.
 pub rounds_ran : RoundsRan
 rounds_ran script asked rounds finished ran = record {
   ran = record {
@@ -269,17 +271,20 @@ shares_fit (share ∷ shares) all = fit_append (share_told share) (flat_map shar
     (calls_fit share.calls (All-head EachCounted share shares all))
     (shares_fit shares (All-tail EachCounted share shares all))
 
+-- No count that was told of a pruning is beyond 64 bits.
 pub counts_fit : CountsFit
 counts_fit [] all = λ count a. absurd a
 counts_fit (round ∷ rounds) all = fit_append (flat_map share_told round.shares) (told_in rounds)
     (shares_fit round.shares (All-head AreCounted round rounds all))
     (counts_fit rounds (All-tail AreCounted round rounds all))
 
+-- The text of the rounds that ran is explained, where these are a workload.
 pub rounds_are_explained : RoundsAreExplained
 rounds_are_explained script asked rounds finished valid ran counted =
     let run = rounds_ran script asked rounds finished ran in
     runs_are_explained (with_rounds asked script) finished (rounds_text script.tables 1 rounds) valid
     run.ran (subst (λ rounds. PruningsFit (told_in rounds)) (sym run.rounds_are) (counts_fit rounds counted))
 
+-- Of a workload without a round the empty text is explained.
 pub nothing_is_explained : NothingIsExplained
 nothing_is_explained script = record { forms = refl; replies = refl }

@@ -11,15 +11,18 @@ use Rattle.run_spec.specs.Ran.{session_of, shape_of}
 use Rattle.round_laws.proofs.Rounds.{left_by, occurrences_append}
 use Rattle.round_laws.specs.Working.{GoesOnFurther, NothingDone, WorkEnds, WorkGoesOn}
 
+-- A log that goes on twice goes on.
 pub further : GoesOnFurther
 further first second third a b = (
   a.0 ++ b.0,
   b.1 ∙ ap (λ (log : List Logged). log ++ b.0) a.1 ∙ append_assoc first a.0 b.0,
 )
 
+-- Before the first call of a round nothing was done.
 pub nothing_done : NothingDone
 nothing_done shape worker session seen = (([], sym (append-nil seen)), refl)
 
+-- One call more is one's work too.
 pub work_goes_on : WorkGoesOn
 work_goes_on shape worker session began seen new [] call works called = (
   new,
@@ -89,6 +92,7 @@ between shape session first met later a b same =
     ∙ ap (λ (made : List Occurrence). own_in shape session first ++ made) (none_of_none since more none)
     ∙ append-nil (own_in shape session first)
 
+-- Who works and then meets the others brings a share, and stands behind the round.
 pub work_ends : WorkEnds
 work_ends script finished began ended met later share stands works meets =
     let shape = shape_of script in

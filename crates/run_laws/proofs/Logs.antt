@@ -31,13 +31,16 @@ made_keeps sh s made shape ok lawful = go made.refused
     go true = ok
     go false = keeps sh s made.event shape ok lawful
 
+-- from a sound state a lawful log reaches a sound one
 pub reaches_from : (sh : Shape) (log : List Made) (s : Parts) → IsShape sh → Sound sh s → IsLawfulFrom sh s log → Sound sh (fold (after sh) s log)
 reaches_from sh [] s shape ok lawful = ok
 reaches_from sh (made ∷ log) s shape ok lawful = reaches_from sh log (after sh s made) shape (made_keeps sh s made shape ok lawful.0) lawful.2
 
+-- The opening core is sound.
 pub opens : Opens
 opens sh shape = sound sh shape
 
+-- Each state that a lawful log reaches is sound.
 pub reaches : Reaches
 reaches sh log shape lawful = reaches_from sh log (opening sh) shape (sound sh shape) lawful
 
@@ -68,6 +71,7 @@ module _ (sh : Shape) (s : Parts) (ok : Sound sh s) (m : IsolationMachine) (f : 
   memory_step (event.Image t b image) lawful takes = refl
   memory_step (event.Thaw t b) lawful takes = refl
 
+-- an event as it was made, be it refused for memory, is a step of the machine or none
 pub made_step : (sh : Shape) (s : Parts) (made : Made) (m : IsolationMachine) → IsShape sh → Sound sh s → FollowsMachine sh s m → IsLawful sh made.event s
     → (made.refused ≡ true → takes_memory made.event ≡ true)
     → (next : IsolationMachine) × IsStep (command_in made.event) m (reply_after sh s made) next × FollowsMachine sh (after sh s made) next
@@ -85,6 +89,7 @@ answered_from sh (made ∷ log) s m shape ok f lawful =
     let step = made_step sh s made m shape ok f lawful.0 lawful.1 in
     (step.0, step.1, answered_from sh log (after sh s made) step.0 shape (made_keeps sh s made shape ok lawful.0) step.2 lawful.2)
 
+-- The replies of a lawful log to its sessions' commands are the machine's.
 pub replies_as_the_machine : RepliesAsTheMachine
 replies_as_the_machine sh log shape lawful =
     answered_from sh log (opening sh) machine.opening shape (sound sh shape) (opening_follows sh shape) lawful

@@ -43,9 +43,6 @@ none_some x e = cc
 num_refl : (a : ℕ) → (a == a) ≡ true
 num_refl a = grind (arith, nat_tests)
 
-num_zero : (a : ℕ) → a ≡ 0 → (a == 0) ≡ true
-num_zero a e = grind (arith, nat_tests)
-
 and_self : (a b : Bool) → a ≡ true → b ≡ true → (a && b) ≡ true
 and_self true b x y = y
 and_self false b x y = cc
@@ -124,12 +121,15 @@ module _ (sh : Shape) (shape : IsShape sh) where
       go (inl is) = ap (λ o. candidates_of (shard_from o) key) is ∙ none
       go (inr is) = ap (λ o. candidates_of (shard_from o) key) is ∙ none
 
+  -- the desk at first
   abbrev pub new_desk : DeskState
   new_desk = record { newest = 0; commits = 0; open_snapshots = replicate sh.passes None }
 
+  -- it is the desk of the opening core
   pub desk : desk_at sh s ≡ new_desk
   desk = ap desk_from (part_there (opening_part sh) (names sh) TheDesk (desk_named sh))
 
+  -- no session has a snapshot there
   pub idle : (q : ℕ) → snapshot_of new_desk q ≡ None
   idle q = replicated sh.passes None (q - 1)
 
@@ -244,6 +244,7 @@ module _ (sh : Shape) (shape : IsShape sh) where
     follows = follows;
   }
 
+  -- The opening core is sound.
   pub sound : Sound sh (opening sh)
   sound = record {
     follows = (machine.opening, follows);

@@ -131,6 +131,7 @@ module _ (sh : Shape) (s : Parts) (own : OwnKey) (t : ℕ) (row : Row) (m : Isol
           apart : (x y : ℕ) → x ≢ y → (x == y) ≡ false
           apart x y ne = grind (arith, nat_tests)
 
+  -- an insert that is refused as full is one that the machine accepts and that finds no room
   pub full_from : (inserts : ℕ) → reply_to_write (insert_judged sh s own t (key_of row)) ≡ reply.Refused (Full inserts)
       → IsAccepted m command × HasNoRoom sh s own t × (inserts ≡ (head_at sh s t).inserts)
   full_from inserts is =
@@ -145,6 +146,7 @@ module _ (sh : Shape) (s : Parts) (own : OwnKey) (t : ℕ) (row : Row) (m : Isol
       why (inl e) = absurd (no_full (newer_by (slot_at sh s t) (places_at sh s t (key_of row)) own) (is_some (found sh s own t (key_of row))) inserts e)
       why (inr e) = (e.1, same (head_at sh s t).inserts inserts e.2)
 
+  -- and such an insert is refused as full
   pub full_back : (inserts : ℕ) → IsAccepted m command × HasNoRoom sh s own t × (inserts ≡ (head_at sh s t).inserts)
       → reply_to_write (insert_judged sh s own t (key_of row)) ≡ reply.Refused (Full inserts)
   full_back inserts given = go (insert_judged sh s own t (key_of row)) refl
@@ -193,6 +195,7 @@ module _ (sh : Shape) (s : Parts) (own : OwnKey) (t : ℕ) (row : Row) (m : Isol
           none_not p n = cc
       go (Err x) is = ap reply_to_write is ∙ by_fault x is
 
+-- An insert that the machine accepts is refused exactly where there is no room.
 pub full_exactly : FullExactly
 full_exactly sh s own t row m inserts shape ok lawful f = (full_from sh s own t row m shape ok lawful f inserts, full_back sh s own t row m shape ok lawful f inserts)
 
@@ -231,6 +234,7 @@ module _ (sh : Shape) (s : Parts) (own : OwnKey) (t : ℕ) (key : ℤ) (m : Isol
   abbrev change_fault : Option WriteFault
   change_fault = option_or (fault_of (newer_by (slot_at sh s t) (places_at sh s t key) own)) (cond (is_none (found sh s own t key)) (Some Missing) frozen)
 
+  -- a change that is refused as freezing is one that the machine accepts, of a sealed block's row
   pub freezes_from : (b g : ℕ) → reply_to_write (change_judged sh s own t key) ≡ reply.Refused (Freezing b g)
       → IsAccepted m change_command × IsSealedIn sh s t key b g
   freezes_from b g is =
@@ -254,6 +258,7 @@ module _ (sh : Shape) (s : Parts) (own : OwnKey) (t : ℕ) (key : ℤ) (m : Isol
           let by = frozen_by (block_of p) (body_at sh s t (block_of p)).phase b g (sym (ap (option_and_then (λ place. freezing_of (block_of place) (body_at sh s t (block_of place)).phase)) e) ∙ x) in
           record { place = p; current = e; block_is = by.0; sealed = ap (λ b. (body_at sh s t b).phase) by.0 ∙ by.1 }
 
+  -- and such a change is refused as freezing
   pub freezes_back : (b g : ℕ) → IsAccepted m change_command × IsSealedIn sh s t key b g → reply_to_write (change_judged sh s own t key) ≡ reply.Refused (Freezing b g)
   freezes_back b g given = go (change_judged sh s own t key) refl
     where
@@ -299,6 +304,7 @@ module _ (sh : Shape) (s : Parts) (own : OwnKey) (t : ℕ) (key : ℤ) (m : Isol
           (sym (ap (λ x. option_or (fault_of (newer_by (slot_at sh s t) (places_at sh s t key) own)) (cond (is_none (found sh s own t key)) (Some Missing) x)) frozen_is) ∙ fine))
       go (Err x) is = ap reply_to_write is ∙ by_fault x is
 
+-- A change that the machine accepts is refused exactly where its row's block is sealed.
 pub freezes_exactly : FreezesExactly
 freezes_exactly sh s own t m b g shape ok f = (
   λ row lawful.

@@ -78,6 +78,7 @@ module _ (table : ℕ) where
   some_same : (v w : Row) → Some v ≡ Some w → v ≡ w
   some_same v w e = cc
 
+  -- both maps have the same row at each key of the table
   abbrev pub Same : State → State → Type 0
   Same xs ys = (key : ℤ) → at_place xs (place_at table key) ≡ at_place ys (place_at table key)
 
@@ -159,9 +160,11 @@ module _ (table : ℕ) where
 
   -- ---- rows put at their places
 
+  -- a map with rows put into it, each at its key
   abbrev pub put : State → List Row → State
   put acc rows = fold (λ state row. insert_entry place_cmp state (place_of table row) row) acc rows
 
+  -- a map in order is in order after rows were put
   pub order_put : (rows : List Row) (acc : State) → InOrder acc → InOrder (put acc rows)
   order_put [] acc order = order
   order_put (row ∷ rows) acc order = order_put rows (insert_entry place_cmp acc (place_of table row) row) (order-insert acc (place_of table row) row order)
@@ -207,6 +210,7 @@ module _ (table : ℕ) where
       go true e = absurd (ne ((Decides-int_eq (key_of row) (key_of other)).0 e))
       go false e = e
 
+  -- rows with new keys add as many as they are
   pub put_count : (rows : List Row) (acc : State) → Fresh rows
       → ((row : Row) → Among row rows → at_place acc (place_of table row) ≡ None)
       → length (contents_of table (put acc rows)) ≡ length (contents_of table acc) + length rows

@@ -43,6 +43,7 @@ least a zero k h = absurd h
 least a (suc n) k (inl e) = omega (arith, e)
 least a (suc n) k (inr h) = let low = least (a + 1) n k h in omega (arith, low)
 
+-- a block that a table may have is there
 pub within : (sh : Shape) (t b : ℕ) → b < blocks_of sh t → HasBlock sh t b
 within sh t b less = (go (nat_lt t (length sh.tables)) refl, less)
   where
@@ -168,6 +169,7 @@ module _ (sh : Shape) (s : Parts) (own : OwnTransaction) (t : ℕ) (m : Isolatio
           let r = seen_read key row is in
           inr (row, r.0, is_place-of t key row ∙ (Decides-int_eq (key_of row) key).1 r.1)
 
+  -- The rows read in all blocks are those that the machine's transaction sees, each read once.
   pub scan : IsTheScan sh s own t m open'
   scan =
       let rows = same_contents t (put t [] (all_read sh s own t)) (seen_rows m open') (order_put t (all_read sh s own t) [] tt) order same in
@@ -175,5 +177,6 @@ module _ (sh : Shape) (s : Parts) (own : OwnTransaction) (t : ℕ) (m : Isolatio
       let both = ap length rows in
       record { rows = rows; count = omega (arith, count, both) }
 
+-- And so they are wherever the parts follow the machine.
 pub reads_are_the_scan : ReadsAreTheScan
 reads_are_the_scan sh s own t m open' shape ok owns f is_open = scan sh s own t m open' shape ok owns f is_open

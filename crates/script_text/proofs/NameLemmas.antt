@@ -13,11 +13,13 @@ from_viewed view name (x ∷ xs) i =
     ap (λ (b : Bool). cond b (Some i) (position_from (λ own. bytes_eq own name) (i + 1) (map view xs))) (bytes_eq-sym (view x) name)
     ∙ ap (λ (o : Option ℕ). cond (bytes_eq name (view x)) (Some i) o) (from_viewed view name xs (i + 1))
 
+-- a name's place is that of the value that has it
 pub position_viewed : {X : Type 0} (view : X → List ℕ) (name : List ℕ) (xs : List X)
     → position (λ own. bytes_eq own name) (map view xs) ≡ position (λ x. bytes_eq name (view x)) xs
 position_viewed view name xs =
     position_from-zero (λ (own : List ℕ). bytes_eq own name) (map view xs) ∙ from_viewed view name xs 0 ∙ sym (position_from-zero (λ x. bytes_eq name (view x)) xs)
 
+-- and a name is there where some value has it
 pub any_viewed : {X : Type 0} (view : X → List ℕ) (name : List ℕ) (xs : List X)
     → list_any (λ own. bytes_eq own name) (map view xs) ≡ list_any (λ x. bytes_eq name (view x)) xs
 any_viewed view name [] = refl
@@ -31,11 +33,13 @@ from_named : {X : Type 0} (view : X → List ℕ) (name : List ℕ) (xs : List X
 from_named view name [] i = refl
 from_named view name (x ∷ xs) i = ap (λ (o : Option ℕ). cond (bytes_eq (view x) name) (Some i) o) (from_named view name xs (i + 1))
 
+-- the same of its place, where the value's name is compared first
 pub position_named : {X : Type 0} (view : X → List ℕ) (name : List ℕ) (xs : List X)
     → position (λ own. bytes_eq own name) (map view xs) ≡ position (λ x. bytes_eq (view x) name) xs
 position_named view name xs =
     position_from-zero (λ (own : List ℕ). bytes_eq own name) (map view xs) ∙ from_named view name xs 0 ∙ sym (position_from-zero (λ x. bytes_eq (view x) name) xs)
 
+-- and the same of whether it is there
 pub any_named : {X : Type 0} (view : X → List ℕ) (name : List ℕ) (xs : List X)
     → list_any (λ own. bytes_eq own name) (map view xs) ≡ list_any (λ x. bytes_eq (view x) name) xs
 any_named view name [] = refl

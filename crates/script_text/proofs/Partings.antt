@@ -23,6 +23,7 @@ pub record Passed (bytes rest : List ℕ) : Type 0 where
   pub lines : parts line_feed before ≡ front ++ [] ∷ []
   pub none : list_any (λ line. bytes_eq line parting) front ≡ false
 
+-- at first no line has been passed
 pub nothing_passed : (bytes : List ℕ) → Passed bytes bytes
 nothing_passed bytes = record { front = []; before = []; text = refl; lines = refl; none = refl }
 

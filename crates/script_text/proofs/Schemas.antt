@@ -49,6 +49,7 @@ name_is (first ∷ rest) is =
     let b = both (is_lower_case first) (list_all is_name_byte rest) a.0 in
     (rw (b.0) b.1, omega (arith, ltb-true (length rest) 32 a.1))
 
+-- where all names pass the test, each is a name
 pub all_named : (columns : List Column) → list_all (λ column. is_name column.name) columns ≡ true → All IsName columns
 all_named [] all = All-nil IsName
 all_named (column ∷ columns) all =
@@ -65,6 +66,7 @@ pub record MakesSchema (columns : List Column) : Type 0 where
   pub named : AreNamed columns
   pub sound : schema_fault columns ≡ None
 
+-- columns that are read make a schema
 pub columns_make : (extent : Extent) (words : List (List ℕ)) (read : List Column × List (List ℕ)) → is_extent extent ≡ true → columns_from extent (key_column ∷ []) words ≡ Ok read → MakesSchema read.0
 columns_make extent words read is e =
     let b = bounds extent is in

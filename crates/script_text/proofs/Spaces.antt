@@ -12,6 +12,7 @@ use Rattle.script_text.specs.Rounds.{rounds_behind}
 use Rattle.word_text.specs.Words.{behind_spaces}
 use Rattle.word_text.proofs.Spaces.{spaced_first, behind_spaces-append}
 
+-- the text of two lists of lines in a row
 pub lines-append : (lines more : List (List ℕ)) → lines_text (lines ++ more) ≡ lines_text lines ++ lines_text more
 lines-append lines more = flat_map-append (λ (line : List ℕ). line ++ line_feed ∷ []) lines more
 
@@ -21,6 +22,7 @@ rounds_first tables round [] = sym (append-nil (lines_text (map (line_text table
 rounds_first tables round (next ∷ rounds) = lines-append (map (line_text tables) round) (codes "--" ∷ round_lines tables (next ∷ rounds))
     ∙ ap (λ (text : List ℕ). lines_text (map (line_text tables) round) ++ (codes "--\n" ++ text)) (rounds_first tables next rounds)
 
+-- the text of rounds is that of the first one's lines, and those of the others behind it
 pub rounds_split : (tables : List TableDecl) (rounds : List (List Line)) (first : List Line) (others : List (List Line)) → 0 < length rounds → first ≡ get_or rounds 0 first → others ≡ drop 1 rounds
     → lines_text (round_lines tables rounds) ≡ lines_text (map (line_text tables) first) ++ rounds_behind tables others
 rounds_split tables [] first others some head rest = absurd (omega (arith, some))

@@ -22,6 +22,7 @@ none_from : {X : Type 0} (p : X → Bool) (xs : List X) (i : ℕ) → is_none (p
 none_from p [] i = refl
 none_from p (x ∷ xs) i = none_by p (p x) refl x xs i (none_from p xs (i + 1))
 
+-- a name has no place among the columns where none of them has it
 pub taken_name : (name : List ℕ) (columns : List Column) → is_none (place_of_name name columns) ≡ not (list_any (λ column. bytes_eq column.name name) columns)
 taken_name name columns = ap is_none (position_from-zero (λ (column : Column). bytes_eq column.name name) columns) ∙ none_from (λ (column : Column). bytes_eq column.name name) columns 0
 
@@ -30,10 +31,12 @@ pub no_kind : (extent : Extent) (columns : List Column) (word : List ℕ) → is
     → kind_of (after_colon word) ≡ None → column_of extent columns word ≡ Err cause.Kind
 no_kind extent columns word named own kind = rw (named, taken_name (before_colon word) columns, own, kind) refl
 
+-- a column more than there may be is a fault
 pub no_room : (extent : Extent) (columns : List Column) (word : List ℕ) (kind : Kind × Bool) → is_name (before_colon word) ≡ true → list_any (λ column. bytes_eq column.name (before_colon word)) columns ≡ false
     → kind_of (after_colon word) ≡ Some kind → extent.columns ≤ length columns → column_of extent columns word ≡ Err cause.Columns
 no_room extent columns word kind named own known full = rw (named, taken_name (before_colon word) columns, own, known, le-ltb (length columns) extent.columns full) refl
 
+-- a column's word with a new name and a kind is a column
 pub column_read : (extent : Extent) (columns : List Column) (word : List ℕ) (kind : Kind × Bool) → is_name (before_colon word) ≡ true → list_any (λ column. bytes_eq column.name (before_colon word)) columns ≡ false
     → kind_of (after_colon word) ≡ Some kind → length columns < extent.columns → column_of extent columns word ≡ Ok (record { name = before_colon word; kind = kind.0; nullable = kind.1 })
 column_read extent columns word kind named own known room = rw (named, taken_name (before_colon word) columns, own, known, lt-ltb (length columns) extent.columns room) refl
@@ -42,6 +45,7 @@ chosen : {A B : Type 0} (b : Bool) (r : Result A Cause) (value : A) (next : A �
 chosen true r value next stop e f = rw f refl
 chosen false r value next stop e f = absurd cc
 
+-- a column's word among the words adds its column
 pub columns_step : (extent : Extent) (columns : List Column) (words : List (List ℕ)) (word : List ℕ) (behind : List (List ℕ)) (column : Column) → words ≡ word ∷ behind → has_colon word ≡ true → column_of extent columns word ≡ Ok column
     → columns_from extent columns words ≡ columns_from extent (columns ++ column ∷ []) behind
 columns_step extent columns words word behind column first colon read = ap (columns_from extent columns) first ∙ chosen (has_colon word) (column_of extent columns word) column (λ (made : Column). columns_from extent (columns ++ made ∷ []) behind) (Ok (columns, word ∷ behind)) colon read
@@ -51,6 +55,7 @@ pub no_column : (names : List (List ℕ)) (columns : List Column) (name : List �
     → list_any (λ column. bytes_eq column.name name) columns ≡ list_any (λ own. bytes_eq own name) names
 no_column names columns name are = sym (any_named (λ (column : Column). column.name) name columns) ∙ ap (list_any (λ own. bytes_eq own name)) (sym are)
 
+-- a name that a column has already is a fault
 pub twice_taken : (extent : Extent) (columns : List Column) (word : List ℕ) → is_name (before_colon word) ≡ true → list_any (λ column. bytes_eq column.name (before_colon word)) columns ≡ true
     → column_of extent columns word ≡ Err cause.Twice
 twice_taken extent columns word named taken = rw (named, taken_name (before_colon word) columns, taken) refl

@@ -81,6 +81,7 @@ module _ (sh : Shape) (s : Parts) (ok : Sound sh s) (own : OwnTransaction) (t b 
       go None fits = tt
       go (Some row) fits = two (is_elsewhere (at_place own.writes (place_at t (key_of row))) place) row fits
 
+  -- the rows that a read of a block tells fit the table's columns
   pub block_fits : HasBlock sh t b → All (Fits columns) (rows_told (reply_to_read sh s own t b))
   block_fits has = go (is_imaged (body_at sh s t b).phase)
     where
@@ -97,6 +98,7 @@ module _ (sh : Shape) (s : Parts) (ok : Sound sh s) (own : OwnTransaction) (t b 
       go true = image
       go false = rows
 
+  -- a read of a block tells no more rows than the block has slots
   pub block_few : HasBlock sh t b → length (rows_told (reply_to_read sh s own t b)) ≤ slots_of sh t
   block_few has = go (is_imaged (body_at sh s t b).phase)
     where
@@ -126,6 +128,7 @@ holds_front sh s (made ∷ front) more holds lawful = holds_front sh (after sh s
     kept true = holds
     kept false = core_kept sh made.event s holds lawful.0
 
+-- in front of the last entry of a lawful log, what is asked of a core holds
 pub holds_before : (sh : Shape) (before : List Logged) (entry : Logged) (log : List Logged) → CoreHolds sh (opening sh) → log ≡ before ++ entry ∷ [] → IsLawfulLog sh (made_in log)
     → CoreHolds sh (parts_after sh before)
 holds_before sh before entry log first is lawful = holds_front sh (opening sh) (made_in before) (entry.made ∷ []) first
@@ -141,6 +144,7 @@ told_fits sh s ok own t b told has (inl is) =
 told_fits sh s ok own t b told has (inr is) =
     subst (λ (r : CoreReply). All (Fits (columns_in sh t)) (rows_told r) × (length (rows_told r) ≤ slots_of sh t)) (sym is) (block_fits sh s ok own t b has, block_few sh s ok own t b has)
 
+-- a read that was made alone has read its block, and the session has open what it had
 pub read_done : (store : StoreView) (s new : Session) (own : OwnTransaction) (t b : ℕ) (told : CoreReply)
     → IsSession store s → HasBlock (shape_in store) t b
     → Makes store s.session s.pass.seat new.pass.seat new.pass.hands (own_of s) (event.Read own t b) told

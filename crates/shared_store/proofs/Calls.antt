@@ -23,7 +23,6 @@ use Rattle.event_spec.specs.Replies.{reply_to}
 use Rattle.event_spec.specs.declared.own.OwnKey.{OwnKey}
 use Rattle.hall_rule.specs.EventLog.{has}
 use Rattle.txn_desk.specs.declared.Snapshot.{Snapshot}
-use Rattle.hall_rule.proofs.Logs.{has_head}
 use Rattle.own_laws.proofs.Going.{keys}
 use Rattle.own_laws.specs.Laws.{HasOpened}
 use Rattle.run_spec.specs.Opened.{own_behind, own_key}
@@ -39,6 +38,7 @@ use Rattle.store_laws.proofs.Calling.{single_events_are_calls}
 
 -- a call without an event, of one whose own stays
 module _ (shape : Shape) (session : ℕ) (old : List Logged) (own : Option OwnTransaction) (own_is : own ≡ own_after (own_in shape session old)) where
+  -- a command that is refused is a call without an event
   pub refused_call : (command : Command) (line : Said) → refusal_of command own ≡ Some line
       → Called shape false session old old (record { command = command; made = []; told = Some line })
   refused_call command line refused = record {
@@ -122,18 +122,12 @@ may_make store s e is room mine stands fits = record {
   few = omega (arith, room);
 }
 
--- A begin stands where nothing is open.
-pub begin_stands : (store : StoreView) (s : Session) → IsSession store s → own_of s ≡ None → Stands (shape_in store) (event.Begin s.session) (parts_seen (shape_in store) s.pass.seat.me.0)
-begin_stands store s is none' = (
-  is.stands.within.pass.of.1.tied.within s.session (ap (has s.session) is.stands.within.knows.sessions ∙ has_head s.session []),
-  subst (HasOpened (shape_in store) (parts_seen (shape_in store) s.pass.seat.me.0) s.session) none' is.stands.within.knows.opened,
-)
-
 -- What is open is what its session's events are handed.
 pub own_stands : (store : StoreView) (s : Session) (own : OwnTransaction) → IsSession store s → own_of s ≡ Some own
     → (own.session ≡ s.session) × OwnsAll (shape_in store) own (parts_seen (shape_in store) s.pass.seat.me.0)
 own_stands store s own is some' = subst (HasOpened (shape_in store) (parts_seen (shape_in store) s.pass.seat.me.0) s.session) some' is.stands.within.knows.opened
 
+-- what is open for a key is what its session's events on the key are handed
 pub key_stands : (store : StoreView) (s : Session) (own : OwnTransaction) (table : ℕ) (key : ℤ) → IsSession store s → own_of s ≡ Some own
     → OwnsKey (shape_in store) (own_key table key own) table key (parts_seen (shape_in store) s.pass.seat.me.0)
 key_stands store s own table key is some' = keys (shape_in store) (parts_seen (shape_in store) s.pass.seat.me.0) own table key (own_stands store s own is some').1
@@ -156,6 +150,7 @@ own_open s open' = go (own_of s) open'
     go None h = absurd (true≢false (sym h))
     go (Some t) h = (t, refl)
 
+-- a session without a snapshot has nothing open
 pub none_open : (s : Session) → is_some s.snapshot ≡ false → own_of s ≡ None
 none_open s shut = go s.snapshot shut
   where

@@ -1,5 +1,5 @@
 -- A change of a row: on the parts that its pass holds, with these parts, and as a call.
-use Rattle.std.proofs.Common.{◌≡◌, ◌⊎◌, ℕ, ℤ, ◌<◌, Bool, true, false, not, ◌||◌, ◌&&◌, List, [], ◌∷◌, ◌++◌, Option, None, Some, length, map, refl, sym, ap, subst, ◌∙◌, append-nil, append_assoc, true≢false, arith}
+use Rattle.std.proofs.Common.{◌≡◌, ◌⊎◌, ℕ, ℤ, Bool, true, false, not, ◌||◌, ◌&&◌, List, [], ◌∷◌, ◌++◌, Option, None, Some, length, map, refl, sym, ap, subst, ◌∙◌, append-nil, append_assoc, true≢false, arith}
 use mathlib.Core.Logic.{inl, inr}
 use Rattle.std.specs.Prelude.{fold, option_and_then, option_to_list}
 use Rattle.engine_core.specs.Asks.{HasKeyParts, IsOfCore}
@@ -60,21 +60,23 @@ module _ (store : StoreView) (session : ℕ) (t : SeatView) (hands : HandsView) 
     abbrev now : Parts
     now = parts_seen shape t.me.0
 
-    pub one_here : 0 < length hands
-    one_here = let count = within.pass.count in let one = one_hand store session t hands own within in omega (arith, count, one)
-
+    -- the parts in the hand are those that the pass's log leaves
     pub agrees_here : Agrees (first_of hands) now
     agrees_here = agrees_with store t hands within.pass (one_hand store session t hands own within)
 
+    -- the parts in the hand are those of a core that holds
     pub core_here : IsOfCore shape (first_of hands)
     core_here = record { parts = now; holds = within.pass.of.1.sound; agrees = agrees_here }
 
+    -- with the parts of the change those of a get of its row are held
     pub get_covered : Covers (touching shape (event.Get change.handed place.table place.key)) (first_of hands)
     get_covered = covers_same shape write (event.Get change.handed place.table place.key) (first_of hands) change.touches covers
 
+    -- the hand has what tells where the row lies
     pub row_here : HasKeyParts shape (first_of hands) place.table place.key
     row_here = row_parts shape (first_of hands) now agrees_here change.handed place.table place.key get_covered within.pass.of.1.sound change.table
 
+    -- the write may be made where the row's block is not imaged
     pub may_write : IsThawed shape place.table place.key now → IsFew t.me.0 → MayMakeHeld store t hands write
     may_write thawed few = record {
       session = session;
@@ -87,6 +89,7 @@ module _ (store : StoreView) (session : ℕ) (t : SeatView) (hands : HandsView) 
       few = few;
     }
 
+    -- the row's imaged block may be thawed on the parts that are held
     pub may_thaw : (b : ℕ) → imaged_block shape place.table place.key now ≡ Some b → IsFew t.me.0 → MayMakeHeld store t hands (event.Thaw place.table b)
     may_thaw b is few = record {
       session = session;
@@ -123,9 +126,11 @@ module _ (store : StoreView) (session : ℕ) (t u : SeatView) (hands later : Han
         ∙ parts_on (shape_in store) (opening (shape_in store)) n.makes.before (entry_of session (event.Thaw place.table b) thaw_told)
         ∙ ap (λ r. after (shape_in store) before (record { event = event.Thaw place.table b; refused = r })) granted
 
+    -- behind the thaw the row's block is not imaged, as the pass sees it
     pub thawed_now : IsThawed (shape_in store) place.table place.key (parts_seen (shape_in store) u.me.0)
     thawed_now = subst (IsThawed (shape_in store) place.table place.key) (sym behind_is) (thawed_behind (shape_in store) before place.table b place.key is)
 
+    -- the parts of the change are held behind the thaw still
     pub covered_still : Covers (touching (shape_in store) write) (first_of later)
     covered_still = covers_same (shape_in store) (event.Get change.handed place.table place.key) write (first_of later) (λ held name. sym (change.touches held name))
         (still_covered (shape_in store) (first_of hands) (first_of later) before (parts_seen (shape_in store) u.me.0)
@@ -244,6 +249,7 @@ took_wider _ more events old new taken later took = record {
       record { event = t.event; is_one = in_right more events t.event t.is_one; log = t.log; saw = t.saw; left = t.left; touches = t.touches };
 }
 
+-- a change is whole once its parts were taken, it was made on them, and they were given back
 pub changed_whole : (store : StoreView) (session : ℕ) (s t u w : SeatView) (hands later ended : HandsView) (own : Option OwnTransaction) (place : Place) (write : CoreEvent) (told : CoreReply)
     → Takes store session s t hands own write → ChangesHeld store session t u later own place write told → Gives store session u w ended (own_behind own write told)
     → Changes store session s w ended own place write told
@@ -338,6 +344,7 @@ module _ (store : StoreView) (s : Session) (own : OwnTransaction) (is : IsSessio
   abbrev st : Shape
   st = shape_in store
 
+  -- an update is a change of its row
   pub update_changes : (table : ℕ) (row : Row) → HasTable st table → FitsTable st table row
       → IsChangeOf st s.session (own_of s) (place_of table row) (event.Update (own_key table (key_of row) own) table row)
   update_changes table row has fits = record {
@@ -354,6 +361,7 @@ module _ (store : StoreView) (s : Session) (own : OwnTransaction) (is : IsSessio
     behind = λ told. refl;
   }
 
+  -- a delete is a change of its key's row
   pub delete_changes : (table : ℕ) (key : ℤ) → HasTable st table
       → IsChangeOf st s.session (own_of s) (place_at table key) (event.Delete (own_key table key own) table key)
   delete_changes table key has = record {
@@ -370,6 +378,7 @@ module _ (store : StoreView) (s : Session) (own : OwnTransaction) (is : IsSessio
     behind = λ told. refl;
   }
 
+  -- the command to update is this change, with its events and its line
   pub update_by : (table : ℕ) (row : Row)
       → IsChangeBy st s.session (own_of s) (place_of table row) (event.Update (own_key table (key_of row) own) table row) (command.Update table row)
   update_by table row = record {
@@ -379,6 +388,7 @@ module _ (store : StoreView) (s : Session) (own : OwnTransaction) (is : IsSessio
     line = λ replies. refl;
   }
 
+  -- the command to delete is this change, with its events and its line
   pub delete_by : (table : ℕ) (key : ℤ)
       → IsChangeBy st s.session (own_of s) (place_at table key) (event.Delete (own_key table key own) table key) (command.Delete table key)
   delete_by table key = record {

@@ -128,6 +128,7 @@ module _ (store : StoreView) (t : ℕ) where
 
   -- ---- looks one after another
 
+  -- before the first block nothing was looked at
   pub looks_begin : (s : Session) → IsSession store s → Looks store s s t 0 []
   looks_begin s is = sweeps_nothing store asked (HaveLooked []) s is (record { looks_are = refl; unmoved = refl })
 
@@ -148,6 +149,7 @@ module _ (store : StoreView) (t : ℕ) where
       last : Occurrence
       last = occurrence_at session parts (looking t k) (reply.Looked look)
 
+  -- one block more was looked at, and what was seen of it stands behind the rest
   pub looks_on : (first mid new : Session) (k : ℕ) (look : Look) (looks : List BlockLook) → Looks store first mid t k looks → MakesAlone store mid new (looking t k) (reply.Looked look)
       → k < blocks_of sh t → Looks store first new t (k + 1) (looks ++ look_of k look ∷ [])
   looks_on first mid new k look looks s m lt =
@@ -221,6 +223,7 @@ module _ (store : StoreView) (t : ℕ) where
       events : events_in made ≡ asked ++ move ∷ []
       events = map-append (λ (o : Occurrence). o.event) s.made (last ∷ []) ∙ ap (λ (es : List CoreEvent). es ++ move ∷ []) s.events_are
 
+      -- a compaction whose move was made answers with how many rows moved
       pub moved : (count : ℕ) → told ≡ reply.Moved count → Answers store old new (Compact t) (said.Moved count)
       moved count told_is = went_call store old new (Compact t) (asked ++ move ∷ []) made (said.Moved count) is went asks refl (inl (record {
         events = events ∙ sym asks;
@@ -246,6 +249,7 @@ module _ (store : StoreView) (t : ℕ) where
         line = refl;
       }))
 
+  -- a compaction whose moves were planned and made answers with what came of the move
   pub compacted : {E : Type 0} (old mid new : Session) (pairs : List MovePair) (result : Result ℕ E) → IsSession store old → PlansMoves store old mid t pairs → MovesRows store mid new t pairs result
       → Answers store old new (Compact t) (compacted_told result)
   compacted {E = E} old mid new [] result is p m =
@@ -256,13 +260,16 @@ module _ (store : StoreView) (t : ℕ) where
 
 -- ---- the numbers of what was seen
 
+-- the numbers of the blocks that were looked at
 abbrev pub blocks_in : List BlockLook → List ℕ
 blocks_in looks = map (λ (look : BlockLook). look.block) looks
 
+-- one look more adds the next block's number
 pub blocks_added : (n : ℕ) (look : Look) (looks : List BlockLook) → blocks_in looks ≡ below n → blocks_in (looks ++ look_of n look ∷ []) ≡ below (n + 1)
 blocks_added n look looks is =
     map-append (λ (look : BlockLook). look.block) looks (look_of n look ∷ []) ∙ ap (λ (bs : List ℕ). bs ++ n ∷ []) is ∙ sym (below_more n)
 
+-- the blocks that were looked at one after another have rising numbers
 pub blocks_rise : (n : ℕ) (looks : List BlockLook) → blocks_in looks ≡ below n → AreAscending looks
 blocks_rise n looks is = subst (λ (bs : List ℕ). AllPairs (λ one other. one < other) bs) (sym is) (range_rises n)
 
@@ -272,6 +279,7 @@ all_added : {X : Type 0} (P : X → Type 0) (xs : List X) (x : X) → All P xs �
 all_added P [] x all here = All-cons P x [] here all
 all_added P (y ∷ ys) x all here = All-cons P y (ys ++ x ∷ []) (All-head P y ys all) (all_added P ys x (All-tail P y ys all) here)
 
+-- each look is one event
 pub looks_count : (store : StoreView) (t k : ℕ) (old new : Session) (looks : List BlockLook) → Looks store old new t k looks → events_made new ≡ events_made old + k
 looks_count store t k old new looks s =
     let a : length (events_in s.made) ≡ length s.made = length-map s.made (λ (o : Occurrence). o.event) in
@@ -281,6 +289,7 @@ looks_count store t k old new looks s =
     let n = s.went.count in
     omega (arith, a, b, c, d, n)
 
+-- a table whose blocks were all looked at has the plan of what was seen, or memory lacked
 pub planned : {E : Type 0} (store : StoreView) (t : ℕ) (old new : Session) (looks : List BlockLook) (result : Result (List MovePair) E) → IsSession store old → HasTable (shape_in store) t
     → slots_of (shape_in store) t ≤ 2 ^ 15 → Looks store old new t (blocks_of (shape_in store) t) looks → All (IsLookAt (shape_in store) t) looks
     → blocks_in looks ≡ below (blocks_of (shape_in store) t) → IfOk result (λ pairs. pairs ≡ plan_of looks) → PlansTable store old new t result
@@ -297,32 +306,39 @@ pub unplanned : {E : Type 0} (store : StoreView) (old new : Session) (t : ℕ) (
 unplanned store old new t (Ok pairs) is lost = absurd (never is)
 unplanned store old new t (Err memory) is lost = lost
 
+-- a compaction without an answer is told as want of memory
 pub uncompacted : {E : Type 0} (r : Result ℕ E) → IsErr r → compacted_told r ≡ said.Memory
 uncompacted (Ok count) is = absurd (never is)
 uncompacted (Err memory) is = refl
 
 -- ---- what moves
 
+-- a plan that tests as empty has no move
 pub no_pairs : (pairs : List MovePair) (none' : Bool) → none' ≡ (length pairs == 0) → none' ≡ true → length pairs ≡ 0
 no_pairs pairs none' is tells = eqb-true (length pairs) 0 (sym is ∙ tells)
 
+-- a plan that does not test as empty has a move
 pub some_pairs : (pairs : List MovePair) (none' : Bool) → none' ≡ (length pairs == 0) → none' ≡ false → length pairs ≡ 0 → ⊥
 some_pairs pairs none' is tells empty = true≢false (sym (eq-eqb (length pairs) 0 empty) ∙ sym is ∙ tells)
 
+-- where nothing is to be moved, nothing was done
 pub moves_none : (store : StoreView) (s : Session) (t : ℕ) (E : Type 0) (pairs : List MovePair) → length pairs ≡ 0 → MovesRows {E = E} store s s t pairs (Ok 0)
 moves_none store s t E [] none' = (refl, refl)
 moves_none store s t E (pair ∷ pairs) none' = absurd (omega (arith, none'))
 
+-- where something is to be moved, it was moved by one event
 pub moves_some : {E : Type 0} (store : StoreView) (old new : Session) (t : ℕ) (pairs : List MovePair) (result : Result ℕ E) → (length pairs ≡ 0 → ⊥)
     → MakesAlone store old new (event.Move t pairs) (move_reply result) → MovesRows store old new t pairs result
 moves_some store old new t [] result some alone = absurd (some refl)
 moves_some store old new t (pair ∷ pairs) result some alone = alone
 
+-- behind the moves it is the same session of the store
 pub moves_session : {E : Type 0} (store : StoreView) (old new : Session) (t : ℕ) (pairs : List MovePair) (result : Result ℕ E) → IsSession store old → MovesRows store old new t pairs result
     → IsSession store new × (new.session ≡ old.session)
 moves_session store old new t [] result is m = (subst (IsSession store) (sym m.0) is, ap (λ (s : Session). s.session) m.0)
 moves_session store old new t (pair ∷ pairs) result is m = (m.session, m.same)
 
+-- the moves make one event at most
 pub moves_few : {E : Type 0} (store : StoreView) (old new : Session) (t : ℕ) (pairs : List MovePair) (result : Result ℕ E) → MovesRows store old new t pairs result → MakesAtMost 1 old new
 moves_few store old new t [] result m = let same = ap (λ (s : Session). events_made s) m.0 in omega (arith, same)
 moves_few store old new t (pair ∷ pairs) result m = let one = m.makes.count in omega (arith, one)

@@ -55,15 +55,19 @@ module _ (store : StoreView) (t : SeatView) (hands : HandsView) (table block : �
   abbrev now : Parts
   now = parts_seen (shape_in store) t.me.0
 
+  -- the parts in the hand are those that the pass's log leaves
   pub agrees_now : Agrees (first_of hands) now
   agrees_now = agrees_with store t hands may.within.pass (one_hand store may.session t hands may.own may.within)
 
+  -- the parts in the hand are those of a core that holds
   pub core_here : IsOfCore (shape_in store) (first_of hands)
   core_here = record { parts = now; holds = may.within.pass.of.1.sound; agrees = agrees_now }
 
+  -- the block's body is in the hand
   pub has_body : Has (shape_in store) (first_of hands) (BodyOf table block)
   has_body = body_here (shape_in store) (first_of hands) now table block may.covers agrees_now may.within.pass.of.1.sound may.has
 
+  -- an image that fits the block's body may be laid into it
   pub may_image : (image : Option (List Row))
       → ((s : Parts) → CoreHolds (shape_in store) s → Agrees (first_of hands) s → IsImageOf image (body_at (shape_in store) s table block) (body_at (shape_in store) s table block).phase)
       → MayMakeHeld store t hands (imaging table block image)
@@ -111,6 +115,7 @@ takes_image store session s t hands own table block image takes = record {
       touches = touches x.event k (parts_after (shape_in store) x.log) x.is_one x.touches;
     }
 
+-- an imaging is whole once its parts were taken, it was made on them, and they were given back
 pub imaged_whole : (store : StoreView) (session : ℕ) (s t u w : SeatView) (hands later ended : HandsView) (own : Option OwnTransaction) (table block : ℕ) (told : CoreReply)
     → Takes store session s t hands own (imaging table block None) → ImagesHeld store session t u hands later own table block told → Gives store session u w ended own
     → Images store session s w ended own table block told
@@ -130,12 +135,14 @@ imaged_whole store session s t u w hands later ended own table block told takes 
     same = fronts whole.makes.before held.makes.makes.before (entry_of session e told) (entry_of session e told)
         (sym whole.makes.log ∙ ap log_of gives.log ∙ held.makes.makes.log)
 
+-- whether the image was laid or memory lacked for it, the pass is still its session's
 pub held_within : (store : StoreView) (session : ℕ) (t u : SeatView) (hands later : HandsView) (own : Option OwnTransaction) (table block : ℕ) (o : Option CoreReply)
     → ImagedHeld store session t u hands later own table block o → IsWithin store session t hands own → IsWithin store session u later own
 held_within store session t u hands later own table block (Some told) held within = held.makes.within
 held_within store session t u hands later own table block None held within =
     subst (λ hs. IsWithin store session u hs own) (sym held.same_hands) (subst (λ seat. IsWithin store session seat hands own) (sym held.same_seat) within)
 
+-- an imaging, or one for which memory lacked, is whole with its parts taken and given back
 pub imaged_all : (store : StoreView) (session : ℕ) (s t u w : SeatView) (hands later ended : HandsView) (own : Option OwnTransaction) (table block : ℕ) (o : Option CoreReply)
     → Takes store session s t hands own (imaging table block None) → ImagedHeld store session t u hands later own table block o → Gives store session u w ended own
     → ImagedAny store session s w ended own table block o
@@ -158,6 +165,7 @@ imaged_all store session s t u w hands later ended own table block None takes he
 
 -- ---- a gathering
 
+-- a gathering of one event answers with the line that the event tells
 pub gathered_whole : (store : StoreView) (s new : Session) (table block : ℕ) (told : CoreReply) (line : Said) → IsSession store s
     → Images store s.session s.pass.seat new.pass.seat new.pass.hands (own_of s) table block told → new.session ≡ s.session → own_of new ≡ own_of s
     → TellsLine (own_of s) (Gather table block) told line → IsSession store new × Answers store s new (Gather table block) line
@@ -165,6 +173,7 @@ gathered_whole store s new table block told line is images same opened tells =
     one_event_at store s new (Gather table block) (imaging table block images.image) told line is images.makes same opened refl
     (ap (λ image. imaging table block image ∷ []) (sym images.there)) tells
 
+-- a gathering that made no event for want of memory answers so
 pub gathered_none : (store : StoreView) (s new : Session) (table block : ℕ) → IsSession store s
     → MakesNone store s.session s.pass.seat new.pass.seat new.pass.hands (own_of s) table block → new.session ≡ s.session → own_of new ≡ own_of s
     → IsSession store new × Answers store s new (Gather table block) said.Memory

@@ -84,17 +84,20 @@ observe_low t (ShardOf u i) is = refl
 observe_low t (BodyOf u b) is = is
 observe_low t TheDesk is = is
 
+-- a pruning of a block touches its body, and beside it the table's head and shards
 pub prune_on_block : (sh : Shape) (t b oldest : ℕ) → IsOnBlock sh (beside_prune t) t b (event.Prune t b oldest)
 prune_on_block sh t b oldest = record {
   touches = λ held name. or_swap (same_name (HeadOf t) name) (same_name (BodyOf t b) name) (is_shard_in t name);
   low = prune_low t;
 }
 
+-- an observe of a block touches its body, and beside it the table's head
 pub observe_on_block : (sh : Shape) (t b : ℕ) → IsOnBlock sh (beside_observe t) t b (event.Observe t b)
 observe_on_block sh t b = record { touches = λ held name. refl; low = observe_low t }
 
 -- ---- a pass that gave all back
 
+-- an empty place of a hand holds no part
 pub part_is_none : (p : CorePart) → Some None ≡ Some (Some p) → ⊥
 part_is_none p e = cc
 
@@ -202,6 +205,7 @@ module _ (sh : Shape) (common : Name → Bool) (t b body : ℕ) (e : CoreEvent)
         go None none' kept = absurd (true_false (sym kept))
         go (Some n) some kept = named hand k n some ∙ or_left (common n) (same_name (BodyOf t b) n) kept
 
+    -- the event on the block touches the block's body
     pub body_touched : (hand : Hand) → touching sh e hand body ≡ true
     body_touched hand = named hand body (BodyOf t b) at ∙ or_right (common (BodyOf t b)) (same_name (BodyOf t b) (BodyOf t b)) (name_self (BodyOf t b))
 

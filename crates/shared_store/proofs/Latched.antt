@@ -106,6 +106,7 @@ pub last_new : (store : StoreView) (count : ℕ) (row xs : List Session) (s : Se
 last_new store count row xs s is new =
     (length xs + 1, new.each (length xs) s (ap (λ (l : List Session). slice_get l (length xs)) is ∙ last_there xs s))
 
+-- the last but one of a new row is a new session
 pub next_new : (store : StoreView) (count : ℕ) (row xs ys : List Session) (s t : Session) → row ≡ xs ++ t ∷ [] → xs ≡ ys ++ s ∷ [] → IsNewRow store count row
     → (n : ℕ) × IsNewSession store n s
 next_new store count row xs ys s t is front new =

@@ -64,6 +64,7 @@ memory_same (reply.Imaged rows) = refl
 memory_same reply.NoSeal = refl
 memory_same reply.Thawed = refl
 
+-- a reply that lacks memory is the one that says so
 pub memory_is : (told : CoreReply) → lacks_memory told ≡ true → told ≡ reply.Memory
 memory_is reply.Memory is = refl
 memory_is (reply.Begun snapshot) is = absurd (true≢false (sym is))
@@ -85,6 +86,7 @@ memory_is (reply.Imaged rows) is = absurd (true≢false (sym is))
 memory_is reply.NoSeal is = absurd (true≢false (sym is))
 memory_is reply.Thawed is = absurd (true≢false (sym is))
 
+-- an event's reply is the core's, or want of memory
 pub replied_of : (Q : Type 0) (shape : Shape) (parts : Parts) (e : CoreEvent) (told : CoreReply) → MatchBool (is_memory told) Q (told ≡ reply_to shape parts e) → Replied shape parts e told
 replied_of Q shape parts e told m = go (lacks_memory told) refl (subst (λ b. MatchBool b Q (told ≡ reply_to shape parts e)) (memory_same told) m)
   where
@@ -98,9 +100,11 @@ module _ (store : StoreView) (session : ℕ) (seat : SeatView) (hands : HandsVie
   knows_of : Knows (store_meaning (shape_in store)) seat.id seat.me (first_of hands)
   knows_of = is.pass.of.1
 
+  -- a session's pass has one hand
   pub one_hand : hands_of seat.me.0 ≡ 1
   one_hand = ap (λ (qs : List ℕ). length qs) is.knows.sessions
 
+  -- a session's pass has this session
   pub in_sessions : has session seat.me.0.sessions ≡ true
   in_sessions = ap (has session) is.knows.sessions ∙ has_head session []
 
@@ -268,6 +272,7 @@ module _ (store : StoreView) (is_store : IsStore store) (t u : SeatView) (hands 
           λ k p is. ends.learned.parts k (within.pass.of.1.held k (p, is)) ∙ mine.1 k p is,
         )
 
+    -- the session made the event on the parts that it held
     pub made_event : MakesHeld store session t u hands later own e told
     made_event = record {
       within = record { pass = made; knows = went.1 };
@@ -282,6 +287,7 @@ module _ (store : StoreView) (is_store : IsStore store) (t u : SeatView) (hands 
 
 -- ---- giving back
 
+-- a pass that gave back all that it held knows what it knew
 pub gave_back : (store : StoreView) (session : ℕ) (u w : SeatView) (hands later : HandsView) (own : Option OwnTransaction)
     → IsWithin store session u hands own → IsPass (store_meaning (shape_in store)) store.id w later
     → w.me.0 ≡ with_hand_of w.me.0 u.me.0 → ((k : ℕ) → ¬ Holds (first_of later) k)
@@ -336,11 +342,13 @@ may_make_taken store is_store s t hands e session own mine stands fits few takes
       few = left;
     }
 
+-- an event for which the pass took the parts may be made on them
 pub may_make_held : (store : StoreView) (is_store : IsStore store) (s t : SeatView) (held hands : HandsView) (e : CoreEvent)
     → (may : MayMake store s held e) → Takes store may.session s t hands may.own e → MayMakeHeld store t hands e
 may_make_held store is_store s t held hands e may takes =
     may_make_taken store is_store s t hands e may.session may.own may.mine may.stands may.fits may.few takes
 
+-- an event is whole once its parts were taken, it was made on them, and they were given back
 pub made_whole : (store : StoreView) (session : ℕ) (s t u w : SeatView) (hands later ended : HandsView) (own : Option OwnTransaction) (e : CoreEvent) (told : CoreReply)
     → Takes store session s t hands own e → MakesHeld store session t u hands later own e told → Gives store session u w ended (own_behind own e told)
     → Makes store session s w ended own e told

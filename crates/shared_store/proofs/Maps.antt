@@ -99,9 +99,11 @@ found_behind {X} p (x ∷ xs) ys none' = go (p x) none' (found_behind p xs ys)
     go true h rest = absurd (no h)
     go false h rest = rest h
 
+-- the entry is a row of the table
 abbrev pub is_of : ℕ → Place × ℕ → Bool
 is_of table write = write.0.table == table
 
+-- the key of a written row
 abbrev pub key_written : Place × ℕ → ℤ
 key_written write = write.0.key
 

@@ -40,6 +40,7 @@ module _ (store : StoreView) where
       sweeps_block store (at_all_blocks (shape_in store) observing) HaveTurned observing old mid new t b count more (reply.Turned turned) so m
       (block_among (shape_in store) observing t b has) refl refl (turned_more t b more turned is)
 
+  -- a session that observed all blocks answers with how many turned cooling
   pub observes_whole : (old new : Session) (count : ℕ) → IsSession store old → Observes store old new (at_all_blocks (shape_in store) observing) count
       → Answers store old new Observe (said.Cooling count)
   observes_whole old new count is o = went_call store old new Observe (at_all_blocks (shape_in store) observing) o.made (said.Cooling count) is o.went refl refl (inl (record {

@@ -75,6 +75,7 @@ taken_anew store session s m t mid later own e gives takes = record {
 
 -- ---- giving back
 
+-- a pass that gave one part back knows what it knew
 pub gave_part : (store : StoreView) (session part : ℕ) (u w : SeatView) (hands later : HandsView) (own : Option OwnTransaction)
     → IsWithin store session u hands own → IsPass (store_meaning (shape_in store)) store.id w later → w.me.0 ≡ given u.me.0 part
     → GivesPart store session u w later own
@@ -97,6 +98,7 @@ gave_part store session part u w hands later own within left view =
 
 -- ---- all together
 
+-- an event on a block is whole where its body was taken and given back and the rest is kept
 pub made_keeping : (store : StoreView) (session : ℕ) (common : Name → Bool) (table block body : ℕ) (s t u w : SeatView) (hands mid later : HandsView) (own : Option OwnTransaction) (e : CoreEvent) (told : CoreReply)
     → slice_get (names (shape_in store)) body ≡ Some (BodyOf table block) → IsOnBlock (shape_in store) common table block e
     → Takes store session s t hands own e → ((k : ℕ) → Holds (first_of hands) k → touching (shape_in store) e (first_of hands) k ≡ true)
@@ -116,6 +118,7 @@ made_keeping store session common table block body s t u w hands mid later own e
 
 -- ---- sessions that keep parts
 
+-- a session that keeps parts is one of the store, as if it had given all back
 pub rested_session : (store : StoreView) (s : Session) → IsWithin store s.session s.pass.seat s.pass.hands (own_of s) → IsSession store (rested s)
 rested_session store s within = session_is store (rested s) (rested_at store s.session s.pass.seat s.pass.hands (own_of s) within)
 
@@ -142,6 +145,7 @@ kept_on store common block old new e told m same opened stays = record {
   keeps = λ _. m.keeps;
 }
 
+-- an event that was made with parts kept was made alone by the session as if it kept none
 pub alone_kept : (store : StoreView) (common : Name → Bool) (old new : Session) (e : CoreEvent) (told said : CoreReply)
     → MakesKeeping store old.session old.pass.seat new.pass.seat new.pass.hands (own_of old) common e told → told ≡ said
     → new.session ≡ old.session → own_of new ≡ own_of old → own_behind (own_of old) e told ≡ own_of old → MakesAlone store (rested old) (rested new) e said

@@ -132,6 +132,7 @@ module _ (store : StoreView) (number n : ℕ) (s t u : SeatView) (hands held giv
     sessions_are : s.me.0.sessions ≡ sessions_to (suc n)
     sessions_are = before.sessions ∙ ap sessions_to (sym is)
 
+    -- the pass that gave its greatest session away has those up to the one before
     pub left_has : HasSessions store n t held
     left_has = record {
       pass = left;
@@ -153,12 +154,14 @@ module _ (store : StoreView) (number n : ℕ) (s t u : SeatView) (hands held giv
     had : has number s.me.0.sole ≡ true
     had = ap (has number) before.sole ∙ has_to (shape_in store).passes number (omega (arith, is)) before.few
 
+    -- the pass that was given the greatest session is new
     pub given_is_new : IsNewPass store number u given
     given_is_new = new_pass store number u given pass empty is_new.hands
         (ap (has number) is_new.sole ∙ fresh_has s.me.0 number had before.mine)
         is_new.mine is_new.taken
         (is_new.stays.transactions number (has_head number []) ∙ before.rests number)
 
+-- the first pass has a hand for each of its sessions
 pub hands_are : (store : StoreView) (count : ℕ) (seat : SeatView) (hands : HandsView) → HasSessions store count seat hands → hands_of seat.me.0 ≡ count
 hands_are store count seat hands is = ap (λ (qs : List ℕ). length qs) is.sessions ∙ sessions_to-length count
 
@@ -170,6 +173,7 @@ first_is_new store seat hands is = new_pass store 1 seat hands is.pass is.empty 
 
 -- ---- sessions
 
+-- a session with a new pass and without a snapshot is new
 pub new_session : (store : StoreView) (number : ℕ) (s : Session) → IsNewPass store number s.pass.seat s.pass.hands
     → s.session ≡ number → s.snapshot ≡ None → IsNewSession store number s
 new_session store number s new is shut = record {
@@ -197,6 +201,7 @@ pub record IsRowDown (store : StoreView) (count opened : ℕ) (row : List Sessio
   pub many : length row ≡ opened
   pub each : (k : ℕ) (s : Session) → slice_get row k ≡ Some s → IsNewSession store (count - k) s
 
+-- before the first session is made the row is empty
 pub row_begins : (store : StoreView) (count : ℕ) → IsRowDown store count 0 []
 row_begins store count = record { many = refl; each = λ k s found. absurd (nothing k s found) }
   where
@@ -214,6 +219,7 @@ grown (z ∷ xs) x y (suc k) found = go (grown xs x y k found)
     go (inl old) = inl old
     go (inr new) = inr (let e = new.0 in omega (arith, e), new.1)
 
+-- one session more, with the next lower number, stands behind the row
 pub row_grows : (store : StoreView) (count opened : ℕ) (row : List Session) (s : Session) → IsRowDown store count opened row
     → IsNewSession store (count - opened) s → IsRowDown store count (opened + 1) (row ++ s ∷ [])
 row_grows store count opened row s is new = record {
@@ -225,6 +231,7 @@ row_grows store count opened row s is new = record {
     go k t (inl old) = is.each k t old
     go k t (inr at') = subst (λ j. IsNewSession store (count - j) t) (sym (at'.0 ∙ is.many)) (subst (IsNewSession store (count - opened)) at'.1 new)
 
+-- the row that was made from the greatest down, turned around, is a new row
 pub row_turned : (store : StoreView) (count : ℕ) (row : List Session) → IsRowDown store count count row → IsNewRow store count (reverse row)
 row_turned store count row is = record {
   many = length-reverse row ∙ is.many;
@@ -251,15 +258,13 @@ module _ (hall : StoreView) (core : CoreState) (tables : List TableDecl) (sessio
     passes_are : hall.core.shape.passes ≡ sessions
     passes_are = ap (λ (x : CoreState). x.shape.passes) of.0 ∙ ap (λ (s : Shape). s.passes) shape_is
 
+    -- a hall that was built of a core before its first event is a store
     pub is_store : IsStore hall
     is_store = record {
       opening = subst (λ (x : CoreState). IsOpening x.shape x.parts) (sym of.0) opening_is;
       passes = of.1 ∙ sym passes_are;
       shape = of.2 ∙ sym (ap (λ (x : CoreState). x.shape) of.0);
     }
-
-    pub shape_built : shape_in hall ≡ record { tables = tables; passes = sessions }
-    shape_built = ap (λ (x : CoreState). x.shape) of.0 ∙ shape_is
 
     built_meaning : core_meaning core.shape core.parts sessions 0 ≡ store_meaning (shape_in hall)
     built_meaning =

@@ -74,6 +74,7 @@ last_added : (o : Option Occurrence) (xs : List Occurrence) (x : Occurrence) →
 last_added o [] x = refl
 last_added o (y ∷ ys) x = last_added (Some y) ys x
 
+-- a session that made no event has gone nowhere
 pub went_nowhere : (store : StoreView) (s : Session) (events : List CoreEvent) → IsSession store s → Went store s s events []
 went_nowhere store s events is = record {
   session = is;
@@ -86,6 +87,7 @@ went_nowhere store s events is = record {
   took = took_none (shape_in store) events (seen s) (taken_by s);
 }
 
+-- a read of a block, as an event that was made
 abbrev pub read_at : (store : StoreView) (old mid new : Session) (own : OwnTransaction) (t b : ℕ) (told : CoreReply) → ReadsBlock store mid new own t b told → Occurrence
 read_at store old mid new own t b told r = occurrence_at old.session (parts_after (shape_in store) r.makes.before) (event.Read own t b) told
 
@@ -128,6 +130,7 @@ went_on store old mid new own t b told events made w r one =
 
 -- ---- calls
 
+-- events made one after another are a command's call where they are whole or cut short
 pub went_call : (store : StoreView) (old new : Session) (c : Command) (events : List CoreEvent) (made : List Occurrence) (line : Said)
     → IsSession store old → Went store old new events made → events_of (shape_in store) (own_of old) old.session c made ≡ events
     → refusal_of c (own_of old) ≡ None
@@ -149,10 +152,12 @@ went_call store old new c events made line is w same granted either = record {
 
 -- ---- a scan
 
+-- events that are neither refused nor final stay so with one more such
 pub plain_added : (xs : List Occurrence) (x : Occurrence) → ArePlain xs → is_refused x ≡ false → is_final x.event ≡ false → ArePlain (xs ++ x ∷ [])
 plain_added [] x plain granted open' = (granted, open', tt)
 plain_added (y ∷ ys) x plain granted open' = (plain.0, plain.1, plain_added ys x plain.2 granted open')
 
+-- no plain event was refused memory
 pub plain_granted : (xs : List Occurrence) → ArePlain xs → list_any is_refused xs ≡ false
 plain_granted [] plain = refl
 plain_granted (x ∷ xs) plain = ap (λ b. b || list_any is_refused xs) plain.0 ∙ plain_granted xs plain.2
@@ -175,6 +180,7 @@ plain_cut_behind xs x plain open' = plain_cut_ending xs x plain (ap (λ f. is_re
     either true = refl
     either false = refl
 
+-- plain events are a call that is cut short
 pub plain_cut : (xs : List Occurrence) → ArePlain xs → is_cut_short xs ≡ true
 plain_cut [] plain = refl
 plain_cut (y ∷ []) plain = ap (λ f. is_refused y || not f) plain.1 ∙ either (is_refused y)
@@ -192,6 +198,7 @@ range_more : (a n : ℕ) → range_with_len a (suc n) ≡ range_with_len a n ++ 
 range_more a zero = ap (λ x. x ∷ []) (omega arith)
 range_more a (suc n) = ap (λ xs. a ∷ xs) (range_more (a + 1) n ∙ ap (λ x. range_with_len (a + 1) n ++ x ∷ []) (omega arith))
 
+-- the numbers below one more
 pub below_more : (n : ℕ) → below (n + 1) ≡ below n ++ n ∷ []
 below_more n =
     let next : n + 1 ≡ suc n = omega arith in
@@ -216,12 +223,15 @@ member_map f [] ys x = inl refl
 member_map f (z ∷ zs) ys x = inr (member_map f zs ys x)
 
 module _ (store : StoreView) (own : OwnTransaction) (t : ℕ) where
+  -- the shape of the store
   abbrev pub sh : Shape
   sh = shape_in store
 
+  -- the reads that a scan of the table asks for
   abbrev pub asked : List CoreEvent
   asked = at_blocks sh t (event.Read own t)
 
+  -- before the first block a scan has read nothing
   pub scan_begins : (s : Session) → IsSession store s → Scans store s s own t 0 []
   scan_begins s is = record {
     made = [];
@@ -231,6 +241,7 @@ module _ (store : StoreView) (own : OwnTransaction) (t : ℕ) where
     rows = refl;
   }
 
+  -- each of the table's blocks is read by the scan
   pub is_asked : (k : ℕ) → k < blocks_of sh t → Among {X = CoreEvent} (event.Read own t k) asked
   is_asked k lt =
       let r = rest_of (blocks_of sh t) (k + 1) (omega (arith, lt)) in
@@ -249,6 +260,7 @@ module _ (store : StoreView) (own : OwnTransaction) (t : ℕ) where
   flat_more [] told = append-nil (rows_told told)
   flat_more (x ∷ xs) told = ap (λ rs. rows_told x ++ rs) (flat_more xs told) ∙ sym (append_assoc (rows_told x) (flat_map rows_told xs) (rows_told told))
 
+  -- one block more was read, and its rows were laid
   pub scan_goes_on : (old mid new : Session) (k : ℕ) (state now : State) (told : CoreReply) → Scans store old mid own t k state → ReadsBlock store mid new own t k told
       → k < blocks_of sh t → is_memory told ≡ false → now ≡ laid t state (rows_told told) → Scans store old new own t (k + 1) now
   scan_goes_on old mid new k state now told s r lt granted rows = record {
@@ -269,6 +281,7 @@ module _ (store : StoreView) (own : OwnTransaction) (t : ℕ) where
     granted_here : refusal_of (Scan t) (own_of old) ≡ None
     granted_here = ap (refusal_of (Scan t)) open'
 
+    -- a scan that read all blocks answers with the table's rows
     pub scan_whole : (new : Session) (state : State) → Scans store old new own t (blocks_of sh t) state → Answers store old new (Scan t) (said.Scanned (contents_of t state))
     scan_whole new state s = went_call store old new (Scan t) asked s.made (said.Scanned (contents_of t state)) is s.went (asks s.made) granted_here (inl (record {
       events = s.events ∙ sym (asks s.made);
@@ -304,6 +317,7 @@ module _ (store : StoreView) (own : OwnTransaction) (t : ℕ) where
 
 -- ---- how a scan's calls end
 
+-- false is not true
 pub never : false ≡ true → ⊥
 never e = cc
 
@@ -312,6 +326,7 @@ pub on_ok : {T E : Type 0} (P : Type 0) (r : Result T E) → IsErr r → OnOk r 
 on_ok P (Ok v) is = absurd (never is)
 on_ok P (Err e) is = tt
 
+-- a scan without an answer is told as want of memory
 pub unscanned : {E : Type 0} (r : Result (List Row) E) → IsErr r → scanned_told r ≡ said.Memory
 unscanned (Ok v) is = absurd (never is)
 unscanned (Err e) is = refl
@@ -321,10 +336,12 @@ pub rows_same : (E : Type 0) (read : BlockRows) → rows_told (reply_of {E = E} 
 rows_same E (block.Rows rows) = refl
 rows_same E (block.Shared rows) = refl
 
+-- a read that has rows was not refused memory
 pub read_granted : (E : Type 0) (read : BlockRows) → is_memory (reply_of {E = E} (Ok read)) ≡ false
 read_granted E (block.Rows rows) = refl
 read_granted E (block.Shared rows) = refl
 
+-- a scan made one event for each block that it read
 pub scans_count : (store : StoreView) (old new : Session) (own : OwnTransaction) (t k : ℕ) (state : State) → (s : Scans store old new own t k state) → length s.made ≡ k
 scans_count store old new own t k state s =
     let a : length (events_in s.made) ≡ length s.made = length-map s.made (λ (o : Occurrence). o.event) in
@@ -333,6 +350,7 @@ scans_count store old new own t k state s =
     let d = ap (λ (es : List CoreEvent). length es) s.events in
     omega (arith, a, b, c, d)
 
+-- a scan that read all blocks answers with its rows, or that there was no memory for them
 pub scan_ends : {E : Type 0} (store : StoreView) (own : OwnTransaction) (t : ℕ) (old new : Session) (state : State) (r : Result (List Row) E)
     → IsSession store old → own_of old ≡ Some own → Scans store old new own t (blocks_of (shape_in store) t) state
     → IfOk r (λ rows. rows ≡ contents_of t state) → Answers store old new (Scan t) (scanned_told r)
@@ -340,10 +358,12 @@ scan_ends store own t old new state (Ok rows) is open' s same =
     subst (λ (rows : List Row). Answers store old new (Scan t) (said.Scanned rows)) (sym same) (scan_whole store own t old is open' new state s)
 scan_ends store own t old new state (Err memory) is open' s same = scan_unlaid store own t old is open' new (blocks_of (shape_in store) t) state (omega arith) s
 
+-- what holds in any case holds where there is an answer
 pub ok_if : {T E P : Type 0} (r : Result T E) → P → OnOk r P
 ok_if (Ok v) p = p
 ok_if (Err e) p = tt
 
+-- what holds where there is an answer is weakened
 pub ok_with : {T E P Q : Type 0} (r : Result T E) → OnOk r P → (P → Q) → OnOk r Q
 ok_with (Ok v) p f = f p
 ok_with (Err e) p f = tt

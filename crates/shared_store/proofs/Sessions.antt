@@ -19,6 +19,7 @@ use Rattle.shared_store.specs.declared.session.Session.{Session}
 abbrev pub hall_meaning : StoreView → Meaning CorePart CoreEvent Opened ℕ
 hall_meaning store = core_meaning store.core.shape store.core.parts store.passes 0
 
+-- the store's hall and the laws mean the same by the core
 pub is_meaning : (store : StoreView) → IsStore store → hall_meaning store ≡ store_meaning (shape_in store)
 is_meaning store is =
     ap (λ (s : Parts). core_meaning store.core.shape s store.passes 0) is.opening.parts_are

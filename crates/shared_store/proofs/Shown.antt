@@ -28,6 +28,7 @@ pub by_laws : (F : Meaning CorePart CoreEvent Opened ℕ → StoreView → Type 
     → F (hall_meaning inside) inside → F (store_meaning (shape_in now)) now
 by_laws F inside now is same holds = subst (λ w. F (store_meaning (shape_in w)) w) same (subst (λ M. F M inside) (is_meaning inside is) holds)
 
+-- what holds by what the core means to the laws holds by what it means to the hall
 pub by_hall : (F : Meaning CorePart CoreEvent Opened ℕ → StoreView → Type 0) (inside now : StoreView) → IsStore inside → inside ≡ now
     → F (store_meaning (shape_in now)) now → F (hall_meaning inside) inside
 by_hall F inside now is same holds = subst (λ M. F M inside) (sym (is_meaning inside is)) (subst (λ w. F (store_meaning (shape_in w)) w) (sym same) holds)
@@ -50,6 +51,7 @@ module _ (store : StoreView) (from : View CoreEvent) (note : SeatView) (noted : 
     (is_note : IsPass (store_meaning (shape_in store)) store.id note noted)
     (new : IsNew (store_meaning (shape_in store)) from note.me.0 [])
   where
+    -- the pass that was noted holds no part
     pub note_is_empty : (k : ℕ) → ¬ Holds (first_of noted) k
     note_is_empty = no_hand_no_part noted (is_note.count ∙ ap (λ (qs : List ℕ). length qs) new.hands)
 

@@ -27,6 +27,7 @@ flat_added f [] x = append-nil (f x)
 flat_added f (y ∷ ys) x = ap (λ zs. f y ++ zs) (flat_added f ys x) ∙ sym (append_assoc (f y) (flat_map f ys) (f x))
 
 module _ (sh : Shape) (event : ℕ → ℕ → CoreEvent) where
+  -- the event of each block is among those of all blocks
   pub block_among : (t b : ℕ) → HasBlock sh t b → Among {X = CoreEvent} (event t b) (at_all_blocks sh event)
   block_among t b has =
       let h0 = has.0 in let h1 = has.1 in
@@ -69,6 +70,7 @@ made_alone store old new e told said m is same opened stays = record {
 -- ---- events one after another
 
 module _ (store : StoreView) (asked : List CoreEvent) where
+  -- a session that made none of the events has swept none
   pub sweeps_nothing : (tells : List Occurrence → Type 0) (s : Session) → IsSession store s → tells [] → Sweeps store asked tells s s []
   sweeps_nothing tells s is told = record {
     made = [];

@@ -105,6 +105,7 @@ module _ (sh : Shape) (hand : List (Option CorePart)) (s : Parts) (agrees : Agre
 -- ---- a thaw
 
 module _ (sh : Shape) (s : Parts) (t b : ℕ) where
+  -- the parts behind the thaw
   abbrev pub behind : Parts
   behind = effect sh s (event.Thaw t b)
 
@@ -118,6 +119,7 @@ module _ (sh : Shape) (s : Parts) (t b : ℕ) where
   shard_stays u i (Some (part.Body x)) = refl
   shard_stays u i (Some (part.Desk x)) = refl
 
+  -- a thaw leaves each shard as it was
   pub shard_same : (u i : ℕ) → part_at sh behind (ShardOf u i) ≡ part_at sh s (ShardOf u i)
   shard_same u i = named_changed thaw (names sh) s (ShardOf u i) ∙ shard_stays u i (part_at sh s (ShardOf u i))
 

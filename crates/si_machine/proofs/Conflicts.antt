@@ -47,6 +47,7 @@ later-is machine writers n place h =
 abbrev pub conflict_by : ℕ → Option ℕ → Option ℕ → Option Answer
 conflict_by snapshot rival newest = option_or (option_map answer.ConflictSession rival) (option_map answer.ConflictCommit (from_on (1 + snapshot) newest))
 
+-- what a write conflicts with is told by the rivals and the numbers that are kept
 pub conflict-is : (ledger : Ledger) (t : OpenTransaction) (place : Place) → Belongs (machine_in ledger) ledger.writers
     → conflict_of (machine_in ledger) (transaction_in t) place
     ≡ conflict_by t.snapshot (option_map (λ (u : OpenTransaction). u.session) (kept_rival t.session place ledger.transactions.items)) (last_or None (numbers_at ledger.writers place))
@@ -55,8 +56,10 @@ conflict-is ledger t place h =
     ∙ ap (λ (o : Option ℕ). option_or (option_map answer.ConflictSession (option_map (λ (u : OpenTransaction). u.session) (kept_rival t.session place ledger.transactions.items))) (option_map answer.ConflictCommit o))
     (later-is (machine_in ledger) ledger.writers t.snapshot place h)
 
+-- a commit within the snapshot is no conflict
 pub commit-old : (snapshot number : ℕ) → number ≤ snapshot → None ≡ conflict_by snapshot None (Some number)
 commit-old snapshot number low = let past : nat_le (1 + snapshot) number ≡ false = grind (arith, nat_tests, low) in rw past refl
 
+-- a commit behind the snapshot is the conflict that is answered
 pub commit-new : (snapshot number : ℕ) → snapshot < number → Some (answer.ConflictCommit number) ≡ conflict_by snapshot None (Some number)
 commit-new snapshot number above = let within : nat_le (1 + snapshot) number ≡ true = grind (arith, nat_tests, above) in rw within refl

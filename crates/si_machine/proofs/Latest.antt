@@ -37,6 +37,7 @@ latest-step q at writes later acc (Some number) is rest =
     let found = last-some q (at + 1) later number is in
     rest ∙ sym (ap (λ (w : WriteSet). unwrap_or (at_place w q) None) (one-behind at number writes later (omega (arith, found.number_is))))
 
+-- commits leave at a place what the last of them that wrote it did, or else what was there
 pub at-fold : (q : Place) (at : ℕ) (history : History) (acc : State) → Rises acc → AllRise history
     → at_place (fold laid_over acc history) q ≡ left_by q at history (at_place acc q) (last_writer q at history)
 at-fold q at [] acc h k = refl
@@ -56,6 +57,7 @@ last-onto : (q : Place) (at : ℕ) (history : History) (o : Option ℕ) → last
 last-onto q at [] o = refl
 last-onto q at (writes ∷ later) o = last-step q at later o (writes_place q writes) (last-onto q (at + 1) later)
 
+-- the last of the numbers that are kept of a place is that of the commit that wrote it last
 pub last-numbers : (q : Place) (at : ℕ) (history : History) → last_or None (numbers_from q at history) ≡ last_writer q at history
 last-numbers q at history = last-onto q at history None ∙ nothing-more (last_writer q at history)
 
@@ -80,6 +82,7 @@ module _ (bound : ℕ) where
       let within : nat_le at bound ≡ true = grind (arith, nat_tests, is) in rw within (ap (λ (ns : List ℕ). at ∷ ns) rest)
   up-to-step at left all some false is rest = rest
 
+  -- the numbers up to a bound are those of the first commits
   pub numbers-up-to : (q : Place) (at : ℕ) (left : ℕ) (history : History) → bound + 1 ≡ at + left
       → filter is_up_to (numbers_from q at history) ≡ numbers_from q at (take left history)
   numbers-up-to q at zero history is = none-up-to q at history (omega (arith, is))
@@ -90,6 +93,7 @@ module _ (bound : ℕ) where
 
 -- ---- the last of the numbers above a bound
 
+-- a number, if it is there and not below a bound
 abbrev pub from_on : ℕ → Option ℕ → Option ℕ
 from_on low None = None
 from_on low (Some number) = if nat_le low number then Some number else None
@@ -107,6 +111,7 @@ from-step at low (Some number) b less = refl
 from-step at low None true less = let past : nat_le low at ≡ false = grind (arith, nat_tests, less) in rw past refl
 from-step at low None false less = refl
 
+-- the last commit behind some that wrote a place is the last of all, if it is behind them
 pub last-behind : (q : Place) (at n : ℕ) (history : History) → last_writer q (at + n) (drop n history) ≡ from_on (at + n) (last_writer q at history)
 last-behind q at zero history =
     let same : at + zero ≡ at = omega arith in
@@ -142,6 +147,7 @@ rise-step at later true (suc i) (suc j) d low rest order h =
     rest i j sooner within
 rise-step at later false i j d low rest order h = rest i j order h
 
+-- the numbers that are kept of a place do not fall
 pub numbers-rise : (q : Place) (at : ℕ) (history : History) (i j d : ℕ) → i ≤ j → j < length (numbers_from q at history)
     → get_or (numbers_from q at history) i d ≤ get_or (numbers_from q at history) j d
 numbers-rise q at [] i j d order within = absurd (omega (arith, within))

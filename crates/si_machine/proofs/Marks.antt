@@ -43,6 +43,7 @@ has-by : (was numbers : Vec ℕ Global) (b : Bool) (old : Option (Vec ℕ Global
 has-by was numbers true old same = sym (ap is_some (same refl))
 has-by was numbers false old same = refl
 
+-- numbers put behind those of a place leave which places there are
 pub has-same : (before now : Writers) (place : Place) (was numbers : Vec ℕ Global) → Wrote before now place was numbers → (other : Place) → has_place now other ≡ has_place before other
 has-same before now place was numbers wrote other =
     ap is_some (wrote.after other)
@@ -62,6 +63,7 @@ numbers-same before now place was numbers wrote items other =
     ∙ items-by was numbers (is_place place other) (at_place before.places.entries other) items
     (λ is. ap (at_place before.places.entries) (sym (same-place place other is)) ∙ wrote.found)
 
+-- there are numbers, with room for one more
 abbrev pub roomy : Option (Vec ℕ Global) → Type 0
 roomy o = IsSomeAnd o (λ numbers. vec_len numbers < vec_capacity numbers)
 
@@ -79,6 +81,7 @@ room-made before now place was numbers wrote room wanted rest had other want pas
     (room-by was numbers (is_place place other) (at_place before.places.entries other) (λ is. room)
     (λ apart. had other want (either-false (is_place other place) (is_among other rest) (symmetric other place ∙ apart) past)))
 
+-- where the second of two holds, one of them does
 pub or-right : (a b : Bool) → b ≡ true → (a || b) ≡ true
 or-right true b h = refl
 or-right false b h = h
@@ -136,6 +139,7 @@ module _ (before now : Writers) (place : Place) (fresh : Vec ℕ Global) (empty 
   added-by true old none = empty ∙ sym (ap (λ (o : Option (Vec ℕ Global)). option_map_or (λ (ns : Vec ℕ Global). ns.items) o []) (none refl))
   added-by false old none = refl
 
+  -- a place that is added without numbers leaves the numbers of each place
   pub added-numbers : (other : Place) → numbers_at now other ≡ numbers_at before other
   added-numbers other =
       ap (λ (o : Option (Vec ℕ Global)). option_map_or (λ (ns : Vec ℕ Global). ns.items) o []) (after other)
@@ -146,6 +150,7 @@ module _ (before now : Writers) (place : Place) (fresh : Vec ℕ Global) (empty 
   stays-by true old h = refl
   stays-by false old h = h
 
+  -- a place that is added leaves those that were there
   pub added-stays : (other : Place) → has_place before other ≡ true → has_place now other ≡ true
   added-stays other h = ap is_some (after other) ∙ stays-by (is_place place other) (at_place before.places.entries other) h
 
@@ -153,16 +158,20 @@ module _ (before now : Writers) (place : Place) (fresh : Vec ℕ Global) (empty 
   only-by other true is h = inl (sym (same-place place other is))
   only-by other false is h = inr h
 
+  -- a place that is there afterwards is the one that was added or was there before
   pub added-only : (other : Place) → has_place now other ≡ true → (other ≡ place) ⊎ (has_place before other ≡ true)
   added-only other h = only-by other (is_place place other) refl (sym (ap is_some (after other)) ∙ h)
 
 -- ---- the first of the places
 
+-- the first of some places is among them
 pub first-among : (place : Place) (rest : List Place) → is_among place (place ∷ rest) ≡ true
 first-among place rest = ap (λ (b : Bool). b || is_among place rest) (itself place)
 
+-- numbers that are found where there is room have room for one more
 pub roomy-found : (o : Option (Vec ℕ Global)) (numbers : Vec ℕ Global) → o ≡ Some numbers → roomy o → vec_len numbers < vec_capacity numbers
 roomy-found o numbers is room = subst roomy is room
 
+-- where no numbers are, there is no room
 pub no-room : (o : Option (Vec ℕ Global)) → o ≡ None → roomy o → ⊥
 no-room o is room = subst roomy is room

@@ -33,11 +33,13 @@ last-get (x ∷ xs) =
     let e : suc (length xs) - 1 ≡ length xs = omega arith in
     ap (slice_get (x ∷ xs)) e ∙ last-onto x xs
 
+-- the image of what stands at an index stands there among the images
 pub get-map : {X Y : Type 0} (f : X → Y) (xs : List X) (i : ℕ) (d : X) → get_or (map f xs) i (f d) ≡ f (get_or xs i d)
 get-map f [] i d = refl
 get-map f (x ∷ xs) zero d = refl
 get-map f (x ∷ xs) (suc i) d = get-map f xs i d
 
+-- images of a list with an element changed are those with its image changed
 pub set-map : {X Y : Type 0} (f : X → Y) (xs : List X) (i : ℕ) (x : X) → map f (set xs i x) ≡ set (map f xs) i (f x)
 set-map f [] i x = refl
 set-map f (y ∷ xs) zero x = refl
@@ -92,6 +94,7 @@ found-by p xs at true is h =
     subst (Found p xs) e (found-within p xs within)
 found-by p xs at false is h = absurd (let never : ⊥ = cc in never)
 
+-- where a position is found, the element there is the first that passes
 pub found-at : {X : Type 0} (p : X → Bool) (xs : List X) (at : ℕ) → position p xs ≡ Some at → Found p xs at
 found-at p xs at h = found-by p xs at (nat_lt (position_or_len p xs) (length xs)) refl (h)
 
@@ -99,6 +102,7 @@ missed-by : {X : Type 0} (p : X → Bool) (xs : List X) (b : Bool) → nat_lt (p
 missed-by p xs true is h = absurd (let never : ⊥ = cc in never)
 missed-by p xs false is h = missed-past p xs (grind (arith, nat_tests, is))
 
+-- where no position is found, no element is
 pub missed-at : {X : Type 0} (p : X → Bool) (xs : List X) → position p xs ≡ None → find p xs ≡ None
 missed-at p xs h = missed-by p xs (nat_lt (position_or_len p xs) (length xs)) refl (h)
 
@@ -108,18 +112,22 @@ any-default [] i d e within = absurd (omega (arith, within))
 any-default (x ∷ xs) zero d e within = refl
 any-default (x ∷ xs) (suc i) d e within = any-default xs i d e (omega (arith, within))
 
+-- a list has as many images as elements
 pub length-kept : {X Y : Type 0} (f : X → Y) (xs : List X) → length (map f xs) ≡ length xs
 length-kept f [] = refl
 length-kept f (x ∷ xs) = ap suc (length-kept f xs)
 
+-- the image of an element put behind stands behind the images
 pub map-push : {X Y : Type 0} (f : X → Y) (xs : List X) (x : X) → map f (xs ++ x ∷ []) ≡ map f xs ++ f x ∷ []
 map-push f [] x = refl
 map-push f (y ∷ xs) x = ap (λ (ys : List _). f y ∷ ys) (map-push f xs x)
 
+-- what holds in any case holds where there is an error
 pub on-err : {T E : Type 0} {P : Type 0} (r : Result T E) → P → OnErr r P
 on-err (Ok x) p = tt
 on-err (Err e) p = p
 
+-- a list in which an element is set to itself is the same
 pub set-same : {X : Type 0} (xs : List X) (i : ℕ) (d : X) → set xs i (get_or xs i d) ≡ xs
 set-same [] i d = refl
 set-same (x ∷ xs) zero d = refl

@@ -62,9 +62,11 @@ both false b h k = h
 
 -- ---- the range of a table
 
+-- the least key, of 64 bits
 abbrev pub least_key : ℤ
 least_key = negsuc (2 ^ 63 - 1)
 
+-- the greatest key, of 64 bits
 abbrev pub greatest_key : ℤ
 greatest_key = pos (2 ^ 63 - 1)
 
@@ -102,6 +104,7 @@ in-range-by table q false is key =
     (λ tied. let same : table ≡ q.table = nat_cmp-IsAntisymmetric table q.table tied in let e : true ≡ false = sym (eqb-itself table) ∙ ap (λ (n : ℕ). eqb n table) same ∙ is in let never : ⊥ = cc in never)
 
 module _ {X : Type 0} (table : ℕ) where
+  -- the entry's place is one from the table's least key to its greatest
   abbrev pub in_range : Place × X → Bool
   in_range entry = range_contains place_cmp (Included (place_at table least_key)) (Included (place_at table greatest_key)) entry.0
 
@@ -109,6 +112,7 @@ module _ {X : Type 0} (table : ℕ) where
       → cond (in_range entry) (entry ∷ kept) kept ≡ cond (entry.0.table == table) (entry ∷ others) others
   one-in-range entry kept others same rest = ap (λ (b : Bool). cond b (entry ∷ kept) kept) same ∙ ap (λ (es : List (Place × X)). cond (entry.0.table == table) (entry ∷ es) es) rest
 
+  -- where keys have 64 bits, the entries in a table's range are the table's
   pub table-range : (entries : PlaceMap X) → ((place : Place) → is_some (at_place entries place) ≡ true → is_key place ≡ true)
       → filter in_range entries ≡ filter (λ entry. entry.0.table == table) entries
   table-range [] keys = refl

@@ -27,13 +27,16 @@ is-equal Greater h = absurd (let never : ⊥ = cc in never)
 pub same-place : (a b : Place) → is_place a b ≡ true → a ≡ b
 same-place a b h = one-place a b (is-equal (place_cmp a b) h)
 
+-- a place is itself
 pub itself : (a : Place) → is_place a a ≡ true
 itself a = ap is_eq (tied_itself place_cmp-total a)
 
+-- of two places, one that is above the other has the other below it
 pub turned : (a b : Place) → place_cmp a b ≡ Greater → place_cmp b a ≡ Less
 turned a b h = place_cmp-total.antisymm b a ∙ ap ordering_reverse h
 
 module _ {X : Type 0} where
+  -- a place below one that is below the entries is below them
   pub below-less : (low high : Place) (entries : PlaceMap X) → place_cmp low high ≡ Less → Below high entries → Below low entries
   below-less low high [] less h = tt
   below-less low high (entry ∷ entries) less h = (place_cmp-total.trans low high entry.0 less h.0, below-less low high entries less h.1)
@@ -47,6 +50,7 @@ module _ {X : Type 0} where
       by again Equal = h
       by again Greater = (h.0, again)
 
+  -- an insertion leaves places that rise
   pub rises-insert : (place : Place) (x : X) (entries : PlaceMap X) → Rises entries → Rises (insert_entry place_cmp entries place x)
   rises-insert place x [] h = (tt, tt)
   rises-insert place x (entry ∷ entries) h = by (rises-insert place x entries h.1) (place_cmp place entry.0) refl
@@ -113,6 +117,7 @@ module _ {X : Type 0} where
   below-sorted place [] h = tt
   below-sorted place (entry ∷ entries) h = (h.0, below-sorted place entries h.1)
 
+  -- entries that are strictly sorted rise
   pub rises-sorted : (entries : PlaceMap X) → IsStrictlySortedBy place_cmp (keys_of entries) → Rises entries
   rises-sorted [] h = tt
   rises-sorted (entry ∷ entries) h =
@@ -128,6 +133,7 @@ at-with : (rows : State) (place : Place) (change : Option (List Cell)) (q : Plac
 at-with rows place None q h = at-remove place q rows h
 at-with rows place (Some row) q h = lookup-insert_entry place_cmp-total rows place row q
 
+-- writes laid over rows leave places that rise
 pub rises-laid : (rows : State) (writes : WriteSet) → Rises rows → Rises (laid_over rows writes)
 rises-laid rows [] h = h
 rises-laid rows (write ∷ writes) h = rises-laid (with_write rows write.0 write.1) writes (rises-with rows write.0 write.1 h)
@@ -146,10 +152,12 @@ at-laid rows (write ∷ writes) q h k =
     ∙ ap (unwrap_or (at_place writes q)) (at-with rows write.0 write.1 q h)
     ∙ laid-step q write writes (at_place rows q) (is_place q write.0) refl k.0
 
+-- all commits laid over rows, one after the other, leave places that rise
 pub rises-fold : (rows : State) (history : History) → Rises rows → Rises (fold laid_over rows history)
 rises-fold rows [] h = h
 rises-fold rows (writes ∷ history) h = rises-fold (laid_over rows writes) history (rises-laid rows writes h)
 
+-- where the places of each commit rise, so do those of the first ones
 pub rise-take : (n : ℕ) (history : History) → AllRise history → AllRise (take n history)
 rise-take zero history h = tt
 rise-take (suc n) [] h = tt

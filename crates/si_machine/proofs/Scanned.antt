@@ -22,14 +22,17 @@ unlike-by low high true is less =
     absurd (let never : ⊥ = cc in never)
 unlike-by low high false is less = refl
 
+-- a place above another is not that one
 pub unlike : (low high : Place) → place_cmp low high ≡ Less → is_place high low ≡ false
 unlike low high less = unlike-by low high (is_place high low) refl less
 
 module _ {X : Type 0} where
+  -- what is found where the first entry is not it is found behind it
   pub either : (b : Bool) (x : X) (later : Option X) → is_some (cond b (Some x) later) ≡ true → b ≡ false → is_some later ≡ true
   either true x later h untold = absurd (let never : ⊥ = cc in never)
   either false x later h untold = h
 
+  -- what is found behind an entry is found with it
   pub still : (b : Bool) (x : X) (later : Option X) → is_some later ≡ true → is_some (cond b (Some x) later) ≡ true
   still true x later h = refl
   still false x later h = h

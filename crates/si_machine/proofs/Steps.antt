@@ -26,6 +26,7 @@ use Rattle.si_machine.proofs.Latest.{left_by, at-fold, last-numbers, numbers-up-
 
 -- ---- the open transactions
 
+-- the own places of the open transaction at an index rise, and each is one that was written
 pub open-at : (writers : Writers) (ts : List Transaction) (i : ℕ) (d : Transaction) → i < length ts → AreOpen writers ts
     → Rises (get_or ts i d).own × ((place : Place) → writes_place place (get_or ts i d).own ≡ true → has_place writers place ≡ true)
 open-at writers [] i d within h = absurd (omega (arith, within))
@@ -69,6 +70,7 @@ module _ (before now : Writers) (stays : (place : Place) → has_place before pl
 
 -- ---- the steps
 
+-- the parts belong together still when a session without a transaction begins one
 pub belongs-begun : (session : ℕ) (machine : IsolationMachine) (writers : Writers) → transaction_of session machine ≡ None → Belongs machine writers → Belongs (begun session machine) writers
 belongs-begun session machine writers none h = record {
   numbers = h.numbers;
@@ -78,6 +80,7 @@ belongs-begun session machine writers none h = record {
   opened = open-push writers machine.open_transactions session (length machine.history) h.opened;
 }
 
+-- the parts belong together still when a session's transaction ends
 pub belongs-without : (session : ℕ) (machine : IsolationMachine) (writers : Writers) → Belongs machine writers → Belongs (without session machine) writers
 belongs-without session machine writers h = record {
   numbers = h.numbers;
@@ -108,6 +111,7 @@ module _ (machine : IsolationMachine) (before now : Writers) (h : Belongs machin
     opened = open-stays before now stays machine.open_transactions h.opened;
   }
 
+  -- the parts belong together still when a write is entered at a place that is there for it
   pub belongs-entered : (session : ℕ) (place : Place) (change : Option (List Cell)) → is_key place ≡ true
       → ((other : Place) → has_place now other ≡ true → (other ≡ place) ⊎ (has_place before other ≡ true)) → has_place now place ≡ true
       → Belongs (with_own session place change machine) now
@@ -147,6 +151,7 @@ rise-push : (history : History) (own : WriteSet) → AllRise history → Rises o
 rise-push [] own h rises = (rises, tt)
 rise-push (writes ∷ history) own h rises = (h.0, rise-push history own h.1 rises)
 
+-- the parts belong together still when a commit's number is put behind those of its places
 pub belongs-committed : (machine : IsolationMachine) (own : WriteSet) (number : ℕ) (before now : Writers) → Belongs machine before → Rises own → number ≡ length machine.history + 1
     → ((place : Place) → numbers_at now place ≡ numbers_at before place ++ (if writes_place place own then number ∷ [] else []))
     → ((place : Place) → has_place now place ≡ has_place before place)
@@ -174,6 +179,7 @@ newest-is machine writers place n h =
     ∙ ap (last_or None) (numbers-up-to n place 1 n machine.history (omega arith))
     ∙ last-numbers place 1 (take n machine.history)
 
+-- what a state has at a place is what the last commit in it that wrote the place left there
 pub state-is : (place : Place) (n : ℕ) (history : History) → AllRise history → at_place (state_at history n) place ≡ left_by place 1 (take n history) None (last_writer place 1 (take n history))
 state-is place n history h = at-fold place 1 (take n history) [] tt (rise-take n history h)
 
@@ -183,6 +189,7 @@ length-front (suc n) [] i h = absurd (omega (arith, h))
 length-front (suc n) (w ∷ history) zero h = omega arith
 length-front (suc n) (w ∷ history) (suc i) h = let e : i < n = length-front n history i (omega (arith, h)) in omega (arith, e)
 
+-- where a commit wrote the place, the state has what the newest one left there
 pub state-found : (place : Place) (n number : ℕ) (history : History) → AllRise history → last_writer place 1 (take n history) ≡ Some number
     → at_place (state_at history n) place ≡ unwrap_or (at_place (get_or history (number - 1) []) place) None
 state-found place n number history h is =
@@ -192,6 +199,7 @@ state-found place n number history h is =
     ∙ ap (left_by place 1 (take n history) None) is
     ∙ ap (λ (w : WriteSet). unwrap_or (at_place w place) None) (get_or-take n history (number - 1) [] within)
 
+-- where no commit wrote the place, the state has nothing there
 pub state-missed : (place : Place) (n : ℕ) (history : History) → AllRise history → last_writer place 1 (take n history) ≡ None → at_place (state_at history n) place ≡ None
 state-missed place n history h is = state-is place n history h ∙ ap (left_by place 1 (take n history) None) is
 
@@ -200,6 +208,7 @@ pub seen-is : (machine : IsolationMachine) (t : Transaction) (place : Place) →
     → at_place (seen_rows machine t) place ≡ unwrap_or (at_place t.own place) (at_place (state_at machine.history t.snapshot) place)
 seen-is machine t place rises = at-laid (state_at machine.history t.snapshot) t.own place (rises-fold [] (take t.snapshot machine.history) tt) rises
 
+-- what is found at an index among images is the image of what is found there
 pub got-map : {X Y : Type 0} (f : X → Y) (xs : List X) (i : ℕ) (d : Y) → get_or (map f xs) i d ≡ option_map_or f (slice_get xs i) d
 got-map f [] i d = refl
 got-map f (x ∷ xs) zero d = refl
@@ -231,12 +240,14 @@ got-past [] i past = refl
 got-past (y ∷ xs) zero past = absurd (omega (arith, past))
 got-past (y ∷ xs) (suc i) past = got-past xs i (omega (arith, past))
 
+-- where the newest commit of the place is not among those that are kept, there is no row
 pub state-past : (ledger : Ledger) (place : Place) (n number : ℕ) → Belongs (machine_in ledger) ledger.writers → last_writer place 1 (take n (machine_in ledger).history) ≡ Some number
     → length ledger.commits.items ≤ number - 1 → at_place (state_at (machine_in ledger).history n) place ≡ None
 state-past ledger place n number h is past =
     state-kept ledger place n number h is
     ∙ ap (λ o. unwrap_or (at_place (option_map_or (λ writes. writes.entries) o []) place) None) (got-past ledger.commits.items (number - 1) past)
 
+-- where the newest commit of the place is kept, the state has what it left there
 pub state-read : (ledger : Ledger) (place : Place) (n number : ℕ) (none : BTreeMap Place (Option (List Cell))) → Belongs (machine_in ledger) ledger.writers
     → last_writer place 1 (take n (machine_in ledger).history) ≡ Some number → number - 1 < length ledger.commits.items
     → at_place (state_at (machine_in ledger).history n) place ≡ unwrap_or (at_place (get_or ledger.commits.items (number - 1) none).entries place) None
@@ -255,6 +266,7 @@ machine_with machine session snapshot own = record machine {
 within-kept : (ledger : Ledger) (i : ℕ) → i < length ledger.transactions.items → i < length (map transaction_in ledger.transactions.items)
 within-kept ledger i within = omega (arith, length-kept transaction_in ledger.transactions.items, within)
 
+-- a write entered at an index among the kept transactions is entered for its session
 pub own-entered : (ledger : Ledger) (i : ℕ) (d : OpenTransaction) (place : Place) (change : Option (List Cell)) → Belongs (machine_in ledger) ledger.writers → i < length ledger.transactions.items
     → set (map transaction_in ledger.transactions.items) i (entered place change (transaction_in (get_or ledger.transactions.items i d)))
     ≡ (with_own (get_or ledger.transactions.items i d).session place change (machine_in ledger)).open_transactions
@@ -265,6 +277,7 @@ own-entered ledger i d place change h within =
     ∙ set-changed (entered place change) ts i (transaction_in d) h.apart (within-kept ledger i within)
     ∙ ap (λ (t : Transaction). map (λ u. if u.session == t.session then entered place change u else u) ts) its
 
+-- without the kept transaction at an index the machine is without its session's
 pub own-ended : (ledger : Ledger) (i : ℕ) (d : OpenTransaction) → Belongs (machine_in ledger) ledger.writers → i < length ledger.transactions.items
     → map transaction_in (remove ledger.transactions.items i) ≡ (without (get_or ledger.transactions.items i d).session (machine_in ledger)).open_transactions
 own-ended ledger i d h within =

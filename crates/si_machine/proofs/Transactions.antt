@@ -17,15 +17,6 @@ other-at session (t ∷ ts) zero d none within = (missed (eqb t.session session)
 other-at session (t ∷ ts) (suc i) d none within =
     other-at session ts i d (missed (eqb t.session session) t (at_session session ts) none).1 (omega (arith, within))
 
--- the transaction at an index is that of its session
-pub its-own : (ts : List Transaction) (i : ℕ) (d : Transaction) → Apart ts → i < length ts → at_session (get_or ts i d).session ts ≡ Some (get_or ts i d)
-its-own [] i d apart within = absurd (omega (arith, within))
-its-own (t ∷ ts) zero d apart within = ap (λ (b : Bool). cond b (Some t) (at_session t.session ts)) (eqb-itself t.session)
-its-own (t ∷ ts) (suc i) d apart within =
-    let inside : i < length ts = omega (arith, within) in
-    let other : eqb t.session (get_or ts i d).session ≡ false = eqb-turned t.session (get_or ts i d).session ∙ other-at t.session ts i d apart.0 inside in
-    ap (λ (b : Bool). cond b (Some t) (at_session (get_or ts i d).session ts)) other ∙ its-own ts i d apart.1 inside
-
 map-none : (session : ℕ) (f : Transaction → Transaction) (ts : List Transaction) → at_session session ts ≡ None → map (λ t. cond (eqb t.session session) (f t) t) ts ≡ ts
 map-none session f [] none = refl
 map-none session f (t ∷ ts) none =
@@ -59,6 +50,7 @@ removed (t ∷ ts) (suc i) d apart within =
     let other : eqb t.session (get_or ts i d).session ≡ false = eqb-turned t.session (get_or ts i d).session ∙ other-at t.session ts i d apart.0 inside in
     rw other (ap (λ (us : List Transaction). t ∷ us) (removed ts i d apart.1 inside))
 
+-- images of a list without an element are those without its image
 pub map-remove : {X Y : Type 0} (f : X → Y) (xs : List X) (i : ℕ) → map f (remove xs i) ≡ remove (map f xs) i
 map-remove f [] zero = refl
 map-remove f [] (suc i) = refl

@@ -14,22 +14,26 @@ use Rattle.block_spec.specs.Slots.{Slot, Row, laid_back, seen, written, committe
 use Rattle.block_spec.specs.declared.change.Before.{Before}
 use Rattle.block_spec.specs.declared.change.Change.{Change}
 use Rattle.slot_laws.proofs.Keys.{HasKey}
-use Rattle.event_spec.specs.SlotSound.{Keyed, IsOfSession}
+use Rattle.event_spec.specs.SlotSound.{Keyed}
 use Rattle.slot_laws.proofs.Views.{none_own, writer_is_own}
 
 -- ---- a commit
 
+-- below its stamp a commit changes nothing that is seen of a slot
 pub seen_committed : (q S N : ℕ) (slot : Slot) (s : ℕ) → 1 ≤ q → s < S → seen (committed q S N slot) s 0 ≡ seen slot s 0
 seen_committed q S N slot s pass below =
     visible_row-same laid_back slot.row (map (stamped q S N) slot.entries) slot.entries s 0
     (images_after_commit q S N slot.entries s 0 (λ e. absurd (omega (arith, e, pass))) below)
 
+-- an entry that is not the session's own is left as it is
 pub stamped_not_own : (q S N : ℕ) (e : Undo Before) → is_own e q ≡ false → stamped q S N e ≡ e
 stamped_not_own q S N e out = ap (λ b. record e { stamp = cond b (Some S) e.stamp; number = cond b N e.number }) out
 
+-- an entry of its own gets the commit's stamp
 pub stamp_of_own : (q S N : ℕ) (e : Undo Before) → is_own e q ≡ true → (stamped q S N e).stamp ≡ Some S
 stamp_of_own q S N e own = ap (λ b. cond b (Some S) e.stamp) own
 
+-- and its number
 pub number_of_own : (q S N : ℕ) (e : Undo Before) → is_own e q ≡ true → (stamped q S N e).number ≡ N
 number_of_own q S N e own = ap (λ b. cond b N e.number) own
 
@@ -57,6 +61,7 @@ or_true : (own by : Bool) → by ≡ true → own || by ≡ true
 or_true true by is = refl
 or_true false by is = is
 
+-- from its stamp on the writer's row is seen
 pub seen_after_commit : (q S N : ℕ) (slot : Slot) (s : ℕ) → IsLawful slot.entries → writer_of slot.entries ≡ Some q → S ≤ s
     → seen (committed q S N slot) s 0 ≡ slot.row
 seen_after_commit q S N slot s lawful w later = go slot.entries lawful w
@@ -84,12 +89,15 @@ filter_nothing p (e ∷ es) all =
     ap (λ b. cond b (e ∷ filter p es) (filter p es)) (All-head (λ e. p e ≡ false) e es all)
     ∙ filter_nothing p es (All-tail (λ e. p e ≡ false) e es all)
 
+-- the entries that a session's roll-back leaves
 abbrev pub rest_of : ℕ → List (Undo Before) → List (Undo Before)
 rest_of q es = filter (λ undo. not (is_own undo q)) es
 
+-- the row that it leaves
 abbrev pub row_of : ℕ → Option Row → List (Undo Before) → Option Row
 row_of q row es = fold laid_back row (map (λ undo. undo.before) (filter (λ undo. is_own undo q) es))
 
+-- where no entry is the session's own, a roll-back leaves the entries and the row
 pub rolled_none : (q : ℕ) (row : Option Row) (es : List (Undo Before)) → All (λ undo. is_own undo q ≡ false) es
     → (rest_of q es ≡ es) × (row_of q row es ≡ row)
 rolled_none q row es all = (
@@ -97,6 +105,7 @@ rolled_none q row es all = (
   ap (λ xs. fold laid_back row (map (λ undo. undo.before) xs)) (filter_nothing (λ undo. is_own undo q) es all),
 )
 
+-- a slot of which the session is not the writer is left as it is
 pub rolled_back_other : (q : ℕ) (slot : Slot) → IsLawful slot.entries → writer_of slot.entries ≢ Some q → rolled_back q slot ≡ slot
 rolled_back_other q slot lawful ne =
     let none = none_own slot.entries q lawful ne in
@@ -107,6 +116,7 @@ rolled_back_other q slot lawful ne =
 pub rest_own : (q : ℕ) (e : Undo Before) (es : List (Undo Before)) → is_own e q ≡ true → rest_of q (e ∷ es) ≡ rest_of q es
 rest_own q e es own = ap (λ b. cond (not b) (e ∷ rest_of q es) (rest_of q es)) own
 
+-- the session's newest entry is laid back first
 pub row_own : (q : ℕ) (row : Option Row) (e : Undo Before) (es : List (Undo Before)) → is_own e q ≡ true → row_of q row (e ∷ es) ≡ row_of q (laid_back row e.before) es
 row_own q row e es own = ap (λ b. fold laid_back row (map (λ undo. undo.before) (cond b (e ∷ filter (λ undo. is_own undo q) es) (filter (λ undo. is_own undo q) es)))) own
 
@@ -119,6 +129,7 @@ own_not_nobody e q s pass own = go e.stamp (is_move e.kind) e.session pass own
     go None true session p own = cc
     go None false session p own = grind (arith, nat_tests)
 
+-- a roll-back changes nothing that others see of a slot
 pub seen_rolled : (q : ℕ) (row : Option Row) (es : List (Undo Before)) (s : ℕ) → 1 ≤ q → IsLawful es
     → seen (rolled_back q (record { row = row; entries = es })) s 0 ≡ seen (record { row = row; entries = es }) s 0
 seen_rolled q row [] s pass lawful = refl
@@ -136,16 +147,9 @@ seen_rolled q row (e ∷ es) s pass lawful = go (is_own e q) refl (seen_rolled q
         let both = rolled_none q row (e ∷ es) (all_not_own q e es lawful own) in
         ap (λ es'. seen (record { row = row_of q row (e ∷ es); entries = es' }) s 0) both.0 ∙ ap (λ row'. seen (record { row = row'; entries = e ∷ es }) s 0) both.1
 
--- what is left has no entry of the session, and no other's uncommitted one where the session was the writer
-no_writer_left : (e : Undo Before) (es : List (Undo Before)) → All (λ undo. is_own undo e.session ≡ false) es → IsLawful es → All IsOfSession es → writer_of es ≢ Some e.session
-no_writer_left e [] all lawful passes w = cc
-no_writer_left e (f ∷ es) all lawful passes w =
-    let no : is_own f e.session ≡ false = All-head (λ undo. is_own undo e.session ≡ false) f es all in
-    let yes' : is_own f e.session ≡ true = writer_is_own f es e.session lawful w in
-    let never : true ≡ false = sym yes' ∙ no in cc
-
 -- ---- keys of versions
 
+-- what is seen of a slot with a key has the key
 pub seen_keyed : (key : ℤ) (row : Option Row) (es : List (Undo Before)) (s q : ℕ) → Keyed key row es → HasKey key (seen (record { row = row; entries = es }) s q)
 seen_keyed key row [] s q keyed = keyed
 seen_keyed key row (e ∷ es) s q keyed = go (is_in_view e s q) refl (seen_keyed key (laid_back row e.before) es s q keyed.2)
@@ -155,18 +159,22 @@ seen_keyed key row (e ∷ es) s q keyed = go (is_in_view e s q) refl (seen_keyed
     go true is rest = subst (λ images. HasKey key (fold laid_back row images)) (sym (images_at_view e es s q is)) keyed.0
     go false is rest = subst (λ images. HasKey key (fold laid_back row images)) (sym (images_passed e es s q is)) rest
 
+-- a write of a row with the key, or one that takes such a row, keeps a slot's key
 pub written_keyed : (key : ℤ) (q : ℕ) (change : Change) (slot : Slot) → laid_back (row_after slot.row change) (image_before slot.row change) ≡ slot.row
     → HasKey key (row_after slot.row change) → (is_some (row_after slot.row change) || is_some slot.row) ≡ true → Keyed key slot.row slot.entries → Keyed key (written q change slot).row (written q change slot).entries
 written_keyed key q change slot undone here there keyed = (here, ap (λ row. is_some (row_after slot.row change) || is_some row) undone ∙ there, subst (λ row. Keyed key row slot.entries) (sym undone) keyed)
 
+-- a commit keeps it
 pub committed_keyed : (key : ℤ) (q S N : ℕ) (row : Option Row) (es : List (Undo Before)) → Keyed key row es → Keyed key row (map (stamped q S N) es)
 committed_keyed key q S N row [] keyed = keyed
 committed_keyed key q S N row (e ∷ es) keyed = (keyed.0, keyed.1, committed_keyed key q S N (laid_back row e.before) es keyed.2)
 
+-- the row of a slot with a key has the key
 pub keyed_row : (key : ℤ) (row : Option Row) (es : List (Undo Before)) → Keyed key row es → HasKey key row
 keyed_row key row [] keyed = keyed
 keyed_row key row (e ∷ es) keyed = keyed.0
 
+-- a roll-back keeps the key
 pub rolled_keyed : (key : ℤ) (q : ℕ) (row : Option Row) (es : List (Undo Before)) → IsLawful es → Keyed key row es → Keyed key (row_of q row es) (rest_of q es)
 rolled_keyed key q row [] lawful keyed = keyed
 rolled_keyed key q row (e ∷ es) lawful keyed = go (is_own e q) refl (rolled_keyed key q (laid_back row e.before) es (IsLawful-tail e es lawful) keyed.2)

@@ -18,9 +18,11 @@ use Rattle.undo_chain.specs.declared.undo.UndoKind.TheVariants as kind
 not_yet : (S s : ℕ) → s < S → is_at_most (Some S) s ≡ false
 not_yet S s lt = grind (arith, nat_tests)
 
+-- the entry that a row leaves where it moves out
 abbrev pub out_entry : ℕ → Row → Undo Before
 out_entry S row = record { session = 0; stamp = Some S; number = 0; kind = kind.MoveOut; before = Whole row }
 
+-- and the one that it gets where it moves in
 abbrev pub in_entry : ℕ → Undo Before
 in_entry S = record { session = 0; stamp = Some S; number = 0; kind = kind.MoveIn; before = Empty }
 
@@ -28,6 +30,7 @@ in_entry S = record { session = 0; stamp = Some S; number = 0; kind = kind.MoveI
 pub out_view : (S s q : ℕ) (row : Row) → s < S → seen (moved_out S row (plain row)) s q ≡ Some row
 out_view S s q row lt = ap (λ images. fold laid_back None images) (images_passed (out_entry S row) [] s q (not_yet S s lt))
 
+-- before the move's stamp no row is seen where it moves in
 pub in_view : (S s q : ℕ) (row : Row) → s < S → seen (moved_in S row bare) s q ≡ None
 in_view S s q row lt = ap (λ images. fold laid_back (Some row) images) (images_passed (in_entry S) [] s q (not_yet S s lt))
 
@@ -35,15 +38,18 @@ in_view S s q row lt = ap (λ images. fold laid_back (Some row) images) (images_
 at_stamp : (S s : ℕ) → S ≤ s → is_at_most (Some S) s ≡ true
 at_stamp S s le = grind (arith, nat_tests)
 
+-- from the stamp on none is seen where it moved out
 pub out_gone : (S s q : ℕ) (row : Row) → S ≤ s → seen (moved_out S row (plain row)) s q ≡ None
 out_gone S s q row le = ap (λ images. fold laid_back None images) (images_at_view (out_entry S row) [] s q (at_stamp S s le))
 
+-- but the row is, where it moved in
 pub in_there : (S s q : ℕ) (row : Row) → S ≤ s → seen (moved_in S row bare) s q ≡ Some row
 in_there S s q row le = ap (λ images. fold laid_back (Some row) images) (images_at_view (in_entry S) [] s q (at_stamp S s le))
 
 one_entry : (e : Undo Before) (stamp : ℕ) → e.stamp ≡ Some stamp → IsLawful (e ∷ [])
 one_entry e stamp is = IsLawful-cons e [] (subst (λ (o : Option ℕ). IfNone o (is_move e.kind ≡ false)) (sym is) tt) (All-nil (MayStandAbove e)) IsLawful-nil
 
+-- a slot with one entry, which has the newest stamp and no number, is sound
 pub sound_one : (S commits : ℕ) (row : Option Row) (e : Undo Before) → e.stamp ≡ Some S → e.number ≡ 0 → IsSoundSlot S commits (record { row = row; entries = e ∷ [] })
 sound_one S commits row e is n = record {
   lawful = one_entry e S is;

@@ -20,6 +20,7 @@ use Rattle.event_spec.specs.Follows.{is_current}
 use Rattle.slot_laws.proofs.Views.{writer_top, writer_is_own, none_own, seen_settled}
 use Rattle.slot_laws.proofs.Endings.{number_of_own, stamp_of_own, stamped_not_own, rest_of, rest_own, rolled_none}
 
+-- what is there or not is a number, or is not
 pub same_option : (a : Option ℕ) (q : ℕ) → (a ≡ Some q) ⊎ (a ≢ Some q)
 same_option None q = inr (λ e. cc)
 same_option (Some w) q = go (w == q) refl
@@ -30,6 +31,7 @@ same_option (Some w) q = go (w == q) refl
 
 -- ---- bare slots
 
+-- a slot that is tested bare is the bare one
 pub bare_is : (slot : Slot) → is_bare slot ≡ true → slot ≡ bare
 bare_is slot is = go slot.row slot.entries refl refl is
   where
@@ -38,6 +40,7 @@ bare_is slot is = go slot.row slot.entries refl refl is
     go None (x ∷ xs) r e is = cc
     go (Some x) es r e is = cc
 
+-- a test holds or fails
 pub bool_cases : (b : Bool) → (b ≡ true) ⊎ (b ≡ false)
 bool_cases true = inl refl
 bool_cases false = inr refl
@@ -50,6 +53,7 @@ shown_filled slot s q some = go (is_bare slot) refl
     go true is = let n : is_some (seen slot s q) ≡ false = ap (λ (x : Slot). is_some (seen x s q)) (bare_is slot is) in absurd (let e : true ≡ false = sym some ∙ n in cc)
     go false is = is
 
+-- a slot that has a writer is not bare
 pub writer_filled : (slot : Slot) (q : ℕ) → writer_of slot.entries ≡ Some q → is_bare slot ≡ false
 writer_filled slot q w = go (is_bare slot) refl
   where
@@ -57,6 +61,7 @@ writer_filled slot q w = go (is_bare slot) refl
     go true is = let n : writer_of slot.entries ≡ None = ap (λ (x : Slot). writer_of x.entries) (bare_is slot is) in absurd (let e : Some q ≡ None = sym w ∙ n in cc)
     go false is = is
 
+-- nor is one that has a commit above a snapshot
 pub number_filled : (slot : Slot) (s k : ℕ) → Among k (numbers_above slot.entries s) → is_bare slot ≡ false
 number_filled slot s k among = go (is_bare slot) refl
   where
@@ -101,6 +106,7 @@ shown_current slot limit up some = go (writer_of slot.entries) refl
     go None is = or_left (is_some slot.row) (is_some (writer_of slot.entries)) (sym (ap is_some (seen_settled slot.row slot.entries limit limit 0 up (omega arith) is)) ∙ some)
     go (Some w) is = or_right (is_some slot.row) (is_some (writer_of slot.entries)) (ap is_some is)
 
+-- a slot that has a writer is current
 pub writer_current : (slot : Slot) (q : ℕ) → writer_of slot.entries ≡ Some q → is_current slot ≡ true
 writer_current slot q w = go (is_some slot.row) (is_some (writer_of slot.entries)) (ap is_some w)
   where
@@ -110,6 +116,7 @@ writer_current slot q w = go (is_some slot.row) (is_some (writer_of slot.entries
 
 -- ---- numbers
 
+-- where no entry has a stamp above a snapshot's, no commit is above it
 pub numbers_settled : (es : List (Undo Before)) (limit s : ℕ) → NoneStampedAbove es limit → limit ≤ s → numbers_above es s ≡ []
 numbers_settled [] limit s up le = refl
 numbers_settled (e ∷ es) limit s up le =
@@ -129,10 +136,12 @@ own_no_number e q s own = go e.stamp (is_move e.kind) (e.session == q) own
     go None move b own = refl
     go (Some x) move b own = cc
 
+-- the commits above a snapshot with one entry more
 pub numbers_step : (e : Undo Before) (es : List (Undo Before)) (s : ℕ) (b : Bool) → is_commit_above e s ≡ b → numbers_above (e ∷ es) s ≡ cond b (e.number ∷ numbers_above es s) (numbers_above es s)
 numbers_step e es s true is = ap (λ b. map (λ undo. undo.number) (cond b (e ∷ filter (λ undo. is_commit_above undo s) es) (filter (λ undo. is_commit_above undo s) es))) is
 numbers_step e es s false is = ap (λ b. map (λ undo. undo.number) (cond b (e ∷ filter (λ undo. is_commit_above undo s) es) (filter (λ undo. is_commit_above undo s) es))) is
 
+-- a roll-back leaves the commits above a snapshot
 pub numbers_rolled : (q s : ℕ) (es : List (Undo Before)) → numbers_above (rest_of q es) s ≡ numbers_above es s
 numbers_rolled q s [] = refl
 numbers_rolled q s (e ∷ es) = go (is_own e q) refl (numbers_rolled q s es)
@@ -221,6 +230,7 @@ number_there q S N s (e ∷ es) lawful w above =
 
 -- ---- the writer after a roll-back
 
+-- after the writer's roll-back a slot has no writer
 pub rolled_writer : (q : ℕ) (es : List (Undo Before)) → IsLawful es → writer_of es ≡ Some q → writer_of (rest_of q es) ≡ None
 rolled_writer q [] lawful w = refl
 rolled_writer q (e ∷ es) lawful w =
@@ -247,6 +257,7 @@ rolled_writer q (e ∷ es) lawful w =
 
 -- ---- slots stay sound
 
+-- a commit with the next stamp and number keeps a slot sound
 pub sound_committed : (q newest commits : ℕ) (slot : Slot) → IsSoundSlot newest commits slot → IsSoundSlot (newest + 1) (commits + 1) (committed q (newest + 1) (commits + 1) slot)
 sound_committed q newest commits slot ok =
     let S : ℕ = newest + 1 in let N : ℕ = commits + 1 in
@@ -286,6 +297,7 @@ sound_committed q newest commits slot ok =
         go true = tt
         go false = h
 
+-- a roll-back keeps a slot sound
 pub sound_rolled : (q newest commits : ℕ) (slot : Slot) → IsSoundSlot newest commits slot → IsSoundSlot newest commits (rolled_back q slot)
 sound_rolled q newest commits slot ok = record {
   lawful = IsLawful-filter (λ undo. not (is_own undo q)) slot.entries ok.lawful;

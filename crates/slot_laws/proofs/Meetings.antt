@@ -36,6 +36,7 @@ both None None None d = refl
 both None None (Some k) None = refl
 both None None (Some k) (Some l) = refl
 
+-- a write of a key meets what it meets at each of the key's slots, combined in turn
 pub newer_over : (slot : ℕ → Slot) (ps : List ℕ) (stamp session : ℕ)
     → conflict_by (first_at (λ p. other_writer (slot p).entries session) ps) (largest (flat_map (λ p. numbers_above (slot p).entries stamp) ps)) ≡ combined_over slot ps stamp session
 newer_over slot [] stamp session = refl

@@ -16,6 +16,7 @@ use Rattle.slot_laws.proofs.Endings.{rest_of, row_of, rest_own, row_own, rolled_
 use Rattle.slot_laws.proofs.Prunings.{rest}
 use Rattle.slot_laws.proofs.Halves.{out_view, in_view, out_gone, in_there}
 
+-- A write by another session changes nothing that a session sees.
 pub others_write : OthersWrite
 others_write slot q me s change ne undone =
     let e : Undo Before = record { session = q; stamp = None; number = 0; kind = kind_of change; before = image_before slot.row change } in
@@ -27,6 +28,7 @@ others_write slot q me s change ne undone =
     go true n = refl
     go false n = grind (arith, nat_tests)
 
+-- Neither does its commit, at a later stamp.
 pub others_commit : OthersCommit
 others_commit slot q me s stamp number ne below =
     visible_row-same laid_back slot.row (map (stamped q stamp number) slot.entries) slot.entries s me (images_after_commit q stamp number slot.entries s me ne below)
@@ -48,12 +50,15 @@ rolled q me s row (e ∷ es) ne lawful = go (is_own e q) refl (rolled q me s (la
         let both = rolled_none q row (e ∷ es) (all_not_own q e es lawful own) in
         ap (λ es'. seen (record { row = row_of q row (e ∷ es); entries = es' }) s me) both.0 ∙ ap (λ row'. seen (record { row = row'; entries = e ∷ es }) s me) both.1
 
+-- Nor its roll-back.
 pub others_roll_back : OthersRollBack
 others_roll_back slot q me s ne lawful = rolled q me s slot.row slot.entries ne lawful
 
+-- Nor a pruning up to a snapshot.
 pub a_pruning : Pruning
 a_pruning slot oldest me s le lawful = visible_row-same laid_back slot.row (rest oldest slot.entries) slot.entries s me (images_after_prune oldest slot.entries s me lawful le)
 
+-- A row that moves is seen at one of its two slots, at any snapshot.
 pub a_move : Moves
 a_move row moved stamp reader = record {
   source_before = out_view moved stamp reader row;

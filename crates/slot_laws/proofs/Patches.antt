@@ -23,6 +23,7 @@ truth_is true false e = cc
 truth_is false true e = cc
 truth_is false false e = refl
 
+-- cells that are tested as the same are one
 pub cell_is : (x y : Cell) → same_cell x y ≡ true → x ≡ y
 cell_is Null Null e = refl
 cell_is Null (Num n) e = cc
@@ -84,6 +85,7 @@ new_from front (x ∷ xs) (y ∷ ys) len = go (same_cell x y) refl
         ∙ ap (λ n. patched ((front ++ y ∷ []) ++ xs) (differences n xs ys)) (sym (more y))
         ∙ other ∙ push_front front y ys
 
+-- the differences put into the old row give the new one
 pub patched_new : (old new : Row) → length old ≡ length new → patched old (differences 0 old new) ≡ new
 patched_new old new len = new_from [] old new len
 
@@ -121,5 +123,6 @@ old_from old front (x ∷ xs) (y ∷ ys) is len = go (same_cell x y) refl
         ∙ ap (λ r. patched r (columns_before old (differences (length front + 1) xs ys))) (set_at front y ys x (length front) refl)
         ∙ step before
 
+-- the cells that the differences replaced, put into the new row, give the old one back
 pub patched_old : (old new : Row) → length old ≡ length new → patched new (columns_before old (differences 0 old new)) ≡ old
 patched_old old new len = old_from old [] old new refl len

@@ -13,13 +13,16 @@ use Rattle.block_spec.specs.declared.change.Before.{Before}
 use Rattle.event_spec.specs.SlotSound.{Keyed, IsSoundSlot, IsOfSession}
 use Rattle.slot_laws.proofs.Kept.{numbers_step}
 
+-- the entries that a pruning leaves
 abbrev pub rest : ℕ → List (Undo Before) → List (Undo Before)
 rest o es = filter (λ undo. not (is_stamped_by undo o)) es
 
+-- one entry more is dropped or kept
 pub rest_step : (o : ℕ) (e : Undo Before) (es : List (Undo Before)) (b : Bool) → is_stamped_by e o ≡ b → rest o (e ∷ es) ≡ cond b (rest o es) (e ∷ rest o es)
 rest_step o e es true is = ap (λ b. cond (not b) (e ∷ rest o es) (rest o es)) is
 rest_step o e es false is = ap (λ b. cond (not b) (e ∷ rest o es) (rest o es)) is
 
+-- where each may be pruned none is left
 pub rest_none : (o : ℕ) (es : List (Undo Before)) → All (λ undo. is_stamped_by undo o ≡ true) es → rest o es ≡ []
 rest_none o [] all = refl
 rest_none o (e ∷ es) all =
@@ -67,6 +70,7 @@ numbers_pruned o s (e ∷ es) le = go (is_stamped_by e o) refl (numbers_pruned o
         ∙ ap (λ ns. cond (is_commit_above e s) (e.number ∷ ns) ns) before
         ∙ sym (numbers_step e es s (is_commit_above e s) refl)
 
+-- a pruning keeps a slot's key
 pub pruned_keyed : (key : ℤ) (o : ℕ) (row : Option Row) (es : List (Undo Before)) → IsLawful es → Keyed key row es → Keyed key row (rest o es)
 pruned_keyed key o row [] lawful keyed = keyed
 pruned_keyed key o row (e ∷ es) lawful keyed = go (is_stamped_by e o) refl (pruned_keyed key o (laid_back row e.before) es (IsLawful-tail e es lawful) keyed.2)
@@ -75,6 +79,7 @@ pruned_keyed key o row (e ∷ es) lawful keyed = go (is_stamped_by e o) refl (pr
     go true is before = subst (λ xs. Keyed key row xs) (sym (rest_none o (e ∷ es) (all_stamped o e es lawful is))) keyed.0
     go false is before = subst (λ xs. Keyed key row xs) (sym (rest_step o e es false is)) (keyed.0, keyed.1, before)
 
+-- and keeps it sound
 pub sound_pruned : (o newest commits : ℕ) (slot : Slot) → IsSoundSlot newest commits slot → IsSoundSlot newest commits (pruned o slot)
 sound_pruned o newest commits slot ok = record {
   lawful = IsLawful-filter (λ undo. not (is_stamped_by undo o)) slot.entries ok.lawful;

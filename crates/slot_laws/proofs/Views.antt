@@ -22,6 +22,7 @@ own_top e None false q w n s = grind (arith, nat_tests)
 own_top e None true q w n s = cc
 own_top e (Some x) move q w n s = cc
 
+-- the writer's newest entry stands first, without a stamp
 pub writer_top : (e : Undo Before) (es : List (Undo Before)) (q : ℕ) → writer_of (e ∷ es) ≡ Some q → (is_none e.stamp ≡ true) × (e.session ≡ q)
 writer_top e es q w = go (is_none e.stamp) refl w
   where
@@ -29,6 +30,7 @@ writer_top e es q w = go (is_none e.stamp) refl w
     go true is w = (is, cc)
     go false is w = cc
 
+-- in a lawful chain the writer's newest entry is its own
 pub writer_is_own : (e : Undo Before) (es : List (Undo Before)) (q : ℕ) → IsLawful (e ∷ es) → writer_of (e ∷ es) ≡ Some q → is_own e q ≡ true
 writer_is_own e es q lawful w = own_top e e.stamp (is_move e.kind) q (IsLawful-head e es lawful) (writer_top e es q w).0 (writer_top e es q w).1
 
@@ -55,6 +57,7 @@ not_own_writer e es q ne = go e.stamp (is_move e.kind) (e.session == q) refl ref
         let same : e.session ≡ q = grind (arith, nat_tests) in
         absurd (ne (ap (λ o. cond (is_none o) (Some e.session) None) st ∙ ap Some same))
 
+-- where a session is not the writer no entry is its own
 pub none_own : (es : List (Undo Before)) (q : ℕ) → IsLawful es → writer_of es ≢ Some q → All (λ undo. is_own undo q ≡ false) es
 none_own [] q lawful ne = All-nil (λ (undo : Undo Before). is_own undo q ≡ false)
 none_own (e ∷ es) q lawful ne = all_not_own q e es lawful (not_own_writer e es q ne)
@@ -68,9 +71,11 @@ zero_own e pass = go e.stamp (is_move e.kind) pass
     go None true p = refl
     go None false p = grind (arith, nat_tests)
 
+-- no session's entry is of the session 0
 pub zero_none : (es : List (Undo Before)) → All IsOfSession es → All (λ undo. is_own undo 0 ≡ false) es
 zero_none es passes = All-weaker IsOfSession (λ undo. is_own undo 0 ≡ false) zero_own es passes
 
+-- two sessions without an entry of their own have the same images laid back
 pub images_alike : (es : List (Undo Before)) (s q r : ℕ) → All (λ undo. is_own undo q ≡ false) es → All (λ undo. is_own undo r ≡ false) es
     → images_laid_back es s q ≡ images_laid_back es s r
 images_alike [] s q r a b = refl
@@ -83,6 +88,7 @@ images_alike (e ∷ es) s q r a b =
     (images_alike es s q r (All-tail (λ undo. is_own undo q ≡ false) e es a) (All-tail (λ undo. is_own undo r ≡ false) e es b))
     ∙ sym (images-cons e es s r)
 
+-- who is not the writer sees what one without a session does
 pub seen_other : (row : Option Row) (es : List (Undo Before)) (s q : ℕ) → IsLawful es → All IsOfSession es → writer_of es ≢ Some q
     → seen (record { row = row; entries = es }) s q ≡ seen (record { row = row; entries = es }) s 0
 seen_other row es s q lawful passes ne =
@@ -104,6 +110,7 @@ no_writer_top e es w = go (is_none e.stamp) refl w
     go true is w = cc
     go false is w = is
 
+-- without a writer or a later stamp the row that stands there is seen
 pub seen_settled : (row : Option Row) (es : List (Undo Before)) (limit s q : ℕ) → NoneStampedAbove es limit → limit ≤ s → writer_of es ≡ None
     → seen (record { row = row; entries = es }) s q ≡ row
 seen_settled row [] limit s q up le w = refl

@@ -34,6 +34,7 @@ lawful_written q change slot lawful mine = go slot.entries lawful mine
         above None is = subst (λ (s : Option ℕ). IfNone s (q ≡ e.session)) (sym is) (sym (own e.session (ap (λ o. cond (is_none o) (Some e.session) None) is)))
         above (Some x) is = subst (λ (s : Option ℕ). IfNone s (q ≡ e.session)) (sym is) tt
 
+-- A write keeps a slot sound where no other session is the writer.
 pub sound_written : (q newest commits : ℕ) (change : Change) (slot : Slot) → 1 ≤ q → ((w : ℕ) → writer_of slot.entries ≡ Some w → w ≡ q) → IsSoundSlot newest commits slot → IsSoundSlot newest commits (written q change slot)
 sound_written q newest commits change slot pass mine ok = record {
   lawful = lawful_written q change slot ok.lawful mine;

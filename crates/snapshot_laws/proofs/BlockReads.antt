@@ -259,8 +259,10 @@ module _ (sh : Shape) (s : Parts) (own : OwnTransaction) (t : ℕ) (m : Isolatio
           ap (λ j. row_read sh s own t (place_in b j)) zero_plus
           ∙ quiet_read (place_in b j) (ap (λ (x : Slot). has_none x.entries) same ∙ quiet_none (body_at sh s t b).slots j quiet) ∙ ap (λ (x : Slot). x.row) same
 
+  -- the session's reads of all blocks hold the rows that it sees, each at one place
   pub reads : ReadsEachOnce sh s own t (seen_rows m open')
   reads = record { no_other = no_other; all = all; once = once; shared = shared }
 
+-- the session's reads of all blocks hold the rows of its transaction of the machine
 pub reads_hold_each_row : ReadsHoldEachRow
 reads_hold_each_row sh s own t m open' shape ok owns f is_open = reads sh s own t m open' shape ok owns f is_open

@@ -74,6 +74,7 @@ module _ (sh : Shape) (t moved : ℕ) (row : MovePair → Row) (m : IsolationMac
       first_seen s f wide (λ desk. desk) (ap (λ n. record (desk_at sh s) { newest = n }) newest) (omega (arith, newest)) later first rest each far
       (λ s' f' wide' newest' later' each'. rest_seen rest s' f' wide' newest' later' each' far.2) u p
 
+-- a move changes nothing that an open session sees of any slot
 pub move_seen : (sh : Shape) (s : Parts) (ok : Sound sh s) (q : ℕ) (snapshot : Snapshot) → HasOpen (desk_at sh s) q snapshot → (t : ℕ) (moves : List MovePair)
     → IsLawful sh (event.Move t moves) s → (u p : ℕ) → seen (slot_at sh (effect sh s (event.Move t moves)) u p) snapshot.stamp q ≡ seen (slot_at sh s u p) snapshot.stamp q
 move_seen sh s ok q snapshot open' t moves lawful u p = go (held_pairs sh s t moves) refl

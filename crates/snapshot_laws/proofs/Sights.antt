@@ -247,5 +247,6 @@ module _ (sh : Shape) (s : Parts) (shape : IsShape sh) (ok : Sound sh s) (q : �
   event_seen (event.Image t b image) lawful ne = phase_seen t b imaged (λ x j. refl)
   event_seen (event.Thaw t b) lawful ne = phase_seen t b thawed (λ x j. refl)
 
+-- an event of another or of upkeep changes nothing that an open session sees of any slot
 pub seen_stays : SeenStays
 seen_stays sh s e q snapshot shape ok lawful has ne t p = event_seen sh s shape ok q snapshot has e lawful ne t p

@@ -9,9 +9,11 @@ use Rattle.event_laws.proofs.Heads.{all_bare}
 use Rattle.slot_laws.proofs.Kept.{bool_cases}
 use Rattle.undo_chain.specs.declared.undo.Undo.{Undo}
 
+-- true is not false
 pub true_false : true ≡ false → ⊥
 true_false e = cc
 
+-- where both hold together, each does
 pub and_parts : (a b : Bool) → (a && b) ≡ true → (a ≡ true) × (b ≡ true)
 and_parts true b e = (refl, e)
 and_parts false b e = cc
@@ -40,6 +42,7 @@ row_not_bare (x ∷ slots) e r = go (is_some x.row) refl r (row_not_bare slots (
     go true is r rest = bare_row x (and_parts (is_bare x) (list_all is_bare slots) e).0 is
     go false is r rest = rest (sym (ap (λ b. b || list_any (λ slot. is_some slot.row) slots) is) ∙ r)
 
+-- a body with a row is not empty
 pub row_fills : (body : Body) → has_row body ≡ true → is_empty body ≡ false
 row_fills body some = go (bool_cases (is_empty body))
   where
@@ -47,6 +50,7 @@ row_fills body some = go (bool_cases (is_empty body))
     go (inl e) = absurd (row_not_bare body.slots e some)
     go (inr e) = e
 
+-- a dense body is not empty
 pub dense_fills : (body : Body) → is_dense body ≡ true → is_empty body ≡ false
 dense_fills body dense = row_fills body (and_parts (has_row body) (is_front body.slots) dense).0
 
@@ -56,6 +60,7 @@ quiet_none [] j q = refl
 quiet_none (x ∷ slots) zero q = (and_parts (has_none x.entries) (list_all (λ slot. has_none slot.entries) slots) q).0
 quiet_none (x ∷ slots) (suc j) q = quiet_none slots j (and_parts (has_none x.entries) (list_all (λ slot. has_none slot.entries) slots) q).1
 
+-- a body with a writer in a slot is not quiet
 pub writer_not_quiet : (body : Body) (j q : ℕ) → writer_of (slot_in body j).entries ≡ Some q → is_quiet body ≡ false
 writer_not_quiet body j q w = go (bool_cases (is_quiet body))
   where
@@ -70,10 +75,12 @@ writer_not_quiet body j q w = go (bool_cases (is_quiet body))
 -- ---- a change of each slot
 
 module _ (f : Slot → Slot) where
+  -- a change that leaves which slots are bare leaves whether all are
   pub map_empty : ((x : Slot) → is_bare (f x) ≡ is_bare x) → (slots : List Slot) → list_all is_bare (map f slots) ≡ list_all is_bare slots
   map_empty same [] = refl
   map_empty same (x ∷ slots) = ap (λ b. b && list_all is_bare (map f slots)) (same x) ∙ ap (λ b. is_bare x && b) (map_empty same slots)
 
+  -- a change that leaves the rows leaves whether there is one
   pub map_row : ((x : Slot) → (f x).row ≡ x.row) → (slots : List Slot) → list_any (λ slot. is_some slot.row) (map f slots) ≡ list_any (λ slot. is_some slot.row) slots
   map_row same [] = refl
   map_row same (x ∷ slots) =
@@ -91,9 +98,11 @@ module _ (f : Slot → Slot) where
       ∙ ap (λ b. cond (is_some x.row) b (list_all (λ slot. is_none slot.row) (map f slots))) (map_front same slots)
       ∙ ap (cond (is_some x.row) (is_front slots)) (map_none same slots)
 
+  -- a change that leaves the rows leaves a body as dense as it was
   pub map_dense : ((x : Slot) → (f x).row ≡ x.row) → (body : Body) → is_dense (record body { slots = map f body.slots }) ≡ is_dense body
   map_dense same body = ap (λ b. b && is_front (map f body.slots)) (map_row same body.slots) ∙ ap (λ b. has_row body && b) (map_front same body.slots)
 
+  -- a change that leaves slots without entries so leaves a body quiet
   pub map_quiet : ((x : Slot) → has_none x.entries ≡ true → has_none (f x).entries ≡ true) → (slots : List Slot) → list_all (λ slot. has_none slot.entries) slots ≡ true
       → list_all (λ slot. has_none slot.entries) (map f slots) ≡ true
   map_quiet stays [] q = refl
@@ -103,6 +112,7 @@ module _ (f : Slot → Slot) where
 
 -- ---- a change of one slot
 
+-- a change that leaves a slot that is not bare leaves a body that is not empty
 pub slot_filled : (j : ℕ) (g : Slot → Slot) (body : Body) → j < length body.slots → is_bare (g (slot_in body j)) ≡ false → is_empty (with_slot j g body) ≡ false
 slot_filled j g body inside filled =
     not_empty (with_slot j g body) j (ap is_bare (get_or-set_same body.slots j (g (slot_in body j)) bare inside) ∙ filled)

@@ -36,6 +36,7 @@ pub all_index : {X : Type 0} (P : X → Type 0) (xs : List X) (d : X) → ((j : 
 all_index P [] d each = All-nil P
 all_index P (x ∷ xs) d each = All-cons P x xs (each 0 (omega arith)) (all_index P xs d (λ j less. each (suc j) (omega (arith, less))))
 
+-- what holds of all of a list and of the default holds at each place
 pub index_all : {X : Type 0} (P : X → Type 0) (xs : List X) (d : X) (j : ℕ) → P d → All P xs → P (get_or xs j d)
 index_all P [] d j none all = none
 index_all P (x ∷ xs) d zero none all = All-head P x xs all
@@ -90,6 +91,7 @@ module _ (sh : Shape) (s : Parts) (ok : Shaped sh s) (c : Changes) where
       phase = λ is. other;
     }
 
+    -- a commit leaves the heads
     pub commit_calm : (q stamp number : ℕ) → IsCalm sh s ok c t b (committed_in q stamp number (body_at sh s t b))
     commit_calm q stamp number = record {
       holds = map_holds sh t x (ok.bodies t b has) (committed q stamp number) (λ slot. refl) none
@@ -112,6 +114,7 @@ module _ (sh : Shape) (s : Parts) (ok : Shaped sh s) (c : Changes) where
         same : (slot : Slot) → is_bare (committed q stamp number slot) ≡ is_bare slot
         same slot = ap (λ b. is_none slot.row && b) (same_none slot.entries)
 
+    -- an observe leaves the heads
     pub observe_calm : IsCalm sh s ok c t b (observed (is_head sh s t b) (body_at sh s t b))
     observe_calm = record {
       holds = observed_holds sh t x (ok.bodies t b has) (is_head sh s t b);
@@ -134,6 +137,7 @@ module _ (sh : Shape) (s : Parts) (ok : Shaped sh s) (c : Changes) where
             flip true e = cc
             flip false e = refl
 
+    -- a seal that nothing is against leaves the heads
     pub seal_calm : seal_fault (is_head sh s t b) (body_at sh s t b) ≡ None → IsCalm sh s ok c t b (sealed (body_at sh s t b))
     seal_calm fine = record {
       holds = sealed_holds sh t x (ok.bodies t b has) (is_head sh s t b) fine;
@@ -147,6 +151,7 @@ module _ (sh : Shape) (s : Parts) (ok : Shaped sh s) (c : Changes) where
         other : is_head sh s t b ≡ false
         other = (none_by (is_loose x.phase) (is_head sh s t b) (has_row x) (is_front x.slots) (is_quiet x) x.cooling (x.last == last_stamp) fine).other
 
+    -- an image that is laid leaves the heads
     pub image_calm : IsCalm sh s ok c t b (imaged (body_at sh s t b))
     image_calm = record {
       holds = imaged_holds sh t x (ok.bodies t b has);
@@ -167,6 +172,7 @@ module _ (sh : Shape) (s : Parts) (ok : Shaped sh s) (c : Changes) where
         back (Sealed g) l = refl
         back (Imaged g) l = refl
 
+    -- a thaw leaves the heads
     pub thaw_calm : IsCalm sh s ok c t b (thawed (body_at sh s t b))
     thaw_calm = record {
       holds = thawed_holds sh t x (ok.bodies t b has);

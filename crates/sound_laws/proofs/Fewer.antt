@@ -61,6 +61,7 @@ emptied_head sh s ok c t has bares loose = record {
 
 -- ---- lawful slots of a sound state
 
+-- the slots of a sound state's blocks are sound
 pub slots_lawful : (sh : Shape) (s : Parts) → IsShape sh → (ok : Sound sh s) → (t b : ℕ) → HasBlock sh t b → (j : ℕ) → j < length (body_at sh s t b).slots
     → IsSoundSlot (desk_at sh s).newest (desk_at sh s).commits (slot_in (body_at sh s t b) j)
 slots_lawful sh s shape ok t b has j less =
@@ -80,11 +81,13 @@ sound_bare newest commits = record {
 
 -- ---- a roll-back of a body
 
+-- a roll-back leaves a bare slot bare
 pub rolled_bare : (q : ℕ) (body : Body) (j : ℕ) → is_bare (slot_in body j) ≡ true → is_bare (slot_in (rolled_back_in q body) j) ≡ true
 rolled_bare q body j is =
     let none : slot_in body j ≡ bare = bare_is (slot_in body j) is in
     ap is_bare (rolled_slot q 0 0 body j (subst (IsSoundSlot 0 0) (sym none) (sound_bare 0 0))) ∙ ap (λ x. is_bare (rolled_back q x)) none
 
+-- in slots without entries nobody is a writer
 pub unwritten : (q : ℕ) (slots : List Slot) → list_all (λ slot. has_none slot.entries) slots ≡ true → list_any (λ slot. is_writer q (writer_of slot.entries)) slots ≡ false
 unwritten q [] is = refl
 unwritten q (x ∷ slots) is = go x.entries refl is (unwritten q slots)
@@ -97,6 +100,7 @@ unwritten q (x ∷ slots) is = go x.entries refl is (unwritten q slots)
         ∙ rest (sym (ap (λ es. has_none es && list_all (λ slot. has_none slot.entries) slots) e) ∙ is)
     go (y ∷ ys) e is rest = absurd (true_false (sym (sym (ap (λ es. has_none es && list_all (λ slot. has_none slot.entries) slots) e) ∙ is)))
 
+-- a roll-back leaves a body's phase
 pub rolled_phase : (q : ℕ) (body : Body) → (rolled_back_in q body).phase ≡ body.phase
 rolled_phase q body = go (is_written_by q body)
   where
@@ -112,6 +116,7 @@ rolled_cooling q body = go (is_written_by q body)
     go true is = absurd (true_false (sym is))
     go false is = is
 
+-- a roll-back keeps what holds of a body
 pub rolled_holds : (sh : Shape) (t : ℕ) (q : ℕ) (body : Body) → BodyHolds sh t body → ((j : ℕ) → j < length body.slots → IsLawful (slot_in body j).entries)
     → BodyHolds sh t (rolled_back_in q body)
 rolled_holds sh t q body old lawful = go (is_written_by q body) refl
@@ -134,9 +139,11 @@ no_entry : (oldest : ℕ) (es : List (Undo Before)) → has_none es ≡ true →
 no_entry oldest [] is = refl
 no_entry oldest (e ∷ es) is = cc
 
+-- a pruning leaves a bare slot bare
 pub pruned_bare : (oldest : ℕ) (body : Body) (j : ℕ) → is_bare (slot_in body j) ≡ true → is_bare (slot_in (pruned_in oldest body) j) ≡ true
 pruned_bare oldest body j is = ap is_bare (slot_map (pruned oldest) refl body.slots j) ∙ ap (λ x. is_bare (pruned oldest x)) (bare_is (slot_in body j) is)
 
+-- a pruning keeps what holds of a body
 pub pruned_holds : (sh : Shape) (t : ℕ) (oldest : ℕ) (body : Body) → BodyHolds sh t body → ((j : ℕ) → j < length body.slots → IsLawful (slot_in body j).entries)
     → BodyHolds sh t (pruned_in oldest body)
 pruned_holds sh t oldest body old lawful =

@@ -23,10 +23,12 @@ use Rattle.undo_chain.specs.Entry.{is_own, is_stamped_by}
 use Rattle.undo_chain.specs.Lawful.{IsLawful}
 use Rattle.undo_chain.specs.Stamped.{stamped}
 
+-- the versions of a row still fit once their entries have a commit's stamp
 pub committed_fit : (columns : List Column) (q stamp number : ℕ) (row : Option Row) (es : List (Undo Before)) → VersionsFit columns row es → VersionsFit columns row (map (stamped q stamp number) es)
 committed_fit columns q stamp number row [] fit = fit
 committed_fit columns q stamp number row (e ∷ es) fit = (fit.0, fit.1, committed_fit columns q stamp number (laid_back row e.before) es fit.2)
 
+-- the versions that a pruning leaves of a row fit
 pub pruned_fit : (columns : List Column) (o : ℕ) (row : Option Row) (es : List (Undo Before)) → IsLawful es → VersionsFit columns row es → VersionsFit columns row (rest o es)
 pruned_fit columns o row [] lawful fit = fit
 pruned_fit columns o row (e ∷ es) lawful fit = go (is_stamped_by e o) refl (pruned_fit columns o (laid_back row e.before) es (IsLawful-tail e es lawful) fit.2)
@@ -35,6 +37,7 @@ pruned_fit columns o row (e ∷ es) lawful fit = go (is_stamped_by e o) refl (pr
     go true is before = subst (λ xs. VersionsFit columns row xs) (sym (rest_none o (e ∷ es) (all_stamped o e es lawful is))) fit.0
     go false is before = subst (λ xs. VersionsFit columns row xs) (sym (rest_step o e es false is)) (fit.0, fit.1, before)
 
+-- the versions that a roll-back leaves of a row fit
 pub rolled_fit : (columns : List Column) (q : ℕ) (row : Option Row) (es : List (Undo Before)) → IsLawful es → VersionsFit columns row es → VersionsFit columns (row_of q row es) (rest_of q es)
 rolled_fit columns q row [] lawful fit = fit
 rolled_fit columns q row (e ∷ es) lawful fit = go (is_own e q) refl (rolled_fit columns q (laid_back row e.before) es (IsLawful-tail e es lawful) fit.2)
@@ -135,6 +138,7 @@ standing_cells old columns (a ∷ patch) high all each =
     (each a.column (All-head (BothIn 0 high) (standing old a) (map (standing old) patch) all).1)
     (standing_cells old columns patch high (All-tail (BothIn 0 high) (standing old a) (map (standing old) patch) all) each)
 
+-- the cells that an update replaced fit their columns
 pub image_fits : (columns : List Column) (old new : Row) → Fits columns old → PatchFits columns (columns_before old (differences 0 old new))
 image_fits columns old new fit = record {
   each = standing_cells old columns (differences 0 old new) (length old) (differ_in old 0 old new (length old) (omega arith)) (fits_cells columns old fit);

@@ -16,6 +16,7 @@ use Rattle.event_spec.specs.SlotSound.{VersionsFit}
 use Rattle.event_spec.specs.Sound.{BodyHolds}
 use Rattle.sound_laws.proofs.Bodies.{true_false, and_parts, map_dense, map_quiet, map_row}
 
+-- all versions of the slot's row fit the table's columns
 abbrev pub SlotFits : Shape → ℕ → Slot → Type 0
 SlotFits sh t slot = VersionsFit (columns_in sh t) slot.row slot.entries
 
@@ -35,6 +36,7 @@ pub record IsFine (l h r f q c e : Bool) : Type 0 where
   pub cold : c ≡ true
   pub stamp : e ≡ false
 
+-- where no reason is found against a seal, each of them is absent
 pub none_by : (loose head row front quiet cooling last : Bool) → judged loose head row front quiet cooling last ≡ None → IsFine loose head row front quiet cooling last
 none_by false head row front quiet cooling last n = cc
 none_by true true row front quiet cooling last n = cc
@@ -95,6 +97,7 @@ module _ (sh : Shape) (t : ℕ) (x : Body) (old : BodyHolds sh t x) where
     last = old.last;
   }
 
+  -- an observe keeps what holds of a body
   pub observed_holds : (head : Bool) → BodyHolds sh t (observed head x)
   observed_holds head = record {
     columns = old.columns;
@@ -126,6 +129,7 @@ module _ (sh : Shape) (t : ℕ) (x : Body) (old : BodyHolds sh t x) where
           let turns' : turns head x ≡ true = sym (ap (λ b. b || turns head x) c) ∙ is in
           is_two (min (x.rounds + 1) 2) (and_parts (is_loose x.phase && not x.cooling && not head && has_row x) (min (x.rounds + 1) 2 == 2) turns').1
 
+  -- a thaw keeps what holds of a body
   pub thawed_holds : BodyHolds sh t (thawed x)
   thawed_holds = record {
     columns = old.columns;
@@ -141,6 +145,7 @@ module _ (sh : Shape) (t : ℕ) (x : Body) (old : BodyHolds sh t x) where
     last = old.last;
   }
 
+  -- an image that is laid keeps what holds of a body
   pub imaged_holds : BodyHolds sh t (imaged x)
   imaged_holds = record {
     columns = old.columns;

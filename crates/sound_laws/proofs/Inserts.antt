@@ -166,6 +166,7 @@ module _ (sh : Shape) (s : Parts) (ok : Shaped sh s) (shape : IsShape sh) (t : �
   some_slot : 0 < S
   some_slot = let one = (shape.slots t has).0 in omega (arith, one)
 
+  -- the slot to which an insert goes
   pub spot : Spot
   spot = go way
     where
@@ -262,6 +263,7 @@ module _ (sh : Shape) (s : Parts) (ok : Shaped sh s) (shape : IsShape sh) (t : �
           ∙ ap (λ z. z && not (x == b)) (and_true (is_empty (body_at sh s t x)))
           ∙ ap (λ y. is_empty y && not (x == b)) (sym (body_else t x (λ e' e''. ne (e'' ∙ here.block))))
 
+  -- after the insert what holds of heads holds of the table's
   pub own_head : HeadAfter sh s ok c t (taken_by S old)
   own_head = go way
     where
@@ -301,6 +303,7 @@ module _ (sh : Shape) (s : Parts) (ok : Shaped sh s) (shape : IsShape sh) (t : �
   head_here : c.head t old ≡ taken_by S old
   head_here = heads t old ∙ ap (λ y. cond y (taken_by S old) old) (num_refl t)
 
+  -- after the insert a block that is cooling or not loose is no head
   pub own_no_head : (u b : ℕ) → HasBlock sh u b → NoHeadAfter sh s ok c u b
   own_no_head u b hb = go (same_number u t) (same_number b (block_of p))
     where

@@ -32,6 +32,7 @@ module _ (sh : Shape) (s : Parts) (shape : IsShape sh) (ok : Sound sh s) where
   keeps_shaped (event.Image t b image) lawful = image_keeps sh s shape ok t b image lawful.1.0
   keeps_shaped (event.Thaw t b) lawful = thaw_keeps sh s shape ok t b lawful.1.0
 
+-- a lawful event keeps the invariant
 pub keeps : Keeps
 keeps sh s e shape ok lawful =
     let after = keeps_shaped sh s shape ok e lawful in

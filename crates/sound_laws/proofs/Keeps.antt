@@ -49,6 +49,7 @@ written_filled q new slot = go (is_none (row_after slot.row new))
     go true = refl
     go false = refl
 
+-- a sound state has heads and bodies as they should be
 pub shaped : (sh : Shape) (s : Parts) → Sound sh s → Shaped sh s
 shaped sh s ok = record { count = ok.count; kinds = ok.kinds; heads = ok.heads; bodies = ok.bodies; no_head = ok.no_head; sessions = ok.sessions }
 
@@ -58,6 +59,7 @@ module _ (sh : Shape) (s : Parts) (ok : Shaped sh s) where
       → Shaped sh (each_changed (record nothing { desk = g }) (names sh) s)
   desk_keeps g same = calm_keeps sh s ok (record nothing { desk = g }) (λ t h. refl) (λ t b has. calm_same sh s ok (record nothing { desk = g }) t b has) same
 
+  -- an event that changes nothing keeps what holds of heads and bodies
   pub nothing_keeps : Shaped sh (each_changed nothing (names sh) s)
   nothing_keeps = desk_keeps (λ desk. desk) (λ desk. refl)
 
@@ -98,6 +100,7 @@ module _ (sh : Shape) (s : Parts) (shape : IsShape sh) (ok : Sound sh s) where
       loose has (inl l) = l
       loose has (inr l) = absurd (true_false (sym ((ok.bodies t (block_of p) has).quiet l) ∙ writer_not_quiet (body_at sh s t (block_of p)) (slot_of p) q w))
 
+  -- an insert keeps what holds of heads and bodies
   pub insert_keeps : (own : OwnKey) (t : ℕ) (row : Row) → IsLawful sh (event.Insert own t row) s → Shaped sh (effect sh s (event.Insert own t row))
   insert_keeps own t row lawful = go (insert_judged sh s own t (key_of row)) refl
     where
@@ -158,6 +161,7 @@ module _ (sh : Shape) (s : Parts) (shape : IsShape sh) (ok : Sound sh s) where
           (λ u h. refl) (λ u x y. refl) (λ desk. refl) where'.spot where'.filled
           (subst (λ (o : Option Row). SlotFits sh t (written own.session (choice (unwrap_or o [])) (slot_at sh s t p))) (sym where'.row_is) (fit p where'.row where'.row_is)))
 
+  -- an update keeps what holds of heads and bodies
   pub update_keeps : (own : OwnKey) (t : ℕ) (row : Row) → IsLawful sh (event.Update own t row) s → Shaped sh (effect sh s (event.Update own t row))
   update_keeps own t row lawful = change_keeps own t (key_of row) (λ old. change.Patch (differences 0 old row)) lawful.1.2 (λ p old is. fit p old is)
     where
@@ -167,12 +171,14 @@ module _ (sh : Shape) (s : Parts) (shape : IsShape sh) (ok : Sound sh s) where
           (patch_fits (columns_in sh t) own.session old row (slot_at sh s t p).entries (fits_columns sh t row lawful.1.0 lawful.1.1)
           (subst (λ (o : Option Row). VersionsFit (columns_in sh t) o (slot_at sh s t p).entries) is (versions_fit sh s ok t p)))
 
+  -- a delete keeps what holds of heads and bodies
   pub delete_keeps : (own : OwnKey) (t : ℕ) (key : ℤ) → IsLawful sh (event.Delete own t key) s → Shaped sh (effect sh s (event.Delete own t key))
   delete_keeps own t key lawful = change_keeps own t key (λ old. change.Gone) lawful.1.1
       (λ p old is. gone_fits (columns_in sh t) own.session (slot_at sh s t p).row (slot_at sh s t p).entries (versions_fit sh s ok t p))
 
   -- ---- ends
 
+  -- a commit keeps what holds of heads and bodies
   pub commit_keeps : (own : OwnTransaction) → Shaped sh (effect sh s (event.Commit own))
   commit_keeps own = calm_keeps sh s k (after_commit sh s own) (λ t h. refl) (λ t b has. at t b has (is_some_write own.writes))
       (λ desk. length-set (cond (is_some_write own.writes) (numbered desk) desk).open_snapshots (own.session - 1) None ∙ same desk (is_some_write own.writes))
@@ -186,6 +192,7 @@ module _ (sh : Shape) (s : Parts) (shape : IsShape sh) (ok : Sound sh s) where
       at t b has true = commit_calm sh s (shaped sh s ok) (after_commit sh s own) t b has own.session ((desk_at sh s).newest + 1) ((desk_at sh s).commits + 1)
       at t b has false = calm_same sh s (shaped sh s ok) (after_commit sh s own) t b has
 
+  -- an abort keeps what holds of heads and bodies
   pub abort_keeps : (own : OwnTransaction) → Shaped sh (effect sh s (event.Abort own))
   abort_keeps own = keeps_shape sh s k c
       (λ t has. emptied_head sh s k c t has (λ j is. rolled_bare own.session (body_at sh s t (head_at sh s t).block) j is)
@@ -202,6 +209,7 @@ module _ (sh : Shape) (s : Parts) (shape : IsShape sh) (ok : Sound sh s) where
 
   -- ---- pruning
 
+  -- a pruning keeps what holds of heads and bodies
   pub prune_keeps : (t b oldest : ℕ) → Shaped sh (effect sh s (event.Prune t b oldest))
   prune_keeps t b oldest = keeps_shape sh s k (changes_of sh s (event.Prune t b oldest)) heads bodies no_head (λ desk. refl)
     where
@@ -245,10 +253,12 @@ module _ (sh : Shape) (s : Parts) (shape : IsShape sh) (ok : Sound sh s) where
 
   -- ---- phases
 
+  -- an observe keeps what holds of heads and bodies
   pub observe_keeps : (t b : ℕ) → HasBlock sh t b → Shaped sh (effect sh s (event.Observe t b))
   observe_keeps t b has = one_keeps sh s k (changes_of sh s (event.Observe t b)) t b (observed (is_head sh s t b)) (λ u h. refl) (λ u x y. refl) (λ desk. refl)
       (observe_calm sh s k (changes_of sh s (event.Observe t b)) t b has)
 
+  -- a seal keeps what holds of heads and bodies
   pub seal_keeps : (t b : ℕ) → HasBlock sh t b → Shaped sh (effect sh s (event.Seal t b))
   seal_keeps t b has = go (seal_fault (is_head sh s t b) (body_at sh s t b)) refl
     where
@@ -259,10 +269,12 @@ module _ (sh : Shape) (s : Parts) (shape : IsShape sh) (ok : Sound sh s) where
           (one_keeps sh s (shaped sh s ok) (record nothing { body = at_both t b sealed }) t b sealed (λ u h. refl) (λ u x y. refl) (λ desk. refl)
           (seal_calm sh s (shaped sh s ok) (record nothing { body = at_both t b sealed }) t b has is))
 
+  -- an image keeps what holds of heads and bodies
   pub image_keeps : (t b : ℕ) (image : Option (List Row)) → HasBlock sh t b → Shaped sh (effect sh s (event.Image t b image))
   image_keeps t b image has = one_keeps sh s k (changes_of sh s (event.Image t b image)) t b imaged (λ u h. refl) (λ u x y. refl) (λ desk. refl)
       (image_calm sh s k (changes_of sh s (event.Image t b image)) t b has)
 
+  -- a thaw keeps what holds of heads and bodies
   pub thaw_keeps : (t b : ℕ) → HasBlock sh t b → Shaped sh (effect sh s (event.Thaw t b))
   thaw_keeps t b has = one_keeps sh s k (changes_of sh s (event.Thaw t b)) t b thawed (λ u h. refl) (λ u x y. refl) (λ desk. refl)
       (thaw_calm sh s k (changes_of sh s (event.Thaw t b)) t b has)

@@ -15,6 +15,7 @@ use Rattle.event_spec.specs.Sound.{IsOfKind, HeadHolds, BodyHolds}
 use Rattle.sound_laws.specs.Shaped.{Shaped}
 use Rattle.txn_desk.specs.Desk.{DeskState}
 
+-- two tests that agree on a list leave the same of it
 pub filter_same : (p q : ℕ → Bool) (xs : List ℕ) → ((x : ℕ) → Among x xs → p x ≡ q x) → filter p xs ≡ filter q xs
 filter_same p q [] same = refl
 filter_same p q (x ∷ xs) same =
@@ -43,19 +44,23 @@ kind_after c TheDesk (Some (part.Shard x)) k = absurd k
 kind_after c TheDesk (Some (part.Body x)) k = absurd k
 kind_after c TheDesk (Some (part.Desk x)) k = tt
 
+-- a number below a table's blocks is one of its blocks
 pub in_block : (sh : Shape) (t b : ℕ) → HasTable sh t → Among b (below (blocks_of sh t)) → HasBlock sh t b
 in_block sh t b has a = (has, let r = member_below 0 (blocks_of sh t) b a in omega (arith, r))
 
 module _ (sh : Shape) (s : Parts) (ok : Shaped sh s) (c : Changes) where
+  -- the parts after the changes
   abbrev pub after : Parts
   after = each_changed c (names sh) s
 
+  -- a body after the changes is what its change makes of it
   pub body_after : (t b : ℕ) → HasBlock sh t b → body_at sh after t b ≡ c.body t b (body_at sh s t b)
   body_after t b has =
       let there = body_there sh s ok.kinds t b has in
       ap body_from (named_changed c (names sh) s (BodyOf t b) ∙ ap (option_map (changed c (BodyOf t b))) there.1)
       ∙ ap (λ o. c.body t b (body_from o)) (sym there.1)
 
+  -- a head after the changes is what its change makes of it
   pub head_after : (t : ℕ) → HasTable sh t → head_at sh after t ≡ c.head t (head_at sh s t)
   head_after t has =
       let there = head_there sh s ok.kinds t has in
@@ -91,6 +96,7 @@ module _ (sh : Shape) (s : Parts) (ok : Shaped sh s) (c : Changes) where
     pub cooling : (c.body t b (body_at sh s t b)).cooling ≡ true → b ≢ (c.head t (head_at sh s t)).block
     pub phase : is_loose (c.body t b (body_at sh s t b)).phase ≡ false → b ≢ (c.head t (head_at sh s t)).block
 
+  -- parts whose heads and bodies hold after the changes, one by one, are as they should be
   pub keeps_shape : ((t : ℕ) → HasTable sh t → HeadAfter t (c.head t (head_at sh s t)))
       → ((t b : ℕ) → HasBlock sh t b → BodyHolds sh t (c.body t b (body_at sh s t b)))
       → ((t b : ℕ) → HasBlock sh t b → NoHeadAfter t b)
@@ -120,6 +126,7 @@ module _ (sh : Shape) (s : Parts) (ok : Shaped sh s) (c : Changes) where
     pub cooling : y.cooling ≡ true → b ≢ (head_at sh s t).block
     pub phase : is_loose y.phase ≡ false → b ≢ (head_at sh s t).block
 
+  -- where no body's change touches the heads, a head holds as before
   pub calm_head : (t : ℕ) → HasTable sh t → ((b : ℕ) → HasBlock sh t b → IsCalm t b (c.body t b (body_at sh s t b))) → HeadAfter t (head_at sh s t)
   calm_head t has calm = record {
     block = old.block;
@@ -137,6 +144,7 @@ module _ (sh : Shape) (s : Parts) (ok : Shaped sh s) (c : Changes) where
       here : IsCalm t (head_at sh s t).block (c.body t (head_at sh s t).block (body_at sh s t (head_at sh s t).block))
       here = calm (head_at sh s t).block (ok.heads t has).block
 
+  -- changes that leave the heads keep what holds of heads and bodies
   pub calm_keeps : ((t : ℕ) (h : Head) → c.head t h ≡ h) → ((t b : ℕ) → HasBlock sh t b → IsCalm t b (c.body t b (body_at sh s t b)))
       → ((desk : DeskState) → length (c.desk desk).open_snapshots ≡ length desk.open_snapshots)
       → Shaped sh (each_changed c (names sh) s)

@@ -125,9 +125,11 @@ module _ (sh : Shape) (s : Parts) (ok : Shaped sh s) (m : IsolationMachine) (f :
       fill_calm sh half half_shaped second t (block_of pair.target) target.has (slot_of pair.target) (moved_in stamp row) inside_half open'.loose open'.other open'.filled refl
       (in_fits sh t stamp row (slot_at sh half t pair.target) half_bare (subst (SlotFits sh t) ready'.full fit))
 
+  -- one row that leaves its slot and comes to another keeps what holds of heads and bodies
   pub pair_shaped : Shaped sh (each_changed (coming t stamp row pair) (names sh) (each_changed (leaving t stamp row g pair) (names sh) s))
   pair_shaped = one_keeps sh half half_shaped second t (block_of pair.target) (with_slot (slot_of pair.target) (moved_in stamp row)) (λ u h. refl) (λ u x y. refl) (λ desk. refl) come_calm
 
+  -- blocks that may give and take rows may so behind it still
   pub pair_open : (x : ℕ) → IsOpen sh s t x → IsOpen sh (each_changed (coming t stamp row pair) (names sh) (each_changed (leaving t stamp row g pair) (names sh) s)) t x
   pair_open x old = open_after sh half half_shaped second t (block_of pair.target) (slot_of pair.target) (moved_in stamp row) (λ u h. refl) (λ u x y. refl) come_calm x (half_open x old)
 
@@ -186,6 +188,7 @@ module _ (sh : Shape) (t stamp : ℕ) (row : MovePair → Row) (m : IsolationMac
       first_keeps s ok f wide (λ desk. desk) (ap (λ n. record (desk_at sh s) { newest = n }) newest) (λ desk. refl) (omega (arith, newest)) later first rest may far
       (λ s' ok' f' wide' newest' later' may'. rest_keeps rest s' ok' f' wide' newest' later' may' far.2)
 
+  -- pair by pair a move keeps what holds of heads and bodies
   pub moves_keep : (s : Parts) → Shaped sh s → FollowsMachine sh s m → Wide sh s t → stamp ≡ (desk_at sh s).newest + 1
       → (first : MovePair) (rest : List MovePair) → ((pair : MovePair) → Among pair (first ∷ rest) → MayMove sh s t (row pair) pair) → Apart (first ∷ rest)
       → Shaped sh (each_changed (moving t stamp row ticked (first ∷ rest)) (names sh) s)
@@ -209,6 +212,7 @@ module _ (sh : Shape) (s : Parts) (ok : Sound sh s) where
       let c = and_parts (is_loose (body_at sh s t b).phase) ((body_at sh s t b).cooling) b'.0 in
       record { has = has; loose = c.0; other = (ok.no_head t b has).cooling c.1; filled = row_fills (body_at sh s t b) a.1 }
 
+  -- a lawful move keeps what holds of heads and bodies
   pub move_keeps : (t : ℕ) (moves : List MovePair) → IsLawful sh (event.Move t moves) s → Shaped sh (effect sh s (event.Move t moves))
   move_keeps t moves lawful = go (held_pairs sh s t moves) refl
     where

@@ -33,16 +33,19 @@ use Rattle.undo_chain.specs.declared.undo.Undo.{Undo}
 
 -- ---- what fits
 
+-- a row that fits and is put into a slot fits, with the versions before it
 pub put_fits : (columns : List Column) (q : ℕ) (row : Row) (old : Option Row) (es : List (Undo Before)) → Fits columns row → VersionsFit columns old es
     → VersionsFit columns (written q (change.Put row) (record { row = old; entries = es })).row (written q (change.Put row) (record { row = old; entries = es })).entries
 put_fits columns q row None es new fit = (new, tt, fit)
 put_fits columns q row (Some cells) es new fit = (new, current_fits columns (Some cells) es fit, fit)
 
+-- the versions of a row that is deleted still fit
 pub gone_fits : (columns : List Column) (q : ℕ) (old : Option Row) (es : List (Undo Before)) → VersionsFit columns old es
     → VersionsFit columns (written q change.Gone (record { row = old; entries = es })).row (written q change.Gone (record { row = old; entries = es })).entries
 gone_fits columns q None es fit = (tt, tt, fit)
 gone_fits columns q (Some cells) es fit = (tt, current_fits columns (Some cells) es fit, fit)
 
+-- a row that is updated to one that fits still fits in all its versions
 pub patch_fits : (columns : List Column) (q : ℕ) (old new : Row) (es : List (Undo Before)) → Fits columns new → VersionsFit columns (Some old) es
     → VersionsFit columns (written q (change.Patch (differences 0 old new)) (record { row = Some old; entries = es })).row
     (written q (change.Patch (differences 0 old new)) (record { row = Some old; entries = es })).entries
@@ -56,6 +59,7 @@ patch_fits columns q old new es fits fit =
 
 -- ---- where a change goes
 
+-- a write that is judged well has no fault, and goes to the place that was found
 pub judged_ok : (fault : Option WriteFault) (place : Option ℕ) (otherwise : WriteFault) (p : ℕ) → judged fault place otherwise ≡ Ok p → (fault ≡ None) × (place ≡ Some p)
 judged_ok (Some fault) place otherwise p is = cc
 judged_ok None None otherwise p is = cc
@@ -92,6 +96,7 @@ module _ (sh : Shape) (s : Parts) (ok : Sound sh s) where
     pub row_is : (slot_at sh s t p).row ≡ Some row
     pub filled : is_bare (slot_at sh s t p) ≡ false
 
+  -- an update or delete that is judged well goes to a slot with a row in a loose body
   pub change_goes : (own : OwnKey) (t : ℕ) (key : ℤ) (p : ℕ) → IsThawed sh t key s → change_judged sh s own t key ≡ Ok p → ChangesRow t p
   change_goes own t key p thawed is = record {
     spot = record { has = there.0; inside = there.1; loose = loose };

@@ -13,6 +13,7 @@ use Rattle.workload_spec.specs.declared.reply.Said.TheVariants as said
 use Rattle.store_laws.specs.Laws.{SingleEventsAreCalls}
 use Rattle.store_laws.specs.Own.{MakesOne, entry_of, occurrence_at, parts_after}
 
+-- a log that goes on from one that goes on goes on from the first
 pub goes_far : (first second third : List Logged) → GoesOn first second → GoesOn second third → GoesOn first third
 goes_far first second third a b = (a.0 ++ b.0, b.1 ∙ ap (λ l. l ++ b.0) a.1 ∙ append_assoc first a.0 b.0)
 
@@ -31,6 +32,7 @@ saw_and_made shape session old mid new e told seen same m = record {
   own = m.own ∙ ap (λ os. os ++ occurrence_at session (parts_after shape m.before) e told ∷ []) same;
 }
 
+-- a command that is one event is carried out by it
 pub single_events_are_calls : SingleEventsAreCalls
 single_events_are_calls shape session old new own command e told line own_is granted m events tells = record {
   goes_on = made_on shape session old new e told m;

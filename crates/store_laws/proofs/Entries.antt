@@ -21,6 +21,7 @@ module _ (shape : Shape) where
   replay_is s [] = refl
   replay_is s (e ∷ log) = replay_is (after shape s (logged_of e).made) log
 
+  -- the replay of the hall's log leaves the parts that the run's does
   pub replay_same : (log : List (Entry CoreEvent)) → replay (store_meaning shape) log ≡ parts_after shape (log_of log)
   replay_same log = replay_is (opening shape) log
 
@@ -29,6 +30,7 @@ module _ (shape : Shape) where
   lawful_is s [] l = tt
   lawful_is s (e ∷ log) l = ((l.0, l.1), l.2, lawful_is (after shape s (logged_of e).made) log l.3)
 
+  -- a log that is lawful to the hall is lawful as a run's
   pub lawful_same : (log : List (Entry CoreEvent)) → LawfulFrom (store_meaning shape) (store_meaning shape).start log → IsLawfulFrom shape (opening shape) (made_in (log_of log))
   lawful_same log l = lawful_is (opening shape) log l
 
@@ -63,6 +65,7 @@ module _ (shape : Shape) where
           ap (λ c. cond c (occurrence_of shape parts (logged_of e) ∷ rest) rest) is
           ∙ later (sym (ap (λ c. cond c (e ∷ hall_under session log) (hall_under session log)) is) ∙ none')
 
+  -- the entries of two logs in turn are those of one and then of the other
   pub log_append : (log more : List (Entry CoreEvent)) → log_of (log ++ more) ≡ log_of log ++ log_of more
   log_append [] more = refl
   log_append (e ∷ log) more = ap (λ es. logged_of e ∷ es) (log_append log more)
@@ -97,5 +100,6 @@ module _ (shape : Shape) where
       own_on session log (entry ∷ [])
       ∙ ap (λ b. own_in shape session log ++ cond b (occurrence_of shape (parts_after shape log) entry ∷ []) []) (eq-eqb entry.session session is)
 
+-- a lawful log of the hall is one of a run, and leaves the same parts
 pub logs_are_runs : LogsAreRuns
 logs_are_runs shape log lawful = (lawful_same shape log lawful, replay_same shape log)

@@ -31,6 +31,7 @@ opened_moves shape earlier later session (Some own) same opened = (opened.0, (op
     go None is = absurd is
     go (Some has) is = record { snapshot = is.snapshot; writes = is.writes }
 
+-- a session that sees more has the same of its own
 pub looks_go_on : LooksGoOn
 looks_go_on shape session id old new hand held own' k k' sees knows = record {
   goes_on = (log_of more, ap log_of goes ∙ log_append shape v.log more);
@@ -126,6 +127,7 @@ has_left q (x ∷ xs) ys h = go (q == x) h (has_left q xs ys)
     go true h' later = refl
     go false h' later = later h'
 
+-- a session that was joined by a pass without hands and events has the same of its own
 pub joins_go_on : JoinsGoOn
 joins_go_on shape session id other old new note hand held own' k k' no_hands no_events joined knows = record {
   goes_on = (log_of more, ap log_of goes ∙ log_append shape v.log more);

@@ -77,6 +77,7 @@ refused_keeps own' (event.Seal table block) takes = refl
 refused_keeps own' (event.Image table block image) takes = refl
 refused_keeps own' (event.Thaw table block) takes = refl
 
+-- a session that made an event has it among its own, and has open what it told
 pub events_go_on : EventsGoOn
 events_go_on shape session id old new hand held before own' e told is_shape k k' ends replied mine knows = (makes, knows')
   where

@@ -96,6 +96,7 @@ stamps_from sh s (made ∷ log) holds lawful =
     kept true = holds
     kept false = core_kept sh made.event s holds lawful.0
 
+-- the newest stamp is at most the number of events
 pub stamps_are_few : StampsAreFew
 stamps_are_few sh log shape lawful =
     let first : (desk_at sh (opening sh)).newest ≡ 0 = ap (λ (d : DeskState). d.newest) (desk sh shape) in

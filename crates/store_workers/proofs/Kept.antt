@@ -53,6 +53,7 @@ upkeep_free command.Commit own is = absurd (true≢false (sym is))
 upkeep_free command.Abort own is = absurd (true≢false (sym is))
 upkeep_free (command.Export table) own is = absurd (true≢false (sym is))
 
+-- what is there is not nothing
 pub none_is_some : {X : Type 0} (x : X) → Some x ≡ None → ⊥
 none_is_some x e = cc
 
@@ -96,6 +97,7 @@ made_few shape session own None call most few (inr part) =
     let each = length-map call.made (λ (occurrence : Occurrence). occurrence.event) in
     omega (arith, few, same, parted, each)
 
+-- a command that is carried out by few events makes few
 pub few_made : (store : StoreView) (old new : Session) (command : Command) (told : Said) (most : ℕ)
     → ((own : Option OwnTransaction) (made : List Occurrence) → length (events_of (shape_in store) own old.session command made) ≤ most)
     → Answers store old new command told → MakesAtMost most old new
@@ -111,8 +113,10 @@ pub observe_few : (store : StoreView) (old new : Session) (told : Said) → All 
 observe_few store old new told few many answers =
     few_made store old new command.Observe told most_blocks (λ own made. sweeps_few (shape_in store) event.Observe few many) answers
 
+-- a seal makes one event at most
 pub seal_few : (store : StoreView) (old new : Session) (table block : ℕ) (told : Said) → Answers store old new (command.Seal table block) told → MakesAtMost 1 old new
 seal_few store old new table block told answers = few_made store old new (command.Seal table block) told 1 (λ own made. omega arith) answers
 
+-- and so does a gather
 pub gather_few : (store : StoreView) (old new : Session) (table block : ℕ) (told : Said) → Answers store old new (command.Gather table block) told → MakesAtMost 1 old new
 gather_few store old new table block told answers = few_made store old new (command.Gather table block) told 1 (λ own made. omega arith) answers

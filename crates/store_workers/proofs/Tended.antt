@@ -92,6 +92,7 @@ told_on before between now xs ys a b kept =
 -- ---- upkeep, command by command
 
 module _ (store : StoreView) where
+  -- before any command there was no upkeep
   pub keeps_nothing : (s : Session) (lines : Lines) → IsSession store s → KeepsUp store s s lines lines [] 0
   keeps_nothing s lines is = record {
     is_session = is;
@@ -104,6 +105,7 @@ module _ (store : StoreView) where
     few = omega arith;
   }
 
+  -- one command of upkeep, with its line
   pub keeps_one : (old new : Session) (before now : Lines) (command : Command) (told : Said) (most : ℕ) → is_upkeep command ≡ true
       → IsSession store new → new.session ≡ old.session → Answers store old new command told → Counts told → MakesAtMost most old new
       → Tells before now (option_to_list (line_to true (Some told))) → KeepsUp store old new before now (command ∷ []) most
@@ -132,6 +134,7 @@ module _ (store : StoreView) where
       call : Call
       call = record { command = command; made = answers.made; told = line_to true (Some told) }
 
+  -- upkeep behind upkeep is upkeep
   pub keeps_on : (old mid new : Session) (before between now : Lines) (xs ys : List Command) (m n : ℕ)
       → KeepsUp store old mid before between xs m → KeepsUp store mid new between now ys n → KeepsUp store old new before now (xs ++ ys) (m + n)
   keeps_on old mid new before between now xs ys m n a b = record {
@@ -190,6 +193,7 @@ module _ (store : StoreView) where
 abbrev pub first_blocks : ℕ → ℕ → List Command
 first_blocks table count = command.Compact table ∷ flat_map (asked_of_block table) (range_with_len 0 count)
 
+-- what is asked of a table's first blocks, with one block more
 pub block_more : (table block : ℕ) → first_blocks table block ++ asked_of_block table block ≡ first_blocks table (block + 1)
 block_more table block =
     flat_map_more (asked_of_block table) (command.Compact table ∷ []) (range_with_len 0 block) block
@@ -202,11 +206,13 @@ asked_of_entry entry = asked_of_table entry.0 entry.1.blocks
 abbrev pub first_tables : List TableDecl → ℕ → List Command
 first_tables tables count = flat_map asked_of_entry (take count (enumerate_from 0 tables))
 
+-- what is asked of the first tables, as many as there are, is asked of all
 pub all_tables : (tables : List TableDecl) → first_tables tables (length tables) ≡ asked_of_tables tables
 all_tables tables =
     let size = length-enumerate_from 0 tables in
     ap (flat_map asked_of_entry) (take_all (length tables) (enumerate_from 0 tables) (omega (arith, size)))
 
+-- what is asked of the first tables, with one table more
 pub table_more : (shape : Shape) (table : ℕ) → table < length shape.tables
     → first_tables shape.tables table ++ asked_of_table table (blocks_of shape table) ≡ first_tables shape.tables (table + 1)
 table_more shape table low = go shape.tables low

@@ -38,6 +38,7 @@ few-buffers [] = omega arith
 few-buffers (column ∷ columns) =
     omega (arith, few-data (values_of column.kind), few-buffers columns)
 
+-- A batch's message reads as its rows, whatever follows it.
 pub batch_is_read : BatchIsRead
 batch_is_read columns rows rest told is =
     let batch : Batch = batch_of columns rows in

@@ -28,9 +28,11 @@ pair_bytes pair = number_bytes w64 pair.0 ++ number_bytes w64 pair.1
 abbrev pub node_of : (ℤ × ℤ) → FieldNode
 node_of pair = record { length = pair.0; null_count = pair.1 }
 
+-- a pair as the place of a buffer
 abbrev pub buffer_of : (ℤ × ℤ) → BufferPlace
 buffer_of pair = record { offset = pair.0; length = pair.1 }
 
+-- each pair takes 16 bytes
 pub length-pairs : (pairs : List (ℤ × ℤ)) → length (flat_map pair_bytes pairs) ≡ 16 * length pairs
 length-pairs [] = refl
 length-pairs (pair ∷ pairs) = omega (arith, length-pairs pairs)
@@ -60,6 +62,7 @@ pairs-read {X} reads bytes first k (pair ∷ pairs) fit has =
     (subst P more (has-right bytes at (one ++ two) (flat_map pair_bytes pairs) has)) in
     rw (low, high, rest) refl
 
+-- the fields of a record batch: its length, its nodes and its buffers
 abbrev pub batch_fields : ℕ → List (ℤ × ℤ) → List (ℤ × ℤ) → List Field
 batch_fields rows nodes buffers =
     number 8 w64 rows
@@ -67,6 +70,7 @@ batch_fields rows nodes buffers =
     ∷ reference 16 (vector_of_pairs buffers)
     ∷ []
 
+-- the fields stand where the batch's table was laid
 pub batch-there : (bytes : List ℕ) (end rows : ℕ) (nodes buffers : List (ℤ × ℤ))
     → Has bytes end (record_batch_table rows nodes buffers end).bytes
     → IsTableAt bytes end 20 (batch_fields rows nodes buffers)

@@ -30,6 +30,7 @@ HasBuffers body from (buffer ∷ buffers) =
 abbrev pub places : ℕ → List (List ℕ) → List BufferPlace
 places from buffers = map buffer_of (buffer_places from buffers)
 
+-- buffers that stand padded one after another are each in the body
 pub buffers-there : (body : List ℕ) (from : ℕ) (buffers : List (List ℕ))
     → Has body from (flat_map padded buffers) → HasBuffers body from buffers
 buffers-there body from [] has = tt
@@ -56,6 +57,7 @@ buffers-split body from (buffer ∷ some) more has =
           rest.1,
     )
 
+-- the places of more buffers begin where the first end
 pub places-split : (from : ℕ) (some more : List (List ℕ))
     → places from (some ++ more) ≡ places from some
     ++ places (from + length (flat_map padded some)) more
@@ -69,6 +71,7 @@ places-split from (buffer ∷ some) more =
     (places-split (from + length (padded buffer)) some more
     ∙ ap (λ (n : ℕ). places (from + length (padded buffer)) some ++ places n more) end)
 
+-- there are as many places as buffers
 pub length-places : (from : ℕ) (buffers : List (List ℕ))
     → length (places from buffers) ≡ length buffers
 length-places from [] = refl
@@ -115,6 +118,7 @@ buffers-are body from rows (need ∷ needs) (buffer ∷ buffers) has long =
     (or_right (rows == 0) (nat_le need (length buffer)) (le-leb need (length buffer) long.0)))
     (buffers-are body (from + length (padded buffer)) rows needs buffers has.1 long.1)
 
+-- numbers take so many bytes for each cell
 pub length-numbers : (width : Width) (cells : List Cell)
     → length (flat_map (λ cell. number_bytes width (number_of cell)) cells)
     ≡ length cells * byte_len width
@@ -168,6 +172,7 @@ validity-is body from cells has =
           (le-leb (bitmap_length rows) size (omega (arith, all))))
     ])
 
+-- a count is tested to be itself
 pub same-count : (n : ℕ) → int_eq (pos n) (pos n) ≡ true
 same-count n = let test = le-ltb n n (omega arith) in rw test refl
 

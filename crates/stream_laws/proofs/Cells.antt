@@ -36,6 +36,7 @@ pub data IsSlot (values : Values) (cell : Cell) : Type 0 where
   value : is_null cell ≡ false → is_value_in values cell ≡ true → byte_length cell ≤ most_bytes
       → IsSlot values cell
 
+-- each cell is null or one of the values, not too long
 abbrev pub AllSlots : Values → List Cell → Type 0
 AllSlots values cells = (i : ℕ) → i < length cells → IsSlot values (get_or cells i Null)
 
@@ -130,6 +131,7 @@ offset-is from (cell ∷ cells) (suc i) inside =
     offset-is (from + length (bytes_of_value cell)) cells i (omega arith)
     ∙ omega (arith, length-append (bytes_of_value cell) (flat_map bytes_of_value (take i cells)))
 
+-- there is one offset more than cells
 pub length-offsets : (from : ℕ) (cells : List Cell) → length (offsets from cells) ≡ length cells + 1
 length-offsets from [] = refl
 length-offsets from (cell ∷ cells) =
@@ -149,6 +151,7 @@ module _ (cells : List Cell) (few : Few cells) where
   abbrev begin : ℕ → ℕ
   begin i = begins bytes_of_value cells i
 
+  -- an offset reads as where its value begins
   pub offset-back : (i : ℕ) → i ≤ length cells → offset_of ends i ≡ pos (begin i)
   offset-back i inside =
       let words : List ℕ = offsets 0 cells in
@@ -163,6 +166,7 @@ module _ (cells : List Cell) (few : Few cells) where
       ap (cast_signed w32) (has-number ends (4 * i) w32 (begin i) (omega arith) there)
       ∙ to_z_pos w32 (begin i) small
 
+  -- between two offsets the bytes of a value stand
   pub value-back : (i : ℕ) → i < length cells
       → value_of ends values_bytes i ≡ bytes_of_value (get_or cells i Null)
   value-back i inside =
@@ -191,6 +195,7 @@ module _ (cells : List Cell) (few : Few cells) where
       (rw (low, high) rises)
       (all-rise (k + 1) n (omega arith))
 
+  -- the offsets that were laid are lawful
   pub offsets-lawful : are_offsets ends values_bytes (length cells) ≡ true
   offsets-lawful =
       let rows : ℕ = length cells in
@@ -241,6 +246,7 @@ values-short values (cell ∷ cells) slots =
     let rest = values-short values cells (λ i inside. slots (suc i) (omega arith)) in
     omega (arith, length-append (bytes_of_value cell) (flat_map bytes_of_value cells), first, rest)
 
+-- the values of at most 2^15 cells are few enough for their offsets
 pub values-few : (values : Values) (cells : List Cell) → AllSlots values cells
     → length cells ≤ 2 ^ 15 → Few cells
 values-few values cells slots few = omega (arith, values-short values cells slots)

@@ -18,6 +18,7 @@ module _ (body : List ℕ) (at : ℕ) (piece : List ℕ) (inside : at + length p
   front_len : length (take at body ++ piece) ≡ at + length piece
   front_len = length-append (take at body) piece ∙ ap (λ (n : ℕ). n + length piece) before_len
 
+  -- a piece written over bytes keeps how many there are
   pub length-overwritten : length (overwritten body at piece) ≡ length body
   length-overwritten =
       length-append (take at body ++ piece) (drop (at + length piece) body)
@@ -49,6 +50,7 @@ module _ (body : List ℕ) (at : ℕ) (piece : List ℕ) (inside : at + length p
       ∙ get_or-drop (at + length piece) body (i - (at + length piece)) 0
       ∙ ap (λ (n : ℕ). get_or body n 0) (omega arith)
 
+  -- so all other bytes are kept
   pub overwritten-apart : (i : ℕ) → (i < at) ⊎ (at + length piece ≤ i)
       → get_or (overwritten body at piece) i 0 ≡ get_or body i 0
   overwritten-apart i (inl h) = overwritten-before i h
@@ -112,6 +114,7 @@ pub record First (at width size : ℕ) (fields : List Field) : Type 0 where
   pub alone : apart at width fields ≡ true
   pub rest : are_apart size fields ≡ true
 
+-- of fields that do not overlap the first ends by the size, apart from the others
 pub first-of : (at width size : ℕ) (fields : List Field)
     → (nat_le (at + width) size && apart at width fields && are_apart size fields) ≡ true
     → First at width size fields
@@ -149,6 +152,7 @@ piece_inside : (body : List ℕ) (at size : ℕ) (width : Width) (value : ℕ)
     → at + length (to_le_bytes width value) ≤ length body
 piece_inside body at size width value ends room = omega (arith, length-number width value)
 
+-- a number laid over bytes keeps how many there are
 pub length-numbered : (body : List ℕ) (at size : ℕ) (width : Width) (value : ℕ)
     → at + byte_len width ≤ size → size ≤ length body
     → length (numbered body at width value) ≡ length body
@@ -277,6 +281,7 @@ target-there bytes place size over more fields test room has =
           ∙ get_or-append-add over more i 0;
     }
 
+-- each field stands where its place says, once all are laid
 pub fields-there : (bytes : List ℕ) (place size : ℕ) (body : List ℕ) (fields : List Field)
     → are_apart size fields ≡ true → size ≤ length body
     → Has bytes place (with_fields place body fields)

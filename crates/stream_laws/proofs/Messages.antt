@@ -29,9 +29,11 @@ module _ (bytes : List ℕ) (end size : ℕ) (fields : List Field)
   abbrev entry : ℕ → Option ℕ
   entry index = entry_place place (get_or (map place_of fields) index 0)
 
+  -- a field of a table is found where its vtable says
   pub field-found : (index : ℕ) → field_at bytes place index ≡ Ok (entry index)
   field-found index = field-read bytes (aligned end) place size fields laid.vtable index
 
+  -- a number that stands in its field is read
   pub scalar-found : (index at : ℕ) (width : Width) (value : ℕ) → entry index ≡ Some (place + at)
       → value < 256 ^ byte_len width
       → Has bytes (place + at) (to_le_bytes width value)
@@ -42,6 +44,7 @@ module _ (bytes : List ℕ) (end size : ℕ) (fields : List Field)
       ap reads (field-found index ∙ ap (λ (o : Option ℕ). Ok o) there)
       ∙ number-read bytes (place + at) width value small has
 
+  -- what a reference leads to is found
   pub reference-found : (index at target : ℕ) → entry index ≡ Some (place + at)
       → place + at ≤ target → target < 2 ^ 32
       → Has bytes (place + at) (to_le_bytes w32 (target - (place + at)))
@@ -54,6 +57,7 @@ module _ (bytes : List ℕ) (end size : ℕ) (fields : List Field)
       ap reads (field-found index ∙ ap (λ (o : Option ℕ). Ok o) there)
       ∙ ap wraps (target-read bytes (place + at) target ahead small has)
 
+  -- a field that the vtable does not have is absent
   pub absent-found : (index : ℕ) → entry index ≡ None → field_at bytes place index ≡ Ok None
   absent-found index there = field-found index ∙ ap (λ (o : Option ℕ). Ok o) there
 
@@ -85,6 +89,7 @@ abbrev pub kind_of : Header → HeadKind
 kind_of (schema columns) = kind.Schema
 kind_of (record_batch rows nodes buffers) = kind.Batch
 
+-- the fields of a message: version, kind and table of its head, and the length of its body
 abbrev pub message_fields : Header → ℕ → List Field
 message_fields header body_length =
     number 16 w16 4 ∷ number 18 w8 (header_number header) ∷ reference 4
@@ -102,6 +107,7 @@ pub record HasMessage (bytes : List ℕ) (header : Header) (body_length : ℕ) :
   pub root : Has bytes 0 (to_le_bytes w32 24)
   pub message : Has bytes 8 (message_table header body_length 8).bytes
 
+-- a message's flatbuffer has its root and its table
 pub message-there : (bytes : List ℕ) (header : Header) (body_length : ℕ)
     → Has bytes 0 (flatbuffer_of header body_length) → HasMessage bytes header body_length
 message-there bytes header body_length has =
@@ -113,6 +119,7 @@ message-there bytes header body_length has =
       message = has-right bytes 0 (root ++ zeros) laid has;
     }
 
+-- the fields stand where the message's table was laid
 pub message-fields-there : (bytes : List ℕ) (header : Header) (body_length : ℕ)
     → HasMessage bytes header body_length
     → IsTableAt bytes 8 20 (message_fields header body_length)

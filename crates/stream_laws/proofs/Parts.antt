@@ -69,6 +69,7 @@ module _ {X : Type 0} (f : X → List ℕ) where
   length-pieces size (x ∷ xs) same =
       omega (arith, length-append (f x) (flat_map f xs), same x, length-pieces size xs same)
 
+  -- of pieces of one size each begins behind so many of it
   pub begins-even : (size : ℕ) (xs : List X) (i : ℕ) → ((x : X) → length (f x) ≡ size)
       → i ≤ length xs → begins xs i ≡ i * size
   begins-even size xs i same inside =

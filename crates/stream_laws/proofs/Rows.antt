@@ -86,6 +86,7 @@ pub record IsRow (columns : List Column) (row : List Cell) : Type 0 where
   pub long : length row ≡ length columns
   pub slots : SlotsFrom 0 columns row
 
+-- a row that fits has a slot for each column
 pub row-of : (columns : List Column) (row : List Cell) → Fits columns row → IsRow columns row
 row-of columns row fits =
     let both = passed (length row == length columns) (first_fault 0 columns row) fits in
@@ -109,9 +110,11 @@ arrays_from k columns rows =
     })
     (enumerate_from k columns)
 
+-- the buffers of the columns, counted from a number on
 abbrev pub buffers_from : ℕ → List Column → List (List Cell) → List (List ℕ)
 buffers_from k columns rows = flat_map (λ array. array.buffers) (arrays_from k columns rows)
 
+-- the nodes of these columns: how many rows there are, and how many nulls
 abbrev pub nodes_from : ℕ → List Column → List (List Cell) → List (ℤ × ℤ)
 nodes_from k columns rows =
     map (λ array. (pos (length rows), pos array.nulls)) (arrays_from k columns rows)
@@ -120,6 +123,7 @@ nodes_from k columns rows =
 abbrev pub AllFrom : ℕ → List Column → List (List Cell) → Type 0
 AllFrom k columns rows = (i : ℕ) → i < length rows → SlotsFrom k columns (get_or rows i [])
 
+-- the cells of the first column are its slots
 pub column-slots : (k : ℕ) (column : Column) (columns : List Column) (rows : List (List Cell))
     → AllFrom k (column ∷ columns) rows
     → AllSlots (values_of column.kind) (column_cells k rows)
@@ -248,6 +252,7 @@ table_of batch =
       compressed = false;
     }
 
+-- each row of a batch has a slot for each column
 pub each-row : (columns : List Column) (rows : List (List Cell)) → All (Fits columns) rows → (i : ℕ)
     → i < length rows → IsRow columns (get_or rows i [])
 each-row columns rows fit i inside = row-of columns (get_or rows i []) (fit i [] inside)

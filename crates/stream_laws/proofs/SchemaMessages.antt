@@ -10,6 +10,7 @@ use Rattle.stream_laws.proofs.Schemas.{schema_fields, schema-there, schema-read}
 use Rattle.stream_laws.proofs.Sizes.{schema-short}
 use Rattle.stream_laws.proofs.Frames.{message-framed, length-message, length-padded, padded-message, head-found}
 
+-- A schema's message reads as its columns, whatever follows it.
 pub schema_is_read : SchemaIsRead
 schema_is_read columns rest told =
     let metadata : List ℕ = padded (flatbuffer_of (schema columns) 0) in

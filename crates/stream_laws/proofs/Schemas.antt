@@ -43,6 +43,7 @@ width_small w32 = lit< tt
 width_small w64 = lit< tt
 width_small w128 = lit< tt
 
+-- the fields of an integer type: its bits, and whether it has a sign
 abbrev pub int_fields : ℕ → ℕ → List Field
 int_fields bits is_signed = number 4 w32 bits ∷ number 8 w8 is_signed ∷ []
 
@@ -143,6 +144,7 @@ kind-read kinds.Binary = refl
 
 -- ---- fields
 
+-- the fields of a column: its name, its nulls and its type
 abbrev pub column_fields : Column → List Field
 column_fields column =
     reference 4 (string column.name)
@@ -246,6 +248,7 @@ module _ (bytes : List ℕ) (end : ℕ) (column : Column) (small : length bytes 
         (vector-read bytes (length_place before) 0 4 (lit< tt) (omega (arith, vector.inside))
         vector.word)
 
+    -- a column's table reads as the column
     pub field-table-read : field_table_at bytes place ≡ Ok (field_of column (place + 8))
     field-table-read =
         let dictionary = absent-found bytes end 18 fields there 4 refl in
@@ -293,10 +296,12 @@ columns-read bytes place end from first k (column ∷ columns) small named here 
     (omega arith) (omega arith) laid.2 in
     rw (one, rest) refl
 
+-- the fields of a schema: its byte order and its columns
 abbrev pub schema_fields : List Column → List Field
 schema_fields columns =
     number 8 w16 0 ∷ reference 4 (vector_of_tables (map field_table columns)) ∷ []
 
+-- the fields stand where the schema's table was laid
 pub schema-there : (bytes : List ℕ) (end : ℕ) (columns : List Column)
     → Has bytes end (schema_table columns end).bytes
     → IsTableAt bytes end 10 (schema_fields columns)

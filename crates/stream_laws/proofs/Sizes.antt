@@ -172,6 +172,7 @@ fields-lead from (column ∷ columns) named =
 abbrev pub most_of_schema : ℕ → ℕ
 most_of_schema columns = 97 + 65641 * columns
 
+-- the metadata of columns with names has at most so many bytes
 pub schema-short : (columns : List Column) → All IsName columns
     → length (flatbuffer_of (schema columns) 0) ≤ most_of_schema (length columns)
 schema-short columns named =

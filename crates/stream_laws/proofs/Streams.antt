@@ -71,6 +71,7 @@ batches-read (suc more) place columns (rows ∷ batches) after told all few =
     ap (batches_from (suc more) columns place) parts
     ∙ rw (one, batches_from) (rw (behind, others) refl)
 
+-- What follows a stream's end word is not looked at.
 pub stream_ends : StreamEnds
 stream_ends columns batches after told all =
     let schema : List ℕ = schema_message columns in
@@ -92,6 +93,7 @@ stream_ends columns batches after told all =
     batches-read (length bytes + 1) (length schema) columns batches after told all enough in
     rw (first, reading_of) (rw behind others)
 
+-- A stream of batches reads as its columns and exactly these batches.
 pub stream_is_read : StreamIsRead
 stream_is_read columns batches told all =
     ap reading_of (sym (append-nil (stream_of columns batches)))

@@ -179,6 +179,7 @@ length-vtable size fields =
     length-words ((4 + 2 * length fields) ∷ size ∷ map place_of fields)
     ∙ omega (arith, length-map fields place_of)
 
+-- a table that was laid has its vtable and its fields
 pub table-there : (bytes : List ℕ) (end size : ℕ) (fields : List Field) → IsTable size fields
     → Has bytes end (table size fields end).bytes → IsTableAt bytes end size fields
 table-there bytes end size fields is has =
@@ -236,6 +237,7 @@ pub record IsVectorAt (bytes : List ℕ) (end count : ℕ) (elements : List ℕ)
   pub word : Has bytes (length_place end) (to_le_bytes w32 count)
   pub content : Has bytes (length_place end + 4) elements
 
+-- a vector that was laid has its count and its elements
 pub vector-there : (bytes : List ℕ) (end count : ℕ) (elements : List ℕ)
     → Has bytes end (vector count elements end).bytes → IsVectorAt bytes end count elements
 vector-there bytes end count elements has =
@@ -322,6 +324,7 @@ references-apart tables =
     (le-leb (0 + 4) size (omega arith)) (apart-references 0 4 4 tables (omega arith)))
     (are_apart-references 4 size tables (omega arith))
 
+-- a vector of tables that was laid has its references and its tables
 pub tables-there : (bytes : List ℕ) (end : ℕ) (tables : List Object)
     → Has bytes end (vector_of_tables tables end).bytes → IsTablesAt bytes end tables
 tables-there bytes end tables has =

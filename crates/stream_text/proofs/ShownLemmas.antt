@@ -9,7 +9,7 @@ use Rattle.cell_model.specs.declared.column.Column.{Column}
 use Rattle.stream_spec.specs.Streams.{BatchRead, Reading, SchemaRead, fault_at, first_schema, next_batch, reading_of}
 use Rattle.stream_spec.specs.declared.fault.Cause.{Cause}
 use Rattle.stream_spec.specs.declared.fault.StreamFault.{StreamFault}
-use Rattle.ipc_read.proofs.ReadingLemmas.{Left, left_ends, left_fails, left_first, left_next, no_schema}
+use Rattle.ipc_read.proofs.ReadingLemmas.{Left, left_ends, left_fails, left_first, left_next}
 use Rattle.stream_text.specs.Shown.{all_rows, front_lines, last_line, schema_line, shown_text}
 use Rattle.workload_spec.specs.ReplyText.{row_line}
 use Rattle.workload_spec.specs.Words.{lines_text}
@@ -73,17 +73,21 @@ module _ (bytes : List ℕ) (columns : List Column) (place count : ℕ) (out : L
       ∙ ap shown_text read)))
 
   module _ (declared : List Column) (rest : List ℕ) (same : declared ≡ columns) (rest_is : rest ≡ drop place bytes) where
+    -- at the stream's end the text is what was read, with its last line
     pub shown_at_end : next_batch declared rest ≡ Ok None → out ++ (last_line count None ++ 10 ∷ []) ≡ shown_text (reading_of bytes)
     shown_at_end next =
         last None (left_ends bytes columns place is.batches is.left declared rest same rest_is next) (last_line count None) (ap (λ n. last_line n None) is.counted)
 
+    -- and there is no fault
     pub none_at_end : next_batch declared rest ≡ Ok None → None ≡ (reading_of bytes).fault
     none_at_end next = ap (λ (r : Reading). r.fault) (left_ends bytes columns place is.batches is.left declared rest same rest_is next)
 
+    -- at a fault the text is what was read up to it, with the line of the fault
     pub shown_at_fault : (cause : Cause) → next_batch declared rest ≡ Err cause → out ++ (last_line 0 (Some (fault_at place cause)) ++ 10 ∷ []) ≡ shown_text (reading_of bytes)
     shown_at_fault cause next =
         last (Some (fault_at place cause)) (left_fails bytes columns place is.batches is.left declared rest same rest_is cause next) (last_line 0 (Some (fault_at place cause))) refl
 
+    -- and the fault is this one
     pub fault_at_fault : (cause : Cause) → next_batch declared rest ≡ Err cause → Some (fault_at place cause) ≡ (reading_of bytes).fault
     fault_at_fault cause next = ap (λ (r : Reading). r.fault) (left_fails bytes columns place is.batches is.left declared rest same rest_is cause next)
 
@@ -119,15 +123,6 @@ count_fits bytes columns place count out is rows more more_is =
       lines_are_long (map row_line rows),
       length-map row_line rows,
     )
-
--- a fault where no schema begins the bytes
-pub fault_alone : (bytes : List ℕ) (cause : Cause) (out empty : List ℕ) → first_schema bytes ≡ Err cause → empty ≡ [] → out ≡ empty ++ (last_line 0 (Some (fault_at 0 cause)) ++ 10 ∷ [])
-    → out ≡ shown_text (reading_of bytes)
-fault_alone bytes cause out empty is none out_is =
-    out_is
-    ∙ (ap (λ (x : List ℕ). x ++ ended (last_line 0 (Some (fault_at 0 cause)))) none
-    ∙ (sym (append-nil (ended (last_line 0 (Some (fault_at 0 cause)))))
-    ∙ ap shown_text (no_schema bytes cause is)))
 
 -- a row's line in front of those that are left
 pub row_next : (rows : List (List Cell)) (i : ℕ) (row : List Cell) (out more : List ℕ) → slice_get rows i ≡ Some row → more ≡ out ++ (row_line row ++ 10 ∷ [])

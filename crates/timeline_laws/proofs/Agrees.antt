@@ -69,6 +69,7 @@ worker-same worker asked told machine after (writes w) = absurd (let e : Worker 
 worker-same worker asked told machine after (ends e) = absurd (let f : Worker worker ≡ Session e.session = e.who_is in let never : ⊥ = cc in never)
 worker-same worker asked told machine after (commits c) = absurd (let e : Worker worker ≡ Session c.session = c.who_is in let never : ⊥ = cc in never)
 
+-- a reply leaves what others have open as it was
 pub others-open : (who other : Who) (asked : Command) (told : Said) (machine after : IsolationMachine) → is_same who other ≡ false → Change who asked told machine after
     → open_of other after ≡ open_of other machine
 others-open who (Worker b) asked told machine after apart h = refl
@@ -131,6 +132,7 @@ within-push who front entry false is =
 abbrev pub Agree : List Entry → IsolationMachine → Type 0
 Agree front machine = (who : Who) → is_within who front ≡ is_some (open_of who machine)
 
+-- one more reply, after which the lines still say who is in a transaction, as the machine does
 pub agree-by : (front : List Entry) (machine after : IsolationMachine) (entry : Entry) → Agree front machine → Change entry.reply.who entry.command entry.reply.said machine after
     → (who : Who) (b : Bool) → is_same entry.reply.who who ≡ b → is_within who (front ++ entry ∷ []) ≡ is_some (open_of who after)
 agree-by front machine after entry h change who true is =

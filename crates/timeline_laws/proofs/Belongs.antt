@@ -11,7 +11,7 @@ use Rattle.outcome_spec.specs.Runs.{Span, up_to_end, span_from, transactions_of,
 use Rattle.timeline_spec.specs.Timeline.{Each, InOrder}
 use Rattle.outcome_spec.specs.Entries.{thread}
 use Rattle.timeline_laws.proofs.Order.{Each-first, Each-second, Each-filter, Each-printed, same-is, same-itself}
-use Rattle.timeline_laws.proofs.Spans.{span, spans, EachSpan, Ended, Past, spans-is, thread-of, order-filter}
+use Rattle.timeline_laws.proofs.Spans.{span, spans, EachSpan, Ended, Past, spans-is, thread-of}
 use Rattle.timeline_laws.proofs.Unique.{Only, none-in_front, none-behind, itself, any-none}
 
 -- what is found is found among those that pass a test which it passes
@@ -21,6 +21,7 @@ find-kept-step true b t kept all test is h rest = rw is (ap (cond b (Some t)) re
 find-kept-step false true t kept all test is h rest = absurd (let e : false ≡ true = h refl in let never : ⊥ = cc in never)
 find-kept-step false false t kept all test is h rest = rest
 
+-- what is found among all is found among those that are kept, where all that pass are kept
 pub find-kept : (test choice : Span → Bool) (ts : List Span) → EachSpan (λ t. test t ≡ true → choice t ≡ true) ts → find test ts ≡ find test (filter choice ts)
 find-kept test choice [] h = refl
 find-kept test choice (t ∷ ts) h = find-kept-step (choice t) (test t) t (filter choice ts) ts test refl h.0 (find-kept test choice ts h.1)
@@ -40,6 +41,7 @@ cut-each : (P : Entry → Type 0) (ends : Bool) (entry : Entry) (others : List E
 cut-each P true entry others h k = (h, tt)
 cut-each P false entry others h k = (h, k)
 
+-- what holds of each reply holds of each up to the first end
 pub Each-up_to_end : (P : Entry → Type 0) (entries : List Entry) → Each P entries → Each P (up_to_end entries)
 Each-up_to_end P [] h = h
 Each-up_to_end P (entry ∷ entries) h = cut-each P (is_end entry.reply.said) entry (up_to_end entries) h.0 (Each-up_to_end P entries h.1)
@@ -97,6 +99,7 @@ or-true : (a b : Bool) → b ≡ true → (a || b) ≡ true
 or-true true b h = refl
 or-true false b h = h
 
+-- a reply is among those before it and those from it up to the first end
 pub has-itself : (entry : Entry) (replies rest : List Entry) → list_any (is_reply entry) (replies ++ up_to_end (entry ∷ rest)) ≡ true
 has-itself entry replies rest =
     list_any-append (is_reply entry) replies (up_to_end (entry ∷ rest))
@@ -116,20 +119,21 @@ module _ (printed timeline front : List Entry) (entry : Entry) (rest : List Entr
   abbrev its : Who
   its = entry.reply.who
 
+  -- the timeline, parted at the reply, is in order
   pub its-order : InOrder (front ++ entry ∷ rest)
   its-order = subst InOrder at.whole at.order
 
+  -- the replies to one are those in front of the reply's place and those from it on
   pub its-thread : (who : Who) → thread who printed ≡ thread who front ++ thread who (entry ∷ rest)
   its-thread who = at.threads who ∙ ap (thread who) at.whole ∙ filter-append (λ other. is_same other.reply.who who) front (entry ∷ rest)
 
+  -- the replies to the reply's session or worker, parted at the reply
   pub own-thread : thread its printed ≡ thread its front ++ entry ∷ thread its rest
   own-thread = its-thread its ∙ ap (λ (b : Bool). thread its front ++ cond b (entry ∷ thread its rest) (thread its rest)) (same-itself its)
 
+  -- where no other printed reply is the same, none of the timeline is
   pub timeline-only : Only (front ++ entry ∷ rest) entry
   timeline-only = subst (λ (es : List Entry). Only es entry) at.whole (Each-printed (λ other. is_reply entry other ≡ true → other ≡ entry) timeline printed (λ who. sym (at.threads who)) at.only)
-
-  pub threads-in-order : (who : Who) → InOrder (thread who printed)
-  threads-in-order who = subst InOrder (sym (at.threads who)) (order-filter (λ other. is_same other.reply.who who) timeline at.order)
 
   abbrev holds : Span → Bool
   holds t = list_any (is_reply entry) t.replies

@@ -170,9 +170,6 @@ count-range g n least most =
     ∙ sum_by-append (λ x. cond (eqb x g) 1 0) (range_with_len 1 (g - 1)) (range_with_len (1 + (g - 1)) (1 + (n - g)))
     ∙ count-parts g (1 + (g - 1)) (n - g) (range_with_len 1 (g - 1)) (omega (arith, least)) (all-below g 1 (g - 1) (omega (arith, least)))
 
-is-none : {X : Type 0} (o : Option X) → o ≡ None → is_none o ≡ true
-is-none o h = ap is_none h
-
 module _ (tables : List TableDecl) (printed timeline : List Entry) (t : Timeline tables printed timeline) (entry : Entry) (only : Only printed entry)
     (cut : Cut tables timeline (last tables printed timeline t) entry) where
   abbrev the_run : Run

@@ -49,6 +49,7 @@ chosen : (b : Bool) (o : Option (List Cell)) → b ≡ true → (if b then o els
 chosen true o h = refl
 chosen false o h = absurd cc
 
+-- A row that fits its columns is read back from its words.
 pub row_back : (columns : List Column) (row : List Cell) → fits columns row ≡ true → ReadsBack columns row
 row_back columns row fit =
     let a = arity_none (length row == length columns) (first_fault 0 columns row) fit in

@@ -26,12 +26,15 @@ pub record Grows (before after : History) : Type 0 where
   pub more : History
   pub is : after ≡ before ++ more
 
+-- a history that stays has grown, by nothing
 pub grows-same : (before after : History) → after ≡ before → Grows before after
 grows-same before after h = record { more = []; is = h ∙ sym (append-nil before) }
 
+-- what grows twice has grown
 pub grows-on : (a b c : History) → Grows a b → Grows b c → Grows a c
 grows-on a b c h k = record { more = h.more ++ k.more; is = k.is ∙ ap (λ xs. xs ++ k.more) h.is ∙ append_assoc a h.more k.more }
 
+-- what a reply makes of the machine only adds to the history
 pub change-grows : (who : Who) (asked : Command) (told : Said) (machine after : IsolationMachine) → Change who asked told machine after → Grows machine.history after.history
 change-grows who asked told machine after (quiet q) = grows-same machine.history after.history (ap (λ (m : IsolationMachine). m.history) q.same)
 change-grows who asked told machine after (opens o) = grows-same machine.history after.history (ap (λ (m : IsolationMachine). m.history) o.is)
@@ -40,9 +43,11 @@ change-grows who asked told machine after (ends e) = grows-same machine.history 
 change-grows who asked told machine after (commits c) = record { more = c.t.own ∷ []; is = ap (λ (m : IsolationMachine). m.history) c.is }
 
 module _ (tables : List TableDecl) where
+  -- what a reply that comes about makes of the machine
   pub change-of : (front : List Entry) (machine after : IsolationMachine) (entry : Entry) → Sane machine → Takes tables front machine entry after → Change entry.reply.who entry.command entry.reply.said machine after
   change-of front machine after entry sane h = takes-change tables front machine sane entry.number entry.reply.round entry.reply.index entry.reply.who entry.command entry.reply.said after h
 
+  -- the history grows along all replies that come about
   pub all-grow : (front : List Entry) (machine : IsolationMachine) (rest : List Entry) → Shown front machine → (runs : Runs tables front machine rest) → Grows machine.history (last_of tables front machine rest runs).history
   all-grow front machine [] shown runs = grows-same machine.history machine.history refl
   all-grow front machine (entry ∷ rest) shown runs =
@@ -51,6 +56,7 @@ module _ (tables : List TableDecl) where
       (change-grows entry.reply.who entry.command entry.reply.said machine runs.0 change)
       (all-grow (front ++ entry ∷ []) runs.0 rest (shown-step front machine runs.0 entry shown change) runs.3)
 
+  -- what replies in front show of the machine, they show with all that come about behind them
   pub all-shown : (front : List Entry) (machine : IsolationMachine) (rest : List Entry) → Shown front machine → (runs : Runs tables front machine rest) → Shown (front ++ rest) (last_of tables front machine rest runs)
   all-shown front machine [] shown runs = subst (λ (es : List Entry). Shown es machine) (sym (append-nil front)) shown
   all-shown front machine (entry ∷ rest) shown runs =
@@ -89,6 +95,7 @@ commits-behind front rest now more first all =
     ∙ ap (λ a. range_with_len 1 now ++ range_with_len a more) e)
 
 module _ (tables : List TableDecl) (timeline : List Entry) (last : IsolationMachine) (whole_shown : Shown timeline last) where
+  -- the place of a reply between the replies in front and the rest, with the machines around it
   abbrev pub cut-here : (front : List Entry) (machine : IsolationMachine) (entry : Entry) (rest : List Entry) → timeline ≡ front ++ entry ∷ rest → Shown front machine
       → (runs : Runs tables front machine (entry ∷ rest)) → last_of tables front machine (entry ∷ rest) runs ≡ last → Cut tables timeline last entry
   cut-here front machine entry rest whole shown runs is =
@@ -129,6 +136,7 @@ module _ (tables : List TableDecl) (timeline : List Entry) (last : IsolationMach
 abbrev pub last_machine : (tables : List TableDecl) (printed timeline : List Entry) → Timeline tables printed timeline → IsolationMachine
 last_machine tables printed timeline t = last_of tables [] opening timeline t.runs
 
+-- Each reply of a timeline has its place in it.
 pub all-cuts : (tables : List TableDecl) (printed timeline : List Entry) (t : Timeline tables printed timeline) → Each (Cut tables timeline (last_machine tables printed timeline t)) timeline
 all-cuts tables printed timeline t =
     cuts-from tables timeline (last_machine tables printed timeline t) (all-shown tables [] opening timeline shown-opening t.runs) [] opening timeline refl shown-opening t.runs refl

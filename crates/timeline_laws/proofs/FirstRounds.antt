@@ -71,6 +71,7 @@ split zero xs = refl
 split (suc n) [] = refl
 split (suc n) (x ∷ xs) = ap (λ (ys : List _). x ∷ ys) (split n xs)
 
+-- What is due in the first rounds is due first.
 pub rounds-due-first : RoundsAreDueFirst
 rounds-due-first script count = (
   flat_map (λ entry. dues_in script entry.0 entry.1) (enumerate_from (1 + length (take count script.rounds)) (drop count script.rounds)),
@@ -196,6 +197,7 @@ module _ (session : ℕ) where
         let high : session < first = grind (arith, nat_tests, is, is_own) in
         (of_sessions lines first (suc many), ap (λ (dues : List Due). dues ++ of_sessions lines first (suc many)) (sym (none-above first (suc many) high)))
 
+    -- what is due of sessions in a front of a round's lines is due first in the round
     pub due-first : (first many : ℕ) → (rest : List Due) × (of_sessions lines first many ≡ of_sessions first_lines first many ++ rest)
     due-first first zero = ([], refl)
     due-first first (suc many) = sessions-first first many (nat_lt first session) (first == session) refl refl (due-first (first + 1) many)
@@ -214,6 +216,7 @@ split-at d n [] inside = absurd (omega (arith, inside))
 split-at d zero (x ∷ xs) inside = refl
 split-at d (suc n) (x ∷ xs) inside = ap (λ (ys : List _). x ∷ ys) (split-at d n xs (omega (arith, inside)))
 
+-- What is due in a front of a workload without workers is due first.
 pub front-due-first : FrontIsDueFirst
 front-due-first script rounds session count none inside =
     let first = take rounds script.rounds in
@@ -336,11 +339,13 @@ valid-some script valid =
     let some = (and_parts (has_head script) (nat_lt 0 (length script.rounds)) second.0).1 in
     grind (arith, nat_tests, some)
 
+-- The first rounds of a workload, one at least, are a workload.
 pub rounds-valid : RoundsAreValid
 rounds-valid script count some valid =
     valid-by script (take count script.rounds) valid (some-rounds count script.rounds some (valid-some script valid))
     (checked-first script (take count script.rounds) (drop count script.rounds) (subst (Checked script) (sym (split count script.rounds)) (script-checked script valid)))
 
+-- The front of a workload is a workload.
 pub front-valid : FrontIsValid
 front-valid script rounds session count inside valid =
     let first = take rounds script.rounds in

@@ -34,6 +34,7 @@ shown-length-step : (o : Option ℕ) (others : List ℕ) → length (cons_option
 shown-length-step None others = let e : length others ≡ 0 + length others = omega arith in e
 shown-length-step (Some n) others = let e : length (n ∷ others) ≡ 1 + length others = omega arith in e
 
+-- as many numbers are shown as there are replies that show one
 pub shown-length : (shown : Said → Option ℕ) (entries : List Entry) → length (shown_in shown entries) ≡ sum_by (λ entry. cond (is_some (shown entry.reply.said)) 1 0) entries
 shown-length shown [] = refl
 shown-length shown (entry ∷ entries) =
@@ -46,6 +47,7 @@ find-each-step : (P : Entry → Type 0) (b : Bool) (entry x : Entry) (later : Op
 find-each-step P true entry x later h rest e = let f : entry ≡ x = cc in subst P f h
 find-each-step P false entry x later h rest e = rest e
 
+-- what holds of each reply holds of one that is found
 pub find-each : (P : Entry → Type 0) (p : Entry → Bool) (entries : List Entry) (x : Entry) → Each P entries → find p entries ≡ Some x → P x
 find-each P p [] x h e = absurd (let never : ⊥ = cc in never)
 find-each P p (entry ∷ entries) x h e = find-each-step P (p entry) entry x (find p entries) h.0 (find-each P p entries x h.1) e
@@ -54,6 +56,7 @@ find-fails-step : (b : Bool) (entry : Entry) (later : Option Entry) → cond b (
 find-fails-step true entry later e = absurd (let never : ⊥ = cc in never)
 find-fails-step false entry later e = (refl, e)
 
+-- where none is found each fails the test
 pub find-fails : (p : Entry → Bool) (entries : List Entry) → find p entries ≡ None → Each (λ entry. p entry ≡ false) entries
 find-fails p [] e = tt
 find-fails p (entry ∷ entries) e = let parts = find-fails-step (p entry) entry (find p entries) e in (parts.0, find-fails p entries parts.1)
@@ -62,6 +65,7 @@ find-passes-step : (p : Entry → Bool) (b : Bool) (entry x : Entry) (later : Op
 find-passes-step p true entry x later is rest e = let f : entry ≡ x = cc in subst (λ (y : Entry). p y ≡ true) f is
 find-passes-step p false entry x later is rest e = rest e
 
+-- what is found passes the test
 pub find-passes : (p : Entry → Bool) (entries : List Entry) (x : Entry) → find p entries ≡ Some x → p x ≡ true
 find-passes p [] x e = absurd (let never : ⊥ = cc in never)
 find-passes p (entry ∷ entries) x e = find-passes-step p (p entry) entry x (find p entries) refl (find-passes p entries x) e
@@ -75,10 +79,12 @@ not-above : (k : ℕ) (o : Option ℕ) → option_map_or (λ c. nat_lt k c) o tr
 not-above k None h = refl
 not-above k (Some c) h = let less : nat_lt k c ≡ true = h in let e : eqb c k ≡ false = grind (arith, nat_tests) in e
 
+-- where all commits are below a number, none commits as it
 pub below-other : (k : ℕ) (entries : List Entry) → list_all (λ c. nat_lt c k) (shown_in commit_in entries) ≡ true → Each (λ entry. commits_as k entry ≡ false) entries
 below-other k entries h =
     Each-weaker (λ entry. shows_only (λ c. nat_lt c k) commit_in entry ≡ true) (λ entry. commits_as k entry ≡ false) (λ entry. not-below k (commit_in entry.reply.said)) entries (shown-each (λ c. nat_lt c k) commit_in entries h)
 
+-- where all commits are above a number, none commits as it
 pub above-other : (k : ℕ) (entries : List Entry) → list_all (λ c. nat_lt k c) (shown_in commit_in entries) ≡ true → Each (λ entry. commits_as k entry ≡ false) entries
 above-other k entries h =
     Each-weaker (λ entry. shows_only (λ c. nat_lt k c) commit_in entry ≡ true) (λ entry. commits_as k entry ≡ false) (λ entry. not-above k (commit_in entry.reply.said)) entries (shown-each (λ c. nat_lt k c) commit_in entries h)
@@ -87,12 +93,15 @@ only-this : (k : ℕ) (entry other : Entry) → commits_as k other ≡ false →
 only-this k entry other h e = absurd (let f : false ≡ true = sym h ∙ e in let never : ⊥ = cc in never)
 
 module _ (tables : List TableDecl) (printed timeline : List Entry) (t : Timeline tables printed timeline) where
+  -- the run that is read from the printed replies
   abbrev pub run : Run
   run = run_of tables printed
 
+  -- the machine behind the whole timeline
   abbrev pub last : IsolationMachine
   last = last_machine tables printed timeline t
 
+  -- the timeline shows what holds of its last machine
   pub whole-shown : Shown timeline last
   whole-shown = all-shown tables [] opening timeline shown-opening t.runs
 
@@ -104,6 +113,7 @@ module _ (tables : List TableDecl) (printed timeline : List Entry) (t : Timeline
       ∙ sym (shown-length commit_in timeline)
       ∙ ap length whole-shown.commits_are ∙ length-range_with_len 1 (length last.history)
 
+  -- a reply stands in the timeline where it is cut
   pub at-cut : (entry : Entry) → Only printed entry → (cut : Cut tables timeline last entry) → At printed timeline cut.front entry cut.rest
   at-cut entry only cut = record { threads = t.threads; whole = cut.whole; order = t.order; only = only }
 
@@ -139,10 +149,12 @@ module _ (tables : List TableDecl) (printed timeline : List Entry) (t : Timeline
       let each = Each-printed (λ other. commits_as k other ≡ true → other ≡ entry) printed timeline t.threads (one-line entry cut c) in
       is ∙ ap Some (find-each (λ other. commits_as k other ≡ true → other ≡ entry) (commits_as k) printed line each is (find-passes (commits_as k) printed line is))
 
+  -- The reply that commits is the line of its commit's number.
   pub line-is : (entry : Entry) (cut : Cut tables timeline last entry) (c : Commits entry.reply.who entry.reply.said cut.machine cut.after)
       → commit_line printed (length cut.machine.history + 1) ≡ Some entry
   line-is entry cut c = line-found entry cut c (commit_line printed (length cut.machine.history + 1)) refl
 
+  -- what stands for a session that is in a transaction is that transaction, among its replies
   pub within-own : (who : Who) (session : ℕ) (machine : IsolationMachine) (past : List Entry) (open_one : Transaction) → who ≡ Session session → transaction_of session machine ≡ Some open_one
       → Stands who past (open_of who machine) → Within who past open_one
   within-own who session machine past open_one is at h = subst (Stands who past) (ap (λ (w : Who). open_of w machine) is ∙ at) h
@@ -203,9 +215,11 @@ module _ (tables : List TableDecl) (printed timeline : List Entry) (t : Timeline
   both-facts [] h k = tt
   both-facts (entry ∷ entries) h k = ((h.0, k.0), both-facts entries h.1 k.1)
 
+  -- no other printed reply is the same as one of them, and each has its place in the timeline
   pub all-facts : Each (λ entry. Only printed entry × Cut tables timeline last entry) printed
   all-facts = Each-printed (λ entry. Only printed entry × Cut tables timeline last entry) printed timeline t.threads (both-facts timeline each-only (all-cuts tables printed timeline t))
 
+  -- A test that each reply passes at its place is passed by all printed ones.
   pub everywhere : (test : Entry → Bool) → ((entry : Entry) → Only printed entry → Cut tables timeline last entry → test entry ≡ true) → list_all test printed ≡ true
   everywhere test passes =
       each-all test printed

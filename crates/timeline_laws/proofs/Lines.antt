@@ -22,11 +22,13 @@ use Rattle.timeline_laws.proofs.ReadNumbers.{plain_decimal}
 
 -- ---- words
 
+-- plain bytes are a word
 pub a-word : (word : List ℕ) → list_all is_plain word ≡ true → IsWord word
 a-word word h = plain_word word h
 
 -- ---- lines
 
+-- no line has a line end in it
 abbrev pub AreUnbroken : List (List ℕ) → Type 0
 AreUnbroken [] = Unit {0}
 AreUnbroken (line ∷ lines) = (is_whole line ≡ true) × AreUnbroken lines
@@ -42,6 +44,7 @@ lines-of (line ∷ lines) rest h =
     let same : ((line ++ 10 ∷ []) ++ lines_text lines) ++ rest ≡ line ++ 10 ∷ (lines_text lines ++ rest) = simp append_assoc in
     ap lines_of same ∙ lines_behind_first line (lines_text lines ++ rest) h.0 ∙ ap (λ (ls : List (List ℕ)). (line ++ 10 ∷ []) ∷ ls) (lines-of lines rest h.1)
 
+-- the lines of a text are those that it is made of
 pub lines-alone : (lines : List (List ℕ)) → AreUnbroken lines → lines_of (lines_text lines) ≡ ended lines
 lines-alone lines h = ap lines_of (sym (append-nil (lines_text lines))) ∙ lines-of lines [] h ∙ append-nil (ended lines)
 
@@ -63,6 +66,7 @@ pub record IsSaid (tables : List TableDecl) (told : Said) : Type 0 where
 unfoldable pub tail_of : List TableDecl → Said → List ℕ
 tail_of tables told = spaced (said_words tables told) ++ 10 ∷ []
 
+-- whom a line answers is a word
 pub who-word : (who : Who) → IsWord (who_text who)
 who-word (Session n) = a-word (decimal n) (plain_decimal n)
 who-word (Worker n) = a-word (119 ∷ decimal n) (plain_decimal n)
@@ -71,12 +75,15 @@ who-word (Worker n) = a-word (119 ∷ decimal n) (plain_decimal n)
 abbrev pub first_line : List TableDecl → ReplyLine → List ℕ
 first_line tables reply = spaced (decimal reply.round ∷ who_text reply.who ∷ decimal reply.index ∷ said_words tables reply.said)
 
+-- words with a round, whom it answers and an index before them
 pub all-words : (round index : ℕ) (who : Who) (words : List (List ℕ)) → AreWords words → AreWords (decimal round ∷ who_text who ∷ decimal index ∷ words)
 all-words round index who words h = (a-word (decimal round) (plain_decimal round), (who-word who, (a-word (decimal index) (plain_decimal index), h)))
 
+-- what is said is of words
 pub said-words : (tables : List TableDecl) (told : Said) → IsSaid tables told → AreWords (said_words tables told)
 said-words tables told h = subst AreWords (sym h.words) h.read
 
+-- the lines of a reply are unbroken
 pub reply-unbroken : (tables : List TableDecl) (reply : ReplyLine) → IsSaid tables reply.said → AreUnbroken (reply_lines tables reply)
 reply-unbroken tables reply h =
     (words_whole (decimal reply.round ∷ who_text reply.who ∷ decimal reply.index ∷ said_words tables reply.said) (all-words reply.round reply.index reply.who (said_words tables reply.said) (said-words tables reply.said h)), h.behind)
@@ -96,9 +103,7 @@ front_of round who index = decimal round ++ 32 ∷ (who_text who ++ 32 ∷ (deci
 parted : (a b c words : List ℕ) → (a ++ 32 ∷ (b ++ 32 ∷ (c ++ 32 ∷ words))) ++ 10 ∷ [] ≡ (a ++ 32 ∷ (b ++ 32 ∷ (c ++ 32 ∷ []))) ++ (words ++ 10 ∷ [])
 parted a b c words = simp append_assoc
 
-spaced-more : (a b c : List ℕ) (first : List ℕ) (others : List (List ℕ)) → spaced (a ∷ b ∷ c ∷ first ∷ others) ≡ a ++ 32 ∷ (b ++ 32 ∷ (c ++ 32 ∷ spaced (first ∷ others)))
-spaced-more a b c first others = refl
-
+-- a reply's first line is what stands before what is said, and then that
 pub line-is : (tables : List TableDecl) (reply : ReplyLine) → IsSaid tables reply.said → first_line tables reply ++ 10 ∷ [] ≡ front_of reply.round reply.who reply.index ++ tail_of tables reply.said
 unfolding tail_of
 line-is tables reply h =
@@ -183,6 +188,7 @@ picks-kept tables keep told kept (other ∷ others) h = elim h [
   | inr next ↦ picks-step tables keep told other (filter keep others) (keep other) next.0 next.1 next.2 (picks-kept tables keep told kept others next.3)
 ]
 
+-- A reply that is read back where it is due is found at its own lines, whatever follows.
 pub reply-read : (tables : List TableDecl) (earlier : List Entry) (due : Due) (told : Said) (rest : List (List ℕ)) → is_said due told ≡ true → (read : IsRead tables (is_within due.who earlier) due.command told)
     → reply_at tables earlier due (first_line tables (entry_behind tables earlier due told).reply ++ 10 ∷ []) (ended (lines_behind told) ++ rest) ≡ Some (entry_behind tables earlier due told)
 reply-read tables earlier due told rest kept read =
@@ -192,6 +198,7 @@ reply-read tables earlier due told rest kept read =
     ∙ picked tables earlier due told rest read.is_said (replies_due tables earlier due (said_words tables told) behind)
     (picks-kept tables (is_said due) told kept (replies_at (is_within due.who earlier) tables (said_words tables told) behind due.command) (read.picks rest))
 
+-- behind so many lines stands the rest
 pub dropped : (lines rest : List (List ℕ)) → drop (length lines) (ended lines ++ rest) ≡ rest
 dropped [] rest = refl
 dropped (line ∷ lines) rest = dropped lines rest

@@ -91,10 +91,12 @@ wrote-by entries false is first rest h =
 
 -- ---- counts
 
+-- where each reply fails the test none counts
 pub count-none : (p : Entry → Bool) (entries : List Entry) → Each (λ entry. p entry ≡ false) entries → count_by p entries ≡ 0
 count-none p [] h = refl
 count-none p (entry ∷ entries) h = sum_by-cons (λ other. cond (p other) 1 0) entry entries ∙ (rw (h.0, count-none p entries h.1) refl)
 
+-- where only one reply passes the test the count is one
 pub count-one : (p : Entry → Bool) (front : List Entry) (entry : Entry) (rest : List Entry) → Each (λ other. p other ≡ false) front → p entry ≡ true → Each (λ other. p other ≡ false) rest
     → count_by p (front ++ entry ∷ rest) ≡ 1
 count-one p front entry rest h here k =

@@ -14,25 +14,25 @@ use Rattle.timeline_spec.specs.Timeline.{Each, Follows, InOrder}
 use Rattle.outcome_spec.specs.Entries.{thread}
 use Rattle.timeline_laws.proofs.Tests.{and-false}
 
+-- what holds of each of two lists holds of each of both in a row
 pub Each-append : (P : Entry → Type 0) (a b : List Entry) → Each P a → Each P b → Each P (a ++ b)
 Each-append P [] b h k = k
 Each-append P (entry ∷ a) b h k = (h.0, Each-append P a b h.1 k)
 
+-- what holds of each of two lists in a row holds of each of the first
 pub Each-first : (P : Entry → Type 0) (a b : List Entry) → Each P (a ++ b) → Each P a
 Each-first P [] b h = tt
 Each-first P (entry ∷ a) b h = (h.0, Each-first P a b h.1)
 
+-- and of each of the second
 pub Each-second : (P : Entry → Type 0) (a b : List Entry) → Each P (a ++ b) → Each P b
 Each-second P [] b h = h
 Each-second P (entry ∷ a) b h = Each-second P a b h.1
 
+-- what follows from a fact of each reply holds of each
 pub Each-weaker : (P Q : Entry → Type 0) (weaker : (entry : Entry) → P entry → Q entry) (entries : List Entry) → Each P entries → Each Q entries
 Each-weaker P Q weaker [] h = tt
 Each-weaker P Q weaker (entry ∷ entries) h = (weaker entry h.0, Each-weaker P Q weaker entries h.1)
-
-pub Each-of : (P : Entry → Type 0) → ((entry : Entry) → P entry) → (entries : List Entry) → Each P entries
-Each-of P h [] = tt
-Each-of P h (entry ∷ entries) = (h entry, Each-of P h entries)
 
 -- what holds of each of a list holds of a reply at whose place it is split
 pub Each-at : (P : Entry → Type 0) (front : List Entry) (entry : Entry) (rest : List Entry) → Each P (front ++ entry ∷ rest) → P entry
@@ -43,6 +43,7 @@ pub same-itself : (who : Who) → is_same who who ≡ true
 same-itself (Session a) = let e : eqb a a ≡ true = grind (arith, nat_tests) in e
 same-itself (Worker a) = let e : eqb a a ≡ true = grind (arith, nat_tests) in e
 
+-- sessions or workers that are taken as one are one
 pub same-is : (a b : Who) → is_same a b ≡ true → a ≡ b
 same-is (Session a) (Session b) h = ap Session (eqb-true a b h)
 same-is (Session a) (Worker b) h = absurd (let never : ⊥ = cc in never)
@@ -62,6 +63,7 @@ put-kept : (P : Entry → Type 0) (kept : Bool) (entry : Entry) (entries : List 
 put-kept P true entry entries h k = (h, k)
 put-kept P false entry entries h k = k
 
+-- what holds of each reply holds of each that passes a test
 pub Each-filter : (P : Entry → Type 0) (test : Entry → Bool) (entries : List Entry) → Each P entries → Each P (filter test entries)
 Each-filter P test [] h = tt
 Each-filter P test (entry ∷ entries) h = put-kept P (test entry) entry (filter test entries) h.0 (Each-filter P test entries h.1)
@@ -79,6 +81,7 @@ pub Each-printed : (P : Entry → Type 0) (printed timeline : List Entry) → ((
 Each-printed P printed timeline threads h =
     Each-threads P printed (λ who. subst (Each P) (sym (threads who)) (Each-filter P (λ entry. is_same entry.reply.who who) timeline h))
 
+-- what holds of each printed reply holds of each of the timeline
 pub Each-timeline : (P : Entry → Type 0) (printed timeline : List Entry) → ((who : Who) → thread who printed ≡ thread who timeline) → Each P printed → Each P timeline
 Each-timeline P printed timeline threads h =
     Each-threads P timeline (λ who. subst (Each P) (threads who) (Each-filter P (λ entry. is_same entry.reply.who who) printed h))
@@ -88,10 +91,12 @@ pub order-front : (front : List Entry) (entry : Entry) (rest : List Entry) → I
 order-front [] entry rest h = tt
 order-front (first ∷ front) entry rest h = (Each-at (Follows first) front entry rest h.0, order-front front entry rest h.1)
 
+-- in a list that is in order each reply behind one may come about behind it
 pub order-rest : (front : List Entry) (entry : Entry) (rest : List Entry) → InOrder (front ++ entry ∷ rest) → Each (Follows entry) rest
 order-rest [] entry rest h = h.0
 order-rest (first ∷ front) entry rest h = order-rest front entry rest h.1
 
+-- no reply is before itself
 pub before-itself : (entry : Entry) → is_before entry entry ≡ false
 before-itself entry =
     let round : nat_lt entry.reply.round entry.reply.round ≡ false = grind (arith, nat_tests) in
@@ -107,6 +112,7 @@ module _ (printed timeline front : List Entry) (entry : Entry) (rest : List Entr
   in_order : InOrder (front ++ entry ∷ rest)
   in_order = subst InOrder whole order
 
+  -- a fact of the replies in front holds of all printed before the reply
   pub before-each : (P : Entry → Type 0) → Each P front → Each (λ other. is_before other entry ≡ true → P other) printed
   before-each P h =
       Each-printed (λ other. is_before other entry ≡ true → P other) printed timeline threads
@@ -117,6 +123,7 @@ module _ (printed timeline front : List Entry) (entry : Entry) (rest : List Entr
         Each-weaker (Follows entry) (λ other. is_before other entry ≡ true → P other) (λ other follows. false-true (is_before other entry) follows.not_before) rest (order-rest front entry rest in_order),
       )))
 
+  -- a fact of the replies behind holds of all printed after the reply
   pub after-each : (P : Entry → Type 0) → Each P rest → Each (λ other. is_before entry other ≡ true → P other) printed
   after-each P h =
       Each-printed (λ other. is_before entry other ≡ true → P other) printed timeline threads
@@ -133,14 +140,12 @@ all-filter-step : (test choice : Bool) (entry : Entry) (p : Entry → Bool) (ent
 all-filter-step test true entry p entries is h k = both (p entry) (list_all p entries) (is ∙ h refl) k
 all-filter-step test false entry p entries is h k = k
 
+-- all that are chosen pass, where each passes if it is chosen
 pub all-filter : (p choice : Entry → Bool) (entries : List Entry) → Each (λ entry. choice entry ≡ true → p entry ≡ true) entries → list_all p (filter choice entries) ≡ true
 all-filter p choice [] h = refl
 all-filter p choice (entry ∷ entries) h = all-filter-step (p entry) (choice entry) entry p (filter choice entries) refl h.0 (all-filter p choice entries h.1)
 
-pub all-each : (p : Entry → Bool) (entries : List Entry) → list_all p entries ≡ true → Each (λ entry. p entry ≡ true) entries
-all-each p [] h = tt
-all-each p (entry ∷ entries) h = (both-left (p entry) (list_all p entries) h, all-each p entries (both-right (p entry) (list_all p entries) h))
-
+-- where each passes, all pass
 pub each-all : (p : Entry → Bool) (entries : List Entry) → Each (λ entry. p entry ≡ true) entries → list_all p entries ≡ true
 each-all p [] h = refl
 each-all p (entry ∷ entries) h = both (p entry) (list_all p entries) h.0 (each-all p entries h.1)
@@ -157,6 +162,7 @@ shown-put : (p : ℕ → Bool) (o : Option ℕ) (others : List ℕ) → option_m
 shown-put p None others h k = k
 shown-put p (Some n) others h k = both (p n) (list_all p others) h k
 
+-- where all shown numbers pass, the number of each reply passes
 pub shown-each : (p : ℕ → Bool) (shown : Said → Option ℕ) (entries : List Entry) → list_all p (shown_in shown entries) ≡ true → Each (λ entry. shows_only p shown entry ≡ true) entries
 shown-each p shown [] h = tt
 shown-each p shown (entry ∷ entries) h =
@@ -168,6 +174,7 @@ shown-filter-step : (p : ℕ → Bool) (shown : Said → Option ℕ) (choice : B
 shown-filter-step p shown true entry entries h k = shown-put p (shown entry.reply.said) (shown_in shown entries) (h refl) k
 shown-filter-step p shown false entry entries h k = k
 
+-- the numbers of chosen replies pass, where each reply's passes if it is chosen
 pub shown-filter : (p : ℕ → Bool) (shown : Said → Option ℕ) (choice : Entry → Bool) (entries : List Entry) → Each (λ entry. choice entry ≡ true → shows_only p shown entry ≡ true) entries
     → list_all p (shown_in shown (filter choice entries)) ≡ true
 shown-filter p shown choice [] h = refl

@@ -116,6 +116,7 @@ module _ (tables : List TableDecl) where
   MayBeWritten place None = Unit {0}
   MayBeWritten place (Some row) = IsAt place row
 
+  -- what each write writes may stand at its place
   abbrev pub Written : WriteSet → Type 0
   Written [] = Unit {0}
   Written (write ∷ writes) = MayBeWritten write.0 write.1 × Written writes
@@ -124,6 +125,7 @@ module _ (tables : List TableDecl) where
   with-placed rows place None may h = remove-placed (is_place place) rows h
   with-placed rows place (Some row) may h = insert-placed place row rows may h
 
+  -- placed rows with such writes laid over them are placed
   pub laid-placed : (rows : State) (writes : WriteSet) → Written writes → Placed rows → Placed (laid_over rows writes)
   laid-placed rows [] may h = h
   laid-placed rows (write ∷ writes) may h = laid-placed (with_write rows write.0 write.1) writes may.1 (with-placed rows write.0 write.1 may.0 h)
@@ -133,6 +135,7 @@ module _ (tables : List TableDecl) where
   AllWritten [] = Unit {0}
   AllWritten (writes ∷ history) = Written writes × AllWritten history
 
+  -- two histories of such writes in a row are one
   pub all-append : (a b : History) → AllWritten a → AllWritten b → AllWritten (a ++ b)
   all-append [] b h k = k
   all-append (writes ∷ a) b h k = (h.0, all-append a b h.1 k)

@@ -34,6 +34,7 @@ use Rattle.timeline_laws.proofs.Stated.{RowsRise, GotFits, ScannedFits, RowsFit,
 use Rattle.timeline_laws.proofs.ReadNumbers.{plain_decimal, plain_signed, u64_read, u32_read, key_read}
 use Rattle.timeline_laws.proofs.Lines.{a-word, AreUnbroken, ended, IsSaid, tail_of, Picks, replies_at, IsRead}
 
+-- each of the words is of plain bytes
 abbrev pub ArePlain : List (List ℕ) → Type 0
 ArePlain [] = Unit {0}
 ArePlain (word ∷ words) = (list_all is_plain word ≡ true) × ArePlain words
@@ -80,6 +81,7 @@ module _ (tables : List TableDecl) (names : NamesPlain tables) where
   full-said : IsSaid tables said.Full
   full-said = plainly tables said.Full (codes "full") [] refl (refl, tt) refl
 
+  -- the line of refused memory is of words
   pub memory-said : IsSaid tables said.Memory
   memory-said = plainly tables said.Memory (codes "memory") [] refl (refl, tt) refl
 
@@ -101,18 +103,23 @@ module _ (tables : List TableDecl) (names : NamesPlain tables) where
   committed-said : (n : ℕ) → IsSaid tables (said.Committed (Some n))
   committed-said n = plainly tables (said.Committed (Some n)) (codes "committed") (decimal n ∷ []) refl (refl, (plain_decimal n, tt)) refl
 
+  -- the line of how many blocks cool is of words
   pub cooling-said : (n : ℕ) → IsSaid tables (said.Cooling n)
   cooling-said n = plainly tables (said.Cooling n) (codes "cooling") (decimal n ∷ []) refl (refl, (plain_decimal n, tt)) refl
 
+  -- that of how much was pruned
   pub pruned-said : (n : ℕ) → IsSaid tables (said.Pruned n)
   pruned-said n = plainly tables (said.Pruned n) (codes "pruned") (decimal n ∷ []) refl (refl, (plain_decimal n, tt)) refl
 
+  -- that of how many rows were moved
   pub moved-said : (n : ℕ) → IsSaid tables (said.Moved n)
   moved-said n = plainly tables (said.Moved n) (codes "moved") (decimal n ∷ []) refl (refl, (plain_decimal n, tt)) refl
 
+  -- that of a sealed block
   pub sealed-said : (t b g : ℕ) → IsSaid tables (said.Sealed t b g)
   sealed-said t b g = plainly tables (said.Sealed t b g) (codes "sealed") (name_of_table tables t ∷ decimal b ∷ decimal g ∷ []) refl (refl, (names t, (plain_decimal b, (plain_decimal g, tt)))) refl
 
+  -- and that of a frozen block
   pub frozen-said : (t b r : ℕ) → IsSaid tables (said.Frozen t b r)
   frozen-said t b r = plainly tables (said.Frozen t b r) (codes "frozen") (name_of_table tables t ∷ decimal b ∷ decimal r ∷ []) refl (refl, (names t, (plain_decimal b, (plain_decimal r, tt)))) refl
 

@@ -50,6 +50,7 @@ filter-all-step : (p : ℕ → Bool) (b : Bool) (x : ℕ) (kept : List ℕ) → 
 filter-all-step p true x kept h k = both (p x) (list_all p kept) (h refl) k
 filter-all-step p false x kept h k = k
 
+-- all that a test keeps pass one that it implies
 pub filter-all : (p q : ℕ → Bool) → ((x : ℕ) → q x ≡ true → p x ≡ true) → (xs : List ℕ) → list_all p (filter q xs) ≡ true
 filter-all p q h [] = refl
 filter-all p q h (x ∷ xs) = filter-all-step p (q x) x (filter q xs) (h x) (filter-all p q h xs)
@@ -73,6 +74,7 @@ range-any-at q k a rest h true is more =
     subst (λ (x : ℕ). list_any (λ y. eqb y k) (cond (q x) (x ∷ filter q rest) (filter q rest)) ≡ true) (sym e) (filter-any-here k (q k) (filter q rest) h)
 range-any-at q k a rest h false is more = filter-any-later k a (q a) (filter q rest) (more refl)
 
+-- a number of a range that passes is among those of it that pass
 pub range-any : (q : ℕ → Bool) (k a n : ℕ) → a ≤ k → k < a + n → q k ≡ true → list_any (λ x. eqb x k) (filter q (range_with_len a n)) ≡ true
 range-any q k a zero low high h = absurd (omega (arith, low, high))
 range-any q k a (suc n) low high h =
@@ -127,6 +129,7 @@ some-write-step : (place : Place) (p : Entry → Bool) (b : Bool) (entry : Entry
 some-write-step place p true entry kept entries rest h = rw (or-left (writes_it place entry) (has_write place entries) h) (rest (or-right (writes_it place entry) (has_write place entries) h))
 some-write-step place p false entry kept entries rest h = rest (or-right (writes_it place entry) (has_write place entries) h)
 
+-- where no reply writes a place, none of some of them does
 pub no-write-filter : (place : Place) (p : Entry → Bool) (entries : List Entry) → has_write place entries ≡ false → has_write place (filter p entries) ≡ false
 no-write-filter place p [] h = refl
 no-write-filter place p (entry ∷ entries) h = some-write-step place p (p entry) entry (filter p entries) entries (no-write-filter place p entries) h
@@ -149,15 +152,13 @@ or-first : (a b : Bool) → a ≡ true → (a || b) ≡ true
 or-first true b h = refl
 or-first false b h = absurd (let never : ⊥ = cc in never)
 
-session-apart : (who : Who) (session s : ℕ) → who ≡ Session session → is_same who (Session s) ≡ false → eqb session s ≡ false
-session-apart who session s is h = ap (λ (w : Who). is_same w (Session s)) (sym is) ∙ h
-
 -- some transaction passes where one of those that pass another test does
 any-kept-step : (a b : Bool) (rest : Bool) (t : Span) (kept : List Span) (test : Span → Bool) → test t ≡ b → list_any test (cond a (t ∷ kept) kept) ≡ true → (list_any test kept ≡ true → rest ≡ true) → (b || rest) ≡ true
 any-kept-step a true rest t kept test is h more = refl
 any-kept-step true false rest t kept test is h more = more (sym (ap (λ (b : Bool). b || list_any test kept) is) ∙ h)
 any-kept-step false false rest t kept test is h more = more h
 
+-- a transaction that passes among those that are kept passes among all
 pub any-kept : (test choice : Span → Bool) (ts : List Span) → list_any test (filter choice ts) ≡ true → list_any test ts ≡ true
 any-kept test choice [] h = h
 any-kept test choice (t ∷ ts) h = any-kept-step (choice t) (test t) (list_any test ts) t (filter choice ts) test refl h (any-kept test choice ts)
@@ -180,10 +181,6 @@ none-any test (t ∷ ts) h =
 none-spans : (test : Span → Bool) (ts : List Span) → EachSpan (λ t. test t ≡ false) ts → list_any test ts ≡ false
 none-spans test [] h = refl
 none-spans test (t ∷ ts) h = rw h.0 (none-spans test ts h.1)
-
-option-none : (test : Span → Bool) (o : Option Span) (others : List Span) → option_map_or test o false ≡ false → list_any test others ≡ false → list_any test (cons_option o others) ≡ false
-option-none test None others h k = k
-option-none test (Some t) others h k = rw h k
 
 -- of one that ended, the end is not after the reply; of one that goes on, it is not before it
 found-end-step : (test : Entry → Bool) (b : Bool) (entry : Entry) (found : Option Entry) (others : Bool) → test entry ≡ false → (others ≡ true → option_map_or test found true ≡ false) → (b || others) ≡ true
@@ -250,6 +247,7 @@ module _ (tables : List TableDecl) (printed timeline : List Entry) (t : Timeline
   line-not k high None is = refl
   line-not k high (Some line) is = line-by k high line is (is_before line entry) refl
 
+  -- a commit above those so far is not before the reply
   pub not-before : (k : ℕ) → length so_far < k → is_committed_before the_run entry k ≡ false
   not-before k high =
       line-not k high (commit_line printed k) refl
@@ -275,6 +273,7 @@ module _ (tables : List TableDecl) (printed timeline : List Entry) (t : Timeline
       absurd (let impossible : ⊥ = cc in impossible)
   not-after-found k least low (Some line) is = ap not (after-by k low line is (is_before entry line) refl)
 
+  -- a commit of those so far has its line, which is not after the reply
   pub not-after-line : (k : ℕ) → 1 ≤ k → k ≤ length so_far → is_committed_not_after the_run entry k ≡ true
   not-after-line k least low = not-after-found k least low (commit_line printed k) refl
 
@@ -313,6 +312,7 @@ module _ (tables : List TableDecl) (printed timeline : List Entry) (t : Timeline
       let low : n < k = grind (arith, nat_tests, parts.0) in
       none-by n place k bound none low parts.1 (nat_le k (length so_far)) refl
 
+  -- where no commit behind the snapshot has the place, the reply passes over none
   pub no-commit : (u : Span) (place : Place) → u.snapshot ≤ length so_far → last_writer place (u.snapshot + 1) (drop u.snapshot so_far) ≡ None → passes_no_commit the_run u place entry ≡ true
   no-commit u place bound none =
       (filter-all (λ k. not (is_committed_before the_run entry k)) (is_later u.snapshot place) (none-later u.snapshot place bound none) (range_with_len 1 (length (the_run).history)))
@@ -335,6 +335,7 @@ module _ (tables : List TableDecl) (printed timeline : List Entry) (t : Timeline
   last-by n place number k bound at h false false is is_c =
       or-holds (nat_le k number) (not (is_committed_before the_run entry k)) (ap not (not-before k (let e : length so_far < k = grind (arith, nat_tests, is_c) in e)))
 
+  -- the last commit behind the snapshot that has the place may be named
   pub commit-named : (u : Span) (place : Place) (number : ℕ) → u.snapshot ≤ length so_far → last_writer place (u.snapshot + 1) (drop u.snapshot so_far) ≡ Some number → names_commit the_run u place entry number ≡ true
   commit-named u place number bound is =
       let n = u.snapshot in
@@ -470,6 +471,7 @@ module _ (tables : List TableDecl) (printed timeline : List Entry) (t : Timeline
   each-passed s place untouched who false is =
       ap (list_any (passed_over (Session s) place)) (spans-of who) ∙ others-passed who s place untouched is (open_of who cut.machine) refl (cut.shown.stands who)
 
+  -- where no other session's transaction has the place, the reply passes over none
   pub no-session : (u : Span) (s : ℕ) (place : Place) → u.who ≡ Session s → Free s place cut.machine.open_transactions → passes_no_session the_run u place entry ≡ true
   no-session u s place is untouched =
       (ap not (subst (λ (w : Who). list_any (passed_over w place) (the_run).transactions ≡ false) (sym is)
@@ -503,6 +505,7 @@ module _ (tables : List TableDecl) (printed timeline : List Entry) (t : Timeline
       all-four (is_same who (Session r.session)) (not (is_same who (Session s))) (has_write place (not_after (within.replies ++ later_ones) entry)) (option_map_or (λ ending. not (is_before ending entry)) (find (λ e. is_end e.reply.said) (within.replies ++ later_ones)) true)
       (same-itself who) (ap not apart) its_write goes_on
 
+  -- a rival that has the place open may be named
   pub session-named : (u : Span) (s : ℕ) (place : Place) (r : Transaction) → u.who ≡ Session s → Rival s place cut.machine.open_transactions r → names_session the_run u place entry r.session ≡ true
   session-named u s place r is rivals =
       let who = Session r.session in
@@ -710,6 +713,7 @@ module _ (tables : List TableDecl) (printed timeline : List Entry) (t : Timeline
       both (passes_no_commit all_run its_own place entry) (passes_no_session all_run its_own place entry)
       (no-commit tables printed timeline t entry only cut its_own place low clear.last) (no-session tables printed timeline t entry only cut its_own s place who_is (free clear))
 
+  -- By each verdict on a write, what its reply tells of conflicts holds.
   pub conflict-by : (acceptable : Bool) → Verdict cut.machine o place acceptable entry.reply.said → conflict_holds all_run its_own place entry entry.reply.said ≡ true
   conflict-by acceptable (accepted clear can is) =
       ap (conflict_holds all_run its_own place entry) is ∙ both (is_clear all_run its_own place entry) (is_first_updater all_run its_own place) (clear-holds clear) (first-updater is)

@@ -82,6 +82,7 @@ AllSteps tables round worker (due ∷ dues) = (due.round ≡ round) × (due.who 
 abbrev pub Pieces : Type 0
 Pieces = List (Due ⊎ List Due)
 
+-- what is due in all pieces, in their order
 abbrev pub dues_in_pieces : Pieces → List Due
 dues_in_pieces [] = []
 dues_in_pieces (inl due ∷ pieces) = due ∷ dues_in_pieces pieces
@@ -93,6 +94,7 @@ BeginsFixed [] = Unit {0}
 BeginsFixed (inl due ∷ pieces) = Unit {0}
 BeginsFixed (inr steps ∷ pieces) = ⊥
 
+-- each piece is one that has a line or the steps of one turn, and no two pieces of steps meet
 abbrev pub AreFormed : List TableDecl → Pieces → Type 0
 AreFormed tables [] = Unit {0}
 AreFormed tables (inl due ∷ pieces) = IsFixed due × AreFormed tables pieces

@@ -24,10 +24,12 @@ abbrev pub EachSpan : (Span → Type 0) → List Span → Type 0
 EachSpan P [] = Unit {0}
 EachSpan P (t ∷ ts) = P t × EachSpan P ts
 
+-- what holds of each transaction of two lists holds of each of both in a row
 pub EachSpan-append : (P : Span → Type 0) (a b : List Span) → EachSpan P a → EachSpan P b → EachSpan P (a ++ b)
 EachSpan-append P [] b h k = k
 EachSpan-append P (t ∷ a) b h k = (h.0, EachSpan-append P a b h.1 k)
 
+-- what follows from a fact of each transaction holds of each
 pub EachSpan-weaker : (P Q : Span → Type 0) → ((t : Span) → P t → Q t) → (ts : List Span) → EachSpan P ts → EachSpan Q ts
 EachSpan-weaker P Q weaker [] h = tt
 EachSpan-weaker P Q weaker (t ∷ ts) h = (weaker t h.0, EachSpan-weaker P Q weaker ts h.1)
@@ -54,6 +56,7 @@ pub record Past (who : Who) (front : List Entry) (on : Option (ℕ × List Entry
   pub parts : (later : List Entry) → spans who (front ++ later) ≡ done ++ cons_option (going_on who on later) (spans who later)
   pub ended : EachSpan (Ended who front) done
 
+-- before any reply no transaction ended and none is open
 pub past-nil : (who : Who) → Past who [] None
 past-nil who = record { done = []; parts = λ later. refl; ended = tt }
 
@@ -69,6 +72,7 @@ ended-more who front last t h = record {
 still-ended : (who : Who) (front : List Entry) (last : Entry) (ts : List Span) → EachSpan (Ended who front) ts → EachSpan (Ended who (front ++ last ∷ [])) ts
 still-ended who front last ts h = EachSpan-weaker (Ended who front) (Ended who (front ++ last ∷ [])) (ended-more who front last) ts h
 
+-- a reply that opens none, where none is open
 pub past-idle : (who : Who) (front : List Entry) (last : Entry) → Past who front None → snapshot_in last.reply.said ≡ None → Past who (front ++ last ∷ []) None
 past-idle who front last past none = record {
   done = past.done;
@@ -76,6 +80,7 @@ past-idle who front last past none = record {
   ended = still-ended who front last past.done past.ended;
 }
 
+-- a reply that opens a transaction and does not end it
 pub past-opens : (who : Who) (front : List Entry) (last : Entry) (snapshot : ℕ) → Past who front None
     → snapshot_in last.reply.said ≡ Some snapshot → is_end last.reply.said ≡ false → Past who (front ++ last ∷ []) (Some (snapshot, last ∷ []))
 past-opens who front last snapshot past opens on = record {
@@ -84,6 +89,7 @@ past-opens who front last snapshot past opens on = record {
   ended = still-ended who front last past.done past.ended;
 }
 
+-- a reply within a transaction, which goes on
 pub past-goes_on : (who : Who) (front : List Entry) (last : Entry) (snapshot : ℕ) (replies : List Entry) → Past who front (Some (snapshot, replies))
     → snapshot_in last.reply.said ≡ None → is_end last.reply.said ≡ false → Past who (front ++ last ∷ []) (Some (snapshot, replies ++ last ∷ []))
 past-goes_on who front last snapshot replies past none on = record {
@@ -92,6 +98,7 @@ past-goes_on who front last snapshot replies past none on = record {
   ended = still-ended who front last past.done past.ended;
 }
 
+-- a reply that ends the transaction that was open
 pub past-ends : (who : Who) (front : List Entry) (last : Entry) (snapshot : ℕ) (replies ahead : List Entry) → Past who front (Some (snapshot, replies))
     → front ≡ ahead ++ replies → snapshot_in last.reply.said ≡ None → is_end last.reply.said ≡ true → Past who (front ++ last ∷ []) None
 past-ends who front last snapshot replies ahead past at none ends = record {
@@ -114,6 +121,7 @@ order-step : (kept : Bool) (entry : Entry) (entries : List Entry) → Each (Foll
 order-step true entry entries h k = (h, k)
 order-step false entry entries h k = k
 
+-- what is kept of replies in order is in order
 pub order-filter : (p : Entry → Bool) (entries : List Entry) → InOrder entries → InOrder (filter p entries)
 order-filter p [] h = tt
 order-filter p (entry ∷ entries) h = order-step (p entry) entry (filter p entries) (Each-filter (Follows entry) p entries h.0) (order-filter p entries h.1)
@@ -124,6 +132,7 @@ kept-of : (who : Who) (kept : Bool) (entry : Entry) (entries : List Entry) → i
 kept-of who true entry entries is h = (is, h)
 kept-of who false entry entries is h = h
 
+-- the replies to one are all to that one
 pub thread-of : (who : Who) (entries : List Entry) → Each (λ entry. is_same entry.reply.who who ≡ true) (thread who entries)
 thread-of who [] = tt
 thread-of who (entry ∷ entries) = kept-of who (is_same entry.reply.who who) entry (thread who entries) refl (thread-of who entries)

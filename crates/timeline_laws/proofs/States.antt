@@ -258,6 +258,7 @@ IsDue tables due =
     ((session : ℕ) × (due.who ≡ Session session) × (is_command tables due.command ≡ true))
     ⊎ ((worker : ℕ) × (due.who ≡ Worker worker) × (is_upkeep due.command ≡ true))
 
+-- each of what is due is a session's command or a worker's upkeep
 abbrev pub EachDue : List TableDecl → List Due → Type 0
 EachDue tables [] = Unit {0}
 EachDue tables (due ∷ dues) = IsDue tables due × EachDue tables dues

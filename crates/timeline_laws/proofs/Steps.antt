@@ -175,6 +175,7 @@ clear-accepted machine t place acceptable (limited clear can (inl is)) = absurd 
 clear-accepted machine t place acceptable (limited clear can (inr is)) = absurd (let e : said.Accepted ≡ said.Freezing is.0 is.1 is.2 = is.3 in let never : ⊥ = cc in never)
 clear-accepted machine t place acceptable (memory is) = absurd (let never : ⊥ = cc in never)
 
+-- what a session asks of the machine
 abbrev pub asks : ℕ → Act → Request
 asks session act = record { session = session; act = act }
 
@@ -227,6 +228,7 @@ module _ (asked : Command) (machine : IsolationMachine) where
   quietly : (told : Said) → snapshot_in told ≡ None → is_end told ≡ false → commit_in told ≡ None → accepts asked told ≡ None → shows_at_most (length machine.history) told ≡ true → Quiet asked told machine machine
   quietly told a b c d e = record { opens = a; on = b; commit = c; writes = d; shown = e; same = refl }
 
+  -- a reply that names a commit behind the snapshot leaves the machine as it is
   pub conflict-quiet : (t : Transaction) (place : Place) (k : ℕ) → t.snapshot ≤ length machine.history
       → last_writer place (t.snapshot + 1) (drop t.snapshot machine.history) ≡ Some k → Quiet asked (said.ConflictCommit k) machine machine
   conflict-quiet t place k bound is =

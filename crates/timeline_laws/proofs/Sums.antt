@@ -51,10 +51,6 @@ each-part-of f p (entry ∷ entries) = (part-most f (p entry) entry, each-part-o
 
 module _ (printed timeline front : List Entry) (entry : Entry) (rest : List Entry) (same : IsPermutation timeline printed)
     (whole : timeline ≡ front ++ entry ∷ rest) (order : InOrder timeline) (f : Entry → ℕ) where
-  -- The sum over all.
-  pub sum-whole : sum_by f printed ≡ sum_by f front + (f entry + sum_by f rest)
-  sum-whole = sum_by-IsPermutation f timeline printed same ∙ ap (sum_by f) whole ∙ sum_by-append f front (entry ∷ rest) ∙ ap (λ (n : ℕ). sum_by f front + n) (sum_by-cons f entry rest)
-
   parted : (p : Entry → Bool) → sum_by f (filter p printed) ≡ sum_by (λ other. cond (p other) (f other) 0) front + (cond (p entry) (f entry) 0 + sum_by (λ other. cond (p other) (f other) 0) rest)
   parted p =
       sum-filter f p printed ∙ sum_by-IsPermutation (λ other. cond (p other) (f other) 0) timeline printed same ∙ ap (sum_by (λ other. cond (p other) (f other) 0)) whole
@@ -82,6 +78,7 @@ module _ (printed timeline front : List Entry) (entry : Entry) (rest : List Entr
       sum-most f (λ other. cond (is_not_after other entry) (f other) 0) front (Each-weaker (λ earlier. Follows earlier entry) (λ other. f other ≤ cond (is_not_after other entry) (f other) 0) (λ other h. part-all f (is_not_after other entry) other (ap not h.not_before)) front (order-front front entry rest in_order)) in
       omega (arith, parted (λ other. is_not_after other entry), all)
 
+  -- the sum over some replies is at most that over all
   pub sum-at-most : (p : Entry → Bool) → sum_by f (filter p printed) ≤ sum_by f printed
   sum-at-most p =
       let most : sum_by (λ other. cond (p other) (f other) 0) printed ≤ sum_by f printed = sum-most (λ other. cond (p other) (f other) 0) f printed (each-part-of f p printed) in
@@ -93,6 +90,7 @@ counted-step : (p : ℕ → Bool) (o : Option ℕ) (others : List ℕ) → count
 counted-step p None others = let e : count_by p others ≡ 0 + count_by p others = omega arith in e
 counted-step p (Some n) others = sum_by-cons (λ m. cond (p m) 1 0) n others
 
+-- counting the shown numbers that pass is a sum over the replies
 pub counted : (p : ℕ → Bool) (shown : Said → Option ℕ) (entries : List Entry) → count_by p (shown_in shown entries) ≡ sum_by (λ entry. option_map_or (λ n. cond (p n) 1 0) (shown entry.reply.said) 0) entries
 counted p shown [] = refl
 counted p shown (entry ∷ entries) =
@@ -111,6 +109,7 @@ summed-step : (o : Option ℕ) (others : List ℕ) → sum (cons_option o others
 summed-step None others = let e : sum others ≡ 0 + sum others = omega arith in e
 summed-step (Some n) others = let e : 0 + n ≡ n = omega arith in ap (λ (m : ℕ). fold ◌+◌ m others) e ∙ sum-from n others
 
+-- the sum of the shown numbers is a sum over the replies
 pub summed : (shown : Said → Option ℕ) (entries : List Entry) → sum (shown_in shown entries) ≡ sum_by (λ entry. unwrap_or (shown entry.reply.said) 0) entries
 summed shown [] = refl
 summed shown (entry ∷ entries) =

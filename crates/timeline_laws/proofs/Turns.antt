@@ -55,6 +55,7 @@ BeginSaid _ = ⊥
 abbrev pub Named : List TableDecl → Type 0
 Named tables = (a b : ℕ) → is_table_place tables a ≡ true → is_table_place tables b ≡ true → name_of_table tables a ≡ name_of_table tables b → a ≡ b
 
+-- one of two holds where the second is true
 pub or-last : (b : Bool) → (b || true) ≡ true
 or-last true = refl
 or-last false = refl
@@ -215,6 +216,7 @@ found-step : (Q : Said → Type 0) (made : Said → Entry) (test : Entry → Boo
 found-step Q made test entry told later true is of rest h = record { told = told; is = let e : made told ≡ entry = cc in e; passes = is; of = of }
 found-step Q made test entry told later false is of rest h = rest h
 
+-- what is found among the entries made of what may be said is made of one of these
 pub found-by : (Q : Said → Type 0) (made : Said → Entry) (test : Entry → Bool) (entry : Entry) (saids : List Said) → EachSaid Q saids → find test (map made saids) ≡ Some entry → Found Q made test entry
 found-by Q made test entry [] h is = absurd (let never : ⊥ = cc in never)
 found-by Q made test entry (told ∷ saids) h is =
@@ -302,6 +304,7 @@ any-found tables earlier due line behind entry at =
 -- ---- lines of others
 
 module _ (tables : List TableDecl) (names : NamesPlain tables) where
+  -- what a step may say is of words
   pub step-is-said : (told : Said) → StepSaid tables told → IsSaid tables told
   step-is-said (said.Moved n) h = moved-said tables names n
   step-is-said said.Memory h = memory-said tables names
@@ -309,6 +312,7 @@ module _ (tables : List TableDecl) (names : NamesPlain tables) where
   step-is-said (said.Frozen t b r) h = frozen-said tables names t b r
   step-is-said _ h = absurd h
 
+  -- what begins a turn is of words
   pub begin-is-said : (told : Said) → BeginSaid told → IsSaid tables told
   begin-is-said (said.Cooling n) h = cooling-said tables names n
   begin-is-said (said.Pruned n) h = pruned-said tables names n
@@ -353,10 +357,6 @@ module _ (tables : List TableDecl) (names : NamesPlain tables) where
       let parts = same-parts entry.reply reply (same-words tables entry reply behind (step-is-said entry.reply.said h) (step-is-said reply.said k) begins) in
       said-apart tables named entry.reply.said reply.said h k parts.1
 
-  -- a session's reply, whatever it says, is not at the front of a step's line
-  number_then : List ℕ → List ℕ → List ℕ → List ℕ
-  number_then a b more = a ++ 32 ∷ (b ++ 32 ∷ more)
-
   whole-digits : (word : List ℕ) → list_all is_plain word ≡ true → is_whole word ≡ true
   whole-digits word plain = (a-word word plain).whole
 
@@ -372,6 +372,7 @@ module _ (tables : List TableDecl) (names : NamesPlain tables) where
   first-equal : (line own : List ℕ) (behind others : List (List ℕ)) → starts_with bytes_eq (line ∷ behind) (own ∷ others) ≡ true → own ≡ line
   first-equal line own behind others h = (bytes_eq-Decides own line).0 (and_parts (bytes_eq own line) (starts_with bytes_eq behind others) h).0
 
+  -- a session's reply is not found where a worker's line begins
   pub session-not-step : (entry : Entry) (reply : ReplyLine) (behind : List (List ℕ)) (session worker : ℕ) → entry.reply.who ≡ Session session → reply.who ≡ Worker worker
       → begins_with tables ((first_line tables reply ++ 10 ∷ []) ∷ behind) entry ≡ true → ⊥
   session-not-step entry reply behind session worker is_a is_b begins =

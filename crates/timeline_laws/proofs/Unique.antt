@@ -94,20 +94,24 @@ none-later : (entry : Entry) (rest : List Entry) → Each (Follows entry) rest �
 none-later entry [] h only = tt
 none-later entry (other ∷ rest) h only = (later-by entry other h.0 only.0 (is_reply entry other) refl, none-later entry rest h.1 only.1)
 
+-- in a timeline no reply in front has the reply's round, session and index
 pub none-in_front : (front : List Entry) (entry : Entry) (rest : List Entry) → InOrder (front ++ entry ∷ rest) → Only (front ++ entry ∷ rest) entry → Each (λ other. is_reply entry other ≡ false) front
 none-in_front front entry rest order only =
     none-earlier front entry (order-front front entry rest order) (Each-first (λ other. is_reply entry other ≡ true → other ≡ entry) front (entry ∷ rest) only)
 
+-- and none behind it has them
 pub none-behind : (front : List Entry) (entry : Entry) (rest : List Entry) → InOrder (front ++ entry ∷ rest) → Only (front ++ entry ∷ rest) entry → Each (λ other. is_reply entry other ≡ false) rest
 none-behind front entry rest order only =
     none-later entry rest (order-rest front entry rest order) (Each-second (λ other. is_reply entry other ≡ true → other ≡ entry) front (entry ∷ rest) only).1
 
+-- a reply has its own round, session and index
 pub itself : (entry : Entry) → is_reply entry entry ≡ true
 itself entry =
     let round : eqb entry.reply.round entry.reply.round ≡ true = eq-eqb entry.reply.round entry.reply.round refl in
     let index : eqb entry.reply.index entry.reply.index ≡ true = eq-eqb entry.reply.index entry.reply.index refl in
     rw (round, same-itself entry.reply.who, index) refl
 
+-- where each fails the test none passes it
 pub any-none : (p : Entry → Bool) (entries : List Entry) → Each (λ entry. p entry ≡ false) entries → list_any p entries ≡ false
 any-none p [] h = refl
 any-none p (entry ∷ entries) h = rw (h.0) (any-none p entries h.1)

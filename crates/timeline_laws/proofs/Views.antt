@@ -55,10 +55,12 @@ cell-itself (Truth false) = refl
 cell-itself (Text bytes) = bytes-itself bytes
 cell-itself (Blob bytes) = bytes-itself bytes
 
+-- a row is the same as itself
 pub row-itself : (row : List Cell) → is_row row row ≡ true
 row-itself [] = refl
 row-itself (cell ∷ row) = both (is_cell cell cell) (is_row row row) (cell-itself cell) (row-itself row)
 
+-- so are the rows of a list
 pub rows-themselves : (rows : List (List Cell)) → pointwise is_row rows rows ≡ true
 rows-themselves [] = refl
 rows-themselves (row ∷ rows) = both (is_row row row) (pointwise is_row rows rows) (row-itself row) (rows-themselves rows)
@@ -95,21 +97,27 @@ own-of who (entry ∷ entries) = own-kept who (is_same entry.reply.who who) entr
 
 module _ (tables : List TableDecl) (printed timeline : List Entry) (t : Timeline tables printed timeline) (entry : Entry) (only : Only printed entry)
     (cut : Cut tables timeline (last tables printed timeline t) entry) where
+  -- the run that the reply stands in
   abbrev pub here : Run
   here = run tables printed timeline t
 
+  -- whom the reply answers
   abbrev pub its : Who
   its = entry.reply.who
 
+  -- the replies to its own session or worker behind it
   abbrev pub behind_it : List Entry
   behind_it = thread its cut.rest
 
+  -- the timeline is in order where it is cut at the reply
   pub cut-order : InOrder (cut.front ++ entry ∷ cut.rest)
   cut-order = its-order printed timeline cut.front entry cut.rest (at-cut tables printed timeline t entry only cut)
 
+  -- the reply may come about behind each in front
   pub front-follows : Each (λ earlier. Follows earlier entry) cut.front
   front-follows = order-front cut.front entry cut.rest cut-order
 
+  -- each behind may come about behind the reply
   pub rest-follows : Each (Follows entry) cut.rest
   rest-follows = order-rest cut.front entry cut.rest cut-order
 
@@ -130,6 +138,7 @@ module _ (tables : List TableDecl) (printed timeline : List Entry) (t : Timeline
   none-or true = rw (before-itself entry) refl
   none-or false = rw (before-itself entry) (filter-none (λ other. is_before other entry) (up_to_end behind_it) behind-not)
 
+  -- of its transaction's replies those before the reply are those in front of it
   pub before-is : (o : Transaction) (within : Within its (thread its cut.front) o) → before (within.replies ++ up_to_end (entry ∷ behind_it)) entry ≡ within.replies
   before-is o within =
       filter-append (λ other. is_before other entry) within.replies (up_to_end (entry ∷ behind_it))
@@ -139,12 +148,15 @@ module _ (tables : List TableDecl) (printed timeline : List Entry) (t : Timeline
   abbrev pub belongs : (o : Transaction) → Within its (thread its cut.front) o → Span
   belongs o within = span its o.snapshot (within.replies ++ up_to_end (entry ∷ behind_it))
 
+  -- what its session has open is that transaction, among its replies in front
   pub within-open : (o : Transaction) → open_of its cut.machine ≡ Some o → Within its (thread its cut.front) o
   within-open o at = subst (Stands its (thread its cut.front)) at (cut.shown.stands its)
 
+  -- The reply belongs to the transaction that its session has open.
   pub belongs-is : (o : Transaction) (within : Within its (thread its cut.front) o) → belongs_to here entry ≡ Some (belongs o within)
   belongs-is o within = found-open printed timeline cut.front entry cut.rest (at-cut tables printed timeline t entry only cut) o.snapshot within.replies within.spanned
 
+  -- a reply that opens none belongs to none where its session has none open
   pub belongs-none : open_of its cut.machine ≡ None → snapshot_in entry.reply.said ≡ None → belongs_to here entry ≡ None
   belongs-none at none =
       found-none printed timeline cut.front entry cut.rest (at-cut tables printed timeline t entry only cut) (subst (Stands its (thread its cut.front)) at (cut.shown.stands its)) none
@@ -155,6 +167,7 @@ module _ (tables : List TableDecl) (printed timeline : List Entry) (t : Timeline
       ap (λ (h : History). fold laid_over [] (take n h)) (history-shown tables printed timeline t ∙ cut.grows.is)
       ∙ ap (fold laid_over []) (take-append-le n cut.machine.history cut.grows.more low)
 
+  -- the snapshot of what its session has open is not above the commits
   pub bound-is : (o : Transaction) → open_of its cut.machine ≡ Some o → o.snapshot ≤ length cut.machine.history
   bound-is o at = bound-of cut.machine cut.shown.sane its o at
 
@@ -295,9 +308,11 @@ begun-read seen _ number = refl
 pub at-some : (test : Span → Bool) (found : Option Span) (u : Span) → found ≡ Some u → test u ≡ true → option_map_or test found true ≡ true
 at-some test found u is h = ap (λ (o : Option Span). option_map_or test o true) is ∙ h
 
+-- a test of what is not there holds
 pub at-none : (test : Span → Bool) (found : Option Span) → found ≡ None → option_map_or test found true ≡ true
 at-none test found is = ap (λ (o : Option Span). option_map_or test o true) is
 
+-- a test that always holds does so of what is there or not
 pub at-any : (test : Span → Bool) (found : Option Span) → ((u : Span) → test u ≡ true) → option_map_or test found true ≡ true
 at-any test None h = refl
 at-any test (Some u) h = h u

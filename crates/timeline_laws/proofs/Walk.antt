@@ -41,6 +41,7 @@ pub record Within (who : Who) (past : List Entry) (t : Transaction) : Type 0 whe
   pub on : find (λ entry. is_end entry.reply.said) replies ≡ None
   pub writes_are : writes_in replies ≡ t.own
 
+-- a session's replies so far have just this transaction open, or none
 abbrev pub Stands : Who → List Entry → Option Transaction → Type 0
 Stands who past None = Past who past None
 Stands who past (Some t) = Within who past t
@@ -146,6 +147,7 @@ module _ (who : Who) (past : List Entry) (machine after : IsolationMachine) (ent
   end-ends told own (inl is) = ap is_end is
   end-ends told own (inr is) = ap is_end is.0
 
+  -- A session's own reply leaves what its replies have open as the machine has it.
   pub own-stands : Change entry.reply.who entry.command entry.reply.said machine after → Stands who past (open_of who machine) → Stands who (past ++ entry ∷ []) (open_of who after)
   own-stands (quiet q) h = own-quiet q h
   own-stands (opens o) h = own-opens o.session (its-session-is o.session o.who_is) o.none o.said_is o.is h
@@ -184,6 +186,7 @@ pub record Shown (front : List Entry) (machine : IsolationMachine) : Type 0 wher
   pub stands : (who : Who) → Stands who (thread who front) (open_of who machine)
   pub agrees : Agree front machine
 
+-- what no replies show of the machine at first
 pub shown-opening : Shown [] opening
 shown-opening = record { sane = sane-opening; commits_are = refl; numbers = refl; stands = nobody; agrees = nobody-within }
 
@@ -236,6 +239,7 @@ module _ (front : List Entry) (machine after : IsolationMachine) (entry : Entry)
   end-shows told own (inl is) = (ap commit_in is, ap (shows_at_most (length machine.history)) is)
   end-shows told own (inr is) = (ap commit_in is.0, ap (shows_at_most (length machine.history)) is.0)
 
+  -- One more reply shows what holds of the machine behind it.
   pub shown-step : Change entry.reply.who entry.command entry.reply.said machine after → Shown (front ++ entry ∷ []) after
   shown-step (quiet q) = uncommitted entry.reply.said refl q.commit (ap (λ (m : IsolationMachine). m.history) q.same) q.shown (subst Sane (sym q.same) h.sane) (all-stand (quiet q)) (all-agree (quiet q))
   shown-step (opens o) =

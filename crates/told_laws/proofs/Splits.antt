@@ -21,15 +21,19 @@ use Rattle.told_laws.specs.Laws.{is_quiet}
 
 -- ---- lists
 
+-- lists that are one begin with the same
 pub heads : {X : Type 0} (a b : X) (xs ys : List X) → a ∷ xs ≡ b ∷ ys → a ≡ b
 heads a b xs ys e = cc
 
+-- lists that are one are one behind their first elements
 pub tails : {X : Type 0} (a b : X) (xs ys : List X) → a ∷ xs ≡ b ∷ ys → xs ≡ ys
 tails a b xs ys e = cc
 
+-- an empty list has no first element
 pub none_some : {X : Type 0} (a : X) (xs : List X) → [] ≡ a ∷ xs → ⊥
 none_some a xs e = cc
 
+-- an empty list has no element behind others
 pub none_behind : {X : Type 0} (es : List X) (e : X) (rest : List X) → [] ≡ es ++ e ∷ rest → ⊥
 none_behind [] e rest h = none_some e rest h
 none_behind (x ∷ es) e rest h = none_some x (es ++ e ∷ rest) h
@@ -52,12 +56,14 @@ pub alone : {X : Type 0} (z : X) (fs : List X) (e : X) (rest : List X) → z ∷
 alone z [] e rest h = (heads z e [] rest h, sym (tails z e [] rest h))
 alone z (f ∷ fs) e rest h = absurd (none_behind fs e rest (tails z f [] (fs ++ e ∷ rest) h))
 
+-- what all of a list pass, one within it passes
 pub passes_at : {X : Type 0} (p : X → Bool) (es : List X) (e : X) (rest : List X) → list_all p (es ++ e ∷ rest) ≡ true → p e ≡ true
 passes_at p [] e rest h = and_first (p e) (list_all p rest) h
 passes_at p (x ∷ es) e rest h = passes_at p es e rest (and_second (p x) (list_all p (es ++ e ∷ rest)) h)
 
 -- ---- the events of a command
 
+-- the quiet events of a command, which stand first
 abbrev pub quiet_of : Shape → Option OwnTransaction → Command → List Occurrence → List CoreEvent
 quiet_of shape own command.Begin made = []
 quiet_of shape own (command.Get table key) made = by_own own (λ t. event.Get (own_key table key t) table key ∷ [])
@@ -74,6 +80,7 @@ quiet_of shape own (command.Seal table block) made = []
 quiet_of shape own (command.Gather table block) made = []
 quiet_of shape own (command.Export table) made = by_own own (λ t. at_blocks shape table (event.Read t table))
 
+-- the move of a plan, if it has one
 abbrev pub move_of : ℕ → List MovePair → Option CoreEvent
 move_of table [] = None
 move_of table (pair ∷ pairs) = Some (event.Move table (pair ∷ pairs))
@@ -114,6 +121,7 @@ moves_are : (table : ℕ) (pairs : List MovePair) → moves table pairs ≡ opti
 moves_are table [] = refl
 moves_are table (pair ∷ pairs) = refl
 
+-- the events of a command are those that are quiet, and the one behind them, if there is one
 pub split_events : (shape : Shape) (own : Option OwnTransaction) (session : ℕ) (asked : Command) (made : List Occurrence)
     → events_of shape own session asked made ≡ quiet_of shape own asked made ++ option_to_list (loud_of shape own session asked made)
 split_events shape own session command.Begin made = refl
@@ -144,6 +152,7 @@ quiet_thaws : (own : Option OwnTransaction) (table : ℕ) (block : Option ℕ)
 quiet_thaws None table block = refl
 quiet_thaws (Some t) table block = all_thaws is_quiet table block (λ block. refl)
 
+-- the events that stand first are quiet
 pub are_quiet : (shape : Shape) (own : Option OwnTransaction) (asked : Command) (made : List Occurrence)
     → list_all is_quiet (quiet_of shape own asked made) ≡ true
 are_quiet shape own command.Begin made = refl

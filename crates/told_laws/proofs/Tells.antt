@@ -46,6 +46,7 @@ events_at : (call : Call) (done : List Occurrence) (made : Occurrence) (rest : L
     → events_in call.made ≡ events_in done ++ made.event ∷ events_in rest
 events_at call done made rest is = ap events_in is ∙ events_append done (made ∷ rest)
 
+-- an event that another of its call follows is quiet
 pub calls_go_on_quietly : CallsGoOnQuietly
 calls_go_on_quietly shape worker session front call done made next rest is all = go (refusal_of call.command (own_after front)) is
   where
@@ -71,6 +72,7 @@ calls_go_on_quietly shape worker session front call done made next rest is all =
 
 -- ---- lines
 
+-- a line that is no silence is told to a worker too
 pub not_silent : (worker : Bool) (line : Said) → is_silent line ≡ false → line_to worker (Some line) ≡ Some line
 not_silent false line e = refl
 not_silent true line e = ap (λ b. cond b None (Some line)) e
@@ -119,6 +121,7 @@ unmoved shape parts (event.Seal table block) false q = absurd (not_true q)
 unmoved shape parts (event.Image table block image) false q = absurd (not_true q)
 unmoved shape parts (event.Thaw table block) false q = refl
 
+-- quiet events tell of no row that moved
 pub sum_unmoved : (shape : Shape) (made : List Occurrence) → AreReplied shape made → list_all is_quiet (events_in made) ≡ true
     → sum_by moved_told (replies_in made) ≡ 0
 sum_unmoved shape [] replied q = refl
@@ -178,10 +181,6 @@ refusal_plain (command.Compact table) own line e = absurd (none_is line e)
 refusal_plain (command.Seal table block) own line e = absurd (none_is line e)
 refusal_plain (command.Gather table block) own line e = absurd (none_is line e)
 refusal_plain (command.Export table) own line e = exports table own line e
-
--- a command that is not refused has its transaction
-open_for : (asked : Command) (own : Option OwnTransaction) → refusal_of asked own ≡ None → Option OwnTransaction
-open_for asked own e = own
 
 no_refusal : (line : Said) → Some line ≡ None → ⊥
 no_refusal line e = cc
@@ -409,6 +408,7 @@ module _ (shape : Shape) (worker : Bool) (session : ℕ) (call : Call) (done : L
       go (inr l) = at_cut call.command own made.event p.may p.line
           (λ final. memory_is made.reply (or_final (is_refused made) (is_final made.event) final (cut_last done (ap is_cut_short (sym all) ∙ p.cut)))) l.1
 
+-- a call's line is told at its last event
 pub last_events_are_told : LastEventsAreTold
 last_events_are_told shape worker session front call done made is replied all = go (refusal_of call.command (own_after front)) refl is
   where
@@ -452,6 +452,7 @@ none_told shape worker session (command.Export table) None told free es line = a
 none_told shape worker session (command.Export table) (Some t) told free es line =
     (Rattle.run_spec.specs.Told.summary_of t [], line ∙ not_silent worker (Rattle.run_spec.specs.Told.summary_of t []) refl, inl refl)
 
+-- a call without an event tells nothing that counts
 pub refusals_are_plain : RefusalsArePlain
 refusals_are_plain shape worker session front call is none = go (refusal_of call.command (own_after front)) refl is
   where

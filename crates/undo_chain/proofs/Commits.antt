@@ -10,6 +10,7 @@ use Rattle.undo_chain.specs.Lawful.{IsLawful}
 use Rattle.undo_chain.specs.Stamped.{stamped}
 use Rattle.undo_chain.proofs.Order.{IsLawful-tail, all_not_own}
 
+-- a list is changed the same way the other way round
 pub map-reverse : {X Y : Type 0} (f : X → Y) (xs : List X) → map f (reverse xs) ≡ reverse (map f xs)
 map-reverse f [] = refl
 map-reverse f (x ∷ xs) =

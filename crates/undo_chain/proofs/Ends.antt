@@ -18,6 +18,7 @@ use Rattle.undo_chain.proofs.Views.{images_passed}
 pub reverse-push : {X : Type 0} (xs : List X) (x : X) → reverse (xs ++ x ∷ []) ≡ x ∷ reverse xs
 reverse-push xs x = reverse-append xs (x ∷ [])
 
+-- the last element comes first the other way round
 pub reverse-last : {X : Type 0} (es xs : List X) (x : X) → es ≡ xs ++ x ∷ [] → reverse es ≡ x ∷ reverse xs
 reverse-last es xs x is = ap reverse is ∙ reverse-push xs x
 
@@ -26,6 +27,7 @@ reverse-kept : {X : Type 0} (b : Bool) (x : X) (xs : List X) →
 reverse-kept true x xs = sym (reverse-cons x xs)
 reverse-kept false x xs = append-nil (reverse xs)
 
+-- a filter keeps the same the other way round
 pub filter-reverse : {X : Type 0} (p : X → Bool) (xs : List X) → filter p (reverse xs) ≡ reverse (filter p xs)
 filter-reverse p [] = refl
 filter-reverse p (x ∷ xs) =
@@ -133,5 +135,6 @@ All-reverse P (x ∷ xs) all =
     (reverse-cons x xs)
     (All-push P (reverse xs) x (All-reverse P xs (All-tail P x xs all)) (All-head P x xs all))
 
+-- what holds of each the other way round holds of each
 pub All-from_reverse : {X : Type 0} (P : X → Type 0) (xs : List X) → All P (reverse xs) → All P xs
 All-from_reverse P xs all = All-same P xs (reverse (reverse xs)) (sym (reverse-reverse xs)) (All-reverse P (reverse xs) all)

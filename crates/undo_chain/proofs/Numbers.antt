@@ -44,6 +44,7 @@ pub largest_with-commit : {D : Type 0} (so_far : Option ℕ) (u : Undo D) (es : 
 largest_with-commit None u es stamp above = rw (numbers_above-cons u es stamp, above, zero-max u.number) refl
 largest_with-commit (Some m) u es stamp above = rw (numbers_above-cons u es stamp, above) refl
 
+-- an entry that is no commit above the stamp leaves the largest so far
 pub largest_with-other : {D : Type 0} (so_far : Option ℕ) (u : Undo D) (es : List (Undo D)) (stamp : ℕ) →
     is_commit_above u stamp ≡ false →
     largest_with so_far (numbers_above es stamp) ≡ largest_with so_far (numbers_above (u ∷ es) stamp)

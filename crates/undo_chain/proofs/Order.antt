@@ -26,6 +26,7 @@ AllPairs-head R x xs pairs = λ k d within. pairs zero (suc k) d (omega arith) (
 AllPairs-tail : {X : Type 0} (R : X → X → Type 0) (x : X) (xs : List X) → AllPairs R (x ∷ xs) → AllPairs R xs
 AllPairs-tail R x xs pairs = λ i j d before within. pairs (suc i) (suc j) d (omega arith) (omega arith)
 
+-- a chain without an entry is lawful
 pub IsLawful-nil : {D : Type 0} → IsLawful {D = D} []
 IsLawful-nil {D} = record {
   writes = All-nil (IsWriteOrStamped {D = D});
@@ -36,15 +37,18 @@ IsLawful-nil {D} = record {
 pub IsLawful-below : {D : Type 0} (u : Undo D) (es : List (Undo D)) → IsLawful (u ∷ es) → All (MayStandAbove u) es
 IsLawful-below u es lawful = AllPairs-head MayStandAbove u es lawful.order
 
+-- the newest entry of a lawful chain is a write or stamped
 pub IsLawful-head : {D : Type 0} (u : Undo D) (es : List (Undo D)) → IsLawful (u ∷ es) → IsWriteOrStamped u
 IsLawful-head u es lawful = All-head IsWriteOrStamped u es lawful.writes
 
+-- and the older ones are lawful
 pub IsLawful-tail : {D : Type 0} (u : Undo D) (es : List (Undo D)) → IsLawful (u ∷ es) → IsLawful es
 IsLawful-tail u es lawful = record {
   writes = All-tail IsWriteOrStamped u es lawful.writes;
   order = AllPairs-tail MayStandAbove u es lawful.order;
 }
 
+-- what a filter keeps of a lawful chain is lawful
 pub IsLawful-filter : {D : Type 0} (p : Undo D → Bool) (es : List (Undo D)) → IsLawful es → IsLawful (filter p es)
 IsLawful-filter p es lawful = record {
   writes = All-filter p IsWriteOrStamped es lawful.writes;
@@ -90,6 +94,7 @@ above_stamped session commit number u (e ∷ es) here writes limit limits above 
     (All-tail Limited e es limits)
     (All-tail (MayStandAbove u) e es above))
 
+-- an entry that may stand above each of a lawful chain
 pub IsLawful-cons : {D : Type 0} (u : Undo D) (es : List (Undo D)) →
     IsWriteOrStamped u → All (MayStandAbove u) es → IsLawful es → IsLawful (u ∷ es)
 IsLawful-cons u es here above lawful = record {
@@ -149,6 +154,7 @@ all_not_own session u es lawful newest =
     es
     (IsLawful-below u es lawful))
 
+-- where the newest entry is not the session's own, none is
 pub none_own : {D : Type 0} (session : ℕ) (u : Undo D) (es : List (Undo D)) →
     IsLawful (u ∷ es) → is_own u session ≡ false → list_any (λ undo. is_own undo session) (u ∷ es) ≡ false
 none_own session u es lawful newest =
@@ -222,5 +228,6 @@ IsLawful-next undo u es here above lawful =
     (IsLawful-below u es lawful)))
     lawful
 
+-- the newest entry may stand above the next
 pub IsLawful-above : {D : Type 0} (undo u : Undo D) (es : List (Undo D)) → IsLawful (undo ∷ u ∷ es) → MayStandAbove undo u
 IsLawful-above undo u es lawful = All-head (MayStandAbove undo) u es (IsLawful-below undo (u ∷ es) lawful)

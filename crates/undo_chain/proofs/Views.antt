@@ -31,11 +31,13 @@ images-cons u es stamp session =
     u
     (take_while (λ undo. not (is_in_view undo stamp session)) es)
 
+-- a reader lays back the before-image of an entry that is not in its view
 pub images_passed : {D : Type 0} (u : Undo D) (es : List (Undo D)) (stamp session : ℕ) →
     is_in_view u stamp session ≡ false →
     images_laid_back (u ∷ es) stamp session ≡ u.before ∷ images_laid_back es stamp session
 images_passed u es stamp session out = rw (images-cons u es stamp session, out) refl
 
+-- and stops at one that is
 pub images_at_view : {D : Type 0} (u : Undo D) (es : List (Undo D)) (stamp session : ℕ) →
     is_in_view u stamp session ≡ true → images_laid_back (u ∷ es) stamp session ≡ []
 images_at_view u es stamp session seen = rw (images-cons u es stamp session, seen) refl

@@ -1,9 +1,9 @@
 -- What crates above cite of entries: a value stays where bytes are added to its buffer.
 use Rattle.std.proofs.Common.{◌≡◌, ℕ, ◌+◌, ◌≤◌, List, ◌++◌, length, take, drop, ap, ◌∙◌, arith}
-use Rattle.std.proofs.lemmas.List.{drop-append-le, take-append-le, drop_at, length-append, length-drop, take_all}
+use Rattle.std.proofs.lemmas.List.{drop-append-le, take-append-le, length-append, length-drop}
 use Rattle.varlen_entry.specs.declared.Entry.{Entry}
 use Rattle.varlen_entry.specs.declared.Entry.TheVariants.{Inline, Owned, Gathered}
-use Rattle.varlen_entry.specs.Entry.{HasValue, StandsAt}
+use Rattle.varlen_entry.specs.Entry.{HasValue}
 
 -- what stands at a place stands there where bytes are added
 pub take-drop-append : (n place : ℕ) (buffer more : List ℕ) → place + n ≤ length buffer
@@ -12,19 +12,7 @@ take-drop-append n place buffer more within =
     let room : n ≤ length (drop place buffer) = rw length-drop (omega arith) in
     ap (take n) (drop-append-le place buffer more (omega arith)) ∙ take-append-le n (drop place buffer) more room
 
--- bytes stand where they were added
-pub StandsAt-append : (bytes buffer : List ℕ) (place : ℕ) → length buffer ≡ place → StandsAt bytes place (buffer ++ bytes)
-StandsAt-append bytes buffer place at = record {
-  within = rw length-append (omega arith);
-  is = ap (take (length bytes)) (drop_at buffer bytes place at) ∙ take_all (length bytes) bytes (omega arith);
-}
-
-pub StandsAt-longer : (bytes buffer more : List ℕ) (place : ℕ) → StandsAt bytes place buffer → StandsAt bytes place (buffer ++ more)
-StandsAt-longer bytes buffer more place h = record {
-  within = let within = h.within in rw length-append (omega arith);
-  is = take-drop-append (length bytes) place buffer more h.within ∙ h.is;
-}
-
+-- an entry has its value still with more bytes behind those that are owned
 pub HasValue-owned_longer : (entry : Entry) (owned gathered value more : List ℕ) → HasValue entry owned gathered value
     → HasValue entry (owned ++ more) gathered value
 HasValue-owned_longer (Inline short) owned gathered value more h = record { within = h.within; is = h.is }
@@ -33,12 +21,3 @@ HasValue-owned_longer (Owned span) owned gathered value more h = record {
   is = take-drop-append span.len span.place owned more h.within ∙ h.is;
 }
 HasValue-owned_longer (Gathered span) owned gathered value more h = record { within = h.within; is = h.is }
-
-pub HasValue-gathered_longer : (entry : Entry) (owned gathered value more : List ℕ) → HasValue entry owned gathered value
-    → HasValue entry owned (gathered ++ more) value
-HasValue-gathered_longer (Inline short) owned gathered value more h = record { within = h.within; is = h.is }
-HasValue-gathered_longer (Owned span) owned gathered value more h = record { within = h.within; is = h.is }
-HasValue-gathered_longer (Gathered span) owned gathered value more h = record {
-  within = let within = h.within in rw length-append (omega arith);
-  is = take-drop-append span.len span.place gathered more h.within ∙ h.is;
-}

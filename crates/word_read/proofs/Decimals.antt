@@ -15,12 +15,14 @@ use Rattle.workload_spec.specs.Valid.{is_within}
 use Rattle.workload_spec.specs.Reading.{value_of_digits, natural_of, natural_within, integer_of}
 use Rattle.word_read.specs.Numbers.{are_digits, is_small, small_natural, small_integer, is_unpadded}
 
+-- the value of digits with one more
 abbrev pub step : ℕ → ℕ → ℕ
 step value digit = value * 10 + digit_value digit
 
 own : IsNumeralModel (λ ds. are_digits ds ≡ true) (λ ds. value_of_digits ds)
 own = numerals_by_fold _ (search rules) (λ n ds. fold (λ value digit. value * 10 + digit_value digit) n ds) (search rules)
 
+-- digits more do not lower the value
 pub grows : (ds : List ℕ) (n : ℕ) → n ≤ fold (λ value digit. value * 10 + digit_value digit) n ds
 grows [] n = omega arith
 grows (d ∷ ds) n = omega (arith, grows ds (n * 10 + digit_value d))
@@ -59,6 +61,7 @@ same true t to back = sym (to refl)
 same false true to back = back refl
 same false false to back = refl
 
+-- a test that fails finds nothing
 pub refused : (b : Bool) (o : Option ℕ) → cond (b && false) o None ≡ None
 refused true o = refl
 refused false o = refl
@@ -95,9 +98,11 @@ judged word false small = rw small (dropped (bytes_eq (decimal (value_of_digits 
 pub natural_small : (word : List ℕ) → small_natural (natural_of word) ≡ (if is_unpadded word then (if are_digits word && is_small (value_of_digits word) then Some (value_of_digits word) else None) else None)
 natural_small word = judged word (is_small (value_of_digits word)) refl
 
+-- a value past 64 bits stays past them with digits more
 pub digits_overflow : (ds : List ℕ) (n : ℕ) → 2 ^ 64 ≤ n → is_small (fold (λ value digit. value * 10 + digit_value digit) n ds) ≡ false
 digits_overflow ds n le = le-ltb _ _ (omega (arith, le, grows ds n))
 
+-- a word whose digits so far give 2^64 or more spells no number
 pub overflow : (word : List ℕ) (i n : ℕ) (b : Bool) → i < length word → 2 ^ 64 ≤ n * 10 + digit_value (get_or word i 0)
     → value_of_digits word ≡ fold (λ value digit. value * 10 + digit_value digit) n (drop i word)
     → (if b && is_small (value_of_digits word) then Some (value_of_digits word) else None) ≡ None
@@ -105,6 +110,7 @@ overflow word i n b lt le e =
     let f : is_small (value_of_digits word) ≡ false = rw (e, drop-cons word i 0) (digits_overflow (drop (suc i) word) (n * 10 + digit_value (get_or word i 0)) le) in
     rw f (refused b (Some (value_of_digits word)))
 
+-- a word that was read to its end spells the value of its digits, if it is digits alone
 pub finished : (word : List ℕ) (i n : ℕ) → length word ≤ i → n < 2 ^ 64 → are_digits word ≡ are_digits (drop i word)
     → value_of_digits word ≡ fold (λ value digit. value * 10 + digit_value digit) n (drop i word)
     → Some n ≡ (if are_digits word && is_small (value_of_digits word) then Some (value_of_digits word) else None)
@@ -115,6 +121,7 @@ finished word i n le lt d v =
     let s : is_small n ≡ true = lt-ltb n (2 ^ 64) lt in
     rw (d', v', s) refl
 
+-- the value of a decimal digit
 pub digit_is : (b : ℕ) → 48 ≤ b → b ≤ 57 → digit_value b ≡ b - 48
 digit_is b low high =
     let f : ltb b 48 ≡ false = le-ltb b 48 low in

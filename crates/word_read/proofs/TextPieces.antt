@@ -5,7 +5,7 @@ use Rattle.std.specs.List.{list_all}
 use Rattle.std.proofs.lemmas.Bool.{eqb-true, ne_eqb}
 use Rattle.std.specs.Char.{digit_value}
 use Rattle.workload_spec.specs.Words.{quote, backslash, is_control}
-use Rattle.workload_spec.specs.Reading.{Itself, Escape, FirstDigit, hex_mark}
+use Rattle.workload_spec.specs.Reading.{Itself, Escape, FirstDigit}
 use Rattle.word_read.specs.Spellings.{is_hex, is_plain, closed, text_from, pairs_of}
 use Rattle.workload_laws.proofs.Lists.{both, neither, not_true}
 
@@ -33,13 +33,7 @@ plain_read (byte ∷ plain) behind all =
     let a = both (is_plain byte) (list_all is_plain plain) all in
     plain_first byte (plain ++ behind) a.0 ∙ ap (option_map (λ text. byte ∷ text)) (plain_read plain behind a.1) ∙ map_twice byte plain (text_from Itself behind)
 
--- two digits of a control byte
-pub control_read : (s : List ℕ) → 2 ≤ length s → (is_hex (get_or s 0 0) && is_hex (get_or s 1 0)) ≡ true → is_control (digit_value (get_or s 0 0) * 16 + digit_value (get_or s 1 0)) ≡ true
-    → text_from FirstDigit s ≡ option_map (λ text. (digit_value (get_or s 0 0) * 16 + digit_value (get_or s 1 0)) ∷ text) (text_from Itself (drop 2 s))
-control_read [] many hex is = absurd (omega (arith, many))
-control_read (high ∷ []) many hex is = absurd (omega (arith, many))
-control_read (high ∷ low ∷ rest) many hex is = let h = both (is_hex high) (is_hex low) hex in rw (h.0, h.1, is) refl
-
+-- behind a mark two digits of no control byte are no text
 pub no_control : (s : List ℕ) → 2 ≤ length s → is_control (digit_value (get_or s 0 0) * 16 + digit_value (get_or s 1 0)) ≡ false → text_from FirstDigit s ≡ None
 no_control [] many is = refl
 no_control (high ∷ []) many is = absurd (omega (arith, many))
@@ -50,6 +44,7 @@ no_control (high ∷ low ∷ rest) many is = by (is_hex high) (is_hex low)
     by true false = refl
     by false l = refl
 
+-- behind a mark two bytes that are not both digits are no text
 pub no_digits : (s : List ℕ) → 2 ≤ length s → (is_hex (get_or s 0 0) && is_hex (get_or s 1 0)) ≡ false → text_from FirstDigit s ≡ None
 no_digits [] many is = refl
 no_digits (high ∷ []) many is = absurd (omega (arith, many))
@@ -64,27 +59,11 @@ either_none : (b : Bool) → (if b then text_none else text_none) ≡ text_none
 either_none true = refl
 either_none false = refl
 
+-- behind a mark less than two bytes are no text
 pub few_digits : (s : List ℕ) → length s < 2 → text_from FirstDigit s ≡ None
 few_digits [] few = refl
 few_digits (high ∷ []) few = either_none (is_hex high)
 few_digits (high ∷ low ∷ rest) few = absurd (omega (arith, few))
-
--- behind a backslash
-pub escape_empty : (s : List ℕ) → length s ≡ 0 → text_from Escape s ≡ None
-escape_empty [] e = refl
-escape_empty (byte ∷ rest) e = absurd (omega (arith, e))
-
-pub escape_hex : (s : List ℕ) → 1 ≤ length s → get_or s 0 0 ≡ 120 → text_from Escape s ≡ text_from FirstDigit (drop 1 s)
-escape_hex [] some is = absurd (omega (arith, some))
-escape_hex (byte ∷ rest) some is = rw is refl
-
-pub escape_itself : (s : List ℕ) → 1 ≤ length s → (get_or s 0 0 == quote || get_or s 0 0 == backslash) ≡ true → text_from Escape s ≡ option_map (λ text. get_or s 0 0 ∷ text) (text_from Itself (drop 1 s))
-escape_itself [] some is = absurd (omega (arith, some))
-escape_itself (byte ∷ rest) some is = rw is refl
-
-pub escape_none : (s : List ℕ) → 1 ≤ length s → (get_or s 0 0 == quote || get_or s 0 0 == backslash) ≡ false → get_or s 0 0 == hex_mark ≡ false → text_from Escape s ≡ None
-escape_none [] some is other = refl
-escape_none (byte ∷ rest) some is other = rw (is, other) refl
 
 -- pairs of digits
 pub pair_read : (s bytes : List ℕ) → 2 ≤ length s → (is_hex (get_or s 0 0) && is_hex (get_or s 1 0)) ≡ true
@@ -97,15 +76,12 @@ pair_read (high ∷ low ∷ rest) bytes many is = rw is (by (pairs_of rest))
     by None = refl
     by (Some more) = ap Some (sym (append_assoc bytes ((digit_value high * 16 + digit_value low) ∷ []) more))
 
-pub no_pair : (s : List ℕ) → 2 ≤ length s → (is_hex (get_or s 0 0) && is_hex (get_or s 1 0)) ≡ false → pairs_of s ≡ None
-no_pair [] many is = absurd (omega (arith, many))
-no_pair (high ∷ []) many is = absurd (omega (arith, many))
-no_pair (high ∷ low ∷ rest) many is = rw is refl
-
+-- where nothing is left, no pair is
 pub no_more : (s : List ℕ) → length s ≡ 0 → pairs_of s ≡ Some []
 no_more [] e = refl
 no_more (byte ∷ rest) e = absurd (omega (arith, e))
 
+-- one byte that is left over is no pair
 pub one_more : (s : List ℕ) → length s < 2 → (length s ≡ 0 → ⊥) → pairs_of s ≡ None
 one_more [] few some = absurd (some refl)
 one_more (byte ∷ []) few some = refl
@@ -124,11 +100,6 @@ piece_read spelling old plain behind s e is all = e ∙ ap (λ (bytes : List ℕ
 pub byte_more : (old : List ℕ) (byte : ℕ) (o : Option (List ℕ)) → option_map (λ more. old ++ more) (option_map (λ text. byte ∷ text) o) ≡ option_map (λ more. (old ++ byte ∷ []) ++ more) o
 byte_more old byte None = refl
 byte_more old byte (Some text) = ap Some (sym (append_assoc old (byte ∷ []) text))
-
--- a backslash
-pub at_escape : (s : List ℕ) → 1 ≤ length s → get_or s 0 0 ≡ 92 → text_from Itself s ≡ text_from Escape (drop 1 s)
-at_escape [] some is = absurd (omega (arith, some))
-at_escape (byte ∷ rest) some is = rw is refl
 
 stopped_by : (q k c : Bool) (byte : ℕ) (rest : List ℕ) → not (q || k || c) ≡ false → k ≡ false → (q ≡ true → closed rest ≡ None) → (if q then closed rest else if k then text_from Escape rest else if c then None else option_map (λ text. byte ∷ text) (text_from Itself rest)) ≡ None
 stopped_by true k c byte rest stops none unclosed = unclosed refl
@@ -151,5 +122,6 @@ pub piece_at : (spelling old s : List ℕ) (n : ℕ) → text_from Itself spelli
     → text_from Itself spelling ≡ option_map (λ more. (old ++ take n s) ++ more) (text_from Itself (drop n s))
 piece_at spelling old s n e all = piece_read spelling old (take n s) (drop n s) s e (sym (take-append-drop n s)) all
 
+-- a quote at the end closes the text
 pub closed_at : (text : List ℕ) (behind : List ℕ) → behind ≡ 34 ∷ [] → option_map (λ more. text ++ more) (text_from Itself behind) ≡ Some text
 closed_at text behind is = rw is (ap Some (append-nil text))

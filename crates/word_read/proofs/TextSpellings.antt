@@ -51,6 +51,7 @@ pub record IsHex (c : ℕ) : Type 0 where
   pub small : digit_value c < 16
   pub back : digit_char (digit_value c) ≡ c
 
+-- a hexadecimal digit spells its value
 pub hex_is : (c : ℕ) → is_hex c ≡ true → IsHex c
 hex_is c is = elim (either (is_within 48 57 c) (is_within 97 102 c) is) [
   | inl d ↦
@@ -81,6 +82,7 @@ or_right : (s t : Bool) → t ≡ true → (s || t) ≡ true
 or_right true t e = refl
 or_right false t e = e
 
+-- the digit of a value below 16 is hexadecimal
 pub digit_hex : (d : ℕ) → d < 16 → is_hex (digit_char d) ≡ true
 digit_hex d small = by (nat_lt d 10) refl
   where
@@ -102,6 +104,7 @@ pair_of high low h l =
     let second : (digit_value high * 16 + digit_value low) % 16 ≡ digit_value low = omega (arith, a.small, b.small) in
     rw (first, second, a.back, b.back) refl
 
+-- a byte is the value of its two digits
 pub value_back : (byte : ℕ) → byte < 256 → digit_value (digit_char (byte / 16 % 16)) * 16 + digit_value (digit_char (byte % 16)) ≡ byte
 value_back byte small =
     let h : digit_value (digit_char (byte / 16 % 16)) ≡ byte / 16 % 16 = digit_value-digit_char (byte / 16 % 16) (omega arith) in
@@ -281,6 +284,7 @@ text_spelled (first ∷ rest) = by (first == quote) refl
 abbrev pub marked : List ℕ → List ℕ
 marked bytes = hex_mark ∷ flat_map hex_digits bytes
 
+-- a word is the spelling of bytes exactly where it is read as them
 pub blob_spelled : (word : List ℕ) → spelled marked word (blob_in word) ≡ blob_of word
 blob_spelled [] = refl
 blob_spelled (mark ∷ digits) = by (mark == hex_mark) refl

@@ -19,10 +19,12 @@ ends WithinText rest e = absurd cc
 ends BehindBackslash rest e = absurd cc
 ends WithinWord rest e = refl
 
+-- a word that stays one is the first of the words before a space
 pub word_first : (position : Position) (word rest : List ℕ) → Stays position word → words_from position (word ++ space ∷ rest) ≡ word ∷ words_of rest
 word_first position [] rest stays = ends position rest stays
 word_first position (byte ∷ bytes) rest stays = rw (stays.0, word_first (position_after position byte) bytes rest stays.1) refl
 
+-- at the end of a line it is the only one
 pub word_last : (position : Position) (word : List ℕ) → Stays position word → words_from position word ≡ word ∷ []
 word_last position [] stays = refl
 word_last position (byte ∷ bytes) stays = rw (stays.0, word_last (position_after position byte) bytes stays.1) refl
@@ -36,22 +38,27 @@ pub record IsWord (word : List ℕ) : Type 0 where
   pub stays : Stays AtStart word
   pub whole : is_whole word ≡ true
 
+-- each of them is a word that stays one, on one line
 abbrev pub AreWords : List (List ℕ) → Type 0
 AreWords [] = Unit {0}
 AreWords (word ∷ words) = IsWord word × AreWords words
 
+-- words with a space between each two are parted as they were
 pub words_apart : (word : List ℕ) (words : List (List ℕ)) → AreWords (word ∷ words) → words_of (spaced (word ∷ words)) ≡ word ∷ words
 words_apart word [] are = word_last AtStart word are.0.stays
 words_apart word (next ∷ words) are = word_first AtStart word (spaced (next ∷ words)) are.0.stays ∙ ap (λ (ws : List (List ℕ)). word ∷ ws) (words_apart next words are.1)
 
+-- two pieces without a line feed have none together
 pub whole_append : (a b : List ℕ) → is_whole a ≡ true → is_whole b ≡ true → is_whole (a ++ b) ≡ true
 whole_append a b wa wb = list_all-append (λ (byte : ℕ). not (byte == line_feed)) a b ∙ joined wa wb
 
+-- a line of words has no line feed
 pub words_whole : (words : List (List ℕ)) → AreWords words → is_whole (spaced words) ≡ true
 words_whole [] are = refl
 words_whole (word ∷ []) are = are.0.whole
 words_whole (word ∷ next ∷ words) are = whole_append word (space ∷ spaced (next ∷ words)) are.0.whole (words_whole (next ∷ words) are.1)
 
+-- words and more words are words
 pub words_append : (words more : List (List ℕ)) → AreWords words → AreWords more → AreWords (words ++ more)
 words_append [] more are also = also
 words_append (word ∷ words) more are also = (are.0, words_append words more are.1 also)
@@ -83,9 +90,11 @@ plain_whole (byte ∷ bytes) all =
     let n : byte == 10 ≡ false = ne_eqb byte 10 (λ e. omega (arith, e, ltb-true 34 byte b.0)) in
     joined (ap not n) (plain_whole bytes b.1)
 
+-- a word of plain bytes stays one, on one line
 pub plain_word : (word : List ℕ) → list_all is_plain word ≡ true → IsWord word
 plain_word word all = record { stays = plain_stays word all; whole = plain_whole word all }
 
+-- a line without a line feed is the first of the parts before one
 pub line_first_part : (line rest : List ℕ) → is_whole line ≡ true → parts line_feed (line ++ line_feed ∷ rest) ≡ line ∷ parts line_feed rest
 line_first_part [] rest whole = refl
 line_first_part (byte ∷ bytes) rest whole =

@@ -26,6 +26,7 @@ byte_small high low h l =
     let b : value % 16 ≡ digit_value low = sym (digit_value-digit_char (value % 16) (omega arith)) ∙ ap digit_value l in
     pair_small (digit_value high) (digit_value low) value refl a b
 
+-- bytes that are spelled by their digits are below 256
 pub digits_small : (digits : List ℕ) → flat_map hex_digits (bytes_of_digits digits) ≡ digits → list_all (λ byte. nat_lt byte 256) (bytes_of_digits digits) ≡ true
 digits_small [] e = refl
 digits_small (digit ∷ []) e = refl
@@ -57,6 +58,7 @@ cell_by : (b : Bool) (k : Kind) (word : List ℕ) → cell_text (if b then Null 
 cell_by true k word e = refl
 cell_by false k word e = value_bytes k word e
 
+-- the value that is found for a word is the one that spells it
 pub found_is : {X : Type 0} (text_of : X → List ℕ) (word : List ℕ) (value found : X) → spelled text_of word value ≡ Some found → value ≡ found
 found_is text_of word value found e = by (bytes_eq (text_of value) word) e
   where

@@ -41,6 +41,7 @@ fitting column word (Some cell) read is e =
     let k = kept_by (cell_fault 0 column cell) cell read e in
     subst (ReadsCell column word) k.0 (record { text = (is cell refl).0; fits = k.1; bytes = (is cell refl).1 })
 
+-- a cell that is read is its word, and fits the column
 pub cell_is : (column : Column) (word : List ℕ) (cell : Cell) → cell_of column word ≡ Some cell → ReadsCell column word cell
 cell_is column word cell e = fitting column word (spelled cell_text word (cell_in column word)) cell (λ c is. let text = spelled_as cell_text word (cell_in column word) c is in (text, cell_bytes column word c is text)) e
 
@@ -53,6 +54,7 @@ fault_by false nullable true long at = refl
 fault_by false nullable false true at = refl
 fault_by false nullable false false at = refl
 
+-- the number of a column changes nothing about whether a cell has a fault
 pub fault_at : (column : Column) (cell : Cell) (at : ℕ) → is_none (cell_fault at column cell) ≡ is_none (cell_fault 0 column cell)
 fault_at column cell at = fault_by (is_null cell) column.nullable (not (is_value_of column.kind cell)) (nat_lt most_bytes (byte_length cell)) at
 
@@ -67,6 +69,7 @@ pub record ReadsCells (columns : List Column) (words : List (List ℕ)) (cells :
   pub fit : (at : ℕ) → is_none (first_fault at columns cells) ≡ true
   pub bytes : list_all has_only_bytes cells ≡ true
 
+-- cells that are read are their words, and fit the columns
 pub cells_are : (columns : List Column) (words : List (List ℕ)) (cells : List Cell) → length columns ≡ length words → cells_of columns words ≡ Ok cells → ReadsCells columns words cells
 cells_are [] [] cells many e = let same : [] ≡ cells = cc in subst (ReadsCells [] []) same (record { text = refl; many = refl; fit = λ at. refl; bytes = refl })
 cells_are [] (word ∷ words) cells many e = absurd (omega (arith, many))
@@ -84,6 +87,7 @@ cells_are (column ∷ columns) (word ∷ words) cells many e =
       bytes = joined one.bytes all.bytes;
     })))
 
+-- a kind that is tested to be `i64` is
 pub i64_is : (k : Kind) → is_i64 k ≡ true → k ≡ kind.I64
 i64_is kind.I64 e = refl
 i64_is kind.I8 e = absurd cc

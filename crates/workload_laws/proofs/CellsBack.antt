@@ -175,6 +175,7 @@ pub record CellsBack (columns : List Column) (cells : List Cell) : Type 0 where
   pub back : cells_of columns (cell_words cells) ≡ Ok cells
   pub words : AreWords (cell_words cells)
 
+-- cells that fit their columns are words, and are read back from them
 pub cells_back : (columns : List Column) (cells : List Cell) (at : ℕ) → length cells ≡ length columns → is_none (first_fault at columns cells) ≡ true → list_all has_only_bytes cells ≡ true → CellsBack columns cells
 cells_back [] [] at many fit bytes = record { back = refl; words = tt }
 cells_back [] (cell ∷ cells) at many fit bytes = absurd (omega (arith, many))

@@ -27,6 +27,7 @@ colon_by false byte bytes n e later =
     let rest = rw add-one at (later refl) in
     rw (one, add-one) (ap (λ (bs : List ℕ). byte ∷ bs) rest)
 
+-- a word with a colon is what stands before its first, the colon, and what stands behind it
 pub colon_parts : (word : List ℕ) → has_colon word ≡ true → before_colon word ++ colon ∷ after_colon word ≡ word
 colon_parts [] e = absurd cc
 colon_parts (byte ∷ bytes) e = colon_by (byte == 58) byte bytes (prefix_len (λ b. not (b == 58)) bytes) refl (λ f. colon_parts bytes (rw f at e))
@@ -49,6 +50,7 @@ kind_by : (word : List ℕ) (o p : Option (Kind × Bool)) (kind : Kind × Bool) 
 kind_by word None p kind e left right = right e
 kind_by word (Some k) p kind e left right = left e
 
+-- a kind that is read, with its mark for nulls, is the word
 pub kind_is : (word : List ℕ) (kind : Kind × Bool) → kind_of word ≡ Some kind → kind_text kind.0 ++ (if kind.1 then codes "?" else []) ≡ word
 kind_is word kind e = kind_by word (option_map (λ k. (k, false)) (find (λ k. bytes_eq (kind_text k) word) kinds)) (option_map (λ k. (k, true)) (find (λ k. bytes_eq (kind_text k ++ codes "?") word) kinds)) kind e
     (kind_plain word (find (λ k. bytes_eq (kind_text k) word) kinds) kind (λ k is. eq_of (kind_text k) word (find_is (λ k. bytes_eq (kind_text k) word) kinds k is)))
@@ -64,6 +66,7 @@ pub record Reads (columns : List Column) (word : List ℕ) (column : Column) : T
   pub own : list_any (λ other. bytes_eq other.name column.name) columns ≡ false
   pub room : nat_lt (length columns) most_columns ≡ true
 
+-- a column that is read is its word, and its name is new among those before it
 pub column_is : (columns : List Column) (word : List ℕ) (column : Column) → has_colon word ≡ true → column_of whole columns word ≡ Ok column → Reads columns word column
 column_is columns word column marked e =
     step (rule cause.Name (is_name (before_colon word))) _ column e (λ u named e1.
@@ -96,6 +99,7 @@ own_from (column ∷ columns) at e =
     let parts = own_by (place_of_name column.name columns) (first_twins (at + 1) columns) at e in
     joined (ap not (position_none (λ (other : Column). bytes_eq other.name column.name) columns parts.0)) (own_from columns (at + 1) parts.1)
 
+-- columns with names of their own have no twins
 pub twins_from : (columns : List Column) (at : ℕ) → own_names (λ (column : Column). column.name) columns ≡ true → is_none (first_twins at columns) ≡ true
 unfolding own_names
 twins_from [] at e = refl
@@ -145,6 +149,7 @@ columns_by word words columns read true marked later e =
     })
 columns_by word words columns read false marked later e = columns_done (word ∷ words) columns read cc
 
+-- columns that are read are the words in front, and stay a table's columns
 pub columns_are : (words : List (List ℕ)) (columns : List Column) (read : List Column × List (List ℕ)) → columns_from whole columns words ≡ Ok read → ReadsAll columns words read
 columns_are [] columns read e = columns_done [] columns read cc
 columns_are (word ∷ words) columns read e = columns_by word words columns read (has_colon word) refl (λ others is. columns_are words others read is) e

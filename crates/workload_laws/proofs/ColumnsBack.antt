@@ -53,6 +53,7 @@ rest_bytes (byte ∷ bytes) all =
     let rest = rest_bytes bytes b.1 in
     record { plain = joined one.0 rest.plain; no_colon = joined one.1 rest.no_colon }
 
+-- a name has plain bytes alone, and no colon
 pub name_bytes : (name : List ℕ) → is_name name ≡ true → NameBytes name
 name_bytes [] is = absurd cc
 name_bytes (first ∷ rest) is =
@@ -61,6 +62,7 @@ name_bytes (first ∷ rest) is =
     let others = rest_bytes rest parts.1 in
     record { plain = joined one.0 others.plain; no_colon = joined one.1 others.no_colon }
 
+-- what stands before the colon behind a name is the name
 pub before_back : (name after : List ℕ) → list_all (λ byte. not (byte == 58)) name ≡ true → before_colon (name ++ colon ∷ after) ≡ name
 before_back [] after none = refl
 before_back (byte ∷ bytes) after none =
@@ -72,9 +74,11 @@ drop_name : (name after : List ℕ) → drop (length name + 1) (name ++ colon �
 drop_name [] after = refl
 drop_name (byte ∷ bytes) after = let rest = rw add-one at (drop_name bytes after) in rw add-one rest
 
+-- and behind the colon is what stands there
 pub after_back : (name after : List ℕ) → list_all (λ byte. not (byte == 58)) name ≡ true → after_colon (name ++ colon ∷ after) ≡ after
 after_back name after none = ap (λ (n : List ℕ). drop (length n + 1) (name ++ colon ∷ after)) (before_back name after none) ∙ drop_name name after
 
+-- and there is a colon
 pub has_back : (name after : List ℕ) → has_colon (name ++ colon ∷ after) ≡ true
 has_back [] after = refl
 has_back (byte ∷ bytes) after = or_right (byte == 58) (has_colon (bytes ++ colon ∷ after)) (has_back bytes after)
@@ -83,6 +87,7 @@ has_back (byte ∷ bytes) after = or_right (byte == 58) (has_colon (bytes ++ col
     or_right true t e = refl
     or_right false t e = e
 
+-- a kind and its mark for nulls are read back from their text
 pub kind_back : (k : Kind) (nullable : Bool) → kind_of (kind_text k ++ (if nullable then codes "?" else [])) ≡ Some (k, nullable)
 kind_back kind.I8 true = refl
 kind_back kind.I8 false = refl
@@ -117,6 +122,7 @@ pub record MayFollow (columns : List Column) (column : Column) : Type 0 where
   pub own : list_any (λ other. bytes_eq other.name column.name) columns ≡ false
   pub room : nat_lt (length columns) most_columns ≡ true
 
+-- a column that may follow those before it is read back from its word
 pub column_back : (columns : List Column) (column : Column) → MayFollow columns column → column_of whole columns (column_text column) ≡ Ok column
 column_back columns column may =
     let bytes = name_bytes column.name may.named in
@@ -150,6 +156,7 @@ columns_next columns word column words has read =
     chosen (has_colon word) (column_of whole columns word >>= (λ made. columns_from whole (columns ++ made ∷ []) words)) (Ok (columns, word ∷ words)) has
     ∙ gives (column_of whole columns word) (λ made. columns_from whole (columns ++ made ∷ []) words) (columns_from whole (columns ++ column ∷ []) words) column read refl
 
+-- columns are read back behind others, up to a word without a colon
 pub columns_back : (more columns : List Column) (word : List ℕ) (words : List (List ℕ)) → has_colon word ≡ false → are_columns (columns ++ more) ≡ true → columns_from whole columns (map column_text more ++ word ∷ words) ≡ Ok (columns ++ more, word ∷ words)
 columns_back [] columns word words none are = columns_none columns word words none ∙ ap (λ (cs : List Column). Ok (cs, word ∷ words)) (sym (append-nil columns))
 columns_back (column ∷ more) columns word words none are =

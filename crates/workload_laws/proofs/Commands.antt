@@ -32,17 +32,20 @@ pub record Names (tables : List TableDecl) (name : List ℕ) (place : ℕ) : Typ
   pub at : slice_get tables place ≡ Some table
   pub named : table.name ≡ name
 
+-- the place that is read for a name has a table of the name
 pub table_is : (tables : List TableDecl) (name : List ℕ) (place : ℕ) → table_named tables name ≡ Ok place → Names tables name place
 table_is tables name place e =
     let p = position_is (λ (table : TableDecl). bytes_eq table.name name) tables place (some_of cause.Unknown (position (λ (table : TableDecl). bytes_eq table.name name) tables) place e) in
     record { table = p.0; at = p.1; named = eq_of p.0.name name p.2 }
 
+-- the name of the table at that place is the one that was read
 pub name_is : (tables : List TableDecl) (name : List ℕ) (place : ℕ) → Names tables name place → name_of_table tables place ≡ name
 name_is tables name place names = ap (λ (o : Option TableDecl). option_map_or (λ table. table.name) o []) names.at ∙ names.named
 
 place_is : (tables : List TableDecl) (name : List ℕ) (place : ℕ) → Names tables name place → is_table_place tables place ≡ true
 place_is tables name place names = ap is_some names.at
 
+-- a key that is read is its word, and a number that a key may be
 pub key_is : (word : List ℕ) (key : ℤ) → key_in word ≡ Ok key → (signed_decimal key ≡ word) × (is_key_number key ≡ true)
 key_is word key e =
     step (or_cause cause.Number (integer_of word)) _ key e (λ read is e1.
@@ -117,11 +120,13 @@ of_block tables name make text is bytes words command e =
       bytes = bytes place block;
     })))))))
 
+-- each of the tables is a table within its limits
 pub table_at : (tables : List TableDecl) (place : ℕ) (table : TableDecl) → list_all is_table tables ≡ true → slice_get tables place ≡ Some table → is_table table ≡ true
 table_at [] place table all e = absurd cc
 table_at (first ∷ tables) zero table all e = let same : first ≡ table = cc in ap is_table (sym same) ∙ (both (is_table first) (list_all is_table tables) all).0
 table_at (first ∷ tables) (suc place) table all e = table_at tables place table (both (is_table first) (list_all is_table tables) all).1 e
 
+-- a table's columns begin with the key
 pub begins : (table : TableDecl) → is_table table ≡ true → begins_with_key table.schema ≡ true
 begins table is =
     let a = both (is_name table.name && are_columns table.schema && are_slots table.schema table.slots) (are_blocks table.blocks) is in
@@ -180,6 +185,7 @@ each_by : {X : Type 0} (P : X → Type 0) (y x : X) (rest : Option X) (b : Bool)
 each_by P y x rest true this later e = let same : y ≡ x = cc in subst P same this
 each_by P y x rest false this later e = later e
 
+-- what holds of each entry holds of the one that is found
 pub each_found : {X : Type 0} (P : X → Type 0) (p : X → Bool) (xs : List X) (x : X) → Each P xs → find p xs ≡ Some x → P x
 each_found P p [] x each e = absurd cc
 each_found P p (y ∷ ys) x each e = each_by P y x (find p ys) (p y) each.0 (each_found P p ys x each.1) e
@@ -249,6 +255,7 @@ pub record ReadsLine (tables : List TableDecl) (sessions : ℕ) (exported : Bool
   pub bytes : list_all has_only_bytes (written_row line.command) ≡ true
   pub once : (exported && is_export line.command) ≡ false
 
+-- a line of a round that is read is its words, and names what there is
 pub line_is : (tables : List TableDecl) (sessions : ℕ) (exported : Bool) (words : List (List ℕ)) (line : Line) → list_all is_table tables ≡ true → line_of whole tables sessions exported words ≡ Ok line → ReadsLine tables sessions exported words line
 line_is tables sessions exported words line all e =
     step (number cause.Session 1 sessions words) _ line e (λ session is1 e1.

@@ -68,6 +68,7 @@ pub record Stands (tables : List TableDecl) (place : ℕ) : Type 0 where
   pub named : table_named tables (name_of_table tables place) ≡ Ok place
   pub word : IsWord (name_of_table tables place)
 
+-- a table stands at its place, where its name is read as this place
 pub stands : (tables : List TableDecl) (place : ℕ) (table : TableDecl) → list_all is_table tables ≡ true → have_own_names tables ≡ true → slice_get tables place ≡ Some table → Stands tables place
 stands tables place table all own at =
     let is = table_at tables place table all at in
@@ -86,13 +87,16 @@ some_is : {X : Type 0} (o : Option X) → is_some o ≡ true → (x : X) × (o �
 some_is None e = absurd cc
 some_is (Some x) e = (x, refl)
 
+-- so does the table of each place that there is
 pub place_stands : (tables : List TableDecl) (place : ℕ) → list_all is_table tables ≡ true → have_own_names tables ≡ true → is_table_place tables place ≡ true → Stands tables place
 place_stands tables place all own is = let s = some_is (slice_get tables place) is in stands tables place s.0 all own s.1
 
+-- an option that passes a test which none fails holds what passes it
 pub holds_some : {X : Type 0} (p : X → Bool) (o : Option X) → option_map_or p o false ≡ true → (x : X) × (o ≡ Some x) × (p x ≡ true)
 holds_some p None e = absurd cc
 holds_some p (Some x) e = (x, refl, e)
 
+-- a key is read back from its spelling
 pub key_back : (key : ℤ) → is_key_number key ≡ true → key_in (signed_decimal key) ≡ Ok key
 key_back key is =
     gives (or_cause cause.Number (integer_of (signed_decimal key))) _ (Ok key) key (ap (or_cause cause.Number) (integer_of_back key (key_small key is)))
@@ -139,6 +143,7 @@ no_null : (b : Bool) → not b ≡ true → is_none (if b then None else Some (N
 no_null true n e = cc
 no_null false n e = cc
 
+-- a cell that fits the key's column is a number that a key may be
 pub key_cell : (column : Column) (cell : Cell) → is_key column ≡ true → is_none (cell_fault 0 column cell) ≡ true → (key : ℤ) × (cell ≡ Num key) × (is_key_number key ≡ true)
 key_cell column cell is fit = by cell fit
   where
@@ -155,6 +160,7 @@ key_cell column cell is fit = by cell fit
     by (Text text) f = absurd (let v = value (Text text) (value_of_fit column (Text text) refl f) in cc)
     by (Blob bytes) f = absurd (let v = value (Blob bytes) (value_of_fit column (Blob bytes) refl f) in cc)
 
+-- a row without a fault has as many cells as columns, and no fault in them
 pub fit_by : (b : Bool) (fault : Option RowFault) → is_none (if b then fault else Some Arity) ≡ true → (b ≡ true) × (is_none fault ≡ true)
 fit_by true fault e = (refl, e)
 fit_by false fault e = absurd cc
@@ -265,6 +271,7 @@ key_at tables name make place key all own text known is fits =
     let f = both (is_table_place tables place) (is_key_number key) fits in
     key_command tables name make place key text known is (place_stands tables place all own f.0) f.1
 
+-- a command is read back from its words
 pub command_back : (tables : List TableDecl) (read : Command) → list_all is_table tables ≡ true → have_own_names tables ≡ true → is_command tables read ≡ true → list_all has_only_bytes (written_row read) ≡ true → CommandBack tables read
 command_back tables command.Begin all own is bytes = alone_back tables (codes "begin") command.Begin refl refl (plain_word (codes "begin") refl)
 command_back tables (command.Get place key) all own is bytes = key_at tables (codes "get") command.Get place key all own refl refl (plain_word (codes "get") refl) is
@@ -299,6 +306,7 @@ spaced_begins [] words begins = absurd (let e = begins.is in cc)
 spaced_begins (first ∷ rest) [] begins = other_bytes (first ∷ rest) (codes "--") (λ e. let same : first ≡ begins.first = (let f = begins.is in cc) in let d : first ≡ 45 = cc in omega (arith, same, d, begins.least))
 spaced_begins (first ∷ rest) (next ∷ words) begins = other_bytes (spaced ((first ∷ rest) ∷ next ∷ words)) (codes "--") (λ e. let same : first ≡ begins.first = (let f = begins.is in cc) in let d : first ≡ 45 = cc in omega (arith, same, d, begins.least))
 
+-- a line of a round is read back, is no line `--`, and is one line
 pub line_back : (tables : List TableDecl) (sessions : ℕ) (exported : Bool) (line : Line) → list_all is_table tables ≡ true → have_own_names tables ≡ true → sessions ≤ 64 → is_within 1 sessions line.session ≡ true → is_command tables line.command ≡ true
     → list_all has_only_bytes (written_row line.command) ≡ true → (exported && is_export line.command) ≡ false → LineBack tables sessions exported line
 line_back tables sessions exported line all own few in_sessions is bytes once =

@@ -25,6 +25,7 @@ pub record IsNext (lines : List (List ℕ)) (next : List ℕ × List (List ℕ))
   pub more : 0 < length next.1
   pub text : rest_text lines ≡ next.0 ++ line_feed ∷ rest_text next.1
 
+-- the next line is the first, and its text stands in front of that of the others
 pub next_is : (at : ℕ) (cause : Cause) (lines : List (List ℕ)) (next : List ℕ × List (List ℕ)) → next_line at cause lines ≡ Ok next → IsNext lines next
 next_is at cause [] next e = absurd cc
 next_is at cause ([] ∷ []) next e = absurd cc
@@ -84,6 +85,7 @@ tables_by at tables line next rest read true later e =
       λ f. omega (arith, ap length all.behind, length-append (tables ++ table ∷ []) all.more, length-append tables (table ∷ [])),
     )))
 
+-- the tables that are read are the lines in front
 pub tables_are : (at : ℕ) (tables : List TableDecl) (lines : List (List ℕ)) (read : List TableDecl × List (List ℕ)) → tables_from whole at tables lines ≡ Ok read → ReadsTables tables lines read
 tables_are at tables [] read e = none_read tables [] read cc
 tables_are at tables (last ∷ []) read e = none_read tables (last ∷ []) read cc

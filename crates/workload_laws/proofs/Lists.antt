@@ -7,21 +7,26 @@ use Rattle.std.proofs.lemmas.Slice.Eq.{bytes_eq-Decides}
 use Rattle.std.proofs.lemmas.List.Folds.{list_any-append}
 use Rattle.workload_laws.proofs.Results.{eq_of}
 
+-- two tests that pass together pass each
 pub both : (s t : Bool) → (s && t) ≡ true → (s ≡ true) × (t ≡ true)
 both true t e = (refl, e)
 both false t e = absurd cc
 
+-- two tests that pass each pass together
 pub joined : {s t : Bool} → s ≡ true → t ≡ true → (s && t) ≡ true
 joined p q = rw (p, q) refl
 
+-- where one of two tests passes, the first or the second does
 pub either : (s t : Bool) → (s || t) ≡ true → (s ≡ true) ⊎ (t ≡ true)
 either true t e = inl refl
 either false t e = inr e
 
+-- where neither of two tests passes, each fails
 pub neither : (s t : Bool) → (s || t) ≡ false → (s ≡ false) × (t ≡ false)
 neither true t e = absurd cc
 neither false t e = (refl, e)
 
+-- what is not true is false
 pub not_true : (b : Bool) → not b ≡ true → b ≡ false
 not_true true e = absurd cc
 not_true false e = refl
@@ -31,15 +36,18 @@ same true t to back = sym (to refl)
 same false true to back = back refl
 same false false to back = refl
 
+-- bytes are the same either way round
 pub bytes_eq-sym : (a b : List ℕ) → bytes_eq a b ≡ bytes_eq b a
 bytes_eq-sym a b = same (bytes_eq a b) (bytes_eq b a)
     (λ e. (bytes_eq-Decides b a).1 (sym (eq_of a b e)))
     (λ e. (bytes_eq-Decides a b).1 (sym (eq_of b a e)))
 
+-- one more that passes behind those that all do
 pub all-behind : {X : Type 0} (p : X → Bool) (xs : List X) (x : X) → list_all p xs ≡ true → p x ≡ true → list_all p (xs ++ x ∷ []) ≡ true
 all-behind p [] x all this = joined this refl
 all-behind p (y ∷ ys) x all this = let parts = both (p y) (list_all p ys) all in joined parts.0 (all-behind p ys x parts.1 this)
 
+-- one more that fails behind those that all do
 pub none-behind : {X : Type 0} (p : X → Bool) (xs : List X) (x : X) → list_any p xs ≡ false → p x ≡ false → list_any p (xs ++ x ∷ []) ≡ false
 none-behind p [] x none this = rw this refl
 none-behind p (y ∷ ys) x none this = let parts = neither (p y) (list_any p ys) none in rw (parts.0) (none-behind p ys x parts.1 this)
@@ -49,6 +57,7 @@ unfoldable pub own_names : {X : Type 0} (name : X → List ℕ) → List X → B
 own_names name [] = true
 own_names name (x ∷ xs) = not (list_any (λ y. bytes_eq (name y) (name x)) xs) && own_names name xs
 
+-- one more with a new name behind those with names of their own
 pub own_names-behind : {X : Type 0} (name : X → List ℕ) (xs : List X) (x : X) → own_names name xs ≡ true → list_any (λ y. bytes_eq (name y) (name x)) xs ≡ false → own_names name (xs ++ x ∷ []) ≡ true
 unfolding own_names
 own_names-behind name [] x own none = refl
@@ -61,6 +70,7 @@ found : {X : Type 0} (p : X → Bool) (y x : X) (rest : Option X) (b : Bool) →
 found p y x rest true this later e = let f : y ≡ x = cc in ap p (sym f) ∙ this
 found p y x rest false this later e = later e
 
+-- what is found passes the test
 pub find_is : {X : Type 0} (p : X → Bool) (xs : List X) (x : X) → find p xs ≡ Some x → p x ≡ true
 find_is p [] x e = absurd cc
 find_is p (y ∷ ys) x e = found p y x (find p ys) (p y) refl (find_is p ys x) e
@@ -73,6 +83,7 @@ from_none : {X : Type 0} (p : X → Bool) (xs : List X) (i : ℕ) → is_none (p
 from_none p [] i e = refl
 from_none p (x ∷ xs) i e = none_by (p x) (list_any p xs) i (position_from p (i + 1) xs) e (from_none p xs (i + 1))
 
+-- where there is no place of one that passes, none does
 pub position_none : {X : Type 0} (p : X → Bool) (xs : List X) → is_none (position p xs) ≡ true → list_any p xs ≡ false
 position_none p xs e = from_none p xs 0 (ap is_none (sym (position_from-zero p xs)) ∙ e)
 
@@ -80,6 +91,7 @@ from_absent : {X : Type 0} (p : X → Bool) (xs : List X) (i : ℕ) → list_any
 from_absent p [] i e = refl
 from_absent p (x ∷ xs) i e = let parts = neither (p x) (list_any p xs) e in rw (parts.0) (from_absent p xs (i + 1) parts.1)
 
+-- where none passes, there is no place of one
 pub none_position : {X : Type 0} (p : X → Bool) (xs : List X) → list_any p xs ≡ false → is_none (position p xs) ≡ true
 none_position p xs e = ap is_none (position_from-zero p xs ∙ from_absent p xs 0 e)
 
@@ -103,6 +115,7 @@ position_is p xs k e =
     let same : r.0 ≡ k = omega (arith, r.1) in
     subst (Passes p xs) same r.2
 
+-- none before an element has its name, where all have their own
 pub own_names-before : {X : Type 0} (name : X → List ℕ) (xs : List X) (x : X) (ys : List X) → own_names name (xs ++ x ∷ ys) ≡ true → list_any (λ y. bytes_eq (name y) (name x)) xs ≡ false
 unfolding own_names
 own_names-before name [] x ys own = refl

@@ -198,6 +198,7 @@ form_back extent tables first form words made e read is =
 abbrev pub LineTaken : Extent → Line → Type 0
 LineTaken extent line = is_taken extent.commands line.command ≡ true
 
+-- a line within an extent is the whole format's whose command is taken
 pub narrow_line : (extent : Extent) (tables : List TableDecl) (sessions : ℕ) (exported : Bool) (words : List (List ℕ)) → Narrows (line_of extent tables sessions exported words) (line_of whole tables sessions exported words) (LineTaken extent)
 narrow_line extent tables sessions exported words =
     behind (number cause.Session 1 sessions words) _ _ (LineTaken extent) (λ session is1.
@@ -250,6 +251,7 @@ behind_line extent tables sessions at exported line rest =
     on_line at (line_of extent tables sessions exported (words_of line)) >>= λ read.
     rounds_from extent tables sessions (at + 1) (exported || is_export read.command) rest >>= λ rounds. Ok (onto_first read rounds)
 
+-- what is read behind a line `--`: one more round in front of the others
 abbrev pub behind_parting : Extent → List TableDecl → ℕ → ℕ → Bool → List (List ℕ) → Result (List (List Line)) Fault
 behind_parting extent tables sessions at exported rest = rounds_from extent tables sessions (at + 1) exported rest >>= λ rounds. Ok ([] ∷ rounds)
 
@@ -328,6 +330,7 @@ narrow_either extent tables sessions at exported line rest false true parts is o
 narrow_either extent tables sessions at exported line rest true false parts is others = narrow_behind_line extent tables sessions at exported line rest others
 narrow_either extent tables sessions at exported line rest false false parts is others = narrow_behind_line extent tables sessions at exported line rest others
 
+-- rounds within an extent are the whole format's that keep it
 pub narrow_rounds : (extent : Extent) (tables : List TableDecl) (sessions at : ℕ) (exported : Bool) (lines : List (List ℕ)) → Narrows (rounds_from extent tables sessions at exported lines) (rounds_from whole tables sessions at exported lines) (RoundsTaken extent)
 narrow_rounds extent tables sessions at exported [] = rounds_end extent
 narrow_rounds extent tables sessions at exported ([] ∷ []) = rounds_end extent

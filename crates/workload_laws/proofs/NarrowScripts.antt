@@ -30,6 +30,7 @@ pub record Bounds (extent : Extent) : Type 0 where
   pub workers : extent.workers ≤ most_workers
   pub turns : extent.turns ≤ most_turns
 
+-- an extent has at most what the whole format has of each, and at least one column
 pub bounds : (extent : Extent) → is_extent extent ≡ true → Bounds extent
 bounds extent is =
     let d = both (nat_le extent.tables most_tables && is_within 1 most_columns extent.columns && nat_le extent.sessions most_sessions && nat_le extent.workers most_workers) (nat_le extent.turns most_turns) is in
@@ -127,6 +128,8 @@ narrow_lines extent all is = let b = bounds extent is in record {
       t is6 s is8 n is10 (rule_of cause.Go _ w (on_line_is _ _ w is11)) r ∙ ap Ok same))))))))))));
 }
 
+-- A workload is read within an extent exactly where the whole format reads it and it runs within
+-- the extent.
 pub read_within : (extent : Extent) (bytes : List ℕ) (script : Script) → is_extent extent ≡ true → (read_with extent bytes ≡ Ok script) ↔ ((script_of bytes ≡ Ok script) × RunsWithin extent script)
 read_within extent bytes script is =
     let n = narrow_lines extent (parts line_feed bytes) is in

@@ -64,6 +64,7 @@ narrow_columns_by extent columns text words true le few others =
 narrow_columns_by extent columns text words false le few others =
     alike (Ok (columns, text ∷ words)) (Few extent.columns) (λ a same. let e : (columns, text ∷ words) ≡ a = cc in subst (Few extent.columns) e few)
 
+-- columns within an extent are the whole format's that are few enough
 pub narrow_columns : (extent : Extent) (words : List (List ℕ)) (columns : List Column) → extent.columns ≤ most_columns → nat_le (length columns) extent.columns ≡ true
     → Narrows (columns_from extent columns words) (columns_from whole columns words) (Few extent.columns)
 narrow_columns extent [] columns le few = alike (Ok (columns, [])) (Few extent.columns) (λ a same. let e : (columns, []) ≡ a = cc in subst (Few extent.columns) e few)
@@ -96,6 +97,7 @@ schema_kept name columns table e =
 abbrev pub IsNarrow : Extent → TableDecl → Type 0
 IsNarrow extent table = nat_le (length table.schema) extent.columns ≡ true
 
+-- a table within an extent is the whole format's with few enough columns
 pub narrow_table : (extent : Extent) (tables : List TableDecl) (words : List (List ℕ)) → 1 ≤ extent.columns → extent.columns ≤ most_columns
     → Narrows (table_of extent tables words) (table_of whole tables words) (IsNarrow extent)
 narrow_table extent tables words some le =
@@ -160,6 +162,7 @@ narrow_tables_by extent at tables line rest true many some le are others =
 narrow_tables_by extent at tables line rest false many some le are others =
     alike (Ok (tables, line ∷ rest)) (ReadFew extent) (λ a same. let e : (tables, line ∷ rest) ≡ a = cc in subst (ReadFew extent) e are)
 
+-- tables within an extent are the whole format's that are few enough, of few enough columns
 pub narrow_tables : (extent : Extent) (at : ℕ) (tables : List TableDecl) (lines : List (List ℕ)) → extent.tables ≤ most_tables → 1 ≤ extent.columns → extent.columns ≤ most_columns → FewTables extent tables
     → Narrows (tables_from extent at tables lines) (tables_from whole at tables lines) (λ read. FewTables extent read.0)
 narrow_tables extent at tables [] many some le are = alike (Ok (tables, [])) (ReadFew extent) (λ a same. let e : (tables, []) ≡ a = cc in subst (ReadFew extent) e are)

@@ -43,6 +43,7 @@ joint first second keeps_first next wide keeps narrow each kept_first = record {
       gives first next (Ok b) a (narrow.back a is k) ((each a is k).back b rest kept));
 }
 
+-- a stricter rule gives what the rule gives where the stricter one is kept
 pub narrow_rule : (cause : Cause) (narrow wide : Bool) → (narrow ≡ true → wide ≡ true) → Narrows (rule cause narrow) (rule cause wide) (λ _. narrow ≡ true)
 narrow_rule cause true wide known = record { to = λ a is. (ap (rule cause) (known refl) ∙ is, refl); back = λ a is kept. is_unit a }
   where
@@ -50,6 +51,7 @@ narrow_rule cause true wide known = record { to = λ a is. (ap (rule cause) (kno
     is_unit tt = refl
 narrow_rule cause false wide known = record { to = λ a is. absurd cc; back = λ a is kept. absurd cc }
 
+-- a reading stays the narrower one where its fault is told with the line
 pub narrow_on_line : {A : Type 0} (at : ℕ) (narrow wide : Result A Cause) (keeps : A → Type 0) → Narrows narrow wide keeps → Narrows (on_line at narrow) (on_line at wide) keeps
 narrow_on_line {A} at narrow wide keeps known = record {
   to = λ a is. let n = known.to a (line_of_ok narrow a is) in (ap (on_line at) n.0, n.1);
@@ -90,6 +92,7 @@ narrow_within cause low high most (Some value) le =
     (λ within. (both (nat_le low value) (nat_le value high) within).1)
     (λ within kept. joined (both (nat_le low value) (nat_le value most) within).0 kept)
 
+-- a number with a lower limit is one of the whole format's up to that limit
 pub narrow_number : (cause : Cause) (low high most : ℕ) (words : List (List ℕ)) → high ≤ most → Narrows (number cause low high words) (number cause low most words) (λ read. nat_le read.0 high ≡ true)
 narrow_number cause low high most words le =
     let Kept : ℕ × List (List ℕ) → Type 0 = λ read. nat_le read.0 high ≡ true in
@@ -113,6 +116,7 @@ narrow_sessions extent words le =
 abbrev pub FewWorkers : Extent → ℕ × ℕ → Type 0
 FewWorkers extent workers = (nat_le workers.0 extent.workers ≡ true) × (nat_le workers.1 extent.turns ≡ true)
 
+-- workers and turns within an extent are the whole format's that keep its bounds
 pub narrow_workers : (extent : Extent) (words : List (List ℕ)) → extent.workers ≤ most_workers → extent.turns ≤ most_turns → Narrows (workers_of extent words) (workers_of whole words) (FewWorkers extent)
 narrow_workers extent words le few =
     let Kept : ℕ × ℕ → Type 0 = FewWorkers extent in

@@ -24,12 +24,15 @@ are_digits (byte ∷ bytes) = is_within 48 57 byte && are_digits bytes
 own : IsNumeralModel (λ ds. are_digits ds ≡ true) (λ ds. value_of_digits ds)
 own = numerals_by_fold _ (search rules) (λ n ds. fold (λ value digit. value * 10 + digit_value digit) n ds) (search rules)
 
+-- a number below 2^64 is the value of its digits
 pub value_back : (n : ℕ) → n < 2 ^ 64 → value_of_digits (decimal n) ≡ n
 value_back n small = digits_value-decimal own n small
 
+-- bytes are the same as themselves
 pub same_bytes : (bytes : List ℕ) → bytes_eq bytes bytes ≡ true
 same_bytes bytes = (bytes_eq-Decides bytes bytes).1 refl
 
+-- bytes that are not equal are tested not to be the same
 pub other_bytes : (a b : List ℕ) → (a ≡ b → ⊥) → bytes_eq a b ≡ false
 other_bytes a b differ = by (bytes_eq a b) refl
   where
@@ -41,9 +44,11 @@ other_bytes a b differ = by (bytes_eq a b) refl
 pub spelled_back : {X : Type 0} (text_of : X → List ℕ) (word : List ℕ) (found value : X) → found ≡ value → text_of value ≡ word → spelled text_of word found ≡ Some value
 spelled_back text_of word found value is text = let s : bytes_eq (text_of found) word ≡ true = rw (is, text) (same_bytes word) in rw (s, is) refl
 
+-- a number is read back from its digits
 pub natural_back : (n : ℕ) → n < 2 ^ 64 → natural_of (decimal n) ≡ Some n
 natural_back n small = spelled_back decimal (decimal n) (value_of_digits (decimal n)) n (value_back n small) refl
 
+-- a number within two bounds is read back within them
 pub within_back : (low high n : ℕ) → n < 2 ^ 64 → is_within low high n ≡ true → natural_within low high (decimal n) ≡ Some n
 within_back low high n small within = rw (natural_back n small, within) refl
 
@@ -62,6 +67,7 @@ begins_by (first ∷ rest) digits some =
     let w = both (nat_le 48 first) (nat_le first 57) d.0 in
     record { first = first; rest = rest; is = refl; least = leb-true 48 first w.0; most = leb-true first 57 w.1 }
 
+-- the digits of a number begin with a digit
 pub decimal_begins : (n : ℕ) → n < 2 ^ 64 → Begins (decimal n)
 decimal_begins n small = begins_by (decimal n) (digits_decimal own n small) (decimal_nonempty n small)
 
@@ -72,6 +78,7 @@ digits_plain (byte ∷ bytes) digits =
     let w = both (nat_le 48 byte) (nat_le byte 57) d.0 in
     joined (lt-ltb 34 byte (omega (arith, leb-true 48 byte w.0))) (digits_plain bytes d.1)
 
+-- and are all plain bytes
 pub decimal_plain : (n : ℕ) → n < 2 ^ 64 → list_all is_plain (decimal n) ≡ true
 decimal_plain n small = digits_plain (decimal n) (digits_decimal own n small)
 
@@ -87,25 +94,31 @@ unsigned (first ∷ rest) begins =
     let n : first == minus ≡ false = ne_eqb first 45 (λ e. omega (arith, e, same, begins.least)) in
     rw n refl
 
+-- an integer is the value of its spelling
 pub integer_back : (z : ℤ) → magnitude z < 2 ^ 64 → integer_in (signed_decimal z) ≡ z
 integer_back (pos n) small = unsigned (decimal n) (decimal_begins n small) ∙ ap pos (value_back n small)
 integer_back (negsuc n) small =
     let v : value_of_digits (decimal (suc n)) ≡ suc n = value_back (suc n) (omega arith) in
     rw v refl
 
+-- its spelling has plain bytes alone
 pub signed_plain : (z : ℤ) → magnitude z < 2 ^ 64 → list_all is_plain (signed_decimal z) ≡ true
 signed_plain (pos n) small = decimal_plain n small
 signed_plain (negsuc n) small = decimal_plain (suc n) (omega arith)
 
+-- a key's number has at most 64 bits
 pub key_small : (z : ℤ) → is_key_number z ≡ true → magnitude z < 2 ^ 64
 key_small (pos n) is = omega (arith, leb-true n (2 ^ 63 - 1) (both (int_le (negsuc (2 ^ 63 - 1)) (pos n)) (nat_le n (2 ^ 63 - 1)) is).1)
 key_small (negsuc n) is = omega (arith, leb-true n (2 ^ 63 - 1) (both (int_le (negsuc (2 ^ 63 - 1)) (negsuc n)) _ is).0)
 
+-- an integer is read back from its spelling
 pub integer_of_back : (z : ℤ) → magnitude z < 2 ^ 64 → integer_of (signed_decimal z) ≡ Some z
 integer_of_back z small = spelled_back signed_decimal (signed_decimal z) (integer_in (signed_decimal z)) z (integer_back z small) refl
 
+-- a keyword is read where it stands first
 pub keyword_back : (cause : Cause) (text : List ℕ) (rest : List (List ℕ)) → keyword cause text (text ∷ rest) ≡ Ok rest
 keyword_back cause text rest = gives (rule cause (bytes_eq text text)) _ (Ok rest) tt (rule_back cause (bytes_eq text text) (same_bytes text)) refl
 
+-- a number within its bounds is read where its digits stand first
 pub number_back : (cause : Cause) (low high n : ℕ) (rest : List (List ℕ)) → n < 2 ^ 64 → is_within low high n ≡ true → number cause low high (decimal n ∷ rest) ≡ Ok (n, rest)
 number_back cause low high n rest small within = gives (or_cause cause (natural_within low high (decimal n))) _ (Ok (n, rest)) n (ap (or_cause cause) (within_back low high n small within)) refl

@@ -18,10 +18,12 @@ joined_by separator byte true (p ∷ ps) some is = ap (λ (b : ℕ). b ∷ join_
 joined_by separator byte false (p ∷ []) some is = refl
 joined_by separator byte false (p ∷ next ∷ ps) some is = refl
 
+-- there is always a word, be it an empty one
 pub words_some : (position : Position) (bytes : List ℕ) → 0 < length (words_from position bytes)
 words_some position [] = omega arith
 words_some position (byte ∷ bytes) = some_part (byte == space && is_outside position) byte (words_from (position_after position byte) bytes)
 
+-- words joined by spaces are the bytes again
 pub words_joined : (position : Position) (bytes : List ℕ) → spaced (words_from position bytes) ≡ bytes
 words_joined position [] = refl
 words_joined position (byte ∷ bytes) =
@@ -33,10 +35,12 @@ words_joined position (byte ∷ bytes) =
 pub line_joined : (line : List ℕ) → spaced (words_of line) ≡ line
 line_joined line = words_joined AtStart line
 
+-- there is always a part, be it an empty one
 pub parts_some : (separator : ℕ) (bytes : List ℕ) → 0 < length (parts separator bytes)
 parts_some separator [] = omega arith
 parts_some separator (byte ∷ bytes) = some_part (byte == separator) byte (parts separator bytes)
 
+-- parts joined by their separator are the bytes again
 pub parts_joined : (separator : ℕ) (bytes : List ℕ) → join_with_byte separator (parts separator bytes) ≡ bytes
 parts_joined separator [] = refl
 parts_joined separator (byte ∷ bytes) =

@@ -12,25 +12,31 @@ pub step : {A B E P : Type 0} (first : Result A E) (next : A → Result B E) (b 
 step (Ok a) next b e k = k a refl e
 step (Err fault) next b e k = absurd cc
 
+-- where there was no cause, there was a value
 pub some_of : {A : Type 0} (cause : Cause) (o : Option A) (a : A) → or_cause cause o ≡ Ok a → o ≡ Some a
 some_of cause None a e = absurd cc
 some_of cause (Some b) a e = cc
 
+-- where a rule gave no cause, it was kept
 pub rule_of : (cause : Cause) (b : Bool) (u : Unit {0}) → rule cause b ≡ Ok u → b ≡ true
 rule_of cause true u e = refl
 rule_of cause false u e = absurd cc
 
+-- the word that is read is the first of them, and the others are left
 pub word_is : (cause : Cause) (words : List (List ℕ)) (first : List ℕ × List (List ℕ)) → word cause words ≡ Ok first → words ≡ first.0 ∷ first.1
 word_is cause [] first e = absurd cc
 word_is cause (w ∷ rest) first e = let same : (w, rest) ≡ first = cc in ap (λ (p : List ℕ × List (List ℕ)). p.0 ∷ p.1) same
 
+-- where no word may stand, none does
 pub no_word_is : (cause : Cause) (words : List (List ℕ)) (u : Unit {0}) → no_word cause words ≡ Ok u → words ≡ []
 no_word_is cause [] u e = refl
 no_word_is cause (w ∷ rest) u e = absurd cc
 
+-- bytes that are tested to be the same are equal
 pub eq_of : (a b : List ℕ) → bytes_eq a b ≡ true → a ≡ b
 eq_of a b e = (bytes_eq-Decides a b).0 e
 
+-- where a keyword is read, it stands first
 pub keyword_is : (cause : Cause) (text : List ℕ) (words rest : List (List ℕ)) → keyword cause text words ≡ Ok rest → words ≡ text ∷ rest
 keyword_is cause text words rest e =
     step (word cause words) _ rest e (λ first is e1.
@@ -56,6 +62,7 @@ within_some low high (Some v) n e = by (is_within low high v) refl e
     by true in_ is = let same : v ≡ n = cc in (is, ap (is_within low high) (sym same) ∙ in_)
     by false in_ is = absurd cc
 
+-- a number that is read is the first word's, and within its bounds
 pub number_is : (cause : Cause) (low high : ℕ) (words : List (List ℕ)) (read : ℕ × List (List ℕ)) → number cause low high words ≡ Ok read
     → (words ≡ decimal read.0 ∷ read.1) × (is_within low high read.0 ≡ true)
 number_is cause low high words read e =
@@ -67,6 +74,7 @@ number_is cause low high words read e =
     let p : (value, first.1) ≡ read = cc in
     (w ∙ ap (λ (x : List ℕ). x ∷ first.1) (sym t) ∙ ap (λ (p : ℕ × List (List ℕ)). decimal p.0 ∷ p.1) p, ap (λ (p : ℕ × List (List ℕ)). is_within low high p.0) (sym p) ∙ n.1)))
 
+-- what is read on a line is read without it too
 pub on_line_is : {A : Type 0} (line : ℕ) (r : Result A Cause) (a : A) → on_line line r ≡ Ok a → r ≡ Ok a
 on_line_is line (Ok b) a e = cc
 on_line_is line (Err cause) a e = absurd cc
@@ -75,6 +83,7 @@ on_line_is line (Err cause) a e = absurd cc
 pub gives : {A B E : Type 0} (first : Result A E) (next : A → Result B E) (r : Result B E) (a : A) → first ≡ Ok a → next a ≡ r → (first >>= next) ≡ r
 gives {A} {B} {E} first next r a is rest = ap (λ (f : Result A E). f >>= next) is ∙ rest
 
+-- a rule that is kept gives no cause
 pub rule_back : (cause : Cause) (b : Bool) → b ≡ true → rule cause b ≡ Ok tt
 rule_back cause b is = ap (rule cause) is
 
@@ -83,6 +92,7 @@ pub chosen : {X : Type 0} (b : Bool) (one other : X) → b ≡ true → elim b a
 chosen true one other e = refl
 chosen false one other e = absurd cc
 
+-- where the test fails, the other way is taken
 pub passed : {X : Type 0} (b : Bool) (one other : X) → b ≡ false → elim b as (λ c. X) [ true ↦ one | false ↦ other ] ≡ other
 passed true one other e = absurd cc
 passed false one other e = refl

@@ -29,9 +29,11 @@ is_line_of tables sessions line = is_within 1 sessions line.session && is_comman
 abbrev pub has_bytes : Line → Bool
 has_bytes line = list_all has_only_bytes (written_row line.command)
 
+-- the lines of the rounds, one round behind the other
 abbrev pub lines_of : List (List Line) → List Line
 lines_of rounds = flat_map (λ round. round) rounds
 
+-- how many of the lines export
 abbrev pub exports_of : List Line → ℕ
 exports_of lines = count_by (λ line. is_export line.command) lines
 
@@ -50,6 +52,7 @@ none_read tables sessions exported lines rounds empty e = subst (ReadsRounds tab
     least true = omega arith
     least false = omega arith
 
+-- the text of lines is the first, its line feed, and that of the others
 pub line_first : (line : List ℕ) (lines : List (List ℕ)) → lines_text (line ∷ lines) ≡ line ++ line_feed ∷ lines_text lines
 line_first line lines = append_assoc line (line_feed ∷ []) (lines_text lines)
 
@@ -71,6 +74,7 @@ once_by true false n none le = omega (arith, le)
 once_by false true n none le = omega (arith, le)
 once_by false false n none le = omega (arith, le)
 
+-- the first line of the first round stands in front of the others
 pub round_first : (tables : List TableDecl) (read : Line) (first : List Line) (others : List (List Line)) → round_lines tables ((read ∷ first) ∷ others) ≡ line_text tables read ∷ round_lines tables (first ∷ others)
 round_first tables read first [] = refl
 round_first tables read first (next ∷ others) = refl
@@ -110,6 +114,7 @@ rounds_by tables sessions at exported line next rest rounds false is tables_are 
     (line_is tables sessions exported (words_of line) first tables_are (on_line_is at (line_of whole tables sessions exported (words_of line)) first is1))
     (later (exported || is_export first.command) read is2))))
 
+-- rounds that are read are the lines that are left, and export once at most
 pub rounds_are : (tables : List TableDecl) (sessions at : ℕ) (exported : Bool) (lines : List (List ℕ)) (rounds : List (List Line)) → list_all is_table tables ≡ true → rounds_from whole tables sessions at exported lines ≡ Ok rounds
     → ReadsRounds tables sessions exported lines rounds
 rounds_are tables sessions at exported [] rounds tables_are e = none_read tables sessions exported [] rounds refl cc

@@ -93,6 +93,7 @@ round_back tables sessions others head behind (line ∷ first) = λ at exported 
     ∙ line_next tables sessions at exported (line_text tables line) (ended (round_lines tables (first ∷ others))) line first others (end_behind (round_lines tables (first ∷ others))) one.back.other one.back.back
     (round_back tables sessions others head behind first (at + 1) (exported || is_export line.command) one.others)
 
+-- rounds are read back from their lines, up to the end of the text
 pub rounds_back : (tables : List TableDecl) (sessions : ℕ) → Head tables sessions → (others : List (List Line)) (first : List Line) → AreBack tables sessions (first ∷ others)
 rounds_back tables sessions head [] first = round_back tables sessions [] head (λ at exported fine. refl) first
 rounds_back tables sessions head (next ∷ others) first = round_back tables sessions (next ∷ others) head
@@ -109,6 +110,7 @@ round_whole tables sessions head (line ∷ lines) fine =
     let one = line_back tables sessions false line head.each head.own head.few l.0 l.1 f.1 refl in
     joined one.whole (round_whole tables sessions head lines e.1)
 
+-- none of the lines of rounds has a line feed in it
 pub rounds_whole : (tables : List TableDecl) (sessions : ℕ) → Head tables sessions → (rounds : List (List Line)) → list_all (is_fine tables sessions) (lines_of rounds) ≡ true → list_all is_whole (round_lines tables rounds) ≡ true
 rounds_whole tables sessions head [] fine = refl
 rounds_whole tables sessions head (round ∷ []) fine =

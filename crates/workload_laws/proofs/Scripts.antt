@@ -22,6 +22,7 @@ use Rattle.workload_laws.proofs.Parts.{line_joined, parts_joined}
 use Rattle.workload_laws.proofs.Rounds.{rest_text, line_first, ReadsRounds, rounds_are}
 use Rattle.workload_laws.proofs.Heads.{next_is, tables_are, tables_some}
 
+-- the line of sessions that is read, and its bounds
 pub sessions_are : (words : List (List ℕ)) (sessions : ℕ) → sessions_of whole words ≡ Ok sessions → (words ≡ codes "sessions" ∷ decimal sessions ∷ []) × (is_within 1 most_sessions sessions ≡ true)
 sessions_are words sessions e =
     step (keyword cause.Sessions (codes "sessions") words) _ sessions e (λ rest is1 e1.
@@ -31,6 +32,7 @@ sessions_are words sessions e =
     let n = number_is cause.Sessions 1 most_sessions rest read is2 in
     (rw (keyword_is cause.Sessions (codes "sessions") words rest is1, n.0, no_word_is cause.Sessions read.1 u is3, same) refl, ap (is_within 1 most_sessions) (sym same) ∙ n.1))))
 
+-- the line of workers that is read, and its bounds
 pub workers_are : (words : List (List ℕ)) (workers : ℕ × ℕ) → workers_of whole words ≡ Ok workers
     → (words ≡ codes "workers" ∷ decimal workers.0 ∷ decimal workers.1 ∷ []) × (is_within 0 most_workers workers.0 ≡ true) × (is_within 0 most_turns workers.1 ≡ true)
 workers_are words workers e =
@@ -54,6 +56,7 @@ lines_whole store sessions workers go tables rounds all a b c d f e1 e2 e3 e4 e5
     ∙ ap (λ (text : List ℕ). sessions ++ line_feed ∷ text) (line_first workers (go ∷ rounds)
     ∙ ap (λ (text : List ℕ). workers ++ line_feed ∷ text) (line_first go rounds ∙ ap (λ (text : List ℕ). go ++ line_feed ∷ text) e6 ∙ sym e5) ∙ sym e4) ∙ sym e3) ∙ sym e2) ∙ sym e1
 
+-- the first line tells version 1
 pub store_line : (version : ℕ) → version ≡ 1 → codes "store 1" ≡ spaced (codes "store" ∷ decimal version ∷ [])
 store_line version e = rw (e, decimal_digit 1 (omega arith)) refl
 

@@ -99,6 +99,7 @@ pub record ScriptParts (script : Script) : Type 0 where
   pub lines : list_all (is_line_of script.tables script.sessions) (all_lines script) ≡ true
   pub once : exports_of (all_lines script) ≤ 1
 
+-- a valid workload keeps the limits of each of its parts
 pub script_parts : (script : Script) → is_valid script ≡ true → ScriptParts script
 script_parts script valid =
     let a = both (has_head script && nat_lt 0 (length script.rounds) && list_all (is_line script) (all_lines script)) (nat_le (count_by (λ line. is_export line.command) (all_lines script)) 1) valid in

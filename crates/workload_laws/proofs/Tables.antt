@@ -37,6 +37,7 @@ made tables words line name key columns slots_word slots blocks_word blocks e1 e
   own = own;
 }
 
+-- a table that is read is its line's words, and keeps its limits
 pub table_is : (tables : List TableDecl) (words : List (List ℕ)) (table : TableDecl) → table_of whole tables words ≡ Ok table → ReadsTable tables words table
 table_is tables words table e =
     step (keyword cause.Table (codes "table") words) _ table e (λ line is1 e1.

@@ -35,6 +35,7 @@ pub record TableParts (table : TableDecl) : Type 0 where
   pub eighths : table.slots % 8 == 0 ≡ true
   pub blocks : is_within 1 most_blocks table.blocks ≡ true
 
+-- a table keeps its limits part by part
 pub table_parts : (table : TableDecl) → is_table table ≡ true → TableParts table
 table_parts table is =
     let a = both (is_name table.name && are_columns table.schema && are_slots table.schema table.slots) (are_blocks table.blocks) is in
@@ -43,6 +44,7 @@ table_parts table is =
     let s = both (is_within least_slots (most_slots_of table.schema) table.slots) (table.slots % 8 == 0) b.1 in
     record { named = c.0; columns = c.1; slots = s.0; eighths = s.1; blocks = a.1 }
 
+-- what is within bounds is at most the upper one
 pub within_high : (low high n : ℕ) → is_within low high n ≡ true → n ≤ high
 within_high low high n within = leb-true n high (both (nat_le low n) (nat_le n high) within).1
 
@@ -60,6 +62,7 @@ key_first : (schema : List Column) → begins_with_key schema ≡ true → (more
 key_first [] begins = absurd cc
 key_first (column ∷ more) begins = (more, ap (λ (c : Column). c ∷ more) (key_is column begins))
 
+-- a table's columns begin with the key
 pub columns_begin : (columns : List Column) → are_columns columns ≡ true → begins_with_key columns ≡ true
 columns_begin columns are = (both (begins_with_key columns) _ (both _ _ (both _ (list_all (λ c. is_name c.name) columns) are).0).0).0
 
@@ -108,6 +111,7 @@ parts_back tables name more slots blocks own parts =
     parts.eighths (keyword_back cause.Blocks (codes "blocks") blocks_words)
     (number_back cause.Blocks 1 most_blocks blocks [] (omega (arith, within_high 1 most_blocks blocks parts.blocks)) parts.blocks) refl
 
+-- a table with a name of its own is read back from its words
 pub table_back : (tables : List TableDecl) (table : TableDecl) → is_declared table.name tables ≡ false → is_table table ≡ true → IsReadBack tables table
 table_back tables table own is =
     let parts = table_parts table is in
@@ -147,12 +151,15 @@ columns_words (column ∷ columns) named =
     let n = both (is_name column.name) (list_all (λ c. is_name c.name) columns) named in
     (plain_word (column_text column) (column_plain column n.0), columns_words columns n.1)
 
+-- a name is a word
 pub name_word : (name : List ℕ) → is_name name ≡ true → IsWord name
 name_word name named = plain_word name (name_bytes name named).plain
 
+-- so are the digits of a number
 pub number_word : (n : ℕ) → n < 2 ^ 64 → IsWord (decimal n)
 number_word n small = plain_word (decimal n) (decimal_plain n small)
 
+-- the words of a table's line are words
 pub table_are_words : (table : TableDecl) → is_table table ≡ true → AreWords (table_words table)
 table_are_words table is =
     let parts = table_parts table is in (
@@ -174,6 +181,7 @@ table_are_words table is =
 pub table_apart : (table : TableDecl) → is_table table ≡ true → words_of (table_text table) ≡ table_words table
 table_apart table is = words_apart (codes "table") (table.name ∷ (map column_text table.schema ++ codes "slots" ∷ decimal table.slots ∷ codes "blocks" ∷ decimal table.blocks ∷ [])) (table_are_words table is)
 
+-- a line is a table's where its first word says so
 pub is_table_line_by : (line : List ℕ) (first : List ℕ) (rest : List (List ℕ)) → words_of line ≡ first ∷ rest → is_table_line line ≡ bytes_eq first (codes "table")
 is_table_line_by line first rest e = ap (λ (words : List (List ℕ)). option_map_or (λ word. bytes_eq word (codes "table")) (slice_get words 0) false) e
 

@@ -41,6 +41,7 @@ low_of byte = digit_of (byte % 16) (omega arith)
 pair : (byte : ℕ) → byte < 256 → byte / 16 % 16 * 16 + byte % 16 ≡ byte
 pair byte small = omega arith
 
+-- two hexadecimal digits of a byte have its value
 pub digits_back : (byte : ℕ) → byte < 256 → digit_value (digit_char (byte / 16 % 16)) * 16 + digit_value (digit_char (byte % 16)) ≡ byte
 digits_back byte small = let h = high_of byte in let l = low_of byte in rw (h.back, l.back) (pair byte small)
 
@@ -59,6 +60,7 @@ digits_plain (byte ∷ bytes) =
     let l = low_of byte in
     joined (lt-ltb 34 (digit_char (byte / 16 % 16)) (omega (arith, h.least))) (joined (lt-ltb 34 (digit_char (byte % 16)) (omega (arith, l.least))) (digits_plain bytes))
 
+-- bytes are spelled as one word
 pub blob_word : (bytes : List ℕ) → IsWord (codes "x" ++ flat_map hex_digits bytes)
 blob_word bytes = plain_word (120 ∷ flat_map hex_digits bytes) (digits_plain bytes)
 
@@ -109,6 +111,7 @@ unescaped_back (byte ∷ bytes) =
     ∙ one_back byte (flat_map escaped bytes ++ quote ∷ []) (quote_behind (flat_map escaped bytes)) (spells byte)
     ∙ ap (λ (bs : List ℕ). byte ∷ bs) (unescaped_back bytes)
 
+-- a text is read back from its quotes
 pub text_back : (text : List ℕ) → text_in (quoted text) ≡ text
 text_back text = unescaped_back text
 
@@ -155,5 +158,6 @@ text_whole : (text : List ℕ) → is_whole (flat_map escaped text) ≡ true
 text_whole [] = refl
 text_whole (byte ∷ bytes) = whole_append (escaped byte) (flat_map escaped bytes) (one_whole byte (spells byte)) (text_whole bytes)
 
+-- a quoted text is one word, on one line
 pub text_word : (text : List ℕ) → IsWord (quoted text)
 text_word text = record { stays = (refl, text_stays text); whole = whole_append (flat_map escaped text) (quote ∷ []) (text_whole text) refl }

@@ -68,5 +68,6 @@ lines_bytes tables sessions (line ∷ lines) are =
     let parts = both (is_within 1 sessions line.session) (is_command tables line.command) first.0 in
     joined (command_bytes tables line.command parts.1) (lines_bytes tables sessions lines first.1)
 
+-- the cells of bytes that a valid workload writes have bytes
 pub valid_bytes : (script : Script) → is_valid script ≡ true → writes_only_bytes script ≡ true
 valid_bytes script valid = lines_bytes script.tables script.sessions (all_lines script) (script_parts script valid).lines
