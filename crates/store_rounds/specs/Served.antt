@@ -162,7 +162,7 @@ pub record RowServedQuietly
   pub none_cut : list_any is_cut after ≡ false
   pub served : (exported : Option (List ℕ)) → RowServed store old new before after exported exported
 
--- Both halves of a row did.
+-- Both parts of a row did.
 pub record PartsServed
     (store : StoreView) (front front_now : List Session) (first first_now : List Duty)
     (back back_now : List Session) (second second_now : List Duty)

@@ -1,6 +1,6 @@
 //! The duties of a round, each on a thread of its own.
 ghost use denote.Param.Send.{IsSync};
-ghost use Rattle.std.specs.Prelude.{◌≡◌, ◌<◌, ◌&&◌, ◌||◌, false, length};
+ghost use Rattle.std.specs.Prelude.{◌≡◌, ◌<◌, ◌≤◌, ◌/◌, ◌&&◌, ◌||◌, false, length};
 ghost use Rattle.std.specs.List.{list_any};
 ghost use Rattle.store_rounds.specs.Duties.{asks_export, is_busy, is_cut};
 ghost use Rattle.store_rounds.specs.Served.{
@@ -22,6 +22,22 @@ use shared_store::{Session, Store};
 use std::alloc::Global;
 use std::sync::Wait;
 use std::thread::{Threads, join_mut};
+
+/// The longest row that is cut behind its first, so that one thread starts those of all the others,
+/// one after another. Each half of a longer row starts its own: the way from the first thread to
+/// the last is shorter then, though a thread that starts others has to run first.
+const FEW: usize = 4;
+
+/// How many of a row of two or more stand in front of the place where it is cut.
+fn cut_of(len: usize) -> usize
+    requires { 2 ≤ len }
+    ensures few { len ≤ 4 → result ≡ 1 }
+    ensures many { 4 < len → result ≡ len / 2 }
+    ensures some { 0 < result }
+    ensures less { result < len }
+{
+    if len > FEW { len / 2 } else { 1 }
+}
 
 /// Does what each of a row is to do: all at once, each on a thread of its own where one can be
 /// made. Whoever has nothing to do gets none, and whoever exports does so on the caller's, so that
@@ -52,13 +68,13 @@ pub(crate) fn serve_row<R: Wait + Threads + Sync, G: Gate + Sync, X: Sink>(
         serve_first(rt, alloc, gate, store, row, duties, outlet);
         return;
     }
-    let middle = row.len() / 2;
-    let (front, back) = row.split_at_mut(middle);
-    let (first, second) = duties.split_at_mut(middle);
+    let cut = cut_of(row.len());
+    let (front, back) = row.split_at_mut(cut);
+    let (first, second) = duties.split_at_mut(cut);
     serve_parts(rt, alloc, gate, store, front, first, back, second, outlet);
 }
 
-/// Does it for both halves of a row, of which one exports nothing.
+/// Does it for both parts of a row, of which one exports nothing.
 #[cycle(outlet)]
 fn serve_parts<R: Wait + Threads + Sync, G: Gate + Sync, X: Sink>(
     rt: &R,
@@ -159,15 +175,15 @@ fn serve_quietly<R: Wait + Threads + Sync, G: Gate + Sync>(
         serve_first(rt, alloc, gate, store, row, duties, &mut PureSink);
         return;
     }
-    let middle = row.len() / 2;
-    let (front, back) = row.split_at_mut(middle);
-    let (first, second) = duties.split_at_mut(middle);
-    serve_halves(rt, alloc, gate, store, front, first, back, second);
+    let cut = cut_of(row.len());
+    let (front, back) = row.split_at_mut(cut);
+    let (first, second) = duties.split_at_mut(cut);
+    serve_quiet_parts(rt, alloc, gate, store, front, first, back, second);
 }
 
-/// Does it for both halves of such a row: at once, where both have something to do.
+/// Does it for both parts of such a row: at once, where both have something to do.
 #[cycle(quiet)]
-fn serve_halves<R: Wait + Threads + Sync, G: Gate + Sync>(
+fn serve_quiet_parts<R: Wait + Threads + Sync, G: Gate + Sync>(
     rt: &R,
     alloc: Global,
     gate: &G,

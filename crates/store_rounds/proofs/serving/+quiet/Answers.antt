@@ -19,10 +19,10 @@ pub serve_quietly-returns : goal.serve_quietly-returns
 serve_quietly-returns g t c =
     let cut = c.split_at_mut-front in
     let other = c.split_at_mut-first in
-    let row : List Session = c.serve_halves.new.front ++ c.serve_halves.new.back in
-    let duties : List Duty = c.serve_halves.new.first ++ c.serve_halves.new.second in
+    let row : List Session = c.serve_quiet_parts.new.front ++ c.serve_quiet_parts.new.back in
+    let duties : List Duty = c.serve_quiet_parts.new.first ++ c.serve_quiet_parts.new.second in
     subst (λ (old : List Session). RowServedQuietly c.args.store.now old row c.args.duties.now duties) (sym cut.ensures.value)
     (subst (λ (before : List Duty). RowServedQuietly c.args.store.now (cut.result.0.now ++ cut.result.1.now) row before duties) (sym other.ensures.value)
-    (both_quiet c.args.store.now cut.result.0.now c.serve_halves.new.front cut.result.1.now c.serve_halves.new.back
-    other.result.0.now c.serve_halves.new.first other.result.1.now c.serve_halves.new.second
-    (other.ensures.front_len ∙ sym cut.ensures.front_len) c.serve_halves.ensures.front c.serve_halves.ensures.back))
+    (both_quiet c.args.store.now cut.result.0.now c.serve_quiet_parts.new.front cut.result.1.now c.serve_quiet_parts.new.back
+    other.result.0.now c.serve_quiet_parts.new.first other.result.1.now c.serve_quiet_parts.new.second
+    (other.ensures.front_len ∙ sym cut.ensures.front_len) c.serve_quiet_parts.ensures.front c.serve_quiet_parts.ensures.back))
