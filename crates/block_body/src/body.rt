@@ -21,7 +21,7 @@ ghost use Rattle.block_body.specs.Frozen.{IsImageOf, image_of};
 ghost use Rattle.block_body.specs.Keys.{HasKey, HasKeys};
 
 use crate::chain_table::ChainTable;
-use crate::chains::{self, Chains};
+use crate::chains;
 use crate::lists::SessionLists;
 use crate::look::{Look, key_at, key_of};
 use crate::origin::Origin;
@@ -43,7 +43,7 @@ use undo_chain::{Newer, Undo, UndoKind};
 pub struct Body {
     alloc: Global,
     rows: Rows,
-    chains: Chains,
+    chains: ChainTable,
     /// The slots in which each session has uncommitted entries, one for each entry.
     written: SessionLists,
     phase: Phase,
@@ -116,7 +116,7 @@ impl Body {
     pub fn bare(&self, slot: u32) -> bool
         ensures { result ≡ is_bare (slot_in self.now slot) }
     {
-        !self.rows.columns().has_row(slot) && !self.chains.contains_key(slot)
+        !self.rows.columns().has_row(slot) && !self.chains.has_chain(slot)
     }
 
     /// What stands in the way of a write to a slot by the session with the snapshot `stamp`.
@@ -551,7 +551,7 @@ impl Body {
         ensures { result ≡ movable self.now slot }
     {
         let columns = self.rows.columns();
-        if !columns.has_row(slot) || self.chains.contains_key(slot) {
+        if !columns.has_row(slot) || self.chains.has_chain(slot) {
             return None;
         }
         let key = key_at(columns, slot);

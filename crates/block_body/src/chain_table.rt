@@ -14,6 +14,9 @@ use undo_chain::Chain;
 /// How many slots a group has.
 const GROUP: usize = 64;
 
+/// Of how many places for a chain one has to be in use, else the others are given back.
+const SPARE: usize = 8;
+
 /// The chains of the slots that have one, found in two steps. The chains stand close together, in
 /// any order, so that a slot without one costs four bytes, and one past the greatest that ever had
 /// one nothing.
@@ -64,7 +67,7 @@ impl ChainTable {
 
     /// Whether a slot has a chain.
     #[inline(always)]
-    pub(crate) fn contains_key(&self, slot: u32) -> bool
+    pub(crate) fn has_chain(&self, slot: u32) -> bool
         ensures { result ≡ is_some (chain_at self.now.entries slot) }
     {
         place_of(self.places.as_slice(), slot) != 0
@@ -153,15 +156,15 @@ impl ChainTable {
         }
     }
 
-    /// Gives the chains' memory back, if no slot has one. That of the places stays: where each
-    /// sweep empties a table, it would be filled with zeros again after each of them.
+    /// Gives the memory back that the chains do not need, where it is most of theirs. That of the
+    /// places stays: where each sweep empties a table, it would be filled with zeros again after
+    /// each of them.
     pub(crate) fn trim(&mut self)
         ensures { self.new.entries ≡ self.old.entries }
     {
-        if self.slots.is_empty() {
-            let alloc = *self.held.allocator();
-            self.slots = Vec::new(alloc);
-            self.held = Vec::new(alloc);
+        if self.held.capacity() / SPARE > self.held.len() {
+            self.slots.shrink_to_fit();
+            self.held.shrink_to_fit();
         }
     }
 

@@ -17,14 +17,11 @@ use block_columns::Before;
 use std::alloc::AllocFailed;
 use undo_chain::{Chain, Undo};
 
-/// The chains by slot. A slot without entries has none.
-pub(crate) type Chains = ChainTable;
-
 /// How many entries a chain may have: so few that those of all slots of a block can be counted.
 pub(crate) const MOST_ENTRIES: usize = 1 << 31;
 
 /// The chain of a slot, lent.
-pub(crate) fn chain_of(chains: &Chains, slot: u32) -> Option<&Chain<Before>>
+pub(crate) fn chain_of(chains: &ChainTable, slot: u32) -> Option<&Chain<Before>>
     requires { AreChains chains.now.entries }
     ensures some { IfSome result (λ chain. chain_at chains.now.entries slot ≡ Some chain.now) }
     ensures lawful { IfSome result (λ chain. IsLawful chain.now.entries) }
@@ -37,7 +34,7 @@ pub(crate) fn chain_of(chains: &Chains, slot: u32) -> Option<&Chain<Before>>
 
 /// Adds an entry on top of a slot's. Without memory the chains stay, and the entry comes back.
 pub(crate) fn push(
-    chains: &mut Chains,
+    chains: &mut ChainTable,
     slot: u32,
     undo: Undo<Before>,
 ) -> Result<(), AllocFailed<Undo<Before>>>
@@ -77,7 +74,7 @@ fn lay_on(chain: &mut Chain<Before>, undo: Undo<Before>) -> Result<(), AllocFail
 }
 
 /// Commits the session's entries in some slots.
-pub(crate) fn stamp(chains: &mut Chains, slots: &[u32], session: u32, stamp: u64, number: u64)
+pub(crate) fn stamp(chains: &mut ChainTable, slots: &[u32], session: u32, stamp: u64, number: u64)
     requires chains { AreChains chains.old.entries }
     requires newest { (slot : ℕ) → NoneStampedAbove (entries_at chains.old.entries slot) stamp }
     ensures chains { AreChains chains.new.entries }
@@ -92,7 +89,7 @@ pub(crate) fn stamp(chains: &mut Chains, slots: &[u32], session: u32, stamp: u64
 }
 
 /// Commits the session's entries in a slot.
-fn stamp_slot(chains: &mut Chains, slot: u32, session: u32, stamp: u64, number: u64)
+fn stamp_slot(chains: &mut ChainTable, slot: u32, session: u32, stamp: u64, number: u64)
     requires chains { AreChains chains.old.entries }
     requires newest { NoneStampedAbove (entries_at chains.old.entries slot) stamp }
     ensures chains { AreChains chains.new.entries }
@@ -109,7 +106,7 @@ fn stamp_slot(chains: &mut Chains, slot: u32, session: u32, stamp: u64, number: 
 
 /// Drops the entries with a stamp at most `oldest` of the first slots, in which all entries are,
 /// and tells how many these were.
-pub(crate) fn prune(chains: &mut Chains, slots: u32, oldest: u64) -> u64
+pub(crate) fn prune(chains: &mut ChainTable, slots: u32, oldest: u64) -> u64
     requires chains { AreChains chains.old.entries }
     requires within { (slot : ℕ) → IsSome (chain_at chains.old.entries slot) → slot < slots }
     ensures chains { AreChains chains.new.entries }
@@ -129,7 +126,7 @@ pub(crate) fn prune(chains: &mut Chains, slots: u32, oldest: u64) -> u64
 }
 
 /// The least slot from `from` on that has a chain.
-pub(crate) fn next_slot(chains: &Chains, from: u32) -> Option<u32>
+pub(crate) fn next_slot(chains: &ChainTable, from: u32) -> Option<u32>
     ensures some { IfSome result (λ slot. IsSome (chain_at chains.now.entries slot)) }
     ensures above { IfSome result (λ slot. from ≤ slot) }
     ensures least { IfSome result (λ slot. (other : ℕ) → from ≤ other → other < slot →
@@ -141,7 +138,7 @@ pub(crate) fn next_slot(chains: &Chains, from: u32) -> Option<u32>
 }
 
 /// Drops the entries of a slot with a stamp at most `oldest`.
-fn prune_slot(chains: &mut Chains, slot: u32, oldest: u64) -> u64
+fn prune_slot(chains: &mut ChainTable, slot: u32, oldest: u64) -> u64
     requires chains { AreChains chains.old.entries }
     ensures chains { AreChains chains.new.entries }
     ensures here { entries_at chains.new.entries slot ≡
@@ -161,7 +158,7 @@ fn prune_slot(chains: &mut Chains, slot: u32, oldest: u64) -> u64
 }
 
 /// Takes the newest entry of a slot off.
-pub(crate) fn pop(chains: &mut Chains, slot: u32) -> Option<Undo<Before>>
+pub(crate) fn pop(chains: &mut ChainTable, slot: u32) -> Option<Undo<Before>>
     requires chains { AreChains chains.old.entries }
     ensures chains { AreChains chains.new.entries }
     ensures here { entries_at chains.old.entries slot ≡ option_to_list result
@@ -178,7 +175,12 @@ pub(crate) fn pop(chains: &mut Chains, slot: u32) -> Option<Undo<Before>>
 
 /// Takes the session's entries of some slots off and lays their before-images back, newest first.
 /// Tells whether there were any.
-pub(crate) fn roll_back(chains: &mut Chains, rows: &mut Rows, slots: &[u32], session: u32) -> bool
+pub(crate) fn roll_back(
+    chains: &mut ChainTable,
+    rows: &mut Rows,
+    slots: &[u32],
+    session: u32,
+) -> bool
     requires chains { AreChains chains.old.entries }
     requires own { rows.old.image ≡ None }
     requires kept { (slot : ℕ) → IsKept rows.old slot (slice_index_or rows.old.rows slot None)
@@ -209,7 +211,7 @@ pub(crate) fn roll_back(chains: &mut Chains, rows: &mut Rows, slots: &[u32], ses
 
 /// Takes the session's entries of a slot off and lays their before-images back, newest first. Tells
 /// whether there were any.
-fn roll_back_slot(chains: &mut Chains, rows: &mut Rows, slot: u32, session: u32) -> bool
+fn roll_back_slot(chains: &mut ChainTable, rows: &mut Rows, slot: u32, session: u32) -> bool
     requires chains { AreChains chains.old.entries }
     requires own { rows.old.image ≡ None }
     requires kept { IsKept rows.old slot (slice_index_or rows.old.rows slot None)

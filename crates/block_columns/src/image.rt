@@ -1,8 +1,5 @@
 //! The columns of a frozen block with their Arrow form.
-ghost use Rattle.std.specs.Prelude.{◌≡◌, ◌<◌, ◌≤◌, ◌^◌, length, map, option_copied};
-ghost use Rattle.std.specs.Prelude.{take};
-ghost use Rattle.arrow_spec.specs.Arrays.{null_count};
-ghost use Rattle.block_columns.specs.Columns.{cell_of};
+ghost use Rattle.std.specs.Prelude.{◌≡◌, ◌≤◌, length, option_copied};
 
 use crate::columns::Columns;
 use crate::form::ArrowForm;
@@ -66,16 +63,6 @@ impl Image {
         ensures rows { result.now.rows ≡ self.now.slots }
     {
         &self.columns
-    }
-
-    /// How many of the rows that the form is of have a null in a column.
-    pub fn nulls(&self, column: usize) -> usize
-        requires { column < length self.now.columns }
-        ensures count { result ≡ null_count
-            (map (cell_of column) (take self.now.rows self.now.slots)) }
-        ensures few { result < 2 ^ 32 }
-    {
-        self.columns.nulls(column, self.rows as usize)
     }
 
     /// The buffers of each column, lent.

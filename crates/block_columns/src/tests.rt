@@ -146,7 +146,6 @@ fn an_image_lends_its_columns(rt: HostRuntime) -> Result<(), Fail> {
     assert_eq!(rt; columns.fixed_bytes(0, 0), b"".as_slice());
     let image = Image::of(columns, 0, ArrowForm::new(buffers, None));
     assert_eq!(rt; image.rows(), 0);
-    assert_eq!(rt; image.nulls(1), 0);
     assert_eq!(rt; image.buffers().len(), 4);
     assert!(rt; image.message().is_none());
     assert!(rt; !image.columns().has_row(0));

@@ -23,8 +23,8 @@ const LOOKS: u32 = 64;
 /// How many pauses the processor makes before each look.
 const PAUSES: u32 = 2;
 
-/// How often its taker lets other threads run before it sleeps, which costs a call of the system of
-/// each of the two.
+/// How often its taker lets other threads run, each time by a call of the system, before it sleeps,
+/// which costs such a call of each of the two and a wait for the scheduler.
 const TURNS: u32 = 256;
 
 /// Tries the latch of a part once.

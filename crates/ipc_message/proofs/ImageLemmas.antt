@@ -12,6 +12,7 @@ use Rattle.block_columns.specs.Columns.{cell_of}
 use Rattle.block_columns.specs.Images.{ImageValue, IsWhole, rows_of}
 use Rattle.block_columns.proofs.Whole.{column_cells-are, held_rows}
 
+-- The buffers of an array.
 abbrev buffers_in : Array → List (List ℕ)
 buffers_in array = array.buffers
 

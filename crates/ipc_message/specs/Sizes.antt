@@ -1,7 +1,7 @@
 -- Which buffers are so small that their message is put together.
 use Rattle.std.specs.Prelude.{ℕ, ◌≤◌, List, length, All}
 use Rattle.cell_model.specs.declared.column.Column.{Column}
-use Rattle.ipc_message.specs.declared.small.TheConstants.{MOST_COLUMNS}
+use Rattle.cell_model.specs.declared.schema.TheConstants.{MOST_COLUMNS}
 use Rattle.ipc_message.specs.declared.whole.TheConstants.{SMALL}
 
 -- each buffer has so few bytes that to copy them costs less than a call of the sink

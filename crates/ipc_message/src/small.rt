@@ -1,21 +1,18 @@
 //! The message of a batch whose buffers are all small.
-ghost use Rattle.std.specs.Prelude.{◌≡◌, ◌↔◌, ◌≤◌, IfOk, IfSome, IsSome, length};
+ghost use Rattle.std.specs.Prelude.{◌≡◌, ◌↔◌, All, IfOk, IfSome, IsSome, IsTrue};
 ghost use Rattle.arrow_array.specs.Batches.{AreFew};
 ghost use Rattle.arrow_spec.specs.Batches.{batch_of_arrays};
 ghost use Rattle.arrow_spec.specs.Streams.{batch_message, message_of_batch};
 ghost use Rattle.block_columns.specs.Images.{IsWhole, apart, image_with, rows_of};
-ghost use Rattle.ipc_message.specs.Sizes.{IsSmallBatch};
+ghost use Rattle.ipc_message.specs.Sizes.{AreSmall, IsSmallBatch};
 
 use crate::body::Body;
 use crate::head::batch_head;
 use crate::lent::{LentArray, of_columns};
-use crate::whole::{are_small, put_body};
+use crate::whole::{all_small, put_body};
 use block_columns::Columns;
-use cell_model::Buffers;
+use cell_model::{Buffers, MOST_COLUMNS};
 use std::alloc::{AllocError, Global};
-
-/// How many columns a batch has at most whose message is put together: as many as a table's.
-const MOST_COLUMNS: usize = 32;
 
 /// The message of the batch of the first `rows` slots of a block's columns, each of which has a
 /// row, with these buffers; none where one of the buffers is large, or there are more columns than
@@ -36,11 +33,18 @@ pub fn small_message(
     if columns.width() > MOST_COLUMNS {
         return Ok(None);
     }
-    let arrays = of_columns(alloc, columns, rows, buffers)?;
-    if !are_small(arrays.as_slice()) {
+    if !each_is_small(buffers) {
         return Ok(None);
     }
+    let arrays = of_columns(alloc, columns, rows, buffers)?;
     Ok(Some(put_together(alloc, rows, arrays.as_slice())?))
+}
+
+/// Whether the buffers of each column are all small.
+fn each_is_small(columns: &[Buffers]) -> bool
+    ensures { IsTrue result ↔ All AreSmall columns.now }
+{
+    columns.iter().all(|buffers| all_small(buffers.as_slice()))
 }
 
 /// The message of the record batch of so many rows with these columns.

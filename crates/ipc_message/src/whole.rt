@@ -19,7 +19,7 @@ pub fn are_small(arrays: &[LentArray<'_>]) -> bool
 }
 
 /// Whether all of these buffers are small.
-fn all_small(buffers: &[Bytes]) -> bool
+pub(crate) fn all_small(buffers: &[Bytes]) -> bool
     ensures { IsTrue result ↔ AreSmall buffers.now }
 {
     buffers.iter().all(|buffer| buffer.len() <= SMALL)

@@ -1,4 +1,4 @@
-use Rattle.std.proofs.Common.{List, length, ap, ◌∙◌, arith}
+use Rattle.std.proofs.Common.{List, ◌∙◌, arith}
 use Rattle.std.proofs.lemmas.List.{take_all}
 use Rattle.arrow_spec.specs.Batches.{arrays_of}
 use Rattle.arrow_array.proofs.ArrayLemmas.{length-arrays}

@@ -11,7 +11,7 @@ use Rattle.block_body.specs.Keys.{HasKey}
 use Rattle.block_body.proofs.Bodies.{body_slot}
 use Rattle.block_body.proofs.Looks.{may_move, no_row, with_entry}
 use Rattle.block_body.proofs.body.Body.movable.Goals as goal
-use Rattle.block_body.proofs.body.Body.movable.Goals.{then-not-has_row-via-then-not-has_row, then-not-has_row-via-else-not-has_row+then-contains_key}
+use Rattle.block_body.proofs.body.Body.movable.Goals.{then-not-has_row-via-then-not-has_row, then-not-has_row-via-else-not-has_row+then-has_chain}
 
 pub returns-then-not-has_row : goal.returns-then-not-has_row
 returns-then-not-has_row c =
@@ -24,8 +24,8 @@ returns-then-not-has_row c =
     elim c.then-not-has_row.branch [
       | then-not-has_row-via-then-not-has_row w ↦
           no_row c.args.slot (get_or i.rows.rows c.args.slot None) (chain_at i.chains.entries c.args.slot) (c.self.invariant.each.each c.args.slot) c.has_row.result _ tells refl w.if-not-has_row.true ∙ back
-      | then-not-has_row-via-else-not-has_row+then-contains_key w ↦
-          with_entry c.args.slot (get_or i.rows.rows c.args.slot None) (chain_at i.chains.entries c.args.slot) (c.self.invariant.each.each c.args.slot) c.has_row.result w.contains_key.result tells w.contains_key.ensures w.if-contains_key.true ∙ back
+      | then-not-has_row-via-else-not-has_row+then-has_chain w ↦
+          with_entry c.args.slot (get_or i.rows.rows c.args.slot None) (chain_at i.chains.entries c.args.slot) (c.self.invariant.each.each c.args.slot) c.has_row.result w.has_chain.result tells w.has_chain.ensures w.if-has_chain.true ∙ back
     ]
 
 pub key_at-key-requires-clause-key : goal.key_at-key-requires-clause-key
@@ -42,9 +42,9 @@ returns c =
     ap (λ (b : BodyValue). slot_in b c.args.slot) (sym c.self.view_is) ∙ body_slot i.rows i.chains.entries i.written i.phase i.cooling i.rounds i.last c.self.invariant c.args.slot in
     let rows = c.columns-columns.ensures.rows in
     let written : to_z w64 (of_z w64 c.key_at-key.result) ≡ c.key_at-key.result = to_z-of_z w64 c.key_at-key.result (search rules) in
-    may_move c.args.slot (get_or i.rows.rows c.args.slot None) (chain_at i.chains.entries c.args.slot) (c.self.invariant.each.each c.args.slot) c.has_row.result c.contains_key.result
-    (subst (λ (l : List (Option Row)). IsTrue c.has_row.result ↔ IsSome (get_or l c.args.slot None)) rows c.has_row.ensures) c.contains_key.ensures
-    c.if-not-has_row.false c.if-contains_key.false (to_z w64 (of_z w64 c.key_at-key.result))
+    may_move c.args.slot (get_or i.rows.rows c.args.slot None) (chain_at i.chains.entries c.args.slot) (c.self.invariant.each.each c.args.slot) c.has_row.result c.has_chain.result
+    (subst (λ (l : List (Option Row)). IsTrue c.has_row.result ↔ IsSome (get_or l c.args.slot None)) rows c.has_row.ensures) c.has_chain.ensures
+    c.if-not-has_row.false c.if-has_chain.false (to_z w64 (of_z w64 c.key_at-key.result))
     (subst (λ (k : ℤ). IfSome (get_or i.rows.rows c.args.slot None) (λ row. k ≡ key_of row)) (sym written)
     (subst (λ (l : List (Option Row)). IfSome (get_or l c.args.slot None) (λ row. c.key_at-key.result ≡ key_of row)) rows c.key_at-key.ensures))
     ∙ ap (λ (s : Slot). movable_row c.args.slot s.row (has_none s.entries)) (sym at)

@@ -1,6 +1,6 @@
 use Rattle.std.proofs.Common.{◌∙◌, ap, get_or}
 use Rattle.block_body.proofs.Tables.{tells}
-use Rattle.block_body.proofs.chain_table.ChainTable.contains_key.Goals as goal
+use Rattle.block_body.proofs.chain_table.ChainTable.has_chain.Goals as goal
 
 pub returns : goal.returns
 returns c =
