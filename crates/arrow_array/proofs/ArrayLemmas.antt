@@ -39,6 +39,7 @@ bool-data kind place rows buffers grown made bytes is made_is bytes_is added =
     (bytes_is ∙ made_is ∙ ap bitmap (sym (bits-are truth_of place rows)))
     ∙ ap (λ (k : Kind). buffers ++ data_buffers (layout_of k) (column_cells place rows)) (sym is)
 
+-- Columns of texts and of bytes have the layout of varying lengths.
 variable-layout : (kind : Kind) → (kind ≡ kinds.Utf8) ⊎ (kind ≡ kinds.Binary) → layout_of kind ≡ variable
 variable-layout kind (inl is) = ap layout_of is
 variable-layout kind (inr is) = ap layout_of is
@@ -72,6 +73,7 @@ IsInteger kind =
     ⊎ (kind ≡ kinds.U32)
     ⊎ (kind ≡ kinds.U64)
 
+-- A column of integers has a fixed layout of some width.
 fixed-layout : (kind : Kind) → IsInteger kind → (width : Width) × (layout_of kind ≡ fixed width)
 fixed-layout kind (inl is) = (w8, ap layout_of is)
 fixed-layout kind (inr (inl is)) = (w16, ap layout_of is)
@@ -82,6 +84,7 @@ fixed-layout kind (inr (inr (inr (inr (inr (inl is)))))) = (w16, ap layout_of is
 fixed-layout kind (inr (inr (inr (inr (inr (inr (inl is))))))) = (w32, ap layout_of is)
 fixed-layout kind (inr (inr (inr (inr (inr (inr (inr is))))))) = (w64, ap layout_of is)
 
+-- The data of a fixed layout are one buffer: the bytes of each cell's number, one after another.
 fixed-data : (layout : Layout) (width : Width) (cells : List Cell) → layout ≡ fixed width
     → data_buffers layout cells ≡ flat_map (λ cell. bytes_in layout (number_of cell)) cells ∷ []
 fixed-data layout width cells is = rw is refl
@@ -128,6 +131,7 @@ no-fault : (first rest : Option RowFault) → (if is_none first then rest else f
 no-fault None rest is = (refl, is)
 no-fault (Some fault) rest is = absurd (cc)
 
+-- A cell without a fault is null, or a value that is not too long.
 slot-of : (null nullable value long : Bool) (at : ℕ)
     → (if null then (if nullable then None else Some (NullAt at))
     else if not value then Some (RangeAt at) else if long then Some (LongAt at) else None) ≡ None
@@ -137,6 +141,7 @@ slot-of false nullable false long at is = absurd (cc)
 slot-of false nullable true true at is = absurd (cc)
 slot-of false nullable true false at is = refl
 
+-- In a row without a fault each cell is one that a slot of its column's kind takes.
 slot-within : (columns : List Column) (cells : List Cell) (place at : ℕ) (d : Column) → place < length columns → length cells ≡ length columns
     → first_fault at columns cells ≡ None → IsTrue (is_slot_of (get_or columns place d).kind (cell_at place cells))
 slot-within [] cells place at d inside same is = absurd (omega arith)
@@ -173,11 +178,13 @@ arrays_from from columns rows =
     })
     (enumerate_from from columns)
 
+-- The data of a column are at most two buffers.
 few-buffers : (layout : Layout) (cells : List Cell) → length (data_buffers layout cells) ≤ 2
 few-buffers (fixed width) cells = omega arith
 few-buffers boolean cells = omega arith
 few-buffers variable cells = omega arith
 
+-- The arrays of all columns have at most three buffers for each column.
 few-of : (from : ℕ) (columns : List Column) (rows : List (List Cell))
     → length (flat_map (λ array. array.buffers) (arrays_from from columns rows)) ≤ 3 * length columns
 few-of from [] rows = omega arith

@@ -1,4 +1,5 @@
--- Fields written over a whole flatbuffer, against fields written over the bytes of their table alone.
+-- Fields written over a whole flatbuffer, against fields written over the bytes of their table
+-- alone.
 use Rattle.std.proofs.Common.{◌≡◌, ℕ, ◌+◌, ◌-◌, ◌*◌, ◌<◌, ◌≤◌, List, [], ◌∷◌, ◌++◌, length, take, drop, replicate, map, refl, sym, ap, ◌∙◌, arith, append_assoc, length-append, length-drop, get_or, drop-cons, add-one}
 use Rattle.std.proofs.lemmas.List.{length-replicate, drop-replicate, take-append-le, drop-append-le, length-take-le}
 use Rattle.std.proofs.Math.Seq.{take-append-add, drop-append-add}
@@ -201,7 +202,8 @@ pub after_absent :
     → LaidTo place bytes fields last → LaidTo place bytes (absent ∷ fields) last
 after_absent rest = record { is = rest.is }
 
--- A table whose fields were laid: it stands where its vtable ends, and its bytes are behind the old ones.
+-- A table whose fields were laid: it stands where its vtable ends, and its bytes are behind the old
+-- ones.
 pub table-is :
     (old : List ℕ) (size most : ℕ) (fields : List Field) (place : ℕ) (first last : List ℕ)
     → 4 ≤ size → EndBy size fields

@@ -15,6 +15,7 @@ pub next_range : (i n : ℕ) → i < n → range_with_len i (n - i) ≡ i ∷ ra
 next_range i n lt = let e : n - i ≡ suc (n - (i + 1)) = omega (arith, lt) in ap (range_with_len i) e
 
 module _ {A B E : Type 0} (reads : A → Result B E) where
+  -- An item read in front of the rest may as well be put behind those before it.
   behind : (front : List B) (item : B) (rest : Result (List B) E) → ((rest >>= λ items. Ok (item ∷ items)) >>= λ items. Ok (front ++ items)) ≡ (rest >>= λ items. Ok ((front ++ item ∷ []) ++ items))
   behind front item (Ok items) = ap Ok (sym (append_assoc front (item ∷ []) items))
   behind front item (Err fault) = refl
@@ -38,6 +39,7 @@ pair_of (Err fault) = (0, 0)
 
 -- the elements of a vector that is read lie in the bytes
 module _ (bytes : List ℕ) (place width : ℕ) (first count : ℕ) where
+  -- What is read of a vector, by whether its count and its elements lie in the bytes.
   abbrev answer : Bool → Bool → ℕ → Result (ℕ × ℕ) FlatFault
   answer whole part n =
       if whole then (if part then Ok (place + 4, n) else Err (record { place = place + 4; need = n * width })) else Err (record { place = place; need = 4 })

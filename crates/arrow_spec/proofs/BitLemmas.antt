@@ -12,6 +12,7 @@ use Rattle.arrow_spec.specs.Bytes.{byte_of_bits, bitmap}
 abbrev digit : Bool → ℕ
 digit bit = if bit then 1 else 0
 
+-- The digit of a bit is zero or one.
 below_two : (bit : Bool) → digit bit ≤ 1
 below_two true = omega arith
 below_two false = omega arith
@@ -24,6 +25,7 @@ bit_at-byte_of_bits (bit ∷ bits) (suc k) =
     let half : (digit bit + 2 * byte_of_bits bits) / 2 ≡ byte_of_bits bits = omega (arith, below_two bit) in
     bit_at-suc (digit bit + 2 * byte_of_bits bits) k ∙ ap (λ n. bit_at n k) half ∙ bit_at-byte_of_bits bits k
 
+-- So many chunks of eight bits make as many bytes.
 length-chunks : (count : ℕ) (bits : List Bool) → length (map byte_of_bits (first_chunks 8 count bits)) ≡ count
 length-chunks zero bits = refl
 length-chunks (suc count) bits = ap suc (length-chunks count (drop 8 bits))

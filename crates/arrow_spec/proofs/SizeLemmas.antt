@@ -11,6 +11,7 @@ use Rattle.arrow_spec.specs.Metadata.{record_batch, flatbuffer_of}
 abbrev pair_bytes : (ℤ × ℤ) → List ℕ
 pair_bytes pair = number_bytes w64 pair.0 ++ number_bytes w64 pair.1
 
+-- The bytes of pairs are sixteen for each pair.
 length-pairs : (pairs : List (ℤ × ℤ)) → length (flat_map pair_bytes pairs) ≡ 16 * length pairs
 length-pairs [] = refl
 length-pairs (pair ∷ pairs) = omega (arith, length-pairs pairs)

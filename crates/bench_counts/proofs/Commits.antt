@@ -9,10 +9,12 @@ use Rattle.outcome_spec.specs.Runs.{commit_count}
 use Rattle.output_read.specs.declared.kept.KeptReply.{KeptReply}
 use Rattle.output_read.specs.Kept.{entries_of, entry_of, said_of}
 
+-- An option makes a list of one element, or of none.
 one : {X : Type 0} (o : Option X) → length (cons_option o []) ≡ (if is_some o then 1 else 0)
 one None = refl
 one (Some x) = refl
 
+-- Two lists of replies have together the commits of both.
 commits_append : (xs ys : List Entry) → commit_count (xs ++ ys) ≡ commit_count xs + commit_count ys
 commits_append xs ys = ap length (filter_map-append (λ (e : Entry). commit_in e.reply.said) xs ys) ∙ length-append (shown_in commit_in xs) (shown_in commit_in ys)
 

@@ -76,6 +76,7 @@ insert-told (said.ConflictSession s) fits granted full session number h = absurd
 insert-told (said.ConflictCommit n) fits granted full session number h = absurd (number n refl)
 insert-told _ fits granted full session number h = absurd fits
 
+-- An acceptable update that is told of no refusal, freezing or conflict is accepted.
 update-told : (told : Said) → IsUpdateReply 0 told → is_refused told ≡ false → ((table block stamp : ℕ) → told ≡ said.Freezing table block stamp → ⊥) → ((session : ℕ) → told ≡ said.ConflictSession session → ⊥)
     → ((number : ℕ) → told ≡ said.ConflictCommit number → ⊥) → write_holds true told ≡ true → told ≡ said.Accepted
 update-told said.Accepted fits granted freezing session number h = refl
@@ -87,20 +88,25 @@ update-told (said.ConflictCommit n) fits granted freezing session number h = abs
 update-told _ fits granted freezing session number h = absurd fits
 
 module _ (seed size : ℕ) (small : 4 * size ≤ 32768) (replies : List Entry) (told : Told seed size replies) where
+  -- The run that the replies tell.
   abbrev the_run : Run
   the_run = run seed size replies told
 
+  -- The transactions of the write rounds.
   abbrev all : List Wrote
   all = transactions seed size replies told
 
+  -- The state behind so many commits.
   abbrev behind : ℕ → State
   behind n = state seed size replies told n
 
+  -- No reply was refused memory.
   granted : (e : Entry) → Has e replies → is_refused e.reply.said ≡ false
   granted e has = every-has (λ x. is_refused x.reply.said ≡ false) replies e told.unrefused has
 
   -- ---- an insert
 
+  -- Of a transaction's replies only its begin stands before its insert.
   before-insert : (w : Wrote) → Has w all → before (replies_to w) (insert w) ≡ begin w ∷ []
   before-insert w among =
       let own = own-order seed size replies told w among in
@@ -128,12 +134,14 @@ module _ (seed size : ℕ) (small : 4 * size ≤ 32768) (replies : List Entry) (
             omega (arith, less, low)
       ]
 
+  -- The snapshot of a transaction has no row at the key that it inserts.
   absent : (w : Wrote) → Has w all → at_place (behind w.snapshot) (place_of 0 w.row) ≡ None
   absent w among =
       let e : 0 + w.snapshot ≡ w.snapshot = omega arith in
       ap (λ n. at_place (behind n) (place_of 0 w.row)) (sym e)
       ∙ still seed size replies told (place_of 0 w.row) 0 w.snapshot (λ v k has is low high. fresh w among v k has is (omega (arith, high)))
 
+  -- A transaction sees no row at the key that it inserts.
   seen-insert : (w : Wrote) → Has w all → at_place (seen_at the_run (span_of w) (insert w)) (place_of 0 w.row) ≡ None
   seen-insert w among =
       ap (λ es. at_place (laid_over (state_at the_run.history w.snapshot) (writes_in es)) (place_of 0 w.row)) (before-insert w among)
@@ -155,6 +163,7 @@ module _ (seed size : ℕ) (small : 4 * size ≤ 32768) (replies : List Entry) (
 
   -- ---- a commit
 
+  -- Each transaction has a reply of an accepted write.
   wrote-one : (w : Wrote) → Has w all → list_any (λ other. is_some (accepted_write other)) (replies_to w) ≡ true
   wrote-one w among = rw (insert-accepted w among) refl
 
@@ -176,6 +185,7 @@ module _ (seed size : ℕ) (small : 4 * size ≤ 32768) (replies : List Entry) (
 
   -- ---- an update
 
+  -- Of a transaction's replies its begin and its insert stand before its update.
   before-update : (w : Wrote) → Has w all → before (replies_to w) (update w) ≡ begin w ∷ insert w ∷ []
   before-update w among =
       let own = own-order seed size replies told w among in
@@ -210,6 +220,7 @@ module _ (seed size : ℕ) (small : 4 * size ≤ 32768) (replies : List Entry) (
       subst (λ (p : Place). is_some (at_place (behind w.snapshot) p) ≡ true) place
       (present seed size replies told v i.1 n.0 w.snapshot n.1 low (ap is_accepted (insert-accepted v i.1)))
 
+  -- The key that is updated is the transaction's own, or its row stands in the snapshot.
   own-or-stood : (w : Wrote) → Has w all → is_some (cond (is_place (place_of 0 w.change) (place_of 0 w.row)) (Some w.row) (at_place (behind w.snapshot) (place_of 0 w.change))) ≡ true
   own-or-stood w among = by (cases_eq (picked seed w + 1) w.turn)
     where
@@ -229,9 +240,11 @@ module _ (seed size : ℕ) (small : 4 * size ≤ 32768) (replies : List Entry) (
           let low = picked-low seed w (good-of seed size replies told w among) in
           either (is_place (place_of 0 w.change) (place_of 0 w.row)) w.row (at_place (behind w.snapshot) (place_of 0 w.change)) (stood w among (omega (arith, low, other)))
 
+  -- Laid over rows, what a transaction wrote before its update is the row that it inserted.
   own-writes : (w : Wrote) → Has w all → (rows : State) → laid_over rows (writes_in (begin w ∷ insert w ∷ [])) ≡ insert_entry place_cmp rows (place_of 0 w.row) w.row
   own-writes w among rows = rw (insert-accepted w among) refl
 
+  -- A transaction sees a row at the key that it updates.
   seen-update : (w : Wrote) → Has w all → is_some (at_place (seen_at the_run (span_of w) (update w)) (place_of 0 w.change)) ≡ true
   seen-update w among =
       ap (λ es. is_some (at_place (laid_over (state_at the_run.history w.snapshot) (writes_in es)) (place_of 0 w.change))) (before-update w among)

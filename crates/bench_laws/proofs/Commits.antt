@@ -79,11 +79,13 @@ export-commits-none (said.Dirty key) h = refl
 export-commits-none said.Memory h = refl
 export-commits-none _ h = absurd h
 
+-- A reply that shows no commit does not commit as a number.
 not-committed : (k : ℕ) (told : Said) → commit_in told ≡ None → option_map_or (λ shown. eqb shown k) (commit_in told) false ≡ true → ⊥
 not-committed k told none h =
     let e : false ≡ true = sym (ap (λ (o : Option ℕ). option_map_or (λ shown. eqb shown k) o false) none) ∙ h in
     let never : ⊥ = cc in never
 
+-- An optional number that is tested to be this one is this one.
 number-is : (k : ℕ) (number : Option ℕ) → option_map_or (λ shown. eqb shown k) number false ≡ true → number ≡ Some k
 number-is k None h = absurd (let never : ⊥ = cc in never)
 number-is k (Some n) h = ap Some (eqb-true n k h)
@@ -95,9 +97,11 @@ pub record Committing (k : ℕ) (transactions : List Wrote) (x : Entry) : Type 0
   pub number : by.number ≡ Some k
   pub is : x ≡ commit by
 
+-- A commit by one of some transactions is one of them with a transaction in front too.
 later-one : (k : ℕ) (w : Wrote) (transactions : List Wrote) (x : Entry) → Committing k transactions x → Committing k (w ∷ transactions) x
 later-one k w transactions x h = record { by = h.by; among = inr h.among; number = h.number; is = h.is }
 
+-- A reply of a transaction that commits as a number is that transaction's commit.
 own-commit : (seed k : ℕ) (w : Wrote) (transactions : List Wrote) → GoodWrote seed w → (x : Entry) → Has x (replies_to w) → commits_as k x ≡ true → Committing k (w ∷ transactions) x
 own-commit seed k w transactions good x (inl same) h = absurd (not-committed k (said.At w.snapshot) refl (subst (λ (e : Entry). commits_as k e ≡ true) (sym same) h))
 own-commit seed k w transactions good x (inr (inl same)) h = absurd (not-committed k w.insert_said (insert-commits-none w.insert_said good.insert_fits) (subst (λ (e : Entry). commits_as k e ≡ true) (sym same) h))
@@ -105,6 +109,7 @@ own-commit seed k w transactions good x (inr (inr (inl same))) h = absurd (not-c
 own-commit seed k w transactions good x (inr (inr (inr (inl same)))) h = record { by = w; among = inl refl; number = number-is k w.number (subst (λ (e : Entry). commits_as k e ≡ true) (sym same) h); is = sym same }
 own-commit seed k w transactions good x (inr (inr (inr (inr never)))) h = absurd never
 
+-- A reply of the parts that commits as a number is a transaction's among them.
 parts-commit : (seed k : ℕ) (parts : List Part) → Every (Good seed) parts → (x : Entry) → Has x (entries_in parts) → commits_as k x ≡ true → Committing k (wrotes parts) x
 parts-commit seed k [] good x has h = absurd has
 parts-commit seed k (Writing w ∷ parts) good x has h = elim (has-cases x (replies_to w) (entries_in parts) has) [
@@ -119,6 +124,7 @@ parts-commit seed k (Freezing f ∷ parts) good x (inr (inr rest)) h = parts-com
 
 -- ---- one of a kind
 
+-- Where an element passes a test, at least one is counted.
 some-counted : {X : Type 0} (p : X → Bool) (xs : List X) (x : X) → Has x xs → p x ≡ true → 1 ≤ count_by p xs
 some-counted p [] x has h = absurd has
 some-counted p (y ∷ xs) x (inl same) h =
@@ -146,6 +152,7 @@ only-one p (z ∷ xs) x y one (inr has) (inr there) h k =
     let more = some-counted p xs x has h in
     only-one p xs x y (omega (arith, c, more, one)) has there h k
 
+-- Where a search finds nothing, no element of the list passes the test.
 find-none : {X : Type 0} (p : X → Bool) (xs : List X) (x : X) → find p xs ≡ None → Has x xs → p x ≡ true → ⊥
 find-none p [] x none has h = has
 find-none p (y ∷ xs) x none has h = by (p y) refl none has (find-none p xs x)
@@ -155,6 +162,7 @@ find-none p (y ∷ xs) x none has h = by (p y) refl none has (find-none p xs x)
     by false is nothing (inl same) rest = let e : false ≡ true = sym is ∙ ap p same ∙ h in let never : ⊥ = cc in never
     by false is nothing (inr there) rest = rest nothing there h
 
+-- The three parts of a conjunction that is true.
 three : (a b c : Bool) → (a && b && c) ≡ true → (a ≡ true) × (b ≡ true) × (c ≡ true)
 three true true true h = (refl, refl, refl)
 three false b c h = absurd (let never : ⊥ = cc in never)
@@ -175,6 +183,7 @@ pub record Own (w : Wrote) : Type 0 where
   pub commit_insert : is_before (commit w) (insert w) ≡ false
   pub commit_update : is_before (commit w) (update w) ≡ false
 
+-- Where all replies stand in order, those behind the front do.
 rises-rest : (front rest : List Entry) → Rises (front ++ rest) → Rises rest
 rises-rest [] rest h = h
 rises-rest (x ∷ front) rest h = rises-rest front rest h.1
@@ -276,6 +285,7 @@ module _ (seed size : ℕ) (replies : List Entry) (told : Told seed size replies
 
   -- ---- commits
 
+  -- Where no reply is of an accepted write, none is found among them.
   none-written : (e : Entry) (xs : List Entry) → ((x : Entry) → Has x xs → accepted_write x ≡ None) → list_any (λ other. is_some (accepted_write other)) xs ≡ false
   none-written e [] none = refl
   none-written e (x ∷ xs) none = rw (none x (inl refl)) (none-written e xs (λ y has. none y (inr has)))
@@ -298,6 +308,7 @@ module _ (seed size : ℕ) (replies : List Entry) (told : Told seed size replies
           let never : true ≡ false = sym wrote ∙ none in
           absurd (let impossible : ⊥ = cc in impossible)
 
+  -- No reply of the last round commits as a number.
   last-commit : (k : ℕ) (x : Entry) → Has x (last_entries told.last) → commits_as k x ≡ true → ⊥
   last-commit k x (inl same) h = not-committed k (said.At told.last.snapshot) refl (subst (λ (e : Entry). commits_as k e ≡ true) (sym same) h)
   last-commit k x (inr (inl same)) h = not-committed k told.last.scan_said (scan-commits-none told.last.scan_said told.scan_fits) (subst (λ (e : Entry). commits_as k e ≡ true) (sym same) h)
@@ -378,6 +389,7 @@ module _ (seed size : ℕ) (replies : List Entry) (told : Told seed size replies
     pub number : by.number ≡ Some k
     pub set_is : set_of k ≡ writes_in (replies_to by)
 
+  -- By the line that commits as a number, its write set is empty or a transaction's.
   set-by : (k : ℕ) (line : Option Entry) → commit_line replies k ≡ line → ((set_of k ≡ []) × (line ≡ None)) ⊎ SetOf k
   set-by k None is = inl (ap (λ (o : Option Entry). option_map_or (λ t. writes_in t.replies) (option_and_then (transaction_with (transactions_of replies)) o) []) is, refl)
   set-by k (Some line) is =

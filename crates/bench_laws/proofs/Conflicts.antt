@@ -1,4 +1,5 @@
--- No write is told of a conflict: no other session writes its keys, and what its own session committed is in its snapshot.
+-- No write is told of a conflict: no other session writes its keys, and what its own session
+-- committed is in its snapshot.
 use Rattle.std.proofs.Common.{◌≡◌, ◌⊎◌, inl, inr, ℕ, ◌+◌, ◌-◌, ◌*◌, ◌<◌, ◌≤◌, zero, suc, Bool, true, false, cond, ◌&&◌, ◌||◌, not, eqb, nat_lt, nat_le, List, [], ◌∷◌, ◌++◌, map, length, Option, None, Some, refl, sym, ap, ◌∙◌, subst, arith}
 use Rattle.std.specs.List.{filter, list_all, list_any, range_with_len}
 use Rattle.std.specs.Option.{option_map_or}
@@ -7,7 +8,7 @@ use Rattle.std.proofs.lemmas.List.FromFn.{get_or-map-range_with_len, length-map-
 use Rattle.isolation_spec.specs.Contents.{place_of}
 use Rattle.isolation_spec.specs.Machine.{later_writers, write_set_at, writes_place}
 use Rattle.isolation_spec.specs.declared.place.Place.{Place}
-use Rattle.timeline_laws.proofs.Rivals.{has-writes}
+use Rattle.timeline_laws.proofs.Chosen.{has-writes}
 use Rattle.workload_spec.specs.declared.reply.Who.TheVariants.{Session}
 use Rattle.workload_spec.specs.declared.reply.Said.{Said}
 use Rattle.workload_spec.specs.declared.reply.Said.TheVariants as said
@@ -22,6 +23,7 @@ use Rattle.bench_laws.proofs.Spans.{span_of, last_span, belongs, transactions-ar
 use Rattle.bench_laws.proofs.Writes.{Touches, at_key, first-place, last-touches-none, next-place, picked, same-key, some-touch, touches}
 use Rattle.bench_laws.proofs.Commits.{SetOf, among-replies, good-of, line-is, order, own-order, run, same-number, set-cases, set_of, snapshot-of, transactions}
 
+-- One element more: what a filter keeps is in the list, and passes.
 filtered-step : {X : Type 0} (p : X → Bool) (x y : X) (xs : List X) (b : Bool) → p y ≡ b → Has x (cond b (y ∷ filter p xs) (filter p xs)) → (Has x (filter p xs) → Has x xs × (p x ≡ true)) → ((y ≡ x) ⊎ Has x xs) × (p x ≡ true)
 filtered-step p x y xs true is (inl same) rest = (inl same, ap p (sym same) ∙ is)
 filtered-step p x y xs true is (inr there) rest = let r = rest there in (inr r.0, r.1)
@@ -42,6 +44,7 @@ range-bounds j a (suc n) (inr rest) = let r = range-bounds j (a + 1) n rest in l
 pub one-session : (x y a b : ℕ) → 1 ≤ a → a ≤ 4 → 1 ≤ b → b ≤ 4 → 4 * x + a ≡ 4 * y + b → (x ≡ y) × (a ≡ b)
 one-session x y a b al ah bl bh h = (omega (arith, al, ah, bl, bh, h), omega (arith, al, ah, bl, bh, h))
 
+-- The two in the middle of four that are all true.
 three-of-four : (a b c d : Bool) → (a && b && c && d) ≡ true → (b ≡ true) × (c ≡ true)
 three-of-four true true true true h = (refl, refl)
 three-of-four false b c d h = absurd (let never : ⊥ = cc in never)
@@ -49,15 +52,18 @@ three-of-four true false c d h = absurd (let never : ⊥ = cc in never)
 three-of-four true true false d h = absurd (let never : ⊥ = cc in never)
 three-of-four true true true false h = absurd (let never : ⊥ = cc in never)
 
+-- The first two of three that are all true.
 two-of-three : (a b c : Bool) → (a && b && c) ≡ true → (a ≡ true) × (b ≡ true)
 two-of-three true true c h = (refl, refl)
 two-of-three false b c h = absurd (let never : ⊥ = cc in never)
 two-of-three true false c h = absurd (let never : ⊥ = cc in never)
 
 module _ (seed size : ℕ) (replies : List Entry) (told : Told seed size replies) where
+  -- The run that the replies tell.
   abbrev the_run : Run
   the_run = run seed size replies told
 
+  -- The transactions of the write rounds.
   abbrev all : List Wrote
   all = transactions seed size replies told
 
@@ -70,6 +76,7 @@ module _ (seed size : ℕ) (replies : List Entry) (told : Told seed size replies
 
   -- ---- no other session
 
+  -- A transaction that writes a key of a session, not after a reply, is that session's.
   rival-touches : (w : Wrote) → Has w all → (place : Place) (x : ℕ) → place ≡ at_key (4 * x + w.session) → (e : Entry) (rival : Span) → Has rival (map span_of all ++ last_span told.last ∷ [])
       → has_write place (not_after rival.replies e) ≡ true → is_same rival.who (Session w.session) ≡ true
   rival-touches w among place x is e rival has wrote = elim (has-cases rival (map span_of all) (last_span told.last ∷ []) has) [
@@ -117,12 +124,14 @@ module _ (seed size : ℕ) (replies : List Entry) (told : Told seed size replies
         subst (λ n. writes_place place (set_of seed size replies told n) ≡ true) same (sym (ap (writes_place place) at) ∙ parts.1),
       )
 
+  -- A write set with a place is that of a transaction that touches the place.
   set-touches : (place : Place) (number : ℕ) → writes_place place (set_of seed size replies told number) ≡ true → (its : SetOf seed size replies told number) × Touches its.by place
   set-touches place number h = elim (set-cases seed size replies told number) [
     | inl none ↦ absurd (let e : false ≡ true = sym (ap (writes_place place) none.0) ∙ h in let never : ⊥ = cc in never)
     | inr its ↦ (its, touches seed its.by (good-of seed size replies told its.by its.among) place (sym (has-writes place (replies_to its.by)) ∙ sym (ap (writes_place place) its.set_is) ∙ h))
   ]
 
+  -- Where a number's commit is not after a reply, the reply is not before that commit.
   not-after-commit : (e : Entry) (number : ℕ) (line : Option Entry) → commit_line replies number ≡ line → option_map_or (λ (x : Entry). is_not_after x e) line false ≡ true
       → (c : Entry) × (commit_line replies number ≡ Some c) × (is_before e c ≡ false)
   not-after-commit e number None is h = absurd (let never : ⊥ = cc in never)

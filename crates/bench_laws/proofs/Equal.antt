@@ -1,5 +1,6 @@
--- The state that the last round sees is the rows that the writes leave: at each place stands what the last transaction left
--- there that touches it, and those that touch it are of one session, which commits in turn.
+-- The state that the last round sees is the rows that the writes leave: at each place stands what
+-- the last transaction left there that touches it, and those that touch it are of one session,
+-- which commits in turn.
 use Rattle.std.proofs.Common.{◌≡◌, ◌⊎◌, inl, inr, ℕ, ◌+◌, ◌-◌, ◌*◌, ◌<◌, ◌≤◌, zero, suc, Bool, true, false, cond, ◌||◌, List, [], ◌∷◌, ◌++◌, fold, Option, None, Some, Ordering, Less, Equal, Greater, refl, sym, ap, ◌∙◌, subst, arith}
 use Rattle.std.specs.BTreeMap.{insert_entry}
 use Rattle.std.specs.Cmp.{eq_by_cmp_equiv}
@@ -37,14 +38,17 @@ behind_one rows w = insert_entry place_cmp (insert_entry place_cmp rows (place_o
 abbrev touches_it : Place → Wrote → Bool
 touches_it place w = is_place (place_of 0 w.row) place || (is_place (place_of 0 w.change) place || false)
 
+-- What a transaction leaves at a place, from what stood there before.
 abbrev formula : Wrote → Place → Option (List Cell) → Option (List Cell)
 formula w place before = behind_two true (place_of 0 w.row) w.row true (place_of 0 w.change) w.change place before
 
+-- What stands at a place behind one transaction is what it leaves there.
 at-one : (rows : State) (w : Wrote) (place : Place) → at_place (behind_one rows w) place ≡ formula w place (at_place rows place)
 at-one rows w place =
     put (insert_entry place_cmp rows (place_of 0 w.row) w.row) (place_of 0 w.change) w.change place
     ∙ ap (cond (is_place place (place_of 0 w.change)) (Some w.change)) (put rows (place_of 0 w.row) w.row place)
 
+-- A transaction that does not touch a place leaves what stood there.
 passes-by : (w : Wrote) (place : Place) (before : Option (List Cell)) → touches_it place w ≡ false → formula w place before ≡ before
 passes-by w place before h = unwritten true true (place_of 0 w.row) (place_of 0 w.change) place w.row w.change before h
 
@@ -58,10 +62,12 @@ touched-by p q place r s before other (inr h) =
     let e : is_place place q ≡ true = (eq_by_cmp_equiv place_cmp-total).symm place q ∙ h in
     rw e refl
 
+-- Where a disjunction with false is true, its first part is.
 or-none : (b : Bool) → (b || false) ≡ true → b ≡ true
 or-none true h = refl
 or-none false h = h
 
+-- What a transaction leaves at a place that it touches does not depend on what stood there.
 touched : (w : Wrote) (place : Place) (before other : Option (List Cell)) → touches_it place w ≡ true → formula w place before ≡ formula w place other
 touched w place before other h =
     touched-by (place_of 0 w.row) (place_of 0 w.change) place w.row w.change before other
@@ -71,6 +77,7 @@ touched w place before other h =
     either (inl a) = inl a
     either (inr b) = inr (or-none (is_place (place_of 0 w.change) place) b)
 
+-- Transactions that do not touch a place leave what stands there, one after another.
 fold-passes : (place : Place) (later : List Wrote) (rows : State) → Every (λ w. touches_it place w ≡ false) later → at_place (fold behind_one rows later) place ≡ at_place rows place
 fold-passes place [] rows h = refl
 fold-passes place (w ∷ later) rows h = fold-passes place later (behind_one rows w) h.1 ∙ at-one rows w place ∙ passes-by w place (at_place rows place) h.0
@@ -85,6 +92,7 @@ record LastSuch (p : Wrote → Bool) (all : List Wrote) : Type 0 where
   holds : p such ≡ true
   none : Every (λ w. p w ≡ false) rest
 
+-- No transaction passes a test, or there is a last one that does.
 last-such : (p : Wrote → Bool) (all : List Wrote) → Every (λ w. p w ≡ false) all ⊎ LastSuch p all
 last-such p [] = inl tt
 last-such p (w ∷ all) = by (last-such p all) (p w) refl
@@ -99,6 +107,7 @@ abbrev Climb : List Wrote → Type 0
 Climb [] = Unit {0}
 Climb (w ∷ all) = Every (λ v. Before v (Writing w)) all × Climb all
 
+-- The transactions of parts that are in turn stand in their order.
 climbs : (parts : List Part) → InTurn parts → Climb (wrotes parts)
 climbs [] h = tt
 climbs (Writing w ∷ parts) h = (
@@ -109,15 +118,18 @@ climbs (Writing w ∷ parts) h = (
 climbs (Keeping k ∷ parts) h = climbs parts h.1
 climbs (Freezing f ∷ parts) h = climbs parts h.1
 
+-- Each transaction in front of another stands before it.
 front-before : (front : List Wrote) (w : Wrote) (rest : List Wrote) (v : Wrote) → Climb (front ++ w ∷ rest) → Has v front → Before w (Writing v)
 front-before [] w rest v h has = absurd has
 front-before (x ∷ front) w rest v h (inl same) = subst (λ y. Before w (Writing y)) same (every-has (λ y. Before y (Writing x)) (front ++ w ∷ rest) w h.0 (has-here front w rest))
 front-before (x ∷ front) w rest v h (inr there) = front-before front w rest v h.1 there
 
+-- Two steps that do the same at each element of a list leave the same rows.
 fold-same : {X : Type 0} (f g : State → X → State) (xs : List X) (rows : State) → ((s : State) (x : X) → Has x xs → f s x ≡ g s x) → fold f rows xs ≡ fold g rows xs
 fold-same f g [] rows same = refl
 fold-same f g (x ∷ xs) rows same = ap (λ (s : State). fold f s xs) (same rows x (inl refl)) ∙ fold-same f g xs (g rows x) (λ s y has. same s y (inr has))
 
+-- Rows that rise still rise when two writes are laid over them.
 rising-laid : (rows : State) (p q : Place) (r s : List Cell) (answer : Ordering) → Rising rows
     → Rising (laid_over rows (match_ordering answer ((q, Some s) ∷ (p, Some r) ∷ []) ((p, Some s) ∷ []) ((p, Some r) ∷ (q, Some s) ∷ [])))
 rising-laid rows p q r s Less h = rising-insert p r (insert_entry place_cmp rows q s) (rising-insert q s rows h)
@@ -125,12 +137,15 @@ rising-laid rows p q r s Equal h = rising-insert p s rows h
 rising-laid rows p q r s Greater h = rising-insert q s (insert_entry place_cmp rows p r) (rising-insert p r rows h)
 
 module _ (seed size : ℕ) (small : 4 * size ≤ 32768) (replies : List Entry) (told : Told seed size replies) where
+  -- The transactions of the write rounds.
   abbrev all : List Wrote
   all = transactions seed size replies told
 
+  -- The state behind so many commits.
   abbrev seen : ℕ → State
   seen n = state seed size replies told n
 
+  -- A transaction writes a place just where it touches it.
   has-write : (w : Wrote) → Has w all → (place : Place) → has_write place (replies_to w) ≡ touches_it place w
   has-write w among place = rw (insert-accepted seed size small replies told w among, update-accepted seed size small replies told w among) refl
 
@@ -143,6 +158,7 @@ module _ (seed size : ℕ) (small : 4 * size ≤ 32768) (replies : List Entry) (
 
   -- ---- the rows that the writes leave
 
+  -- The workload's writes leave what its transactions leave, one after another.
   left-ones : left_by (generated seed size) ≡ fold behind_one [] all
   left-ones =
       left-turns seed size
@@ -155,15 +171,18 @@ module _ (seed size : ℕ) (small : 4 * size ≤ 32768) (replies : List Entry) (
 
   -- ---- at each place
 
+  -- Where no commit from one number to another touches a place, it stays as it was.
   state-passes : (place : Place) (m n : ℕ) → m ≤ n → ((v : Wrote) (k : ℕ) → Has v all → v.number ≡ Some k → m < k → k ≤ n → touches_it place v ≡ true → ⊥) → at_place (seen n) place ≡ at_place (seen m) place
   state-passes place m n low none =
       let e : m + (n - m) ≡ n = omega (arith, low) in
       ap (λ x. at_place (seen x) place) (sym e)
       ∙ still seed size replies told place m (n - m) (λ v k has is above under h. none v k has is above (omega (arith, under, e)) (sym (has-write v has place) ∙ h))
 
+  -- No test is both false and true.
   false-true : (b : Bool) → b ≡ false → b ≡ true → ⊥
   false-true b h k = let never : true ≡ false = sym k ∙ h in let impossible : ⊥ = cc in impossible
 
+  -- Behind a transaction's commit a place has what the transaction leaves of the state before.
   state-behind : (w : Wrote) → Has w all → (k : ℕ) → w.number ≡ Some k → 1 ≤ k → (place : Place) → at_place (seen k) place ≡ formula w place (at_place (seen (k - 1)) place)
   state-behind w among zero is low place = absurd (omega (arith, low))
   state-behind w among (suc k) is low place =
@@ -173,6 +192,7 @@ module _ (seed size : ℕ) (small : 4 * size ≤ 32768) (replies : List Entry) (
       ∙ ap (λ (b : Bool). behind_two true (place_of 0 w.row) w.row b (place_of 0 w.change) w.change place (at_place (seen k) place)) (ap is_accepted (update-accepted seed size small replies told w among))
       ∙ ap (λ n. formula w place (at_place (seen n) place)) (sym e)
 
+  -- At each place the last round sees what the transactions leave in their order.
   same-at : (place : Place) → at_place (seen told.last.snapshot) place ≡ at_place (fold behind_one [] all) place
   same-at place = by (last-such (touches_it place) all)
     where
@@ -213,11 +233,13 @@ module _ (seed size : ℕ) (small : 4 * size ≤ 32768) (replies : List Entry) (
 
   -- ---- so the two are the same rows
 
+  -- Rows that rise still rise when a transaction's writes are laid over them.
   rising-set : (rows : State) (w : Wrote) → Has w all → Rising rows → Rising (laid_over rows (writes_in (replies_to w)))
   rising-set rows w among h =
       rw (insert-accepted seed size small replies told w among, update-accepted seed size small replies told w among)
       (rising-laid rows (place_of 0 w.row) (place_of 0 w.change) w.row w.change (place_cmp (place_of 0 w.change) (place_of 0 w.row)) h)
 
+  -- The rows of each state stand in the order of their places.
   rising-state : (n : ℕ) → Rising (seen n)
   rising-state zero = tt
   rising-state (suc n) = by (set-cases seed size replies told (suc n)) (rising-state n)

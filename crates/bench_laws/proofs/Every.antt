@@ -101,6 +101,7 @@ any-has p [] x h k = absurd h
 any-has p (y ∷ xs) x (inl same) k = or_left (p y) (list_any p xs) (subst (λ z. p z ≡ true) (sym same) k)
 any-has p (y ∷ xs) x (inr rest) k = or_right (p y) (list_any p xs) (any-has p xs x rest k)
 
+-- One element more: where some element passes, the list has one that does.
 any-step : {X : Type 0} (p : X → Bool) (y : X) (xs : List X) (b : Bool) → p y ≡ b → (b || list_any p xs) ≡ true
     → (list_any p xs ≡ true → (x : X) × Has x xs × (p x ≡ true)) → (x : X) × Has x (y ∷ xs) × (p x ≡ true)
 any-step p y xs true is h rest = (y, inl refl, is)
@@ -111,6 +112,7 @@ pub any-found : {X : Type 0} (p : X → Bool) (xs : List X) → list_any p xs �
 any-found p [] h = absurd (let never : ⊥ = cc in never)
 any-found p (y ∷ xs) h = any-step p y xs (p y) refl h (any-found p xs)
 
+-- One element more: one that passes is among those that the filter keeps.
 kept-step : {X : Type 0} (p : X → Bool) (x y : X) (kept : List X) (b : Bool) → p y ≡ b → (y ≡ x) ⊎ Has x kept → p x ≡ true → Has x (cond b (y ∷ kept) kept)
 kept-step p x y kept true is h k = h
 kept-step p x y kept false is (inl same) k = absurd (let e : p y ≡ true = subst (λ z. p z ≡ true) (sym same) k in let never : ⊥ = cc in never)
@@ -122,6 +124,7 @@ has-filter p [] x h k = absurd h
 has-filter p (y ∷ xs) x (inl same) k = kept-step p x y (filter p xs) (p y) refl (inl same) k
 has-filter p (y ∷ xs) x (inr rest) k = kept-step p x y (filter p xs) (p y) refl (inr (has-filter p xs x rest k)) k
 
+-- What holds of an element and of those kept holds with the element kept or not.
 every-kept : {X : Type 0} (P : X → Type 0) (x : X) (kept : List X) (b : Bool) → P x → Every P kept → Every P (cond b (x ∷ kept) kept)
 every-kept P x kept true h k = (h, k)
 every-kept P x kept false h k = k
@@ -142,6 +145,7 @@ pub found-image : {X Y : Type 0} (p : Y → Bool) (f : X → Y) (P : X → Type 
 found-image p f P [] y all h = absurd (let never : ⊥ = cc in never)
 found-image p f P (x ∷ xs) y all h = found-step p f P x xs y (p (f x)) h all.0 (found-image p f P xs y all.1)
 
+-- One element more: what is found is in the list, and passes.
 find-step : {X : Type 0} (p : X → Bool) (x : X) (xs : List X) (y : X) (b : Bool) → p x ≡ b → cond b (Some x) (find p xs) ≡ Some y
     → (find p xs ≡ Some y → Has y xs × (p y ≡ true)) → ((x ≡ y) ⊎ Has y xs) × (p y ≡ true)
 find-step p x xs y true is h rest = let e : x ≡ y = cc in (inl e, subst (λ z. p z ≡ true) e is)

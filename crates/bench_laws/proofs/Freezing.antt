@@ -1,4 +1,5 @@
--- No update is told that its block is freezing: a block that was sealed was gathered too, and each of its stamps is spent.
+-- No update is told that its block is freezing: a block that was sealed was gathered too, and each
+-- of its stamps is spent.
 use Rattle.std.proofs.Common.{◌≡◌, ◌⊎◌, inl, inr, ℕ, ◌+◌, ◌*◌, ◌<◌, ◌≤◌, Bool, true, false, ◌&&◌, eqb, nat_lt, nat_le, List, [], ◌∷◌, ◌++◌, length, Option, None, Some, refl, sym, ap, ◌∙◌, subst, arith, append_assoc}
 use Rattle.std.specs.Prelude.{if◌then◌else◌}
 use Rattle.std.specs.List.{count_by, cons_option}
@@ -21,20 +22,25 @@ use Rattle.bench_laws.proofs.Places.{entries-append, About, Before, in-turn-rest
 use Rattle.bench_laws.proofs.Told.{Told, sound-at, tables}
 use Rattle.bench_laws.proofs.Stamps.{Mark, stamp-mark, rows-mark, run, before-first, not-after-first, stamps-low, count-has}
 
+-- How many marks an option shows: one or none.
 abbrev count : Option ℕ → ℕ
 count o = length (cons_option o [])
 
+-- An option shows at most one mark.
 count-low : (o : Option ℕ) → count o ≤ 1
 count-low None = omega arith
 count-low (Some k) = omega arith
 
+-- Where the second of two tests fails, no number is shown.
 unchosen : (a b : Bool) (k : ℕ) → b ≡ false → (if a && b then Some k else None) ≡ None
 unchosen true b k h = rw h refl
 unchosen false b k h = refl
 
+-- Where both tests pass, the number is shown.
 taken : (a b : Bool) (k : ℕ) → a ≡ true → b ≡ true → (if a && b then Some k else None) ≡ Some k
 taken a b k h j = rw (h, j) refl
 
+-- Numbers that are equal are tested to be equal.
 equal : (a b : ℕ) → a ≡ b → eqb a b ≡ true
 equal a b h = Rattle.std.proofs.lemmas.Bool.eq-eqb a b h
 
@@ -44,23 +50,27 @@ seal-other block other apart (said.Sealed of at stamp) h = unchosen (eqb of 0) (
 seal-other block other apart (said.NotSealed cause) h = refl
 seal-other block other apart _ h = absurd h
 
+-- Gathering one block shows no rows of another.
 gather-other : (block other : ℕ) → eqb block other ≡ false → (told : Said) → IsGatherReply 0 block told → rows_in 0 other told ≡ None
 gather-other block other apart (said.Frozen of at rows) h = unchosen (eqb of 0) (eqb at other) rows (ap (λ n. eqb n other) h.1 ∙ apart)
 gather-other block other apart said.NotFrozen h = refl
 gather-other block other apart said.Memory h = refl
 gather-other block other apart _ h = absurd h
 
+-- Gathering a block shows no stamp of any block.
 gather-unstamped : (block other : ℕ) (told : Said) → IsGatherReply 0 block told → stamp_in 0 other told ≡ None
 gather-unstamped block other (said.Frozen of at rows) h = refl
 gather-unstamped block other said.NotFrozen h = refl
 gather-unstamped block other said.Memory h = refl
 gather-unstamped block other _ h = absurd h
 
+-- Sealing a block shows no gathered rows of any block.
 seal-rowless : (block other : ℕ) (told : Said) → IsSealReply 0 block told → rows_in 0 other told ≡ None
 seal-rowless block other (said.Sealed of at stamp) h = refl
 seal-rowless block other (said.NotSealed cause) h = refl
 seal-rowless block other _ h = absurd h
 
+-- Pruning, observing and compacting show no stamp of a block.
 count-unstamped : (other : ℕ) (told : Said) → IsCountReply told → stamp_in 0 other told ≡ None
 count-unstamped other (said.Cooling n) h = refl
 count-unstamped other (said.Pruned n) h = refl
@@ -68,6 +78,7 @@ count-unstamped other (said.Moved n) h = refl
 count-unstamped other said.Memory h = refl
 count-unstamped other _ h = absurd h
 
+-- Pruning, observing and compacting show no rows of a gathered block.
 count-rowless : (other : ℕ) (told : Said) → IsCountReply told → rows_in 0 other told ≡ None
 count-rowless other (said.Cooling n) h = refl
 count-rowless other (said.Pruned n) h = refl
@@ -80,6 +91,7 @@ more : (shown : Said → Option ℕ) (front : List Entry) (e : Entry) → length
 more shown front e =
     ap length (filter_map-append (λ (x : Entry). shown x.reply.said) front (e ∷ [])) ∙ length-append (shown_in shown front) (cons_option (shown e.reply.said) [])
 
+-- One reply more that shows no mark leaves the count of marks.
 more-none : (shown : Said → Option ℕ) (front : List Entry) (e : Entry) → shown e.reply.said ≡ None → length (shown_in shown (front ++ e ∷ [])) ≡ length (shown_in shown front)
 more-none shown front e none = let m = more shown front e in let z : count (shown e.reply.said) ≡ 0 = ap count none in omega (arith, m, z)
 
@@ -88,11 +100,13 @@ abbrev Balanced : List Entry → Type 0
 Balanced front = (block : ℕ) → seals_in 0 block front ≡ freezes_in 0 block front
 
 module _ (seed size : ℕ) (replies : List Entry) (told : Told seed size replies) where
+  -- The run that the replies tell.
   abbrev the_run : Run
   the_run = run seed size replies told
 
   -- ---- a gather behind its seal
 
+  -- A gather shows rows where more seals than gathers stand, and none where no more do.
   gather-facts : (f : Froze) (gathered : Said) → f.gather_said ≡ gathered → Has (gather_entry f) replies → IsGatherReply 0 f.block gathered → is_refused gathered ≡ false
       → ((count (rows_in 0 f.block gathered) ≡ 1) × (1 + freezes_in 0 f.block (before replies (gather_entry f)) ≤ seals_in 0 f.block (not_after replies (gather_entry f))))
       ⊎ ((count (rows_in 0 f.block gathered) ≡ 0) × (seals_in 0 f.block (before replies (gather_entry f)) ≤ freezes_in 0 f.block (not_after replies (gather_entry f))))
@@ -140,6 +154,7 @@ module _ (seed size : ℕ) (replies : List Entry) (told : Told seed size replies
         | inr idle ↦ let x = idle.0 in let y = idle.1 in omega (arith, x, y, stamps_before, rows_until, one_a, one_b, none_a, low, level)
       ]
 
+  -- A seal and its gather show as many marks of each block, this one or another.
   paired-by : (front rest : List Entry) (f : Froze) → replies ≡ front ++ seal_entry f ∷ gather_entry f ∷ rest → IsSealReply 0 f.block f.seal_said → IsGatherReply 0 f.block f.gather_said → Balanced front
       → (block : ℕ) (same : Bool) → eqb f.block block ≡ same → count (stamp_in 0 block f.seal_said) ≡ count (rows_in 0 block f.gather_said)
   paired-by front rest f whole seals gathers balanced block true is =
@@ -149,6 +164,7 @@ module _ (seed size : ℕ) (replies : List Entry) (told : Told seed size replies
 
   -- ---- part by part
 
+  -- Where gathers are as many as seals, they are with one part more.
   balanced-more : (front : List Entry) (part : Part) (rest : List Entry) → replies ≡ front ++ (entries_of part ++ rest) → Good seed part → Balanced front → Balanced (front ++ entries_of part)
   balanced-more front (Writing w) rest whole good level block =
       let s = none-shown (stamp_in 0 block) (stamp-mark block) in
@@ -173,6 +189,7 @@ module _ (seed size : ℕ) (replies : List Entry) (told : Told seed size replies
       subst (λ (es : List Entry). seals_in 0 block es ≡ freezes_in 0 block es) (append_assoc front (a ∷ []) (b ∷ []))
       (omega (arith, paired, one_a, none_a, one_b, none_b, here))
 
+  -- Part by part the gathers of each block stay as many as its seals.
   balanced-to : (front : List Entry) (parts rest : List Part) → replies ≡ front ++ (entries_in (parts ++ rest) ++ last_entries told.last) → Every (Good seed) parts → Balanced front → Balanced (front ++ entries_in parts)
   balanced-to front [] rest whole good level = subst Balanced (sym (append-none front)) level
   balanced-to front (part ∷ parts) rest whole good level =
@@ -184,6 +201,7 @@ module _ (seed size : ℕ) (replies : List Entry) (told : Told seed size replies
 
   -- ---- about an update
 
+  -- What a part shows of a mark passes each test that its upkeep passes.
   shown-part : (shown : Said → Option ℕ) → Mark shown → (e : Entry) (P : Part → Type 0) (p : Entry → Bool)
       → ((k : KeptLine) → P (Keeping k) → p (kept_entry k) ≡ true) → ((f : Froze) → P (Freezing f) → (p (seal_entry f) ≡ true) × (p (gather_entry f) ≡ true))
       → (part : Part) → P part → Good seed part → Every (Kept shown p true) (entries_of part)

@@ -1,4 +1,5 @@
--- No insert is told that the table is full: without that one there are fewer of them than it has slots.
+-- No insert is told that the table is full: without that one there are fewer of them than it has
+-- slots.
 use Rattle.std.proofs.Common.{◌≡◌, inl, inr, ℕ, ◌+◌, ◌*◌, ◌≤◌, zero, suc, Bool, true, false, cond, nat_le, List, [], ◌∷◌, length, refl, sym, ap, ◌∙◌, subst, arith}
 use Rattle.std.specs.List.{count_by, filter}
 use Rattle.std.proofs.lemmas.Bool.{leb-true}
@@ -16,13 +17,16 @@ use Rattle.bench_laws.proofs.Parts.{Part, Writing, Keeping, Freezing, Wrote, Goo
 use Rattle.bench_laws.proofs.Places.{has-reply}
 use Rattle.bench_laws.proofs.Told.{Told, sound-at, tables}
 
+-- The reply is that of an accepted insert into the table.
 abbrev inserts : Entry → Bool
 inserts e = is_accepted_insert 0 e.command e.reply.said
 
+-- One test counts one at most.
 at-most-one : (b : Bool) → cond b 1 0 ≤ 1
 at-most-one true = omega arith
 at-most-one false = omega arith
 
+-- Pruning, observing and compacting are no accepted inserts.
 kept-inserts-none : (asked : Command) (told : Said) → IsKept asked → is_accepted_insert 0 asked told ≡ false
 kept-inserts-none command.Observe told h = refl
 kept-inserts-none command.Prune told h = refl
@@ -81,6 +85,7 @@ inserts-less seed (Freezing f ∷ parts) good w among none =
     let b = count-cons inserts (gather_entry f) (entries_in parts) in
     omega (arith, rest, a, b)
 
+-- Among those that a filter keeps no more pass a test than among all.
 filtered : {X : Type 0} (p q : X → Bool) (xs : List X) → count_by p (filter q xs) ≤ count_by p xs
 filtered p q [] = omega arith
 filtered p q (x ∷ xs) = by (q x) (filtered p q xs)
@@ -89,6 +94,7 @@ filtered p q (x ∷ xs) = by (q x) (filtered p q xs)
     by true h = let a = count-cons p x (filter q xs) in let b = count-cons p x xs in omega (arith, a, b, h)
     by false h = let b = count-cons p x xs in omega (arith, b, h)
 
+-- There are four turns for each round of writes.
 length-turns : (turn count : ℕ) → length (turns turn count) ≡ 4 * count
 length-turns turn zero = omega arith
 length-turns turn (suc count) = let h = length-turns (turn + 1) count in omega (arith, h)
@@ -98,6 +104,7 @@ module _ (seed size : ℕ) (replies : List Entry) (told : Told seed size replies
   pub many : length (wrotes told.parts) ≡ 4 * size
   many = sym (length-map (wrotes told.parts) turn_of) ∙ ap length told.asked_are ∙ length-turns 1 size
 
+  -- With one insert not accepted there are fewer accepted ones than four times the size.
   all-inserts : (w : Wrote) → Has w (wrotes told.parts) → inserts (insert w) ≡ false → inserts_in 0 replies + 1 ≤ 4 * size
   all-inserts w among none =
       let low = inserts-less seed told.parts told.good w among none in

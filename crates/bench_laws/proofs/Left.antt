@@ -1,4 +1,5 @@
--- The rows that the writes of a generated workload leave: one of each key, the keys going up by one.
+-- The rows that the writes of a generated workload leave: one of each key, the keys going up by
+-- one.
 use Rattle.std.proofs.Common.{◌≡◌, ◌⊎◌, inl, inr, ℕ, ◌+◌, ◌-◌, ◌*◌, ◌/◌, ◌%◌, ◌<◌, ◌≤◌, zero, suc, Bool, true, false, cond, eqb, List, [], ◌∷◌, ◌++◌, length, fold, Option, None, Some, refl, sym, ap, ◌∙◌, subst, arith}
 use Rattle.std.specs.Prelude.{flat_map, if◌then◌else◌, is_some, ◌==◌}
 use Rattle.std.specs.BTreeMap.{insert_entry}
@@ -20,25 +21,31 @@ behind_turn seed rows turn = insert_entry place_cmp
     (place_of 0 (next_row seed turn.0 turn.1)) (next_row seed turn.0 turn.1)
 
 module _ (seed : ℕ) where
+  -- A write round leaves what the turns of its four sessions leave.
   write-left : (turn : ℕ) (rows : State) → round_carried_out rows (write_round seed turn) ≡ fold (behind_turn seed) rows ((turn, 1) ∷ (turn, 2) ∷ (turn, 3) ∷ (turn, 4) ∷ [])
   unfolding first_row next_row
   write-left turn rows = refl
 
+  -- Sealing and gathering blocks leaves the rows as they are.
   freezes-left : (blocks : List ℕ) (rows : State) → fold carried_out rows (flat_map freezing blocks) ≡ rows
   freezes-left [] rows = refl
   freezes-left (block ∷ blocks) rows = freezes-left blocks rows
 
+  -- A round of upkeep leaves the rows as they are.
   upkeep-left : (turn : ℕ) (rows : State) → round_carried_out rows (upkeep_round turn) ≡ rows
   upkeep-left turn rows = freezes-left (range_with_len 0 (writers * turn / bench_table.slots + 1)) rows
 
+  -- Rounds with the last round behind them.
   abbrev ends : List (List Line) → List (List Line)
   ends rounds = rounds ++ last_round ∷ []
 
+  -- A round of upkeep in front of others, or none, changes nothing of what they leave.
   upkeep-passed : (upkeep : Bool) (turn : ℕ) (rounds : List (List Line)) (rows : State)
       → fold round_carried_out rows (ends ((if upkeep then upkeep_round turn ∷ [] else []) ++ rounds)) ≡ fold round_carried_out rows (ends rounds)
   upkeep-passed true turn rounds rows = ap (λ (r : State). fold round_carried_out r (ends rounds)) (upkeep-left turn rows)
   upkeep-passed false turn rounds rows = refl
 
+  -- From a turn on the rounds leave what the sessions' turns leave.
   left-from : (count turn : ℕ) (rows : State) → fold round_carried_out rows (ends (flat_map (rounds_at seed) (range_with_len turn count))) ≡ fold (behind_turn seed) rows (turns turn count)
   left-from zero turn rows = refl
   left-from (suc count) turn rows =
@@ -62,6 +69,7 @@ pub record Filled (most : ℕ) (rows : State) : Type 0 where
   pub absent : (key : ℕ) → most < key → at_place rows (at_key key) ≡ None
   pub many : length rows ≡ most
 
+-- Where there are no rows, there is one of each key up to zero.
 filled-none : Filled 0 []
 filled-none = record { rising = tt; one = tt; present = λ key low high. absurd (omega (arith, low, high)); absent = λ key far. refl; many = refl }
 
@@ -69,10 +77,12 @@ filled-none = record { rising = tt; one = tt; present = λ key low high. absurd 
 at-key : (rows : State) (own : ℕ) (row : List Cell) (key : ℕ) → at_place (insert_entry place_cmp rows (at_key own) row) (at_key key) ≡ cond (eqb key own) (Some row) (at_place rows (at_key key))
 at-key rows own row key = put rows (at_key own) row (at_key key) ∙ ap (λ (b : Bool). cond b (Some row) (at_place rows (at_key key))) (key-place key own)
 
+-- A row that is put over what stands somewhere, or is not, leaves something there.
 either : (b : Bool) (row : List Cell) (o : Option (List Cell)) → is_some o ≡ true → is_some (cond b (Some row) o) ≡ true
 either true row o h = refl
 either false row o h = h
 
+-- With a row at the next key there is one of each key up to it.
 filled-first : (most : ℕ) (rows : State) (row : List Cell) → Filled most rows → Filled (most + 1) (insert_entry place_cmp rows (at_key (most + 1)) row)
 filled-first most rows row h = record {
   rising = rising-insert (at_key (most + 1)) row rows h.rising;
@@ -87,6 +97,7 @@ filled-first most rows row h = record {
     stands key low high (inl e) = ap (λ (b : Bool). is_some (cond b (Some row) (at_place rows (at_key key)))) (eq-eqb key (most + 1) e)
     stands key low high (inr other) = either (eqb key (most + 1)) row (at_place rows (at_key key)) (h.present key low (omega (arith, high, other)))
 
+-- A row put at a key that has one leaves a row of each key as before.
 filled-again : (most key : ℕ) (rows : State) (row : List Cell) → 1 ≤ key → key ≤ most → Filled most rows → Filled most (insert_entry place_cmp rows (at_key key) row)
 filled-again most key rows row low high h = record {
   rising = rising-insert (at_key key) row rows h.rising;
@@ -98,6 +109,7 @@ filled-again most key rows row low high h = record {
 }
 
 module _ (seed : ℕ) where
+  -- A session's turn leaves a row of one key more.
   filled-turn : (turn session most : ℕ) (rows : State) → 1 ≤ turn → 1 ≤ session → most + 1 ≡ 4 * (turn - 1) + session → Filled most rows → Filled (most + 1) (behind_turn seed rows (turn, session))
   filled-turn turn session most rows low start is h =
       let first : place_of 0 (first_row seed turn session) ≡ at_key (most + 1) = first-place-of seed turn session ∙ ap at_key (sym is) in
@@ -111,6 +123,7 @@ module _ (seed : ℕ) where
       below : (x n : ℕ) → 1 ≤ n → x % n < n
       below x n h = omega (arith, h)
 
+  -- Each round of turns leaves rows of four keys more.
   filled-turns : (count turn most : ℕ) (rows : State) → 1 ≤ turn → most ≡ 4 * (turn - 1) → Filled most rows → Filled (most + 4 * count) (fold (behind_turn seed) rows (turns turn count))
   filled-turns zero turn most rows low is h = let e : most + 4 * zero ≡ most = omega arith in subst (λ n. Filled n rows) (sym e) h
   filled-turns (suc count) turn most rows low is h =

@@ -1,4 +1,5 @@
--- Rows in the order of their places: what insertions leave, and that equal look-ups make equal rows.
+-- Rows in the order of their places: what insertions leave, and that equal look-ups make equal
+-- rows.
 use Rattle.std.proofs.Common.{◌≡◌, ℕ, ◌+◌, Bool, true, false, cond, eqb, List, [], ◌∷◌, length, Option, None, Some, Ordering, Less, Equal, Greater, is_eq, refl, sym, ap, ◌∙◌, arith}
 use Rattle.std.specs.Prelude.{is_some, ◌==◌, if◌then◌else◌}
 use Rattle.std.specs.BTreeMap.{insert_entry}
@@ -22,13 +23,16 @@ abbrev pub Rising : State → Type 0
 Rising [] = Unit {0}
 Rising (entry ∷ rows) = Below entry.0 rows × Rising rows
 
+-- Where one place is greater than another, the other is less.
 turned : (a b : Place) → place_cmp a b ≡ Greater → place_cmp b a ≡ Less
 turned a b h = place_cmp-total.antisymm b a ∙ ap ordering_reverse h
 
+-- A place less than one that is below all rows is below them too.
 below-less : (low high : Place) (rows : State) → place_cmp low high ≡ Less → Below high rows → Below low rows
 below-less low high [] less h = tt
 below-less low high (entry ∷ rows) less h = (place_cmp-total.trans low high entry.0 less h.0, below-less low high rows less h.1)
 
+-- A place below some rows and below an inserted one is below all of them.
 below-insert : (low place : Place) (row : List Cell) (rows : State) → place_cmp low place ≡ Less → Below low rows → Below low (insert_entry place_cmp rows place row)
 below-insert low place row [] less h = (less, tt)
 below-insert low place row (entry ∷ rows) less h = by (below-insert low place row rows less h.1) (place_cmp place entry.0)
@@ -55,15 +59,19 @@ at-below place (entry ∷ rows) h = ap (λ (o : Ordering). cond (is_eq o) (Some 
 
 -- ---- equal look-ups
 
+-- At the place of the first row stands that row.
 at-first : (entry : Place × List Cell) (rows : State) → at_place (entry ∷ rows) entry.0 ≡ Some entry.1
 at-first entry rows = ap (λ (b : Bool). cond b (Some entry.1) (at_place rows entry.0)) (place-itself entry.0)
 
+-- At a place other than the first row's stands what the rest has there.
 at-other : (place : Place) (entry : Place × List Cell) (rows : State) → is_place place entry.0 ≡ false → at_place (entry ∷ rows) place ≡ at_place rows place
 at-other place entry rows h = ap (λ (b : Bool). cond b (Some entry.1) (at_place rows place)) h
 
+-- An option is not both something and nothing.
 none-some : {X : Type 0} (x : X) (o : Option X) → o ≡ Some x → o ≡ None → ⊥
 none-some x o h k = let e : Some x ≡ None = sym h ∙ k in let never : ⊥ = cc in never
 
+-- A place that is less than another is not the same place.
 less-apart : (a b : Place) → place_cmp a b ≡ Less → is_place a b ≡ false
 less-apart a b h = ap is_eq h
 

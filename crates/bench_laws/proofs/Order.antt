@@ -1,4 +1,5 @@
--- Which replies stand before one in the order of lines, and what those before it, or not after it, show.
+-- Which replies stand before one in the order of lines, and what those before it, or not after it,
+-- show.
 use Rattle.std.proofs.Common.{◌≡◌, ◌⊎◌, inl, inr, ℕ, ◌<◌, Bool, true, false, cond, ◌&&◌, ◌||◌, not, eqb, nat_lt, List, [], ◌∷◌, ◌++◌, Option, None, Some, refl, sym, ap, ◌∙◌, subst, arith, append_assoc}
 use Rattle.std.specs.List.{filter, list_all, cons_option}
 use Rattle.std.proofs.lemmas.Bool.{eq-eqb, lt-ltb, le-ltb, ne_eqb}
@@ -12,14 +13,17 @@ use Rattle.bench_laws.proofs.Every.{Every, Has, all-has, append-none}
 
 -- ---- tests of two replies
 
+-- Whether one reply is before another, by the tests of rounds, sessions and indices.
 before-test : (a b : Entry) (lower level same less : Bool) → nat_lt a.reply.round b.reply.round ≡ lower → eqb a.reply.round b.reply.round ≡ level
     → is_same a.reply.who b.reply.who ≡ same → nat_lt a.reply.index b.reply.index ≡ less → is_before a b ≡ (lower || level && same && less)
 before-test a b lower level same less e f g h = rw (e, f, g, h) refl
 
+-- A conjunction whose middle is false is false.
 middle : (a c : Bool) → (a && false && c) ≡ false
 middle true c = refl
 middle false c = refl
 
+-- A conjunction whose last part is false is false.
 later : (a b : Bool) → (a && b && false) ≡ false
 later true true = refl
 later true false = refl
@@ -35,6 +39,7 @@ not-before-round a b h =
     before-test a b false false (is_same a.reply.who b.reply.who) (nat_lt a.reply.index b.reply.index)
     (le-ltb a.reply.round b.reply.round (omega (arith, h))) (ne_eqb a.reply.round b.reply.round (λ e. omega (arith, h, e))) refl refl
 
+-- A session that is earlier than another is not the same.
 different : (a b : Who) → is_earlier a b ≡ true → (s : Bool) → is_same b a ≡ s → is_same b a ≡ false
 different a b early true is =
     let same : b ≡ a = same-is b a is in
@@ -80,6 +85,7 @@ before-itself a =
 
 -- ---- of the replies in front of one and behind it
 
+-- Where all elements pass a test, what follows from it holds of each.
 every-of : {X : Type 0} (p : X → Bool) (P : X → Type 0) → ((x : X) → p x ≡ true → P x) → (xs : List X) → list_all p xs ≡ true → Every P xs
 every-of p P so [] h = tt
 every-of p P so (x ∷ xs) h = (so x (all-has p (x ∷ xs) x h (inl refl)), every-of p P so xs (rest h))
@@ -107,6 +113,7 @@ abbrev pub Kept : (Said → Option ℕ) → (Entry → Bool) → Bool → Entry 
 Kept shown p b x = (shown x.reply.said ≡ None) ⊎ (p x ≡ b)
 
 module _ (shown : Said → Option ℕ) (p : Entry → Bool) where
+  -- One reply more: a filter that passes all that show something leaves what is shown.
   kept-step : (x : Entry) (xs : List Entry) (b : Bool) → (shown x.reply.said ≡ None) ⊎ (b ≡ true) → shown_in shown (filter p xs) ≡ shown_in shown xs
       → shown_in shown (cond b (x ∷ filter p xs) (filter p xs)) ≡ shown_in shown (x ∷ xs)
   kept-step x xs true h k = ap (cons_option (shown x.reply.said)) k
@@ -118,6 +125,7 @@ module _ (shown : Said → Option ℕ) (p : Entry → Bool) where
   shown-kept [] h = refl
   shown-kept (x ∷ xs) h = kept-step x xs (p x) h.0 (shown-kept xs h.1)
 
+  -- One reply more: a filter that passes none that show something leaves nothing shown.
   dropped-step : (x : Entry) (xs : List Entry) (b : Bool) → (shown x.reply.said ≡ None) ⊎ (b ≡ false) → shown_in shown (filter p xs) ≡ []
       → shown_in shown (cond b (x ∷ filter p xs) (filter p xs)) ≡ []
   dropped-step x xs false h k = k
@@ -135,30 +143,36 @@ module _ (shown : Said → Option ℕ) (p : Entry → Bool) where
       ap (shown_in shown) (filter-append p front rest) ∙ filter_map-append (λ (x : Entry). shown x.reply.said) (filter p front) (filter p rest)
       ∙ ap (λ (xs : List ℕ). shown_in shown (filter p front) ++ xs) (shown-dropped rest k) ∙ append-none (shown_in shown (filter p front)) ∙ shown-kept front h
 
+-- Where one property follows from another, it holds of each reply that has the other.
 every-so : (P Q : Entry → Type 0) → ((x : Entry) → P x → Q x) → (xs : List Entry) → Every P xs → Every Q xs
 every-so P Q so [] h = tt
 every-so P Q so (x ∷ xs) h = (so x h.0, every-so P Q so xs h.1)
 
--- What stands before the reply shows what those in front show, where each of these that shows something is before it.
+-- What stands before the reply shows what those in front show, where each of these that shows
+-- something is before it.
 pub shown-before : (shown : Said → Option ℕ) (front : List Entry) (e : Entry) (rest : List Entry) → Rises (front ++ e ∷ rest)
     → Every (Kept shown (λ x. is_before x e) true) front → shown_in shown (before (front ++ e ∷ rest) e) ≡ shown_in shown front
 shown-before shown front e rest rises h =
     shown-both shown (λ x. is_before x e) front (e ∷ rest) h
     (inr (before-itself e), every-so (λ x. is_ahead e x ≡ true) (Kept shown (λ x. is_before x e) false) (λ x ahead. inr (ahead-not e x ahead)) rest (rest-are front e rest rises))
 
+-- The negation of what is false is true.
 not-false : (b : Bool) → b ≡ false → not b ≡ true
 not-false true h = absurd (let never : ⊥ = cc in never)
 not-false false h = refl
 
+-- The negation of what is true is false.
 not-true : (b : Bool) → b ≡ true → not b ≡ false
 not-true true h = refl
 not-true false h = absurd (let never : ⊥ = cc in never)
 
+-- What holds of each reply and of one more holds of each with it at the end.
 every-push : (P : Entry → Type 0) (xs : List Entry) (x : Entry) → Every P xs → P x → Every P (xs ++ x ∷ [])
 every-push P [] x h k = (k, tt)
 every-push P (y ∷ xs) x h k = (h.0, every-push P xs x h.1 k)
 
--- And what is not after it shows what those in front and it show, where it is before each behind it that shows something.
+-- And what is not after it shows what those in front and it show, where it is before each behind it
+-- that shows something.
 pub shown-not_after : (shown : Said → Option ℕ) (front : List Entry) (e : Entry) (rest : List Entry) → Rises (front ++ e ∷ rest)
     → Every (Kept shown (λ x. is_before e x) true) rest → shown_in shown (not_after (front ++ e ∷ rest) e) ≡ shown_in shown (front ++ e ∷ [])
 shown-not_after shown front e rest rises h =
@@ -173,10 +187,12 @@ shown-not_after shown front e rest rises h =
     turn x (inl none) = inl none
     turn x (inr is) = inr (not-true (is_before e x) is)
 
+-- A number that an option shows is in the list that it begins.
 has-step : (o : Option ℕ) (k : ℕ) (xs : List ℕ) → o ≡ Some k → Has k (cons_option o xs)
 has-step None k xs h = absurd (let never : ⊥ = cc in never)
 has-step (Some n) k xs h = inl (let e : n ≡ k = cc in e)
 
+-- What a list has it still has with an option in front.
 has-behind : (o : Option ℕ) (k : ℕ) (xs : List ℕ) → Has k xs → Has k (cons_option o xs)
 has-behind None k xs h = h
 has-behind (Some n) k xs h = inr h

@@ -1,4 +1,5 @@
--- The replies of a generated workload in parts: the transactions of write rounds, the lines of upkeep, and the last round.
+-- The replies of a generated workload in parts: the transactions of write rounds, the lines of
+-- upkeep, and the last round.
 use Rattle.std.proofs.Common.{◌≡◌, ℕ, ◌+◌, ◌*◌, ◌<◌, ◌≤◌, zero, suc, List, [], ◌∷◌, ◌++◌, map, Option, ap, ◌∙◌, arith, append_assoc}
 use Rattle.cell_model.specs.declared.cell.Cell.{Cell}
 use Rattle.workload_spec.specs.declared.command.Command.{Command}
@@ -26,8 +27,8 @@ first_row seed turn session = row_of (key_of turn session) (draw_in seed turn se
 unfoldable pub next_row : ℕ → ℕ → ℕ → List Cell
 next_row seed turn session = row_of (updated_key turn session (draw_in seed turn session 3)) (draw_in seed turn session 4) (draw_in seed turn session 5)
 
--- A transaction of a write round: the round in the output, the session and which of the write rounds it is, the rows, and
--- what it is told. A commit shows a number or none.
+-- A transaction of a write round: the round in the output, the session and which of the write
+-- rounds it is, the rows, and what it is told. A commit shows a number or none.
 pub record Wrote : Type 0 where
   pub round : ℕ
   pub session : ℕ
@@ -181,8 +182,8 @@ Good seed (Writing w) = GoodWrote seed w
 Good seed (Keeping k) = IsKept k.asked × IsCountReply k.told
 Good seed (Freezing f) = IsSealReply 0 f.block f.seal_said × IsGatherReply 0 f.block f.gather_said
 
--- upkeep of this round or a later one, or a transaction at these places or behind them: by rounds and sessions, and by turns
--- and sessions
+-- upkeep of this round or a later one, or a transaction at these places or behind them: by rounds
+-- and sessions, and by turns and sessions
 abbrev pub From : ℕ → ℕ → ℕ → Part → Type 0
 From round place turn (Writing w) = (place ≤ 4 * w.round + w.session) × (turn ≤ 4 * w.turn + w.session)
 From round place turn (Keeping k) = round ≤ k.round
@@ -210,8 +211,8 @@ turns turn (suc count) = (turn, 1) ∷ (turn, 2) ∷ (turn, 3) ∷ (turn, 4) ∷
 abbrev pub turn_of : Wrote → ℕ × ℕ
 turn_of w = (w.turn, w.session)
 
--- What is read behind some replies: parts from a round and from places on, and the last round, which is this one or a later
--- one.
+-- What is read behind some replies: parts from a round and from places on, and the last round,
+-- which is this one or a later one.
 pub record Rest (seed round place turn least : ℕ) (earlier entries : List Entry) (asked : List (ℕ × ℕ)) : Type 0 where
   pub parts : List Part
   pub last : Last
@@ -248,6 +249,7 @@ rest-weaker {seed} {a} {o} {t} {l} {earlier} {entries} {asked} b p u m h k j i r
   export_fits = r.export_fits;
 }
 
+-- Three lists of replies joined from the left are joined from the right.
 behind : (earlier own rest : List Entry) → (earlier ++ own) ++ rest ≡ earlier ++ (own ++ rest)
 behind earlier own rest = append_assoc earlier own rest
 

@@ -15,6 +15,7 @@ pub record About (w : Wrote) (parts : List Part) : Type 0 where
   pub rest : List Part
   pub whole : parts ≡ front ++ Writing w ∷ rest
 
+-- Where a transaction stands among some parts, with one part more in front.
 about-more : (w : Wrote) (part : Part) (parts : List Part) → About w parts → About w (part ∷ parts)
 about-more w part parts h = record { front = part ∷ h.front; rest = h.rest; whole = ap (λ ps. part ∷ ps) h.whole }
 
@@ -46,6 +47,7 @@ Before w (Writing v) = (4 * v.round + v.session < 4 * w.round + w.session) × (4
 Before w (Keeping k) = k.round < w.round
 Before w (Freezing f) = f.round < w.round
 
+-- Where parts are in turn, one of them with those behind it is in turn.
 turn-rest : (front : List Part) (part : Part) (rest : List Part) → InTurn (front ++ part ∷ rest) → InTurn (part ∷ rest)
 turn-rest [] part rest h = h
 turn-rest (Writing w ∷ front) part rest h = turn-rest front part rest h.1
@@ -57,6 +59,7 @@ pub in-turn-rest : (front : List Part) (w : Wrote) (rest : List Part) → InTurn
     → Every (From (w.round + 1) (4 * w.round + w.session + 1) (4 * w.turn + w.session + 1)) rest
 in-turn-rest front w rest h = (turn-rest front (Writing w) rest h).0
 
+-- What holds of each part holds of one with parts in front of it and behind.
 at-behind : (P : Part → Type 0) (front : List Part) (part : Part) (rest : List Part) → Every P (front ++ part ∷ rest) → P part
 at-behind P front part rest h = (every-right P front (part ∷ rest) h).0
 

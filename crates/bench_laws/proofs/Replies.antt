@@ -1,4 +1,5 @@
--- What a session's command of a generated workload may be told, and the reading of one reply behind the others.
+-- What a session's command of a generated workload may be told, and the reading of one reply behind
+-- the others.
 use Rattle.std.proofs.Common.{◌≡◌, ℕ, ◌+◌, Bool, true, false, cond, ◌&&◌, ◌||◌, not, List, [], ◌∷◌, ◌++◌, map, drop, Option, None, Some, Result, Ok, Err, ℤ, fold, refl, sym, ap, ◌∙◌, subst}
 use Rattle.std.specs.Prelude.{if◌then◌else◌}
 use Rattle.std.specs.List.{filter}
@@ -110,10 +111,12 @@ abbrev pub FitsBy : Bool → Command → Said → Type 0
 FitsBy true asked told = FitsWithin asked told
 FitsBy false asked told = FitsWithout asked told
 
+-- Where an export may be told of a dirty key, that is a reply to an export.
 dirty-fits : (b : Bool) (key : ℤ) → Every IsExportReply (if b then said.Dirty key ∷ [] else [])
 dirty-fits true key = (tt, tt)
 dirty-fits false key = tt
 
+-- Each reply that is read for a command in a transaction, or for upkeep, fits it.
 within-fits : (tables : List TableDecl) (words behind : List (List ℕ)) (asked : Command) → Every (FitsWithin asked) (replies_within tables words behind asked)
 within-fits tables words behind command.Begin = (tt, tt)
 within-fits tables words behind (command.Get table key) = every-any (replies_within tables words behind (command.Get table key))
@@ -130,6 +133,7 @@ within-fits tables words behind (command.Seal table block) = ((refl, refl), (tt,
 within-fits tables words behind (command.Gather table block) = ((refl, refl), (tt, (tt, tt)))
 within-fits tables words behind (command.Export table) = (tt, (tt, dirty-fits (is_integer_of kind.I64 (integer_at words 1)) (integer_at words 1)))
 
+-- Each reply that is read for a command outside of a transaction fits it.
 without-fits : (words : List (List ℕ)) (asked : Command) → Every (FitsWithout asked) (replies_without words asked)
 without-fits words command.Begin = (tt, tt)
 without-fits words (command.Get table key) = (tt, tt)
@@ -150,11 +154,13 @@ without-fits words (command.Export table) = (tt, tt)
 abbrev pub due : ℕ → ℕ → Command → Due
 due round session asked = record { round = round; who = Session session; command = asked }
 
+-- Each reply that is read for a command fits it, in a transaction or outside of one.
 by-fits : (tables : List TableDecl) (words behind : List (List ℕ)) (asked : Command) (b : Bool)
     → Every (FitsBy b asked) (if b then replies_within tables words behind asked else replies_without words asked)
 by-fits tables words behind asked true = within-fits tables words behind asked
 by-fits tables words behind asked false = without-fits words asked
 
+-- Each reply that is read for what is due to a session fits it.
 due-fits : (tables : List TableDecl) (earlier : List Entry) (round session : ℕ) (asked : Command) (words behind : List (List ℕ))
     → Every (FitsBy (is_within (Session session) earlier || is_upkeep asked) asked) (replies_due tables earlier (due round session asked) words behind)
 due-fits tables earlier round session asked words behind =
@@ -172,11 +178,13 @@ pub record Answered (tables : List TableDecl) (earlier : List Entry) (round sess
   pub fits : FitsBy (is_within (Session session) earlier || is_upkeep asked) asked told
   pub rest : Goes tables (earlier ++ entry_behind tables earlier (due round session asked) told ∷ []) dues entries
 
+-- Where a reading goes on with an entry and succeeds, there was an entry.
 chosen : (at : Option Entry) (next : Entry → Result (List Entry) ℕ) (fail : ℕ) (entries : List Entry)
     → elim at as (λ o. Result (List Entry) ℕ) [ Some entry ↦ next entry | None ↦ Err fail ] ≡ Ok entries → (entry : Entry) × (at ≡ Some entry) × (next entry ≡ Ok entries)
 chosen (Some entry) next fail entries h = (entry, refl, h)
 chosen None next fail entries h = absurd (let never : ⊥ = cc in never)
 
+-- Lines that are read as a due command and more begin with an answer to it.
 step-at : (tables : List TableDecl) (earlier : List Entry) (round session : ℕ) (asked : Command) (dues : List Due) (entries : List Entry) (lines : List (List ℕ))
     → reading tables (due round session asked ∷ dues) earlier lines ≡ Ok entries → Answered tables earlier round session asked dues entries
 step-at tables earlier round session asked dues entries [] is = absurd (let never : ⊥ = cc in never)

@@ -18,16 +18,19 @@ use Rattle.bench_laws.proofs.Replies.{due, Goes, step, done, within-count, withi
 use Rattle.bench_laws.proofs.Parts.{Wrote, Kept, Froze, Last, GoodWrote, IsKept, Rest, first_row, next_row, rest-weaker, rest-writes, rest-keeps, rest-freezes, replies_to, turns}
 use Rattle.bench_laws.proofs.Walk.{AllOut, tx_dues, transaction-read, own-more, quiet-more}
 
+-- What fits pruning, observing or compacting is a reply to one of them.
 count-fits : (asked : Command) → IsKept asked → (told : Said) (b : Bool) → FitsBy (b || is_upkeep asked) asked told → IsCountReply told
 count-fits command.Observe kept told b h = fits-upkeep b true command.Observe told refl h
 count-fits command.Prune kept told b h = fits-upkeep b true command.Prune told refl h
 count-fits (command.Compact table) kept told b h = fits-upkeep b true (command.Compact table) told refl h
 count-fits _ kept told b h = absurd kept
 
+-- Two replies put behind others one by one are both put behind them.
 two : (xs : List Entry) (a b : Entry) → (xs ++ a ∷ []) ++ b ∷ [] ≡ xs ++ a ∷ b ∷ []
 two [] a b = refl
 two (x ∷ xs) a b = ap (λ ys. x ∷ ys) (two xs a b)
 
+-- Four replies put behind others one by one are all put behind them.
 four : (xs : List Entry) (a b c d : Entry) → (((xs ++ a ∷ []) ++ b ∷ []) ++ c ∷ []) ++ d ∷ [] ≡ xs ++ a ∷ b ∷ c ∷ d ∷ []
 four [] a b c d = refl
 four (x ∷ xs) a b c d = ap (λ ys. x ∷ ys) (four xs a b c d)
@@ -42,6 +45,7 @@ module _ (seed : ℕ) (tables : List TableDecl) (entries : List Entry) where
   abbrev pub Onward : ℕ → ℕ → ℕ → ℕ → List Due → List (ℕ × ℕ) → Type 0
   Onward round place turn least dues asked = (next : List Entry) → AllOut next → Goes tables next dues entries → Rest seed round place turn least next entries asked
 
+  -- A session's transaction is read in front of what is due behind it.
   writes-then : (round turn session l : ℕ) (dues : List Due) (asked : List (ℕ × ℕ)) → 1 ≤ session → session ≤ 4 → 1 ≤ turn → round + 1 ≤ l
       → Onward (round + 1) (4 * round + session + 1) (4 * turn + session + 1) l dues asked
       → Onward (round + 1) (4 * round + session) (4 * turn + session) l (tx_dues seed round turn session ++ dues) ((turn, session) ∷ asked)
@@ -59,6 +63,7 @@ module _ (seed : ℕ) (tables : List TableDecl) (entries : List Entry) where
           (rest-writes seed l earlier entries asked w good (omega (arith, a, far))
           (rest-weaker (w.round + 1) (4 * w.round + w.session + 1) (4 * w.turn + w.session + 1) l (omega (arith, a)) (omega (arith, a, c)) (omega (arith, b, c)) (omega arith) rest))))
 
+  -- Pruning, observing or compacting is read in front of what is due behind it.
   kept-then : (asked : Command) → IsKept asked → (round t l : ℕ) (dues : List Due) (pairs : List (ℕ × ℕ)) → round + 1 ≤ l
       → Onward round (4 * (round + 1) + 1) t l dues pairs → Onward round (4 * (round + 1) + 1) t l (due round 1 asked ∷ dues) pairs
   kept-then asked kept round t l dues pairs far onward earlier out goes =
@@ -69,6 +74,7 @@ module _ (seed : ℕ) (tables : List TableDecl) (entries : List Entry) where
       rest-keeps seed t l earlier entries pairs k kept fits far
       (onward (earlier ++ e ∷ []) (λ session. quiet-more session earlier e (λ b. within-count b answer.told fits) ∙ out session) answer.rest)
 
+  -- The sealing and gathering of one block is read in front of what is due behind it.
   freezes-then : (block round t l : ℕ) (dues : List Due) (pairs : List (ℕ × ℕ)) → round + 1 ≤ l
       → Onward round (4 * (round + 1) + 1) t l dues pairs → Onward round (4 * (round + 1) + 1) t l (due round 1 (command.Seal 0 block) ∷ due round 1 (command.Gather 0 block) ∷ dues) pairs
   freezes-then block round t l dues pairs far onward earlier out goes =
@@ -84,6 +90,7 @@ module _ (seed : ℕ) (tables : List TableDecl) (entries : List Entry) where
       rest-freezes seed t l earlier entries pairs f seals gathers far
       (onward (earlier ++ a ∷ b ∷ []) (subst AllOut (two earlier a b) outside) (subst (λ (es : List Entry). Goes tables es dues entries) (two earlier a b) second.rest))
 
+  -- The sealing and gathering of several blocks is read in front of what is due behind it.
   blocks-then : (blocks : List ℕ) (round t l : ℕ) (dues : List Due) (pairs : List (ℕ × ℕ)) → round + 1 ≤ l
       → Onward round (4 * (round + 1) + 1) t l dues pairs → Onward round (4 * (round + 1) + 1) t l (freeze_dues round blocks ++ dues) pairs
   blocks-then [] round t l dues pairs far onward = onward
@@ -92,6 +99,7 @@ module _ (seed : ℕ) (tables : List TableDecl) (entries : List Entry) where
 
   -- ---- the last round
 
+  -- The transaction of the last round is read, with nothing behind it.
   last-read : (round t : ℕ) → Onward round (4 * round + 1) t round (due round 1 command.Begin ∷ due round 1 (command.Scan 0) ∷ due round 1 (command.Export 0) ∷ due round 1 command.Commit ∷ []) []
   last-read round t earlier out goes =
       let first = step tables earlier round 1 command.Begin (due round 1 (command.Scan 0) ∷ due round 1 (command.Export 0) ∷ due round 1 command.Commit ∷ []) entries goes in
@@ -151,6 +159,7 @@ module _ (seed : ℕ) (all : List (List Line)) where
   abbrev pub dues_from : ℕ → List (List Line) → List Due
   dues_from round rounds = flat_map (λ entry. dues_in script entry.0 entry.1) (enumerate_from round rounds)
 
+  -- What is due for a write round is the transactions of its four sessions.
   write-dues : (round turn : ℕ) → dues_in script round (write_round seed turn)
       ≡ tx_dues seed round turn 1 ++ (tx_dues seed round turn 2 ++ (tx_dues seed round turn 3 ++ (tx_dues seed round turn 4 ++ [])))
   unfolding first_row next_row
@@ -160,14 +169,17 @@ module _ (seed : ℕ) (all : List (List Line)) where
 abbrev freeze_commands : List ℕ → List Command
 freeze_commands blocks = flat_map (λ block. command.Seal 0 block ∷ command.Gather 0 block ∷ []) blocks
 
+-- Session 1 has all commands that freeze blocks.
 commands-one : (blocks : List ℕ) → commands_of 1 (flat_map freezing blocks) ≡ freeze_commands blocks
 commands-one [] = refl
 commands-one (block ∷ blocks) = ap (λ cs. command.Seal 0 block ∷ command.Gather 0 block ∷ cs) (commands-one blocks)
 
+-- Another session than the first has no command that freezes blocks.
 commands-none : (session : ℕ) → 1 == session ≡ false → (blocks : List ℕ) → commands_of session (flat_map freezing blocks) ≡ []
 commands-none session other [] = refl
 commands-none session other (block ∷ blocks) = rw other (commands-none session other blocks)
 
+-- What is due for commands that freeze blocks is their sealing and gathering.
 dues-one : (round : ℕ) (blocks : List ℕ) → dues_to round (Session 1) (freeze_commands blocks) ≡ freeze_dues round blocks
 dues-one round [] = refl
 dues-one round (block ∷ blocks) = ap (λ ds. due round 1 (command.Seal 0 block) ∷ due round 1 (command.Gather 0 block) ∷ ds) (dues-one round blocks)
@@ -177,6 +189,7 @@ abbrev blocks_at : ℕ → List ℕ
 blocks_at turn = range_with_len 0 (writers * turn / bench_table.slots + 1)
 
 module _ (seed : ℕ) (all : List (List Line)) where
+  -- What is due for upkeep is a pruning, two observations, a compaction and the freezing of blocks.
   upkeep-dues : (round turn : ℕ) → dues_in (bench_script all) round (upkeep_round turn)
       ≡ due round 1 command.Prune ∷ due round 1 command.Observe ∷ due round 1 command.Observe ∷ due round 1 (command.Compact 0) ∷ freeze_dues round (blocks_at turn)
   upkeep-dues round turn =
@@ -187,6 +200,7 @@ module _ (seed : ℕ) (all : List (List Line)) where
 -- ---- all rounds
 
 module _ (seed : ℕ) (all : List (List Line)) (tables : List TableDecl) (entries : List Entry) where
+  -- A write round is read in front of what is due behind it.
   write-then : (round turn l : ℕ) (dues : List Due) (asked : List (ℕ × ℕ)) → 1 ≤ turn → round + 1 ≤ l
       → Onward seed tables entries (round + 1) (4 * (round + 1) + 1) (4 * (turn + 1) + 1) l dues asked
       → Onward seed tables entries (round + 1) (4 * round + 1) (4 * turn + 1) l (dues_in (bench_script all) round (write_round seed turn) ++ dues) ((turn, 1) ∷ (turn, 2) ∷ (turn, 3) ∷ (turn, 4) ∷ asked)
@@ -204,6 +218,7 @@ module _ (seed : ℕ) (all : List (List Line)) (tables : List TableDecl) (entrie
       (λ next out goes. rest-weaker (round + 1) (4 * round + 1 + 1) (4 * turn + 1 + 1) l (omega arith) (omega arith) (omega arith) (omega arith) (d2 next out goes))
       next out (subst (λ (ds : List Due). Goes tables next (ds ++ dues) entries) (write-dues seed all round turn) goes)
 
+  -- A round of upkeep is read in front of what is due behind it.
   upkeep-then : (round turn t : ℕ) (dues : List Due) (asked : List (ℕ × ℕ))
       → Onward seed tables entries (round + 1) (4 * (round + 1) + 1) t (round + 1) dues asked
       → Onward seed tables entries round (4 * (round + 1) + 1) t (round + 1) (dues_in (bench_script all) round (upkeep_round turn) ++ dues) asked

@@ -1,4 +1,5 @@
--- The transactions of the output are those of its parts and of its last round, and each reply belongs to its own.
+-- The transactions of the output are those of its parts and of its last round, and each reply
+-- belongs to its own.
 use Rattle.std.proofs.Common.{◌≡◌, ℕ, ◌+◌, ◌*◌, ◌<◌, Bool, true, false, ◌&&◌, eqb, List, [], ◌∷◌, ◌++◌, map, None, Some, refl, ap, ◌∙◌, subst, arith, append_assoc}
 use Rattle.std.specs.List.{find, list_any}
 use Rattle.std.proofs.lemmas.Bool.{eqb-true, eq-eqb, ne_eqb}
@@ -28,6 +29,7 @@ insert-quiet (said.ConflictSession session) h = (refl, refl)
 insert-quiet (said.ConflictCommit number) h = (refl, refl)
 insert-quiet _ h = absurd h
 
+-- What an update is told opens and ends no transaction.
 update-quiet : (told : Said) → IsUpdateReply 0 told → Quiet told
 update-quiet said.Accepted h = (refl, refl)
 update-quiet said.Missing h = (refl, refl)
@@ -37,6 +39,7 @@ update-quiet (said.ConflictSession session) h = (refl, refl)
 update-quiet (said.ConflictCommit number) h = (refl, refl)
 update-quiet _ h = absurd h
 
+-- Pruning, observing and compacting are told no snapshot.
 count-quiet : (told : Said) → IsCountReply told → snapshot_in told ≡ None
 count-quiet (said.Cooling n) h = refl
 count-quiet (said.Pruned n) h = refl
@@ -44,22 +47,26 @@ count-quiet (said.Moved n) h = refl
 count-quiet said.Memory h = refl
 count-quiet _ h = absurd h
 
+-- The sealing of a block is told no snapshot.
 seal-quiet : (block : ℕ) (told : Said) → IsSealReply 0 block told → snapshot_in told ≡ None
 seal-quiet block (said.Sealed of at stamp) h = refl
 seal-quiet block (said.NotSealed cause) h = refl
 seal-quiet block _ h = absurd h
 
+-- The gathering of a block is told no snapshot.
 gather-quiet : (block : ℕ) (told : Said) → IsGatherReply 0 block told → snapshot_in told ≡ None
 gather-quiet block (said.Frozen of at rows) h = refl
 gather-quiet block said.NotFrozen h = refl
 gather-quiet block said.Memory h = refl
 gather-quiet block _ h = absurd h
 
+-- What a scan is told opens and ends no transaction.
 scan-quiet : (told : Said) → IsScanReply told → Quiet told
 scan-quiet (said.Scanned rows) h = (refl, refl)
 scan-quiet said.Memory h = (refl, refl)
 scan-quiet _ h = absurd h
 
+-- What an export is told opens and ends no transaction.
 export-quiet : (told : Said) → IsExportReply told → Quiet told
 export-quiet (said.Exported number rows batches frozen) h = (refl, refl)
 export-quiet (said.Dirty key) h = (refl, refl)
@@ -74,6 +81,7 @@ span_of w = record { who = Session w.session; snapshot = w.snapshot; replies = r
 abbrev pub last_span : Last → Span
 last_span l = record { who = Session 1; snapshot = l.snapshot; replies = last_entries l }
 
+-- A transaction's four replies in front of others are one transaction in front of theirs.
 opened : (seed : ℕ) (w : Wrote) → GoodWrote seed w → (rest : List Entry) → transactions_of (begin w ∷ insert w ∷ update w ∷ commit w ∷ rest) ≡ span_of w ∷ transactions_of rest
 opened seed w good rest =
     let a = insert-quiet w.insert_said good.insert_fits in
@@ -81,12 +89,14 @@ opened seed w good rest =
     let own : eqb w.session w.session ≡ true = eq-eqb w.session w.session refl in
     rw (own, a.0, b.0, a.1, b.1) refl
 
+-- The replies of the last round are its transaction and no other.
 last-opened : (l : Last) → IsScanReply l.scan_said → IsExportReply l.export_said → transactions_of (last_entries l) ≡ last_span l ∷ []
 last-opened l scans exports =
     let a = scan-quiet l.scan_said scans in
     let b = export-quiet l.export_said exports in
     rw (a.0, b.0, a.1, b.1) refl
 
+-- The replies of the parts and of the last round are their transactions in order.
 transactions-in : (seed : ℕ) (parts : List Part) (l : Last) → Every (Good seed) parts → IsScanReply l.scan_said → IsExportReply l.export_said
     → transactions_of (entries_in parts ++ last_entries l) ≡ map span_of (wrotes parts) ++ last_span l ∷ []
 transactions-in seed [] l good scans exports = last-opened l scans exports
@@ -97,14 +107,12 @@ transactions-in seed (Freezing f ∷ parts) l good scans exports = rw (seal-quie
 
 -- ---- the transaction of a reply
 
+-- Where none in front passes a test that this one passes, this one is found.
 find-at : (p : Span → Bool) (front : List Span) (x : Span) (rest : List Span) → Every (λ y. p y ≡ false) front → p x ≡ true → find p (front ++ x ∷ rest) ≡ Some x
 find-at p [] x rest h k = rw k refl
 find-at p (y ∷ front) x rest h k = rw (h.0) (find-at p front x rest h.1 k)
 
-middle : (a c : Bool) → (a && false && c) ≡ false
-middle true c = refl
-middle false c = refl
-
+-- A reply that is below another by round and session is not the same.
 apart : (a b c d i j : ℕ) → 4 * b + d < 4 * a + c → (eqb a b && eqb c d && eqb i j) ≡ false
 apart a b c d i j h = by (eqb a b) refl
   where
@@ -115,9 +123,11 @@ apart a b c d i j h = by (eqb a b) refl
         rw f refl
     by false is = refl
 
+-- A reply of an earlier round is not one of a later round.
 apart-round : (a b i j : ℕ) (who : Bool) → b < a → (eqb a b && who && eqb i j) ≡ false
 apart-round a b i j who h = let f : eqb a b ≡ false = ne_eqb a b (λ same. omega (arith, same, h)) in rw f refl
 
+-- A reply to a session is tested to be itself.
 reply-itself : (e : Entry) → (session : ℕ) → e.reply.who ≡ Session session → is_reply e e ≡ true
 reply-itself e session who =
     let a : eqb e.reply.round e.reply.round ≡ true = eq-eqb e.reply.round e.reply.round refl in
@@ -125,6 +135,7 @@ reply-itself e session who =
     let c : eqb e.reply.index e.reply.index ≡ true = eq-eqb e.reply.index e.reply.index refl in
     rw (a, b, c) refl
 
+-- What holds of the image of each element holds of each image.
 every-map : {X Y : Type 0} (f : X → Y) (P : Y → Type 0) (xs : List X) → Every (λ x. P (f x)) xs → Every P (map f xs)
 every-map f P [] h = tt
 every-map f P (x ∷ xs) h = (h.0, every-map f P xs h.1)

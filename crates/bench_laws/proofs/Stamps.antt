@@ -26,6 +26,7 @@ pub record Mark (shown : Said → Option ℕ) : Type 0 where
   pub update_none : (told : Said) → IsUpdateReply 0 told → shown told ≡ None
   pub commit_none : (number : Option ℕ) → shown (said.Committed number) ≡ None
 
+-- What an insert is told shows no stamp of a block.
 stamp-insert : (block : ℕ) (told : Said) → IsInsertReply told → stamp_in 0 block told ≡ None
 stamp-insert block said.Accepted h = refl
 stamp-insert block said.Exists h = refl
@@ -35,6 +36,7 @@ stamp-insert block (said.ConflictSession session) h = refl
 stamp-insert block (said.ConflictCommit number) h = refl
 stamp-insert block _ h = absurd h
 
+-- What an update is told shows no stamp of a block.
 stamp-update : (block : ℕ) (told : Said) → IsUpdateReply 0 told → stamp_in 0 block told ≡ None
 stamp-update block said.Accepted h = refl
 stamp-update block said.Missing h = refl
@@ -44,6 +46,7 @@ stamp-update block (said.ConflictSession session) h = refl
 stamp-update block (said.ConflictCommit number) h = refl
 stamp-update block _ h = absurd h
 
+-- What an insert is told shows no rows of a gathered block.
 rows-insert : (block : ℕ) (told : Said) → IsInsertReply told → rows_in 0 block told ≡ None
 rows-insert block said.Accepted h = refl
 rows-insert block said.Exists h = refl
@@ -53,6 +56,7 @@ rows-insert block (said.ConflictSession session) h = refl
 rows-insert block (said.ConflictCommit number) h = refl
 rows-insert block _ h = absurd h
 
+-- What an update is told shows no rows of a gathered block.
 rows-update : (block : ℕ) (told : Said) → IsUpdateReply 0 told → rows_in 0 block told ≡ None
 rows-update block said.Accepted h = refl
 rows-update block said.Missing h = refl
@@ -74,6 +78,7 @@ rows-mark block = record { at_none = λ number. refl; insert_none = rows-insert 
 abbrev pub First : (Said → Option ℕ) → Entry → Type 0
 First shown e = (shown e.reply.said ≡ None) ⊎ (e.reply.who ≡ Session 1)
 
+-- In each part a reply that shows a mark is session 1's.
 first-part : (shown : Said → Option ℕ) → Mark shown → (seed : ℕ) (part : Part) → Good seed part → Every (First shown) (entries_of part)
 first-part shown mark seed (Writing w) good =
     (inl (mark.at_none w.snapshot), (inl (mark.insert_none w.insert_said good.insert_fits), (inl (mark.update_none w.update_said good.update_fits), (inl (mark.commit_none w.number), tt))))
@@ -86,10 +91,12 @@ some-none o k h n = let e : Some k ≡ None = sym h ∙ n in let never : ⊥ = c
 
 -- ---- stamps that rise, each of them at most so many as there are
 
+-- Each further number is above all those in front of it.
 abbrev Climb : List ℕ → List ℕ → Type 0
 Climb front [] = Unit {0}
 Climb front (k ∷ rest) = (list_all (λ earlier. nat_lt earlier k) front ≡ true) × Climb (front ++ k ∷ []) rest
 
+-- Numbers that climb to a bound leave room for the rest above those in front.
 climbed : (most : ℕ) (rest front : List ℕ) → Climb front rest → Every (λ k. k ≤ most) (front ++ rest) → Every (λ k. k + length rest ≤ most) front
 climbed most [] front h bound = every-weaker (λ k. k ≤ most) (λ k. k + 0 ≤ most) (λ k le. omega (arith, le)) front (every-left (λ k. k ≤ most) front [] bound)
 climbed most (k ∷ rest) front h bound =
@@ -106,6 +113,7 @@ climbed most (k ∷ rest) front h bound =
         let parts = and_parts (nat_lt x k) (list_all (λ earlier. nat_lt earlier k) xs) all in
         (step x parts.0 le, below xs parts.1 le)
 
+-- One number more: what is counted at least once is in the list.
 count-step : (k x : ℕ) (xs : List ℕ) (n : ℕ) (b : Bool) → eqb x k ≡ b → cond b 1 0 + count_by (λ y. eqb y k) xs ≡ suc n → (count_by (λ y. eqb y k) xs ≡ suc n → Has k xs) → (x ≡ k) ⊎ Has k xs
 count-step k x xs n true is h rest = inl (eqb-true x k is)
 count-step k x xs n false is h rest = inr (rest (omega (arith, h)))
@@ -163,6 +171,7 @@ module _ (seed size : ℕ) (replies : List Entry) (told : Told seed size replies
 
   -- ---- the stamps of a block
 
+  -- A reply that shows a block's stamp tells that the block was sealed with it.
   stamp-is : (block k : ℕ) (told : Said) → stamp_in 0 block told ≡ Some k → told ≡ said.Sealed 0 block k
   stamp-is block k (said.Sealed of at stamp) h = by (eqb of 0) (eqb at block) refl refl h
     where
@@ -176,6 +185,7 @@ module _ (seed size : ℕ) (replies : List Entry) (told : Told seed size replies
       by false b x y same = absurd (some-none None k same refl)
   stamp-is block k _ h = absurd (some-none None k h refl)
 
+  -- A seal that a reply tells holds of the run.
   sealed-at : (block k : ℕ) (e : Entry) → e.reply.said ≡ said.Sealed 0 block k → Has e replies → seal_holds run e 0 block k ≡ true
   sealed-at block k e is has =
       let sound = sound-at seed size replies told e has in
@@ -189,6 +199,7 @@ module _ (seed size : ℕ) (replies : List Entry) (told : Told seed size replies
   four-parts true true false d h = absurd (let never : ⊥ = cc in never)
   four-parts true true true false h = absurd (let never : ⊥ = cc in never)
 
+  -- A block's stamp is at most the count of its seals, and above those before it.
   seal-facts : (block k : ℕ) (e : Entry) → stamp_in 0 block e.reply.said ≡ Some k → Has e replies
       → (k ≤ seals_in 0 block replies) × (list_all (λ earlier. nat_lt earlier k) (shown_in (stamp_in 0 block) (before replies e)) ≡ true)
   seal-facts block k e is has =
@@ -196,10 +207,12 @@ module _ (seed size : ℕ) (replies : List Entry) (told : Told seed size replies
       (list_all (λ earlier. nat_lt earlier k) (shown_in (stamp_in 0 block) (before replies e))) (sealed-at block k e (stamp-is block k e.reply.said is) has) in
       (leb-true k (seals_in 0 block replies) parts.1, parts.3)
 
+  -- A reply that shows a mark is session 1's.
   who-first : (shown : Said → Option ℕ) (e : Entry) (k : ℕ) → First shown e → shown e.reply.said ≡ Some k → e.reply.who ≡ Session 1
   who-first shown e k (inl none) is = absurd (some-none (shown e.reply.said) k is none)
   who-first shown e k (inr first) is = first
 
+  -- The stamps of a block in later replies are at most the count of its seals.
   bound-from : (block : ℕ) (front rest : List Entry) → replies ≡ front ++ rest → Every (λ k. k ≤ seals_in 0 block replies) (shown_in (stamp_in 0 block) rest)
   bound-from block front [] whole = tt
   bound-from block front (e ∷ rest) whole =
@@ -210,6 +223,7 @@ module _ (seed size : ℕ) (replies : List Entry) (told : Told seed size replies
       by None is h = h
       by (Some k) is h = ((seal-facts block k e is (subst (Has e) (sym whole) (has-here front e rest))).0, h)
 
+  -- The stamps of a block climb in the replies behind any front.
   climb-from : (block : ℕ) (front rest : List Entry) → replies ≡ front ++ rest → Climb (shown_in (stamp_in 0 block) front) (shown_in (stamp_in 0 block) rest)
   climb-from block front [] whole = tt
   climb-from block front (e ∷ rest) whole =

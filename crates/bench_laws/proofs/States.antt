@@ -19,6 +19,7 @@ use Rattle.bench_laws.proofs.Told.{Told}
 use Rattle.bench_laws.proofs.Writes.{behind_two, laid-over, place-itself, untouched}
 use Rattle.bench_laws.proofs.Commits.{commit-facts, run, set-cases, set-is, set_of, transactions}
 
+-- Where something stands at a place, something does behind two writes.
 some-behind : (a b : Bool) (p q place : Place) (r s : List Cell) (before : Option (List Cell)) → is_some before ≡ true → is_some (behind_two a p r b q s place before) ≡ true
 some-behind a b p q place r s before h = by (b && is_place place q) (a && is_place place p)
   where
@@ -27,6 +28,7 @@ some-behind a b p q place r s before h = by (b && is_place place q) (a && is_pla
     by false true = refl
     by false false = h
 
+-- Behind two writes of which the first was made, something stands at its place.
 some-own : (a b : Bool) (p q : Place) (r s : List Cell) (before : Option (List Cell)) → a ≡ true → is_some (behind_two a p r b q s p before) ≡ true
 some-own a b p q r s before h = by (b && is_place p q)
   where
@@ -35,12 +37,15 @@ some-own a b p q r s before h = by (b && is_place p q)
     by false = rw (h, place-itself p) refl
 
 module _ (seed size : ℕ) (replies : List Entry) (told : Told seed size replies) where
+  -- The run that the replies tell.
   abbrev the_run : Run
   the_run = run seed size replies told
 
+  -- The transactions of the write rounds.
   abbrev all : List Wrote
   all = transactions seed size replies told
 
+  -- The write set of the commit with a number.
   abbrev set : ℕ → WriteSet
   set k = set_of seed size replies told k
 
@@ -49,6 +54,7 @@ module _ (seed size : ℕ) (replies : List Entry) (told : Told seed size replies
   state zero = []
   state (suc n) = laid_over (state n) (set (suc n))
 
+  -- The write sets of the first commits, laid one over another, are the state behind them.
   fold-sets : (n : ℕ) → fold laid_over [] (map set (range_with_len 1 n)) ≡ state n
   fold-sets zero = refl
   fold-sets (suc n) =
@@ -92,6 +98,7 @@ module _ (seed size : ℕ) (replies : List Entry) (told : Told seed size replies
         ∙ some-behind (is_accepted its.by.insert_said) (is_accepted its.by.update_said) (place_of 0 its.by.row) (place_of 0 its.by.change) place its.by.row its.by.change (at_place (state n) place) h
   ]
 
+  -- Where something stands at a place, something does any number of commits later.
   stays : (place : Place) (m d : ℕ) → is_some (at_place (state m) place) ≡ true → is_some (at_place (state (m + d)) place) ≡ true
   stays place m zero h = let e : m + zero ≡ m = omega arith in ap (λ n. is_some (at_place (state n) place)) e ∙ h
   stays place m (suc d) h =
@@ -103,6 +110,7 @@ module _ (seed size : ℕ) (replies : List Entry) (told : Told seed size replies
       → at_place (state (suc k)) place ≡ behind_two (is_accepted w.insert_said) (place_of 0 w.row) w.row (is_accepted w.update_said) (place_of 0 w.change) w.change place (at_place (state k) place)
   behind w among k is place = ap (λ (own : WriteSet). at_place (laid_over (state k) own) place) (set-is seed size replies told w among (suc k) is) ∙ laid-over (state k) w place
 
+  -- Behind its commit a transaction's accepted insert has a row at its place.
   present-at : (w : Wrote) → Has w all → (k : ℕ) → w.number ≡ Some k → 1 ≤ k → is_accepted w.insert_said ≡ true → is_some (at_place (state k) (place_of 0 w.row)) ≡ true
   present-at w among zero is low accepted = absurd (omega (arith, low))
   present-at w among (suc k) is low accepted =

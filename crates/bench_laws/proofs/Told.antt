@@ -1,4 +1,5 @@
--- What is known of the replies of an explained output of a generated workload that was refused no memory.
+-- What is known of the replies of an explained output of a generated workload that was refused no
+-- memory.
 use Rattle.std.proofs.Common.{◌≡◌, ℕ, Bool, true, false, ◌&&◌, List, [], ◌∷◌, ◌++◌, map, Ok, refl, ap, subst, arith}
 use Rattle.std.specs.Prelude.{unwrap_or}
 use Rattle.std.specs.Result.{result_ok}
@@ -41,6 +42,7 @@ pub record Told (seed size : ℕ) (replies : List Entry) : Type 0 where
   pub sound : are_sound (run_of tables replies) ≡ true
   pub unrefused : Every (λ e. is_refused e.reply.said ≡ false) replies
 
+-- Where an output was refused no memory, no single reply of it was.
 none-refused : (replies : List Entry) → was_refused replies ≡ false → Every (λ e. is_refused e.reply.said ≡ false) replies
 none-refused [] h = tt
 none-refused (e ∷ replies) h =
@@ -79,6 +81,7 @@ pub record Sound (run : Run) (e : Entry) : Type 0 where
   pub exports : exports_hold run e ≡ true
   pub upkeep : upkeep_holds run e ≡ true
 
+-- The nine parts of a conjunction that is true.
 nine : (a b c d e f g h i : Bool) → (a && b && c && d && e && f && g && h && i) ≡ true
     → (a ≡ true) × (b ≡ true) × (c ≡ true) × (d ≡ true) × (e ≡ true) × (f ≡ true) × (g ≡ true) × (h ≡ true) × (i ≡ true)
 nine true true true true true true true true true h = (refl, refl, refl, refl, refl, refl, refl, refl, refl)

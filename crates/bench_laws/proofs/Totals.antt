@@ -41,6 +41,7 @@ use Rattle.bench_laws.proofs.Equal.{state-left}
 
 -- ---- rows that are tested to be one
 
+-- Cells that are tested to be one are one.
 cell-same : (a b : Cell) → is_cell a b ≡ true → a ≡ b
 cell-same Null Null h = refl
 cell-same (Num a) (Num b) h = ap (λ n. Num n) ((Decides-int_eq a b).0 h)
@@ -50,6 +51,7 @@ cell-same (Text a) (Text b) h = ap (λ n. Text n) ((bytes_eq-Decides a b).0 h)
 cell-same (Blob a) (Blob b) h = ap (λ n. Blob n) ((bytes_eq-Decides a b).0 h)
 cell-same a b h = absurd (let never : ⊥ = cc in never)
 
+-- Lists whose elements are tested to be one, pair by pair, are one.
 pointwise-same : {X : Type 0} (E : X → X → Bool) → ((a b : X) → E a b ≡ true → a ≡ b) → (xs ys : List X) → pointwise E xs ys ≡ true → xs ≡ ys
 pointwise-same E same [] [] h = refl
 pointwise-same E same [] (y ∷ ys) h = absurd (let never : ⊥ = cc in never)
@@ -58,20 +60,24 @@ pointwise-same E same (x ∷ xs) (y ∷ ys) h =
     let parts = and_parts (E x y) (pointwise E xs ys) h in
     ap (λ z. z ∷ xs) (same x y parts.0) ∙ ap (λ zs. y ∷ zs) (pointwise-same E same xs ys parts.1)
 
+-- Rows whose cells are tested to be one are one.
 rows-same : (a b : List (List Cell)) → pointwise is_row a b ≡ true → a ≡ b
 rows-same a b h = pointwise-same is_row (pointwise-same is_cell cell-same) a b h
 
 -- ---- replies that tell no rows
 
+-- The reply tells neither scanned rows nor what was exported.
 abbrev Plain : Said → Type 0
 Plain (said.Scanned rows) = ⊥
 Plain (said.Exported number rows batches frozen) = ⊥
 Plain _ = Unit {0}
 
+-- A reply that tells neither scan nor export has no scanned rows.
 plain-scans-none : (told : Said) → Plain told → scanned_in told ≡ None
 plain-scans-none (said.Scanned rows) h = absurd h
 plain-scans-none _ h = refl
 
+-- A reply that tells neither scan nor export has no exported rows.
 plain-exports-none : (told : Said) → Plain told → exported_in told ≡ None
 plain-exports-none (said.Exported number rows batches frozen) h = absurd h
 plain-exports-none _ h = refl
@@ -81,35 +87,42 @@ insert-plain (said.Scanned rows) h = h
 insert-plain (said.Exported number rows batches frozen) h = h
 insert-plain _ h = tt
 
+-- An update is told neither scanned rows nor what was exported.
 update-plain : (told : Said) → IsUpdateReply 0 told → Plain told
 update-plain (said.Scanned rows) h = h
 update-plain (said.Exported number rows batches frozen) h = h
 update-plain _ h = tt
 
+-- Pruning, observing and compacting are told neither scanned rows nor what was exported.
 count-plain : (told : Said) → IsCountReply told → Plain told
 count-plain (said.Scanned rows) h = h
 count-plain (said.Exported number rows batches frozen) h = h
 count-plain _ h = tt
 
+-- Sealing a block is told neither scanned rows nor what was exported.
 seal-plain : (block : ℕ) (told : Said) → IsSealReply 0 block told → Plain told
 seal-plain block (said.Scanned rows) h = h
 seal-plain block (said.Exported number rows batches frozen) h = h
 seal-plain block _ h = tt
 
+-- Gathering a block is told neither scanned rows nor what was exported.
 gather-plain : (block : ℕ) (told : Said) → IsGatherReply 0 block told → Plain told
 gather-plain block (said.Scanned rows) h = h
 gather-plain block (said.Exported number rows batches frozen) h = h
 gather-plain block _ h = tt
 
+-- Each reply of a part tells neither scanned rows nor what was exported.
 part-plain : (seed : ℕ) (part : Part) → Good seed part → Every (λ e. Plain e.reply.said) (entries_of part)
 part-plain seed (Writing w) good = (tt, (insert-plain w.insert_said good.insert_fits, (update-plain w.update_said good.update_fits, (tt, tt))))
 part-plain seed (Keeping k) good = (count-plain k.told good.1, tt)
 part-plain seed (Freezing f) good = (seal-plain f.block f.seal_said good.0, (gather-plain f.block f.gather_said good.1, tt))
 
+-- Behind replies that tell neither scan nor export, the first told is the rest's.
 first-behind : {X : Type 0} (f : Said → Option X) → ((told : Said) → Plain told → f told ≡ None) → (front rest : List Entry) → Every (λ e. Plain e.reply.said) front → first_told f (front ++ rest) ≡ first_told f rest
 first-behind f none [] rest h = refl
 first-behind f none (e ∷ front) rest h = rw (none e.reply.said h.0) (first-behind f none front rest h.1)
 
+-- Where no reply is of an accepted write, those that a filter keeps write nothing.
 nothing-written : (p : Entry → Bool) (xs : List Entry) → ((x : Entry) → Has x xs → accepted_write x ≡ None) → filter_map accepted_write (filter p xs) ≡ []
 nothing-written p [] none = refl
 nothing-written p (x ∷ xs) none = by (p x) (none x (inl refl)) (nothing-written p xs (λ y has. none y (inr has)))
@@ -120,9 +133,11 @@ nothing-written p (x ∷ xs) none = by (p x) (none x (inl refl)) (nothing-writte
 
 -- ---- the commits
 
+-- A transaction with a number shows it as its one commit, in front of the rest's.
 one-commit : (w : Wrote) (k : ℕ) (rest : List Entry) → commit_in w.insert_said ≡ None → commit_in w.update_said ≡ None → w.number ≡ Some k → shown_in commit_in (replies_to w ++ rest) ≡ k ∷ shown_in commit_in rest
 one-commit w k rest a b c = rw (a, b, c) refl
 
+-- Where each transaction has a number, the parts show as many commits as transactions.
 parts-commits : (seed : ℕ) (parts : List Part) → Every (Good seed) parts → ((w : Wrote) → Has w (wrotes parts) → (k : ℕ) × (w.number ≡ Some k)) → length (shown_in commit_in (entries_in parts)) ≡ length (wrotes parts)
 parts-commits seed [] good numbers = refl
 parts-commits seed (Writing w ∷ parts) good numbers =
@@ -133,28 +148,34 @@ parts-commits seed (Writing w ∷ parts) good numbers =
 parts-commits seed (Keeping k ∷ parts) good numbers = rw (count-commits-none k.told good.0.1) (parts-commits seed parts good.1 numbers)
 parts-commits seed (Freezing f ∷ parts) good numbers = rw (seal-commits-none f.block f.seal_said good.0.0, gather-commits-none f.block f.gather_said good.0.1) (parts-commits seed parts good.1 numbers)
 
+-- What the first reply tells is told first.
 told-first : {X : Type 0} (f : Said → Option X) (e : Entry) (rest : List Entry) (x : X) → f e.reply.said ≡ Some x → first_told f (e ∷ rest) ≡ Some x
 told-first {X} f e rest x h = ap (λ (o : Option X). elim o as (λ p. Option X) [ Some value ↦ Some value | None ↦ first_told f rest ]) h
 
+-- Where the first reply tells nothing, what the rest tells first is.
 told-next : {X : Type 0} (f : Said → Option X) (e : Entry) (rest : List Entry) → f e.reply.said ≡ None → first_told f (e ∷ rest) ≡ first_told f rest
 told-next {X} f e rest h = ap (λ (o : Option X). elim o as (λ p. Option X) [ Some value ↦ Some value | None ↦ first_told f rest ]) h
 
+-- The rows that the last round's scan is told are the first it tells.
 last-scanned : (l : Last) (rows : List (List Cell)) → l.scan_said ≡ said.Scanned rows → first_told scanned_in (last_entries l) ≡ Some rows
 last-scanned l rows is =
     told-next scanned_in (last_begin l) (last_scan l ∷ last_export l ∷ last_commit l ∷ []) refl
     ∙ told-first scanned_in (last_scan l) (last_export l ∷ last_commit l ∷ []) rows (ap scanned_in is)
 
+-- The count that the last round's export is told is the first it tells.
 last-exported : (l : Last) (rows : List (List Cell)) (count : ℕ) → l.scan_said ≡ said.Scanned rows → exported_in l.export_said ≡ Some count → first_told exported_in (last_entries l) ≡ Some count
 last-exported l rows count is exports =
     told-next exported_in (last_begin l) (last_scan l ∷ last_export l ∷ last_commit l ∷ []) refl
     ∙ told-next exported_in (last_scan l) (last_export l ∷ last_commit l ∷ []) (ap exported_in is)
     ∙ told-first exported_in (last_export l) (last_commit l ∷ []) count exports
 
+-- A scan that was not refused memory is told rows.
 scan-rows : (told : Said) → IsScanReply told → is_refused told ≡ false → (rows : List (List Cell)) × (told ≡ said.Scanned rows)
 scan-rows (said.Scanned rows) fits granted = (rows, refl)
 scan-rows said.Memory fits granted = absurd (let never : ⊥ = cc in never)
 scan-rows _ fits granted = absurd fits
 
+-- The first two of seven that are all true.
 two-of-seven : (a b c d e f g : Bool) → (a && b && c && d && e && f && g) ≡ true → (a ≡ true) × (b ≡ true)
 two-of-seven true true c d e f g h = (refl, refl)
 two-of-seven false b c d e f g h = absurd (let never : ⊥ = cc in never)
@@ -169,9 +190,11 @@ summary-parts its t e table number rows batches frozen h =
     (eqb-true number t.snapshot parts.0, eqb-true rows (length (contents_of table (state_at its.history number))) parts.1)
 
 module _ (seed size : ℕ) (small : 4 * size ≤ 32768) (replies : List Entry) (told : Told seed size replies) where
+  -- The run that the replies tell.
   abbrev the_run : Run
   the_run = run seed size replies told
 
+  -- The last round of the output.
   abbrev l : Last
   l = told.last
 
@@ -188,21 +211,27 @@ module _ (seed size : ℕ) (small : 4 * size ≤ 32768) (replies : List Entry) (
 
   -- ---- the last round
 
+  -- No reply of the last round was refused memory.
   granted : (e : Entry) → Has e (last_entries l) → is_refused e.reply.said ≡ false
   granted e has = every-has (λ x. is_refused x.reply.said ≡ false) replies e told.unrefused (among-last seed size replies told e has)
 
+  -- Nothing of the last round is written before a reply of it.
   own-none : (e : Entry) → writes_in (before (last_entries l) e) ≡ []
   own-none e = rw (nothing-written (λ other. is_before other e) (last_entries l) (last-unwritten l told.scan_fits told.export_fits)) refl
 
+  -- What is known of the last round's snapshot.
   facts : SnapshotFacts seed size replies told (last_begin l) l.snapshot
   facts = snapshot-facts seed size replies told (last_begin l) l.snapshot refl (among-last seed size replies told (last_begin l) (inl refl))
 
+  -- The state at the last round's snapshot is what the writes leave.
   state-last : state_at the_run.history l.snapshot ≡ left_by (generated seed size)
   state-last = state-is seed size replies told l.snapshot facts.low ∙ state-left seed size small replies told
 
+  -- The last round's scan is told rows.
   its-rows : (rows : List (List Cell)) × (l.scan_said ≡ said.Scanned rows)
   its-rows = scan-rows l.scan_said told.scan_fits (granted (last_scan l) (inr (inl refl)))
 
+  -- The rows that the last round's scan is told are those that the writes leave.
   rows-are : its-rows.0 ≡ rows_left seed size
   rows-are =
       let e = last_scan l in
@@ -215,6 +244,7 @@ module _ (seed size : ℕ) (small : 4 * size ≤ 32768) (replies : List Entry) (
       ∙ ap (λ own. contents_of 0 (laid_over (state_at the_run.history l.snapshot) own)) (own-none e)
       ∙ ap (contents_of 0) state-last
 
+  -- Each reply of the parts tells neither scanned rows nor what was exported.
   plain : Every (λ e. Plain e.reply.said) (entries_in told.parts)
   plain = every-reply seed (λ e. Plain e.reply.said) (part-plain seed) told.parts told.good
 
@@ -226,6 +256,7 @@ module _ (seed size : ℕ) (small : 4 * size ≤ 32768) (replies : List Entry) (
       ∙ ap (λ (o : Option (List (List Cell))). unwrap_or o []) (last-scanned l its-rows.0 its-rows.1)
       ∙ rows-are
 
+  -- What the last round's export is told holds of the run.
   export-holds : export_reply_holds the_run (last_span l) (last_export l) 0 l.export_said ≡ true
   export-holds =
       let e = last_export l in
@@ -233,6 +264,7 @@ module _ (seed size : ℕ) (small : 4 * size ≤ 32768) (replies : List Entry) (
       let sound = sound-at seed size replies told e (among-last seed size replies told e here) in
       sym (ap (λ (o : Option Span). option_map_or (λ t. export_reply_holds the_run t e 0 l.export_said) o true) (belongs-last seed size replies told e here refl refl)) ∙ sound.exports
 
+  -- An export that was not refused memory tells as many rows as the writes leave.
   its-export : (exporting : Said) → l.export_said ≡ exporting → IsExportReply exporting → is_refused exporting ≡ false → exported_in exporting ≡ Some (length (rows_left seed size))
   its-export (said.Exported number rows batches frozen) is fits given =
       let e = last_export l in
@@ -264,15 +296,18 @@ module _ (seed size : ℕ) (small : 4 * size ≤ 32768) (replies : List Entry) (
 abbrev pub Accepts : Entry → Type 0
 Accepts e = IsSome (write_of e.command) → e.reply.said ≡ said.Accepted
 
+-- A reply to a command that writes nothing has no write to accept.
 unwritten : (e : Entry) → write_of e.command ≡ None → Accepts e
 unwritten e none h = absurd (let f : false ≡ true = sym (ap is_some none) ∙ h in let never : ⊥ = cc in never)
 
+-- Pruning, observing and compacting write nothing.
 kept-unwritten : (asked : Command) → IsKept asked → write_of asked ≡ None
 kept-unwritten command.Observe h = refl
 kept-unwritten command.Prune h = refl
 kept-unwritten (command.Compact table) h = refl
 kept-unwritten _ h = absurd h
 
+-- Where each transaction's writes are accepted, each write of the parts is.
 parts-accept : (seed : ℕ) (parts : List Part) → Every (Good seed) parts → ((w : Wrote) → Has w (wrotes parts) → (w.insert_said ≡ said.Accepted) × (w.update_said ≡ said.Accepted)) → Every Accepts (entries_in parts)
 parts-accept seed [] good each = tt
 parts-accept seed (Writing w ∷ parts) good each =
@@ -281,6 +316,7 @@ parts-accept seed (Writing w ∷ parts) good each =
 parts-accept seed (Keeping k ∷ parts) good each = (unwritten (kept_entry k) (kept-unwritten k.asked good.0.0), parts-accept seed parts good.1 each)
 parts-accept seed (Freezing f ∷ parts) good each = (unwritten (seal_entry f) refl, (unwritten (gather_entry f) refl, parts-accept seed parts good.1 each))
 
+-- What each reply accepts, in the form that goes through the list by recursion.
 by-recursion : (xs : List Entry) → Every Accepts xs → AllByRecursion Accepts xs
 by-recursion [] h = tt
 by-recursion (x ∷ xs) h = (h.0, by-recursion xs h.1)

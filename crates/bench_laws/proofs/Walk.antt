@@ -18,6 +18,7 @@ use Rattle.bench_laws.proofs.Parts.{Wrote, GoodWrote, replies_to, first_row, nex
 abbrev pub AllOut : List Entry → Type 0
 AllOut earlier = (session : ℕ) → is_within (Session session) earlier ≡ false
 
+-- Each number is tested to be itself.
 itself : (n : ℕ) → eqb n n ≡ true
 itself n = eq-eqb n n refl
 
@@ -30,6 +31,7 @@ own-more session earlier e b who is =
     (ap (λ (w : Who). is_same w (Session session)) who ∙ itself session)
     ∙ ap (λ (x : Bool). within_behind x e.reply.said) is
 
+-- A reply to another leaves whether a session is in a transaction.
 other-more : (session : ℕ) (earlier : List Entry) (e : Entry) → is_same e.reply.who (Session session) ≡ false → is_within (Session session) (earlier ++ e ∷ []) ≡ is_within (Session session) earlier
 other-more session earlier e other =
     within-more (Session session) earlier e
@@ -43,6 +45,7 @@ quiet-more session earlier e quiet = within-more (Session session) earlier e ∙
     by true = quiet (is_within (Session session) earlier)
     by false = refl
 
+-- Four replies put behind others one by one are all put behind them.
 four : (xs : List Entry) (a b c d : Entry) → (((xs ++ a ∷ []) ++ b ∷ []) ++ c ∷ []) ++ d ∷ [] ≡ xs ++ a ∷ b ∷ c ∷ d ∷ []
 four [] a b c d = refl
 four (x ∷ xs) a b c d = ap (λ ys. x ∷ ys) (four xs a b c d)
@@ -62,6 +65,7 @@ ended-by session other earlier a b c d false is wa wb wc wd out number ends =
     ∙ other-more other earlier a (ap (λ (w : Who). is_same w (Session other)) wa ∙ is)
     ∙ out
 
+-- Behind a transaction that committed no session is in one.
 ended : (session : ℕ) (earlier : List Entry) (a b c d : Entry) → a.reply.who ≡ Session session → b.reply.who ≡ Session session → c.reply.who ≡ Session session → d.reply.who ≡ Session session
     → AllOut earlier → (number : Option ℕ) → d.reply.said ≡ said.Committed number → AllOut (earlier ++ a ∷ b ∷ c ∷ d ∷ [])
 ended session earlier a b c d wa wb wc wd out number ends other =
@@ -87,18 +91,23 @@ pub record Transacted (seed : ℕ) (tables : List TableDecl) (round turn session
   pub rest : Goes tables (earlier ++ replies_to wrote) dues entries
 
 module _ (seed : ℕ) (tables : List TableDecl) (round turn session : ℕ) (low : 1 ≤ session) (high : session ≤ 4) (turn_low : 1 ≤ turn) (dues : List Due) (entries : List Entry) where
+  -- The row that the session inserts in its turn.
   abbrev row : List Cell
   row = first_row seed turn session
 
+  -- The row that the session's update leaves in its turn.
   abbrev change : List Cell
   change = next_row seed turn session
 
+  -- The reply to a command of the session, behind earlier replies.
   abbrev at : List Entry → Command → Said → Entry
   at earlier asked told = entry_behind tables earlier (due round session asked) told
 
+  -- A reply to the session with the line and the index of another.
   abbrev shaped : Entry → Command → Said → Entry
   shaped e asked told = record { number = e.number; command = asked; reply = record { round = round; who = Session session; index = e.reply.index; said = told } }
 
+  -- Behind its begin, its insert and its update a transaction's commit is read.
   commit-read : (earlier : List Entry) (number : ℕ) (inserted updated : Said) → IsInsertReply inserted → IsUpdateReply 0 updated → AllOut earlier
       → (a b c : Entry) → a ≡ at earlier command.Begin (said.At number) → b ≡ at (earlier ++ a ∷ []) (command.Insert 0 row) inserted → c ≡ at ((earlier ++ a ∷ []) ++ b ∷ []) (command.Update 0 change) updated
       → is_within (Session session) (((earlier ++ a ∷ []) ++ b ∷ []) ++ c ∷ []) ≡ true
@@ -151,6 +160,7 @@ module _ (seed : ℕ) (tables : List TableDecl) (round turn session : ℕ) (low 
       shape-update : (e : Entry) → e ≡ at ((earlier ++ a ∷ []) ++ b ∷ []) (command.Update 0 change) updated → e ≡ shaped e (command.Update 0 change) updated
       shape-update e is = subst (λ (x : Entry). x ≡ shaped x (command.Update 0 change) updated) (sym is) refl
 
+  -- Behind its begin and its insert a transaction's update is read, and its commit.
   update-read : (earlier : List Entry) (number : ℕ) (inserted : Said) → IsInsertReply inserted → AllOut earlier
       → (a b : Entry) → a ≡ at earlier command.Begin (said.At number) → b ≡ at (earlier ++ a ∷ []) (command.Insert 0 row) inserted
       → is_within (Session session) ((earlier ++ a ∷ []) ++ b ∷ []) ≡ true

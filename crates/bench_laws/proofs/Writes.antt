@@ -29,6 +29,7 @@ use Rattle.bench_laws.proofs.Parts.{Wrote, GoodWrote, Last, replies_to, last_ent
 abbrev pub at_key : ℕ → Place
 at_key key = place_at 0 (pos key)
 
+-- An ordering that is tested to be equal is equal.
 is-equal : (answer : Ordering) → is_eq answer ≡ true → answer ≡ Equal
 is-equal Less h = absurd (let never : ⊥ = cc in never)
 is-equal Equal h = refl
@@ -46,7 +47,8 @@ place-itself a = ap is_eq (tied_itself place_cmp-total a)
 pub same-key : (a b : ℕ) → at_key a ≡ at_key b → a ≡ b
 same-key a b h = let e : pos a ≡ pos b = ap (λ (p : Place). p.key) h in cc
 
--- the key at which a transaction inserts, and the one of those that its session inserted that it updates
+-- the key at which a transaction inserts, and the one of those that its session inserted that it
+-- updates
 abbrev pub first_key : Wrote → ℕ
 first_key w = 4 * (w.turn - 1) + w.session
 
@@ -95,6 +97,7 @@ pub record Touches (w : Wrote) (place : Place) : Type 0 where
   pub low : turn < w.turn
   pub is : place ≡ at_key (4 * turn + w.session)
 
+-- The place of a write that may have been made is the write's own.
 chosen : (b : Bool) (own place : Place) (row : List Cell) → option_map_or (λ (write : Place × Option (List Cell)). is_place write.0 place) (if b then Some (own, Some row) else None) false ≡ true → place ≡ own
 chosen true own place row h = sym (same-place own place h)
 chosen false own place row h = absurd (let never : ⊥ = cc in never)
@@ -119,11 +122,13 @@ entry-touches seed w good place e (inr (inr (inr (inr never)))) h = absurd never
 pub touches : (seed : ℕ) (w : Wrote) → GoodWrote seed w → (place : Place) → has_write place (replies_to w) ≡ true → Touches w place
 touches seed w good place h = let found = any-found (writes_it place) (replies_to w) h in entry-touches seed w good place found.0 found.1 found.2
 
+-- One reply more: what a filter keeps is in the list.
 unfiltered-step : (p : Entry → Bool) (e x : Entry) (xs : List Entry) (b : Bool) → Has e (cond b (x ∷ filter p xs) (filter p xs)) → (Has e (filter p xs) → Has e xs) → (x ≡ e) ⊎ Has e xs
 unfiltered-step p e x xs true (inl same) rest = inl same
 unfiltered-step p e x xs true (inr there) rest = inr (rest there)
 unfiltered-step p e x xs false there rest = inr (rest there)
 
+-- Each reply that a filter keeps is in the list.
 unfiltered : (p : Entry → Bool) (e : Entry) (xs : List Entry) → Has e (filter p xs) → Has e xs
 unfiltered p e [] h = absurd h
 unfiltered p e (x ∷ xs) h = unfiltered-step p e x xs (p x) h (unfiltered p e xs)
@@ -140,6 +145,7 @@ scan-unaccepted (said.Scanned rows) h = refl
 scan-unaccepted said.Memory h = refl
 scan-unaccepted _ h = absurd h
 
+-- No export is told that it is accepted.
 export-unaccepted : (told : Said) → IsExportReply told → is_accepted told ≡ false
 export-unaccepted (said.Exported number rows batches frozen) h = refl
 export-unaccepted (said.Dirty key) h = refl
@@ -173,15 +179,18 @@ behind_two first first_place first_row second second_place second_row place befo
 pub put : (rows : State) (own : Place) (row : List Cell) (place : Place) → at_place (insert_entry place_cmp rows own row) place ≡ cond (is_place place own) (Some row) (at_place rows place)
 put rows own row place = lookup-insert_entry place_cmp-total rows own row place
 
+-- Of two tests that never both pass, either may be asked first.
 swapped : {X : Type 0} (a b : Bool) (x y z : X) → (a ≡ true → b ≡ true → ⊥) → cond a x (cond b y z) ≡ cond b y (cond a x z)
 swapped true true x y z apart = absurd (apart refl refl)
 swapped true false x y z apart = refl
 swapped false b x y z apart = refl
 
+-- Asked with the same answer again, a test chooses the same.
 twice : {X : Type 0} (a b : Bool) (x y z : X) → a ≡ b → cond a x z ≡ cond b x (cond a y z)
 twice a true x y z h = rw h refl
 twice a false x y z h = rw h refl
 
+-- What stands at a place behind two writes in the order of their places.
 both-laid : (rows : State) (p q : Place) (r s : List Cell) (place : Place) (answer : Ordering) → place_cmp q p ≡ answer
     → at_place (laid_over rows (match_ordering answer ((q, Some s) ∷ (p, Some r) ∷ []) ((p, Some s) ∷ []) ((p, Some r) ∷ (q, Some s) ∷ []))) place
     ≡ cond (is_place place q) (Some s) (cond (is_place place p) (Some r) (at_place rows place))
@@ -197,6 +206,7 @@ both-laid rows p q r s place Equal is =
     ∙ refl
 both-laid rows p q r s place Greater is = put (insert_entry place_cmp rows p r) q s place ∙ ap (cond (is_place place q) (Some s)) (put rows p r place)
 
+-- What stands at a place behind two writes, each made or not.
 laid : (rows : State) (p q : Place) (r s : List Cell) (a b : Bool) (place : Place)
     → at_place (laid_over rows (fold (λ (own : WriteSet) (write : Place × Option (List Cell)). insert_entry place_cmp own write.0 write.1) []
     (cons_option (if a then Some (p, Some r) else None) (cons_option (if b then Some (q, Some s) else None) [])))) place ≡ behind_two a p r b q s place (at_place rows place)

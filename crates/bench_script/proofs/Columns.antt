@@ -9,6 +9,7 @@ use Rattle.cell_model.specs.declared.kind.Kind.TheVariants.{I64, Utf8}
 use Rattle.cell_model.specs.Schemas.{AreNamed, IsName}
 use Rattle.bench_spec.specs.Generated.{bench_columns}
 
+-- A name without bytes is one of ASCII.
 no_bytes : IsAscii []
 no_bytes = λ i. omega arith
 
@@ -20,6 +21,7 @@ one_more b bs small rest = λ i. by i
     by zero = small
     by (suc i) = rest i
 
+-- A column with a short name of ASCII is named.
 named : (column : Column) → IsAscii column.name → length column.name ≤ 100 → IsName column
 named column ascii few = (IsUtf8-from_ascii column.name ascii, omega (arith, few))
 

@@ -20,6 +20,7 @@ use Rattle.bench_script.proofs.Fits.{draw_small, row_fits}
 abbrev bench : Script
 bench = bench_script []
 
+-- The command of the line is an export.
 abbrev exports : Line → Bool
 exports l = is_export l.command
 
@@ -28,15 +29,18 @@ pub record IsFine (lines : List Line) : Type 0 where
   pub own : list_all (is_line bench) lines ≡ true
   pub none : count_by exports lines ≡ 0
 
+-- Where there are no lines, all are of the workload, and none exports.
 fine_none : IsFine []
 fine_none = record { own = refl; none = refl }
 
+-- Two lists of lines of the workload without exports are one together.
 fine_append : (xs ys : List Line) → IsFine xs → IsFine ys → IsFine (xs ++ ys)
 fine_append xs ys first second = record {
   own = list_all-append (is_line bench) xs ys ∙ ap₂ (λ (a b : Bool). a && b) first.own second.own;
   none = sum_by-append _ xs ys ∙ ap₂ (λ (a b : ℕ). a + b) first.none second.none;
 }
 
+-- One line of the workload more that is no export leaves lines without exports.
 fine_more : (l : Line) (lines : List Line) → is_line bench l ≡ true → is_export l.command ≡ false → IsFine lines → IsFine (l ∷ lines)
 fine_more l lines own none others = fine_append (l ∷ []) lines (record { own = ap (λ (b : Bool). b && true) own; none = ap (λ (b : Bool). 0 + (if b then 1 else 0)) none }) others
 
@@ -65,6 +69,7 @@ old_key_few round session drawn some few small = below (drawn % round) (mod_belo
 pub draw_few : (seed round session number : ℕ) → 0 < number → draw_in seed round session number < 2 ^ 31
 draw_few seed round session number some = draw_small seed (5 * (key_of round session - 1) + number) (omega (arith, some))
 
+-- The lines of a transaction are of the workload, and none of them exports.
 transaction_fine : (seed round session : ℕ) → 0 < round → round ≤ 4096 → is_within 1 4 session ≡ true → session ≤ 4 → IsFine (transaction seed round session)
 transaction_fine seed round session some few within small =
     let begins : (is_within 1 4 session && true) ≡ true = ap (λ (b : Bool). b && true) within in
@@ -76,15 +81,18 @@ transaction_fine seed round session some few within small =
     (fine_more (line session (command.Update 0 _)) _ (row_own session (row_of (updated_key round session (draw_in seed round session 3)) (draw_in seed round session 4) (draw_in seed round session 5)) within updates) refl
     (fine_more (line session command.Commit) [] begins refl fine_none)))
 
+-- The lines of a write round are of the workload, and none of them exports.
 writes_fine : (seed round : ℕ) → 0 < round → round ≤ 4096 → IsFine (write_round seed round)
 writes_fine seed round some few = fine_each (transaction seed round) 1 4 (λ q low high.
     transaction_fine seed round q some few (ap₂ (λ (a b : Bool). a && b) (le-leb 1 q low) (le-leb q 4 (omega (arith, high)))) (omega (arith, high)))
 
+-- The lines that freeze a block are of the workload, and none of them exports.
 freezing_fine : (block : ℕ) → block < 512 → IsFine (freezing block)
 freezing_fine block few =
     let own : nat_lt block 512 ≡ true = lt-ltb block 512 few in
     fine_more (line 1 (command.Seal 0 block)) _ own refl (fine_more (line 1 (command.Gather 0 block)) [] own refl fine_none)
 
+-- The lines of a round of upkeep are of the workload, and none of them exports.
 upkeep_fine : (round : ℕ) → round ≤ 4096 → IsFine (upkeep_round round)
 upkeep_fine round few = fine_more (line 1 command.Prune) _ refl refl (fine_more (line 1 command.Observe) _ refl refl
     (fine_more (line 1 command.Observe) _ refl refl (fine_more (line 1 (command.Compact 0)) _ refl refl
@@ -94,9 +102,11 @@ upkeep_fine round few = fine_more (line 1 command.Prune) _ refl refl (fine_more 
 abbrev lines_in : List (List Line) → List Line
 lines_in rounds = flat_map (λ round. round) rounds
 
+-- The lines of two lists of rounds are those of the one, then of the other.
 lines_append : (xs ys : List (List Line)) → lines_in (xs ++ ys) ≡ lines_in xs ++ lines_in ys
 lines_append xs ys = flat_map-append (λ (round : List Line). round) xs ys
 
+-- The rounds of one number are lines of the workload, and none of them exports.
 at_fine : (seed round : ℕ) → 0 < round → round ≤ 4096 → IsFine (lines_in (rounds_at seed round))
 at_fine seed round some few = by (round % 16 == 0)
   where
@@ -104,6 +114,7 @@ at_fine seed round some few = by (round % 16 == 0)
     by true = fine_append (write_round seed round) _ (writes_fine seed round some few) (fine_append (upkeep_round round) [] (upkeep_fine round few) fine_none)
     by false = fine_append (write_round seed round) [] (writes_fine seed round some few) fine_none
 
+-- The rounds of successive numbers are lines of the workload, and none of them exports.
 rounds_fine : (seed a n : ℕ) → 0 < a → a + n ≤ 4097 → IsFine (lines_in (flat_map (rounds_at seed) (range_with_len a n)))
 rounds_fine seed a zero some few = fine_none
 rounds_fine seed a (suc n) some few =
@@ -111,6 +122,7 @@ rounds_fine seed a (suc n) some few =
     subst IsFine (sym (lines_append (rounds_at seed a) others))
     (fine_append (lines_in (rounds_at seed a)) (lines_in others) (at_fine seed a some (omega (arith, few))) (rounds_fine seed (a + 1) n (omega arith) (omega (arith, few))))
 
+-- Four that are true make a conjunction that is true.
 all_true : (a b c d : Bool) → a ≡ true → b ≡ true → c ≡ true → d ≡ true → (a && b && c && d) ≡ true
 all_true a b c d first second third fourth = rw (first, second, third, fourth) refl
 

@@ -30,9 +30,11 @@ draw_small seed (suc n) some = below (state_after seed n * 6364136223846793005 +
 number_fits : (at : ℕ) (b : Bool) → b ≡ true → is_none (if not b then Some (RangeAt at) else None) ≡ true
 number_fits at b is = ap (λ (c : Bool). is_none (if not c then Some (RangeAt at) else None)) is
 
+-- A key of 63 bits is an integer of 64 bits with a sign.
 key_within : (k : ℕ) → k < 2 ^ 63 → is_integer_of I64 (pos k) ≡ true
 key_within k few = le-leb k (2 ^ 63 - 1) (omega (arith, few))
 
+-- The number that a draw makes is an integer of 64 bits with a sign.
 number_within : (n : ℕ) → is_integer_of I64 (number_of n) ≡ true
 number_within n = within (n % 2001) (mod_below n 2001 (omega arith))
   where
@@ -56,6 +58,7 @@ text_fits t few = by (t % 4 == 0)
     by true = refl
     by false = rw (utf8, short) refl
 
+-- A row of three cells of which each fits its column fits the table.
 cells_fit : (a b c : Cell) → is_none (cell_fault 0 key a) ≡ true → is_none (cell_fault 1 number b) ≡ true → is_none (cell_fault 2 text c) ≡ true
     → fits bench_columns (a ∷ b ∷ c ∷ []) ≡ true
 cells_fit a b c first second third = rw (first, second, third) refl

@@ -13,6 +13,7 @@ use Rattle.workload_laws.proofs.OneGrammar.{text_is_read}
 use Rattle.bench_spec.specs.Generated.{generated}
 use Rattle.bench_script.proofs.Fine.{generated_valid}
 
+-- Each command is taken where all kinds of commands are.
 taken : (asked : Command) → is_taken whole.commands asked ≡ true
 taken command.Begin = refl
 taken (command.Get table key) = refl
@@ -29,6 +30,7 @@ taken (command.Seal table block) = refl
 taken (command.Gather table block) = refl
 taken (command.Export table) = refl
 
+-- The command of each line is taken where all kinds of commands are.
 all_taken : (lines : List Line) → list_all (λ l. is_taken whole.commands l.command) lines ≡ true
 all_taken [] = refl
 all_taken (l ∷ lines) = ap₂ (λ (a b : Bool). a && b) (taken l.command) (all_taken lines)

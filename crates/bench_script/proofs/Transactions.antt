@@ -16,6 +16,7 @@ row_same : (row : List Cell) (k k' n n' t t' : ℕ) → row ≡ row_of k n t →
 row_same row k k' n n' t t' is same_key same_number same_text =
     is ∙ ap (λ (x : ℕ). row_of x n t) same_key ∙ ap (λ (x : ℕ). row_of k' x t) same_number ∙ ap (λ (x : ℕ). row_of k' n' x) same_text
 
+-- Four elements that are added one by one stand behind the old ones.
 four : {X : Type 0} (old : List X) (a b c d : X) (one two three all : List X) → one ≡ old ++ a ∷ [] → two ≡ one ++ b ∷ [] → three ≡ two ++ c ∷ [] → all ≡ three ++ d ∷ []
     → all ≡ old ++ a ∷ b ∷ c ∷ d ∷ []
 four old a b c d one two three all e f g h =

@@ -51,6 +51,7 @@ module _ (rows new_rows : RowsValue) (chains new : Chains) (lists left : SlotLis
     (image : new_rows.image ≡ rows.image)
     (frozen : IfSome new_rows.image (IsImageOf new_rows.columns new_rows.rows))
     (fewer : (q k : ℕ) → list_any (λ undo. is_own undo q) (entries_at new k) ≡ true → list_any (λ undo. is_own undo q) (entries_at chains k) ≡ true) where
+  -- A body that is not loose has no chain after the change either.
   quiet : is_loose phase ≡ false → new ≡ []
   quiet frozen = no_chain new each (λ k. nil k (ap (λ (c : Chains). entries_at c k) (is.quiet frozen)))
 
@@ -87,6 +88,7 @@ module _ (rows new_rows : RowsValue) (chains new : Chains) (lists left : SlotLis
 
 -- ---- a commit
 
+-- An entry that a commit stamped is nobody's own, and each other stays whose it was.
 own_stamped : (session stamp number q : ℕ) (u : Undo Before) (b : Bool) → is_own u session ≡ b →
     is_own (stamped session stamp number u) q ≡ cond b false (is_own u q)
 own_stamped session stamp number q u true own = ap (λ b. is_none (cond b (Some stamp) u.stamp) && not (is_move u.kind) && eqb u.session q) own
@@ -118,6 +120,7 @@ stamped_none_left session stamp number (e ∷ es) =
     neither true = refl
     neither false = refl
 
+-- The commit of a session without entries of its own leaves the entries as they are.
 stamped_none : (session stamp number : ℕ) (es : List (Undo Before)) → list_any (λ undo. is_own undo session) es ≡ false →
     map (stamped session stamp number) es ≡ es
 stamped_none session stamp number [] none = refl
@@ -131,6 +134,7 @@ stamped_none session stamp number (e ∷ es) none = go (is_own e session) refl n
         ap (λ b. let u : Undo Before = record e { stamp = cond b (Some stamp) e.stamp; number = cond b number e.number } in u ∷ map (stamped session stamp number) es) own
         ∙ ap (λ (l : List (Undo Before)). e ∷ l) (rest none)
 
+-- Before-images that fit the columns still do when a commit stamped the entries.
 fits_stamped : (columns : List Column) (session stamp number : ℕ) (es : List (Undo Before)) → All (λ undo. BeforeFits columns undo.before) es →
     All (λ undo. BeforeFits columns undo.before) (map (stamped session stamp number) es)
 fits_stamped columns session stamp number [] all = All-nil (λ (undo : Undo Before). BeforeFits columns undo.before)
@@ -139,6 +143,7 @@ fits_stamped columns session stamp number (e ∷ es) all =
     (All-head (λ (undo : Undo Before). BeforeFits columns undo.before) e es all)
     (fits_stamped columns session stamp number es (All-tail (λ (undo : Undo Before). BeforeFits columns undo.before) e es all))
 
+-- Entries that can be laid back still can when a commit stamped them.
 lays_stamped : (row : Option Row) (session stamp number : ℕ) (es : List (Undo Before)) → LaysBack row es → LaysBack row (map (stamped session stamp number) es)
 lays_stamped row session stamp number [] lays = tt
 lays_stamped row session stamp number (e ∷ es) lays = (lays.0, lays_stamped (laid_back row e.before) session stamp number es lays.1)
@@ -189,6 +194,7 @@ filtered_fewer p q (e ∷ es) own = go (p e) (is_own e q) refl own (filtered_few
     go true false is own rest = ap (λ x. x || list_any (λ (undo : Undo Before). is_own undo q) es) is ∙ rest (sym (ap (λ x. x || list_any (λ (undo : Undo Before). is_own undo q) (filter p es)) is) ∙ own)
     go false false is own rest = ap (λ x. x || list_any (λ (undo : Undo Before). is_own undo q) es) is ∙ rest own
 
+-- Before-images that fit the columns do so among those that a filter keeps.
 fits_filtered : (columns : List Column) (p : Undo Before → Bool) (es : List (Undo Before)) → All (λ undo. BeforeFits columns undo.before) es →
     All (λ undo. BeforeFits columns undo.before) (filter p es)
 fits_filtered columns p [] all = All-nil (λ (undo : Undo Before). BeforeFits columns undo.before)
@@ -205,6 +211,7 @@ all_dropped oldest (e ∷ es) all =
     ap (λ b. cond (not b) (e ∷ filter (λ undo. not (is_stamped_by undo oldest)) es) (filter (λ undo. not (is_stamped_by undo oldest)) es)) (All-head (λ undo. is_stamped_by undo oldest ≡ true) e es all)
     ∙ all_dropped oldest es (All-tail (λ undo. is_stamped_by undo oldest ≡ true) e es all)
 
+-- The entries that a pruning leaves of lawful ones can still be laid back.
 lays_pruned : (row : Option Row) (oldest : ℕ) (es : List (Undo Before)) → IsLawful es → LaysBack row es → LaysBack row (filter (λ undo. not (is_stamped_by undo oldest)) es)
 lays_pruned row oldest [] lawful lays = tt
 lays_pruned row oldest (e ∷ es) lawful lays = go (is_stamped_by e oldest) refl (lays_pruned (laid_back row e.before) oldest es (IsLawful-tail e es lawful) lays.1)

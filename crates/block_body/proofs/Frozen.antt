@@ -17,6 +17,7 @@ use Rattle.block_body.specs.Frozen.{IsImageOf, image_of}
 use Rattle.block_body.specs.Rows.{RowsValue}
 use Rattle.block_body.proofs.Slots.{slots-rows}
 
+-- There are as many lists of buffers as columns.
 arrays_long : (columns : List Column) (rows : List Row) → length (map (λ (array : Array). array.buffers) (arrays_of columns rows)) ≡ length columns
 arrays_long columns rows =
     length-map (arrays_of columns rows) (λ (array : Array). array.buffers)
@@ -27,6 +28,7 @@ arrays_long columns rows =
 pub whole_long : (image : ImageValue) → IsWhole image → length image.form.buffers ≡ length image.columns
 whole_long image whole = ap length whole.form.buffers ∙ arrays_long image.columns (rows_of image)
 
+-- Rows that are put into slots and taken out again are the same.
 rows_again : (batch : List Row) → flat_map (λ slot. option_to_list slot) (map (λ row. Some row) batch) ≡ batch
 rows_again [] = refl
 rows_again (row ∷ batch) = ap (λ (l : List Row). row ∷ l) (rows_again batch)

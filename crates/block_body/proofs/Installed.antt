@@ -51,11 +51,13 @@ undone columns (Some cells) change.Gone is fits = refl
 abbrev pub undo_of : Origin → Before → Undo Before
 undo_of by before = record { session = by.session; stamp = by.stamp; number = 0; kind = by.kind; before = before }
 
+-- A session's write is no half of a move.
 no_move : (new : Change) → is_move (kind_of new) ≡ false
 no_move (change.Put r) = refl
 no_move (change.Patch p) = refl
 no_move change.Gone = refl
 
+-- Where no other session's open write is found, an uncommitted entry on top is the session's.
 own_below : (session : ℕ) (e : Undo Before) (rest : Option (Undo Before)) (stamp : Option ℕ) (moves same : Bool) → eqb e.session session ≡ same →
     IfNone stamp (moves ≡ false) → option_map (λ (u : Undo Before). u.session) (cond (is_none stamp && not moves && not same) (Some e) rest) ≡ None →
     IfNone stamp (session ≡ e.session)
@@ -89,11 +91,13 @@ module _ (rows new_rows : RowsValue) (chains new : Chains) (slot : ℕ) (by : Or
     (rows_are : new_rows.rows ≡ slice_set rows.rows slot (row_after (get_or rows.rows slot None) put))
     (columns : new_rows.columns ≡ rows.columns)
     (fits : ChangeFits rows.columns put) where
+  -- The slot has the row after the change.
   row_now : get_or new_rows.rows slot None ≡ row_after (get_or rows.rows slot None) put
   row_now =
       ap (λ (l : List (Option Row)). get_or l slot None) rows_are
       ∙ get_or-set_same rows.rows slot (row_after (get_or rows.rows slot None) put) None within
 
+  -- Another slot has the row that it had.
   row_else : (k : ℕ) → k ≢ slot → get_or new_rows.rows k None ≡ get_or rows.rows k None
   row_else k apart =
       ap (λ (l : List (Option Row)). get_or l k None) rows_are
@@ -109,6 +113,7 @@ module _ (rows new_rows : RowsValue) (chains new : Chains) (slot : ℕ) (by : Or
       subst (λ (r : Option Row). WantsRow before r) (sym row_now)
       (subst (λ (b : Before). WantsRow b (row_after (get_or rows.rows slot None) put)) (sym before_is) (wants_after (get_or rows.rows slot None) put has))
 
+  -- With the before-image laid back the slot has the row that it had.
   back : laid_back (get_or new_rows.rows slot None) before ≡ get_or rows.rows slot None
   back =
       ap (λ (r : Option Row). laid_back r before) row_now

@@ -14,6 +14,7 @@ use Rattle.cell_model.specs.Values.{is_value_of}
 use Rattle.block_spec.specs.Slots.{Row}
 use Rattle.block_body.specs.Keys.{HasKey}
 
+-- A kind that is tested to be of signed integers of 64 bits is that kind.
 i64_is : (k : Kind) → is_i64 k ≡ true → k ≡ kind.I64
 i64_is kind.I8 is = cc
 i64_is kind.I16 is = cc
@@ -27,10 +28,12 @@ i64_is kind.Bool is = cc
 i64_is kind.Utf8 is = cc
 i64_is kind.Binary is = cc
 
+-- Where neither a first fault nor one behind it is found, the first is none.
 first_none : (a rest : Option RowFault) → cond (is_none a) rest a ≡ None → a ≡ None
 first_none None rest is = refl
 first_none (Some fault) rest is = cc
 
+-- Where a row has no fault, there is none of its cells.
 same_length : (b : Bool) (fault : Option RowFault) → cond b fault (Some Arity) ≡ None → fault ≡ None
 same_length true fault is = is
 same_length false fault is = cc
@@ -39,10 +42,12 @@ in_range : (b : Bool) (rest : Option RowFault) → cond (not b) (Some (RangeAt 0
 in_range true rest is = refl
 in_range false rest is = cc
 
+-- A null in a column that takes none is a fault.
 not_null : (nullable : Bool) → not nullable ≡ true → cond nullable None (Some (NullAt 0)) ≡ None → ⊥
 not_null true not is = let never : false ≡ true = not in cc
 not_null false not is = cc
 
+-- A row that begins with a signed integer of 64 bits has a key.
 value_key : (k : Kind) (cell : Cell) (cells : Row) → k ≡ kind.I64 → is_value_of k cell ≡ true → HasKey (cell ∷ cells)
 value_key k cell cells is value = go cell (ap (λ k. is_value_of k cell) (sym is) ∙ value)
   where
@@ -53,12 +58,14 @@ value_key k cell cells is value = go cell (ap (λ k. is_value_of k cell) (sym is
     go (Text t) value = cc
     go (Blob b) value = cc
 
+-- The last two of three that are all true.
 parts : (a b c : Bool) → (a && b && c) ≡ true → (b ≡ true) × (c ≡ true)
 parts true true true is = (refl, refl)
 parts true true false is = cc
 parts true false c is = cc
 parts false b c is = cc
 
+-- A row whose first cell fits a column of keys has a key.
 cell_key : (column : Column) (cell : Cell) (cells : Row) → is_i64 column.kind ≡ true → not column.nullable ≡ true → cell_fault 0 column cell ≡ None → HasKey (cell ∷ cells)
 cell_key column Null cells i64 set fault = absurd (not_null column.nullable set fault)
 cell_key column (Num n) cells i64 set fault = value_key column.kind (Num n) cells (i64_is column.kind i64) (in_range (is_value_of column.kind (Num n)) _ fault)

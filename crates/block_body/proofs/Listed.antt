@@ -4,11 +4,13 @@ use Rattle.std.proofs.lemmas.Bool.{cases_eq, eq-eqb, ne_eqb}
 use Rattle.std.proofs.lemmas.List.Folds.{list_any_more}
 use Rattle.block_body.specs.Chains.{is_listed}
 
+-- A listed slot that is changed once more is as if it was changed once.
 once : {X : Type 0} (S : X → X) → ((x : X) → S (S x) ≡ S x) →
     (b : Bool) (es now : X) → now ≡ cond b (S es) es → S now ≡ cond (b || true) (S es) es
 once S twice true es now is = ap S is ∙ twice es
 once S twice false es now is = ap S is
 
+-- A slot that is not the next listed one is as it was.
 apart : {X : Type 0} (S : X → X) (b : Bool) (es now : X) → now ≡ cond b (S es) es → now ≡ cond (b || false) (S es) es
 apart S true es now is = is
 apart S false es now is = is

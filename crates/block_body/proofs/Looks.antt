@@ -15,12 +15,14 @@ use Rattle.undo_chain.specs.State.{ChainState}
 use Rattle.block_body.specs.Chains.{IsChain, entries_of}
 use Rattle.block_body.proofs.Whole.{has_none-some}
 
+-- One number more stands at the end of a range.
 range_next : (a n : ℕ) → range_with_len a (suc n) ≡ range_with_len a n ++ (a + n) ∷ []
 range_next a zero = let same : a ≡ a + 0 = omega arith in ap (λ (k : ℕ). k ∷ []) same
 range_next a (suc n) =
     let same : a + 1 + n ≡ a + suc n = omega arith in
     ap (λ (l : List ℕ). a ∷ l) (range_next (a + 1) n ∙ ap (λ (k : ℕ). range_with_len (a + 1) n ++ k ∷ []) same)
 
+-- One number more stands at the end of the numbers from 0 on.
 range_more : (n : ℕ) → range_with_len 0 (n + 1) ≡ range_with_len 0 n ++ n ∷ []
 range_more n =
     let next : n + 1 ≡ suc n = omega arith in
@@ -83,10 +85,12 @@ module _ (slot : ℕ) (row : Option Row) (found : Option (ChainState Before)) (a
 
 -- ---- an empty body
 
+-- Where each element passes, a filter keeps all.
 filter_all : {X : Type 0} (p : X → Bool) (xs : List X) → ((x : X) → p x ≡ true) → filter p xs ≡ xs
 filter_all p [] all = refl
 filter_all p (x ∷ xs) all = ap (λ b. cond b (x ∷ filter p xs) (filter p xs)) (all x) ∙ ap (λ (l : List _). x ∷ l) (filter_all p xs all)
 
+-- Where nothing is made of each element, nothing is made of the list.
 filter_map_none : {X Y : Type 0} (h : X → Option Y) (xs : List X) → ((x : X) → h x ≡ None) → filter_map h xs ≡ []
 filter_map_none h [] none = refl
 filter_map_none h (x ∷ xs) none = ap (λ (o : Option _). cons_option o (filter_map h xs)) (none x) ∙ filter_map_none h xs none
@@ -109,6 +113,7 @@ slot_passes p (slot ∷ slots) (suc j) here all = slot_passes p slots j here (re
 bare_at : (slots : List Slot) (j : ℕ) → list_all is_bare slots ≡ true → is_bare (get_or slots j bare) ≡ true
 bare_at slots j all = slot_passes is_bare slots j refl all
 
+-- A bare slot has no row that may move.
 bare_row : (j : ℕ) (row : Option Row) (entries : List (Undo Before)) → (is_none row && has_none entries) ≡ true → movable_row j row (has_none entries) ≡ None
 bare_row j None entries is = refl
 bare_row j (Some row) entries is = let no : false ≡ true = is in cc
@@ -126,6 +131,7 @@ all_gaps body n empty =
     append-nil (range_with_len 0 n)
     ∙ sym (filter_all (λ j. is_bare (slot_in body j)) (range_with_len 0 n) (λ j. bare_at body.slots j empty))
 
+-- At a place within a range stands its first number plus the place.
 range_at : (a n k : ℕ) (rest : List ℕ) → k < n → slice_get (range_with_len a n ++ rest) k ≡ Some (a + k)
 range_at a zero k rest lt = absurd (omega arith)
 range_at a (suc n) zero rest lt = let same : a ≡ a + 0 = omega arith in ap (λ (x : ℕ). Some x) same
@@ -133,6 +139,7 @@ range_at a (suc n) (suc k) rest lt =
     let same : a + 1 + k ≡ a + suc k = omega arith in
     range_at (a + 1) n k rest (omega arith) ∙ ap (λ (x : ℕ). Some x) same
 
+-- At a place past a range stands what is behind it.
 range_past : (a n k : ℕ) (rest : List ℕ) → n ≤ k → slice_get (range_with_len a n ++ rest) k ≡ slice_get rest (k - n)
 range_past a zero k rest le = let same : k ≡ k - 0 = omega arith in ap (λ (x : ℕ). slice_get rest x) same
 range_past a (suc n) zero rest le = absurd (omega arith)

@@ -14,17 +14,21 @@ use Rattle.undo_chain.specs.Lawful.{IsLawful}
 use Rattle.block_body.specs.Chains.{Chains, AreChains, IsChain, chain_at}
 use Rattle.block_body.specs.Tables.{kept, kept_for}
 
+-- An ordering that is tested to be equal is equal.
 Equal-from_is_eq : (r : Ordering) → is_eq r ≡ true → r ≡ Equal
 Equal-from_is_eq Less tied = cc
 Equal-from_is_eq Equal tied = refl
 Equal-from_is_eq Greater tied = cc
 
+-- A slot that is found at the place of another is that slot.
 pub tied : (slot q : ℕ) → is_at (nat_cmp slot) q ≡ true → slot ≡ q
 tied slot q is = nat_cmp-IsAntisymmetric slot q (Equal-from_is_eq (nat_cmp slot q) is)
 
+-- Each slot is at its own place.
 pub is_at-same : (slot : ℕ) → is_at (nat_cmp slot) slot ≡ true
 is_at-same slot = ap is_eq (sym (nat_cmp_is slot slot Equal refl))
 
+-- No slot is at the place of another.
 pub is_at-other : (slot q : ℕ) → q ≢ slot → is_at (nat_cmp slot) q ≡ false
 is_at-other slot q other = go (is_at (nat_cmp slot) q) refl
   where
@@ -32,9 +36,11 @@ is_at-other slot q other = go (is_at (nat_cmp slot) q) refl
     go true is = absurd (other (sym (tied slot q is)))
     go false is = refl
 
+-- Two options that are equal contain the same.
 some_is : {X : Type 0} (a b : X) → Some a ≡ Some b → a ≡ b
 some_is a b is = cc
 
+-- An option is not both nothing and something.
 none_not : {X : Type 0} (a : Option X) (x : X) → a ≡ None → a ≡ Some x → ⊥
 none_not a x none some = cc
 

@@ -8,7 +8,7 @@ use Rattle.block_spec.specs.declared.change.Before.{Before}
 use Rattle.block_spec.specs.declared.change.Change.{Change}
 use Rattle.block_spec.specs.declared.change.Change.TheVariants as change
 use Rattle.block_spec.specs.Slots.{Row, Slot, bare, is_bare, has_none, image_before, laid_back, taken_back}
-use Rattle.block_spec.specs.Bodies.{Body as BodyValue, modified, slot_in, with_slot}
+use Rattle.block_spec.specs.Bodies.{Body as BodyValue, slot_in, with_slot}
 use Rattle.undo_chain.specs.declared.undo.Undo.{Undo}
 use Rattle.undo_chain.specs.Entry.{is_stamped_by}
 use Rattle.undo_chain.specs.Lawful.{IsLawful}
@@ -41,16 +41,13 @@ some_within slots j some = ⊎_elim (λ lt. lt) past (cases_lt j (length slots))
     past : length slots ≤ j → j < length slots
     past le = let never : false ≡ true = ap (λ (s : Slot). is_some s.row) (sym (get_or_past slots j bare le)) ∙ some in cc
 
-module _ (body : BodyValue) (slot stamp : ℕ) where
-  moved_as : (one two : Slot) → one ≡ two → record (modified body) { slots = slice_set body.slots slot one } ≡ record (modified body) { slots = slice_set body.slots slot two }
-  moved_as one two is = ap (λ (s : Slot). record (modified body) { slots = slice_set body.slots slot s }) is
-
 -- a row that was taken away is laid back
 gone_back : (row : Option Row) → is_some row ≡ true → laid_back None (image_before row change.Gone) ≡ row
 gone_back None some = cc
 gone_back (Some row) some = refl
 
 module _ (old one : BodyValue) (slot : ℕ) (by : Origin) (some : is_some (slot_in old slot).row ≡ true) (one_is : one ≡ with_slot slot (changed by change.Gone) old) where
+  -- The slot is as it was with its row taken away.
   slot_now : slot_in one slot ≡ changed by change.Gone (slot_in old slot)
   slot_now =
       ap (λ (b : BodyValue). slot_in b slot) one_is

@@ -9,6 +9,7 @@ use Rattle.block_body.specs.Changes.{IsNextVersioned}
 use Rattle.undo_chain.specs.declared.undo.Undo.{Undo}
 use Rattle.undo_chain.specs.State.{ChainState}
 
+-- Where entries are counted, there is not none of them.
 some_entry : (es : List (Undo Before)) → 0 < length es → has_none es ≡ false
 some_entry [] less = absurd (omega (arith, less))
 some_entry (e ∷ es) less = refl
@@ -16,9 +17,11 @@ some_entry (e ∷ es) less = refl
 module _ (body : BodyValue) (rows : List (Option Row)) (chains : Chains) (each : AreChains chains)
     (at : (slot : ℕ) → slot_in body slot ≡ slot_at rows chains slot)
     (within : (slot : ℕ) → 0 < length (entries_at chains slot) → slot < length body.slots) where
+  -- A slot without a chain has no entry.
   none_there : (slot : ℕ) → chain_at chains slot ≡ None → has_none (slot_in body slot).entries ≡ true
   none_there slot is = ap (λ (s : Slot). has_none s.entries) (at slot) ∙ ap (λ (o : Option (ChainState Before)). has_none (entries_of o)) is
 
+  -- A slot with a chain has an entry.
   one_there : (slot : ℕ) → IsSome (chain_at chains slot) → 0 < length (entries_at chains slot)
   one_there slot some = go (chain_at chains slot) refl some
     where

@@ -29,9 +29,7 @@ module _ (session : ℕ) (rows new : RowsValue) (chains after : Chains) (x : ℕ
     (columns : new.columns ≡ rows.columns)
     (room : new.room ≡ rows.room)
     (left : IsKept new x (get_or new.rows x None) (entries_at after x)) where
-  row : Option Row
-  row = fold laid_back (get_or rows.rows x None) (own_images session (entries_at chains x))
-
+  -- At the slot stands the row with the session's before-images laid back.
   row_here : get_or (slice_set rows.rows x (fold laid_back (get_or rows.rows x None) (own_images session (entries_at chains x)))) x None
       ≡ fold laid_back (get_or rows.rows x None) (own_images session (entries_at chains x))
   row_here = ⊎_elim within past (cases_lt x (length rows.rows))
@@ -57,6 +55,7 @@ module _ (session : ℕ) (rows new : RowsValue) (chains after : Chains) (x : ℕ
       ∙ ap (λ (r : Option Row). slot_of r (entries_at after x)) row_here
       ∙ ap (slot_of (fold laid_back (get_or rows.rows x None) (own_images session (entries_at chains x)))) here
 
+  -- Another slot has the row that it had.
   row_other : (k : ℕ) → k ≢ x → get_or new.rows k None ≡ get_or rows.rows k None
   row_other k apart =
       ap (λ (l : List (Option Row)). get_or l k None) laid
@@ -89,11 +88,13 @@ module _ (session : ℕ) (rows new : RowsValue) (chains after : Chains) (x : ℕ
             lays = was.lays;
           }))
 
+-- A test that implies another adds nothing to that one.
 absorbs : (a b : Bool) → (b ≡ true → a ≡ true) → (a || b) ≡ a
 absorbs true b has = refl
 absorbs false true has = sym (has refl)
 absorbs false false has = refl
 
+-- Found now or so before is the same as so before or found.
 swapped : (found was : Bool) → cond found true was ≡ (was || found)
 swapped true true = refl
 swapped true false = refl

@@ -16,6 +16,7 @@ use Rattle.block_body.specs.Bodies.{SessionSlots, SlotLists, is_of, slots_of}
 abbrev slots_in : Option SessionSlots → List ℕ
 slots_in found = option_map_or (λ listed. listed.slots) found []
 
+-- A list of no slots that is no session's.
 abbrev no_list : SessionSlots
 no_list = record { session = 0; slots = [] }
 
@@ -28,6 +29,7 @@ past test xs none = go (nat_lt (position_or_len test xs) (length xs)) refl none
     go true is none = absurd (let never : ⊥ = cc in never)
     go false is none = grind (arith, nat_tests, is)
 
+-- Where a session's list stands nowhere, it is not found.
 nowhere : (session : ℕ) (lists : SlotLists) → position (is_of session) lists ≡ None → find (is_of session) lists ≡ None
 nowhere session lists none =
     find_at (is_of session) lists
@@ -74,6 +76,7 @@ push_more lists x other number is =
     go (Some l) is = is
 
 module _ (session : ℕ) (lists : SlotLists) (at : ℕ) (stands : position (is_of session) lists ≡ Some at) where
+  -- The session's list stands within the lists.
   within : at < length lists
   within = (position-Some (is_of session) lists at no_list stands).0
 
@@ -86,6 +89,7 @@ module _ (session : ℕ) (lists : SlotLists) (at : ℕ) (stands : position (is_o
   slots_there d = ap slots_in
       (find_at (is_of session) lists ∙ ap (slice_get lists) (first (is_of session) lists at stands) ∙ slice_get-get_or lists at d within)
 
+  -- The list that stands there is not another session's.
   not_of : (d : SessionSlots) (other : ℕ) → other ≢ session → is_of other (get_or lists at d) ≡ false
   not_of d other apart = ne_eqb (get_or lists at d).session other (λ e. apart (sym e ∙ own d))
 

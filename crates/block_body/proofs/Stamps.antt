@@ -7,6 +7,7 @@ use Rattle.undo_chain.specs.Entry.{is_own, is_move}
 use Rattle.undo_chain.specs.Lawful.{NoneStampedAbove, IsStampedUpTo}
 use Rattle.undo_chain.specs.Stamped.{stamped}
 
+-- An entry to which a commit's stamp is given again stays as it is.
 stamped_again : {D : Type 0} (session stamp number : ℕ) (u : Undo D) →
     stamped session stamp number (stamped session stamp number u) ≡ stamped session stamp number u
 stamped_again {D} session stamp number u = go u.stamp u.number (is_move u.kind) (eqb u.session session)
@@ -32,6 +33,7 @@ stamped_twice {D} session stamp number (e ∷ es) =
     ap (λ (u : Undo D). u ∷ map (stamped session stamp number) (map (stamped session stamp number) es)) (stamped_again session stamp number e)
     ∙ ap (λ (l : List (Undo D)). stamped session stamp number e ∷ l) (stamped_twice session stamp number es)
 
+-- Given the limit as its stamp or left alone, an entry stays within the limit.
 up_to : (own : Bool) (s : Option ℕ) (limit : ℕ) → IfSome s (λ n. n ≤ limit) → IfSome (cond own (Some limit) s) (λ n. n ≤ limit)
 up_to true s limit is = omega arith
 up_to false s limit is = is

@@ -23,6 +23,7 @@ some_entry (e ∷ es) some = omega arith
 
 module _ (rows : RowsValue) (slot : ℕ) (es rest : List (Undo Before)) (undo : Undo Before) (is : es ≡ undo ∷ rest)
     (kept : IsKept rows slot (get_or rows.rows slot None) es) where
+  -- The entries can be laid back with the newest of them on top.
   kept_top : IsKept rows slot (get_or rows.rows slot None) (undo ∷ rest)
   kept_top = subst (IsKept rows slot (get_or rows.rows slot None)) is kept
 
@@ -34,6 +35,7 @@ module _ (rows : RowsValue) (slot : ℕ) (es rest : List (Undo Before)) (undo : 
   pub top_within : slot < length rows.rows
   top_within = kept_top.within (omega arith)
 
+  -- When the newest entry is laid back, the rest can be.
   rest_kept : (new : RowsValue) → new.columns ≡ rows.columns → new.room ≡ rows.room →
       new.rows ≡ slice_set rows.rows slot (laid_back (get_or rows.rows slot None) undo.before) → IsKept new slot (get_or new.rows slot None) rest
   rest_kept new columns room laid = record {

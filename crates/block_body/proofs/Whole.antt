@@ -35,12 +35,14 @@ any_row f at [] = refl
 any_row f at (None ∷ rows) = any_row f (at + 1) rows
 any_row f at (Some row ∷ rows) = ap not (sym (ne_eqb (1 + taken rows) 0 (λ is. absurd (omega arith))))
 
+-- Where no row is counted, each slot is without one.
 no_row : (f : ℕ → List (Undo Before)) (at : ℕ) (rows : List (Option Row)) → taken rows ≡ 0 →
     list_all (λ slot. is_none slot.row) (slots_from f at rows) ≡ true
 no_row f at [] none = refl
 no_row f at (None ∷ rows) none = no_row f (at + 1) rows none
 no_row f at (Some row ∷ rows) none = absurd (omega arith)
 
+-- Where a row is counted, not each slot is without one.
 some_row : (f : ℕ → List (Undo Before)) (at : ℕ) (rows : List (Option Row)) → 0 < taken rows →
     list_all (λ slot. is_none slot.row) (slots_from f at rows) ≡ false
 some_row f at [] some = absurd (omega arith)
@@ -55,12 +57,14 @@ front_true f at (Some row ∷ rows) all = front_true f (at + 1) rows (λ k lt. a
 front_true f at (None ∷ rows) all =
     no_row f (at + 1) rows (⊎_elim (λ some. let no : false ≡ true = all 0 some in cc) (λ le. omega arith) (cases_lt 0 (taken rows)))
 
+-- Of so many first slots no more have a row.
 taken_few : {X : Type 0} (n : ℕ) (rows : List (Option X)) → taken (take n rows) ≤ n
 taken_few zero rows = omega arith
 taken_few (suc n) [] = omega arith
 taken_few (suc n) (None ∷ rows) = let rest : taken (take n rows) ≤ n = taken_few n rows in omega arith
 taken_few (suc n) (Some row ∷ rows) = let rest : taken (take n rows) ≤ n = taken_few n rows in omega arith
 
+-- Where as many of the first slots have rows as there are, each of them has one.
 all_taken : {X : Type 0} (n : ℕ) (rows : List (Option X)) → taken (take n rows) ≡ n → (k : ℕ) → k < n → is_some (get_or rows k None) ≡ true
 all_taken zero rows all k lt = absurd (omega arith)
 all_taken (suc n) [] all k lt = absurd (omega arith)
@@ -68,6 +72,7 @@ all_taken (suc n) (None ∷ rows) all k lt = let few : taken (take n rows) ≤ n
 all_taken (suc n) (Some row ∷ rows) all zero lt = refl
 all_taken (suc n) (Some row ∷ rows) all (suc k) lt = all_taken n rows (omega arith) k (omega arith)
 
+-- Where the rows stand in front, as many first slots as there are rows have one.
 front_counts : (f : ℕ → List (Undo Before)) (at : ℕ) (rows : List (Option Row)) (n : ℕ) → taken rows ≡ n →
     is_front (slots_from f at rows) ≡ true → taken (take n rows) ≡ n
 front_counts f at rows zero is front = refl
@@ -105,6 +110,7 @@ taken_room (Some row ∷ rows) (suc room) within =
 
 -- ---- chains
 
+-- Where one slot fails a test, not all slots pass it.
 all_at : (p : Slot → Bool) (slots : List Slot) (k : ℕ) (d : Slot) → k < length slots → p (get_or slots k d) ≡ false → list_all p slots ≡ false
 all_at p [] k d lt fails = absurd (omega arith)
 all_at p (s ∷ slots) zero d lt fails = ap (λ b. b && list_all p slots) fails
@@ -114,11 +120,13 @@ all_at p (s ∷ slots) (suc k) d lt fails = ap (λ b. p s && b) (all_at p slots 
     neither true = refl
     neither false = refl
 
+-- Slots whose entries are all none are each without an entry.
 all_none : (f : ℕ → List (Undo Before)) (at : ℕ) (rows : List (Option Row)) → ((k : ℕ) → f k ≡ []) →
     list_all (λ slot. has_none slot.entries) (slots_from f at rows) ≡ true
 all_none f at [] none = refl
 all_none f at (row ∷ rows) none = ap (λ l. has_none l && list_all (λ (slot : Slot). has_none slot.entries) (slots_from f (at + 1) rows)) (none at) ∙ all_none f (at + 1) rows none
 
+-- Slots without entries are all bare just where no row is counted.
 all_bare : (f : ℕ → List (Undo Before)) (at : ℕ) (rows : List (Option Row)) → ((k : ℕ) → f k ≡ []) →
     list_all is_bare (slots_from f at rows) ≡ eqb (taken rows) 0
 all_bare f at [] none = refl

@@ -21,6 +21,7 @@ use Rattle.block_body.proofs.Popped.{rolled_back-none}
 use Rattle.block_body.proofs.RolledBack.{listed_any}
 use Rattle.block_body.proofs.Slots.{slots-at, slots-length, slots-map}
 
+-- The session writes a lawful chain just where its newest entry is the session's own.
 writer_top : (session : ℕ) (e : Undo Before) (es : List (Undo Before)) → IsLawful (e ∷ es) → is_writer session (writer_of (e ∷ es)) ≡ is_own e session
 writer_top session e es lawful = go e.stamp (is_move e.kind) (IsLawful-head e es lawful)
   where

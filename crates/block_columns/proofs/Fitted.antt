@@ -32,6 +32,7 @@ fault_any i j column cell = go (is_null cell) column.nullable (not (is_value_of 
     go false nullable false true h = cc
     go false nullable false false h = refl
 
+-- Where no cell is the first with a fault, each cell fits its column.
 first_each : (at : ℕ) (columns : List Column) (cells : List Cell) → length cells ≡ length columns → first_fault at columns cells ≡ None → AllZip CellFits columns cells
 first_each at [] [] long h = tt
 first_each at [] (x ∷ xs) long h = absurd (omega (arith, long))
@@ -43,6 +44,7 @@ first_each at (c ∷ cs) (x ∷ xs) long h = go (cell_fault at c x) refl h (λ h
     go None is h rest = (fault_any at 0 c x is, rest h)
     go (Some f) is h rest = cc
 
+-- Where each cell fits its column, none is the first with a fault.
 each_first : (at : ℕ) (columns : List Column) (cells : List Cell) → AllZip CellFits columns cells → first_fault at columns cells ≡ None
 each_first at [] [] each = refl
 each_first at [] (x ∷ xs) each = absurd each
@@ -111,6 +113,7 @@ set_comm (z ∷ row) zero (suc k) x y ne = refl
 set_comm (z ∷ row) (suc j) zero x y ne = refl
 set_comm (z ∷ row) (suc j) (suc k) x y ne = ap (λ (l : List Cell). z ∷ l) (set_comm row j k x y (λ e. ne (ap suc e)))
 
+-- A cell whose column a patch does not name may be set before the patch or after it.
 patched_set : (row : List Cell) (k : ℕ) (x : Cell) (patch : List Assignment) → All (λ (b : Assignment). k ≢ b.column) patch → patched (slice_set row k x) patch ≡ slice_set (patched row patch) k x
 patched_set row k x [] ne = refl
 patched_set row k x (b ∷ p) ne =
@@ -121,9 +124,11 @@ patched_set row k x (b ∷ p) ne =
 abbrev pub Apart : List Assignment → Type 0
 Apart patch = AllPairs (λ one other. one.column ≢ other.column) patch
 
+-- The column of a patch's first assignment is that of no other.
 apart_head : (a : Assignment) (p : List Assignment) → Apart (a ∷ p) → All (λ (b : Assignment). a.column ≢ b.column) p
 apart_head a p apart = λ k d lt. apart 0 (suc k) d (omega arith) (omega (arith, lt))
 
+-- Without its first assignment a patch still names no column twice.
 apart_tail : (a : Assignment) (p : List Assignment) → Apart (a ∷ p) → Apart p
 apart_tail a p apart = λ i j d lt within. apart (suc i) (suc j) d (omega (arith, lt)) (omega (arith, within))
 
@@ -153,6 +158,7 @@ before_each columns row (a ∷ p) each fits =
     one (c ∷ cs) (x ∷ xs) zero each h = fault_any 0 a.column c x each.0
     one (c ∷ cs) (x ∷ xs) (suc k) each h = one cs xs k each.1 h
 
+-- What stood in the columns of a patch names no column twice where the patch does not.
 before_apart : (row : List Cell) (patch : List Assignment) → Apart patch → Apart (columns_before row patch)
 before_apart row patch apart = λ i j d lt within.
     let long : j < length patch = omega (arith, within, length-map patch (standing row)) in

@@ -24,6 +24,7 @@ no_truth truths bits sign p known h = absurd known
 no_truth texts bits sign p known h = absurd known
 no_truth blobs bits sign p known h = absurd known
 
+-- A kind of numbers has no texts.
 no_text : (v : Values) (bits : ℕ) (sign p q : Bool) → AreNumbers v bits sign → IsTrue ((are_texts v && p) && q) → ⊥
 no_text (signed w) bits sign p q known h = cc
 no_text (unsigned w) bits sign p q known h = cc
@@ -31,6 +32,7 @@ no_text truths bits sign p q known h = absurd known
 no_text texts bits sign p q known h = absurd known
 no_text blobs bits sign p q known h = absurd known
 
+-- A kind of numbers has no bytes.
 no_blob : (v : Values) (bits : ℕ) (sign p q : Bool) → AreNumbers v bits sign → IsTrue ((are_blobs v && p) && q) → ⊥
 no_blob (signed w) bits sign p q known h = cc
 no_blob (unsigned w) bits sign p q known h = cc
@@ -38,6 +40,7 @@ no_blob truths bits sign p q known h = absurd known
 no_blob texts bits sign p q known h = absurd known
 no_blob blobs bits sign p q known h = absurd known
 
+-- A cell of a kind of numbers is given back by its number and its bit.
 number_back : (kind : Kind) (bits : ℕ) (sign : Bool) (c : Cell) → AreNumbers (values_of kind) bits sign → IsSlotOf kind c → cond (valid_bit c) (Num (number_of c)) Null ≡ c
 number_back kind bits sign Null known slot = refl
 number_back kind bits sign (Num n) known slot = refl
@@ -53,6 +56,7 @@ truth_alone truths n p q known = ((λ h. cc), (λ h. cc), (λ h. cc))
 truth_alone texts n p q known = absurd known
 truth_alone blobs n p q known = absurd known
 
+-- A cell of the kind of truth values is given back by its truth and its bit.
 truth_back : (kind : Kind) (c : Cell) → AreTruths (values_of kind) → IsSlotOf kind c → cond (valid_bit c) (Truth (truth_of c)) Null ≡ c
 truth_back kind Null known slot = refl
 truth_back kind (Num n) known slot = absurd ((truth_alone (values_of kind) n _ true known).0 slot)
@@ -68,6 +72,7 @@ bytes_alone truths n p known = absurd known
 bytes_alone texts n p known = ((λ h. cc), (λ h. cc))
 bytes_alone blobs n p known = ((λ h. cc), (λ h. cc))
 
+-- The bytes of a text of a kind of bytes are that text again.
 text_back : (v : Values) (t : List ℕ) (p q : Bool) → AreBytes v → IsTrue ((are_texts v && p) && q) → bytes_in v t ≡ Text t
 text_back (signed w) t p q known h = absurd known
 text_back (unsigned w) t p q known h = absurd known
@@ -75,6 +80,7 @@ text_back truths t p q known h = absurd known
 text_back texts t p q known h = refl
 text_back blobs t p q known h = cc
 
+-- The bytes of a blob of a kind of bytes are that blob again.
 blob_back : (v : Values) (t : List ℕ) (p q : Bool) → AreBytes v → IsTrue ((are_blobs v && p) && q) → bytes_in v t ≡ Blob t
 blob_back (signed w) t p q known h = absurd known
 blob_back (unsigned w) t p q known h = absurd known
@@ -82,6 +88,7 @@ blob_back truths t p q known h = absurd known
 blob_back texts t p q known h = cc
 blob_back blobs t p q known h = refl
 
+-- A cell of a kind of bytes is given back by its bytes and its bit.
 bytes_back : (kind : Kind) (c : Cell) → AreBytes (values_of kind) → IsSlotOf kind c → cond (valid_bit c) (bytes_in (values_of kind) (value_of c)) Null ≡ c
 bytes_back kind Null known slot = refl
 bytes_back kind (Num n) known slot = absurd ((bytes_alone (values_of kind) n _ known).0 slot)
@@ -147,6 +154,7 @@ slot_at kind [] at each = refl
 slot_at kind (c ∷ cs) zero each = All-head (IsSlotOf kind) c cs each
 slot_at kind (c ∷ cs) (suc at) each = slot_at kind cs at (All-tail (IsSlotOf kind) c cs each)
 
+-- A cell of a kind of numbers has no bytes as its value.
 number_has_none : (kind : Kind) (bits : ℕ) (sign : Bool) (c : Cell) → AreNumbers (values_of kind) bits sign → IsSlotOf kind c → [] ≡ value_of c
 number_has_none kind bits sign Null known slot = refl
 number_has_none kind bits sign (Num n) known slot = refl
@@ -154,6 +162,7 @@ number_has_none kind bits sign (Truth b) known slot = refl
 number_has_none kind bits sign (Text t) known slot = absurd (no_text (values_of kind) bits sign _ _ known slot)
 number_has_none kind bits sign (Blob t) known slot = absurd (no_blob (values_of kind) bits sign _ _ known slot)
 
+-- A cell of the kind of truth values has no bytes as its value.
 truth_has_none : (kind : Kind) (c : Cell) → AreTruths (values_of kind) → IsSlotOf kind c → [] ≡ value_of c
 truth_has_none kind Null known slot = refl
 truth_has_none kind (Num n) known slot = refl
@@ -167,6 +176,7 @@ keeps-bytes kind valid (store.Numbers f) cells at k = number_has_none kind f.wid
 keeps-bytes kind valid (store.Truths bits) cells at k = truth_has_none kind (get_or cells at Null) k.known (slot_at kind cells at k.each)
 keeps-bytes kind valid (store.Values v) cells at k = ap (λ (xs : List (List ℕ)). get_or xs at []) k.stored ∙ get_or-map value_of cells at Null
 
+-- A cell of a kind of bytes with more than 12 of them is given back by these.
 long_back : (kind : Kind) (c : Cell) → AreBytes (values_of kind) → IsSlotOf kind c → 12 < length (value_of c) → bytes_in (values_of kind) (value_of c) ≡ c
 long_back kind Null known slot long = absurd (omega (arith, long))
 long_back kind (Num n) known slot long = absurd (omega (arith, long))

@@ -22,6 +22,7 @@ pub flat_map-map : {X Y Z : Type 0} (f : Y → List Z) (g : X → Y) (xs : List 
 flat_map-map f g [] = refl
 flat_map-map f g (x ∷ xs) = ap (λ (l : List _). f (g x) ++ l) (flat_map-map f g xs)
 
+-- A cell is counted once, be it null or not.
 one_each : (null : Bool) → cond (not null) 1 0 + cond null 1 0 ≡ 1
 one_each true = refl
 one_each false = refl

@@ -116,6 +116,7 @@ row_bit taken cs slots at value view are bit =
     subst (λ (o : Option (List Cell)). IsSome o) (sym (row_at taken cs slots at are) ∙ ap (λ (v : ColumnsValue). get_or v.rows at None) view)
     (bit_has (get_or taken at false) (cells_at at cs) bit)
 
+-- With nulls behind the cells the same is read at each place.
 get_or-padded : (xs : List Cell) (n i : ℕ) → get_or (xs ++ replicate n Null) i Null ≡ get_or xs i Null
 get_or-padded [] n i = none n i
   where
@@ -137,6 +138,7 @@ bits-padded [] n i = none n i
 bits-padded (x ∷ xs) n zero = refl
 bits-padded (x ∷ xs) n (suc i) = bits-padded xs n i
 
+-- Columns with nulls behind their cells have the same cells in each slot.
 longer_cells : (i : ℕ) (cs new : List ColumnValue) → AllZip IsLonger cs new → cells_at i new ≡ cells_at i cs
 longer_cells i [] [] zip = refl
 longer_cells i [] (d ∷ ds) zip = absurd zip
@@ -145,6 +147,7 @@ longer_cells i (c ∷ cs) (d ∷ ds) zip =
     ap (λ (x : Cell). x ∷ cells_at i ds) (ap (λ (v : ColumnValue). get_or v.cells i Null) zip.0.1 ∙ get_or-padded c.cells zip.0.0 i)
     ∙ ap (λ (l : List Cell). get_or c.cells i Null ∷ l) (longer_cells i cs ds zip.1)
 
+-- Columns with nulls behind their cells take the same.
 longer_columns : (cs new : List ColumnValue) → AllZip IsLonger cs new → columns_in new ≡ columns_in cs
 longer_columns [] [] zip = refl
 longer_columns [] (d ∷ ds) zip = absurd zip
@@ -187,6 +190,7 @@ grown taken bits cs new slots are longer same within room = (
   longer_columns cs new longer,
 )
 
+-- Columns without cells have only nulls in a slot.
 none_cells : (at : ℕ) (ds : List Column) → All (λ (cell : Cell). cell ≡ Null) (cells_at at (map (λ (c : Column). let r : ColumnValue = record { column = record c { name = [] }; cells = [] } in r) ds))
 none_cells at [] = All-nil (λ (cell : Cell). cell ≡ Null)
 none_cells at (d ∷ ds) = All-cons (λ (cell : Cell). cell ≡ Null) Null _ refl (none_cells at ds)
@@ -201,6 +205,7 @@ new_columns taken cs ds slots none made = record {
   bare = λ at bit. subst (λ (l : List ColumnValue). All (λ (cell : Cell). cell ≡ Null) (cells_at at l)) (sym made) (none_cells at ds);
 }
 
+-- Slots of a range of which each has no row are as many slots without rows.
 none_from : (n a : ℕ) → map (λ (i : ℕ). let o : Option (List Cell) = None in o) (range_with_len a n) ≡ replicate n None
 none_from zero a = refl
 none_from (suc n) a = ap (λ (l : List (Option (List Cell))). None ∷ l) (none_from n (a + 1))
@@ -220,6 +225,7 @@ pub longer_zip : (cs : List ColumnValue) → AllZip IsLonger cs cs
 longer_zip [] = tt
 longer_zip (c ∷ cs) = (longer_itself c, longer_zip cs)
 
+-- A column that became longer twice became longer.
 longer_twice : (a b c : ColumnValue) → IsLonger a b → IsLonger b c → IsLonger a c
 longer_twice a b c (m, is) (n, then) = (
   m + n,

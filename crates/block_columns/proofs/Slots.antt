@@ -148,6 +148,7 @@ part_at f (x ∷ xs) [] i d lt long = absurd (omega (arith, long))
 part_at f (x ∷ xs) (y ∷ ys) zero d lt long = refl
 part_at f (x ∷ xs) (y ∷ ys) (suc i) d lt long = part_at f xs ys i d (omega (arith, lt)) (omega (arith, long))
 
+-- Where a front of elements has become images, one more becomes its image.
 part_set : {X Y : Type 0} (f : X → Y) (xs : List X) (ys : List Y) (i : ℕ) (d : X) → i < length xs → length ys ≡ length xs
     → slice_set (map f (take i xs) ++ drop i ys) i (f (get_or xs i d)) ≡ map f (take (suc i) xs) ++ drop (suc i) ys
 part_set f [] ys i d lt long = absurd (omega (arith, lt))

@@ -25,33 +25,36 @@ with_row-set at (c ∷ cs) [] k d x long = absurd (omega (arith, long))
 with_row-set at (c ∷ cs) (y ∷ ys) zero d x long = ap (λ (l : List Cell). let r : ColumnValue = record { column = c.column; cells = l } in r ∷ with_row at cs ys) (set-set c.cells at y x)
 with_row-set at (c ∷ cs) (y ∷ ys) (suc k) d x long = ap (λ (l : List ColumnValue). with_cell at c y ∷ l) (with_row-set at cs ys k d x (omega (arith, long)))
 
+-- A row that is put into a slot leaves what each column takes.
 column_of : (at : ℕ) (cs : List ColumnValue) (xs : List Cell) (k : ℕ) (d : ColumnValue) → (get_or (with_row at cs xs) k d).column ≡ (get_or cs k d).column
 column_of at [] xs k d = refl
 column_of at (c ∷ cs) [] k d = refl
 column_of at (c ∷ cs) (y ∷ ys) zero d = refl
 column_of at (c ∷ cs) (y ∷ ys) (suc k) d = column_of at cs ys k d
 
+-- What a column takes stands at the column's place among what all take.
 columns_at : (cs : List ColumnValue) (k : ℕ) (d : ColumnValue) → get_or (columns_in cs) k d.column ≡ (get_or cs k d).column
 columns_at [] k d = refl
 columns_at (c ∷ cs) zero d = refl
 columns_at (c ∷ cs) (suc k) d = columns_at cs k d
 
+-- As many columns are declared as there are.
 columns_long : (cs : List ColumnValue) → length (columns_in cs) ≡ length cs
 columns_long [] = refl
 columns_long (c ∷ cs) = ap suc (columns_long cs)
 
+-- One assignment more in a patch sets its cell in the patched row.
 patched_more : (row : List Cell) (p : List Assignment) (a : Assignment) → patched row (p ++ a ∷ []) ≡ slice_set (patched row p) a.column a.cell
 patched_more row [] a = refl
 patched_more row (b ∷ p) a = patched_more (slice_set row b.column b.cell) p a
 
+-- One assignment more adds what stood in its column to the before-image.
 before_more : (row : List Cell) (p : List Assignment) (a : Assignment) → columns_before row (p ++ a ∷ []) ≡ columns_before row p ++ standing row a ∷ []
 before_more row [] a = refl
 before_more row (b ∷ p) a = ap (λ (l : List Assignment). standing row b ∷ l) (before_more row p a)
 
 module _ (at : ℕ) (init cols : List ColumnValue) (p : List Assignment) (i : ℕ) (is : cols ≡ with_row at init (patched (cells_at at init) (take i p))) where
-  now : List Cell
-  now = patched (cells_at at init) (take i p)
-
+  -- The patched cells of the slot are as many as the columns.
   now_long : length (patched (cells_at at init) (take i p)) ≡ length init
   now_long = patched_long (cells_at at init) (take i p) ∙ cells_at-long at init
 
@@ -123,18 +126,21 @@ undone at init cols after p before i is kept laid room apart =
     laid ∙ ap (λ (l : List Cell). with_row at cols l) back ∙ ap (λ (l : List ColumnValue). with_row at l row) is
     ∙ with_row-twice at init (patched row q) row long (cells_at-long at init) ∙ with_row-itself at init
 
+-- A patch leaves the cell of a column that it does not name.
 patched_other : (row : List Cell) (k : ℕ) (patch : List Assignment) → All (λ (b : Assignment). k ≢ b.column) patch → get_or (patched row patch) k Null ≡ get_or row k Null
 patched_other row k [] ne = refl
 patched_other row k (b ∷ p) ne =
     patched_other (slice_set row b.column b.cell) k p (All-tail (λ (b : Assignment). k ≢ b.column) b p ne)
     ∙ get_or-set_other row b.column k b.cell Null (All-head (λ (b : Assignment). k ≢ b.column) b p ne)
 
+-- A column's cell in a slot stands at the column's place among the slot's cells.
 cell_of : (at : ℕ) (cs : List ColumnValue) (k : ℕ) (d : ColumnValue) → k < length cs → cell_in at (get_or cs k d) ≡ get_or (cells_at at cs) k Null
 cell_of at [] k d lt = absurd (omega (arith, lt))
 cell_of at (c ∷ cs) zero d lt = refl
 cell_of at (c ∷ cs) (suc k) d lt = cell_of at cs k d (omega (arith, lt))
 
--- the cell of an assignment is the one that stood there, since the assignments before are of other columns
+-- the cell of an assignment is the one that stood there, since the assignments before are of other
+-- columns
 pub patch_read : (at : ℕ) (init cols : List ColumnValue) (p : List Assignment) (i : ℕ) (a : Assignment) (d : ColumnValue) → cols ≡ with_row at init (patched (cells_at at init) (take i p))
     → a ≡ get_or p i a → i < length p → a.column < length cols → All (λ c. at < length c.cells) init → AllPairs (λ one other. one.column ≢ other.column) p
     → cell_in at (get_or cols a.column d) ≡ get_or (cells_at at init) a.column Null

@@ -15,9 +15,11 @@ HasRows n slots = (slot : ℕ) → slot < n → IsSome (get_or slots slot None)
 abbrev pub rows_in_slots : List (Option Row) → List Row
 rows_in_slots slots = flat_map (λ slot. option_to_list slot) slots
 
+-- The row of a slot that has none.
 abbrev absent : Option Row
 absent = None
 
+-- Where each of the first slots has a row, each of those behind the very first has.
 later : (n : ℕ) (slot : Option Row) (slots : List (Option Row)) → HasRows (suc n) (slot ∷ slots) → HasRows n slots
 later n slot slots held = λ at lt. let next : suc at < suc n = omega arith in held (suc at) next
 

@@ -9,6 +9,7 @@ use Rattle.cell_model.specs.declared.row.RowFault.TheVariants.{Arity}
 use Rattle.cell_model.specs.Rows.{cell_fault, first_fault, row_fault}
 use Rattle.block_spec.specs.Fitting.{columns_of, unnamed}
 
+-- The first cell with a fault is the same whatever the columns' names.
 first-unnamed : (at : ℕ) (schema : List Column) (row : List Cell) → first_fault at (columns_of schema) row ≡ first_fault at schema row
 first-unnamed at [] row = refl
 first-unnamed at (c ∷ cs) [] = refl

@@ -9,9 +9,11 @@ use Rattle.block_columns.specs.Images.{FormValue, ImageValue, IsWhole}
 use Rattle.block_body.specs.Frozen.{IsImageOf, image_of}
 use Rattle.block_body.proofs.Frozen.{whole_is}
 
+-- The image of these columns, slots and rows in number with this form.
 imaged_of : FormValue → List Column → List (Option Row) → ℕ → ImageValue
 imaged_of form columns slots rows = record { columns = columns; slots = slots; rows = rows; form = form }
 
+-- Images with one form are the same where columns, slots and row counts are.
 same_image : (form : FormValue) (c d : List Column) (s t : List (Option Row)) (n m : ℕ) → c ≡ d → s ≡ t → n ≡ m →
     imaged_of form c s n ≡ imaged_of form d t m
 same_image form c d s t n m columns slots rows =

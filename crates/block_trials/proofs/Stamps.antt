@@ -12,6 +12,7 @@ use Rattle.block_spec.specs.Bodies.{Body, slot_in, with_slot}
 use Rattle.undo_chain.specs.declared.undo.Undo.{Undo}
 use Rattle.undo_chain.specs.Lawful.{NoneStampedAbove, IsStampedUpTo}
 
+-- A write's entry has no stamp, so none in its slot is above the limit.
 none_on_top : (session limit : ℕ) (change : Change) (slot : Slot) → NoneStampedAbove slot.entries limit →
     NoneStampedAbove (written session change slot).entries limit
 none_on_top session limit change slot none =

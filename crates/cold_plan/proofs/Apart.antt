@@ -8,15 +8,19 @@ use Rattle.std.proofs.lemmas.List.Kept.{AllPairs-cons}
 use Rattle.std.proofs.lemmas.List.Sums.{take_while-cons}
 use Rattle.cold_plan.specs.Plan.{moves_of, NoPlaceTwice}
 
+-- An empty list stands in any order.
 AllPairs-nil : {X : Type 0} (R : X → X → Type 0) → AllPairs R []
 AllPairs-nil R = λ i j d before within. absurd (omega arith)
 
+-- The first of a list that stands in an order stands so to each behind it.
 AllPairs-head : {X : Type 0} (R : X → X → Type 0) (x : X) (xs : List X) → AllPairs R (x ∷ xs) → All (R x) xs
 AllPairs-head R x xs pairs = λ k d within. pairs zero (suc k) d (omega arith) (omega arith)
 
+-- Without its first a list stands in its order still.
 AllPairs-tail : {X : Type 0} (R : X → X → Type 0) (x : X) (xs : List X) → AllPairs R (x ∷ xs) → AllPairs R xs
 AllPairs-tail R x xs pairs = λ i j d before within. pairs (suc i) (suc j) d (omega arith) (omega arith)
 
+-- The front of a list that stands in an order stands in it.
 AllPairs-take : {X : Type 0} (R : X → X → Type 0) (n : ℕ) (xs : List X) → AllPairs R xs → AllPairs R (take n xs)
 AllPairs-take R zero xs pairs = AllPairs-nil R
 AllPairs-take R (suc n) [] pairs = AllPairs-nil R
@@ -28,6 +32,7 @@ AllPairs-take R (suc n) (x ∷ xs) pairs =
     (All-take (R x) n xs (AllPairs-head R x xs pairs))
     (AllPairs-take R n xs (AllPairs-tail R x xs pairs))
 
+-- Images stand in an order where their elements do by it.
 AllPairs-map : {X Y : Type 0} (R : Y → Y → Type 0) (f : X → Y) (xs : List X) →
     AllPairs (λ x y. R (f x) (f y)) xs → AllPairs R (map f xs)
 AllPairs-map R f [] pairs = AllPairs-nil R
@@ -39,6 +44,7 @@ AllPairs-map R f (x ∷ xs) pairs =
     (All-map (R (f x)) f xs (AllPairs-head (λ y z. R (f y) (f z)) x xs pairs))
     (AllPairs-map R f xs (AllPairs-tail (λ y z. R (f y) (f z)) x xs pairs))
 
+-- Two lists in an order join to one where each of the first stands before each of the second.
 AllPairs-append : {X : Type 0} (R : X → X → Type 0) (xs ys : List X) →
     AllPairs R xs → AllPairs R ys → All (λ x. All (R x) ys) xs → AllPairs R (xs ++ ys)
 AllPairs-append R [] ys front back across = back
@@ -57,6 +63,7 @@ All-zip_first P (x ∷ xs) [] all = All-nil (λ m. P m.0)
 All-zip_first P (x ∷ xs) (y ∷ ys) all =
     All-cons (λ m. P m.0) (x, y) (zip xs ys) (All-head P x xs all) (All-zip_first P xs ys (All-tail P x xs all))
 
+-- What holds of the elements of the second list holds of that half of the pairs.
 All-zip_second : {X Y : Type 0} (P : Y → Type 0) (xs : List X) (ys : List Y) → All P ys → All (λ m. P m.1) (zip xs ys)
 All-zip_second P [] ys all = All-nil (λ m. P m.1)
 All-zip_second P (x ∷ xs) [] all = All-nil (λ m. P m.1)
@@ -71,6 +78,7 @@ Falls first later = later.0 < first.0
 abbrev pub Rises : ℕ × ℕ → ℕ × ℕ → Type 0
 Rises first later = first.1 < later.1
 
+-- The pairs of falling rows with gaps leave falling places.
 falls_zip : (rows gaps : List ℕ) → AllPairs (λ higher lower. lower < higher) rows → AllPairs Falls (zip rows gaps)
 falls_zip [] gaps pairs = AllPairs-nil Falls
 falls_zip (x ∷ rows) [] pairs = AllPairs-nil Falls
@@ -82,6 +90,7 @@ falls_zip (x ∷ rows) (y ∷ gaps) pairs =
     (All-zip_first (λ lower. lower < x) rows gaps (AllPairs-head (λ higher lower. lower < higher) x rows pairs))
     (falls_zip rows gaps (AllPairs-tail (λ higher lower. lower < higher) x rows pairs))
 
+-- The pairs of rows with rising gaps fill rising places.
 rises_zip : (rows gaps : List ℕ) → AllPairs (λ lower higher. lower < higher) gaps → AllPairs Rises (zip rows gaps)
 rises_zip [] gaps pairs = AllPairs-nil Rises
 rises_zip (x ∷ rows) [] pairs = AllPairs-nil Rises
@@ -97,12 +106,14 @@ rises_zip (x ∷ rows) (y ∷ gaps) pairs =
 abbrev pub GoesDown : ℕ × ℕ → Type 0
 GoesDown move = move.1 < move.0
 
+-- One move more goes down, or no move is taken from it on.
 goes_down_by : (b : Bool) (x : ℕ × ℕ) (xs : List (ℕ × ℕ)) → nat_lt x.1 x.0 ≡ b → All GoesDown xs → All GoesDown (cond b (x ∷ xs) [])
 goes_down_by true x xs below all =
     let here : x.1 < x.0 = grind (arith, nat_tests) in
     All-cons GoesDown x xs here all
 goes_down_by false x xs below all = All-nil GoesDown
 
+-- Moves that are taken as long as they go down all do.
 goes_down : (moves : List (ℕ × ℕ)) → All GoesDown (take_while (λ move. nat_lt move.1 move.0) moves)
 goes_down [] = All-nil GoesDown
 goes_down (x ∷ moves) =

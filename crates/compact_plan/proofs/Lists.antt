@@ -8,6 +8,7 @@ use Rattle.std.proofs.lemmas.List.FromFn.{get_or-range_with_len, length-range_wi
 use Rattle.std.proofs.lemmas.List.Kept.{AllPairs-cons}
 use Rattle.std.proofs.lemmas.Option.{get_or_from_slice_get, slice_get_within}
 
+-- An empty list stands in any order.
 AllPairs-nil : {X : Type 0} (R : X → X → Type 0) → AllPairs R []
 AllPairs-nil R = λ i j d before within. absurd (omega arith)
 
@@ -49,6 +50,7 @@ AllPairs-from_map R f (x ∷ xs) pairs =
     (All-from_map (R (f x)) f xs (AllPairs-head R (f x) (map f xs) pairs))
     (AllPairs-from_map R f xs (AllPairs-tail R (f x) (map f xs) pairs))
 
+-- Two lists in an order join to one where each of the first stands before each of the second.
 AllPairs-append : {X : Type 0} (R : X → X → Type 0) (xs ys : List X) →
     AllPairs R xs → AllPairs R ys → All (λ x. All (R x) ys) xs → AllPairs R (xs ++ ys)
 AllPairs-append R [] ys front back across = back

@@ -18,6 +18,7 @@ pub record AreSlots {Y : Type 0} (number : Y → ℕ) (slots : ℕ) (ys : List Y
   pub rising : AllPairs (λ one other. number one < number other) ys
   pub within : All (λ y. number y < slots) ys
 
+-- One slot more is among those kept just where its row may move.
 kept_slot : (row : Option Row) (quiet : Bool) (j : ℕ) (rows : List MovableRow) →
     map (λ (row : MovableRow). row.slot) (cons_option (movable_row j row quiet) rows)
     ≡ cond (is_some (movable_row j row quiet)) (j ∷ map (λ (row : MovableRow). row.slot) rows) (map (λ (row : MovableRow). row.slot) rows)
@@ -33,6 +34,7 @@ kept_slots body (j ∷ js) =
     kept_slot (slot_in body j).row (has_none (slot_in body j).entries) j (filter_map (movable body) js)
     ∙ ap (λ (slots : List ℕ). cond (is_some (movable body j)) (j ∷ slots) slots) (kept_slots body js)
 
+-- Those numbers below a bound that pass a test stand in order below it.
 some_slots : (p : ℕ → Bool) (n : ℕ) → AreSlots (λ (slot : ℕ). slot) n (filter p (range_with_len 0 n))
 some_slots p n = record {
   rising = AllPairs-filter (λ one other. one < other) p (range_with_len 0 n) (range_rises n);

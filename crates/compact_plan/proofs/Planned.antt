@@ -22,6 +22,7 @@ use Rattle.compact_plan.proofs.Looking.{ArePlaces, AreSlots, has_places, looked_
 
 -- ---- the pairs of rows and gaps
 
+-- There are no more moves than rows, and at most 64.
 moves_short : (places gaps : List ℕ) → (length (moves_of places gaps) ≤ length places) × (length (moves_of places gaps) ≤ 64)
 moves_short places gaps =
     let passes : ℕ × ℕ → Bool = λ move. nat_lt move.1 move.0 in
@@ -42,15 +43,19 @@ ends end half is (row ∷ rows) (move ∷ moves) short =
     ap (λ (n : ℕ). n ∷ map end (map pair_of (zip rows moves))) (is row move)
     ∙ ap (λ (ns : List ℕ). half move ∷ ns) (ends end half is rows moves (omega (arith, short)))
 
+-- The place of a row that is planned.
 abbrev row_place : ℕ × MovableRow → ℕ
 row_place row = row.0
 
+-- The place of a gap, which the gap itself is.
 abbrev gap_place : ℕ → ℕ
 gap_place gap = gap
 
+-- The slot of a row that may move.
 abbrev row_slot : MovableRow → ℕ
 row_slot row = row.slot
 
+-- The pairs of falling rows and rising gaps name no place twice.
 apart : (rows : List (ℕ × MovableRow)) (gaps : List ℕ)
     → AllPairs (λ higher lower. lower < higher) (map row_place rows) → AllPairs (λ lower higher. lower < higher) gaps
     → NoPlaceTwice (pairs_of rows gaps)
@@ -65,6 +70,7 @@ apart rows gaps falling rising =
     ∙ ap (λ (filled : List ℕ). map (λ (move : ℕ × ℕ). move.0) moves ++ filled) targets))
     (NoPlaceTwice-moves_of (map row_place rows) gaps falling rising)
 
+-- There are at most 64 pairs of rows and gaps.
 few : (rows : List (ℕ × MovableRow)) (gaps : List ℕ) → length (pairs_of rows gaps) ≤ 64
 few rows gaps =
     let moves : List (ℕ × ℕ) = moves_of (map row_place rows) gaps in
@@ -90,6 +96,7 @@ both_ends P rows gaps of_rows of_gaps =
 -- ---- the looks at a table's blocks
 
 module _ (shape : Shape) (table : ℕ) (small : slots_of shape table ≤ 2 ^ 15) where
+  -- The rows that a look tells stand in the order of their slots, which are the table's.
   row_slots : (seen : BlockLook) → IsLookAt shape table seen → AreSlots row_slot (slots_of shape table) seen.look.rows
   row_slots seen is =
       subst
@@ -97,6 +104,7 @@ module _ (shape : Shape) (table : ℕ) (small : slots_of shape table ≤ 2 ^ 15)
       is.slots
       (subst (λ (look : Look). AreSlots row_slot (length is.body.slots) look.rows) (sym is.look) (looked_rows is.body))
 
+  -- The gaps that a look tells stand in their order and are the table's slots.
   gap_slots : (seen : BlockLook) → IsLookAt shape table seen → AreSlots gap_place (slots_of shape table) seen.look.gaps
   gap_slots seen is =
       subst
@@ -104,14 +112,17 @@ module _ (shape : Shape) (table : ℕ) (small : slots_of shape table ≤ 2 ^ 15)
       is.slots
       (subst (λ (look : Look). AreSlots gap_place (length is.body.slots) look.gaps) (sym is.look) (looked_gaps is.body))
 
+  -- The rows that a look tells have places of its block, in order.
   row_placed : (seen : BlockLook) → IsLookAt shape table seen → ArePlaces row_place seen.block (slots_of shape table) (row_places seen)
   row_placed seen is =
       placed row_slot row_place (λ row. (place_of seen.block row.slot, row)) seen.block (slots_of shape table) seen.look.rows (λ row. refl) (omega (arith, small)) (row_slots seen is)
 
+  -- The gaps that a look tells have places of its block, in order.
   gap_placed : (seen : BlockLook) → IsLookAt shape table seen → ArePlaces gap_place seen.block (slots_of shape table) (gap_places seen)
   gap_placed seen is =
       placed gap_place gap_place (place_of seen.block) seen.block (slots_of shape table) seen.look.gaps (λ gap. refl) (omega (arith, small)) (gap_slots seen is)
 
+  -- A look at a block of the table is one that can be planned over.
   can_be_planned : (seen : BlockLook) → IsLookAt shape table seen → HasPlaces seen
   can_be_planned seen is = has_places seen is.body is.look (omega (arith, is.slots, small))
 

@@ -44,6 +44,7 @@ use Rattle.undo_chain.specs.Stamped.{stamped}
 
 -- ---- stamped once more
 
+-- An entry that is stamped twice is stamped once.
 undo_twice : (q s n : ℕ) (u : Undo Before) → stamped q s n (stamped q s n u) ≡ stamped q s n u
 undo_twice q s n u = go (is_own u q) refl
   where
@@ -55,10 +56,12 @@ undo_twice q s n u = go (is_own u q) refl
         let same : stamped q s n u ≡ u = ap (λ c. record u { stamp = cond c (Some s) u.stamp; number = cond c n u.number }) is in
         ap (stamped q s n) same
 
+-- Entries that are stamped twice are stamped once.
 undos_twice : (q s n : ℕ) (es : List (Undo Before)) → map (stamped q s n) (map (stamped q s n) es) ≡ map (stamped q s n) es
 undos_twice q s n [] = refl
 undos_twice q s n (e ∷ es) = ap (λ x. x ∷ map (stamped q s n) (map (stamped q s n) es)) (undo_twice q s n e) ∙ ap (λ xs. stamped q s n e ∷ xs) (undos_twice q s n es)
 
+-- Slots that are committed twice are committed once.
 slots_twice : (q s n : ℕ) (xs : List Slot) → map (committed q s n) (map (committed q s n) xs) ≡ map (committed q s n) xs
 slots_twice q s n [] = refl
 slots_twice q s n (x ∷ xs) =
@@ -70,6 +73,7 @@ committed_once q s n body = ap (λ slots. record body { slots = slots }) (slots_
 
 -- ---- stamps
 
+-- Where no stamp is above a limit, none is above the next.
 raised : (limit : ℕ) (es : List (Undo Before)) → NoneStampedAbove es limit → NoneStampedAbove es (limit + 1)
 raised limit [] all = All-nil (IsStampedUpTo {D = Before} (limit + 1))
 raised limit (e ∷ es) all = All-cons (IsStampedUpTo (limit + 1)) e es (one e.stamp (All-head (IsStampedUpTo limit) e es all)) (raised limit es (All-tail (IsStampedUpTo limit) e es all))
@@ -78,6 +82,7 @@ raised limit (e ∷ es) all = All-cons (IsStampedUpTo (limit + 1)) e es (one e.s
     one None x = tt
     one (Some n) x = omega (arith, x)
 
+-- Where no stamp is above the commit's, none is after it stamped the entries.
 stamped_below : (q s n : ℕ) (es : List (Undo Before)) → NoneStampedAbove es s → NoneStampedAbove (map (stamped q s n) es) s
 stamped_below q s n [] all = All-nil (IsStampedUpTo {D = Before} s)
 stamped_below q s n (e ∷ es) all = All-cons (IsStampedUpTo s) (stamped q s n e) (map (stamped q s n) es) (one (is_own e q) (All-head (IsStampedUpTo s) e es all)) (stamped_below q s n es (All-tail (IsStampedUpTo s) e es all))
@@ -86,6 +91,7 @@ stamped_below q s n (e ∷ es) all = All-cons (IsStampedUpTo s) (stamped q s n e
     one true x = omega arith
     one false x = x
 
+-- Where no slot has a stamp above the commit's, none has after the commit.
 slots_below : (q s n : ℕ) (xs : List Slot) → ((j : ℕ) → NoneStampedAbove (get_or xs j bare).entries s) → (j : ℕ) → NoneStampedAbove (get_or (map (committed q s n) xs) j bare).entries s
 slots_below q s n xs all j = subst (λ (x : Slot). NoneStampedAbove x.entries s) (sym (at xs j)) (stamped_below q s n (get_or xs j bare).entries (all j))
   where
@@ -96,6 +102,7 @@ slots_below q s n xs all j = subst (λ (x : Slot). NoneStampedAbove x.entries s)
 
 -- ---- blocks among writes
 
+-- The test of two numbers is the same in either order.
 flip : (a b : ℕ) → (a == b) ≡ (b == a)
 flip a b = go (a == b) refl
   where
@@ -122,6 +129,7 @@ module _ (sh : Shape) (own : OwnTransaction) (old : Held) (m : MayRun sh (event.
   pub first_room : (taken : Held) → taken ≡ laid sh TheDesk None old → length taken ≡ length (names sh)
   first_room taken out = room_taken sh old taken TheDesk None out (room sh (event.Commit own) old m)
 
+  -- The desk in the hand is the core's desk.
   desk_same : (x : DeskState) → in_hand sh old TheDesk ≡ Some (part.Desk x) → desk_at sh m.parts ≡ x
   desk_same x is = desk_is sh old m.parts m.agrees x is
 
@@ -269,6 +277,7 @@ module _ (sh : Shape) (own : OwnTransaction) (stamp number : ℕ) (old now : Hel
 -- ---- all of them
 
 module _ (sh : Shape) (own : OwnTransaction) (stamp number : ℕ) (old mid : Held) (u : IsStamped sh own stamp number old mid own.writes) (some : own.writes ≡ [] → ⊥) where
+  -- A transaction whose writes are not none wrote something.
   wrote : is_some_write own.writes ≡ true
   wrote = go own.writes some
     where
@@ -276,6 +285,7 @@ module _ (sh : Shape) (own : OwnTransaction) (stamp number : ℕ) (old mid : Hel
       go [] not_none = absurd (not_none refl)
       go (first ∷ rest) not_none = refl
 
+  -- With all writes stamped, each body is the one that the commit makes.
   body_last : (t b : ℕ) (x : Body) → part_at sh u.may.parts (BodyOf t b) ≡ Some (part.Body x)
       → cond (is_rolled own.writes t b) (committed_in own.session ((desk_at sh u.may.parts).newest + 1) ((desk_at sh u.may.parts).commits + 1) x) x
       ≡ (cond (is_some_write own.writes) (committed_in own.session ((desk_at sh u.may.parts).newest + 1) ((desk_at sh u.may.parts).commits + 1)) (λ (body : Body). body)) x
@@ -290,6 +300,7 @@ module _ (sh : Shape) (own : OwnTransaction) (stamp number : ℕ) (old mid : Hel
           ap (λ c. cond c (committed_in own.session ((desk_at sh u.may.parts).newest + 1) ((desk_at sh u.may.parts).commits + 1) x) x) e
           ∙ sym (commit_stays sh u.may.parts u.may.holds.measures u.may.holds.sound own u.may.lawful.0 t b x is e ((desk_at sh u.may.parts).newest + 1) ((desk_at sh u.may.parts).commits + 1))
 
+  -- With all writes stamped, each part is the one that the commit makes.
   last : (n : Name) (x : CorePart) → part_at sh u.may.parts n ≡ Some x → changed (stamped_so_far sh u.may.parts own.session own.writes) n x ≡ changed (changes_of sh u.may.parts (event.Commit own)) n x
   last = same_at (λ n x. part_at sh u.may.parts n ≡ Some x) (stamped_so_far sh u.may.parts own.session own.writes) (changes_of sh u.may.parts (event.Commit own)) (record {
     head = λ t x is. refl;

@@ -64,6 +64,7 @@ err_then (Err e) P Q on then = then on
 module _ (sh : Shape) (t b : ℕ) (hand taken new : Held) (m : MayRun sh (event.Seal t b) hand) (h : Head) (x y : Body)
     (head : in_hand sh hand (HeadOf t) ≡ Some (part.Head h)) (body : in_hand sh hand (BodyOf t b) ≡ Some (part.Body x))
     (out : taken ≡ laid sh (BodyOf t b) None hand) (back : new ≡ laid sh (BodyOf t b) (Some (part.Body y)) taken) where
+  -- What is against the seal is told by the head and the body in the hand.
   fault_is : seal_fault (is_head sh m.parts t b) (body_at sh m.parts t b) ≡ seal_fault (b == h.block) x
   fault_is =
       ap (λ c. seal_fault c (body_at sh m.parts t b)) (head_told sh (event.Seal t b) hand m t b h head)

@@ -6,6 +6,7 @@ use Rattle.event_spec.specs.Parts.{Parts, Shape, desk_at}
 use Rattle.txn_desk.specs.declared.Snapshot.{Snapshot}
 use Rattle.txn_desk.specs.Oldest.{snapshot_of}
 
+-- What a session has open with this snapshot: the snapshot, and what it wrote.
 abbrev opened_as : Shape → Parts → ℕ → Snapshot → Opened
 opened_as sh s q snapshot = record { snapshot = snapshot; writes = writes_of sh s q }
 

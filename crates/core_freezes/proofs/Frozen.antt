@@ -42,11 +42,13 @@ sealed_with x Loose rows is = cc
 sealed_with x (Sealed stamp) rows is = let same : rows ≡ rows_of x = cc in (refl, same)
 sealed_with x (Imaged stamp) rows is = cc
 
+-- A body for which no form is handed in is not sealed.
 not_sealed : (x : Body) (phase : Phase) → IsImageOf None x phase → is_sealed phase ≡ false
 not_sealed x Loose is = refl
 not_sealed x (Sealed stamp) is = cc
 not_sealed x (Imaged stamp) is = refl
 
+-- A phase that is sealed is not loose.
 not_loose : (phase : Phase) → is_sealed phase ≡ true → is_loose phase ≡ false
 not_loose Loose is = cc
 not_loose (Sealed stamp) is = refl
@@ -61,6 +63,7 @@ stays x is = ap (λ phase. record x { phase = phase }) (same x.phase is)
     same (Sealed stamp) is = cc
     same (Imaged stamp) is = refl
 
+-- Where a conjunction is true, its second part is.
 second : (a b : Bool) → (a && b) ≡ true → b ≡ true
 second true b both = both
 second false b both = cc

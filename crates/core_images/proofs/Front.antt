@@ -12,6 +12,7 @@ use Rattle.block_spec.specs.Slots.{Row, Slot}
 use Rattle.cell_model.specs.declared.column.Column.{Column}
 use Rattle.core_images.specs.FrontValues.{IsFilled, rows_of_front}
 
+-- The row of a slot, if it has one.
 abbrev row_of : Slot → Option Row
 row_of slot = slot.row
 
@@ -76,6 +77,7 @@ rows_taken (slot ∷ slots) = go slot.row (rows_taken slots)
 pub rows_counted : (slots : List Slot) → length (filter_map (λ (slot : Slot). slot.row) slots) ≡ count_by is_some (map (λ (slot : Slot). slot.row) slots)
 rows_counted slots = rows_taken slots ∙ taken_is (map row_of slots)
 
+-- Rows that are put into slots and taken out again are the same.
 rows_again : (batch : List Row) → flat_map (λ slot. option_to_list slot) (map (λ row. Some row) batch) ≡ batch
 rows_again [] = refl
 rows_again (row ∷ batch) = ap (λ (l : List Row). row ∷ l) (rows_again batch)

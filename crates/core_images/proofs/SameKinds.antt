@@ -11,6 +11,7 @@ use Rattle.cell_model.specs.declared.column.Column.{Column}
 use Rattle.cell_model.specs.declared.kind.Kind.{Kind}
 use Rattle.core_images.specs.Kinds.{kinds_of}
 
+-- Columns of the same kinds make the same arrays of rows, from any number on.
 from_kinds : (at : ℕ) (one other : List Column) (rows : List Row) → kinds_of one ≡ kinds_of other → arrays_from at one rows ≡ arrays_from at other rows
 from_kinds at [] [] rows same = refl
 from_kinds at [] (d ∷ ds) rows same = cc

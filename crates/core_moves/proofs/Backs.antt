@@ -25,7 +25,7 @@ use Rattle.event_spec.specs.declared.part.Part.TheVariants as part
 use Rattle.event_spec.specs.declared.reply.Reply.TheVariants as reply
 use Rattle.event_spec.specs.Effects.{after_move, half_moved, may_move, moved_row, places_moved, ticked, with_place}
 use Rattle.event_spec.specs.Lawful.{Among, HasBlock}
-use Rattle.event_spec.specs.Parts.{CorePart, Parts, Shape, Name, HeadOf, ShardOf, BodyOf, TheDesk, body_at, body_from, changed, desk_at, names, part_at, shard_of, slot_at, slots_of}
+use Rattle.event_spec.specs.Parts.{CorePart, Shape, Name, HeadOf, ShardOf, BodyOf, TheDesk, body_at, body_from, changed, desk_at, names, part_at, shard_of, slot_at, slots_of}
 use Rattle.frame_laws.proofs.Looks.{true_false}
 use Rattle.frame_laws.proofs.Shards.{moved_holds}
 use Rattle.key_index.specs.Candidates.{Places, candidates_of}
@@ -37,6 +37,7 @@ use Rattle.txn_desk.specs.Desk.{DeskState}
 
 module _ (sh : Shape) (t : ℕ) (moves : List MovePair) (old now : Held) (pairs : List MovePair) (done : ℕ) (u : AreMoved sh t moves old now pairs done)
     (pair : MovePair) (at : slice_get pairs done ≡ Some pair) where
+  -- Pairs that moved are pairs of which none was taken back and no block cooled again.
   none_again : (n : Name) (x : CorePart) → changed (moved_to sh u.may.parts t (take done pairs)) n x ≡ changed (back_to sh u.may.parts t (take done pairs) (λ b. false)) n x
   none_again (HeadOf v) x = refl_head x
     where
@@ -85,12 +86,7 @@ module _ (sh : Shape) (t : ℕ) (moves : List MovePair) (old now : Held) (pairs 
 
 module _ (sh : Shape) (t : ℕ) (moves : List MovePair) (old now : Held) (pairs : List MovePair) (k : ℕ) (v : AreBack sh t moves old now pairs (k + 1))
     (pair : MovePair) (at : slice_get pairs k ≡ Some pair) where
-  abbrev s : Parts
-  s = v.may.parts
-
-  abbrev stamp : ℕ
-  stamp = (desk_at sh v.may.parts).newest + 1
-
+  -- The hand after the pairs in front of this one moved.
   abbrev mid : Held
   mid = after sh (moved_to sh v.may.parts t (take k pairs)) old
 
@@ -98,9 +94,11 @@ module _ (sh : Shape) (t : ℕ) (moves : List MovePair) (old now : Held) (pairs 
   abbrev before : AreMoved sh t moves old (after sh (moved_to sh v.may.parts t (take k pairs)) old) pairs k
   before = record { may = v.may; hold = v.hold; made = refl }
 
+  -- The pair is one of the move's.
   mine : Among pair moves
   mine = (listed sh t moves old mid pairs k before pair at).0
 
+  -- The first pairs up to this one are those in front of it, and it.
   grown : take (k + 1) pairs ≡ take k pairs ++ pair ∷ []
   grown = let next : k + 1 ≡ suc k = omega arith in ap (λ n. take n pairs) next ∙ take_more pairs k pair at
 
@@ -132,6 +130,7 @@ module _ (sh : Shape) (t : ℕ) (moves : List MovePair) (old now : Held) (pairs 
   abbrev was : ℕ → Body → Body
   was b x = fold (half_moved sh v.may.parts t ((desk_at sh v.may.parts).newest + 1) b) x (take k pairs)
 
+  -- A body after this pair has both its halves made on the body before it.
   after_pair : (b : ℕ) (x : Body) → fold (half_moved sh v.may.parts t ((desk_at sh v.may.parts).newest + 1) b) x (take (k + 1) pairs)
       ≡ both_moved b ((desk_at sh v.may.parts).newest + 1) (moved_row sh v.may.parts t pair) pair.source pair.target (fold (half_moved sh v.may.parts t ((desk_at sh v.may.parts).newest + 1) b) x (take k pairs))
   after_pair b x =
@@ -139,6 +138,7 @@ module _ (sh : Shape) (t : ℕ) (moves : List MovePair) (old now : Held) (pairs 
       ∙ fold_more (half_moved sh v.may.parts t ((desk_at sh v.may.parts).newest + 1) b) x (take k pairs) pair
       ∙ half_is sh v.may.parts t ((desk_at sh v.may.parts).newest + 1) b (fold (half_moved sh v.may.parts t ((desk_at sh v.may.parts).newest + 1) b) x (take k pairs)) pair
 
+  -- A body in the hand has moved up to this pair, and is cooled where that was done.
   body_is_now : (b : ℕ) → Has sh old (BodyOf t b) → body_in sh old t b ≡ body_at sh v.may.parts t b
       → body_in sh now t b ≡ cond (v.again b) (cooled (both_moved b ((desk_at sh v.may.parts).newest + 1) (moved_row sh v.may.parts t pair) pair.source pair.target (was b (body_at sh v.may.parts t b))))
       (both_moved b ((desk_at sh v.may.parts).newest + 1) (moved_row sh v.may.parts t pair) pair.source pair.target (was b (body_at sh v.may.parts t b)))
@@ -149,6 +149,7 @@ module _ (sh : Shape) (t : ℕ) (moves : List MovePair) (old now : Held) (pairs 
       ∙ ap (λ (z : Body). cond (v.again b) (cooled z) z)
       (ap (λ (x : Body). fold (half_moved sh v.may.parts t ((desk_at sh v.may.parts).newest + 1) b) x (take (k + 1) pairs)) same ∙ after_pair b (body_at sh v.may.parts t b))
 
+  -- A body before the pair moved has as many slots as its table's blocks have.
   long : (b : ℕ) → HasBlock sh t b → length (was b (body_at sh v.may.parts t b)).slots ≡ slots_of sh t
   long b has = all_long sh v.may.parts t ((desk_at sh v.may.parts).newest + 1) b (take k pairs) (body_at sh v.may.parts t b) ∙ (v.may.holds.sound.bodies t b has).slots
 
@@ -174,9 +175,11 @@ module _ (sh : Shape) (t : ℕ) (moves : List MovePair) (old now : Held) (pairs 
 
   -- ---- the parts
 
+  -- The blocks that are cooled then: those that were, and the two of the pair.
   abbrev again : ℕ → Bool
   again b = (v.again b || (b == block_of pair.source)) || (b == block_of pair.target)
 
+  -- The test of two numbers is the same in either order.
   flip : (a b : ℕ) → (a == b) ≡ (b == a)
   flip a b = go (a == b) refl
     where
@@ -184,6 +187,7 @@ module _ (sh : Shape) (t : ℕ) (moves : List MovePair) (old now : Held) (pairs 
       go true e = e ∙ sym (ap (λ y. y == a) (sym (num a b e)) ∙ num_refl a)
       go false e = e ∙ sym (differs b a (λ same. true_false (sym (ap (λ y. a == y) same ∙ num_refl a) ∙ e)))
 
+  -- With the pair's candidate dropped a shard is as it was before the pair moved.
   shard_back : (w i : ℕ) (x : Places) → part_at sh v.may.parts (ShardOf w i) ≡ Some (part.Shard x)
       → cond ((w == t) && (i == shard_of pair.key)) (without_place pair.key pair.target (cond (w == t) (fold (places_moved sh v.may.parts i) x (take (k + 1) pairs)) x)) (cond (w == t) (fold (places_moved sh v.may.parts i) x (take (k + 1) pairs)) x)
       ≡ cond (w == t) (fold (places_moved sh v.may.parts i) x (take k pairs)) x
@@ -219,6 +223,7 @@ module _ (sh : Shape) (t : ℕ) (moves : List MovePair) (old now : Held) (pairs 
           ap (λ c. cond (c && (i == shard_of pair.key)) (without_place pair.key pair.target (cond c (fold (places_moved sh v.may.parts i) x (take (k + 1) pairs)) x)) (cond c (fold (places_moved sh v.may.parts i) x (take (k + 1) pairs)) x)) e
           ∙ ap (λ c. cond c (fold (places_moved sh v.may.parts i) x (take k pairs)) x) (sym e)
 
+  -- With the pair taken back a body is as it was before it, or cooled.
   body_back : (w b : ℕ) (x : Body) → part_at sh v.may.parts (BodyOf w b) ≡ Some (part.Body x) → (c : Bool) → (w == t) ≡ c
       → cond (c && (b == block_of pair.source)) (taken_back_in (slot_of pair.source)
       (cond (c && (b == block_of pair.target)) (taken_back_in (slot_of pair.target) (cond (c && v.again b) (cooled (cond c (fold (half_moved sh v.may.parts t ((desk_at sh v.may.parts).newest + 1) b) x (take (k + 1) pairs)) x)) (cond c (fold (half_moved sh v.may.parts t ((desk_at sh v.may.parts).newest + 1) b) x (take (k + 1) pairs)) x)))
@@ -250,16 +255,19 @@ module _ (sh : Shape) (t : ℕ) (moves : List MovePair) (old now : Held) (pairs 
             ∙ bare_row (slot_at sh v.may.parts t pair.target) (four sh t moves old mid pairs k before pair at).1,
       )
 
+  -- With the pair taken back each part is as it was before it, or cooled.
   part_back : (n : Name) (x : CorePart) → part_at sh v.may.parts n ≡ Some x
       → changed (pair_undone t pair) n (changed (back_to sh v.may.parts t (take (k + 1) pairs) v.again) n x) ≡ changed (back_to sh v.may.parts t (take k pairs) (λ b. (v.again b || (b == block_of pair.source)) || (b == block_of pair.target))) n x
   part_back = twice_at (λ n x. part_at sh v.may.parts n ≡ Some x) (back_to sh v.may.parts t (take (k + 1) pairs) v.again) (pair_undone t pair)
       (back_to sh v.may.parts t (take k pairs) (λ b. (v.again b || (b == block_of pair.source)) || (b == block_of pair.target)))
       (record { head = λ w x is. refl; shard = shard_back; body = λ w b x is. body_back w b x is (w == t) refl; desk = λ x is. refl })
 
+  -- Where a disjunction is true, one of its parts is.
   or_cases : (a b : Bool) → (a || b) ≡ true → (a ≡ true) ⊎ (b ≡ true)
   or_cases true b e = inl refl
   or_cases false b e = inr e
 
+  -- Only blocks that may move are cooled again.
   only_may : (b : ℕ) → ((v.again b || (b == block_of pair.source)) || (b == block_of pair.target)) ≡ true → may_move sh v.may.parts t b ≡ true
   only_may b e = go (or_cases (v.again b || (b == block_of pair.source)) (b == block_of pair.target) e)
     where
@@ -286,6 +294,7 @@ module _ (sh : Shape) (t : ℕ) (moves : List MovePair) (old now : Held) (pairs 
 -- ---- all pairs back
 
 module _ (sh : Shape) (t : ℕ) (moves : List MovePair) (old now : Held) (pairs : List MovePair) (v : AreBack sh t moves old now pairs 0) where
+  -- With all pairs taken back each body is as it was before the move.
   body_same : (w b : ℕ) (x : Body) → part_at sh v.may.parts (BodyOf w b) ≡ Some (part.Body x) → cond ((w == t) && v.again b) (cooled (cond (w == t) x x)) (cond (w == t) x x) ≡ x
   body_same w b x is = go ((w == t) && v.again b) refl
     where
@@ -304,6 +313,7 @@ module _ (sh : Shape) (t : ℕ) (moves : List MovePair) (old now : Held) (pairs 
           ∙ ap (λ c. record x { cooling = c; rounds = 2 }) (sym cooling)
           ∙ ap (λ n. record x { rounds = n }) (sym rounds)
 
+  -- With all pairs taken back each part is as it was before the move.
   part_same : (n : Name) (x : CorePart) → part_at sh v.may.parts n ≡ Some x → changed (back_to sh v.may.parts t [] v.again) n x ≡ x
   part_same = rests_at (λ n x. part_at sh v.may.parts n ≡ Some x) (back_to sh v.may.parts t [] v.again)
       (record { head = λ w x is. refl; shard = λ w i x is. same_either (w == t) x; body = body_same; desk = λ x is. refl })
@@ -315,10 +325,12 @@ module _ (sh : Shape) (t : ℕ) (moves : List MovePair) (old now : Held) (pairs 
 -- ---- the stamp at the end
 
 module _ (sh : Shape) (t : ℕ) (moves : List MovePair) (old mid : Held) (pairs : List MovePair) (u : AreMoved sh t moves old mid pairs (length pairs)) (some : pairs ≡ [] → ⊥) where
+  -- As many first elements as a list has are all of it.
   take_all : {X : Type 0} (xs : List X) → take (length xs) xs ≡ xs
   take_all [] = refl
   take_all (x ∷ xs) = ap (λ ys. x ∷ ys) (take_all xs)
 
+  -- All pairs moved, and the tick of the desk, are the move.
   made_all : (ps : List MovePair) → (ps ≡ [] → ⊥) → after sh (desk_change ticked) (after sh (moved_to sh u.may.parts t ps) old) ≡ after sh (after_move sh u.may.parts t ps) old
   made_all [] not_none = absurd (not_none refl)
   made_all (first ∷ rest) not_none = after_twice sh (moved_to sh u.may.parts t (first ∷ rest)) (desk_change ticked) (after_move sh u.may.parts t (first ∷ rest)) old

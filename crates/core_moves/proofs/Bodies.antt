@@ -38,6 +38,7 @@ set_twice [] j a b = refl
 set_twice (x ∷ xs) zero a b = refl
 set_twice (x ∷ xs) (suc j) a b = ap (λ ys. x ∷ ys) (set_twice xs j a b)
 
+-- A slot that is set to what stands there leaves the slots.
 set_same : (xs : List Slot) (j : ℕ) (a : Slot) → j < length xs → get_or xs j bare ≡ a → slice_set xs j a ≡ xs
 set_same [] j a less is = absurd (omega (arith, less))
 set_same (x ∷ xs) zero a less is = ap (λ y. y ∷ xs) (sym is)
@@ -94,6 +95,7 @@ if_columns false j g body = refl
 -- ---- bodies after some pairs
 
 module _ (sh : Shape) (s : Parts) (t stamp b : ℕ) where
+  -- A body after its halves of one pair.
   abbrev step : Body → MovePair → Body
   step body pair = half_moved sh s t stamp b body pair
 
@@ -167,6 +169,7 @@ both_moved b stamp row source target body =
     let first : Body = cond (b == block_of source) (with_slot (slot_of source) (moved_out stamp row) body) body in
     cond (b == block_of target) (with_slot (slot_of target) (moved_in stamp row) first) first
 
+-- The test of two numbers is the same in either order.
 num_flip : (a b : ℕ) → (a == b) ≡ (b == a)
 num_flip a b = go (a == b) refl
   where

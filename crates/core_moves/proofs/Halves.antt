@@ -121,12 +121,15 @@ shards_back sh hand t i f g c plain same = after_then (record c { shard = λ u j
 
 module _ (sh : Shape) (h0 : Held) (t : ℕ) (pair : MovePair) (r : IsReadyIn sh h0 t pair) (h1 : Held) (stamp : ℕ) (row : Row)
     (is : (slot_in (body_in sh h0 t (block_of pair.source)) (slot_of pair.source)).row ≡ Some row) (out : h1 ≡ after sh (left t pair.source row stamp) h0) where
+  -- The target lies in the block of the source.
   abbrev c : Bool
   c = (t == t) && (block_of pair.target == block_of pair.source)
 
+  -- The target's body before the row left its source.
   abbrev was : Body
   was = body_in sh h0 t (block_of pair.target)
 
+  -- The target's body after the row left is as it was, unless it is the source's too.
   here : body_in sh h1 t (block_of pair.target)
       ≡ cond ((t == t) && (block_of pair.target == block_of pair.source)) (with_slot (slot_of pair.source) (moved_out stamp row) (body_in sh h0 t (block_of pair.target))) (body_in sh h0 t (block_of pair.target))
   here = ap (λ h. body_in sh h t (block_of pair.target)) out ∙ body_in_after sh (left t pair.source row stamp) h0 t (block_of pair.target) r.target
@@ -170,6 +173,7 @@ module _ (sh : Shape) (h0 : Held) (t : ℕ) (pair : MovePair) (r : IsReadyIn sh 
       (body_in_changed sh h0 h1 t (block_of pair.source) (with_slot (slot_of pair.source) (moved_out stamp row)) r.source out)
       ∙ ap (λ (x : Slot). has_none x.entries) (with_slot_here (slot_of pair.source) (moved_out stamp row) (body_in sh h0 t (block_of pair.source)) r.inside)
 
+  -- The row that the pair moves is the one at its source.
   row_is : row_in sh h0 t pair ≡ row
   row_is = ap (λ o. unwrap_or o []) is
 
@@ -194,12 +198,15 @@ module _ (sh : Shape) (h0 : Held) (t : ℕ) (pair : MovePair) (r : IsReadyIn sh 
 
 module _ (sh : Shape) (h0 h1 : Held) (t : ℕ) (pair : MovePair) (r : IsReadyIn sh h0 t pair)
     (added : h1 ≡ after sh (shard_changed t (shard_of pair.key) (with_place pair.key pair.target)) h0) where
+  -- The pair's target is added as a candidate of its key.
   abbrev add : Changes
   add = shard_changed t (shard_of pair.key) (with_place pair.key pair.target)
 
+  -- With the candidate added the source's body is as it was.
   same_source : body_in sh h1 t (block_of pair.source) ≡ body_in sh h0 t (block_of pair.source)
   same_source = body_in_else sh h0 h1 t (block_of pair.source) t (shard_of pair.key) (with_place pair.key pair.target) r.source added
 
+  -- With the candidate added the target's body is as it was.
   same_target : body_in sh h1 t (block_of pair.target) ≡ body_in sh h0 t (block_of pair.target)
   same_target = body_in_else sh h0 h1 t (block_of pair.target) t (shard_of pair.key) (with_place pair.key pair.target) r.target added
 

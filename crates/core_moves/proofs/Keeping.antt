@@ -35,12 +35,14 @@ pub record Keeping {X : Type 0} (p : X → Bool) (all now : List X) (at kept : �
   pub front : take kept now ≡ filter p (take at all)
   pub back : drop at now ≡ drop at all
 
+-- An element at a place is the first of those from there on.
 got_drop : {X : Type 0} (xs : List X) (at : ℕ) (d : X) → get_or xs at d ≡ get_or (drop at xs) 0 d
 got_drop [] zero d = refl
 got_drop [] (suc at) d = refl
 got_drop (x ∷ xs) zero d = refl
 got_drop (x ∷ xs) (suc at) d = got_drop xs at d
 
+-- What a list has from the next place on is what it has from this one without its first.
 drop_next : {X : Type 0} (xs : List X) (at : ℕ) → drop (suc at) xs ≡ drop 1 (drop at xs)
 drop_next [] zero = refl
 drop_next [] (suc at) = refl
@@ -51,6 +53,7 @@ drop_next (x ∷ xs) (suc at) = drop_next xs at
 pub same_at : {X : Type 0} (p : X → Bool) (all now : List X) (at kept : ℕ) (d : X) → Keeping p all now at kept → get_or now at d ≡ get_or all at d
 same_at p all now at kept d k = got_drop now at d ∙ ap (λ xs. get_or xs 0 d) k.back ∙ sym (got_drop all at d)
 
+-- Lists that agree from a place on agree from the next one on.
 next_back : {X : Type 0} (all now : List X) (at : ℕ) → drop at now ≡ drop at all → drop (at + 1) now ≡ drop (at + 1) all
 next_back all now at same =
     let next : at + 1 ≡ suc at = omega arith in
@@ -126,6 +129,7 @@ is_among p all now at kept pair k less is =
 
 -- ---- keys
 
+-- Columns that begin with the key are at least one.
 key_first : (columns : List Column) → begins_with_key columns ≡ true → 0 < length (columns_of columns)
 key_first [] key = absurd (true_false (sym key))
 key_first (column ∷ columns) key = omega arith

@@ -103,9 +103,11 @@ bare_row slot is = go slot.row (has_none slot.entries) is
 -- ---- a hand on which a move may run
 
 module _ (sh : Shape) (t : ℕ) (moves : List MovePair) (old : Held) (m : MayRun sh (event.Move t moves) old) where
+  -- The core's parts before the move.
   abbrev s : Parts
   s = m.parts
 
+  -- How the core before the move follows a machine.
   abbrev f : FollowsMachine sh m.parts m.holds.sound.follows.0
   f = follows_machine sh m.parts m.holds.sound
 
@@ -151,6 +153,7 @@ module _ (sh : Shape) (t : ℕ) (moves : List MovePair) (old : Held) (m : MayRun
     pub target_is : body_in sh old t (block_of pair.target) ≡ body_at sh m.parts t (block_of pair.target)
     target_is = let x = a_body sh old t (block_of pair.target) has_target in body_is_in sh old t (block_of pair.target) x.0 x.1 ∙ sym (body_is sh old m.parts m.agrees t (block_of pair.target) x.0 x.1)
 
+  -- The table's head in the hand is the core's.
   head_is_in : head_in sh old t ≡ head_at sh m.parts t
   head_is_in = let x = a_head sh old t has_the_head in ap head_from x.1 ∙ sym (head_is sh old m.parts m.agrees t x.0 x.1)
 
@@ -170,6 +173,7 @@ module _ (sh : Shape) (t : ℕ) (moves : List MovePair) (old : Held) (m : MayRun
   pub all_judged : filter (holds_in sh old t) moves ≡ held_pairs sh m.parts t moves
   all_judged = filter_same (holds sh m.parts t) (holds_in sh old t) moves judged
 
+  -- Where no pairs moved, each part is as it was.
   none_moved : (n : Name) (x : CorePart) → changed (moved_to sh m.parts t []) n x ≡ x
   none_moved n x = rests_at (λ n x. Unit {0}) (moved_to sh m.parts t [])
       (record { head = λ u x h. refl; shard = λ u i x h. same_either (u == t) x; body = λ u b x h. same_either (u == t) x; desk = λ x h. refl }) n x tt
@@ -191,11 +195,9 @@ module _ (sh : Shape) (t : ℕ) (moves : List MovePair) (old : Held) (m : MayRun
 -- ---- one pair more
 
 module _ (sh : Shape) (t : ℕ) (moves : List MovePair) (old now : Held) (pairs : List MovePair) (done : ℕ) (u : AreMoved sh t moves old now pairs done) where
+  -- The core's parts before the pairs that moved so far.
   abbrev parts : Parts
   parts = u.may.parts
-
-  abbrev stamp : ℕ
-  stamp = (desk_at sh u.may.parts).newest + 1
 
   -- the pairs that hold have their places apart
   pub far : Apart pairs
@@ -247,9 +249,6 @@ module _ (sh : Shape) (t : ℕ) (moves : List MovePair) (old now : Held) (pairs 
 
     loose_by : (b : ℕ) → may_move sh u.may.parts t b ≡ true → is_loose (body_at sh u.may.parts t b).phase ≡ true
     loose_by b e = (both _ _ (both _ _ (both _ _ e).0).0).0
-
-    front : List MovePair
-    front = take done pairs
 
     -- the next pair's places are not those of a pair that has moved
     pub far_from : (other : MovePair) → Among other (take done pairs) → AreFar other pair

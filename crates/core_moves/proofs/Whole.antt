@@ -22,6 +22,7 @@ use Rattle.frame_laws.specs.Shards.{ShardHolds}
 use Rattle.key_index.specs.Candidates.{candidates_of}
 use Rattle.txn_desk.specs.Desk.{DeskState}
 
+-- An element that is read within a list stands at its index.
 at_index : {X : Type 0} (xs : List X) (k : ℕ) (x : X) → x ≡ get_or xs k x → k < length xs → slice_get xs k ≡ Some x
 at_index xs k x is less = go xs k x less ∙ ap Some (sym is)
   where
@@ -36,9 +37,11 @@ module _ (sh : Shape) (t : ℕ) (held now : Held) (pairs : List MovePair) (done 
     (x : (moves : List MovePair) × (old : Held) × AreBack sh t moves old held pairs done)
     (so_far : (left ≤ done) × ((moves : List MovePair) (old : Held) → AreBack sh t moves old held pairs done → AreBack sh t moves old now pairs left))
     (more : 0 < left) (fits : done ≤ length pairs) (pair : MovePair) (is : pair ≡ get_or pairs (left - 1) pair) where
+  -- The hand so far is one in which this pair is the next to be taken back.
   back_here : (moves : List MovePair) (old : Held) → AreBack sh t moves old held pairs done → AreBack sh t moves old now pairs (left - 1 + 1)
   back_here moves old b = let same : left ≡ left - 1 + 1 = omega (arith, more) in subst (AreBack sh t moves old now pairs) same (so_far.1 moves old b)
 
+  -- The pair stands last among those that are left.
   at : slice_get pairs (left - 1) ≡ Some pair
   at = let few = so_far.0 in at_index pairs (left - 1) pair is (omega (arith, more, fits, few))
 
@@ -91,6 +94,7 @@ module _ (sh : Shape) (t : ℕ) (held now : Held) (pairs : List MovePair) (done 
     (x : (moves : List MovePair) × AreMoved sh t moves held held pairs 0)
     (so_far : (moves : List MovePair) → AreMoved sh t moves held held pairs 0 → AreMoved sh t moves held now pairs done)
     (less : done < length pairs) (pair : MovePair) (is : pair ≡ get_or pairs done pair) where
+  -- The pair stands behind those that moved.
   at_pair : slice_get pairs done ≡ Some pair
   at_pair = at_index pairs done pair is less
 
@@ -125,6 +129,7 @@ module _ (sh : Shape) (t : ℕ) (held now : Held) (pairs : List MovePair) (done 
 
 module _ (sh : Shape) (t : ℕ) (moves : List MovePair) (old : Held) (m : MayRun sh (event.Move t moves) old) (pairs : List MovePair) (is : pairs ≡ filter (holds_in sh old t) moves)
     (mid : Held) (made : (moves : List MovePair) → AreMoved sh t moves old old pairs 0 → AreMoved sh t moves old mid pairs (length pairs)) where
+  -- All pairs that hold have moved.
   abbrev u : AreMoved sh t moves old mid pairs (length pairs)
   u = made moves (begins sh t moves old m pairs is)
 

@@ -15,6 +15,7 @@ pub grown : (start front more now next : Held) → now ≡ start ++ front → ne
 grown start front more now next was grew = grew ∙ ap (λ (places : Held). places ++ more) was ∙ append_assoc start front more
 
 module _ (sh : Shape) where
+  -- The places of two lists of names are those of the one, then of the other.
   placed_both : (ns ms : List Name) → placed sh (ns ++ ms) ≡ placed sh ns ++ placed sh ms
   placed_both ns ms = map-append (λ name. Some (opening_part sh name)) ns ms
 

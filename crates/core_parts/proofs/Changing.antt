@@ -41,6 +41,7 @@ pub record Only (c : Changes) (w : Name) (p q : CorePart) : Type 0 where
   pub here : changed c w p ≡ q
   pub others : (n : Name) (x : CorePart) → same_name n w ≡ false → changed c n x ≡ x
 
+-- A part that is laid changed into the hand is what changes of it alone make.
 laid_changed : (c : Changes) (ns : List Name) (hand : Held) (w : Name) (p q : CorePart) → NamedOnce ns → Only c w p q → held_named ns hand w ≡ Some p → laid_at ns w (Some q) hand ≡ hand_changed c ns hand
 laid_changed c [] hand w p q once only is = cc
 laid_changed c (n ∷ ns) [] w p q once only is = cc
@@ -89,6 +90,7 @@ body_change t b g = record nothing { body = at_both t b g }
 abbrev pub desk_change : (DeskState → DeskState) → Changes
 desk_change g = record nothing { desk = g }
 
+-- A choice by a test that is false is its second part.
 skip : {X : Type 0} (b : Bool) (x y : X) → b ≡ false → cond b x y ≡ y
 skip true x y e = cc
 skip false x y e = refl
@@ -106,6 +108,7 @@ head_only t g x = record { here = ap (λ b. part.Head (cond b (g x) x)) (num_ref
     others (BodyOf u b) y e = nothing_changes (BodyOf u b) y
     others TheDesk y e = nothing_changes TheDesk y
 
+-- Two numbers are tested to be themselves.
 both_refl : (a b : ℕ) → ((a == a) && (b == b)) ≡ true
 both_refl a b = ap (λ x. x && (b == b)) (num_refl a) ∙ num_refl b
 
@@ -204,6 +207,7 @@ length-after c [] hand = refl
 length-after c (n ∷ ns) [] = refl
 length-after c (n ∷ ns) (o ∷ hand) = ap suc (length-after c ns hand)
 
+-- A place from which a part was taken stays empty after changes.
 away : (c : Changes) (ns : List Name) (hand : Held) (k : ℕ) → slice_get hand k ≡ Some None → slice_get (hand_changed c ns hand) k ≡ Some None
 away c [] hand k is = is
 away c (n ∷ ns) [] k is = is

@@ -22,18 +22,22 @@ get_right [] ys k = ap (slice_get ys) (let e : 0 + k ≡ k = omega arith in e)
 get_right (x ∷ xs) ys k =
     ap (slice_get (x ∷ (xs ++ ys))) (let e : suc (length xs) + k ≡ suc (length xs + k) = omega arith in e) ∙ get_right xs ys k
 
+-- Two lists joined are as long as both together.
 length_join : {X : Type 0} (xs ys : List X) → length (xs ++ ys) ≡ length xs + length ys
 length_join [] ys = omega arith
 length_join (x ∷ xs) ys = let e = length_join xs ys in omega (arith, e)
 
+-- There are as many images as elements.
 length_each : {X Y : Type 0} (f : X → Y) (xs : List X) → length (map f xs) ≡ length xs
 length_each f [] = refl
 length_each f (x ∷ xs) = ap suc (length_each f xs)
 
+-- A range has as many numbers as it is made with.
 length_range : (a n : ℕ) → length (range_with_len a n) ≡ n
 length_range a zero = refl
 length_range a (suc n) = ap suc (length_range (a + 1) n)
 
+-- At a place of a range's images stands that of its first number plus the place.
 get_range : {X : Type 0} (f : ℕ → X) (a n k : ℕ) → k < n → slice_get (map f (range_with_len a n)) k ≡ Some (f (a + k))
 get_range f a zero k less = absurd (omega (arith, less))
 get_range f a (suc n) zero less = ap (λ x. Some (f x)) (let e : a ≡ a + 0 = omega arith in e)
@@ -42,6 +46,7 @@ get_range f a (suc n) (suc k) less =
 
 -- ---- heads and shards
 
+-- There are eight shards for each table.
 shards_length : (a n : ℕ) → length (flat_map (λ t. map (ShardOf t) (below 8)) (range_with_len a n)) ≡ 8 * n
 shards_length a zero = omega arith
 shards_length a (suc n) =
@@ -49,6 +54,7 @@ shards_length a (suc n) =
     let j = length_join (map (ShardOf a) (below 8)) (flat_map (λ t. map (ShardOf t) (below 8)) (range_with_len (a + 1) n)) in
     let l = length_each (ShardOf a) (below 8) ∙ length_range 0 8 in j ∙ (omega (arith, e, l))
 
+-- A table's shard stands behind eight for each table before, by its own index.
 get_shard : (a n t i : ℕ) → t < n → i < 8 → slice_get (flat_map (λ t. map (ShardOf t) (below 8)) (range_with_len a n)) (8 * t + i) ≡ Some (ShardOf (a + t) i)
 get_shard a zero t i less small = absurd (omega (arith, less))
 get_shard a (suc n) zero i less small =
@@ -68,10 +74,12 @@ get_shard a (suc n) (suc t) i less small =
 
 -- ---- bodies
 
+-- The first of the tables has as many blocks as it declares.
 first : (blocks : ℕ → ℕ) (a : ℕ) (decl : TableDecl) (tables : List TableDecl)
     → ((j : ℕ) (other : TableDecl) → slice_get (decl ∷ tables) j ≡ Some other → blocks (a + j) ≡ other.blocks) → blocks a ≡ decl.blocks
 first blocks a decl tables each = ap blocks (let e : a ≡ a + 0 = omega arith in e) ∙ each 0 decl refl
 
+-- Each table behind the first has as many blocks as it declares.
 next : (blocks : ℕ → ℕ) (a : ℕ) (decl : TableDecl) (tables : List TableDecl)
     → ((j : ℕ) (other : TableDecl) → slice_get (decl ∷ tables) j ≡ Some other → blocks (a + j) ≡ other.blocks)
     → (j : ℕ) (other : TableDecl) → slice_get tables j ≡ Some other → blocks (a + 1 + j) ≡ other.blocks
@@ -91,6 +99,7 @@ bodies_length blocks a from (decl ∷ tables) each =
     ap (λ n. from + n) j ∙ (omega (arith, l, here)) in
     e ∙ rest
 
+-- A table's body stands behind the table's first one by the block's number.
 get_body : (blocks : ℕ → ℕ) (a from : ℕ) (tables : List TableDecl) (t b start : ℕ)
     → ((j : ℕ) (decl : TableDecl) → slice_get tables j ≡ Some decl → blocks (a + j) ≡ decl.blocks)
     → slice_get (first_bodies from tables) t ≡ Some start → b < blocks (a + t)
@@ -128,27 +137,34 @@ got_within (y ∷ xs) (suc k) x is = let rest = got_within xs k x is in omega (a
 
 -- ---- all names
 
+-- A table of the shape has as many blocks as it declares.
 blocks_are : (sh : Shape) (j : ℕ) (decl : TableDecl) → slice_get sh.tables j ≡ Some decl → blocks_of sh (0 + j) ≡ decl.blocks
 blocks_are sh j decl is =
     ap (λ x. blocks_of sh x) (let e : 0 + j ≡ j = omega arith in e) ∙ ap (λ o. unwrap_or (option_map (λ (d : TableDecl). d.blocks) o) 0) is
 
 module _ (sh : Shape) where
+  -- The names of the tables' heads.
   abbrev heads : List Name
   heads = map HeadOf (tables_of sh)
 
+  -- The names of the tables' shards.
   abbrev shards : List Name
   shards = flat_map (λ t. map (ShardOf t) (below 8)) (tables_of sh)
 
+  -- The names of the tables' bodies.
   abbrev bodies : List Name
   bodies = flat_map (λ t. map (BodyOf t) (below (blocks_of sh t))) (tables_of sh)
 
+  -- There are as many heads as tables.
   heads_length : length heads ≡ length sh.tables
   heads_length = length_each HeadOf (tables_of sh) ∙ length_range 0 (length sh.tables)
 
+  -- There are nine heads and shards for each table.
   front_length : length (heads ++ shards) ≡ 9 * length sh.tables
   front_length =
       let a = heads_length in let b = shards_length 0 (length sh.tables) in length_join heads shards ∙ (omega (arith, a, b))
 
+  -- The heads, shards and bodies are as many as the number behind the last body.
   all_length : length (heads ++ shards ++ bodies) ≡ after_bodies (9 * length sh.tables) sh.tables
   all_length =
       length_join (heads ++ shards) bodies ∙ ap (λ n. n + length bodies) front_length
@@ -220,11 +236,13 @@ start_below from (d ∷ tables) (suc t) start decl at is = start_below (from + d
 
 -- ---- counting
 
+-- From a place on a list has the element there, and what is behind it.
 drop_next : {X : Type 0} (xs : List X) (i : ℕ) (x : X) → slice_get xs i ≡ Some x → drop i xs ≡ x ∷ drop (i + 1) xs
 drop_next [] i x is = cc
 drop_next (y ∷ xs) zero x is = let e : y ≡ x = cc in ap (λ z. z ∷ xs) e
 drop_next (y ∷ xs) (suc i) x is = drop_next xs i x is ∙ ap (λ k. x ∷ drop k (y ∷ xs)) (let e : suc (i + 1) ≡ suc i + 1 = omega arith in e)
 
+-- From its end on a list has nothing.
 drop_end : {X : Type 0} (xs : List X) (i : ℕ) → length xs ≤ i → drop i xs ≡ []
 drop_end [] i le = drop_none i
   where
@@ -234,10 +252,12 @@ drop_end [] i le = drop_none i
 drop_end (y ∷ xs) zero le = absurd (omega (arith, le))
 drop_end (y ∷ xs) (suc i) le = drop_end xs i (omega (arith, le))
 
+-- An element at the end of one list may as well begin the next.
 append_assoc : {X : Type 0} (xs : List X) (y : X) (ys : List X) → (xs ++ y ∷ []) ++ ys ≡ xs ++ y ∷ ys
 append_assoc [] y ys = refl
 append_assoc (x ∷ xs) y ys = ap (λ zs. x ∷ zs) (append_assoc xs y ys)
 
+-- A list with nothing behind it is itself.
 append_none : {X : Type 0} (xs : List X) → xs ++ [] ≡ xs
 append_none [] = refl
 append_none (x ∷ xs) = ap (λ zs. x ∷ zs) (append_none xs)

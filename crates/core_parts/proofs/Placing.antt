@@ -26,18 +26,21 @@ marks : ℕ → List Name → Parts
 marks a [] = []
 marks a (n ∷ ns) = told a ∷ marks (a + 1) ns
 
+-- The mark at a name's place tells this place.
 mark_at : (a : ℕ) (ns : List Name) (k : ℕ) (n : Name) → slice_get ns k ≡ Some n → slice_get (marks a ns) k ≡ Some (told (a + k))
 unfolding marks
 mark_at a [] k n is = cc
 mark_at a (m ∷ ns) zero n is = ap (λ x. Some (told x)) (let e : a ≡ a + 0 = omega arith in e)
 mark_at a (m ∷ ns) (suc k) n is = mark_at (a + 1) ns k n is ∙ ap (λ x. Some (told x)) (let e : a + 1 + k ≡ a + suc k = omega arith in e)
 
+-- The number that a head tells, and zero for any other part.
 number_in : CorePart → ℕ
 number_in (part.Head head) = head.block
 number_in (part.Shard places) = 0
 number_in (part.Body body) = 0
 number_in (part.Desk desk) = 0
 
+-- Marks that are the same tell the same number.
 same_told : (j k : ℕ) → told j ≡ told k → j ≡ k
 unfolding number_in
 same_told j k e = ap number_in e
@@ -52,6 +55,7 @@ named_once sh j k n a b =
     both : (o : Option CorePart) (p q : CorePart) → o ≡ Some p → o ≡ Some q → p ≡ q
     both o p q x y = cc
 
+-- Where each name stands once, each of those behind the first does.
 once_tail : (n : Name) (ns : List Name) → NamedOnce (n ∷ ns) → NamedOnce ns
 once_tail n ns once j k m a b = let e = once (suc j) (suc k) m a b in omega (arith, e)
 
@@ -190,6 +194,7 @@ laid_other (n ∷ ns) (p ∷ hand) w other new apart = go (same_name n w) refl (
 
 -- ---- one name of a shape
 
+-- A list has an element at each place within its length.
 there : {X : Type 0} (xs : List X) (k : ℕ) → k < length xs → (x : X) × (slice_get xs k ≡ Some x)
 there [] k less = absurd (omega (arith, less))
 there (x ∷ xs) zero less = (x, refl)

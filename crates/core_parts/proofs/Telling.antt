@@ -22,6 +22,7 @@ use Rattle.hall_rule.specs.Hands.{Agrees}
 use Rattle.key_index.specs.Candidates.{Places, candidates_of}
 use Rattle.txn_desk.specs.Desk.{DeskState}
 
+-- After changes stands in each place its part, changed by its name.
 get_changed : (c : Changes) (ns : List Name) (s : Parts) (k : ℕ) (n : Name) (x : CorePart) → slice_get ns k ≡ Some n → slice_get s k ≡ Some x → slice_get (each_changed c ns s) k ≡ Some (changed c n x)
 get_changed c [] s k n x is at = cc
 get_changed c (m ∷ ns) [] k n x is at = cc

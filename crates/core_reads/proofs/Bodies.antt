@@ -19,17 +19,20 @@ use Rattle.event_spec.specs.Replay.{columns_in}
 use Rattle.event_spec.specs.SlotSound.{VersionsFit}
 use Rattle.event_spec.specs.Sound.{BodyHolds}
 
+-- A row that fits columns which begin with the key has a key.
 keyed : (columns : List Column) (row : Option Row) → begins_with_key columns ≡ true → IfSome row (Fits columns) → IfSome row HasKey
 keyed columns None key fit = tt
 keyed columns (Some row) key fit = fits-has_key columns row key fit
 
 module _ (columns : List Column) (key : begins_with_key columns ≡ true) (slots : List Slot) (fits : All (λ (slot : Slot). VersionsFit columns slot.row slot.entries) slots) (j : ℕ) where
+  -- The row that is seen of a slot has a key.
   seen_keyed : (stamp session : ℕ) → IfSome (seen (get_or slots j bare) stamp session) HasKey
   seen_keyed stamp session = ⊎_elim
       (λ less. keyed columns (seen (get_or slots j bare) stamp session) key (seen_fits columns (get_or slots j bare).row (get_or slots j bare).entries stamp session (fits j bare less)))
       (λ past. subst (λ (s : Slot). IfSome (seen s stamp session) HasKey) (sym (get_or_past slots j bare past)) tt)
       (cases_lt j (length slots))
 
+  -- The current row of a slot has a key.
   current_keyed : IfSome (get_or slots j bare).row HasKey
   current_keyed = ⊎_elim
       (λ less. keyed columns (get_or slots j bare).row key (current_fits columns (get_or slots j bare).row (get_or slots j bare).entries (fits j bare less)))

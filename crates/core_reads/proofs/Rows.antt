@@ -15,6 +15,7 @@ use Rattle.isolation_spec.specs.Contents.{PlaceMap, at_place, key_of, place_at}
 use Rattle.undo_chain.specs.declared.undo.Undo.{Undo}
 use Rattle.undo_chain.specs.Visible.{visible_row}
 
+-- What agrees for each number below the end of a range makes the same of it.
 same_below : {X : Type 0} (f g : ℕ → Option X) (a n : ℕ) → ((j : ℕ) → j < a + n → f j ≡ g j) → filter_map f (range_with_len a n) ≡ filter_map g (range_with_len a n)
 same_below f g a zero same = refl
 same_below f g a (suc n) same =
@@ -22,6 +23,7 @@ same_below f g a (suc n) same =
     ∙ ap (cons_option (g a)) (same_below f g (a + 1) n (λ j less. same j (omega (arith, less))))
 
 module _ (sh : Shape) (s : Parts) (own : OwnTransaction) (t b : ℕ) (x : Body) (is : body_at sh s t b ≡ x) (few : length x.slots ≤ 2 ^ 15) where
+  -- A slot of the body is that of its place in the table.
   slot_here : (j : ℕ) → j < 2 ^ 20 → slot_in x j ≡ slot_at sh s t (place_of b j)
   slot_here j less =
       ap (λ (y : Body). slot_in y j) (sym is)
@@ -47,10 +49,12 @@ each_ok (Err e) follows told = tt
 
 -- Where the session wrote nothing and no slot has an entry, it sees each slot's row.
 module _ (own : OwnTransaction) (t b : ℕ) (none : own.writes ≡ []) where
+  -- An option whose content is put back is the same.
   some_again : (o : Option Row) → option_and_then (λ row. Some row) o ≡ o
   some_again None = refl
   some_again (Some row) = refl
 
+  -- A transaction without writes reads the current row of a slot without entries.
   sees_own : (place : ℕ) (slot : Slot) → has_none slot.entries ≡ true → row_in own t place slot ≡ slot.row
   sees_own place slot quiet =
       ap (λ (entries : List (Undo BeforeImage)). option_and_then
@@ -64,6 +68,7 @@ module _ (own : OwnTransaction) (t b : ℕ) (none : own.writes ≡ []) where
       no_entries [] quiet = refl
       no_entries (entry ∷ entries) quiet = cc
 
+  -- A transaction without writes reads the current rows of slots without entries.
   sees_all : (all slots : List Slot) (a : ℕ) → list_all (λ (slot : Slot). has_none slot.entries) slots ≡ true
       → ((k : ℕ) → k < length slots → get_or all (a + k) bare ≡ get_or slots k bare)
       → filter_map (λ j. row_in own t (place_of b j) (get_or all j bare)) (range_with_len a (length slots)) ≡ filter_map (λ (slot : Slot). slot.row) slots

@@ -1,4 +1,5 @@
--- A pruning that goes from slot to slot with entries: what it made of the shards so far, and that it is the event's at the end.
+-- A pruning that goes from slot to slot with entries: what it made of the shards so far, and that
+-- it is the event's at the end.
 use Rattle.std.proofs.Common.{◌≡◌, ◌≢◌, ◌⊎◌, ℕ, ◌+◌, ◌<◌, ◌≤◌, ◌^◌, ℤ, Bool, true, false, cond, not, ◌&&◌, ◌==◌, nat_lt, List, [], ◌∷◌, Option, None, Some, is_some, option_map, map, refl, sym, ap, ◌∙◌, subst, arith}
 use mathlib.Core.Logic.{inl, inr}
 use Rattle.std.specs.List.{list_all}
@@ -83,12 +84,11 @@ pruned_empty oldest body is = all body.slots is
         and_true (is_bare (pruned oldest x)) (list_all is_bare (map (pruned oldest) xs)) (none x.row x.entries two.0) (all xs two.1)
 
 module _ (sh : Shape) (s : Parts) (shape : IsShape sh) (ok : Sound sh s) (shards : ShardsHold sh s) (t b oldest : ℕ) (has : HasBlock sh t b) where
+  -- How the core before the pruning follows a machine.
   abbrev f : FollowsMachine sh s ok.follows.0
   f = follows_machine sh s ok
 
-  abbrev keep : ℕ → ℕ → Bool
-  keep from p = keep_to b oldest (body_at sh s t b) from p
-
+  -- A candidate of a key in a shard is one of the key in the core.
   among : (u i : ℕ) (x : Places) → part_at sh s (ShardOf u i) ≡ Some (part.Shard x) → (k : ℤ) (r : ℕ) → Among r (candidates_of x k) → Among r (places_at sh s u k)
   among u i x is k r a =
       subst (Among r) (ap (λ o. candidates_of (shard_from o) k) (sym is) ∙ ap (λ i. candidates_of (shard_from (part_at sh s (ShardOf u i))) k) (sym (shard_owns i x k r (shards u i x is) a))) a
@@ -97,6 +97,7 @@ module _ (sh : Shape) (s : Parts) (shape : IsShape sh) (ok : Sound sh s) (shards
   filled : (k : ℤ) (r : ℕ) → Among r (places_at sh s t k) → block_of r ≡ b → is_bare (slot_in (body_at sh s t b) (slot_of r)) ≡ false
   filled k r a here = sym (ap (λ b. is_bare (slot_in (body_at sh s t b) (slot_of r))) here) ∙ f.follows.index.filled t r k a
 
+  -- A slot of the pruned body is the slot after its pruning.
   pruned_at : (j : ℕ) → slot_in (pruned_in oldest (body_at sh s t b)) j ≡ pruned oldest (slot_in (body_at sh s t b) j)
   pruned_at j = slot_map (pruned oldest) refl (body_at sh s t b).slots j
 
@@ -105,16 +106,15 @@ module _ (sh : Shape) (s : Parts) (shape : IsShape sh) (ok : Sound sh s) (shards
       → is_bare (slot_in (pruned_in oldest (body_at sh s t b)) (slot_of r)) ≡ false
   stays k r a here none = ap is_bare (pruned_at (slot_of r)) ∙ row_stays oldest (slot_in (body_at sh s t b) (slot_of r)) none (filled k r a here)
 
-  and_none : (x y : Bool) → y ≡ false → not (x && y) ≡ true
-  and_none true y e = ap not e
-  and_none false y e = refl
-
+  -- A number below another is tested to be.
   lt_true : (x y : ℕ) → x < y → nat_lt x y ≡ true
   lt_true x y less = grind (arith, nat_tests)
 
+  -- A number not below another is tested not to be.
   lt_false : (x y : ℕ) → y ≤ x → nat_lt x y ≡ false
   lt_false x y le = grind (arith, nat_tests)
 
+  -- One number is below another, or not below it.
   order : (x y : ℕ) → (x < y) ⊎ (y ≤ x)
   order x y = go (nat_lt x y) refl
     where
@@ -126,9 +126,11 @@ module _ (sh : Shape) (s : Parts) (shape : IsShape sh) (ok : Sound sh s) (shards
   here_is : (from p : ℕ) → block_of p ≡ b → keep_to b oldest (body_at sh s t b) from p ≡ not (nat_lt (slot_of p) from && is_bare (slot_in (pruned_in oldest (body_at sh s t b)) (slot_of p)))
   here_is from p here = ap (λ c. not (c && nat_lt (slot_of p) from && is_bare (slot_in (pruned_in oldest (body_at sh s t b)) (slot_of p)))) (ap (λ x. x == b) here ∙ num_refl b)
 
+  -- A place of the block below the slot is kept unless the pruning leaves it bare.
   below_is : (from p : ℕ) → block_of p ≡ b → slot_of p < from → keep_to b oldest (body_at sh s t b) from p ≡ not (is_bare (slot_in (pruned_in oldest (body_at sh s t b)) (slot_of p)))
   below_is from p here less = here_is from p here ∙ ap (λ c. not (c && is_bare (slot_in (pruned_in oldest (body_at sh s t b)) (slot_of p)))) (lt_true (slot_of p) from less)
 
+  -- A place at the slot or above it is kept.
   above_is : (from p : ℕ) → from ≤ slot_of p → keep_to b oldest (body_at sh s t b) from p ≡ true
   above_is from p le =
       ap (λ c. not ((block_of p == b) && c && is_bare (slot_in (pruned_in oldest (body_at sh s t b)) (slot_of p)))) (lt_false (slot_of p) from le)
@@ -138,9 +140,11 @@ module _ (sh : Shape) (s : Parts) (shape : IsShape sh) (ok : Sound sh s) (shards
       go true = refl
       go false = refl
 
+  -- A place of another block is kept.
   else_is : (from p : ℕ) → block_of p ≢ b → keep_to b oldest (body_at sh s t b) from p ≡ true
   else_is from p ne = ap (λ c. not (c && nat_lt (slot_of p) from && is_bare (slot_in (pruned_in oldest (body_at sh s t b)) (slot_of p)))) (differs (block_of p) b ne)
 
+  -- A place is of the block, or of another.
   block_cases : (p : ℕ) → (block_of p ≡ b) ⊎ (block_of p ≢ b)
   block_cases p = go (block_of p == b) refl
     where
@@ -327,6 +331,7 @@ module _ (sh : Shape) (s : Parts) (shape : IsShape sh) (ok : Sound sh s) (shards
 
   -- ---- at the end
 
+  -- The head that is told what the pruning leaves is the event's.
   last_head : (u : ℕ) (x : Head) → part_at sh s (HeadOf u) ≡ Some (part.Head x)
       → cond (u == t) (with_gain (is_empty (pruned_in oldest (body_at sh s t b))) b x) x ≡ (changes_of sh s (event.Prune t b oldest)).head u x
   last_head u x is = go (u == t) refl
@@ -362,6 +367,7 @@ module _ (sh : Shape) (s : Parts) (shape : IsShape sh) (ok : Sound sh s) (shards
           ap (λ c. cond c (with_gain (is_empty (pruned_in oldest (body_at sh s t b))) b x) x) e
           ∙ sym (ap (λ c. cond c (with_empty (blocks_of sh u) (λ d. is_empty (cond ((u == t) && (d == b)) (pruned_in oldest (body_at sh s u d)) (body_at sh s u d))) x) x) e)
 
+  -- With no slot with entries left, each shard is the event's.
   last_shard : (from : ℕ) → IsNextVersioned (body_at sh s t b) from None → (u i : ℕ) (x : Places) → part_at sh s (ShardOf u i) ≡ Some (part.Shard x)
       → (dropped_to sh s t b oldest from).shard u i x ≡ (changes_of sh s (event.Prune t b oldest)).shard u i x
   last_shard from none u i x is = go (u == t) refl

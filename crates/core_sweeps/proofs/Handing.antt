@@ -116,6 +116,7 @@ head_alone : (sh : Shape) (t : ℕ) (hand : Held) → after sh (head_changed t (
 head_alone sh t hand = left_alone (head_changed t (λ x. x)) (names sh) hand (rests_at (λ n x. Among n (names sh)) (head_changed t (λ x. x))
     (record { head = λ u x a. same_either (u == t) x; shard = λ u i x a. refl; body = λ u b x a. refl; desk = λ x a. refl }))
 
+-- The change of a shard into itself leaves the hand.
 shard_alone : (sh : Shape) (t i : ℕ) (hand : Held) → after sh (shard_changed t i (λ x. x)) hand ≡ hand
 shard_alone sh t i hand = left_alone (shard_changed t i (λ x. x)) (names sh) hand (rests_at (λ n x. Among n (names sh)) (shard_changed t i (λ x. x))
     (record { head = λ u x a. refl; shard = λ u j x a. same_either ((u == t) && (j == i)) x; body = λ u b x a. refl; desk = λ x a. refl }))
@@ -145,6 +146,7 @@ body_in_after sh c hand t b has =
     let x = a_body sh hand t b has in
     ap body_from (in_after sh c hand (BodyOf t b) ∙ ap (option_map (changed c (BodyOf t b))) x.1) ∙ ap (λ o. c.body t b (body_from o)) (sym x.1)
 
+-- Two numbers are tested to be themselves.
 both_refl : (a b : ℕ) → ((a == a) && (b == b)) ≡ true
 both_refl a b = ap (λ x. x && (b == b)) (num_refl a) ∙ num_refl b
 

@@ -37,6 +37,7 @@ pub keyed : (columns : List Column) (row : Option Row) → begins_with_key colum
 keyed columns None key fit = fit
 keyed columns (Some row) key fit = fits-has_key columns row key fit
 
+-- A slot whose newest change is taken back has a row with a key, if any.
 taken_key : (columns : List Column) (slot : Slot) → begins_with_key columns ≡ true → VersionsFit columns slot.row slot.entries → IfSome (taken_back slot).row HasKey
 taken_key columns slot key fit = go slot.row slot.entries fit
   where
@@ -82,6 +83,7 @@ module _ (sh : Shape) (t b oldest from : ℕ) (old now : Held) (u : IsDropped sh
   pub room_now : length now ≡ length (names sh)
   room_now = room_still sh (dropped_to sh u.may.parts t b oldest from) old now u.made (room sh (event.Prune t b oldest) old u.may)
 
+  -- The block's body in the hand is the core's.
   body_old : body_in sh old t b ≡ body_at sh u.may.parts t b
   body_old = let x = a_body sh old t b (has_the_body sh t b oldest old u.may) in body_is_in sh old t b x.0 x.1 ∙ sym (body_is sh old u.may.parts u.may.agrees t b x.0 x.1)
 
@@ -124,6 +126,7 @@ module _ (sh : Shape) (t b oldest from : ℕ) (old now : Held) (u : IsDropped sh
 -- ---- the body and the head at the end
 
 module _ (sh : Shape) (t b oldest : ℕ) (old mid : Held) (d : AreDropped sh t b oldest old mid) where
+  -- The slots below the last one with entries lost their candidates.
   abbrev u : IsDropped sh t b oldest d.from old mid
   u = d.dropped
 

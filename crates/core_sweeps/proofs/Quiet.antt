@@ -66,7 +66,8 @@ none_dropped oldest body quiet = go body.slots quiet
 
 -- ---- a core
 
--- a change that is made in one case alone, and changes nothing there: a head of another table stays anyway
+-- a change that is made in one case alone, and changes nothing there: a head of another table stays
+-- anyway
 either_rests : {X : Type 0} (c : Bool) (y x : X) → y ≡ x → cond c y x ≡ x
 either_rests true y x same = same
 either_rests false y x same = refl
@@ -108,7 +109,8 @@ module _ (sh : Shape) (s : Parts) (holds : CoreHolds sh s) (t b oldest : ℕ) (h
 
 -- ---- a hand
 
--- A hand stays what it is, and no version is dropped: what the early return of a pruning has to show.
+-- A hand stays what it is, and no version is dropped: what the early return of a pruning has to
+-- show.
 pub quiet_prune : (sh : Shape) (t b oldest : ℕ) (hand : Held) (body : Body) (count : ℕ) → MayRun sh (event.Prune t b oldest) hand → in_hand sh hand (BodyOf t b) ≡ Some (part.Body body) → is_quiet body ≡ true
     → count ≡ 0 → Makes sh (event.Prune t b oldest) hand hand (reply.Dropped count)
 quiet_prune sh t b oldest hand body count m is quiet none = from_one sh (event.Prune t b oldest) hand hand (reply.Dropped count) m

@@ -1,4 +1,5 @@
--- An abort that goes from write to write: what it made of the parts so far, and that it is the event's at the end.
+-- An abort that goes from write to write: what it made of the parts so far, and that it is the
+-- event's at the end.
 use Rattle.std.proofs.Common.{◌≡◌, ◌≢◌, ◌⊎◌, ℕ, suc, ◌<◌, ℤ, Bool, true, false, cond, not, ◌&&◌, ◌||◌, ◌==◌, List, [], ◌∷◌, ◌++◌, Option, None, Some, is_none, unwrap_or, map, get_or, length, refl, sym, ap, ◌∙◌, subst, arith}
 use mathlib.Core.Logic.{inl, inr}
 use Rattle.std.specs.Prelude.{filter, All, IfNone}
@@ -44,10 +45,12 @@ use Rattle.undo_chain.specs.Lawful.{IsLawful, IsWriteOrStamped}
 
 -- ---- tests
 
+-- A disjunction with true behind is true.
 or_true : (b : Bool) → (b || true) ≡ true
 or_true true = refl
 or_true false = refl
 
+-- A disjunction with false behind is its first part.
 or_none : (b : Bool) → (b || false) ≡ b
 or_none true = refl
 or_none false = refl
@@ -88,6 +91,7 @@ none_left q (e ∷ es) each = go (is_own e q) refl (none_left q es (All-tail IsW
     go true is rest = ap (λ b. is_writer q (writer_of (cond (not b) (e ∷ filter (λ undo. not (is_own undo q)) es) (filter (λ undo. not (is_own undo q)) es)))) is ∙ rest
     go false is rest = ap (λ b. is_writer q (writer_of (cond (not b) (e ∷ filter (λ undo. not (is_own undo q)) es) (filter (λ undo. not (is_own undo q)) es)))) is ∙ top e.stamp refl is
 
+-- After its roll-back a session writes none of the lawful slots.
 all_rolled : (q : ℕ) (xs : List Slot) → ((j : ℕ) → j < length xs → IsLawful (get_or xs j bare).entries) → list_any (λ slot. is_writer q (writer_of slot.entries)) (map (rolled_back q) xs) ≡ false
 all_rolled q [] lawful = refl
 all_rolled q (x ∷ xs) lawful =
@@ -109,6 +113,7 @@ rolled_once q body lawful = go (is_written_by q body) refl
         ∙ ap (λ b. cond b (record (modified (record (modified body) { slots = map (rolled_back q) body.slots })) { slots = map (rolled_back q) (map (rolled_back q) body.slots) }) (record (modified body) { slots = map (rolled_back q) body.slots })) (all_rolled q body.slots lawful)
         ∙ sym same
 
+-- Slots that are all bare are all without an entry.
 all_none : (xs : List Slot) → list_all is_bare xs ≡ true → list_all (λ slot. has_none slot.entries) xs ≡ true
 all_none [] is = refl
 all_none (x ∷ xs) is = go (is_none x.row) (has_none x.entries) (list_all is_bare xs) is (all_none xs)
@@ -214,12 +219,15 @@ shard_owns i x key p h a = go (finite.get x key) refl a
     go (Some ps) is b = h.own key ps is
 
 module _ (sh : Shape) (s : Parts) (shape : IsShape sh) (ok : Sound sh s) (shards : ShardsHold sh s) (own : OwnTransaction) (owns : OwnsAll sh own s) where
+  -- How the core before the abort follows a machine.
   abbrev f : FollowsMachine sh s ok.follows.0
   f = follows_machine sh s ok
 
+  -- The session that is aborted.
   abbrev q : ℕ
   q = own.session
 
+  -- The entries of each slot of a body are lawful.
   lawful_in : (t b : ℕ) → HasBlock sh t b → (j : ℕ) → j < length (body_at sh s t b).slots → IsLawful (slot_in (body_at sh s t b) j).entries
   lawful_in t b has j less = (slots_lawful sh s shape ok t b has j less).lawful
 
@@ -242,6 +250,7 @@ module _ (sh : Shape) (s : Parts) (shape : IsShape sh) (ok : Sound sh s) (shards
 
   -- ---- at first
 
+  -- With no write undone yet a head is as it was.
   first_head : (t : ℕ) (x : Head) → part_at sh s (HeadOf t) ≡ Some (part.Head x) → (undone_so_far sh s own.session []).head t x ≡ x
   first_head t x is =
       let h = ok.heads t (head_is_there sh s t (part.Head x) is) in
@@ -250,6 +259,7 @@ module _ (sh : Shape) (s : Parts) (shape : IsShape sh) (ok : Sound sh s) (shards
       (knowing_rests (blocks_of sh t) (λ b. is_empty (body_at sh s t b)) (λ b. is_empty (body_at sh s t b)) (head_at sh s t)
       (record { others = h.empty; own = h.anew }) (h.block.1) (λ other less. refl))
 
+  -- With no write undone yet a shard is as it was.
   first_shard : (t i : ℕ) (x : Places) → part_at sh s (ShardOf t i) ≡ Some (part.Shard x) → (undone_so_far sh s own.session []).shard t i x ≡ x
   first_shard t i x is = sweep_rests i x (λ p. not (false && is_left sh s own.session t p)) (shards t i x is) (λ key p a. refl)
 
@@ -263,9 +273,6 @@ module _ (sh : Shape) (s : Parts) (shape : IsShape sh) (ok : Sound sh s) (shards
   module _ (done : PlaceMap ℕ) (t : ℕ) (key : ℤ) (p : ℕ) (there : at_place own.writes (place_at t key) ≡ Some p) where
     abbrev after : PlaceMap ℕ
     after = done ++ (place_at t key, p) ∷ []
-
-    abbrev ready : Body
-    ready = rolled_back_in own.session (body_at sh s t (block_of p))
 
     rolled_after : (u b : ℕ) → is_rolled (done ++ (place_at t key, p) ∷ []) u b ≡ (is_rolled done u b || ((t == u) && (block_of p == b)))
     rolled_after u b = any_more (λ (write : Place × ℕ). (write.0.table == u) && (block_of write.1 == b)) done (place_at t key, p)
@@ -459,6 +466,7 @@ module _ (sh : Shape) (s : Parts) (shape : IsShape sh) (ok : Sound sh s) (shards
           ap (λ c. cond c (rolled_back_in own.session (body_at sh s t b)) (body_at sh s t b)) e
           ∙ sym (subst (λ (y : Body). rolled_back_in own.session y ≡ y) (sym (ap body_from x.1)) (abort_stays sh s shape ok own owns t b x.0 x.1 e))
 
+  -- With all writes undone a head is the one that the abort makes.
   last_head : (t : ℕ) (x : Head) → part_at sh s (HeadOf t) ≡ Some (part.Head x) → (undone_so_far sh s own.session own.writes).head t x ≡ (after_abort sh s own).head t x
   last_head t x is =
       let has = head_is_there sh s t (part.Head x) is in
@@ -466,6 +474,7 @@ module _ (sh : Shape) (s : Parts) (shape : IsShape sh) (ok : Sound sh s) (shards
       (subst (λ (x : Head). x.block < blocks_of sh t) (ap head_from is) (ok.heads t has).block.1)
       (λ b less. ap is_empty (rolled_all t b (has, less)))
 
+  -- With all writes undone a shard is the one that the abort makes.
   last_shard : (t i : ℕ) (x : Places) → part_at sh s (ShardOf t i) ≡ Some (part.Shard x) → (undone_so_far sh s own.session own.writes).shard t i x ≡ (after_abort sh s own).shard t i x
   last_shard t i x is = sweeps_agree i x (λ p. not (is_left sh s own.session t p)) (λ p. not (is_undone own.writes t p && is_left sh s own.session t p)) (shards t i x is)
       (λ k p a. at k p (subst (Among p) (ap (λ o. candidates_of (shard_from o) k) (sym is) ∙ ap (λ i. candidates_of (shard_from (part_at sh s (ShardOf t i))) k) (sym (shard_owns i x k p (shards t i x is) a))) a))
@@ -498,6 +507,7 @@ module _ (sh : Shape) (s : Parts) (shape : IsShape sh) (ok : Sound sh s) (shards
               ∙ rolled_back_other own.session (slot_at sh s t p) (f.follows.slots t p).lawful (no_writer (writer_of (slot_at sh s t p).entries) n))
               ∙ f.follows.index.filled t p k a)
 
+  -- With all writes undone a body is the one that the abort makes.
   last_body : (t b : ℕ) (x : Body) → part_at sh s (BodyOf t b) ≡ Some (part.Body x) → (undone_so_far sh s own.session own.writes).body t b x ≡ (after_abort sh s own).body t b x
   last_body t b x is =
       subst (λ (y : Body). rolled own.session own.writes t b y ≡ rolled_back_in own.session y) (ap body_from is) (rolled_all t b (body_is_there sh s t b (part.Body x) is))

@@ -23,9 +23,11 @@ use Rattle.event_spec.specs.Parts.{Name, Shape, names}
 abbrev takes : ℕ → ℕ → Option ℕ → Bool
 takes from n best = nat_le from n && option_map_or (λ b. nat_lt n b) best true
 
+-- What sits when a number was offered: the number if it takes the seat.
 abbrev seated : ℕ → ℕ → Option ℕ → Option ℕ
 seated from n best = cond (takes from n best) (Some n) best
 
+-- An offered number changes only what sits.
 offered_is : (n : ℕ) (least : Least) → offered n least ≡ record { from = least.from; best = seated least.from n least.best }
 offered_is n least = go (takes least.from n least.best) refl
   where
@@ -33,45 +35,54 @@ offered_is n least = go (takes least.from n least.best) refl
     go true e = ap (λ c. cond c (record least { best = Some n }) least) e ∙ ap (λ c. record { from = least.from; best = cond c (Some n) least.best }) (sym e)
     go false e = ap (λ c. cond c (record least { best = Some n }) least) e ∙ ap (λ c. record { from = least.from; best = cond c (Some n) least.best }) (sym e)
 
+-- What sits is the same in whichever order two numbers were offered.
 seated_turned : (from m n : ℕ) (best : Option ℕ) → seated from m (seated from n best) ≡ seated from n (seated from m best)
 seated_turned from m n None = grind (arith, nat_tests)
 seated_turned from m n (Some b) = grind (arith, nat_tests)
 
+-- What sits is the same when a number was offered once more.
 seated_again : (from n : ℕ) (best : Option ℕ) → seated from n (seated from n best) ≡ seated from n best
 seated_again from n None = grind (arith, nat_tests)
 seated_again from n (Some b) = grind (arith, nat_tests)
 
+-- A number before the first one takes no seat.
 seated_low : (from n : ℕ) (best : Option ℕ) → n < from → seated from n best ≡ best
 seated_low from n best low = ap (λ c. cond (c && option_map_or (λ b. nat_lt n b) best true) (Some n) best) (not_le from n low)
   where
     not_le : (a b : ℕ) → b < a → nat_le a b ≡ false
     not_le a b l = grind (arith, nat_tests)
 
+-- A number that is not below one that was offered takes no seat.
 seated_behind : (from m n : ℕ) (best : Option ℕ) → from ≤ m → m ≤ n → seated from n (seated from m best) ≡ seated from m best
 seated_behind from m n None low le = grind (arith, nat_tests)
 seated_behind from m n (Some b) low le = grind (arith, nat_tests)
 
+-- Two numbers may be offered in either order.
 turned : (m n : ℕ) (least : Least) → offered m (offered n least) ≡ offered n (offered m least)
 turned m n least =
     ap (offered m) (offered_is n least) ∙ offered_is m (record { from = least.from; best = seated least.from n least.best })
     ∙ ap (λ o. record { from = least.from; best = o }) (seated_turned least.from m n least.best)
     ∙ sym (ap (offered n) (offered_is m least) ∙ offered_is n (record { from = least.from; best = seated least.from m least.best }))
 
+-- A number that is offered twice is as if it was offered once.
 again : (n : ℕ) (least : Least) → offered n (offered n least) ≡ offered n least
 again n least =
     ap (offered n) (offered_is n least) ∙ offered_is n (record { from = least.from; best = seated least.from n least.best })
     ∙ ap (λ o. record { from = least.from; best = o }) (seated_again least.from n least.best)
     ∙ sym (offered_is n least)
 
+-- To offer a number before the first one changes nothing.
 low_none : (n : ℕ) (least : Least) → n < least.from → offered n least ≡ least
 low_none n least low = offered_is n least ∙ ap (λ o. record { from = least.from; best = o }) (seated_low least.from n least.best low)
 
+-- To offer a number not below one that was offered changes nothing.
 behind_none : (m n : ℕ) (least : Least) → least.from ≤ m → m ≤ n → offered n (offered m least) ≡ offered m least
 behind_none m n least low le =
     ap (offered n) (offered_is m least) ∙ offered_is n (record { from = least.from; best = seated least.from m least.best })
     ∙ ap (λ o. record { from = least.from; best = o }) (seated_behind least.from m n least.best low le)
     ∙ sym (offered_is m least)
 
+-- To offer one before the first changes nothing behind another either.
 outside_none : (m n : ℕ) (least : Least) → n < least.from → offered n (offered m least) ≡ offered m least
 outside_none m n least low = turned n m least ∙ ap (offered m) (low_none n least low)
 
@@ -79,22 +90,27 @@ outside_none m n least low = turned n m least ∙ ap (offered m) (low_none n lea
 abbrev step : Option ℕ → Least → Least
 step o least = option_map_or (λ number. offered number least) o least
 
+-- Two numbers, where there are such, may be offered in either order.
 step_turned : (o p : Option ℕ) (least : Least) → step p (step o least) ≡ step o (step p least)
 step_turned None p least = refl
 step_turned (Some m) None least = refl
 step_turned (Some m) (Some n) least = turned n m least
 
+-- A number, where there is one, is offered twice as if once.
 step_again : (o : Option ℕ) (least : Least) → step o (step o least) ≡ step o least
 step_again None least = refl
 step_again (Some m) least = again m least
 
 module _ (sh : Shape) where
+  -- The parts of two names may be offered in either order.
   name_turned : (least : Least) (w v : Name) → offered_name sh (offered_name sh least w) v ≡ offered_name sh (offered_name sh least v) w
   name_turned least w v = step_turned (number_among (names sh) w) (number_among (names sh) v) least
 
+  -- The part of a name that is offered twice is as if it was offered once.
   name_again : (least : Least) (w : Name) → offered_name sh (offered_name sh least w) w ≡ offered_name sh least w
   name_again least w = step_again (number_among (names sh) w) least
 
+  -- The part of one name may be offered before those of others or after them.
   all_after : (ws : List Name) (least : Least) (w : Name) → offered_all sh ws (offered_name sh least w) ≡ offered_name sh (offered_all sh ws least) w
   all_after [] least w = refl
   all_after (v ∷ ws) least w = ap (offered_all sh ws) (name_turned least w v) ∙ all_after ws (offered_name sh least v) w
@@ -106,10 +122,12 @@ module _ (sh : Shape) where
       ap (λ x. offered_all sh ws (offered_name sh (offered_name sh least x) v)) e ∙ ap (offered_all sh ws) (name_again least v)
   absorbed (v ∷ ws) least w (inr a) = ap (offered_all sh ws) (name_turned least w v) ∙ absorbed ws (offered_name sh least v) w a
 
+  -- The parts of two lists of names may be offered in either order.
   all_turned : (ws vs : List Name) (least : Least) → offered_all sh ws (offered_all sh vs least) ≡ offered_all sh vs (offered_all sh ws least)
   all_turned ws [] least = refl
   all_turned ws (v ∷ vs) least = all_turned ws vs (offered_name sh least v) ∙ ap (offered_all sh vs) (all_after ws least v)
 
+  -- To offer parts in front of a list that has their names changes nothing.
   all_absorbed : (ws vs : List Name) (least : Least) → ((w : Name) → Among w vs → Among w ws) → offered_all sh ws (offered_all sh vs least) ≡ offered_all sh ws least
   all_absorbed ws [] least each = refl
   all_absorbed ws (v ∷ vs) least each = all_absorbed ws vs (offered_name sh least v) (λ w a. each w (inr a)) ∙ absorbed ws least v (each v (inl refl))
@@ -141,12 +159,14 @@ module _ (sh : Shape) where
 
   -- ---- the least of the parts at spots
 
+  -- Where the part at each spot changes nothing, those at all spots change nothing.
   settled : (kind : PartKind) (xs : List ℕ) (least : Least) → ((k : ℕ) → k < length xs → offered_name sh least (name_on kind (get_or xs k 0)) ≡ least)
       → offered_all sh (map (name_on kind) xs) least ≡ least
   settled kind [] least each = refl
   settled kind (x ∷ xs) least each =
       ap (offered_all sh (map (name_on kind) xs)) (each 0 (omega arith)) ∙ settled kind xs least (λ k l. each (suc k) (omega (arith, l)))
 
+  -- The name at a spot is among the names at all spots.
   among_mapped : (kind : PartKind) (xs : List ℕ) (k : ℕ) → k < length xs → Among (name_on kind (get_or xs k 0)) (map (name_on kind) xs)
   among_mapped kind [] k l = absurd (omega (arith, l))
   among_mapped kind (x ∷ xs) zero l = inl refl

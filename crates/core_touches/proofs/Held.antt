@@ -13,6 +13,7 @@ use Rattle.event_spec.specs.Judged.{next_place}
 use Rattle.event_spec.specs.Touched.{held_next, held_places}
 use Rattle.key_index.specs.Candidates.{candidates_of}
 
+-- Where a hand has no part of a name, what it has there is none.
 none_held : (sh : Shape) (hand : Held) (w : Name) → ((p : CorePart) → in_hand sh hand w ≡ Some p → ⊥) → in_hand sh hand w ≡ None
 none_held sh hand w never = go (in_hand sh hand w) (λ p e. never p e)
   where
@@ -24,9 +25,11 @@ none_held sh hand w never = go (in_hand sh hand w) (λ p e. never p e)
 away : (sh : Shape) (hand : Held) (w : Name) → (Among w (names sh) → ⊥) → in_hand sh hand w ≡ None
 away sh hand w never = none_held sh hand w (λ p e. never (held_among (names sh) hand w p e))
 
+-- A part whose number lies beyond the hand is not in it.
 beyond : (sh : Shape) (hand : Held) (w : Name) (k : ℕ) → slice_get (names sh) k ≡ Some w → length hand ≤ k → in_hand sh hand w ≡ None
 beyond sh hand w k at high = none_held sh hand w (λ p e. let less = got_within hand k (Some p) (lies sh hand w k p at e) in absurd (omega (arith, high, less)))
 
+-- A shard that is not there has no candidates of any key.
 no_places : (key : ℤ) → candidates_of (shard_from None) key ≡ []
 no_places key = ap (λ o. unwrap_or o []) (finite.get-empty int_cmp key)
 

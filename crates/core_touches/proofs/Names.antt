@@ -22,22 +22,27 @@ use Rattle.isolation_spec.specs.Contents.{PlaceMap, key_of}
 abbrev any : List Name → Name → Bool
 any ws name = list_any (λ w. same_name w name) ws
 
+-- A disjunction with false behind is its first part.
 or_false : (a : Bool) → (a || false) ≡ a
 or_false true = refl
 or_false false = refl
 
+-- A disjunction of three is the same from the left as from the right.
 or_assoc : (a b c : Bool) → ((a || b) || c) ≡ (a || (b || c))
 or_assoc true b c = refl
 or_assoc false b c = refl
 
+-- A conjunction with a disjunction is that of both conjunctions.
 and_or : (a b c : Bool) → (a && (b || c)) ≡ ((a && b) || (a && c))
 and_or true b c = refl
 and_or false b c = refl
 
+-- A conjunction with false behind is false.
 and_false : (a : Bool) → (a && false) ≡ false
 and_false true = refl
 and_false false = refl
 
+-- Disjunctions of equal parts are equal.
 both : (a b c d : Bool) → a ≡ b → c ≡ d → (a || c) ≡ (b || d)
 both a b c d x y = ap (λ z. z || c) x ∙ ap (λ z. b || z) y
 
@@ -64,6 +69,7 @@ any_written ws TheDesk = none_of (λ w. BodyOf w.0.table (block_of w.1)) TheDesk
 any_written [] (BodyOf u b) = refl
 any_written (w ∷ ws) (BodyOf u b) = ap (λ z. ((w.0.table == u) && (block_of w.1 == b)) || z) (any_written ws (BodyOf u b))
 
+-- A name is one of the written shards where a write's key is in its shard.
 any_keys : (ws : PlaceMap ℕ) (name : Name) → any (shards_written ws) name ≡ is_shard_written ws name
 any_keys ws (HeadOf u) = none_of (λ w. ShardOf w.0.table (shard_of w.0.key)) (HeadOf u) ws (λ w. refl)
 any_keys ws (BodyOf u b) = none_of (λ w. ShardOf w.0.table (shard_of w.0.key)) (BodyOf u b) ws (λ w. refl)
@@ -81,6 +87,7 @@ any_moved_keys t (p ∷ ps) (ShardOf u i) =
     ap (λ z. ((t == u) && (shard_of p.key == i)) || z) (any_moved_keys t ps (ShardOf u i))
     ∙ sym (and_or (t == u) (shard_of p.key == i) (list_any (λ (p : MovePair). shard_of p.key == i) ps))
 
+-- A name is the body of a source or a target where it is moved by a pair.
 any_pairs : (t : ℕ) (ps : List MovePair) (name : Name) → (any (sources_moved t ps) name || any (targets_moved t ps) name) ≡ is_body_moved t ps name
 any_pairs t [] name = refl
 any_pairs t (p ∷ ps) name =
@@ -115,15 +122,18 @@ any_below f name from (suc n) k low high is = go (from == k) refl (λ l. any_bel
     go true e rest = ap (λ z. z || any (map f (range_with_len (from + 1) n)) name) (ap (λ x. same_name (f x) name) (equal from k e) ∙ is)
     go false e rest = or_right (same_name (f from) name) (any (map f (range_with_len (from + 1) n)) name) (rest (differ from k e low))
 
+-- A number is tested to be itself.
 same_number : (n : ℕ) → (n == n) ≡ true
 same_number n = grind (arith, nat_tests)
 
+-- A name of the core is one of all heads where it is a head.
 any_heads : (sh : Shape) (name : Name) → Among name (names sh) → any (map HeadOf (tables_of sh)) name ≡ is_any_head name
 any_heads sh (HeadOf u) a = any_below HeadOf (HeadOf u) 0 (length sh.tables) u (omega arith) (let h = table_of_head sh u a in omega (arith, h)) (same_number u)
 any_heads sh (ShardOf u i) a = none_of HeadOf (ShardOf u i) (tables_of sh) (λ t. refl)
 any_heads sh (BodyOf u b) a = none_of HeadOf (BodyOf u b) (tables_of sh) (λ t. refl)
 any_heads sh TheDesk a = none_of HeadOf TheDesk (tables_of sh) (λ t. refl)
 
+-- A name of the core is one of a table's shards where it is such a shard.
 any_shards : (sh : Shape) (t : ℕ) (name : Name) → Among name (names sh) → any (shards_in t) name ≡ is_shard_in t name
 any_shards sh t (HeadOf u) a = none_of (ShardOf t) (HeadOf u) (below 8) (λ i. refl)
 any_shards sh t (BodyOf u b) a = none_of (ShardOf t) (BodyOf u b) (below 8) (λ i. refl)
@@ -135,9 +145,11 @@ any_shards sh t (ShardOf u i) a = go (t == u) refl
         (ap (λ z. z && (i == i)) e ∙ same_number i) ∙ sym e
     go false e = none_of (ShardOf t) (ShardOf u i) (below 8) (λ j. ap (λ z. z && (j == i)) e) ∙ sym e
 
+-- A name is in one of two lists where it is in both together.
 any_two : (ws vs : List Name) (name : Name) → any (ws ++ vs) name ≡ (any ws name || any vs name)
 any_two ws vs name = list_any-append (λ w. same_name w name) ws vs
 
+-- A name is a body of one or other list of places where it is of both together.
 body_two : (t : ℕ) (ps qs : List ℕ) (name : Name) → (is_body_of t ps name || is_body_of t qs name) ≡ is_body_of t (ps ++ qs) name
 body_two t ps qs (HeadOf u) = refl
 body_two t ps qs (ShardOf u i) = refl
@@ -147,6 +159,7 @@ body_two t ps qs (BodyOf u b) =
     ∙ ap (λ z. (t == u) && z) (sym (list_any-append (λ p. block_of p == b) ps qs))
 
 module _ (sh : Shape) (hand : Held) (name : Name) (a : Among name (names sh)) where
+  -- A name is one of those on a key where an event on the key touches it.
   on_key : (t : ℕ) (key : ℤ) (place : Option ℕ) → any (names_on_key sh (in_hand sh hand) t key place) name
       ≡ touched_by_key t key (option_to_list place ++ held_places sh (in_hand sh hand) t key) name
   on_key t key place =
@@ -160,12 +173,15 @@ module _ (sh : Shape) (hand : Held) (name : Name) (a : Among name (names sh)) wh
       (or_false (same_name (ShardOf t (shard_of key)) name))
       (both (any (bodies_at t ps) name) (is_body_of t ps name) (any (bodies_at t qs) name) (is_body_of t qs name) (any_bodies t ps name) (any_bodies t qs name) ∙ body_two t ps qs name)
 
+  -- A name is one with the head in front where it is the head or one of them.
   behind_head : (t : ℕ) (ws : List Name) (b : Bool) → any ws name ≡ b → any (HeadOf t ∷ [] ++ ws) name ≡ (same_name (HeadOf t) name || b)
   behind_head t ws b is = ap (λ z. same_name (HeadOf t) name || z) is
 
+  -- A name is one of a head and a body where it is either.
   with_head : (t b : ℕ) → any (HeadOf t ∷ BodyOf t b ∷ []) name ≡ (same_name (HeadOf t) name || same_name (BodyOf t b) name)
   with_head t b = ap (λ z. same_name (HeadOf t) name || z) (or_false (same_name (BodyOf t b) name))
 
+  -- A name is one with the desk behind where it is one of them or the desk.
   then_desk : (ws : List Name) (b : Bool) → any ws name ≡ b → any (ws ++ TheDesk ∷ []) name ≡ (b || same_name TheDesk name)
   then_desk ws b is = any_two ws (TheDesk ∷ []) name ∙ both (any ws name) b (any (TheDesk ∷ []) name) (same_name TheDesk name) is (or_false (same_name TheDesk name))
 
@@ -206,6 +222,7 @@ module _ (sh : Shape) (hand : Held) (name : Name) (a : Among name (names sh)) wh
   touched_any (event.Image t b image) = or_false (same_name (BodyOf t b) name)
   touched_any (event.Thaw t b) = or_false (same_name (BodyOf t b) name)
 
+-- A name that stands at a place of a list is among it.
 among_at : (ns : List Name) (k : ℕ) (w : Name) → slice_get ns k ≡ Some w → Among w ns
 among_at [] k w is = cc
 among_at (n ∷ ns) zero w is = inl (let e : n ≡ w = cc in sym e)

@@ -18,6 +18,7 @@ use Rattle.hall_rule.specs.Hands.{IsNext}
 
 -- ---- the number of a name
 
+-- Where each name stands once, each of those behind the first does.
 once_behind : (n : Name) (ns : List Name) → NamedOnce (n ∷ ns) → NamedOnce ns
 once_behind n ns once j k m a b = let e = once (suc j) (suc k) m a b in omega (arith, e)
 
@@ -56,6 +57,7 @@ name_at (n ∷ ns) w k is = go (same_name n w) refl (λ j e. name_at ns w j e)
     go false other each = behind (number_among ns w) refl each
         (ap (λ b. cond b (Some 0) (option_map (λ k. k + 1) (number_among ns w))) (sym other) ∙ is)
 
+-- A name that stands at a place of a list is among it.
 among_at : (ns : List Name) (k : ℕ) (w : Name) → slice_get ns k ≡ Some w → Among w ns
 among_at [] k w is = cc
 among_at (n ∷ ns) zero w is = inl (let e : n ≡ w = cc in sym e)
@@ -79,9 +81,11 @@ offered_away sh least w away = go (number_among (names sh) w) refl
 abbrev is_at : Shape → Name → ℕ → Bool
 is_at sh w k = passes_test (same_name w) (slice_get (names sh) k)
 
+-- The number at which a name stands is tested to be its own.
 at_there : (sh : Shape) (w : Name) (n : ℕ) → slice_get (names sh) n ≡ Some w → is_at sh w n ≡ true
 at_there sh w n at = ap (passes_test (same_name w)) at ∙ name_self w
 
+-- A number that is tested to be a name's is where it stands.
 at_is : (sh : Shape) (w : Name) (n k : ℕ) → slice_get (names sh) n ≡ Some w → is_at sh w k ≡ true → n ≡ k
 at_is sh w n k at is = go (slice_get (names sh) k) refl is
   where
@@ -89,6 +93,7 @@ at_is sh w n k at is = go (slice_get (names sh) k) refl is
     go None e t = absurd (true_false (sym t))
     go (Some v) e t = named_once sh n k w at (e ∙ ap Some (sym (name_is w v t)))
 
+-- A number at which a name does not stand is tested not to be its own.
 at_else : (sh : Shape) (w : Name) (n k : ℕ) → slice_get (names sh) n ≡ Some w → n ≢ k → is_at sh w k ≡ false
 at_else sh w n k at other = go (is_at sh w k) refl
   where
@@ -96,6 +101,7 @@ at_else sh w n k at other = go (is_at sh w k) refl
     go true e = absurd (other (at_is sh w n k at e))
     go false e = e
 
+-- No number is that of a name that there is not.
 at_never : (sh : Shape) (w : Name) (k : ℕ) → number_among (names sh) w ≡ None → is_at sh w k ≡ false
 at_never sh w k none = go (slice_get (names sh) k) refl
   where
@@ -109,16 +115,20 @@ at_never sh w k none = go (slice_get (names sh) k) refl
             let never : None ≡ Some k = sym none ∙ found in cc
         by false t = ap (passes_test (same_name w)) e ∙ t
 
+-- A disjunction of two that are false is false.
 or_none : (a b : Bool) → a ≡ false → b ≡ false → (a || b) ≡ false
 or_none a b x y = ap (λ c. c || b) x ∙ y
 
+-- Where the second part is true, the disjunction is.
 or_right : (a b : Bool) → b ≡ true → (a || b) ≡ true
 or_right true b y = refl
 or_right false b y = y
 
+-- Where the first part is true, the disjunction is.
 or_left : (a b : Bool) → a ≡ true → (a || b) ≡ true
 or_left a b x = ap (λ c. c || b) x
 
+-- A number that is tested not to be at most another is above it.
 le_not : (a b : ℕ) → nat_le a b ≡ false → b < a
 le_not a b e = grind (arith, nat_tests)
 
@@ -218,14 +228,17 @@ abbrev tested : Shape → (ℕ → Bool) → List Name → ℕ → Bool
 tested sh test [] k = test k
 tested sh test (w ∷ ws) k = tested sh (λ k. test k || is_at sh w k) ws k
 
+-- With names offered, what sits is the next that passes the test or is one of theirs.
 sits_all : (sh : Shape) (test : ℕ → Bool) (from : ℕ) (ws : List Name) (least : Least) → Sits test sh from least → Sits (tested sh test ws) sh from (offered_all sh ws least)
 sits_all sh test from [] least sits = sits
 sits_all sh test from (w ∷ ws) least sits = sits_all sh (λ k. test k || is_at sh w k) from ws (offered_name sh least w) (sits_on sh test from least w sits)
 
+-- A disjunction of three is the same from the left as from the right.
 or_assoc : (a b c : Bool) → ((a || b) || c) ≡ (a || (b || c))
 or_assoc true b c = refl
 or_assoc false b c = refl
 
+-- A test with names is passed where the test is or a name is met.
 tested_any : (sh : Shape) (test : ℕ → Bool) (ws : List Name) (k : ℕ) → tested sh test ws k ≡ (test k || list_any (λ w. is_at sh w k) ws)
 tested_any sh test [] k = sym (or_false (test k))
   where

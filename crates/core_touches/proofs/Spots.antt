@@ -16,16 +16,19 @@ use Rattle.core_touches.proofs.Numbered.{name_at, number_at}
 use Rattle.event_spec.specs.Lawful.{Among, HasTable}
 use Rattle.event_spec.specs.Parts.{Name, Shape, blocks_of, names}
 
+-- A name that stands at a place of a list is among it.
 among_at : (ns : List Name) (k : ℕ) (w : Name) → slice_get ns k ≡ Some w → Among w ns
 among_at [] k w is = cc
 among_at (n ∷ ns) zero w is = inl (let e : n ≡ w = cc in sym e)
 among_at (n ∷ ns) (suc k) w is = inr (among_at ns k w is)
 
+-- A number that stands at a place of a list is read there.
 got_or : (xs : List ℕ) (k x : ℕ) → slice_get xs k ≡ Some x → get_or xs k 0 ≡ x
 got_or [] k x is = cc
 got_or (y ∷ xs) zero x is = cc
 got_or (y ∷ xs) (suc k) x is = got_or xs k x is
 
+-- A list has an element at each place within its length.
 got_there : {X : Type 0} (xs : List X) (k : ℕ) → k < length xs → (x : X) × (slice_get xs k ≡ Some x)
 got_there [] k less = absurd (omega (arith, less))
 got_there (x ∷ xs) zero less = (x, refl)
@@ -37,6 +40,7 @@ first_low from [] u less = absurd (omega (arith, less))
 first_low from (d ∷ ds) zero less = omega arith
 first_low from (d ∷ ds) (suc u) less = let r = first_low (from + d.blocks) ds u (omega (arith, less)) in omega (arith, r)
 
+-- A later table's first body stands behind all bodies of an earlier one.
 bodies_rise : (from : ℕ) (tables : List TableDecl) (t u : ℕ) (decl : TableDecl) → slice_get tables t ≡ Some decl → t < u → u < length tables
     → get_or (first_bodies from tables) t 0 + decl.blocks ≤ get_or (first_bodies from tables) u 0
 bodies_rise from [] t u decl at less within = cc
@@ -60,6 +64,7 @@ number_of sh kinds.Body t i has less =
     ap (λ n. slice_get (names sh) (n + i)) (got_or (first_bodies (9 * length sh.tables) sh.tables) t first.0 first.1)
     ∙ body_at_number sh t i first.0 (has, less) first.1
 
+-- A part of the core is of one of the tables, and within their count.
 has_part : (sh : Shape) (kind : PartKind) (t i : ℕ) → Among (name_of kind t i) (names sh) → HasTable sh t × (i < count_of sh kind t)
 has_part sh kinds.Shard t i a = table_of_shard sh t i a
 has_part sh kinds.Body t i a = block_of_body sh t i a
@@ -74,6 +79,7 @@ number_is sh kind t i n at =
 pub part_there : (sh : Shape) (kind : PartKind) (spot n : ℕ) → slice_get (names sh) n ≡ Some (name_on kind spot) → Some n ≡ number_among (names sh) (name_on kind spot)
 part_there sh kind spot n at = sym (number_at (names sh) n (name_on kind spot) (named_once sh) at)
 
+-- Where no part is at a spot, it has no number.
 no_part : (sh : Shape) (kind : PartKind) (spot : ℕ) → (Among (name_on kind spot) (names sh) → ⊥) → None ≡ number_among (names sh) (name_on kind spot)
 no_part sh kind spot never = go (number_among (names sh) (name_on kind spot)) refl
   where
@@ -100,6 +106,7 @@ starts_rise sh kinds.Body t u less has =
 
 -- ---- the first spot
 
+-- One number is below another, equal to it, or above it.
 by_order : (a b : ℕ) → (a < b) ⊎ ((a ≡ b) ⊎ (b < a))
 by_order a b = go (nat_lt a b) (nat_lt b a) refl refl
   where

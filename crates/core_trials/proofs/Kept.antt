@@ -45,6 +45,7 @@ use Rattle.txn_desk.specs.Oldest.{oldest_of}
 -- ---- an event raises the newest stamp by one at most
 
 module _ (sh : Shape) (s : Parts) where
+  -- A commit raises the newest stamp by one at most.
   commit_by : (wrote : Bool) (q : ℕ) → (closed q (cond wrote (numbered (desk_at sh s)) (desk_at sh s))).newest ≤ (desk_at sh s).newest + 1
   commit_by true q = omega arith
   commit_by false q = omega arith
@@ -53,18 +54,22 @@ module _ (sh : Shape) (s : Parts) where
   insert_by own t row (Err fault) = omega arith
   insert_by own t row (Ok p) = omega arith
 
+  -- An update or a delete raises the newest stamp by one at most.
   change_by : (own : OwnKey) (t : ℕ) (choice : Row → Change) (r : Result ℕ WriteFault) → ((after_change sh s own t choice r).desk (desk_at sh s)).newest ≤ (desk_at sh s).newest + 1
   change_by own t choice (Err fault) = omega arith
   change_by own t choice (Ok p) = omega arith
 
+  -- A move raises the newest stamp by one at most.
   move_by : (t : ℕ) (pairs : List MovePair) → ((after_move sh s t pairs).desk (desk_at sh s)).newest ≤ (desk_at sh s).newest + 1
   move_by t [] = omega arith
   move_by t (first ∷ rest) = omega arith
 
+  -- A seal raises the newest stamp by one at most.
   seal_by : (y : Bool) (t b : ℕ) → ((cond y (record nothing { body = at_both t b sealed }) nothing).desk (desk_at sh s)).newest ≤ (desk_at sh s).newest + 1
   seal_by true t b = omega arith
   seal_by false t b = omega arith
 
+  -- What each event makes of the desk raises the newest stamp by one at most.
   event_by : (e : CoreEvent) → ((changes_of sh s e).desk (desk_at sh s)).newest ≤ (desk_at sh s).newest + 1
   event_by (event.Begin q) = omega arith
   event_by (event.Get own t key) = omega arith
@@ -92,6 +97,7 @@ module _ (sh : Shape) (s : Parts) where
 
 -- ---- events
 
+-- A write that is refused memory leaves what its session has open.
 write_stays : (place : Place) (own : Option OwnTransaction) → option_map (with_own place reply.Memory) own ≡ own
 write_stays place None = refl
 write_stays place (Some own) = refl
@@ -204,6 +210,7 @@ gone_on t sh s owns oldest = record {
 }
 
 module _ (t : TrialState) (is : IsTrial t) (few : t.events + 1 < 2 ^ 62) where
+  -- A trial goes on where what is kept of its core still is after one event.
   goes_on : (sh : Shape) (s : Parts) (owns : List (Option OwnTransaction)) (oldest : ℕ) → sh ≡ t.shape → length owns ≡ length t.owns
       → IsKept t.shape s owns (t.events + 1) oldest → IsTrial (gone_on t sh s owns oldest)
   goes_on sh s owns oldest same long kept = record {

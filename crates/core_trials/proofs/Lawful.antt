@@ -23,6 +23,7 @@ use Rattle.own_laws.proofs.Going.{keys}
 use Rattle.own_laws.specs.Laws.{HasOpened}
 use Rattle.run_spec.specs.Opened.{own_key}
 
+-- Two numbers that are equal as options are equal.
 some_same : (m n : ℕ) → Some m ≡ Some n → m ≡ n
 some_same m n is = cc
 
@@ -47,9 +48,11 @@ module _ (t : TrialState) (is : IsTrial t) where
   pub has_table : HasTable t.shape 0
   has_table = subst (λ (tables : List TableDecl). 0 < length tables) (sym is.tables) (omega arith)
 
+  -- The trial's table has as many blocks as the trial says.
   blocks_are : blocks_of t.shape 0 ≡ t.blocks
   blocks_are = ap (λ (tables : List TableDecl). blocks_of (record { tables = tables; passes = t.shape.passes }) 0) is.tables
 
+  -- The trial's table has as many slots as the trial says.
   slots_are : slots_of t.shape 0 ≡ t.slots
   slots_are = ap (λ (tables : List TableDecl). slots_of (record { tables = tables; passes = t.shape.passes }) 0) is.tables
 

@@ -21,17 +21,16 @@ use Rattle.txn_desk.specs.Desk.{DeskState}
 use Rattle.count_laws.specs.Numbers.{IsNarrow, NumbersAreNarrow, OpensNarrow}
 
 module _ (sh : Shape) (s : Parts) where
-  abbrev d : DeskState
-  d = desk_at sh s
-
   insert_desk : (own : OwnKey) (u : ℕ) (row : Row) (r : Result ℕ WriteFault) (x : DeskState) → (after_insert sh s own u row r).desk x ≡ x
   insert_desk own u row (Err fault) x = refl
   insert_desk own u row (Ok p) x = refl
 
+  -- An update or a delete leaves the desk.
   change_desk : (own : OwnKey) (u : ℕ) (choice : Row → Change) (r : Result ℕ WriteFault) (x : DeskState) → (after_change sh s own u choice r).desk x ≡ x
   change_desk own u choice (Err fault) x = refl
   change_desk own u choice (Ok p) x = refl
 
+  -- A seal leaves the desk, whether it is granted or not.
   seal_desk : (u c : ℕ) (x : DeskState) → (changes_of sh s (event.Seal u c)).desk x ≡ x
   seal_desk u c x = go (is_none (seal_fault (is_head sh s u c) (body_at sh s u c)))
     where
@@ -39,14 +38,17 @@ module _ (sh : Shape) (s : Parts) where
       go true = refl
       go false = refl
 
+  -- A move leaves the stamps below their bound, and the commits no more than they are.
   move_narrow : (u : ℕ) (pairs : List MovePair) (x : DeskState) → x.newest + 1 < 2 ^ 63 → IsNarrow x → IsNarrow ((after_move sh s u pairs).desk x)
   move_narrow u [] x low is = is
   move_narrow u (first ∷ rest) x low is = let c = is.commits in record { commits = omega (arith, c); stamps = low }
 
+  -- A commit leaves the stamps below their bound, and the commits no more than they are.
   commit_narrow : (wrote : Bool) (q : ℕ) (x : DeskState) → x.newest + 1 < 2 ^ 63 → IsNarrow x → IsNarrow (closed q (cond wrote (numbered x) x))
   commit_narrow true q x low is = let c = is.commits in record { commits = omega (arith, c); stamps = low }
   commit_narrow false q x low is = record { commits = is.commits; stamps = is.stamps }
 
+  -- What each lawful event makes of the desk leaves the stamps and commits narrow.
   event_narrow : (e : CoreEvent) → IsLawful sh e s → IsNarrow (desk_at sh s) → IsNarrow ((changes_of sh s e).desk (desk_at sh s))
   event_narrow (event.Begin q) lawful is = record { commits = is.commits; stamps = is.stamps }
   event_narrow (event.Get own u key) lawful is = is

@@ -42,12 +42,15 @@ use Rattle.sound_laws.proofs.Written.{change_goes, judged_ok}
 use Rattle.undo_chain.specs.declared.undo.Undo.{Undo}
 use Rattle.count_laws.specs.Room.{CountsRoom, FullIsFull, OpensEmpty, RoomIsCounted, inserted_by, used, used_in, writes_told}
 
+-- Numbers that are tested to be equal are.
 num : (a b : ℕ) → (a == b) ≡ true → a ≡ b
 num a b e = grind (arith, nat_tests, e)
 
+-- A number is tested to be itself.
 num_refl : (a : ℕ) → (a == a) ≡ true
 num_refl a = grind (arith, nat_tests)
 
+-- Numbers that are not equal are tested not to be.
 num_not : (a b : ℕ) → (a ≡ b → ⊥) → (a == b) ≡ false
 num_not a b ne = go (a == b) refl
   where
@@ -55,6 +58,7 @@ num_not a b ne = go (a == b) refl
     go true e = absurd (ne (num a b e))
     go false e = e
 
+-- A number below the count of a table's blocks is that of a block.
 within : (sh : Shape) (t b : ℕ) → b < blocks_of sh t → HasBlock sh t b
 within sh t b less = (go (nat_lt t (length sh.tables)) refl, less)
   where
@@ -67,12 +71,15 @@ within sh t b less = (go (nat_lt t (length sh.tables)) refl, less)
 
 -- ---- bodies that stay empty
 
+-- Where the one body is empty, the other is.
 abbrev Stays : Body → Body → Type 0
 Stays x y = is_empty x ≡ true → is_empty y ≡ true
 
+-- A body without a change stays empty.
 stays : (x : Body) → Stays x x
 stays x e = e
 
+-- A change of one block leaves bodies empty where it leaves that one so.
 at_one : (t b : ℕ) (g : Body → Body) (u c : ℕ) (y : Body) → ((u ≡ t) → (c ≡ b) → Stays y (g y)) → Stays y (at_both t b g u c y)
 at_one t b g u c y h = go (u == t) (c == b) refl refl
   where
@@ -81,6 +88,7 @@ at_one t b g u c y h = go (u == t) (c == b) refl refl
     go true false m n = subst (λ e. Stays y (cond (e && (c == b)) (g y) y)) (sym m) (subst (λ e. Stays y (cond e (g y) y)) (sym n) (stays y))
     go false n' m n = subst (λ e. Stays y (cond (e && (c == b)) (g y) y)) (sym m) (stays y)
 
+-- A slot that is tested to be bare is the bare one.
 bare_is : (x : Slot) → is_bare x ≡ true → x ≡ bare
 bare_is x e = go x.row x.entries refl refl
   where
@@ -90,6 +98,7 @@ bare_is x e = go x.row x.entries refl refl
     go None (y ∷ ys) r n = absurd (true_false (sym e ∙ ap (λ (o : Option Row). is_none o && has_none x.entries) r ∙ ap has_none n))
     go (Some row) es r n = absurd (true_false (sym e ∙ ap (λ (o : Option Row). is_none o && has_none x.entries) r))
 
+-- Slots that are all bare stay so by a change that leaves a bare slot bare.
 all_map : (f : Slot → Slot) → is_bare (f bare) ≡ true → (slots : List Slot) → list_all is_bare slots ≡ true → list_all is_bare (map f slots) ≡ true
 all_map f same [] e = refl
 all_map f same (x ∷ slots) e =
@@ -98,6 +107,7 @@ all_map f same (x ∷ slots) e =
     ∙ ap (λ b. b && list_all is_bare (map f slots)) same ∙ all_map f same slots both.1
 
 module _ (sh : Shape) (s : Parts) (shape : IsShape sh) (ok : Sound sh s) (t b : ℕ) (has : HasBlock sh t b) where
+  -- The block's body in front of the event.
   abbrev x : Body
   x = body_at sh s t b
 
@@ -106,6 +116,7 @@ module _ (sh : Shape) (s : Parts) (shape : IsShape sh) (ok : Sound sh s) (t b : 
   write_stays u p g filled = at_one u (block_of p) (with_slot (slot_of p) g) t b (body_at sh s t b) (λ e f empty.
       absurd (true_false (sym empty ∙ ap (λ u. is_empty (body_at sh s u b)) e ∙ ap (λ b. is_empty (body_at sh s u b)) f ∙ not_empty (body_at sh s u (block_of p)) (slot_of p) filled)))
 
+  -- An update or a delete leaves an empty body empty.
   change_stays : (own : OwnKey) (u : ℕ) (key : ℤ) (choice : Row → Change) → IsThawed sh u key s
       → Stays (body_at sh s t b) ((after_change sh s own u choice (change_judged sh s own u key)).body t b (body_at sh s t b))
   change_stays own u key choice thawed = go (change_judged sh s own u key) refl
@@ -115,10 +126,12 @@ module _ (sh : Shape) (s : Parts) (shape : IsShape sh) (ok : Sound sh s) (t b : 
       go (Ok p) is = subst (λ r. Stays (body_at sh s t b) ((after_change sh s own u choice r).body t b (body_at sh s t b))) (sym is)
           (write_stays u p (written own.session (choice (unwrap_or (slot_at sh s u p).row []))) (change_goes sh s ok own u key p thawed is).filled)
 
+  -- A commit leaves an empty body empty, with writes or without.
   commit_stays : (wrote : Bool) (q at number : ℕ) → Stays (body_at sh s t b) ((cond wrote (committed_in q at number) (λ (body : Body). body)) (body_at sh s t b))
   commit_stays true q at number e = all_map (committed q at number) refl (body_at sh s t b).slots e
   commit_stays false q at number e = e
 
+  -- An abort leaves an empty body empty.
   abort_stays : (q : ℕ) → Stays (body_at sh s t b) (rolled_back_in q (body_at sh s t b))
   abort_stays q e = go (is_written_by q (body_at sh s t b))
     where
@@ -126,6 +139,7 @@ module _ (sh : Shape) (s : Parts) (shape : IsShape sh) (ok : Sound sh s) (t b : 
       go true = all_map (rolled_back q) refl (body_at sh s t b).slots e
       go false = e
 
+  -- The halves of pairs in other blocks leave a body as it is.
   halves_same : (at : ℕ) (row : MovePair → Row) (pairs : List MovePair) (y : Body)
       → ((pair : MovePair) → Among pair pairs → (block_of pair.source ≢ b) × (block_of pair.target ≢ b)) → fold (halves at row b) y pairs ≡ y
   halves_same at row [] y far = refl
@@ -138,6 +152,7 @@ module _ (sh : Shape) (s : Parts) (shape : IsShape sh) (ok : Sound sh s) (t b : 
           ap (λ e. cond e (with_slot (slot_of first.target) (moved_in at (row first)) (left_half at row b first y)) (left_half at row b first y)) q
           ∙ ap (λ e. cond e (with_slot (slot_of first.source) (moved_out at (row first)) y) y) p
 
+  -- A move leaves an empty body empty.
   move_stays : (u : ℕ) (moves : List MovePair) → Stays (body_at sh s t b) ((changes_of sh s (event.Move u moves)).body t b (body_at sh s t b))
   move_stays u moves = go (held_pairs sh s u moves) (λ pair a. (kept_among (holds sh s u) moves pair a).1)
     where
@@ -167,6 +182,7 @@ module _ (sh : Shape) (s : Parts) (shape : IsShape sh) (ok : Sound sh s) (t b : 
               (λ pair a. let o = both pair (held pair a) in (other (num t u e) empty (block_of pair.source) o.0, other (num t u e) empty (block_of pair.target) o.1)))
               ∙ empty
 
+  -- A seal leaves an empty body empty, whether it is granted or not.
   seal_stays : (u c : ℕ) → Stays (body_at sh s t b) ((changes_of sh s (event.Seal u c)).body t b (body_at sh s t b))
   seal_stays u c = go (is_none (seal_fault (is_head sh s u c) (body_at sh s u c)))
     where
@@ -176,6 +192,7 @@ module _ (sh : Shape) (s : Parts) (shape : IsShape sh) (ok : Sound sh s) (t b : 
 
 -- ---- sums over blocks
 
+-- A bound of each number of a range is one of the sums.
 sum_least : (f g d : ℕ → ℕ) (a n : ℕ) → ((b : ℕ) → a ≤ b → b < a + n → f b ≤ g b + d b)
     → sum_by f (range_with_len a n) ≤ sum_by g (range_with_len a n) + sum_by d (range_with_len a n)
 sum_least f g d a zero each = omega arith
@@ -187,6 +204,7 @@ sum_least f g d a (suc n) each =
     let k = sum_by-cons d a (range_with_len (a + 1) n) in
     omega (arith, here, rest, i, j, k)
 
+-- A sum of zeros over a range is zero.
 sum_zero : (d : ℕ → ℕ) (a n : ℕ) → ((b : ℕ) → a ≤ b → b < a + n → d b ≡ 0) → sum_by d (range_with_len a n) ≡ 0
 sum_zero d a zero each = refl
 sum_zero d a (suc n) each =
@@ -195,9 +213,7 @@ sum_zero d a (suc n) each =
     let k = sum_by-cons d a (range_with_len (a + 1) n) in
     omega (arith, here, rest, k)
 
-one_of : ℕ → ℕ → ℕ
-one_of k b = cond (b == k) 1 0
-
+-- A range has one number at most that is a given one.
 one_most : (k a n : ℕ) → sum_by (λ b. cond (b == k) 1 0) (range_with_len a n) ≤ 1
 one_most k a zero = omega arith
 one_most k a (suc n) = go (a == k) refl (one_most k (a + 1) n)
@@ -212,6 +228,7 @@ one_most k a (suc n) = go (a == k) refl (one_most k (a + 1) n)
         omega (arith, first, none, here)
     go false e rest = let here : cond {A = ℕ} (a == k) 1 0 ≡ 0 = ap (λ x. cond x 1 0) e in omega (arith, first, rest, here)
 
+-- A sum over a range is at least as many times what each number counts at least.
 all_least : (f : ℕ → ℕ) (w a n : ℕ) → ((b : ℕ) → a ≤ b → b < a + n → w ≤ f b) → n * w ≤ sum_by f (range_with_len a n)
 all_least f w a zero each = omega arith
 all_least f w a (suc n) each =
@@ -223,9 +240,11 @@ all_least f w a (suc n) each =
 
 -- ---- one block's use
 
+-- The slots in use of a block, which is the head's, empty, or neither.
 abbrev use_of : ℕ → ℕ → ℕ → ℕ → Bool → ℕ
 use_of head taken slots b empty = cond (b == head) taken (cond empty 0 slots)
 
+-- A head that took no more and a block that stays empty have no more slots in use.
 fewer : (head taken less slots b : ℕ) (e e' : Bool) → less ≤ taken → (e ≡ true → e' ≡ true) → use_of head less slots b e' ≤ use_of head taken slots b e
 fewer head taken less slots b e e' few same = go (b == head) e e' same
   where
@@ -237,9 +256,11 @@ fewer head taken less slots b e e' few same = go (b == head) e e' same
     go false false false same = omega arith
 
 module _ (sh : Shape) (s : Parts) (shape : IsShape sh) (ok : Sound sh s) (t : ℕ) (has : HasTable sh t) where
+  -- The table's head in front of the event.
   abbrev h : Head
   h = head_at sh s t
 
+  -- Each number of the range over the table's blocks is that of a block.
   block_has : (b : ℕ) → 0 ≤ b → b < 0 + blocks_of sh t → HasBlock sh t b
   block_has b low high = (has, omega (arith, high))
 
@@ -274,11 +295,13 @@ module _ (sh : Shape) (s : Parts) (shape : IsShape sh) (ok : Sound sh s) (t : �
 
   -- ---- an insert
 
+  -- The slots in use are more by what the head counts, and this by at most so many.
   abbrev Grows : Parts → ℕ → Type 0
   Grows parts more =
       (used sh parts t + (head_at sh s t).inserts ≤ used sh s t + (head_at sh parts t).inserts)
       × ((head_at sh parts t).inserts ≤ (head_at sh s t).inserts + more)
 
+  -- With no more slots in use and no insert counted, the slots in use grow within any bound.
   still : (c : Changes) (more : ℕ) → (used sh (Rattle.event_spec.specs.Parts.each_changed c (names sh) s) t ≤ used sh s t)
       × ((head_at sh (Rattle.event_spec.specs.Parts.each_changed c (names sh) s) t).inserts ≡ (head_at sh s t).inserts)
       → Grows (Rattle.event_spec.specs.Parts.each_changed c (names sh) s) more
@@ -310,9 +333,6 @@ module _ (sh : Shape) (s : Parts) (shape : IsShape sh) (ok : Sound sh s) (t : �
         ap (λ e. cond (e && (b == block_of p)) (with_slot (slot_of p) (written own.session (change.Put row)) (body_at sh s t b)) (body_at sh s t b)) (num_refl t)
         ∙ ap (λ k. cond (b == k) (with_slot (slot_of p) (written own.session (change.Put row)) (body_at sh s t b)) (body_at sh s t b)) at
         ∙ ap (λ e. cond e (with_slot (slot_of p) (written own.session (change.Put row)) (body_at sh s t b)) (body_at sh s t b)) other
-
-    S : ℕ
-    S = slots_of sh t
 
     in_head : nat_lt (head_at sh s t).taken (slots_of sh t) ≡ true → Grows (Rattle.event_spec.specs.Parts.each_changed (after_insert sh s own t row (Ok p)) (names sh) s) 1
     in_head room = one_more (after_insert sh s own t row (Ok p)) (head_at sh s t).block (λ b. true) (ap (λ (h : Head). h.inserts) head) each
@@ -489,6 +509,7 @@ module _ (sh : Shape) (s : Parts) (shape : IsShape sh) (ok : Sound sh s) (t : �
 
   -- ---- the events
 
+  -- An event that leaves the head, and empty bodies empty, takes no slot.
   calmly : (e : CoreEvent) → (head : (changes_of sh s e).head t (head_at sh s t) ≡ head_at sh s t)
       → ((b : ℕ) → HasBlock sh t b → Stays (body_at sh s t b) ((changes_of sh s e).body t b (body_at sh s t b)))
       → Grows (effect sh s e) 0
@@ -517,14 +538,17 @@ module _ (sh : Shape) (s : Parts) (shape : IsShape sh) (ok : Sound sh s) (t : �
       taken true = cut (empty (head_at sh s t).block) (head_at sh s t).taken
       taken false = omega arith
 
+  -- A move leaves the table's head.
   move_head : (u : ℕ) (pairs : List MovePair) → (after_move sh s u pairs).head t (head_at sh s t) ≡ head_at sh s t
   move_head u [] = refl
   move_head u (first ∷ rest) = refl
 
+  -- An update or a delete leaves the table's head.
   change_head : (own : OwnKey) (u : ℕ) (choice : Row → Change) (r : Result ℕ WriteFault) → (after_change sh s own u choice r).head t (head_at sh s t) ≡ head_at sh s t
   change_head own u choice (Err fault) = refl
   change_head own u choice (Ok p) = refl
 
+  -- A seal leaves the table's head, whether it is granted or not.
   seal_head : (u c : ℕ) → (changes_of sh s (event.Seal u c)).head t (head_at sh s t) ≡ head_at sh s t
   seal_head u c = go (is_none (seal_fault (is_head sh s u c) (body_at sh s u c)))
     where
@@ -532,6 +556,7 @@ module _ (sh : Shape) (s : Parts) (shape : IsShape sh) (ok : Sound sh s) (t : �
       go true = refl
       go false = refl
 
+  -- A lawful event takes no more slots than its head counts, one for a granted insert.
   event_grows : (e : CoreEvent) → IsLawful sh e s → Grows (effect sh s e) (inserted_by t e (reply_to sh s e))
   event_grows (event.Begin q) lawful = calmly (event.Begin q) refl (λ b hb. stays (body_at sh s t b))
   event_grows (event.Get own u key) lawful = calmly (event.Get own u key) refl (λ b hb. stays (body_at sh s t b))
@@ -563,6 +588,7 @@ room_is_counted sh s made t shape ok lawful has = go made.refused
     go true = record { room = omega arith; inserts = omega arith }
     go false = let grows = event_grows sh s shape ok t has made.event lawful in record { room = grows.0; inserts = grows.1 }
 
+-- Slots that are all the bare one are all bare.
 all_bare : (n : ℕ) → list_all is_bare (replicate n bare) ≡ true
 all_bare zero = refl
 all_bare (suc n) = all_bare n

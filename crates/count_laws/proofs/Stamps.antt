@@ -34,12 +34,11 @@ use Rattle.sound_laws.proofs.Keeps.{shaped}
 use Rattle.sound_laws.proofs.Kept.{body_after}
 use Rattle.count_laws.specs.Stamps.{CountsStamps, ImagesAreTold, OpensLoose, SealsAreTold, StampsAreCounted, imaged_by, images_told, sealed_by, sealed_now, seals_told}
 
+-- Numbers that are tested to be equal are.
 num : (a b : ℕ) → (a == b) ≡ true → a ≡ b
 num a b e = grind (arith, nat_tests, e)
 
-num_refl : (a : ℕ) → (a == a) ≡ true
-num_refl a = grind (arith, nat_tests)
-
+-- A choice between zero and zero is zero.
 zero_if : (e : Bool) → cond {A = ℕ} e 0 0 ≡ 0
 zero_if true = refl
 zero_if false = refl
@@ -51,9 +50,11 @@ record Keeps (x y : Body) : Type 0 where
   phase : sealed_now y ≡ sealed_now x
   loose : is_loose y.phase ≡ false → is_loose x.phase ≡ false
 
+-- A body without a change keeps its stamp and its phase.
 keeps : (x : Body) → Keeps x x
 keeps x = record { last = refl; phase = refl; loose = λ e. e }
 
+-- A change of one block keeps stamp and phase where it keeps those of that block.
 at_one : (t b : ℕ) (g : Body → Body) (u c : ℕ) (y : Body) → ((u ≡ t) → (c ≡ b) → Keeps y (g y)) → Keeps y (at_both t b g u c y)
 at_one t b g u c y stays = go (u == t) (c == b) refl refl
   where
@@ -62,6 +63,7 @@ at_one t b g u c y stays = go (u == t) (c == b) refl refl
     go true false m n = subst (λ e. Keeps y (cond (e && (c == b)) (g y) y)) (sym m) (subst (λ e. Keeps y (cond e (g y) y)) (sym n) (keeps y))
     go false n' m n = subst (λ e. Keeps y (cond (e && (c == b)) (g y) y)) (sym m) (keeps y)
 
+-- A change of one slot keeps its body's stamp and phase.
 slotted : (j : ℕ) (g : Slot → Slot) (y : Body) → Keeps y (with_slot j g y)
 slotted j g y = record { last = refl; phase = refl; loose = λ e. e }
 
@@ -71,15 +73,18 @@ module _ (sh : Shape) (s : Parts) (t b : ℕ) where
   insert_keeps own u row (Ok p) y = at_one u (block_of p) (with_slot (slot_of p) (written own.session (change.Put row))) t b y
       (λ e f. slotted (slot_of p) (written own.session (change.Put row)) y)
 
+  -- An update or a delete keeps a body's stamp and phase.
   change_keeps : (own : OwnKey) (u : ℕ) (choice : Row → Change) (r : Result ℕ WriteFault) (y : Body) → Keeps y ((after_change sh s own u choice r).body t b y)
   change_keeps own u choice (Err fault) y = keeps y
   change_keeps own u choice (Ok p) y = at_one u (block_of p) (with_slot (slot_of p) (written own.session (choice (unwrap_or (slot_at sh s u p).row [])))) t b y
       (λ e f. slotted (slot_of p) (written own.session (choice (unwrap_or (slot_at sh s u p).row []))) y)
 
+  -- A commit keeps a body's stamp and phase, with writes or without.
   commit_keeps : (wrote : Bool) (q at number : ℕ) (y : Body) → Keeps y ((cond wrote (committed_in q at number) (λ (body : Body). body)) y)
   commit_keeps true q at number y = record { last = refl; phase = refl; loose = λ e. e }
   commit_keeps false q at number y = keeps y
 
+  -- An abort keeps a body's stamp and phase.
   abort_keeps : (q : ℕ) (y : Body) → Keeps y (rolled_back_in q y)
   abort_keeps q y = go (is_written_by q y)
     where
@@ -87,6 +92,7 @@ module _ (sh : Shape) (s : Parts) (t b : ℕ) where
       go true = record { last = refl; phase = refl; loose = λ e. e }
       go false = keeps y
 
+  -- The halves of one pair keep a body's stamp and phase.
   half_keeps : (at : ℕ) (row : MovePair → Row) (pair : MovePair) (y : Body) → Keeps y (halves at row b y pair)
   half_keeps at row pair y = go (block_of pair.target == b) (block_of pair.source == b)
     where
@@ -96,6 +102,7 @@ module _ (sh : Shape) (s : Parts) (t b : ℕ) where
       go false true = record { last = refl; phase = refl; loose = λ e. e }
       go false false = keeps y
 
+  -- The halves of several pairs keep a body's stamp and phase.
   halves_keep : (at : ℕ) (row : MovePair → Row) (pairs : List MovePair) (y : Body) → Keeps y (fold (halves at row b) y pairs)
   halves_keep at row [] y = keeps y
   halves_keep at row (first ∷ rest) y =
@@ -103,6 +110,7 @@ module _ (sh : Shape) (s : Parts) (t b : ℕ) where
       let more = halves_keep at row rest (halves at row b y first) in
       record { last = more.last ∙ one.last; phase = more.phase ∙ one.phase; loose = λ e. one.loose (more.loose e) }
 
+  -- A move keeps a body's stamp and phase.
   move_keeps : (u : ℕ) (pairs : List MovePair) (y : Body) → Keeps y ((after_move sh s u pairs).body t b y)
   move_keeps u [] y = keeps y
   move_keeps u (first ∷ rest) y = go (t == u)
@@ -118,17 +126,21 @@ module _ (sh : Shape) (s : Parts) (t b : ℕ) where
     phase : sealed_now y + images ≡ sealed_now x + seals
     frozen : is_loose y.phase ≡ false → (is_loose x.phase ≡ false) ⊎ (1 ≤ y.last)
 
+  -- A body that keeps its stamp and phase has no seal and no image counted.
   quietly : (x y : Body) → Keeps x y → Counts x y 0 0
   quietly x y k = record { last = k.last ∙ omega arith; phase = ap (λ n. n + 0) k.phase; frozen = λ e. inl (k.loose e) }
 
+  -- A body that has nothing against its seal is loose.
   loose_of : (head : Bool) (body : Body) → seal_fault head body ≡ None → is_loose body.phase ≡ true
   loose_of head body fine = (none_by (is_loose body.phase) head (has_row body) (is_front body.slots) (is_quiet body) body.cooling (body.last == last_stamp) fine).phase
 
+  -- A phase that is loose is not sealed.
   not_sealed : (phase : Phase) → is_loose phase ≡ true → is_sealed phase ≡ false
   not_sealed Loose e = refl
   not_sealed (Sealed g) e = absurd (true_false (sym e))
   not_sealed (Imaged g) e = absurd (true_false (sym e))
 
+  -- A seal that is granted moves its block's stamp on by one, and begins that it is sealed.
   seal_counts : (u c : ℕ) (x : Body) → x ≡ body_at sh s t b
       → Counts x ((changes_of sh s (event.Seal u c)).body t b x) (sealed_by t b (event.Seal u c) (reply_to sh s (event.Seal u c))) 0
   seal_counts u c x is = go (seal_fault (is_head sh s u c) (body_at sh s u c)) refl
@@ -154,16 +166,19 @@ module _ (sh : Shape) (s : Parts) (t b : ℕ) where
           (cond ((t == u) && (b == c)) (seals_told (reply_to_seal o (body_at sh s u c).last)) 0) 0) (sym e)
           (subst (λ n. Counts x x n 0) (sym (zero_if ((t == u) && (b == c)))) (quietly x x (keeps x)))
 
+  -- An image that is granted ends that its body is sealed, and one that is not changes nothing.
   image_one : (phase : Phase) (x body : Body) → sealed_now (record x { phase = imaged_phase phase }) + images_told (reply_to_image phase body) ≡ sealed_now (record x { phase = phase }) + 0
   image_one Loose x body = refl
   image_one (Sealed g) x body = refl
   image_one (Imaged g) x body = refl
 
+  -- A phase that is not loose behind an image was not in front of it.
   image_loose : (phase : Phase) → is_loose (imaged_phase phase) ≡ false → is_loose phase ≡ false
   image_loose Loose e = e
   image_loose (Sealed g) e = refl
   image_loose (Imaged g) e = refl
 
+  -- An image leaves the stamps, and one that is granted ends that its block is sealed.
   image_counts : (u c : ℕ) (image : Option (List Row)) (x : Body) → x ≡ body_at sh s t b
       → Counts x ((changes_of sh s (event.Image u c image)).body t b x) 0 (imaged_by t b (event.Image u c image) (reply_to sh s (event.Image u c image)))
   image_counts u c image x is = go (t == u) (b == c) refl refl
@@ -183,11 +198,13 @@ module _ (sh : Shape) (s : Parts) (t b : ℕ) where
           (subst (λ e. Counts x (cond e (imaged x) x) 0 (cond e (images_told (reply_to_image (body_at sh s u c).phase (body_at sh s u c))) 0)) (sym n) (quietly x x (keeps x)))
       go false n' m n = subst (λ e. Counts x (cond (e && (b == c)) (imaged x) x) 0 (cond (e && (b == c)) (images_told (reply_to_image (body_at sh s u c).phase (body_at sh s u c))) 0)) (sym m) (quietly x x (keeps x))
 
+  -- A phase that is imaged is not sealed.
   thaw_one : (phase : Phase) → is_imaged phase ≡ true → is_sealed phase ≡ false
   thaw_one Loose e = refl
   thaw_one (Sealed g) e = absurd (true_false (sym e))
   thaw_one (Imaged g) e = refl
 
+  -- Each lawful event moves a block's stamp and phase on by its seals and its images.
   event_counts : (e : CoreEvent) → IsLawful sh e s → (x : Body) → x ≡ body_at sh s t b
       → Counts x ((changes_of sh s e).body t b x) (sealed_by t b e (reply_to sh s e)) (imaged_by t b e (reply_to sh s e))
   event_counts (event.Begin q) lawful x is = quietly x x (keeps x)
@@ -212,6 +229,7 @@ module _ (sh : Shape) (s : Parts) (t b : ℕ) where
         loose = λ g. absurd (true_false g);
       }))
 
+-- An event that was refused memory sealed no block.
 none_sealed : (t b : ℕ) (e : CoreEvent) → sealed_by t b e reply.Memory ≡ 0
 none_sealed t b (event.Begin q) = refl
 none_sealed t b (event.Get own u key) = refl
@@ -230,6 +248,7 @@ none_sealed t b (event.Seal u c) = zero_if ((t == u) && (b == c))
 none_sealed t b (event.Image u c image) = refl
 none_sealed t b (event.Thaw u c) = refl
 
+-- An event that was refused memory imaged no block.
 none_imaged : (t b : ℕ) (e : CoreEvent) → imaged_by t b e reply.Memory ≡ 0
 none_imaged t b (event.Begin q) = refl
 none_imaged t b (event.Get own u key) = refl
@@ -248,6 +267,7 @@ none_imaged t b (event.Seal u c) = refl
 none_imaged t b (event.Image u c image) = zero_if ((t == u) && (b == c))
 none_imaged t b (event.Thaw u c) = refl
 
+-- That a block was not loose, or has a stamp, holds of an equal body too.
 later : (x y z : Body) → y ≡ z → (is_loose x.phase ≡ false) ⊎ (1 ≤ z.last) → (is_loose x.phase ≡ false) ⊎ (1 ≤ y.last)
 later x y z now (inl e) = inl e
 later x y z now (inr low) = let same = ap (λ (y : Body). y.last) now in inr (omega (arith, low, same))

@@ -39,9 +39,11 @@ use Rattle.undo_chain.specs.Stamped.{stamped}
 use Rattle.count_laws.specs.Room.{writes_told}
 use Rattle.count_laws.specs.Versions.{CountsVersions, OpensWithout, VersionsAreCounted, IdleOwnNone, dropped_by, entries_at, entries_in, is_of, is_stamped, own_entries, stamped_by, stamped_entries, total, written_by}
 
+-- Numbers that are tested to be equal are.
 num : (a b : ℕ) → (a == b) ≡ true → a ≡ b
 num a b e = grind (arith, nat_tests, e)
 
+-- A number is tested to be itself.
 num_refl : (a : ℕ) → (a == a) ≡ true
 num_refl a = grind (arith, nat_tests)
 
@@ -72,12 +74,14 @@ sum_least f x [] a = absurd a
 sum_least f x (y ∷ ys) (inl e) = let i = sum_by-cons f y ys in let same = ap f e in omega (arith, i, same)
 sum_least f x (y ∷ ys) (inr a) = let i = sum_by-cons f y ys in let rest = sum_least f x ys a in omega (arith, i, rest)
 
+-- A sum over images is the sum over elements of what their images count.
 sum_mapped : {X Y : Type 0} (g : Y → ℕ) (f : X → Y) (xs : List X) → sum_by g (map f xs) ≡ sum_by (λ x. g (f x)) xs
 sum_mapped g f [] = refl
 sum_mapped g f (x ∷ xs) =
     let i = sum_by-cons g (f x) (map f xs) in let j = sum_by-cons (λ x. g (f x)) x xs in
     let rest = sum_mapped g f xs in omega (arith, i, j, rest)
 
+-- With one slot set, a sum is more by no more than that slot counts more.
 sum_set : (g : Slot → ℕ) (xs : List Slot) (j : ℕ) (y : Slot) (k : ℕ) → g y ≤ g (slice_index_or xs j bare) + k → sum_by g (slice_set xs j y) ≤ sum_by g xs + k
 sum_set g [] j y k h = omega arith
 sum_set g (x ∷ xs) zero y k h = let i = sum_by-cons g y xs in let j = sum_by-cons g x xs in omega (arith, h, i, j)
@@ -85,6 +89,7 @@ sum_set g (x ∷ xs) (suc n) y k h =
     let i = sum_by-cons g x (slice_set xs n y) in let j = sum_by-cons g x xs in
     let rest = sum_set g xs n y k h in omega (arith, rest, i, j)
 
+-- Among those that a filter keeps no more pass a test than among all.
 count_kept : {X : Type 0} (p q : X → Bool) (xs : List X) → count_by p (filter q xs) ≤ count_by p xs
 count_kept p q [] = omega arith
 count_kept p q (x ∷ xs) = go (q x) (count_kept p q xs)
@@ -144,6 +149,7 @@ total_least sh f t b has =
     let block = sum_least (f t) b (below (blocks_of sh t)) (below_member 0 (blocks_of sh t) b (omega arith) (let h = has.1 in omega (arith, h))) in
     omega (arith, table, block)
 
+-- So many at one block, and none at any other.
 abbrev only : ℕ → ℕ → ℕ → ℕ → ℕ → ℕ
 only u c n t b = cond ((t == u) && (b == c)) n 0
 
@@ -168,6 +174,7 @@ sum_only k n a (suc m) = go (a == k) refl (sum_only k n (a + 1) m)
         omega (arith, first, none, here)
     go false e rest = let here : cond {A = ℕ} (a == k) n 0 ≡ 0 = ap (λ x. cond x n 0) e in omega (arith, first, here, rest)
 
+-- So many at one block alone are no more over all blocks.
 total_only : (sh : Shape) (u c n : ℕ) → total sh (only u c n) ≤ n
 total_only sh u c n =
     let each = sum_moves (λ t. sum_by (only u c n t) (below (blocks_of sh t))) (λ t. 0) (λ t. cond (t == u) n 0) (λ t. 0) (tables_of sh) (λ t a. inner t (t == u) refl) in
@@ -187,9 +194,11 @@ total_only sh u c n =
 
 -- ---- one entry, one slot, one body
 
+-- One for a test that holds, and zero else.
 abbrev one : Bool → ℕ
 one b = cond b 1 0
 
+-- A commit stamps no entry but its session's own.
 stamped_one : (q at number : ℕ) (u : Undo Before) → one (is_stamped (stamped q at number u)) + 0 ≤ one (is_stamped u) + one (is_of q u)
 stamped_one q at number u = go (is_own u q)
   where
@@ -197,6 +206,7 @@ stamped_one q at number u = go (is_own u q)
     go true = omega arith
     go false = omega arith
 
+-- A commit makes no entry a session's own that was not.
 owned_one : (r q at number : ℕ) (u : Undo Before) → one (is_of r (stamped q at number u)) + 0 ≤ one (is_of r u) + 0
 owned_one r q at number u = go (is_own u q)
   where
@@ -204,9 +214,11 @@ owned_one r q at number u = go (is_own u q)
     go true = omega arith
     go false = omega arith
 
+-- How many entries of a slot pass a test.
 abbrev counts : (Undo Before → Bool) → Slot → ℕ
 counts p slot = count_by p slot.entries
 
+-- Of changed entries no more pass a test than passed it or pass another.
 count_all : (p d e : Undo Before → Bool) (f : Undo Before → Undo Before) (es : List (Undo Before)) → ((u : Undo Before) → one (p (f u)) + 0 ≤ one (p u) + one (e u))
     → count_by p (map f es) ≤ count_by p es + count_by e es
 count_all p d e f es each =
@@ -223,9 +235,11 @@ slots_move p d e f slots each =
     let s = sum_moves (λ x. counts p (f x)) (counts d) (counts p) (counts e) slots (λ x a. each x) in
     omega (arith, m, s)
 
+-- A test that no entry passes.
 abbrev never : Undo Before → Bool
 never u = false
 
+-- Slots have no entry that passes the test which none passes.
 none_never : (slots : List Slot) → sum_by (counts never) slots ≡ 0
 none_never slots = sum_none (counts never) slots (λ x a. sum_none (λ (u : Undo Before). one (never u)) x.entries (λ u b. refl))
 
@@ -234,11 +248,13 @@ slot_moves : (p : Undo Before → Bool) (j k : ℕ) (f : Slot → Slot) (y : Bod
     → entries_in p (with_slot j f y) ≤ entries_in p y + k
 slot_moves p j k f y each = sum_set (counts p) y.slots j (f (slot_in y j)) k (each (slot_in y j))
 
+-- An entry on top counts one more at most, where it passes the test.
 pushed : (p : Undo Before → Bool) (u : Undo Before) (es : List (Undo Before)) → count_by p (u ∷ es) ≤ count_by p es + one (p u)
 pushed p u es = let i = sum_by-cons (λ x. one (p x)) u es in omega (arith, i)
 
 -- ---- what an event leaves of a test's entries
 
+-- A write adds no more entries to its slot than its own entry counts.
 written_counts : (p : Undo Before → Bool) (q : ℕ) (new : Change) (x : Slot) (k : ℕ)
     → ((before' : Before) → one (p (record { session = q; stamp = None; number = 0; kind = Rattle.block_spec.specs.Slots.kind_of new; before = before' })) ≤ k)
     → counts p (written q new x) ≤ counts p x + k
@@ -246,12 +262,14 @@ written_counts p q new x k few =
     let u : Undo Before = record { session = q; stamp = None; number = 0; kind = Rattle.block_spec.specs.Slots.kind_of new; before = Rattle.block_spec.specs.Slots.image_before x.row new } in
     let a = pushed p u x.entries in let b = few (Rattle.block_spec.specs.Slots.image_before x.row new) in omega (arith, a, b)
 
+-- A write's entry is a session's own only where that session made the write.
 own_write : (q r : ℕ) (new : Change) (before' : Before)
     → one (is_of r (record { session = q; stamp = None; number = 0; kind = Rattle.block_spec.specs.Slots.kind_of new; before = before' })) ≤ one (q == r)
 own_write q r (change.Put new) before' = omega arith
 own_write q r (change.Patch patch) before' = omega arith
 own_write q r change.Gone before' = omega arith
 
+-- A change of one block adds no more entries than it does there.
 at_one : (p : Undo Before → Bool) (u c k : ℕ) (g : Body → Body) (t b : ℕ) (y : Body) → entries_in p (g y) ≤ entries_in p y + k
     → entries_in p (at_both u c g t b y) + 0 ≤ entries_in p y + only u c k t b
 at_one p u c k g t b y h = go ((t == u) && (b == c))
@@ -260,6 +278,7 @@ at_one p u c k g t b y h = go ((t == u) && (b == c))
     go true = omega (arith, h)
     go false = omega arith
 
+-- None at one block, and none at any other, is none.
 only_none : (u c t b : ℕ) → only u c 0 t b ≡ 0
 only_none u c t b = go ((t == u) && (b == c))
   where
@@ -267,14 +286,17 @@ only_none u c t b = go ((t == u) && (b == c))
     go true = refl
     go false = refl
 
+-- The write was judged to go to a place.
 abbrev is_write : Result ℕ WriteFault → Bool
 is_write (Ok place) = true
 is_write (Err fault) = false
 
+-- So many for each source and each target of the pairs that lies in the block.
 shares : ℕ → ℕ → List MovePair → ℕ → ℕ → ℕ
 shares k u [] t b = 0
 shares k u (pair ∷ pairs) t b = only u (block_of pair.source) k t b + (only u (block_of pair.target) k t b + shares k u pairs t b)
 
+-- Over all blocks the shares of pairs are no more than two for each pair.
 total_shares : (sh : Shape) (k u : ℕ) (pairs : List MovePair) → total sh (shares k u pairs) ≤ length pairs * (k + k)
 unfolding shares
 total_shares sh k u [] = let z = total_none sh (shares k u []) (λ t b has. refl) in omega (arith, z)
@@ -290,6 +312,7 @@ total_shares sh k u (pair ∷ pairs) =
 
 module _ (p : Undo Before → Bool) (k at : ℕ) (out : (row : Row) (x : Slot) → counts p (moved_out at row x) ≤ counts p x + k)
     (come : (row : Row) (x : Slot) → counts p (moved_in at row x) ≤ counts p x + k) (u t b : ℕ) (same : (t == u) ≡ true) where
+  -- One half of a pair adds no more entries than so many to its block.
   one_half : (place : ℕ) (g : Slot → Slot) (y : Body) → ((x : Slot) → counts p (g x) ≤ counts p x + k)
       → entries_in p (cond (block_of place == b) (with_slot (slot_of place) g y) y) ≤ entries_in p y + only u (block_of place) k t b
   one_half place g y each = go (block_of place == b) refl
@@ -305,6 +328,7 @@ module _ (p : Undo Before → Bool) (k at : ℕ) (out : (row : Row) (x : Slot) �
           let now : entries_in p (cond (block_of place == b) (with_slot (slot_of place) g y) y) ≡ entries_in p y = ap (λ x. entries_in p (cond x (with_slot (slot_of place) g y) y)) e in
           omega (arith, now)
 
+  -- The halves of pairs add no more entries to a block than their shares.
   all_halves : (row : MovePair → Row) (pairs : List MovePair) (y : Body) → entries_in p (fold (halves at row b) y pairs) ≤ entries_in p y + shares k u pairs t b
   unfolding shares
   all_halves row [] y = omega arith
@@ -316,21 +340,26 @@ module _ (p : Undo Before → Bool) (k at : ℕ) (out : (row : Row) (x : Slot) �
       omega (arith, a, c, rest)
 
 module _ (sh : Shape) (s : Parts) (ok : Sound sh s) where
+  -- In each block the entries after the changes are bounded by those before, with one amount each.
   abbrev Each : (Undo Before → Bool) → Changes → (ℕ → ℕ → ℕ) → (ℕ → ℕ → ℕ) → Type 0
   Each p c d e = (t b : ℕ) → HasBlock sh t b → entries_in p (c.body t b (body_at sh s t b)) + d t b ≤ entries_at sh p s t b + e t b
 
+  -- What bounds the entries of each block bounds them over all blocks.
   changed : (p : Undo Before → Bool) (c : Changes) (d e : ℕ → ℕ → ℕ) → Each p c d e
       → total sh (entries_at sh p (each_changed c (names sh) s)) + total sh d ≤ total sh (entries_at sh p s) + total sh e
   changed p c d e each = total_moves sh (entries_at sh p (each_changed c (names sh) s)) d (entries_at sh p s) e
       (λ t b has. let now = ap (entries_in p) (body_after sh s (shaped sh s ok) c t b has) in let h = each t b has in omega (arith, now, h))
 
+  -- The changes add no more than so many entries that pass the test.
   abbrev Fewer : (Undo Before → Bool) → Changes → ℕ → Type 0
   Fewer p c n = total sh (entries_at sh p (each_changed c (names sh) s)) ≤ total sh (entries_at sh p s) + n
 
+  -- Changes that add no entry in any block add none at all.
   fewer : (p : Undo Before → Bool) (c : Changes) → Each p c (λ t b. 0) (λ t b. 0) → Fewer p c 0
   fewer p c each =
       let h = changed p c (λ t b. 0) (λ t b. 0) each in let z = total_none sh (λ t b. 0) (λ t b has. refl) in omega (arith, h, z)
 
+  -- Changes that add so many entries at one block alone add no more.
   at_place : (p : Undo Before → Bool) (c : Changes) (u k n : ℕ) → Each p c (λ t b. 0) (only u k n) → Fewer p c n
   at_place p c u k n each =
       let h = changed p c (λ t b. 0) (only u k n) each in let z = total_none sh (λ t b. 0) (λ t b has. refl) in
@@ -346,6 +375,7 @@ module _ (sh : Shape) (s : Parts) (ok : Sound sh s) where
       (λ t b has. at_one p u (block_of place) k (with_slot (slot_of place) (written own.session (change.Put row))) t b (body_at sh s t b)
       (slot_moves p (slot_of place) k (written own.session (change.Put row)) (body_at sh s t b) (each (change.Put row))))
 
+  -- An update or a delete adds no more entries than its write does, none where it is refused.
   change_fewer : (p : Undo Before → Bool) (k : ℕ) (own : OwnKey) (u : ℕ) (choice : Row → Change) (r : Result ℕ WriteFault)
       → ((new : Change) (x : Slot) → counts p (written own.session new x) ≤ counts p x + k)
       → Fewer p (after_change sh s own u choice r) (cond (is_write r) k 0)
@@ -356,6 +386,7 @@ module _ (sh : Shape) (s : Parts) (ok : Sound sh s) where
       (λ t b has. at_one p u (block_of place) k (with_slot (slot_of place) (written own.session new)) t b (body_at sh s t b)
       (slot_moves p (slot_of place) k (written own.session new) (body_at sh s t b) (each new)))
 
+  -- A move adds no more entries than its two halves do for each pair.
   move_fewer : (p : Undo Before → Bool) (k : ℕ) (u : ℕ) (pairs : List MovePair)
       → ((at : ℕ) (row : Row) (x : Slot) → counts p (moved_out at row x) ≤ counts p x + k)
       → ((at : ℕ) (row : Row) (x : Slot) → counts p (moved_in at row x) ≤ counts p x + k)
@@ -382,6 +413,7 @@ module _ (sh : Shape) (s : Parts) (ok : Sound sh s) where
           ap (λ e. entries_in p (cond e (fold (halves ((desk_at sh s).newest + 1) (moved_row sh s u) b) (body_at sh s t b) (first ∷ rest)) (body_at sh s t b))) e in
           omega (arith, now)
 
+  -- A seal adds no entries, whether it is granted or not.
   seal_fewer : (p : Undo Before → Bool) (u c : ℕ) → Fewer p (changes_of sh s (event.Seal u c)) 0
   seal_fewer p u c = fewer p (changes_of sh s (event.Seal u c)) (λ t b has. go t b (is_none (seal_fault (is_head sh s u c) (body_at sh s u c))))
     where
@@ -400,13 +432,16 @@ module _ (sh : Shape) (s : Parts) (ok : Sound sh s) where
 
   -- ---- entries with a stamp
 
+  -- A write adds no entry with a stamp to its slot.
   put_stamped : (q : ℕ) (new : Change) (x : Slot) → counts is_stamped (written q new x) ≤ counts is_stamped x + 0
   put_stamped q new x = written_counts is_stamped q new x 0 (λ b. omega arith)
 
+  -- A write adds no entry with a stamp, whether it is granted or not.
   write_stamped : (c : Changes) (r : Result ℕ WriteFault) → Fewer is_stamped c (cond (is_write r) 0 0) → Fewer is_stamped c 0
   write_stamped c (Ok place) h = h
   write_stamped c (Err fault) h = h
 
+  -- A commit adds no more entries with a stamp than its session has of its own.
   commit_stamped : (wrote : Bool) (q at number : ℕ) (y : Body)
       → entries_in is_stamped ((cond wrote (committed_in q at number) (λ (body : Body). body)) y) + 0 ≤ entries_in is_stamped y + entries_in (is_of q) y
   commit_stamped false q at number y = omega arith
@@ -416,6 +451,7 @@ module _ (sh : Shape) (s : Parts) (ok : Sound sh s) where
       let z = sum_none (λ (u : Undo Before). one (never u)) x.entries (λ u b. refl) in omega (arith, a, z)) in
       let z = none_never y.slots in omega (arith, h, z)
 
+  -- An abort adds no entry that passes a test.
   abort_kept : (p : Undo Before → Bool) (q : ℕ) (y : Body) → entries_in p (rolled_back_in q y) + 0 ≤ entries_in p y + 0
   abort_kept p q y = go (is_written_by q y)
     where
@@ -427,6 +463,7 @@ module _ (sh : Shape) (s : Parts) (ok : Sound sh s) where
           let z = sum_none (λ (u : Undo Before). one (never u)) x.entries (λ u b. refl) in omega (arith, a, z)) in
           let z = none_never y.slots in omega (arith, h, z)
 
+  -- The entries with a stamp and those that a pruning dropped are no more than before.
   prune_stamped : (u c oldest : ℕ) → HasBlock sh u c
       → stamped_entries sh (effect sh s (event.Prune u c oldest)) + dropped_from oldest (body_at sh s u c) ≤ stamped_entries sh s
   prune_stamped u c oldest has =
@@ -470,18 +507,22 @@ module _ (sh : Shape) (s : Parts) (ok : Sound sh s) where
               let e : ((t == u) && (b == c)) ≡ false = ap (λ x. x && (b == c)) m in
               subst (λ x. entries_in is_stamped (cond x (pruned_in oldest (body_at sh s t b)) (body_at sh s t b)) + cond x (dropped_from oldest (body_at sh s u c)) 0 ≤ entries_in is_stamped (body_at sh s t b) + 0) (sym e) (omega arith)
 
+  -- Entries with a stamp, and those dropped, are no more than before with those the event stamps.
   abbrev Stamps : CoreEvent → Type 0
   Stamps e = stamped_entries sh (effect sh s e) + dropped_by e (reply_to sh s e) ≤ stamped_entries sh s + stamped_by sh s e (reply_to sh s e)
 
+  -- An event that adds and drops no entry with a stamp keeps their bound.
   quietly : (e : CoreEvent) → Fewer is_stamped (changes_of sh s e) 0 → dropped_by e (reply_to sh s e) ≡ 0 → Stamps e
   quietly e h none = omega (arith, h, none)
 
+  -- The half of a move by which a row leaves adds one entry with a stamp.
   out_stamped : (at : ℕ) (row : Row) (x : Slot) → counts is_stamped (moved_out at row x) ≤ counts is_stamped x + 1
   out_stamped at row x = pushed is_stamped (record { session = 0; stamp = Some at; number = 0; kind = Rattle.undo_chain.specs.declared.undo.UndoKind.TheVariants.MoveOut; before = Rattle.block_spec.specs.declared.change.Before.TheVariants.Whole row }) x.entries
 
   in_stamped : (at : ℕ) (row : Row) (x : Slot) → counts is_stamped (moved_in at row x) ≤ counts is_stamped x + 1
   in_stamped at row x = pushed is_stamped (record { session = 0; stamp = Some at; number = 0; kind = Rattle.undo_chain.specs.declared.undo.UndoKind.TheVariants.MoveIn; before = Rattle.block_spec.specs.declared.change.Before.TheVariants.Empty }) x.entries
 
+  -- Each lawful event keeps the bound of the entries with a stamp.
   event_stamps : (e : CoreEvent) → IsLawful sh e s → Stamps e
   event_stamps (event.Begin q) lawful = quietly (event.Begin q) (fewer is_stamped (changes_of sh s (event.Begin q)) (λ t b has. omega arith)) refl
   event_stamps (event.Get own u key) lawful = quietly (event.Get own u key) (fewer is_stamped nothing (λ t b has. omega arith)) refl
@@ -592,6 +633,7 @@ versions_are_counted sh s made ok lawful = go made.refused
     go true = let none = memory_drops made.event in record { stamped = omega (arith, none); own = λ r. omega arith }
     go false = record { stamped = event_stamps sh s ok made.event lawful; own = λ r. event_owns sh s ok r made.event lawful }
 
+-- Bare slots have no entry that passes a test.
 bare_none : (n : ℕ) (p : Undo Before → Bool) → sum_by (counts p) (replicate n bare) ≡ 0
 bare_none zero p = refl
 bare_none (suc n) p = let i = sum_by-cons (counts p) bare (replicate n bare) in let rest = bare_none n p in omega (arith, i, rest)
@@ -601,6 +643,7 @@ pub opens_without : OpensWithout
 opens_without sh shape = total_none sh (entries_at sh is_stamped (opening sh))
     (λ t b has. ap (entries_in is_stamped) (ap body_from (part_there (opening_part sh) (names sh) (BodyOf t b) (body_named sh t b has))) ∙ bare_none (slots_of sh t) is_stamped)
 
+-- Where each slot counts none, all of them do.
 each_slot : (g : Slot → ℕ) (slots : List Slot) → ((j : ℕ) → j < length slots → g (slice_index_or slots j bare) ≡ 0) → sum_by g slots ≡ 0
 each_slot g [] each = refl
 each_slot g (x ∷ slots) each =

@@ -90,10 +90,12 @@ module _ (sh : Shape) (hand : Held) (s : Parts) (t : ℕ) (key : ℤ) where
 
 -- ---- a sealed body's rows
 
+-- Where a conjunction is true, its second part is.
 second : (a b : Bool) → (a && b) ≡ true → b ≡ true
 second true b both = both
 second false b both = cc
 
+-- Rows that are put into slots and taken out again are the same.
 rows_again : (batch : List Row) → flat_map (λ slot. option_to_list slot) (map (λ row. Some row) batch) ≡ batch
 rows_again [] = refl
 rows_again (row ∷ batch) = ap (λ (rest : List Row). row ∷ rest) (rows_again batch)

@@ -8,13 +8,16 @@ use Rattle.cell_model.specs.declared.table.TableDecl.{TableDecl}
 use Rattle.core_parts.specs.Numbers.{IsOfSize}
 use Rattle.event_spec.specs.Parts.{Name, HeadOf, ShardOf, BodyOf, TheDesk, Shape, below, blocks_of, names, tables_of}
 
+-- A range has as many numbers as it is made with.
 range_long : (from n : ℕ) → length (range_with_len from n) ≡ n
 range_long from zero = refl
 range_long from (suc n) = ap suc (range_long (from + 1) n)
 
+-- There are as many names as the numbers that they are made of.
 named_long : (f : ℕ → Name) (n : ℕ) → length (map f (below n)) ≡ n
 named_long f n = length-map (below n) f ∙ range_long 0 n
 
+-- Lists of at most so many names each are together at most as many times that.
 flat_few : (f : ℕ → List Name) (most : ℕ) (ts : List ℕ) → ((t : ℕ) → length (f t) ≤ most) → length (flat_map f ts) ≤ length ts * most
 flat_few f most [] each = omega arith
 flat_few f most (t ∷ ts) each =
@@ -24,6 +27,7 @@ flat_few f most (t ∷ ts) each =
     let m : suc (length ts) * most ≡ most + length ts * most = omega arith in
     omega (arith, here, rest, both, m)
 
+-- A table has at most 1024 blocks, as has one that there is not.
 few_blocks : (tables : List TableDecl) (t : ℕ) → All (λ (table : TableDecl). table.blocks ≤ 2 ^ 10) tables
     → unwrap_or (option_map (λ (decl : TableDecl). decl.blocks) (slice_get tables t)) 0 ≤ 2 ^ 10
 few_blocks [] t all = omega arith

@@ -14,6 +14,7 @@ use Rattle.frame_laws.specs.Shards.{CoreHolds}
 use Rattle.hall_rule.specs.Hands.{Agrees, SameRoom}
 
 module _ (sh : Shape) (e : CoreEvent) (old new : Held) (said : CoreReply) where
+  -- A refused event leaves the hand, and another makes of it what it is to.
   same_or_made : (refused : Bool) → MatchBool refused ((new ≡ old) × (takes_memory e ≡ true)) (Makes sh e old new said) → MatchBool refused (new ≡ old) (Makes sh e old new said)
   same_or_made true both = both.0
   same_or_made false made = made
@@ -22,6 +23,7 @@ module _ (sh : Shape) (e : CoreEvent) (old new : Held) (said : CoreReply) where
   pub made_of : Runs sh e old new said → MatchBool (is_memory said) (new ≡ old) (Makes sh e old new said)
   made_of runs = same_or_made (is_memory said) runs
 
+  -- An event that was refused is one that takes memory.
   refuses_by : (refused : Bool) → MatchBool refused ((new ≡ old) × (takes_memory e ≡ true)) (Makes sh e old new said) → refused ≡ true → takes_memory e ≡ true
   refuses_by true both is = both.1
   refuses_by false made is = cc
@@ -30,6 +32,7 @@ module _ (sh : Shape) (e : CoreEvent) (old new : Held) (said : CoreReply) where
   pub refuses : Runs sh e old new said → is_memory said ≡ true → takes_memory e ≡ true
   refuses runs is = refuses_by (is_memory said) runs is
 
+  -- A refused event leaves the hand, and behind another the hand agrees with the core.
   meets_by : (refused : Bool) → MatchBool refused ((new ≡ old) × (takes_memory e ≡ true)) (Makes sh e old new said)
       → (s : Parts) → CoreHolds sh s → Agrees old s → Stands sh e s → FitsIn sh e s
       → MatchBool refused (new ≡ old) (Agrees new (effect sh s e) × (said ≡ reply_to sh s e))
@@ -46,6 +49,7 @@ module _ (sh : Shape) (e : CoreEvent) (old new : Held) (said : CoreReply) where
       → MatchBool (is_memory said) (new ≡ old) (Agrees new (effect sh s e) × (said ≡ reply_to sh s e))
   meets runs = meets_by (is_memory said) runs
 
+  -- Refused or not, an event leaves the same parts in the hand.
   room_by : (refused : Bool) → MayRun sh e old → MatchBool refused ((new ≡ old) × (takes_memory e ≡ true)) (Makes sh e old new said) → SameRoom old new
   room_by true may both = subst (SameRoom old) (sym both.0) (record { places = refl; away = λ k is. is; held = λ k is. is })
   room_by false may made =
@@ -57,6 +61,7 @@ module _ (sh : Shape) (e : CoreEvent) (old new : Held) (said : CoreReply) where
 
 -- ---- what a write is replied
 
+-- A write that makes what it is replied runs, as no such reply refuses memory.
 written_by : (sh : Shape) (e : CoreEvent) (old new : Held) (w : Result ℕ WriteFault) → Makes sh e old new (reply_to_write w) → Runs sh e old new (reply_to_write w)
 written_by sh e old new (Ok place) made = made
 written_by sh e old new (Err fault) made = made

@@ -25,6 +25,7 @@ pub in_all : (s : Parts) → parts_in (all_in s) ≡ s
 in_all [] = refl
 in_all (p ∷ s) = ap (λ (rest : Parts). p ∷ rest) (in_all s)
 
+-- A hand that has all of a state holds each of its places.
 holds_all : (s : Parts) (k : ℕ) → k < length s → Holds (all_in s) k
 holds_all [] k less = absurd (omega (arith, less))
 holds_all (p ∷ s) zero less = (p, refl)
@@ -39,11 +40,13 @@ agrees_all s = (length-map s Some, at s)
     at (q ∷ s) zero p is = let e : q ≡ p = cc in ap Some e
     at (q ∷ s) (suc k) p is = at s k p is
 
+-- Changes of a hand that has all of a state are those of the state.
 after_all : (c : Changes) (ns : List Name) (s : Parts) → hand_changed c ns (all_in s) ≡ all_in (each_changed c ns s)
 after_all c [] s = refl
 after_all c (n ∷ ns) [] = refl
 after_all c (n ∷ ns) (p ∷ s) = ap (λ (hand : Held). Some (changed c n p) ∷ hand) (after_all c ns s)
 
+-- A reply that is tested to refuse memory is that one.
 memory_is : (said : CoreReply) → is_memory said ≡ true → said ≡ reply.Memory
 memory_is reply.Memory e = refl
 memory_is (reply.Begun snapshot) e = cc
@@ -65,6 +68,7 @@ memory_is (reply.Imaged rows) e = cc
 memory_is reply.NoSeal e = cc
 memory_is reply.Thawed e = cc
 
+-- In a hand that has all of a state the part of a name is the state's.
 held_all : (ns : List Name) (s : Parts) (w : Name) → held_named ns (all_in s) w ≡ part_named ns s w
 held_all [] s w = refl
 held_all (n ∷ ns) [] w = refl
@@ -133,6 +137,7 @@ module _ (sh : Shape) (hand : Held) (whole : IsWhole sh hand) where
 
 -- ---- the opening core
 
+-- What holds of each declared table holds of the one with this number.
 declared : (tables : List TableDecl) (P : ℕ → Type 0) (f : TableDecl → ℕ) → All (λ (table : TableDecl). P (f table)) tables
     → (t : ℕ) → t < length tables → P (unwrap_or (option_map f (slice_get tables t)) 0)
 declared [] P f all t less = absurd (omega (arith, less))

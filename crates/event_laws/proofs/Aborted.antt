@@ -35,6 +35,7 @@ use Rattle.isolation_spec.specs.declared.command.Answer.TheVariants as answer
 
 -- ---- candidates that are kept
 
+-- A key that is given candidates has these, and each other key its own.
 put_is : (ix : Places) (key k : ℤ) (ps : List ℕ) → candidates_of (with_candidates ix key ps) k ≡ cond (eq_by_cmp int_cmp k key) ps (candidates_of ix k)
 put_is ix key k [] = ap (λ o. unwrap_or o []) (get-remove int_cmp_total ix key k) ∙ go (eq_by_cmp int_cmp k key)
   where
@@ -47,9 +48,11 @@ put_is ix key k (p ∷ ps) = ap (λ o. unwrap_or o []) (get-insert int_cmp_total
     go true = refl
     go false = refl
 
+-- The candidates of one entry's key are cut to those that are kept.
 abbrev step_by : (ℕ → Bool) → Places → Places → ℤ × List ℕ → Places
 step_by keep ix now entry = with_candidates now entry.0 (filter keep (candidates_of ix entry.0))
 
+-- Keys that are gone through have the candidates that are kept, and others their own.
 kept_from : (keep : ℕ → Bool) (ix now : Places) (es : List (ℤ × List ℕ)) (k : ℤ)
     → candidates_of (fold (step_by keep ix) now es) k ≡ cond (list_any (eq_by_cmp int_cmp k) (map (λ e. e.0) es)) (filter keep (candidates_of ix k)) (candidates_of now k)
 kept_from keep ix now [] k = refl
@@ -111,6 +114,7 @@ filter_among keep p (x ∷ ps) a k = go (keep x) refl a (λ b. filter_among keep
 
 -- ---- slots that are rolled back
 
+-- Where a session wrote no slot, it did not write this one.
 unwritten : (q : ℕ) (slots : List Slot) (j : ℕ) → list_any (λ slot. is_writer q (writer_of slot.entries)) slots ≡ false → is_writer q (writer_of (get_or slots j bare).entries) ≡ false
 unwritten q [] j is = refl
 unwritten q (x ∷ slots) zero is = go (is_writer q (writer_of x.entries)) is
@@ -124,6 +128,7 @@ unwritten q (x ∷ slots) (suc j) is = unwritten q slots j (go (is_writer q (wri
     go true e = cc
     go false e = e
 
+-- The session that is a slot's writer is tested to be.
 writer_is : (q : ℕ) (o : Option ℕ) → o ≡ Some q → is_writer q o ≡ true
 writer_is q o is = ap (is_writer q) is ∙ self q
   where

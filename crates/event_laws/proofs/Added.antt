@@ -21,9 +21,11 @@ module _ (sh : Shape) (s : Parts) (kinds : (name : Name) → KindIf name (part_n
   shard : (ix : Places) × (part_named (names sh) s (ShardOf t (shard_of key)) ≡ Some (part.Shard ix))
   shard = shards t (shard_of key) inside (shard_small key)
 
+  -- The parts after the changes.
   abbrev parts : Parts
   parts = each_changed d (names sh) s
 
+  -- The shard of the key has the candidate added.
   shard_here : shard_at sh parts t (shard_of key) ≡ with_place key p (shard_at sh s t (shard_of key))
   shard_here =
       ap shard_from (named_changed d (names sh) s (ShardOf t (shard_of key)) ∙ ap (option_map (changed d (ShardOf t (shard_of key)))) shard.1)
@@ -32,6 +34,7 @@ module _ (sh : Shape) (s : Parts) (kinds : (name : Name) → KindIf name (part_n
       ∙ ap (λ b. cond b (with_place key p shard.0) shard.0) (num_refl (shard_of key))
       ∙ ap (λ o. with_place key p (shard_from o)) (sym shard.1)
 
+  -- Each other shard is as it was.
   shard_else : (u i : ℕ) → ((u == t) && (i == shard_of key)) ≡ false → shard_at sh parts u i ≡ shard_at sh s u i
   shard_else u i other = go (part_named (names sh) s (ShardOf u i)) refl (kinds (ShardOf u i))
     where
@@ -72,14 +75,17 @@ module _ (sh : Shape) (s : Parts) (kinds : (name : Name) → KindIf name (part_n
         λ a b. true_false (sym x ∙ ap (λ u. u == t) a ∙ num_refl t),
       )
 
+  -- The shard has the candidate and those that it had, and no other.
   new : Among p (candidates_of (with_place key p (shard_at sh s t (shard_of key))) key)
       × ((k : ℤ) (r : ℕ) → Among r (candidates_of (shard_at sh s t (shard_of key)) k) → Among r (candidates_of (with_place key p (shard_at sh s t (shard_of key))) k))
       × ((k : ℤ) (r : ℕ) → Among r (candidates_of (with_place key p (shard_at sh s t (shard_of key))) k) → Among r (candidates_of (shard_at sh s t (shard_of key)) k) ⊎ ((r ≡ p) × (k ≡ key)))
   new = placed (shard_at sh s t (shard_of key)) key p
 
+  -- The place is a candidate of the key now.
   added : Among p (places_at sh parts t key)
   added = subst (λ ix. Among p (candidates_of ix key)) (sym shard_here) new.0
 
+  -- Each place that was a candidate still is.
   kept : (u r : ℕ) (k : ℤ) → Among r (places_at sh s u k) → Among r (places_at sh parts u k)
   kept u r k a = go (candidates u k)
     where
@@ -88,6 +94,7 @@ module _ (sh : Shape) (s : Parts) (kinds : (name : Name) → KindIf name (part_n
       go (inl x) = subst (Among r) (sym x.1) (new.1 k r (subst (Among r) x.2 a))
       go (inr x) = subst (Among r) (sym x.0) a
 
+  -- A place that is a candidate was one, or is the one that is added.
   more : (u r : ℕ) (k : ℤ) → Among r (places_at sh parts u k) → Among r (places_at sh s u k) ⊎ ((u ≡ t) × (r ≡ p) × (k ≡ key))
   more u r k a = go (candidates u k)
     where

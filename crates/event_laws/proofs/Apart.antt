@@ -6,20 +6,24 @@ use Rattle.event_laws.proofs.Lists.{in_right, member_map}
 use Rattle.event_spec.specs.declared.event.MovePair.{MovePair}
 use Rattle.event_spec.specs.Lawful.{Among, NoPlaceTwice}
 
+-- An element that is among a list stands at one of its places.
 among_index : {X : Type 0} (xs : List X) (y : X) → Among y xs → (k : ℕ) × (k < length xs) × ((d : X) → get_or xs k d ≡ y)
 among_index [] y a = absurd a
 among_index (x ∷ xs) y (inl e) = (0, omega arith, λ d. sym e)
 among_index (x ∷ xs) y (inr a) = let r = among_index xs y a in let less = r.1 in (suc r.0, omega (arith, less), r.2)
 
 module _ {X : Type 0} (R : X → X → Type 0) where
+  -- The first of a list that stands in an order stands so to each behind it.
   pairs_head : (x : X) (xs : List X) (y : X) → AllPairs R (x ∷ xs) → Among y xs → R x y
   pairs_head x xs y all a =
       let r = among_index xs y a in let less = r.1 in
       subst (R x) (r.2 x) (all 0 (suc r.0) x (omega arith) (omega (arith, less)))
 
+  -- Without its first a list stands in its order still.
   pairs_tail : (x : X) (xs : List X) → AllPairs R (x ∷ xs) → AllPairs R xs
   pairs_tail x xs all = λ i j d less inside. all (suc i) (suc j) d (omega (arith, less)) (omega (arith, inside))
 
+  -- In two lists that stand in an order together each of the first does so to each of the second.
   pairs_across : (xs ys : List X) (x y : X) → AllPairs R (xs ++ ys) → Among x xs → Among y ys → R x y
   pairs_across [] ys x y all a b = absurd a
   pairs_across (z ∷ xs) ys x y all (inl e) b = subst (λ z. R z y) (sym e) (pairs_head z (xs ++ ys) y all (in_right xs ys y b))
@@ -34,6 +38,7 @@ module _ {X : Type 0} (R : X → X → Type 0) where
       left (z ∷ xs) ys y (inl e) = inl e
       left (z ∷ xs) ys y (inr a) = inr (left xs ys y a)
 
+  -- Where two lists stand in an order together, the second does.
   pairs_right : (xs ys : List X) → AllPairs R (xs ++ ys) → AllPairs R ys
   pairs_right [] ys all = all
   pairs_right (x ∷ xs) ys all = pairs_right xs ys (pairs_tail x (xs ++ ys) all)
@@ -50,12 +55,15 @@ abbrev pub Apart : List MovePair → Type 0
 Apart [] = Unit {0}
 Apart (first ∷ rest) = (first.source ≢ first.target) × ((other : MovePair) → Among other rest → AreFar first other) × Apart rest
 
+-- The place that the pair's row leaves.
 abbrev source_of : MovePair → ℕ
 source_of pair = pair.source
 
+-- The place that the pair's row comes to.
 abbrev target_of : MovePair → ℕ
 target_of pair = pair.target
 
+-- Pairs are apart where no source is a target and none of either stands twice.
 apart_by : (pairs : List MovePair)
     → ((one other : MovePair) → Among one pairs → Among other pairs → one.source ≢ other.target)
     → (sources : List ℕ) → AllPairs (λ a b. a ≢ b) (map source_of pairs ++ sources)

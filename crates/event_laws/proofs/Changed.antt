@@ -48,6 +48,7 @@ use Rattle.event_spec.specs.declared.part.Part.TheVariants as part
 use Rattle.isolation_spec.specs.declared.command.Act.TheVariants as act
 use Rattle.isolation_spec.specs.declared.command.Answer.TheVariants as answer
 
+-- Where the second part is true, the disjunction is.
 or_some : (a b : Bool) → b ≡ true → (a || b) ≡ true
 or_some true b is = refl
 or_some false b is = is
@@ -65,28 +66,36 @@ module _ (sh : Shape) (s : Parts) (me : OwnKey) (t : ℕ) (key : ℤ)
     (undone : (row : Row) → found sh s me t key ≡ Some row → laid_back (row_after (Some row) (choice row)) (image_before (Some row) (choice row)) ≡ Some row)
     (leaves : (row : Row) → found sh s me t key ≡ Some row → HasKey key (row_after (Some row) (choice row)))
     (gives : (row : Row) → found sh s me t key ≡ Some row → row_after (Some row) (choice row) ≡ value) where
+  -- The machine's transaction of the session.
   abbrev the : Transaction
   the = sessions.tr (slot_at sh s) (places_at sh s) (desk_at sh s) m f.follows me.session me.snapshot has_open
 
+  -- The command of the change, as the machine is given it.
   abbrev command : Command
   command = record { session = me.session; act = a }
 
+  -- The machine may answer what the event replies, and the parts then follow it.
   abbrev Goal : Type 0
   Goal = (m' : IsolationMachine) × IsTold m command (reply_to sh s e) m' × FollowsMachine sh (effect sh s e) m'
 
+  -- The machine's step is a write at the key's place, unless it refuses.
   step_is : step m command ≡ write m the (place_at t key) value (refusal_of_change m the (place_at t key))
   step_is = ap (step_of m command) (sessions.mine (slot_at sh s) (places_at sh s) (desk_at sh s) m f.follows me.session me.snapshot has_open) ∙ steps the
 
+  -- The row that is found is the one that the transaction sees.
   found_here : found sh s me t key ≡ at_place (seen_rows m the) (place_at t key)
   found_here = found_is (slot_at sh s) (places_at sh s) (desk_at sh s) m f.follows me.session me.snapshot has_open t key me.written slots
 
+  -- What is newer at the key than the session's snapshot, if anything.
   abbrev met : Newer
   met = newer_by (slot_at sh s t) (places_at sh s t key) me
 
+  -- What newer is met is the machine's conflict.
   conflict_here : answer_of met ≡ conflict_of m the (place_at t key)
   conflict_here = answers (first_at (λ p. other_writer (slot_at sh s t p).entries me.session) (places_at sh s t key)) (largest (flat_map (λ p. numbers_above (slot_at sh s t p).entries me.snapshot.stamp) (places_at sh s t key)))
       ∙ sessions.conflict_is (slot_at sh s) (places_at sh s) (desk_at sh s) m f.follows me.session me.snapshot has_open t key
 
+  -- A change that is refused as the machine allows leaves the parts, and they follow it.
   refused : (fault : WriteFault) → change_judged sh s me t key ≡ Err fault → Allows m command (outcome_of_fault fault) m → Goal
   refused fault is allowed = (
     m,
@@ -94,14 +103,17 @@ module _ (sh : Shape) (s : Parts) (me : OwnKey) (t : ℕ) (key : ℤ)
     subst (λ s'. FollowsMachine sh s' m) (sym (ap (λ c. each_changed c (names sh) s) (changes ∙ ap (after_change sh s me t choice) is) ∙ all_stay (names sh) s)) f,
   )
 
+  -- Where the machine has a refusal it answers it and stays as it is.
   machine_refuses : (said : Answer) → refusal_of_change m the (place_at t key) ≡ Some said → step m command ≡ (said, m)
   machine_refuses said is = step_is ∙ ap (λ o. (unwrap_or o answer.Accepted, cond (is_some o) m (with_own the.session (place_at t key) value m))) is
 
+  -- Where the machine has no refusal it accepts the change as one of the session's own.
   machine_accepts : refusal_of_change m the (place_at t key) ≡ None → step m command ≡ (answer.Accepted, with_own me.session (place_at t key) value m)
   machine_accepts is =
       step_is ∙ ap (λ o. (unwrap_or o answer.Accepted, cond (is_some o) m (with_own the.session (place_at t key) value m))) is
       ∙ ap (λ x. (answer.Accepted, with_own x (place_at t key) value m)) (sessions.of_session (slot_at sh s) (places_at sh s) (desk_at sh s) m f.follows me.session me.snapshot has_open)
 
+  -- The machine refuses what newer is met, and else a row that is missing.
   refusal_by : (n : Newer) → met ≡ n → refusal_of_change m the (place_at t key) ≡ option_or (answer_of n) (cond (is_none (found sh s me t key)) (Some answer.Missing) None)
   refusal_by n is =
       ap (λ o. option_or o (cond (is_none (at_place (seen_rows m the) (place_at t key))) (Some answer.Missing) None)) (sym conflict_here ∙ ap answer_of is)
@@ -167,17 +179,21 @@ module _ (sh : Shape) (s : Parts) (me : OwnKey) (t : ℕ) (key : ℤ)
 
   -- ---- the cases
 
+  -- The phase of a block of the table.
   abbrev phase : ℕ → Phase
   phase block = (body_at sh s t block).phase
 
+  -- What the change is told, by what is met, the row that is found and its place.
   abbrev told : Newer → Option Row → Option ℕ → Result ℕ WriteFault
   told n row' place = judged
       (option_or (fault_of n) (cond (is_none row') (Some Missing) (option_and_then (λ p. freezing_of (block_of p) (phase (block_of p))) place)))
       place Missing
 
+  -- What a change at a place is told by its block's phase.
   abbrev at_phase : ℕ → Phase → Result ℕ WriteFault
   at_phase p ph = judged (freezing_of (block_of p) ph) (Some p) Missing
 
+  -- Where nothing newer is met and a row is found, the change is as the machine's.
   found_one : (row : Row) (nn : met ≡ newer.Nothing) (fr : found sh s me t key ≡ Some row) → Goal
   found_one row nn fr = go (phase (block_of here.0)) refl
     where
@@ -203,6 +219,7 @@ module _ (sh : Shape) (s : Parts) (me : OwnKey) (t : ℕ) (key : ℤ)
           refused (Freezing (block_of here.0) g) (judged_is (Sealed g) is)
           (is_change, ap (λ (x : Answer × IsolationMachine). x.0) (machine_accepts open'), refl)
 
+  -- Whatever is met and found, the change is as the machine's.
   cases : (n : Newer) (row' : Option Row) → met ≡ n → found sh s me t key ≡ row' → Goal
   cases (newer.Session w) row' nn fr =
       refused (ConflictSession w) (ap (λ x. told x (found sh s me t key) (current_place (slot_at sh s t) (places_at sh s t key))) nn)

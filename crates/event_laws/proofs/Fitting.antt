@@ -43,6 +43,7 @@ seen_fits columns row (e ∷ es) stamp session fit = go (is_in_view e stamp sess
     go true is rest = subst (λ images. IfSome (fold laid_back row images) (Fits columns)) (sym (images_at_view e es stamp session is)) fit.0
     go false is rest = subst (λ images. IfSome (fold laid_back row images) (Fits columns)) (sym (images_passed e es stamp session is)) rest
 
+-- Where all slots fit, the versions of each do, as do those beyond them.
 slot_fits : (columns : List Column) (slots : List Slot) (j : ℕ) → All (λ (slot : Slot). VersionsFit columns slot.row slot.entries) slots
     → VersionsFit columns (get_or slots j bare).row (get_or slots j bare).entries
 slot_fits columns [] j all = tt

@@ -55,31 +55,40 @@ module _ (sh : Shape) (s : Parts) (me : OwnKey) (t : ℕ) (row : Row) (inside : 
     (has : HasOpen (desk_at sh s) me.session me.snapshot)
     (slots : OwnSlot (slot_at sh s) (places_at sh s) me.session t (key_of row) me.written)
     (m : IsolationMachine) (f : FollowsMachine sh s m) where
+  -- The key of the row that is inserted.
   abbrev key : ℤ
   key = key_of row
 
+  -- The event of the insert.
   abbrev e : CoreEvent
   e = event.Insert me t row
 
+  -- The machine's transaction of the session.
   abbrev the : Transaction
   the = sessions.tr (slot_at sh s) (places_at sh s) (desk_at sh s) m f.follows me.session me.snapshot has
 
+  -- The command of the insert, as the machine is given it.
   abbrev command : Command
   command = record { session = me.session; act = act.Insert t row }
 
+  -- The machine's step is a write at the row's place, unless it refuses.
   step_is : step m command ≡ write m the (place_of t row) (Some row) (refusal_of_insert m the (place_of t row))
   step_is = ap (step_of m command) (sessions.mine (slot_at sh s) (places_at sh s) (desk_at sh s) m f.follows me.session me.snapshot has)
 
+  -- The row that is found is the one that the transaction sees.
   found_here : found sh s me t key ≡ at_place (seen_rows m the) (place_of t row)
   found_here = found_is (slot_at sh s) (places_at sh s) (desk_at sh s) m f.follows me.session me.snapshot has t key me.written slots
 
+  -- What is newer at the key than the session's snapshot, if anything.
   abbrev met : Newer
   met = newer_by (slot_at sh s t) (places_at sh s t key) me
 
+  -- What newer is met is the machine's conflict.
   conflict_here : answer_of met ≡ conflict_of m the (place_of t row)
   conflict_here = answers (first_at (λ p. other_writer (slot_at sh s t p).entries me.session) (places_at sh s t key)) (largest (flat_map (λ p. numbers_above (slot_at sh s t p).entries me.snapshot.stamp) (places_at sh s t key)))
       ∙ sessions.conflict_is (slot_at sh s) (places_at sh s) (desk_at sh s) m f.follows me.session me.snapshot has t key
 
+  -- The machine may answer what the event replies, and the parts then follow it.
   abbrev Goal : Type 0
   Goal = (m' : IsolationMachine) × IsTold m command (reply_to sh s e) m' × FollowsMachine sh (effect sh s e) m'
 
@@ -91,9 +100,11 @@ module _ (sh : Shape) (s : Parts) (me : OwnKey) (t : ℕ) (row : Row) (inside : 
     subst (λ s'. FollowsMachine sh s' m) (sym (ap (λ o. each_changed (after_insert sh s me t row o) (names sh) s) is ∙ all_stay (names sh) s)) f,
   )
 
+  -- Where the machine has a refusal it answers it and stays as it is.
   machine_refuses : (said : Answer) → refusal_of_insert m the (place_of t row) ≡ Some said → step m command ≡ (said, m)
   machine_refuses said is = step_is ∙ ap (λ o. (unwrap_or o answer.Accepted, cond (is_some o) m (with_own the.session (place_of t row) (Some row) m))) is
 
+  -- Where the machine has no refusal it accepts the row as one of the session's own.
   machine_accepts : refusal_of_insert m the (place_of t row) ≡ None → step m command ≡ (answer.Accepted, with_own me.session (place_of t row) (Some row) m)
   machine_accepts is =
       step_is ∙ ap (λ o. (unwrap_or o answer.Accepted, cond (is_some o) m (with_own the.session (place_of t row) (Some row) m))) is
@@ -197,9 +208,11 @@ module _ (sh : Shape) (s : Parts) (me : OwnKey) (t : ℕ) (row : Row) (inside : 
 
   -- ---- the cases
 
+  -- What the insert is told, by what is met, the row that is found and the place.
   abbrev told : Newer → Option Row → Option ℕ → Result ℕ WriteFault
   told n row' place = judged (option_or (fault_of n) (cond (is_some row') (Some Exists) None)) place (Full (head_at sh s t).inserts)
 
+  -- The place to which the row goes: where it was written, or the table's next.
   abbrev goes : Option ℕ
   goes = option_or me.written (next_place (head_at sh s t) (slots_of sh t))
 
@@ -209,6 +222,7 @@ module _ (sh : Shape) (s : Parts) (me : OwnKey) (t : ℕ) (row : Row) (inside : 
       ap (λ o. option_or o (cond (is_some (at_place (seen_rows m the) (place_of t row))) (Some answer.Exists) None)) (sym conflict_here ∙ ap answer_of is)
       ∙ ap (λ o. option_or (answer_of n) (cond (is_some o) (Some answer.Exists) None)) (sym found_here)
 
+  -- Whatever is met and found, and wherever the row goes, the insert is as the machine's.
   cases : (n : Newer) (row' : Option Row) (place : Option ℕ) → met ≡ n → found sh s me t key ≡ row' → goes ≡ place → Goal
   cases (newer.Session w) row' place nn fr gp =
       refused (ConflictSession w) (ap (λ x. told x (found sh s me t key) goes) nn) (machine_refuses (answer.ConflictSession w) (refusal_by (newer.Session w) nn))

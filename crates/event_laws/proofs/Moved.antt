@@ -74,12 +74,15 @@ module _ (sh : Shape) (s : Parts) (m : IsolationMachine) (f : FollowsMachine sh 
     (newest : (desk_at sh s).newest ≤ stamp)
     (later : (session : ℕ) (snapshot : Snapshot) → HasOpen (desk_at sh s) session snapshot → snapshot.stamp < stamp)
     (row : Row) (pair : MovePair) (ready : IsReady sh s t row pair) (two : pair.source ≢ pair.target) where
+  -- The changes of the pair's first half.
   abbrev first : Changes
   first = leaving t stamp row g pair
 
+  -- The parts after the first half.
   abbrev half : Parts
   half = each_changed first (names sh) s
 
+  -- The changes of the pair's second half.
   abbrev second : Changes
   second = coming t stamp row pair
 
@@ -87,12 +90,15 @@ module _ (sh : Shape) (s : Parts) (m : IsolationMachine) (f : FollowsMachine sh 
   abbrev pub pair_moved : Parts
   pair_moved = each_changed second (names sh) half
 
+  -- After the first half each part is of its name's kind.
   kinds : (name : Name) → KindIf name (part_named (names sh) half name)
   kinds = kinds_after sh s first f.kinds
 
+  -- After the first half each shard is there.
   shards : (u i : ℕ) → HasTable sh u → Rattle.std.proofs.Common.◌<◌ i 8 → (places : Places) × (part_named (names sh) half (ShardOf u i) ≡ Some (part.Shard places))
   shards = shards_after sh s first f.shards
 
+  -- After the first half each body has its table's slots.
   wide_half : Wide sh half t
   wide_half = wide_after sh s t first (λ b x. length_at t (block_of pair.source) (slot_of pair.source) (moved_out stamp row) t b x) wide
 
@@ -100,24 +106,28 @@ module _ (sh : Shape) (s : Parts) (m : IsolationMachine) (f : FollowsMachine sh 
   pub pair_wide : Wide sh pair_moved t
   pair_wide = wide_after sh half t second (λ b x. length_at t (block_of pair.target) (slot_of pair.target) (moved_in stamp row) t b x) wide_half
 
+  -- After the first half the row has left its source.
   left_here : slot_at sh half t pair.source ≡ moved_out stamp row (slot_at sh s t pair.source)
   left_here =
       let body = wide (block_of pair.source) ready.source_place.0 in
       let inside = ready.source_place.1 in let size = body.2 in
       write_here sh s first (moved_out stamp row) t pair.source body.0 f.kinds body.1 (omega (arith, inside, size)) (λ u b x. refl)
 
+  -- The first half leaves each slot but the source.
   left_else : (u r : ℕ) → ((u ≡ t) → (r ≡ pair.source) → ⊥) → slot_at sh half u r ≡ slot_at sh s u r
   left_else =
       let body = wide (block_of pair.source) ready.source_place.0 in
       let inside = ready.source_place.1 in let size = body.2 in
       write_else sh s first (moved_out stamp row) t pair.source body.0 f.kinds body.1 (omega (arith, inside, size)) (λ u b x. refl)
 
+  -- After the second half the row has come to its target.
   come_here : slot_at sh pair_moved t pair.target ≡ moved_in stamp row (slot_at sh half t pair.target)
   come_here =
       let body = wide_half (block_of pair.target) ready.target_place.0 in
       let inside = ready.target_place.1 in let size = body.2 in
       write_here sh half second (moved_in stamp row) t pair.target body.0 kinds body.1 (omega (arith, inside, size)) (λ u b x. refl)
 
+  -- The second half leaves each slot but the target.
   come_else : (u r : ℕ) → ((u ≡ t) → (r ≡ pair.target) → ⊥) → slot_at sh pair_moved u r ≡ slot_at sh half u r
   come_else =
       let body = wide_half (block_of pair.target) ready.target_place.0 in
@@ -134,6 +144,7 @@ module _ (sh : Shape) (s : Parts) (m : IsolationMachine) (f : FollowsMachine sh 
     others = λ u r not_source not_target. come_else u r not_target ∙ left_else u r not_source;
   }
 
+  -- The first half leaves the candidates of each key.
   half_places : (u : ℕ) (k : ℤ) → places_at sh half u k ≡ places_at sh s u k
   half_places u k = places_stay sh s first (λ t i x. refl) u k (f.kinds (ShardOf u (shard_of k)))
 
@@ -193,6 +204,7 @@ moving t stamp row g pairs = record nothing {
   desk = g;
 }
 
+-- The changes of both halves of a pair, and of the desk.
 abbrev pairing : ℕ → ℕ → Row → (DeskState → DeskState) → MovePair → Changes
 pairing t stamp row g pair = record nothing {
   shard = (coming t stamp row pair).shard;
@@ -200,6 +212,7 @@ pairing t stamp row g pair = record nothing {
   desk = g;
 }
 
+-- The test of two numbers is the same in either order.
 num_flip : (a b : ℕ) → (a == b) ≡ (b == a)
 num_flip a b = grind (arith, nat_tests)
 
@@ -258,6 +271,7 @@ moving_split sh s t stamp row g first rest =
     (each_twice (leaving t stamp (row first) g first) (coming t stamp (row first) first) (pairing t stamp (row first) g first)
     (record { head = λ u x. refl; shard = λ u i x. refl; body = λ u b x. refl; desk = λ x. refl }) (names sh) s)
 
+-- A choice between two that are the same is either.
 cond_same : {X : Type 0} (b : Bool) (x : X) → cond b x x ≡ x
 cond_same true x = refl
 cond_same false x = refl

@@ -112,6 +112,7 @@ desk_named sh = in_right (heads_in sh ++ shards_in sh ++ bodies_in sh) (TheDesk 
 
 -- ---- the parts of a sound state
 
+-- Where a name has a part of its kind, its part is of that kind.
 kind_if : (name : Name) (o : Option CorePart) → IsOfKind name o → KindIf name o
 kind_if (HeadOf t) None k = tt
 kind_if (HeadOf t) (Some (part.Head x)) k = tt
@@ -134,6 +135,7 @@ kind_if TheDesk (Some (part.Shard x)) k = absurd k
 kind_if TheDesk (Some (part.Body x)) k = absurd k
 kind_if TheDesk (Some (part.Desk x)) k = tt
 
+-- A part of a head's kind is a head.
 a_head : (t : ℕ) (o : Option CorePart) → IsOfKind (HeadOf t) o → (x : Head) × (o ≡ Some (part.Head x))
 a_head t None k = absurd k
 a_head t (Some (part.Head x)) k = (x, refl)
@@ -141,6 +143,7 @@ a_head t (Some (part.Shard x)) k = absurd k
 a_head t (Some (part.Body x)) k = absurd k
 a_head t (Some (part.Desk x)) k = absurd k
 
+-- A part of a shard's kind is the candidates of a shard.
 a_shard : (t i : ℕ) (o : Option CorePart) → IsOfKind (ShardOf t i) o → (x : Places) × (o ≡ Some (part.Shard x))
 a_shard t i None k = absurd k
 a_shard t i (Some (part.Head x)) k = absurd k
@@ -148,6 +151,7 @@ a_shard t i (Some (part.Shard x)) k = (x, refl)
 a_shard t i (Some (part.Body x)) k = absurd k
 a_shard t i (Some (part.Desk x)) k = absurd k
 
+-- A part of a body's kind is a body.
 a_body : (t b : ℕ) (o : Option CorePart) → IsOfKind (BodyOf t b) o → (x : Body) × (o ≡ Some (part.Body x))
 a_body t b None k = absurd k
 a_body t b (Some (part.Head x)) k = absurd k
@@ -155,6 +159,7 @@ a_body t b (Some (part.Shard x)) k = absurd k
 a_body t b (Some (part.Body x)) k = (x, refl)
 a_body t b (Some (part.Desk x)) k = absurd k
 
+-- A part of the desk's kind is a desk.
 a_desk : (o : Option CorePart) → IsOfKind TheDesk o → (x : DeskState) × (o ≡ Some (part.Desk x))
 a_desk None k = absurd k
 a_desk (Some (part.Head x)) k = absurd k

@@ -46,6 +46,7 @@ slot_key_is key slot keyed filled = go slot.row slot.entries keyed filled
 -- ---- the writes of a session
 
 module _ (sh : Shape) (s : Parts) (ok : Sound sh s) (q : ℕ) where
+  -- How the sound state follows a machine.
   abbrev f : FollowsMachine sh s ok.follows.0
   f = follows_machine sh s ok
 

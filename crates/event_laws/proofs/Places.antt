@@ -61,15 +61,18 @@ has_among p (x ∷ ps) is = go (x == p) refl is (has_among p ps)
     go true e is rest = inl (grind (arith, nat_tests))
     go false e is rest = inr (rest is)
 
+-- A place that is put at the end is among the others.
 among_push : (p : ℕ) (ps : List ℕ) → Among p (ps ++ p ∷ [])
 among_push p [] = inl refl
 among_push p (x ∷ ps) = inr (among_push p ps)
 
+-- A place stays among others when one is put at their end.
 among_stays : (r p : ℕ) (ps : List ℕ) → Among r ps → Among r (ps ++ p ∷ [])
 among_stays r p [] a = absurd a
 among_stays r p (x ∷ ps) (inl e) = inl e
 among_stays r p (x ∷ ps) (inr a) = inr (among_stays r p ps a)
 
+-- A place among others with one at their end is one of them, or that one.
 among_more : (r p : ℕ) (ps : List ℕ) → Among r (ps ++ p ∷ []) → Among r ps ⊎ (r ≡ p)
 among_more r p [] (inl e) = inr e
 among_more r p [] (inr a) = absurd a
@@ -95,6 +98,7 @@ key_cases k key = go (int_cmp k key) refl
     go Equal e = inl (ap is_eq e, int_cmp-IsAntisymmetric k key e)
     go Greater e = inr (ap is_eq e, apart (ap is_eq e))
 
+-- A key with a candidate more has it at the end, and each other key its own.
 more_is : (ix : Places) (key k : ℤ) (ps : List ℕ) (p : ℕ) → candidates_of (with_candidates ix key (ps ++ p ∷ [])) k ≡ cond (eq_by_cmp int_cmp k key) (ps ++ p ∷ []) (candidates_of ix k)
 more_is ix key k ps p = go (ps ++ p ∷ []) (filled ps)
   where

@@ -22,12 +22,15 @@ use Rattle.event_spec.specs.declared.part.Part.TheVariants as part
 use Rattle.std.specs.FinMap as finite
 
 module _ (sh : Shape) (s : Parts) (t b oldest : ℕ) (m : IsolationMachine) (live : (stamp number : ℕ) → IsLive (desk_at sh s) stamp number → oldest ≤ stamp) (f : FollowsMachine sh s m) where
+  -- The event of the pruning.
   abbrev e : CoreEvent
   e = event.Prune t b oldest
 
+  -- The changes that the pruning makes.
   abbrev c : Changes
   c = changes_of sh s e
 
+  -- The parts after the pruning event.
   abbrev after : Parts
   after = effect sh s e
 
@@ -39,6 +42,7 @@ module _ (sh : Shape) (s : Parts) (t b oldest : ℕ) (m : IsolationMachine) (liv
       go true is = inl (ap (λ y. slot_in (cond y (pruned_in oldest body) body) j) is ∙ slot_map (pruned oldest) refl body.slots j)
       go false is = inr (ap (λ y. slot_in (cond y (pruned_in oldest body) body) j) is)
 
+  -- Each slot is pruned or as it was.
   each : (u p : ℕ) → (slot_at sh after u p ≡ pruned oldest (slot_at sh s u p)) ⊎ (slot_at sh after u p ≡ slot_at sh s u p)
   each u p = go (body_cases sh s c u (block_of p) (f.kinds (BodyOf u (block_of p)))) (in_body u (block_of p) (body_at sh s u (block_of p)) (slot_of p))
     where
@@ -66,6 +70,7 @@ module _ (sh : Shape) (s : Parts) (t b oldest : ℕ) (m : IsolationMachine) (liv
       go (inl is) = ap (λ y. slot_in y (slot_of p)) is
       go (inr none) = ap (λ y. slot_in y (slot_of p)) none.0 ∙ sym (ap (λ y. slot_in (at_both t b (pruned_in oldest) t (block_of p) y) (slot_of p)) none.1 ∙ none_in (slot_of p))
 
+  -- A place is kept where the pruning does not leave its slot bare.
   abbrev keep : ℕ → ℕ → Bool
   keep u place = not (is_bare (slot_in (at_both t b (pruned_in oldest) u (block_of place) (body_at sh s u (block_of place))) (slot_of place)))
 
@@ -99,13 +104,16 @@ module _ (sh : Shape) (s : Parts) (t b oldest : ℕ) (m : IsolationMachine) (liv
       go y' y (Some (part.Body x)) is k = absurd k
       go y' y (Some (part.Desk x)) is k = absurd k
 
+  -- Numbers that are tested to be equal are.
   num : (x y : ℕ) → (x == y) ≡ true → x ≡ y
   num x y e = grind (arith, nat_tests)
 
+  -- What has a true negation is false.
   not_false : (x : Bool) → not x ≡ true → x ≡ false
   not_false true e = cc
   not_false false e = refl
 
+  -- A slot of the table is bare after the pruning where the pruned body has it bare.
   seen_swept : (u p : ℕ) → (u == t) ≡ true → is_bare (slot_at sh after u p) ≡ is_bare (slot_in (at_both t b (pruned_in oldest) u (block_of p) (body_at sh s u (block_of p))) (slot_of p))
   seen_swept u p e =
       let same : u ≡ t = num u t e in
@@ -120,6 +128,7 @@ module _ (sh : Shape) (s : Parts) (t b oldest : ℕ) (m : IsolationMachine) (liv
       go (inl is) = ap (λ y. slot_in y (slot_of p)) is ∙ ap (λ y. slot_in (cond (y && (block_of p == b)) (pruned_in oldest (body_at sh s u (block_of p))) (body_at sh s u (block_of p))) (slot_of p)) e
       go (inr none) = ap (λ y. slot_in y (slot_of p)) none.0 ∙ ap (λ y. slot_in y (slot_of p)) (sym none.1)
 
+  -- A candidate after the pruning was one before, and its slot is not bare.
   kept : (u p : ℕ) (key : ℤ) → Among p (places_at sh after u key) → Among p (places_at sh s u key) × (is_bare (slot_at sh after u p) ≡ false)
   kept u p key a = go (places u key)
     where
@@ -131,6 +140,7 @@ module _ (sh : Shape) (s : Parts) (t b oldest : ℕ) (m : IsolationMachine) (liv
       go (inr x) =
           let old = subst (Among p) x.1 a in (old, ap is_bare (other_slot u p x.0) ∙ f.follows.index.filled u p key old)
 
+  -- A candidate whose slot is not bare after the pruning is one still.
   stays : (u p : ℕ) (key : ℤ) → Among p (places_at sh s u key) → is_bare (slot_at sh after u p) ≡ false → Among p (places_at sh after u key)
   stays u p key a is = go (places u key)
     where

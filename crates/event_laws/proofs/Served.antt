@@ -71,26 +71,32 @@ abbrev is_some_own : {X : Type 0} → PlaceMap X → Bool
 is_some_own [] = false
 is_some_own (e ∷ own) = true
 
+-- The core and the machine test alike whether anything was written.
 same_some : (own : PlaceMap ℕ) → is_some_own own ≡ is_some_write own
 same_some [] = refl
 same_some (e ∷ own) = refl
 
+-- Where something was written, there is an entry, which its place has.
 first_of : {X : Type 0} (own : PlaceMap X) → is_some_own own ≡ true → (e : Place × X) × (at_place own e.0 ≡ Some e.1)
 first_of [] is = cc
 first_of (e ∷ own) is = (e, ap (λ b. cond b (Some e.1) (at_place own e.0)) (place_self e.0))
 
+-- Where not something was written, nothing was.
 none_first : {X : Type 0} (own : PlaceMap X) → is_some_own own ≡ false → own ≡ []
 none_first [] is = refl
 none_first (e ∷ own) is = cc
 
 module _ (sh : Shape) (s : Parts) (me : OwnTransaction) (has : HasOpen (desk_at sh s) me.session me.snapshot)
     (slots : (t : ℕ) (key : ℤ) → OwnSlot (slot_at sh s) (places_at sh s) me.session t key (at_place me.writes (place_at t key))) (m : IsolationMachine) (f : FollowsMachine sh s m) where
+  -- The session whose transaction is committed.
   abbrev q : ℕ
   q = me.session
 
+  -- The machine's transaction of the session.
   abbrev the : Transaction
   the = sessions.tr (slot_at sh s) (places_at sh s) (desk_at sh s) m f.follows me.session me.snapshot has
 
+  -- The machine has the session's transaction open.
   is_mine : transaction_of q m ≡ Some the
   is_mine = sessions.mine (slot_at sh s) (places_at sh s) (desk_at sh s) m f.follows me.session me.snapshot has
 
@@ -120,23 +126,29 @@ module _ (sh : Shape) (s : Parts) (me : OwnTransaction) (has : HasOpen (desk_at 
   step_is : step m (command_of q act.Commit) ≡ commit m the the.own
   step_is = ap (step_of m (command_of q act.Commit)) is_mine
 
+  -- The transaction is that of the session.
   session_is : the.session ≡ q
   session_is = sessions.of_session (slot_at sh s) (places_at sh s) (desk_at sh s) m f.follows me.session me.snapshot has
 
+  -- The machine's commit of writes takes the next number and adds them to its history.
   some_step : (own : WriteSet) → is_some_own own ≡ true → commit m the own ≡ (answer.Committed (Some (length m.history + 1)), record (without the.session m) { history = m.history ++ the.own ∷ [] })
   some_step [] is = cc
   some_step (e ∷ own) is = refl
 
+  -- The machine's commit without writes takes no number and leaves its history.
   none_step : (own : WriteSet) → is_some_own own ≡ false → commit m the own ≡ (answer.Committed None, without the.session m)
   none_step [] is = refl
   none_step (e ∷ own) is = cc
 
+  -- The event of the commit.
   abbrev c : CoreEvent
   c = event.Commit me
 
+  -- The session has its pass at the desk.
   pass : HasPass (desk_at sh s) me.session
   pass = has_pass (desk_at sh s) me.session me.snapshot has
 
+  -- A commit with writes commits each slot, and one without leaves it.
   slot_when : (b : Bool) → is_some_write me.writes ≡ b → (t p : ℕ) → slot_at sh (effect sh s c) t p
       ≡ cond b (committed q ((desk_at sh s).newest + 1) ((desk_at sh s).commits + 1) (slot_at sh s t p)) (slot_at sh s t p)
   slot_when true is t p =
@@ -147,9 +159,11 @@ module _ (sh : Shape) (s : Parts) (me : OwnTransaction) (has : HasOpen (desk_at 
       slot_after sh s (changes_of sh s c) (λ x. x) refl t p (f.kinds (BodyOf t (block_of p)))
       (ap (λ (b : Bool). slot_in ((cond b (committed_in q ((desk_at sh s).newest + 1) ((desk_at sh s).commits + 1)) (λ body. body)) (body_at sh s t (block_of p))) (slot_of p)) is)
 
+  -- A commit closes its session, and with writes takes the next stamp and number.
   desk_when : (b : Bool) → is_some_write me.writes ≡ b → desk_at sh (effect sh s c) ≡ closed q (cond b (numbered (desk_at sh s)) (desk_at sh s))
   desk_when b is = desk_at_after sh s (changes_of sh s c) f.desk.0 f.desk.1 ∙ ap (λ b. closed q (cond b (numbered (desk_at sh s)) (desk_at sh s))) is
 
+  -- A commit leaves the candidates of each key.
   places_same : (t : ℕ) (key : ℤ) → places_at sh (effect sh s c) t key ≡ places_at sh s t key
   places_same t key = places_stay sh s (changes_of sh s c) (λ t i places. refl) t key (f.kinds (ShardOf t (shard_of key)))
 
@@ -159,6 +173,7 @@ module _ (sh : Shape) (s : Parts) (me : OwnTransaction) (has : HasOpen (desk_at 
       let old = f.follows.own.writers t p q w in
       none_not (at_place me.writes (place_at t old.2)) p (ap (λ (own : PlaceMap ℕ). at_place own (place_at t old.2)) (none_first me.writes (same_some me.writes ∙ is))) ((slots t old.2).all p old.3 w)
 
+  -- With writes or without, the commit is as the machine's.
   served : (b : Bool) → is_some_write me.writes ≡ b → (m' : IsolationMachine) × IsTold m (command_of q act.Commit) (reply_to sh s c) m' × FollowsMachine sh (effect sh s c) m'
   served true is = (
     after_commit (slot_at sh s) (places_at sh s) (desk_at sh s) m f.follows q pass the is_mine,

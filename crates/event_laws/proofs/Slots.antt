@@ -25,6 +25,7 @@ module _ (sh : Shape) (s : Parts) (c : Changes) (g : Slot → Slot) (t p : ℕ) 
     (kinds : (name : Name) → KindIf name (part_named (names sh) s name))
     (there : part_named (names sh) s (BodyOf t (block_of p)) ≡ Some (part.Body body)) (inside : slot_of p < length body.slots)
     (bodies : (u b : ℕ) (x : Body) → c.body u b x ≡ at_both t (block_of p) (with_slot (slot_of p) g) u b x) where
+  -- The parts after the changes.
   abbrev after : Parts
   after = each_changed c (names sh) s
 

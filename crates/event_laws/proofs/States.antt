@@ -15,9 +15,11 @@ use Rattle.event_spec.specs.declared.part.Head.{Head}
 use Rattle.event_spec.specs.Follows.{Follows}
 use Rattle.event_spec.specs.declared.part.Part.TheVariants as part
 
+-- Numbers that are tested to be equal are.
 num : (a b : ℕ) → (a == b) ≡ true → a ≡ b
 num a b e = grind (arith, nat_tests)
 
+-- Both parts of a conjunction that is true.
 both : (a b : Bool) → (a && b) ≡ true → (a ≡ true) × (b ≡ true)
 both true b e = (refl, e)
 both false b e = cc

@@ -48,22 +48,26 @@ use Rattle.txn_desk.specs.Desk.{DeskState}
 use Rattle.txn_desk.specs.Oldest.{HasPass, snapshot_of, oldest_of, least_or, open_starts}
 use Rattle.txn_desk.proofs.LeastStart.{BeganFrom, least_below}
 
+-- The machine may step as the event replies, and the core after it follows that.
 abbrev Goal : Shape → Parts → CoreEvent → IsolationMachine → Type 0
 Goal sh s e m = (next : IsolationMachine) × IsStep (command_in e) m (reply_to sh s e) next × FollowsMachine sh (effect sh s e) next
 
 -- ---- a stamp that the oldest snapshot is not below
 
 module _ (desk : DeskState) (bounds : (session : ℕ) (snapshot : Snapshot) → 1 ≤ session → snapshot_of desk session ≡ Some snapshot → snapshot.stamp ≤ desk.newest) where
+  -- What holds at each place of a list holds of all of it.
   all_by_index : {X : Type 0} (P : Option X → Type 0) (xs : List (Option X)) → ((i : ℕ) → i < length xs → P (get_or xs i None)) → All P xs
   all_by_index P [] each = All-nil P
   all_by_index P (x ∷ xs) each =
       All-cons P x xs (each 0 (omega arith)) (all_by_index P xs (λ i less. each (suc i) (omega (arith, less))))
 
+  -- What holds of all of a list, and of nothing, holds at any place.
   all_index : {X : Type 0} (P : Option X → Type 0) (xs : List (Option X)) (i : ℕ) → All P xs → P None → P (get_or xs i None)
   all_index P [] i all none = none
   all_index P (x ∷ xs) zero all none = All-head P x xs all
   all_index P (x ∷ xs) (suc i) all none = all_index P xs i (All-tail P x xs all) none
 
+  -- No snapshot that is open has a stamp above the newest.
   begun : All (λ (o : Option Snapshot). IfSome o (λ snapshot. snapshot.stamp ≤ desk.newest)) desk.open_snapshots
   begun = all_by_index (λ o. IfSome o (λ snapshot. snapshot.stamp ≤ desk.newest)) desk.open_snapshots (λ i less. at i (get_or desk.open_snapshots i None) refl)
     where
@@ -87,10 +91,12 @@ module _ (desk : DeskState) (bounds : (session : ℕ) (snapshot : Snapshot) → 
 
 -- ---- a move
 
+-- Both parts of a conjunction that is true.
 both : (a b : Bool) → (a && b) ≡ true → (a ≡ true) × (b ≡ true)
 both true b e = (refl, e)
 both false b e = cc
 
+-- A slot with the key's row and no entry is the plain one of a row with this key.
 plain_is : (key : ℤ) (slot : Slot) → has_key key slot.row ≡ true → has_none slot.entries ≡ true → (slot ≡ plain (unwrap_or slot.row [])) × (key_of (unwrap_or slot.row []) ≡ key)
 plain_is key slot k n = go slot.row slot.entries refl refl k n
   where
@@ -103,6 +109,7 @@ plain_is key slot k n = go slot.row slot.entries refl refl k n
       ap (λ (o : Option Row). key_of (unwrap_or o [])) r ∙ (Decides-int_eq (key_of row) key).0 k,
     )
 
+-- A plain slot of a row is not bare.
 filled_plain : (row : Row) (slot : Slot) → slot ≡ plain row → is_bare slot ≡ false
 filled_plain row slot is = ap is_bare is
 
@@ -178,6 +185,7 @@ module _ (sh : Shape) (s : Parts) (ok : Sound sh s) (m : IsolationMachine) (f : 
 -- ---- the events
 
 module _ (sh : Shape) (s : Parts) (shape : IsShape sh) (ok : Sound sh s) (m : IsolationMachine) (f : FollowsMachine sh s m) where
+  -- A lawful move is as the machine's.
   move_step : (t : ℕ) (moves : List MovePair) → IsLawful sh (event.Move t moves) s → Goal sh s (event.Move t moves) m
   move_step t moves lawful = go (held_pairs sh s t moves) refl
     where
@@ -204,6 +212,7 @@ module _ (sh : Shape) (s : Parts) (shape : IsShape sh) (ok : Sound sh s) (m : Is
             (λ pair a. each pair (subst (Among pair) (sym is) a)) (subst Apart is far) ticked refl),
       )
 
+  -- After a seal the core still follows the machine.
   seal_step : (t b : ℕ) → FollowsMachine sh (effect sh s (event.Seal t b)) m
   seal_step t b = go (is_none (seal_fault (is_head sh s t b) (body_at sh s t b))) refl
     where
@@ -215,6 +224,7 @@ module _ (sh : Shape) (s : Parts) (shape : IsShape sh) (ok : Sound sh s) (m : Is
           subst (λ y. FollowsMachine sh (each_changed (cond y (record nothing { body = at_both t b sealed }) nothing) (names sh) s) m) (sym is)
           (stays sh s m f)
 
+  -- A lawful begin is as the machine's.
   begin_step : (q : ℕ) → IsLawful sh (event.Begin q) s → Goal sh s (event.Begin q) m
   begin_step q lawful = begin_serves sh s q pass (idle (snapshot_of (desk_at sh s) q) refl) m f
     where
@@ -231,6 +241,7 @@ module _ (sh : Shape) (s : Parts) (shape : IsShape sh) (ok : Sound sh s) (m : Is
   as_before : (e : CoreEvent) → FollowsMachine sh (effect sh s e) m → (next : IsolationMachine) × (next ≡ m) × FollowsMachine sh (effect sh s e) next
   as_before e after = (m, refl, after)
 
+  -- Each lawful event is as the machine's.
   event_step : (e : CoreEvent) → IsLawful sh e s → Goal sh s e m
   event_step (event.Begin q) lawful = begin_step q lawful
   event_step (event.Get own t key) lawful = get_serves sh s own t key (key_open sh s ok own t key lawful.0) (key_slot sh s ok own t key lawful.0) m f

@@ -57,17 +57,21 @@ use Rattle.explained_laws.proofs.Holding.{Holds}
 use Rattle.explained_laws.proofs.Keys.{KeysFit, least_fits}
 use Rattle.explained_laws.proofs.Shown.{silent_or}
 
+-- What is true is not false.
 true_false : true ≡ false → ⊥
 true_false e = cc
 
+-- Where nothing is told, no line is.
 none_is : (line : Said) → None ≡ Some line → ⊥
 none_is line e = cc
 
+-- What is told as one of two lines and as the other is one line.
 same_line : (a b : Said) → Some a ≡ Some b → a ≡ b
 same_line a b e = cc
 
 -- ---- refusals, and want of memory
 
+-- That there is no transaction may stand where a command needs one.
 needs_stands : (asked : Command) (own : Option OwnTransaction) (line : Said) → IsReplyWithout asked said.NoTransaction → cond (is_none own) (Some said.NoTransaction) None ≡ Some line → MayStand asked line
 needs_stands asked None line is e = inr (subst (IsReplyWithout asked) (same_line said.NoTransaction line e) is)
 needs_stands asked (Some t) line is e = absurd (none_is line e)
@@ -121,6 +125,7 @@ insert_fault None true place n fault e = inr (inl (cc))
 insert_fault None false None n fault e = inr (inr (cc))
 insert_fault None false (Some p) n fault e = absurd (let never : ⊥ = cc e in never)
 
+-- What refuses a change is a conflict, a missing row, or the freezing of its block.
 change_fault : (conflict : Option WriteFault) (b : Bool) (frozen : Option WriteFault) (place : Option ℕ) (fault : WriteFault) → judged (option_or conflict (cond b (Some refusal.Missing) frozen)) place refusal.Missing ≡ Err fault
     → (conflict ≡ Some fault) ⊎ ((fault ≡ refusal.Missing) ⊎ (frozen ≡ Some fault))
 change_fault (Some x) b frozen place fault e = inl (cc)
@@ -135,6 +140,7 @@ IsConflict (refusal.ConflictSession q) = Unit {0}
 IsConflict (refusal.ConflictCommit n) = Unit {0}
 IsConflict _ = ⊥
 
+-- The fault of what newer is met is a conflict.
 conflict_is : (met : Newer) (fault : WriteFault) → fault_of met ≡ Some fault → IsConflict fault
 conflict_is newer.Nothing fault e = absurd (let never : ⊥ = cc e in never)
 conflict_is (newer.Session w) fault e = subst (λ (o : Option WriteFault). IfSome o IsConflict) e tt
@@ -149,6 +155,7 @@ IsInsertFault (refusal.Full n) = Unit {0}
 IsInsertFault refusal.Missing = ⊥
 IsInsertFault (refusal.Freezing b g) = ⊥
 
+-- An update or a delete may have this fault.
 abbrev IsChangeFault : WriteFault → Type 0
 IsChangeFault (refusal.ConflictSession q) = Unit {0}
 IsChangeFault (refusal.ConflictCommit n) = Unit {0}
@@ -157,6 +164,7 @@ IsChangeFault (refusal.Full n) = ⊥
 IsChangeFault refusal.Missing = Unit {0}
 IsChangeFault (refusal.Freezing b g) = Unit {0}
 
+-- A conflict is a fault that an insert may have.
 conflict_insert : (fault : WriteFault) → IsConflict fault → IsInsertFault fault
 conflict_insert (refusal.ConflictSession q) is = tt
 conflict_insert (refusal.ConflictCommit n) is = tt
@@ -165,6 +173,7 @@ conflict_insert (refusal.Full n) is = absurd is
 conflict_insert refusal.Missing is = absurd is
 conflict_insert (refusal.Freezing b g) is = absurd is
 
+-- A conflict is a fault that an update or a delete may have.
 conflict_change : (fault : WriteFault) → IsConflict fault → IsChangeFault fault
 conflict_change (refusal.ConflictSession q) is = tt
 conflict_change (refusal.ConflictCommit n) is = tt
@@ -173,6 +182,7 @@ conflict_change (refusal.Full n) is = absurd is
 conflict_change refusal.Missing is = absurd is
 conflict_change (refusal.Freezing b g) is = absurd is
 
+-- The freezing of a block is a fault that an update or a delete may have.
 frozen_change : (block : ℕ) (phase : Phase) (fault : WriteFault) → freezing_of block phase ≡ Some fault → IsChangeFault fault
 frozen_change block Loose fault e = absurd (let never : ⊥ = cc e in never)
 frozen_change block (Imaged g) fault e = absurd (let never : ⊥ = cc e in never)
@@ -188,6 +198,7 @@ module _ (sh : Shape) (s : Parts) (own : OwnKey) (t : ℕ) where
       go (inr (inl e)) = subst IsInsertFault (sym e) tt
       go (inr (inr e)) = subst IsInsertFault (sym e) tt
 
+  -- What an update or a delete is refused for is a fault that it may have.
   change_kind : (key : ℤ) (fault : WriteFault) → change_judged sh s own t key ≡ Err fault → IsChangeFault fault
   change_kind key fault e = go (change_fault (fault_of (newer_by (slot_at sh s t) (places_at sh s t key) own)) (is_none (found sh s own t key))
       (option_and_then (λ place. freezing_of (block_of place) (body_at sh s t (block_of place)).phase) (current_place (slot_at sh s t) (places_at sh s t key)))
@@ -207,15 +218,19 @@ module _ (sh : Shape) (s : Parts) (own : OwnKey) (t : ℕ) where
 
 module _ (script : Script) (few_seats : script.sessions + script.workers < 2 ^ 32) (parts : Parts) (front : List Occurrence) (at next : IsolationMachine) (lines : List Entry)
     (held : Holds script parts front at lines) (worker : Bool) where
+  -- The line that is told, if one is, may stand where the command is due.
   abbrev Stands : Command → Option Said → Type 0
   Stands asked told = (line : Said) → told ≡ Some line → MayStand asked line
 
+  -- Where this line is told and may stand, what is told may.
   stands : (asked : Command) (told : Option Said) (here : Said) → told ≡ Some here → MayStand asked here → Stands asked told
   stands asked told here is may line tells = subst (MayStand asked) (same_line here line (sym is ∙ tells)) may
 
+  -- Where nothing is told, no line has to stand.
   stands_none : (asked : Command) (told : Option Said) → told ≡ None → Stands asked told
   stands_none asked told is line tells = absurd (none_is line (sym is ∙ tells))
 
+  -- The count of commits is a number of 63 bits.
   commits_few : (desk_at (shape_of script) parts).commits < 2 ^ 63
   commits_few = let c = held.narrow.commits in let n = held.narrow.stamps in omega (arith, c, n)
 
@@ -262,6 +277,7 @@ module _ (script : Script) (few_seats : script.sessions + script.workers < 2 ^ 3
   change_stands asked own table key what told false (Err refusal.Exists) may is tells small step freezing = absurd (change_kind (shape_of script) parts own table key refusal.Exists is)
   change_stands asked own table key what told false (Err (refusal.Full n)) may is tells small step freezing = absurd (change_kind (shape_of script) parts own table key (refusal.Full n) is)
 
+  -- What a seal tells may stand where the seal is due.
   seal_stands : (table block : ℕ) (told : Option Said) (refused : Bool) → HasBlock (shape_of script) table block → (refused ≡ true → ⊥)
       → told ≡ line_to worker (told_by table block (cond refused reply.Memory (reply_to (shape_of script) parts (event.Seal table block)))) → Stands (command.Seal table block) told
   seal_stands table block told true has granted tells = absurd (granted refl)
@@ -281,6 +297,7 @@ module _ (script : Script) (few_seats : script.sessions + script.workers < 2 ^ 3
           or (inl none) = stands_none (command.Seal table block) told none
           or (inr is) = stands (command.Seal table block) told (said.NotSealed (cause_told fault)) is (inl tt)
 
+  -- What an image tells may stand where the gathering is due.
   image_stands : (is_shape : IsShape (shape_of script)) (table block : ℕ) (image : Option (List Row)) (told : Option Said) (refused : Bool) → HasBlock (shape_of script) table block
       → told ≡ line_to worker (told_by table block (cond refused reply.Memory (reply_to (shape_of script) parts (event.Image table block image)))) → Stands (command.Gather table block) told
   image_stands is_shape table block image told true has tells = stands (command.Gather table block) told said.Memory (tells ∙ not_silent worker said.Memory refl) (inl tt)
@@ -305,6 +322,7 @@ module _ (script : Script) (few_seats : script.sessions + script.workers < 2 ^ 3
           (tells ∙ ap (λ r. line_to worker (told_by table block r)) granted ∙ not_silent worker (said.Frozen table block rows) refl)
           (inl (refl, refl, let w : rows < 2 ^ 32 = omega (arith, few, most) in w))
 
+  -- What a move tells may stand where the compaction is due.
   move_stands : (table : ℕ) (pairs : List MovePair) (made : List Occurrence) (told : Option Said) (refused : Bool) → pairs ≡ plan_of (looks_in made)
       → TellsMove (cond refused reply.Memory (reply_to (shape_of script) parts (event.Move table pairs))) told → Stands (command.Compact table) told
   move_stands table pairs made told refused plan (inl h) = stands (command.Compact table) told said.Memory h.1 (inl tt)
@@ -316,6 +334,7 @@ module _ (script : Script) (few_seats : script.sessions + script.workers < 2 ^ 3
       stands (command.Compact table) told (said.Moved (length (held_pairs (shape_of script) parts table pairs))) is
       (inl (let w : length (held_pairs (shape_of script) parts table pairs) < 2 ^ 64 = omega (arith, a, b, c) in w))
 
+  -- The block and the stamp with which a key's row lies sealed are numbers of 32 bits.
   sealed_small : ((t : ℕ) → blocks_of (shape_of script) t < 2 ^ 32) → (table : ℕ) (key : ℤ) (b g : ℕ) → IsSealedIn (shape_of script) parts table key b g → (b < 2 ^ 32) × (g < 2 ^ 32)
   sealed_small few table key b g is =
       let row = current_row (slot_at (shape_of script) parts table) (places_at (shape_of script) parts table key) is.place is.current in

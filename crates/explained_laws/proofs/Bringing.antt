@@ -56,6 +56,7 @@ use Rattle.explained_laws.proofs.Dropping.{Brings, Kept, untold_at}
 use Rattle.explained_laws.proofs.Pruning.{all_blocks, dropped_at, goes_on, untold, untold_rises, way_of}
 use Rattle.explained_laws.proofs.Spans.{accepted_rises, begin_opens, commit_rises, committed_rises, open_spans, open_writes, stays_open, sum_more}
 
+-- What is true is not false.
 true_false : true ≡ false → ⊥
 true_false e = cc
 
@@ -64,10 +65,12 @@ same_drops : (r : CoreReply) → drops_told r ≡ dropped_told r
 same_drops (reply.Dropped n) = refl
 same_drops _ = refl
 
+-- A reply counts as many rows moved in the core as in a call.
 same_moves : (r : CoreReply) → moves_told r ≡ moved_told r
 same_moves (reply.Moved n) = refl
 same_moves _ = refl
 
+-- An event drops as many entries in the core as in a pruning.
 dropped_so : (e : CoreEvent) (r : CoreReply) → dropped_by e r ≡ dropped_at e r
 dropped_so (event.Prune t b n) r = same_drops r
 dropped_so (event.Begin session) r = refl
@@ -96,6 +99,7 @@ count_in f told = option_map_or (λ (n : ℕ). n) (option_and_then f told) 0
 abbrev pub ends_told : Option Said → Bool
 ends_told told = option_map_or (λ (line : Said). is_end line) told false
 
+-- A plain line is of no pruning and ends no transaction.
 plain_none : (line : Said) → is_plain line ≡ true → (pruned_in line ≡ None) × (is_end line ≡ false)
 plain_none (said.At number) e = absurd (true_false (sym e))
 plain_none said.InTransaction e = (refl, refl)
@@ -129,6 +133,7 @@ ends_reply (reply.Committed number) = true
 ends_reply reply.Aborted = true
 ends_reply _ = false
 
+-- A line that is of no pruning counts none dropped, told or silent.
 no_prune_line : (worker : Bool) (line : Said) → pruned_in line ≡ None → count_in pruned_in (line_to worker (Some line)) ≡ 0
 no_prune_line false line e = ap (λ o. option_map_or (λ (n : ℕ). n) o 0) e
 no_prune_line true line e = go (is_silent line)
@@ -137,6 +142,7 @@ no_prune_line true line e = go (is_silent line)
     go true = refl
     go false = ap (λ o. option_map_or (λ (n : ℕ). n) o 0) e
 
+-- A line that ends no transaction ends none, told or silent.
 no_end_line : (worker : Bool) (line : Said) → is_end line ≡ false → ends_told (line_to worker (Some line)) ≡ false
 no_end_line false line e = e
 no_end_line true line e = go (is_silent line)
@@ -145,6 +151,7 @@ no_end_line true line e = go (is_silent line)
     go true = refl
     go false = e
 
+-- Where there is no line, a worker is told none and neither is a session.
 none_line : (worker : Bool) → line_to worker None ≡ None
 none_line true = refl
 none_line false = refl
@@ -153,18 +160,21 @@ record Tells (worker : Bool) (t b : ℕ) (r : CoreReply) : Type 0 where
   prunes : count_in pruned_in (line_to worker (told_by t b r)) ≡ 0
   ends : ends_reply r ≡ false → ends_told (line_to worker (told_by t b r)) ≡ false
 
+-- A reply whose line is of no pruning counts none, and the line ends only what it does.
 tells_line : (worker : Bool) (t b : ℕ) (r : CoreReply) (line : Said) → told_by t b r ≡ Some line → pruned_in line ≡ None → (ends_reply r ≡ false → is_end line ≡ false) → Tells worker t b r
 tells_line worker t b r line is none ends = record {
   prunes = ap (λ o. count_in pruned_in (line_to worker o)) is ∙ no_prune_line worker line none;
   ends = λ e. ap (λ o. ends_told (line_to worker o)) is ∙ no_end_line worker line (ends e);
 }
 
+-- A reply without a line counts no pruning and ends nothing.
 tells_none : (worker : Bool) (t b : ℕ) (r : CoreReply) → told_by t b r ≡ None → Tells worker t b r
 tells_none worker t b r is = record {
   prunes = ap (λ o. count_in pruned_in (line_to worker o)) is ∙ ap (count_in pruned_in) (none_line worker);
   ends = λ e. ap (λ o. ends_told (line_to worker o)) is ∙ ap ends_told (none_line worker);
 }
 
+-- The line of one reply counts no pruning, and ends only what the reply does.
 tells : (worker : Bool) (t b : ℕ) (r : CoreReply) → Tells worker t b r
 unfolding ends_reply
 tells worker t b (reply.Begun snapshot) = tells_line worker t b (reply.Begun snapshot) (said.At snapshot.number) refl refl (λ e. refl)
@@ -193,6 +203,7 @@ tells worker t b reply.NoSeal = tells_line worker t b reply.NoSeal said.NotFroze
 tells worker t b reply.Thawed = tells_none worker t b reply.Thawed refl
 tells worker t b reply.Memory = tells_line worker t b reply.Memory said.Memory refl refl (λ e. refl)
 
+-- What is told quietly ends no transaction.
 quiet_ends : (asked : Command) (made : List Occurrence) (told : Option Said) → TellsQuietly asked made told → ends_told told ≡ false
 quiet_ends asked made told (line, is, inl plain) = ap ends_told is ∙ (plain_none line plain).1
 quiet_ends asked made told (line, is, inr (inl moved)) = ap ends_told is ∙ ap is_end moved
@@ -205,12 +216,14 @@ write_ends true r = refl
 write_ends false (Ok p) = refl
 write_ends false (Err f) = refl
 
+-- A seal's reply ends no transaction.
 seal_ends : (refused : Bool) (f : Option SealFault) (n : ℕ) → ends_reply (cond refused reply.Memory (reply_to_seal f n)) ≡ false
 unfolding ends_reply
 seal_ends true f n = refl
 seal_ends false None n = refl
 seal_ends false (Some f) n = refl
 
+-- An image's reply ends no transaction.
 image_ends : (refused : Bool) (p : Phase) (y : Body) → ends_reply (cond refused reply.Memory (reply_to_image p y)) ≡ false
 unfolding ends_reply
 image_ends true p y = refl
@@ -234,6 +247,7 @@ record Quiet (sh : Shape) (parts : Parts) (e : CoreEvent) (r : CoreReply) : Type
   writes : (q : ℕ) → written_by q e r ≡ 0
   own : (own : Option OwnTransaction) → own_behind own e r ≡ own
 
+-- A quiet event stamps and writes nothing, and leaves what its session has open.
 quiet_is : (sh : Shape) (parts : Parts) (e : CoreEvent) (r : CoreReply) → is_quiet e ≡ true → Quiet sh parts e r
 quiet_is sh parts (event.Get own table key) r q = record { stamps = refl; writes = λ q. refl; own = λ o. refl }
 quiet_is sh parts (event.Read own table block) r q = record { stamps = refl; writes = λ q. refl; own = λ o. refl }
@@ -252,6 +266,7 @@ quiet_is sh parts (event.Move table moves) r q = absurd (true_false (sym q))
 quiet_is sh parts (event.Seal table block) r q = absurd (true_false (sym q))
 quiet_is sh parts (event.Image table block image) r q = absurd (true_false (sym q))
 
+-- What counts for one session counts nothing for another.
 if_other : (s q n : ℕ) → s ≢ q → cond (s == q) n 0 ≡ 0
 if_other s q n ne = go (s == q) refl
   where
@@ -259,10 +274,12 @@ if_other s q n ne = go (s == q) refl
     go true e = absurd (ne (grind (arith, nat_tests, e)))
     go false e = ap (λ b. cond b n 0) e
 
+-- A choice between zero and zero is zero.
 if_none : (b : Bool) → cond {A = ℕ} b 0 0 ≡ 0
 if_none true = refl
 if_none false = refl
 
+-- A choice between one and zero is one at most.
 if_most : (b : Bool) → cond {A = ℕ} b 1 0 ≤ 1
 if_most true = omega arith
 if_most false = omega arith
@@ -288,16 +305,16 @@ other_writes (event.Image table block image) r seat q named ne = refl
 
 module _ (script : Script) (parts : Parts) (front : List Occurrence) (lines : List Entry) (seat : ℕ) (e : CoreEvent) (r : CoreReply)
     (low : 1 ≤ seat) (kept : Kept script parts front lines) where
-  abbrev here : Occurrence
-  here = record { session = seat; before = parts; event = e; reply = r }
-
+  -- What the event's own session has open goes on with the event.
   own_mine : own_after (under seat (front ++ record { session = seat; before = parts; event = e; reply = r } ∷ [])) ≡ own_behind (own_after (under seat front)) e r
   own_mine = ap own_after (own_last front (record { session = seat; before = parts; event = e; reply = r }))
       ∙ fold-append (λ own (o : Occurrence). own_behind own o.event o.reply) None (under seat front) (record { session = seat; before = parts; event = e; reply = r } ∷ [])
 
+  -- What another session has open is as it was.
   own_other : (q : ℕ) → seat ≢ q → own_after (under q (front ++ record { session = seat; before = parts; event = e; reply = r } ∷ [])) ≡ own_after (under q front)
   own_other q ne = ap own_after (other_last q front (record { session = seat; before = parts; event = e; reply = r }) ne)
 
+  -- These lines count the session's open writes with the event's, and an open span of it.
   abbrev Opens : List Entry → ℕ → Type 0
   Opens after_lines q = (open_writes (who_at script q) lines + written_by q e r ≤ open_writes (who_at script q) after_lines) × (1 ≤ open_spans (who_at script q) after_lines)
 
@@ -471,9 +488,7 @@ module _ (script : Script) (parts : Parts) (front : List Occurrence) (lines : Li
     (is_shown : ((printed ≡ None) × (told ≡ None)) ⊎ ((line : Entry) × (printed ≡ Some line) × (told ≡ Some line.reply.said)))
     (whose : (line : Entry) → printed ≡ Some line → (line.reply.who ≡ who_at script seat) × (line.command ≡ command_told (who_at script seat) asked))
     (of_worker : is_worker (who_at script seat) ≡ true → is_upkeep asked ≡ true) where
-  abbrev After : List Entry
-  After = with_reply lines printed
-
+  -- What a call that ends at this event tells brings to the counts what it has to.
   abbrev Says : CoreEvent → Bool → Type 0
   Says e refused = Rattle.std.specs.Prelude.IfSome (session_of e) (λ s. s ≡ seat) → (refused ≡ true → takes_memory e ≡ true)
       → TellsAt (is_worker (who_at script seat)) made e (cond refused reply.Memory (reply_to (shape_of script) parts e)) asked told
@@ -482,6 +497,7 @@ module _ (script : Script) (parts : Parts) (front : List Occurrence) (lines : Li
       ≤ untold_at script front seat + dropped_at e (cond refused reply.Memory (reply_to (shape_of script) parts e)))
       → Brings script parts front lines (with_reply lines printed) seat e (cond refused reply.Memory (reply_to (shape_of script) parts e))
 
+  -- A command that is not upkeep is a session's.
   a_session : is_upkeep asked ≡ false → is_worker (who_at script seat) ≡ false
   a_session none = go (is_worker (who_at script seat)) of_worker
     where
@@ -489,10 +505,12 @@ module _ (script : Script) (parts : Parts) (front : List Occurrence) (lines : Li
       go true up = absurd (true_false (sym (up refl) ∙ none))
       go false up = refl
 
+  -- Where there is something after a change, there was before.
   still_some : {X : Type 0} (f : X → X) (o : Option X) → is_some (Rattle.std.specs.Prelude.option_map f o) ≡ true → is_some o ≡ true
   still_some f None e = e
   still_some f (Some x) e = refl
 
+  -- A call that ends at a quiet event brings to the counts what it has to.
   quiet_ending : (e : CoreEvent) (refused : Bool) → is_quiet e ≡ true → Rattle.std.specs.Prelude.IfSome (session_of e) (λ s. s ≡ seat)
       → TellsQuietly asked made told
       → (asked ≡ command.Prune
@@ -542,6 +560,7 @@ module _ (script : Script) (parts : Parts) (front : List Occurrence) (lines : Li
         (others_stay script parts front lines seat e (cond refused reply.Memory (reply_to (shape_of script) parts e)) low kept printed told asked made is_shown whose named);
   }
 
+  -- An event that writes and ends nothing leaves its session's open writes in their span.
   same_mine : (e : CoreEvent) (refused : Bool) (t b : ℕ) → told ≡ line_to (is_worker (who_at script seat)) (told_by t b (cond refused reply.Memory (reply_to (shape_of script) parts e)))
       → ends_reply (cond refused reply.Memory (reply_to (shape_of script) parts e)) ≡ false → written_by seat e (cond refused reply.Memory (reply_to (shape_of script) parts e)) ≡ 0
       → is_some (own_after (under seat front)) ≡ true
@@ -550,6 +569,7 @@ module _ (script : Script) (parts : Parts) (front : List Occurrence) (lines : Li
   same_mine e refused t b tells_so ends none some = mine_plain script parts front lines seat e (cond refused reply.Memory (reply_to (shape_of script) parts e)) low kept printed told asked made is_shown whose none
       (no_end script parts front lines seat e (cond refused reply.Memory (reply_to (shape_of script) parts e)) low kept printed told asked made is_shown whose t b tells_so ends) some
 
+  -- A call that ends at a move brings to the counts what it has to.
   move_ending : (table : ℕ) (moves : List Rattle.event_spec.specs.declared.event.MovePair.MovePair) (refused : Bool)
       → TellsMove (cond refused reply.Memory (reply_to (shape_of script) parts (event.Move table moves))) told
       → Brings script parts front lines (with_reply lines printed) seat (event.Move table moves) (cond refused reply.Memory (reply_to (shape_of script) parts (event.Move table moves)))

@@ -24,6 +24,7 @@ use Rattle.run_spec.specs.Ran.{shape_of}
 
 -- ---- conflicts of the machine
 
+-- Where one that is found passes another test, that test finds one too.
 found_too : (p q : Transaction → Bool) (xs : List Transaction) (t : Transaction) → find p xs ≡ Some t → q t ≡ true → is_some (find q xs) ≡ true
 found_too p q [] t e is = absurd (let never : ⊥ = cc e in never)
 found_too p q (x ∷ xs) t e is = go (p x) refl e (found_too p q xs t)
@@ -50,6 +51,7 @@ names_session None (Some n) b other r other_way e = absurd (let never : ⊥ = cc
 names_session None None true other r other_way e = absurd (other_way e)
 names_session None None false other r other_way e = absurd (let never : ⊥ = cc e in never)
 
+-- A refusal that names a commit names the last that there is.
 names_commit : (rival : Option Transaction) (last : Option ℕ) (b : Bool) (other : Answer) (n : ℕ) → (other ≡ answer.ConflictCommit n → ⊥)
     → unwrap_or (option_or (option_or (option_map (λ (t : Transaction). answer.ConflictSession t.session) rival) (option_map answer.ConflictCommit last)) (cond b (Some other) None)) answer.Accepted ≡ answer.ConflictCommit n
     → last ≡ Some n
@@ -58,9 +60,11 @@ names_commit None (Some k) b other n other_way e = cc
 names_commit None None true other n other_way e = absurd (other_way e)
 names_commit None None false other n other_way e = absurd (let never : ⊥ = cc e in never)
 
+-- A number is tested to be itself.
 num_refl : (a : ℕ) → (a == a) ≡ true
 num_refl a = grind (arith, nat_tests)
 
+-- The last of some numbers is among them, or is what stands without any.
 last_is : (o : Option ℕ) (xs : List ℕ) (n : ℕ) → last_or o xs ≡ Some n → Among n xs ⊎ (o ≡ Some n)
 last_is o [] n e = inr e
 last_is o (x ∷ xs) n e = go (last_is (Some x) xs n e)
@@ -91,6 +95,7 @@ module _ (script : Script) (parts : Parts) (at : IsolationMachine) (follows : Fo
       go None e = absurd (none_true is (follows.follows.desked.idle (suc n) (omega arith) e))
       go (Some x) e = let h = past (desk_at (shape_of script) parts).open_snapshots (suc n - 1) x e in omega (arith, h, passes)
 
+  -- The session that a conflict names is no higher than the script's sessions and workers.
   session_small : (t : Transaction) (place : Place) (b : Bool) (other : Answer) (r : ℕ) → (other ≡ answer.ConflictSession r → ⊥)
       → unwrap_or (option_or (conflict_of at t place) (cond b (Some other) None)) answer.Accepted ≡ answer.ConflictSession r → r ≤ script.sessions + script.workers
   session_small t place b other r other_way e =
@@ -98,6 +103,7 @@ module _ (script : Script) (parts : Parts) (at : IsolationMachine) (follows : Fo
       open_small r (subst (λ q. is_some (transaction_of q at) ≡ true) named.2
       (found_too (λ u. Rattle.std.specs.Prelude.not (u.session == t.session) && writes_place place u.own) (λ u. u.session == named.0.session) at.open_transactions named.0 named.1 (num_refl named.0.session)))
 
+  -- The commit that a conflict names is no higher than the count of commits.
   commit_small : (t : Transaction) (place : Place) (b : Bool) (other : Answer) (n : ℕ) → (other ≡ answer.ConflictCommit n → ⊥)
       → unwrap_or (option_or (conflict_of at t place) (cond b (Some other) None)) answer.Accepted ≡ answer.ConflictCommit n → n ≤ (desk_at (shape_of script) parts).commits
   commit_small t place b other n other_way e =
@@ -117,6 +123,7 @@ module _ (script : Script) (parts : Parts) (at : IsolationMachine) (follows : Fo
       ((r : ℕ) (next : IsolationMachine) → step at (command_of q what) ≡ (answer.ConflictSession r, next) → r ≤ script.sessions + script.workers)
       × ((n : ℕ) (next : IsolationMachine) → step at (command_of q what) ≡ (answer.ConflictCommit n, next) → n ≤ (desk_at (shape_of script) parts).commits)
 
+  -- The answer of a step that is known is the answer that is known.
   first : (a : Answer × IsolationMachine) (b : Answer) (m : IsolationMachine) → a ≡ (b, m) → a.0 ≡ b
   first a b m e = ap (λ (p : Answer × IsolationMachine). p.0) e
 

@@ -25,7 +25,7 @@ use Rattle.event_spec.specs.declared.reply.WriteFault.{WriteFault}
 use Rattle.event_spec.specs.declared.reply.WriteFault.TheVariants as refusal
 use Rattle.event_spec.specs.Effects.{CoreEvent, change_judged, held_pairs, holds, insert_judged}
 use Rattle.event_spec.specs.Lawful.{HasBlock, IsLawful}
-use Rattle.event_spec.specs.Parts.{Parts, Shape, blocks_of, body_at, is_head, slots_of}
+use Rattle.event_spec.specs.Parts.{Parts, blocks_of, body_at, is_head, slots_of}
 use Rattle.event_spec.specs.Plans.{BlockLook, gap_places, is_in_group, pair_of, pairs_of, plan_of, row_places}
 use Rattle.event_spec.specs.Replies.{reply_to, reply_to_image, reply_to_seal, reply_to_write}
 use Rattle.event_spec.specs.Sound.{IsShape}
@@ -57,9 +57,11 @@ use Rattle.moment_laws.specs.Laws.{command_told}
 use Rattle.explained_laws.proofs.Holding.{Holds, Stamped}
 use Rattle.explained_laws.proofs.Shown.{silent_or}
 
+-- What is true is not false.
 true_false : true ≡ false → ⊥
 true_false e = cc
 
+-- What is told as one of two lines and as the other is one line.
 same_line : (a b : Said) → Some a ≡ Some b → a ≡ b
 same_line a b e = cc
 
@@ -87,16 +89,19 @@ kept_few p (x ∷ xs) = go (p x) (kept_few p xs)
     go true h = omega (arith, h)
     go false h = omega (arith, h)
 
+-- The front of a list has no more elements than the list.
 fewer_taken : {X : Type 0} (n : ℕ) (xs : List X) → length (take n xs) ≤ length xs
 fewer_taken zero xs = omega arith
 fewer_taken (suc n) [] = omega arith
 fewer_taken (suc n) (x ∷ xs) = let h = fewer_taken n xs in omega (arith, h)
 
+-- So many first elements are no more than that.
 taken_few : {X : Type 0} (n : ℕ) (xs : List X) → length (take n xs) ≤ n
 taken_few zero xs = omega arith
 taken_few (suc n) [] = omega arith
 taken_few (suc n) (x ∷ xs) = let h = taken_few n xs in omega (arith, h)
 
+-- There are no more pairs than elements of the second list.
 zip_few : {X Y : Type 0} (xs : List X) (ys : List Y) → length (zip xs ys) ≤ length ys
 zip_few [] ys = omega arith
 zip_few (x ∷ xs) [] = omega arith
@@ -165,19 +170,20 @@ slots_same tables n t = go (slice_get tables t)
 
 module _ (script : Script) (parts : Parts) (front : List Occurrence) (at next : IsolationMachine) (lines : List Entry) (is_shape : IsShape (shape_of script))
     (held : Holds script parts front at lines) (who : Who) where
-  sh : Shape
-  sh = shape_of script
-
+  -- What the line that is told says of blocks and counts is what those in front say.
   abbrev Says : Command → Option Said → Type 0
   Says asked told = (line : Said) → told ≡ Some line → Counts script.tables lines (command_told who asked) line
 
+  -- A plain line that is told says nothing of blocks and counts.
   says_plain : (asked : Command) (told : Option Said) (here : Said) → told ≡ Some here → is_plain here ≡ true → Says asked told
   says_plain asked told here is plain line tells =
       subst (Counts script.tables lines (command_told who asked)) (same_line here line (sym is ∙ tells)) (plain_counts script.tables lines (command_told who asked) here plain)
 
+  -- Where this line is told and fits those in front, what is told does.
   says : (asked : Command) (told : Option Said) (here : Said) → told ≡ Some here → Counts script.tables lines (command_told who asked) here → Says asked told
   says asked told here is counts line tells = subst (Counts script.tables lines (command_told who asked)) (same_line here line (sym is ∙ tells)) counts
 
+  -- Where nothing is told, nothing is said of blocks and counts.
   says_none : (asked : Command) (told : Option Said) → told ≡ None → Says asked told
   says_none asked told is line tells = absurd (let never : None ≡ Some line = sym is ∙ tells in let no : ⊥ = cc in no)
 
@@ -186,6 +192,7 @@ module _ (script : Script) (parts : Parts) (front : List Occurrence) (at next : 
   PruneCounts asked made = asked ≡ command.Prune
       → sum_by dropped_told (replies_in made) + sum (shown_in pruned_in lines) ≤ writes_committed_in lines + 2 * sum (shown_in moved_in lines)
 
+  -- A line that is told quietly fits those in front where a pruning's count does.
   quiet_says : (asked : Command) (made : List Occurrence) (told : Option Said) → PruneCounts asked made → TellsQuietly asked made told → Says asked told
   quiet_says asked made told counts (line, is, inl plain) = says_plain asked told line is plain
   quiet_says asked made told counts (line, is, inr (inl moved)) = says asked told line is (subst (Counts script.tables lines (command_told who asked)) (sym moved) (let few : 0 ≤ 64 = omega arith in few))
@@ -226,6 +233,7 @@ module _ (script : Script) (parts : Parts) (front : List Occurrence) (at next : 
       let l = stamped.last in let p = stamped.phase in
       (omega (arith, l, last), omega (arith, l, last, p, now))
 
+  -- A write's line fits those in front where a full table and a freezing block do.
   write_says : (table : ℕ) (asked : Command) (told : Option Said) (worker refused : Bool) (r : Result ℕ WriteFault)
       → told ≡ line_to worker (told_by table 0 (cond refused reply.Memory (reply_to_write r)))
       → ((n : ℕ) → r ≡ Err (refusal.Full n) → refused ≡ false → Counts script.tables lines (command_told who asked) said.Full)
@@ -242,6 +250,7 @@ module _ (script : Script) (parts : Parts) (front : List Occurrence) (at next : 
   write_says table asked told worker false (Err (refusal.Full n)) tells full freezing =
       says asked told said.Full (tells ∙ not_silent worker said.Full refl) (full n refl refl)
 
+  -- A seal's line fits those in front.
   seal_says : (table block : ℕ) (asked : Command) (told : Option Said) (worker refused : Bool) → HasBlock (shape_of script) table block
       → told ≡ line_to worker (told_by table block (cond refused reply.Memory (reply_to (shape_of script) parts (event.Seal table block)))) → Says asked told
   seal_says table block asked told worker true has tells = says_plain asked told said.Memory (tells ∙ not_silent worker said.Memory refl) refl
@@ -269,6 +278,7 @@ module _ (script : Script) (parts : Parts) (front : List Occurrence) (at next : 
           or (inl none) = says_none asked told none
           or (inr is) = says asked told (said.NotSealed (cause_told fault)) is tt
 
+  -- An image's line fits those in front.
   image_says : (table block : ℕ) (image : Option (List Row)) (told : Option Said) (refused : Bool) → HasBlock (shape_of script) table block
       → told ≡ line_to (is_worker who) (told_by table block (cond refused reply.Memory (reply_to (shape_of script) parts (event.Image table block image)))) → Says (command.Gather table block) told
   image_says table block image told true has tells = says_plain (command.Gather table block) told said.Memory (tells ∙ not_silent (is_worker who) said.Memory refl) refl
@@ -306,6 +316,7 @@ module _ (script : Script) (parts : Parts) (front : List Occurrence) (at next : 
           (tells ∙ ap (λ r. line_to (is_worker who) (told_by table block r)) granted ∙ not_silent (is_worker who) (said.Frozen table block rows) refl)
           (omega (arith, p, one), is.1, omega (arith, few, size))
 
+  -- A move's line fits those in front, as it moves at most 64 rows.
   move_says : (table : ℕ) (pairs : List MovePair) (made : List Occurrence) (asked : Command) (told : Option Said) (refused : Bool) → pairs ≡ plan_of (looks_in made)
       → TellsMove (cond refused reply.Memory (reply_to (shape_of script) parts (event.Move table pairs))) told → Says asked told
   move_says table pairs made asked told refused plan (inl h) = says_plain asked told said.Memory h.1 refl

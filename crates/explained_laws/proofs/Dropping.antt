@@ -1,4 +1,5 @@
--- What prunings dropped and the stamped entries that stand are no more than the lines in front tell.
+-- What prunings dropped and the stamped entries that stand are no more than the lines in front
+-- tell.
 use Rattle.std.proofs.Common.{◌≡◌, ◌≢◌, ℕ, ◌+◌, ◌*◌, ◌≤◌, Bool, true, false, cond, ◌==◌, List, [], ◌∷◌, ◌++◌, Option, None, Some, is_some, sum_by, refl, sym, ap, ◌∙◌, arith}
 use Rattle.std.specs.Prelude.{option_map, sum}
 use Rattle.std.proofs.lemmas.Bool.Decides.{nat_tests}
@@ -29,6 +30,7 @@ use Rattle.moment_laws.proofs.Standing.{other_last, own_last}
 use Rattle.explained_laws.proofs.Pruning.{all_blocks, goes_on, untold, way_last, way_of}
 use Rattle.explained_laws.proofs.Spans.{open_spans, open_writes}
 
+-- What is true is not false.
 true_false : true ≡ false → ⊥
 true_false e = cc
 
@@ -96,9 +98,11 @@ pub record Brings (script : Script) (parts : Parts) (front : List Occurrence) (l
 
 module _ (script : Script) (parts : Parts) (front : List Occurrence) (lines after_lines : List Entry) (entry : Logged)
     (low : 1 ≤ entry.session) (high : entry.session ≤ script.sessions + script.workers) where
+  -- The event of the moment's entry.
   abbrev e : CoreEvent
   e = entry.made.event
 
+  -- With one event more, all that is untold rises by no more than its own session's.
   untold_all : all_untold script (front ++ occurrence_of (shape_of script) parts entry ∷ []) + untold_at script front entry.session
       ≤ all_untold script front + untold (all_blocks (shape_of script)) (goes_on (way_of (under entry.session front)) entry.made.event (reply_after (shape_of script) parts entry.made))
   untold_all =

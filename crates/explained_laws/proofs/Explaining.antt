@@ -55,6 +55,7 @@ use Rattle.explained_laws.proofs.Shown.{write_line}
 use Rattle.explained_laws.proofs.Standing.{may_stand}
 use Rattle.explained_laws.proofs.Walk.{after_held, alone_ended, alone_held, ended, first_is, moved, no_event, onward, rest_is, runs_give_timelines, tells_at, told_something}
 
+-- What is true is not false.
 true_false : true ≡ false → ⊥
 true_false e = cc
 
@@ -65,19 +66,23 @@ pub record Loud (worker : Bool) (asked : Command) (told : Option Said) : Type 0 
   pub silent : told ≡ None → (worker && is_seal_or_gather asked) ≡ true
   pub loud : (line : Said) → told ≡ Some line → (worker && is_silent line) ≡ false
 
+-- What is told as one of two lines and as the other is one line.
 same_line : (a b : Said) → Some a ≡ Some b → a ≡ b
 same_line a b e = cc
 
+-- A conjunction with false behind is false.
 and_false : (b : Bool) → (b && false) ≡ false
 and_false true = refl
 and_false false = refl
 
+-- A call that tells a line which is never silent is not silent.
 loud_line : (worker : Bool) (asked : Command) (told : Option Said) (here : Said) → told ≡ Some here → is_silent here ≡ false → Loud worker asked told
 loud_line worker asked told here is e = record {
   silent = λ none. absurd (told_something told here is none);
   loud = λ line tells. ap (λ b. worker && b) (ap is_silent (sym (same_line here line (sym is ∙ tells))) ∙ e) ∙ and_false worker;
 }
 
+-- A plain line is not silent.
 plain_loud : (line : Said) → is_plain line ≡ true → is_silent line ≡ false
 plain_loud (said.NotSealed cause) e = absurd (true_false (sym e))
 plain_loud said.NotFrozen e = absurd (true_false (sym e))
@@ -88,6 +93,7 @@ pub plain_or_moved : (worker : Bool) (asked : Command) (told : Option Said) (lin
 plain_or_moved worker asked told line is (inl plain) = loud_line worker asked told line is (plain_loud line plain)
 plain_or_moved worker asked told line is (inr moved) = loud_line worker asked told line is (ap is_silent moved)
 
+-- A call that is told quietly is not silent.
 quiet_loud : (worker : Bool) (asked : Command) (made : List Occurrence) (told : Option Said) → TellsQuietly asked made told → Loud worker asked told
 quiet_loud worker asked made told (line, is, inl plain) = loud_line worker asked told line is (plain_loud line plain)
 quiet_loud worker asked made told (line, is, inr (inl moved)) = loud_line worker asked told line is (ap is_silent moved)
@@ -109,18 +115,22 @@ may_hush true asked told here seal is = record {
     go false e line tells f = ap is_silent (sym (same_line here line (ap (λ b. cond b None (Some here)) (sym e) ∙ f))) ∙ e
 
 module _ (shape : Shape) (parts : Parts) (worker : Bool) (made : List Occurrence) (asked : Command) (told : Option Said) where
+  -- A call that tells the lack of memory is not silent.
   memory_loud : told ≡ line_to worker (Some said.Memory) → Loud worker asked told
   memory_loud is = loud_line worker asked told said.Memory (is ∙ not_silent worker said.Memory refl) refl
 
+  -- A write is not silent, whether it is granted or not.
   write_loud : (table : ℕ) (refused : Bool) (r : Result ℕ Rattle.event_spec.specs.declared.reply.WriteFault.WriteFault) → told ≡ line_to worker (told_by table 0 (cond refused reply.Memory (reply_to_write r))) → Loud worker asked told
   write_loud table true r is = memory_loud is
   write_loud table false r is = let w = write_line table r in loud_line worker asked told w.0 (is ∙ ap (line_to worker) w.1 ∙ not_silent worker w.0 w.2) w.2
 
+  -- A seal is silent only where a worker's may be.
   seal_hush : (table block : ℕ) (refused : Bool) (o : Option SealFault) (last : ℕ) → is_seal_or_gather asked ≡ true → told ≡ line_to worker (told_by table block (cond refused reply.Memory (reply_to_seal o last))) → Loud worker asked told
   seal_hush table block true o last seal is = may_hush worker asked told said.Memory seal is
   seal_hush table block false None last seal is = may_hush worker asked told (said.Sealed table block (last + 1)) seal is
   seal_hush table block false (Some fault) last seal is = may_hush worker asked told (said.NotSealed (cause_told fault)) seal is
 
+  -- A gathering is silent only where a worker's may be.
   image_hush : (table block : ℕ) (refused : Bool) (phase : Phase) (body : Rattle.block_spec.specs.Bodies.Body) → is_seal_or_gather asked ≡ true → told ≡ line_to worker (told_by table block (cond refused reply.Memory (reply_to_image phase body))) → Loud worker asked told
   image_hush table block true phase body seal is = may_hush worker asked told said.Memory seal is
   image_hush table block false Loose body seal is = may_hush worker asked told said.NotFrozen seal is
@@ -157,6 +167,7 @@ module _ (shape : Shape) (parts : Parts) (worker : Bool) (made : List Occurrence
 
 -- ---- what answers a due
 
+-- In whatever round, what the call told answers its due.
 abbrev Answered : Who → Call → Type 0
 Answered who call = (number : ℕ) → MayAnswer (due_of number who call) call.told
 
@@ -164,6 +175,7 @@ Answered who call = (number : ℕ) → MayAnswer (due_of number who call) call.t
 abbrev AnswersIf : Who → Call → Type 0
 AnswersIf who call = ((count : ℕ) → call.told ≡ Some (said.Pruned count) → count < 2 ^ 64) → Answered who call
 
+-- A call that is silent only where it may be, and whose line may stand, answers its due.
 answered : (who : Who) (call : Call) → Loud (is_worker who) call.command call.told → ((line : Said) → call.told ≡ Some line → MayStand call.command line) → Answered who call
 answered who call loud may number = go call.told refl
   where
@@ -174,6 +186,7 @@ answered who call loud may number = go call.told refl
 -- ---- few blocks
 
 module _ (script : Script) (valid : is_valid script ≡ true) where
+  -- The sessions and workers of a valid script are fewer than 32 bits can count.
   few_seats : script.sessions + script.workers < 2 ^ 32
   few_seats =
       let h = head script valid in
@@ -185,6 +198,7 @@ module _ (script : Script) (valid : is_valid script ≡ true) where
       let s : script.sessions ≤ 64 = grind (arith, nat_tests, sessions) in
       omega (arith, w, s)
 
+  -- A valid script has at most 16 tables.
   few_tables : length script.tables ≤ 16
   few_tables =
       let h = head script valid in
@@ -196,9 +210,11 @@ module _ (script : Script) (valid : is_valid script ≡ true) where
       let f = and_second (nat_le 1 (length script.tables)) (nat_le (length script.tables) 16) (and_second (script.version == 1) (is_within 1 most_tables (length script.tables)) e) in
       grind (arith, nat_tests, f)
 
+  -- A table of a valid script has at most 1024 blocks.
   few_blocks : (t : ℕ) → blocks_of (shape_of script) t ≤ 1024
   few_blocks t = Rattle.explained_laws.proofs.Scripts.blocks_few script valid t
 
+  -- All blocks of a valid script are fewer than 32 bits can count.
   all_few : length (at_all_blocks (shape_of script) event.Observe) < 2 ^ 32
   all_few =
       let most = go 0 (length script.tables) in
@@ -221,9 +237,11 @@ module _ (script : Script) (valid : is_valid script ≡ true) where
 -- ---- all moments
 
 module _ (script : Script) (valid : is_valid script ≡ true) where
+  -- The blocks of a table are fewer than 32 bits can count.
   few32 : (t : ℕ) → blocks_of (shape_of script) t < 2 ^ 32
   few32 t = let few = few_blocks script valid t in omega (arith, few)
 
+  -- A call that ends without an event answers its due, where its pruning's count fits.
   ends_alone : (parts : Parts) (front : List Occurrence) (at : IsolationMachine) (lines : List Entry) (seat : ℕ) (low : 1 ≤ seat) (line : Lined)
       → Holds script parts front at lines → Ends script front seat None line → AnswersIf (who_at script seat) line.call
   ends_alone parts front at lines seat low line held ends = λ fits. answered (who_at script seat) line.call
@@ -237,12 +255,14 @@ module _ (script : Script) (valid : is_valid script ≡ true) where
       plain : (said' : Said) × (line.call.told ≡ Some said') × ((is_plain said' ≡ true) ⊎ (said' ≡ said.Moved 0))
       plain = refusals_are_plain (shape_of script) (is_worker (who_at script seat)) seat ends.began line.call ends.is_call none
 
+  -- Behind whatever holds in front, each call that ends at these moments answers its due.
   abbrev On : List Moment → Type 0
   On ms = (log : List Logged) (parts : Parts) (front : List Occurrence) (at : IsolationMachine) (lines : List Entry)
       → Holds script parts front at lines → IsLawfulFrom (shape_of script) parts (map (λ entry. entry.made) log) → are_named log ≡ true
       → AreMoments script front ms → events_at ms ≡ occurrences_from (shape_of script) parts log
       → EachEnds script AnswersIf ms
 
+  -- With one moment in front of others, each call that ends still answers its due.
   one : (seat : ℕ) → 1 ≤ seat → seat ≤ script.sessions + script.workers → (event : Option Occurrence) (line : Option Lined) (ms : List Moment) → On ms
       → (log : List Logged) (parts : Parts) (front : List Occurrence) (at : IsolationMachine) (lines : List Entry)
       → Holds script parts front at lines → IsLawfulFrom (shape_of script) parts (map (λ entry. entry.made) log) → are_named log ≡ true
@@ -293,6 +313,7 @@ module _ (script : Script) (valid : is_valid script ≡ true) where
             (rest_is script valid o (occurrence_of (shape_of script) parts entry) (events_at ms) (occurrences_from (shape_of script) (after (shape_of script) parts entry.made) log) events),
       )
 
+  -- At all moments of a run each call that ends answers its due.
   all_answer : (ms : List Moment) → On ms
   all_answer [] log parts front at lines held lawful are moments events = tt
   all_answer (m ∷ ms) log parts front at lines held lawful are moments events =
@@ -300,27 +321,32 @@ module _ (script : Script) (valid : is_valid script ≡ true) where
 
 -- ---- all dues
 
+-- Two lists of dues that are each answered are answered together.
 stand_append : (ds es : List Due) (ts us : List (Option Said)) → AllMayStand ds ts → AllMayStand es us → AllMayStand (ds ++ es) (ts ++ us)
 stand_append [] es [] us a b = b
 stand_append [] es (t ∷ ts) us a b = absurd a
 stand_append (d ∷ ds) es [] us a b = absurd a
 stand_append (d ∷ ds) es (t ∷ ts) us a b = (a.0, stand_append ds es ts us a.1 b)
 
+-- A line among the first of two lists is among both together.
 among_left : (line : Option Said) (xs ys : List (Option Said)) → Among line xs → Among line (xs ++ ys)
 among_left line [] ys a = absurd a
 among_left line (x ∷ xs) ys (inl e) = inl e
 among_left line (x ∷ xs) ys (inr a) = inr (among_left line xs ys a)
 
+-- A line among the second of two lists is among both together.
 among_right : (line : Option Said) (xs ys : List (Option Said)) → Among line ys → Among line (xs ++ ys)
 among_right line [] ys a = a
 among_right line (x ∷ xs) ys a = inr (among_right line xs ys a)
 
+-- The calls of one answer their dues, where the counts of prunings fit.
 calls_stand : (number : ℕ) (who : Who) (calls : List Call) → EachOf AnswersIf who calls → PruningsFit (map (λ (call : Call). call.told) calls)
     → AllMayStand (map (due_of number who) calls) (map (λ (call : Call). call.told) calls)
 calls_stand number who [] each fit = tt
 calls_stand number who (call ∷ calls) each fit =
     (each.0 (λ count is. fit count (inl (sym is))) number, calls_stand number who calls each.1 (λ count a. fit count (inr a)))
 
+-- The calls of a round answer their dues, where the counts of prunings fit.
 shares_stand : (number : ℕ) (shares : List Share) → EachShare AnswersIf shares → PruningsFit (flat_map (λ (share : Share). map (λ (call : Call). call.told) share.calls) shares)
     → AllMayStand (flat_map (λ (share : Share). map (due_of number share.who) share.calls) shares) (flat_map (λ (share : Share). map (λ (call : Call). call.told) share.calls) shares)
 shares_stand number [] each fit = tt
@@ -332,6 +358,7 @@ shares_stand number (share ∷ shares) each fit =
     (shares_stand number shares each.1
     (λ count a. fit count (among_right (Some (said.Pruned count)) (map (λ (call : Call). call.told) share.calls) (flat_map (λ (share : Share). map (λ (call : Call). call.told) share.calls) shares) a)))
 
+-- The calls of all rounds answer their dues, where the counts of prunings fit.
 rounds_stand : (number : ℕ) (rounds : List RoundRun) → EachCall AnswersIf rounds → PruningsFit (told_in rounds)
     → AllMayStand (flat_map (λ (entry : ℕ × RoundRun). dues_answered entry.0 entry.1) (enumerate_from number rounds)) (told_in rounds)
 rounds_stand number [] each fit = tt

@@ -48,14 +48,17 @@ use Rattle.explained_laws.proofs.Scripts.{is_shape, session_asked, worker_upkeep
 use Rattle.explained_laws.proofs.Shown.{shown}
 use Rattle.explained_laws.proofs.Taking.{Ended, Scanned, has_table, none_open, one_open, owns_it, scanned, stand, stays}
 
+-- What is true is not false.
 true_false : true ≡ false → ⊥
 true_false e = cc
 
+-- What is told as one of two lines and as the other is one line.
 same_line : (a b : Said) → Some a ≡ Some b → a ≡ b
 same_line a b e = cc
 
 -- ---- writes of other tables
 
+-- Numbers of tables that compare as equal are equal.
 other_table : (a b : ℕ) → nat_cmp a b ≡ Equal → a ≡ b
 other_table a b e = go (nat_lt a b) (nat_lt b a) refl refl
   where
@@ -64,20 +67,24 @@ other_table a b e = go (nat_lt a b) (nat_lt b a) refl refl
     go false true f g = absurd (let never : Greater ≡ Equal = nat_cmp_is a b Greater (grind (arith, nat_tests, g)) ∙ e in let no : ⊥ = cc in no)
     go false false f g = grind (arith, nat_tests, f, g)
 
+-- Where one ordering and then another is equal, the first is.
 first_equal : (r s : Ordering) → ordering_then r s ≡ Equal → r ≡ Equal
 first_equal Less s e = absurd (let never : ⊥ = cc e in never)
 first_equal Equal s e = refl
 first_equal Greater s e = absurd (let never : ⊥ = cc e in never)
 
+-- An ordering that is tested to be equal is equal.
 equal_is : (r : Ordering) → is_eq r ≡ true → r ≡ Equal
 equal_is Less e = absurd (true_false (sym e))
 equal_is Equal e = refl
 equal_is Greater e = absurd (true_false (sym e))
 
+-- Places that compare as equal are of the same table.
 same_table : (a b : Place) → place_cmp a b ≡ Equal → a.table ≡ b.table
 same_table a b e = other_table a.table b.table (first_equal (nat_cmp a.table b.table) (int_cmp a.key b.key) e)
 
 module _ (table : ℕ) where
+  -- A row at a place of another table is not of this one's contents.
   skipped : (place : Place) (row : List Cell) (rows : State) → (place.table == table) ≡ false → contents_of table ((place, row) ∷ rows) ≡ contents_of table rows
   skipped place row rows other = ap (λ b. cons_option (cond b (Some row) None) (contents_of table rows)) other
 
@@ -93,6 +100,7 @@ module _ (table : ℕ) where
           skipped e.0 row rows there ∙ sym (skipped e.0 e.1 rows there)
       go Greater is rest = ap (λ rs. cons_option (cond (e.0.table == table) (Some e.1) None) rs) rest
 
+  -- To remove a place of another table leaves this one's contents.
   remove_skips : (rows : State) (place : Place) → (place.table == table) ≡ false → contents_of table (remove_entry (is_place place) rows) ≡ contents_of table rows
   remove_skips [] place other = refl
   remove_skips (e ∷ rows) place other = go (is_place place e.0) refl (remove_skips rows place other)
@@ -102,6 +110,7 @@ module _ (table : ℕ) where
       go true is rest = sym (skipped e.0 e.1 rows (ap (λ t. t == table) (sym (same_table place e.0 (equal_is (place_cmp place e.0) is))) ∙ other))
       go false is rest = ap (λ rs. cons_option (cond (e.0.table == table) (Some e.1) None) rs) rest
 
+  -- A write at a place of another table leaves this one's contents.
   write_skips : (rows : State) (place : Place) (value : Option (List Cell)) → (place.table == table) ≡ false → contents_of table (with_write rows place value) ≡ contents_of table rows
   write_skips rows place (Some row) other = insert_skips rows place row other
   write_skips rows place None other = remove_skips rows place other
@@ -120,6 +129,7 @@ module _ (table : ℕ) where
 
 -- ---- counts of replies
 
+-- With one element more, one more passes a test where this one does.
 count_more : {X : Type 0} (p : X → Bool) (x : X) (xs : List X) → count_by p (x ∷ xs) ≡ cond {A = ℕ} (p x) 1 0 + count_by p xs
 count_more p x xs = sum_by-cons (λ y. cond {A = ℕ} (p y) 1 0) x xs
 
@@ -136,6 +146,7 @@ count_few p (x ∷ xs) = let one = count_more p x xs in let rest = count_few p x
 abbrev pub has_rows : CoreReply → Bool
 has_rows told = is_some_row (rows_told told)
 
+-- Rows that are some are one at least.
 one_row : (rows : List Row) → cond {A = ℕ} (is_some_row rows) 1 0 ≤ length rows
 one_row [] = omega arith
 one_row (row ∷ rows) = omega arith
@@ -150,6 +161,7 @@ rows_least (y ∷ ys) =
     let all : length (rows_told y ++ flat_map rows_told ys) ≡ length (rows_told y) + length (flat_map rows_told ys) = length-append (rows_told y) (flat_map rows_told ys) in
     omega (arith, one, rest, here, all)
 
+-- Rows that are at most so many are at most so many where some are, and none else.
 rows_by : (rows : List Row) (w : ℕ) → length rows ≤ w → length rows ≤ cond {A = ℕ} (is_some_row rows) 1 0 * w
 rows_by [] w few = omega arith
 rows_by (row ∷ rows) w few = let m : 1 * w ≡ w = grind arith in omega (arith, few, m)
@@ -230,15 +242,13 @@ module _ (script : Script) (valid : is_valid script ≡ true) (seat : ℕ) (part
       go (inl low) = low
       go (inr high) = let never : false ≡ true = ap is_upkeep (sym is) ∙ worker_upkeep script seat call.command high ended.asked in absurd (let no : ⊥ = cc in no)
 
+  -- The table that is exported is one of the script's.
   has : is_some (slice_get script.tables table) ≡ true
   has = ap (is_command script.tables) (sym is) ∙ session_asked script valid seat call.command export_low ended.asked
 
   -- one that was made as a whole
   module _ (own : OwnTransaction) (mine : own_after ended.began ≡ Some own) (events : events_in call.made ≡ at_blocks (shape_of script) table (event.Read own table))
       (granted : list_any is_refused call.made ≡ false) where
-    replies : List CoreReply
-    replies = replies_in call.made
-
     reads : Scanned script valid seat parts front at next call ended own table
     reads = scanned script valid seat parts front at next call ended own table mine (ap is_single is) has events granted
 

@@ -112,11 +112,9 @@ pub record AddsAt (shape : Shape) (parts : Parts) (made : Made) (told : Option S
   pub inserts : (t : ℕ) → inserted_by t made.event (reply_after shape parts made) ≤ accepted t asked told
 
 module _ (script : Script) (parts : Parts) (front : List Occurrence) (lines : List Entry) (seat : ℕ) where
+  -- The shape of the script's core.
   abbrev shape : Shape
   shape = shape_of script
-
-  abbrev worker : Bool
-  worker = is_worker (who_at script seat)
 
   -- each event of a call that ends here has its reply
   pub ends_replied : (entry : Logged) (line : Lined) → entry.session ≡ seat → AreReplied (shape_of script) front
@@ -192,6 +190,7 @@ pub record Counted (script : Script) (parts : Parts) (made : Made) (lines after_
   pub freezes : (t b : ℕ) → freezes_in t b after_lines ≡ freezes_in t b lines + imaged_by t b made.event (reply_after (shape_of script) parts made)
   pub inserts : (t : ℕ) → inserts_in t lines + inserted_by t made.event (reply_after (shape_of script) parts made) ≤ inserts_in t after_lines
 
+-- A phase that is imaged is neither loose nor sealed.
 imaged_loose : (phase : Phase) → is_imaged phase ≡ true → (is_loose phase ≡ false) × (is_sealed phase ≡ false)
 imaged_loose Loose e = absurd (let never : ⊥ = cc e in never)
 imaged_loose (Sealed g) e = absurd (let never : ⊥ = cc e in never)

@@ -42,6 +42,7 @@ use Rattle.ran_laws.proofs.Open.{others_more, own_more}
 use Rattle.ran_laws.specs.Open.{IsNamed}
 use Rattle.told_laws.specs.Laws.{is_quiet}
 
+-- What is true is not false.
 true_false : true ≡ false → ⊥
 true_false e = cc
 
@@ -66,6 +67,7 @@ quiet_own own (event.Seal table block) told q = absurd (true_false (sym q))
 quiet_own own (event.Image table block image) told q = absurd (true_false (sym q))
 quiet_own own (event.Thaw table block) told q = refl
 
+-- A quiet event begins and ends no transaction, and is none that a call ends with.
 quiet_calm : (e : CoreEvent) → is_quiet e ≡ true → (is_calm e ≡ true) × (is_final e ≡ false)
 quiet_calm (event.Begin session) q = absurd (true_false (sym q))
 quiet_calm (event.Get own table key) q = (refl, refl)
@@ -94,15 +96,19 @@ quiet_stays at next e told q step = event_stays at next e told (quiet_calm e q).
 
 -- ---- places of a map
 
+-- An option is not both nothing and something.
 none_some : {X : Type 0} (x : X) → None ≡ Some x → ⊥
 none_some x e = cc
 
+-- A list without elements has no first one.
 no_more : {X : Type 0} (x : X) (xs : List X) → [] ≡ x ∷ xs → ⊥
 no_more x xs e = cc
 
+-- Lists that are equal have the same first element.
 first_of : {X : Type 0} (a b : X) (xs ys : List X) → a ∷ xs ≡ b ∷ ys → a ≡ b
 first_of a b xs ys e = cc
 
+-- Lists that are equal have the same elements behind the first.
 rest_of : {X : Type 0} (a b : X) (xs ys : List X) → a ∷ xs ≡ b ∷ ys → xs ≡ ys
 rest_of a b xs ys e = cc
 
@@ -126,9 +132,11 @@ same_keys (x ∷ xs) (y ∷ ys) k v w e =
     go Equal rest = e
     go Greater rest = ap (λ ks. x.0 ∷ ks) rest ∙ ap (λ p. p ∷ keys_of (insert_entry place_cmp ys k w)) head
 
+-- The key of the first of the places that is of the table.
 abbrev least_in : ℕ → List Place → Option ℤ
 least_in table places = option_map (λ (place : Place). place.key) (find (λ place. place.table == table) places)
 
+-- The first entry of a table has the key of the first place of it.
 least_is : {X : Type 0} (table : ℕ) (es : PlaceMap X)
     → option_map (λ (e : Place × X). e.0.key) (find (λ (e : Place × X). e.0.table == table) es) ≡ least_in table (keys_of es)
 least_is table [] = refl
@@ -169,12 +177,15 @@ least_same table own t e = least_is table own.writes ∙ ap (least_in table) e �
 
 -- ---- a write of the machine
 
+-- What a session asks of the machine.
 abbrev asked : ℕ → Act → Request
 asked q what = record { session = q; act = what }
 
+-- The answer, if there is one, is not that a write was accepted.
 abbrev NotAccepted : Option Answer → Type 0
 NotAccepted o = IfSome o (λ said. said ≡ answer.Accepted → ⊥)
 
+-- What refuses a write is not the answer that it was accepted.
 refuses : (r : Option Transaction) (l : Option ℕ) (b : Bool) (other : Answer) → (other ≡ answer.Accepted → ⊥)
     → NotAccepted (option_or (option_or (option_map (λ (rival : Transaction). answer.ConflictSession rival.session) r) (option_map (λ (n : ℕ). answer.ConflictCommit n) l)) (cond b (Some other) None))
 refuses (Some t) l b other ne = λ e. (let never : ⊥ = cc e in never)
@@ -188,16 +199,20 @@ Goes m next q place value said =
     ((said ≡ answer.Accepted) × (t : Transaction) × (transaction_of q m ≡ Some t) × (next ≡ with_own t.session place value m))
     ⊎ ((said ≡ answer.Accepted → ⊥) × (next ≡ m))
 
+-- An answer of the machine, with the machine behind it.
 abbrev pair : Answer → IsolationMachine → Answer × IsolationMachine
 pair said next = (said, next)
 
+-- Steps that are equal have the same answer.
 said_is : (a b : Answer × IsolationMachine) → a ≡ b → a.0 ≡ b.0
 said_is a b e = ap (λ (p : Answer × IsolationMachine). p.0) e
 
+-- Steps that are equal leave the same machine.
 next_is : (a b : Answer × IsolationMachine) → a ≡ b → a.1 ≡ b.1
 next_is a b e = ap (λ (p : Answer × IsolationMachine). p.1) e
 
 module _ (m next : IsolationMachine) (q : ℕ) (place : Place) (value : Option (List Cell)) where
+  -- A write of an open transaction is accepted and entered, or leaves the machine.
   goes_write : (t : Transaction) (refusal : Option Answer) (said : Answer) → transaction_of q m ≡ Some t → NotAccepted refusal
       → write m t place value refusal ≡ pair said next → Goes m next q place value said
   goes_write t (Some a) said is ne e = inr (λ s. ne (said_is (pair a m) (pair said next) e ∙ s), sym (next_is (pair a m) (pair said next) e))
@@ -208,6 +223,7 @@ module _ (m next : IsolationMachine) (q : ℕ) (place : Place) (value : Option (
     sym (next_is (pair answer.Accepted (with_own t.session place value m)) (pair said next) e),
   )
 
+  -- A write without a transaction leaves the machine.
   not_open : (said : Answer) → pair answer.NoTransaction m ≡ pair said next → Goes m next q place value said
   not_open said e = inr (λ s. not_so (said_is (pair answer.NoTransaction m) (pair said next) e ∙ s), sym (next_is (pair answer.NoTransaction m) (pair said next) e))
     where
@@ -223,6 +239,7 @@ insert_goes m next q table row said h = go (transaction_of q m) refl h
     go (Some t) is e = goes_write m next q (place_of table row) (Some row) t (refusal_of_insert m t (place_of table row)) said is
         (refuses _ _ _ answer.Exists (λ x. (let never : ⊥ = cc x in never))) e
 
+-- An update is accepted and entered, or leaves the machine.
 update_goes : (m next : IsolationMachine) (q table : ℕ) (row : List Cell) (said : Answer) → step m (asked q (act.Update table row)) ≡ pair said next
     → Goes m next q (place_of table row) (Some row) said
 update_goes m next q table row said h = go (transaction_of q m) refl h
@@ -232,6 +249,7 @@ update_goes m next q table row said h = go (transaction_of q m) refl h
     go (Some t) is e = goes_write m next q (place_of table row) (Some row) t (refusal_of_change m t (place_of table row)) said is
         (refuses _ _ _ answer.Missing (λ x. (let never : ⊥ = cc x in never))) e
 
+-- A delete is accepted and entered, or leaves the machine.
 delete_goes : (m next : IsolationMachine) (q table : ℕ) (key : ℤ) (said : Answer) → step m (asked q (act.Delete table key)) ≡ pair said next
     → Goes m next q (place_at table key) None said
 delete_goes m next q table key said h = go (transaction_of q m) refl h
@@ -249,15 +267,18 @@ WriteGoes m next q place value told =
 
 module _ (m next : IsolationMachine) (q : ℕ) (place : Place) (value : Option (List Cell)) (what : Act)
     (goes : (said : Answer) → step m (asked q what) ≡ pair said next → Goes m next q place value said) where
+  -- A write that the machine does not accept is entered on neither side.
   refused_goes : (said : Answer) (told : CoreReply) → (said ≡ answer.Accepted → ⊥) → ((own : OwnTransaction) → opened.with_own place told own ≡ own)
       → Goes m next q place value said → WriteGoes m next q place value told
   refused_goes said told ne same (inl g) = absurd (ne g.0)
   refused_goes said told ne same (inr g) = inr (same, g.1)
 
+  -- A write that is granted a slot is entered in the machine.
   granted_goes : (slot : ℕ) → Goes m next q place value answer.Accepted → WriteGoes m next q place value (reply.Written slot)
   granted_goes slot (inl g) = inl (slot, refl, g.1, g.2, g.3)
   granted_goes slot (inr g) = absurd (g.0 refl)
 
+  -- A write goes as it was told, granted, refused, or without memory.
   write_goes : (refused : Bool) (r : Result ℕ WriteFault) → IsTold m (asked q what) (cond refused reply.Memory (reply_to_write r)) next
       → WriteGoes m next q place value (cond refused reply.Memory (reply_to_write r))
   write_goes true r h = inr (λ own. refl, h.2)
@@ -276,10 +297,12 @@ abbrev Keeps : ℕ → CoreEvent → CoreReply → IsolationMachine → Isolatio
 Keeps q e told m next = (own : Option OwnTransaction) → places_own own ≡ places_open (transaction_of q m)
     → (places_own (own_behind own e told) ≡ places_open (transaction_of q next)) × ((r : ℕ) → r ≢ q → transaction_of r next ≡ transaction_of r m)
 
+-- An event that leaves what is open and the machine keeps the places the same.
 aside : (q : ℕ) (e : CoreEvent) (told : CoreReply) (m next : IsolationMachine) → ((own : Option OwnTransaction) → own_behind own e told ≡ own) → next ≡ m → Keeps q e told m next
 aside q e told m next same stays own was =
     (ap places_own (same own) ∙ was ∙ ap (λ n. places_open (transaction_of q n)) (sym stays), λ r ne. ap (transaction_of r) stays)
 
+-- A write that was granted keeps the places the same, with its own on both sides.
 written_keeps : (q : ℕ) (e : CoreEvent) (told : CoreReply) (m next : IsolationMachine) (place : Place) (value : Option (List Cell)) (slot : ℕ) (t : Transaction)
     → ((own : Option OwnTransaction) → own_behind own e told ≡ option_map (opened.with_own place told) own)
     → told ≡ reply.Written slot → transaction_of q m ≡ Some t → next ≡ with_own t.session place value m → Keeps q e told m next
@@ -302,6 +325,7 @@ written_keeps q e told m next place value slot t behind is mine n own was = (go 
         ∙ ap (λ ks. Some ks) (same_keys o.writes t.own place slot value (some_list (keys_of o.writes) (keys_of t.own) (was ∙ ap places_open mine)))
         ∙ ap places_open (sym now)
 
+-- A write that goes as it was told keeps the places the same.
 writes_keep : (q : ℕ) (e : CoreEvent) (told : CoreReply) (m next : IsolationMachine) (place : Place) (value : Option (List Cell))
     → ((own : Option OwnTransaction) → own_behind own e told ≡ option_map (opened.with_own place told) own)
     → WriteGoes m next q place value told → Keeps q e told m next
@@ -317,6 +341,7 @@ record Leaves (q : ℕ) (m next : IsolationMachine) (left : Option Transaction) 
   own : transaction_of q next ≡ left
   others : (r : ℕ) → r ≢ q → transaction_of r next ≡ transaction_of r m
 
+-- A begin leaves its session a new transaction, and the others theirs.
 begin_leaves : (m next : IsolationMachine) (q number : ℕ) → step m (asked q act.Begin) ≡ pair (answer.At number) next
     → Leaves q m next (Some (record { session = q; snapshot = length m.history; own = [] }))
 begin_leaves m next q number h = go (transaction_of q m) refl h
@@ -338,6 +363,7 @@ begin_leaves m next q number h = go (transaction_of q m) refl h
           others = λ r ne. ap (transaction_of r) (sym there) ∙ of-append-other r m.open_transactions new (λ e. ne (sym e));
         }
 
+-- A transaction that is taken out leaves its session none, and the others theirs.
 without_leaves : (m next : IsolationMachine) (q : ℕ) (t : Transaction) → transaction_of q m ≡ Some t
     → next.open_transactions ≡ (without t.session m).open_transactions → Leaves q m next None
 without_leaves m next q t is e =
@@ -346,6 +372,7 @@ without_leaves m next q t is e =
       others = λ r ne. ap (λ ts. Rattle.follow_laws.proofs.Machines.of r ts) e ∙ of-without r t.session m.open_transactions (λ e. ne (e ∙ same));
     }
 
+-- A commit leaves its session no transaction, and the others theirs.
 commit_leaves : (m next : IsolationMachine) (q : ℕ) (number : Option ℕ) → step m (asked q act.Commit) ≡ pair (answer.Committed number) next → Leaves q m next None
 commit_leaves m next q number h = go (transaction_of q m) refl h
   where
@@ -361,6 +388,7 @@ commit_leaves m next q number h = go (transaction_of q m) refl h
     go None is e = absurd (not_committed (said_is (pair answer.NoTransaction m) (pair (answer.Committed number) next) e))
     go (Some t) is e = without_leaves m next q t is (ended t t.own e)
 
+-- An abort leaves its session no transaction, and the others theirs.
 abort_leaves : (m next : IsolationMachine) (q : ℕ) → step m (asked q act.Abort) ≡ pair answer.Aborted next → Leaves q m next None
 abort_leaves m next q h = go (transaction_of q m) refl h
   where
@@ -371,6 +399,7 @@ abort_leaves m next q h = go (transaction_of q m) refl h
     go None is e = absurd (not_aborted (said_is (pair answer.NoTransaction m) (pair answer.Aborted next) e))
     go (Some t) is e = without_leaves m next q t is (ap (λ (p : Answer × IsolationMachine). p.1.open_transactions) (sym e))
 
+-- A step that leaves open what the session's events do keeps the places the same.
 leaves_keep : (q session : ℕ) (e : CoreEvent) (told : CoreReply) (m next : IsolationMachine) (left : Option Transaction) → session ≡ q
     → ((own : Option OwnTransaction) → places_own (own_behind own e told) ≡ places_open left) → Leaves session m next left → Keeps q e told m next
 leaves_keep q session e told m next left same behind leaves own was = (
@@ -379,9 +408,11 @@ leaves_keep q session e told m next left same behind leaves own was = (
 )
 
 module _ (shape : Shape) (parts : Parts) (q : ℕ) (m next : IsolationMachine) where
+  -- What an event is told: its reply, or the lack of memory.
   abbrev told_to : CoreEvent → Bool → CoreReply
   told_to e refused = cond refused reply.Memory (reply_to shape parts e)
 
+  -- A begin keeps the places the same on both sides.
   begin_keeps : (session : ℕ) (refused : Bool) → session ≡ q → IsStep (command_in (event.Begin session)) m (told_to (event.Begin session) refused) next
       → Keeps q (event.Begin session) (told_to (event.Begin session) refused) m next
   begin_keeps session true same (inl h, some, rest) own was = absurd h
@@ -391,6 +422,7 @@ module _ (shape : Shape) (parts : Parts) (q : ℕ) (m next : IsolationMachine) w
       leaves_keep q session (event.Begin session) (told_to (event.Begin session) false) m next (Some (record { session = session; snapshot = length m.history; own = [] })) same
       (λ own. refl) (begin_leaves m next session _ h) own was
 
+  -- A commit keeps the places the same on both sides.
   commit_keeps : (handed : OwnTransaction) (refused : Bool) → handed.session ≡ q → IsStep (command_in (event.Commit handed)) m (told_to (event.Commit handed) refused) next
       → Keeps q (event.Commit handed) (told_to (event.Commit handed) refused) m next
   commit_keeps handed true same (inl h, some, rest) own was = absurd h
@@ -399,6 +431,7 @@ module _ (shape : Shape) (parts : Parts) (q : ℕ) (m next : IsolationMachine) w
   commit_keeps handed false same h own was =
       leaves_keep q handed.session (event.Commit handed) (told_to (event.Commit handed) false) m next None same (λ own. refl) (commit_leaves m next handed.session _ h) own was
 
+  -- An abort keeps the places the same on both sides.
   abort_keeps : (handed : OwnTransaction) (refused : Bool) → handed.session ≡ q → IsStep (command_in (event.Abort handed)) m (told_to (event.Abort handed) refused) next
       → Keeps q (event.Abort handed) (told_to (event.Abort handed) refused) m next
   abort_keeps handed true same (inl h, some, rest) own was = absurd h
@@ -407,6 +440,7 @@ module _ (shape : Shape) (parts : Parts) (q : ℕ) (m next : IsolationMachine) w
   abort_keeps handed false same h own was =
       leaves_keep q handed.session (event.Abort handed) (told_to (event.Abort handed) false) m next None same (λ own. refl) (abort_leaves m next handed.session h) own was
 
+  -- A quiet event keeps the places the same on both sides.
   quiet_keeps : (e : CoreEvent) (told : CoreReply) → is_quiet e ≡ true → IsStep (command_in e) m told next → Keeps q e told m next
   quiet_keeps e told quiet h = aside q e told m next (λ own. quiet_own own e told quiet) (quiet_stays m next e told quiet h)
 
@@ -479,14 +513,17 @@ quiet_fits (event.Seal table block) q = tt
 quiet_fits (event.Image table block image) q = tt
 quiet_fits (event.Thaw table block) q = tt
 
+-- A write of a key of 64 bits leaves the keys of a transaction such keys.
 with_own_fits : (place : Place) (told : CoreReply) (t : OwnTransaction) → is_key_number place.key ≡ true → KeysFit (Some t) → KeysFit (Some (opened.with_own place told t))
 with_own_fits place (reply.Written slot) t fits all = All-keys-insert_entry place_cmp place slot (λ (place : Place). is_key_number place.key ≡ true) t.writes all fits
 with_own_fits place _ t fits all = all
 
+-- A write of a key of 64 bits leaves the keys of what is open such keys.
 writes_fit : (place : Place) (told : CoreReply) (own : Option OwnTransaction) → is_key_number place.key ≡ true → KeysFit own → KeysFit (option_map (opened.with_own place told) own)
 writes_fit place told None fits all = tt
 writes_fit place told (Some t) fits all = with_own_fits place told t fits all
 
+-- An event of a key of 64 bits leaves the keys of what is open such keys.
 event_fits : (shape : Shape) (parts : Parts) (e : CoreEvent) (refused : Bool) (own : Option OwnTransaction) → KeyFits e → KeysFit own
     → KeysFit (own_behind own e (cond refused reply.Memory (reply_to shape parts e)))
 event_fits shape parts (event.Begin session) true own fits all = all
@@ -533,6 +570,7 @@ KeysAgree front at = (session : ℕ) → SameKeys (own_after (under session fron
 pub no_keys : KeysAgree [] machine.opening
 no_keys session = record { places = refl; fit = tt }
 
+-- Two numbers are equal, or they are not.
 same_or_not : (a b : ℕ) → (a ≡ b) ⊎ (a ≢ b)
 same_or_not a b = go (a == b) refl
   where

@@ -19,6 +19,7 @@ use Rattle.run_spec.specs.Told.{dropped_told}
 use Rattle.ran_laws.specs.Upkeep.{AreReplied}
 use Rattle.sound_laws.proofs.Bodies.{and_parts}
 
+-- What is true is not false.
 true_false : true ≡ false → ⊥
 true_false e = cc
 
@@ -58,6 +59,7 @@ abbrev pub dropped_at : CoreEvent → CoreReply → ℕ
 dropped_at (event.Prune table block oldest) told = dropped_told told
 dropped_at _ told = 0
 
+-- A choice between zero and zero is at most any number.
 cut : (b : Bool) (m n : ℕ) → cond b 0 0 ≤ n
 cut true m n = omega arith
 cut false m n = omega arith
@@ -88,6 +90,7 @@ untold_rises blocks way (event.Thaw table block) told = omega arith
 
 -- ---- the events of a pruning
 
+-- The event is the prune of one block.
 abbrev is_prune : CoreEvent → Bool
 is_prune (event.Prune table block oldest) = true
 is_prune _ = false
@@ -98,6 +101,7 @@ is_pruning event.Oldest = true
 is_pruning (event.Prune table block oldest) = true
 is_pruning _ = false
 
+-- Events that are all prunes are all events of a pruning.
 as_pruning : (es : List CoreEvent) → list_all is_prune es ≡ true → list_all is_pruning es ≡ true
 as_pruning [] all = refl
 as_pruning (event.Prune t b n ∷ es) all = as_pruning es all
@@ -123,6 +127,7 @@ record IsPrune (e : CoreEvent) : Type 0 where
   oldest : ℕ
   is : e ≡ event.Prune table block oldest
 
+-- An event that is tested to be a prune is one of some block.
 the_prune : (e : CoreEvent) → is_prune e ≡ true → IsPrune e
 the_prune (event.Prune t b n) all = record { table = t; block = b; oldest = n; is = refl }
 the_prune (event.Begin session) all = absurd (true_false (sym all))
@@ -155,28 +160,33 @@ prunes_on (o ∷ os) way all =
     let l = sum_by-cons dropped_told o.reply (replies_in os) in
     (omega (arith, a, c), omega (arith, b, d, l))
 
+-- Two lists of prunes are one together.
 all_append : (xs ys : List CoreEvent) → list_all is_prune xs ≡ true → list_all is_prune ys ≡ true → list_all is_prune (xs ++ ys) ≡ true
 all_append [] ys a b = b
 all_append (x ∷ xs) ys a b =
     let both = and_parts (is_prune x) (list_all is_prune xs) a in
     ap (λ c. c && list_all is_prune (xs ++ ys)) both.0 ∙ all_append xs ys both.1 b
 
+-- The prunes of some blocks of a table are all prunes.
 at_blocks_all : (n t : ℕ) (bs : List ℕ) → list_all is_prune (map (λ b. event.Prune t b n) bs) ≡ true
 at_blocks_all n t [] = refl
 at_blocks_all n t (b ∷ bs) = at_blocks_all n t bs
 
+-- The prunes of all blocks of some tables are all prunes.
 at_tables_all : (shape : Shape) (n : ℕ) (ts : List ℕ) → list_all is_prune (flat_map (λ t. map (λ b. event.Prune t b n) (below (blocks_of shape t))) ts) ≡ true
 at_tables_all shape n [] = refl
 at_tables_all shape n (t ∷ ts) =
     all_append (map (λ b. event.Prune t b n) (below (blocks_of shape t))) (flat_map (λ t. map (λ b. event.Prune t b n) (below (blocks_of shape t))) ts)
     (at_blocks_all n t (below (blocks_of shape t))) (at_tables_all shape n ts)
 
+-- The prunes of all blocks up to some oldest stamps are all prunes.
 at_oldests_all : (shape : Shape) (ns : List ℕ) → list_all is_prune (flat_map (λ n. at_all_blocks shape (λ t b. event.Prune t b n)) ns) ≡ true
 at_oldests_all shape [] = refl
 at_oldests_all shape (n ∷ ns) =
     all_append (at_all_blocks shape (λ t b. event.Prune t b n)) (flat_map (λ n. at_all_blocks shape (λ t b. event.Prune t b n)) ns)
     (at_tables_all shape n (tables_of shape)) (at_oldests_all shape ns)
 
+-- One event for each block makes as many events as another does.
 as_long : (shape : Shape) (f g : ℕ → ℕ → CoreEvent) (ts : List ℕ)
     → length (flat_map (λ t. map (f t) (below (blocks_of shape t))) ts) ≡ length (flat_map (λ t. map (g t) (below (blocks_of shape t))) ts)
 as_long shape f g [] = refl
@@ -187,6 +197,7 @@ as_long shape f g (t ∷ ts) =
     let rest = as_long shape f g ts in
     omega (arith, a, b, c, d, rest)
 
+-- No prune is replied an oldest stamp.
 no_oldest : (shape : Shape) (os : List Occurrence) → AreReplied shape os → list_all is_prune (events_in os) ≡ true → filter_map oldest_told (replies_in os) ≡ []
 no_oldest shape [] replied all = refl
 no_oldest shape (o ∷ os) replied all =
@@ -199,16 +210,20 @@ no_oldest shape (o ∷ os) replied all =
     go true t b n e = ap oldest_told e
     go false t b n e = ap oldest_told e
 
+-- There are as many events as occurrences.
 events_long : (os : List Occurrence) → length (events_in os) ≡ length os
 events_long os = length-map os (λ (o : Occurrence). o.event)
 
+-- Where a disjunction is false, its first part is.
 or_first : (a b : Bool) → (Rattle.std.proofs.Common.◌||◌ a b) ≡ false → a ≡ false
 or_first true b e = absurd (true_false e)
 or_first false b e = refl
 
+-- Lists of events that are equal have the same first event.
 head_is : (x y : CoreEvent) (xs ys : List CoreEvent) → x ∷ xs ≡ y ∷ ys → x ≡ y
 head_is x y xs ys e = cc
 
+-- Lists of events that are equal have the same events behind the first.
 tail_is : (x y : CoreEvent) (xs ys : List CoreEvent) → x ∷ xs ≡ y ∷ ys → xs ≡ ys
 tail_is x y xs ys e = cc
 
@@ -218,6 +233,7 @@ pub record Prunes (shape : Shape) (began made : List Occurrence) : Type 0 where
   pub drops : (way_of (began ++ made)).drops ≡ sum_by dropped_told (replies_in made)
   pub pruning : list_all is_pruning (events_in made) ≡ true
 
+-- A pruning whose events were all granted prunes each block and tells what it dropped.
 prunes_made : (shape : Shape) (began made : List Occurrence) → events_in made ≡ event.Oldest ∷ prunes shape made → list_any is_refused made ≡ false → AreReplied shape made
     → Prunes shape began made
 prunes_made shape began [] events granted replied = absurd (let never : ⊥ = cc events in never)

@@ -37,6 +37,7 @@ use Rattle.explained_laws.specs.Reads.{ReadsStand, Stands, StandsRead, is_read}
 
 -- ---- rows of a read
 
+-- A read finds no more rows than its block has slots.
 rows_fit : (shape : Shape) (parts : Parts) (own : OwnTransaction) (table block : ℕ) → length (rows_read shape parts own table block) ≤ length (body_at shape parts table block).slots
 rows_fit shape parts own table block = go 0 (length (body_at shape parts table block).slots)
   where
@@ -49,22 +50,27 @@ rows_fit shape parts own table block = go 0 (length (body_at shape parts table b
         one None h = omega (arith, h)
         one (Some row) h = omega (arith, h)
 
+-- Rows that are one at least are some.
 some_row : (rows : List Row) → 1 ≤ length rows → is_some_row rows ≡ true
 some_row [] low = absurd (let never : ⊥ = omega (arith, low) in never)
 some_row (row ∷ rows) low = refl
 
+-- An option is not both nothing and something.
 none_same : {X : Type 0} (x : X) → None ≡ Some x → ⊥
 none_same x e = cc
 
+-- Two numbers that are equal as options are equal.
 some_same : (a b : ℕ) → Some a ≡ Some b → a ≡ b
 some_same a b e = cc
 
 -- ---- an event of another session
 
 module _ (shape : Shape) (parts : Parts) (e : CoreEvent) (is_shape : IsShape shape) (ok : Sound shape parts) (lawful : IsLawful shape e parts) where
+  -- The state after a lawful event is sound.
   next_ok : Sound shape (effect shape parts e)
   next_ok = keeps shape parts e is_shape ok lawful
 
+  -- After another session's event a transaction owns what it did.
   owns_still : (own : OwnTransaction) → session_of e ≢ Some own.session → OwnsAll shape own parts → OwnsAll shape own (effect shape parts e)
   owns_still own other owns = (
     owns.0,
@@ -75,12 +81,14 @@ module _ (shape : Shape) (parts : Parts) (e : CoreEvent) (is_shape : IsShape sha
       again None h = absurd h
       again (Some x) h = record { snapshot = h.snapshot; writes = h.writes }
 
+  -- After another session's event a transaction reads the same row at a place.
   row_still : (own : OwnTransaction) (table : ℕ) → session_of e ≢ Some own.session → OwnsAll shape own parts → (place : ℕ)
       → row_read shape (effect shape parts e) own table place ≡ row_read shape parts own table place
   row_still own table other owns place = ap
       (Rattle.std.specs.Prelude.option_and_then (λ row. cond (Rattle.event_spec.specs.Replies.is_elsewhere (Rattle.isolation_spec.specs.Contents.at_place own.writes (Rattle.isolation_spec.specs.Contents.place_at table (Rattle.isolation_spec.specs.Contents.key_of row))) place) None (Some row)))
       (seen_stays shape parts e own.session own.snapshot is_shape ok lawful (all_open shape parts ok own owns) other table place)
 
+  -- After another session's event a transaction reads the same rows of a block.
   rows_still : (own : OwnTransaction) (table block : ℕ) → session_of e ≢ Some own.session → OwnsAll shape own parts → HasBlock shape table block
       → rows_read shape (effect shape parts e) own table block ≡ rows_read shape parts own table block
   rows_still own table block other owns has =
@@ -90,6 +98,7 @@ module _ (shape : Shape) (parts : Parts) (e : CoreEvent) (is_shape : IsShape sha
       ∙ ap (λ (f : ℕ → Option Row). filter_map f (below (length (body_at shape parts table block).slots)))
       (λ i slot. row_still own table other owns (place_of block slot) i)
 
+  -- After another session's event a read stands as it did.
   stands_still : (session : ℕ) (made : Occurrence) → session_of e ≢ Some session → Stands shape parts session made → Stands shape (effect shape parts e) session made
   stands_still session made other stands own table block is =
       let old = stands own table block is in
@@ -104,12 +113,14 @@ module _ (shape : Shape) (parts : Parts) (e : CoreEvent) (is_shape : IsShape sha
 
 -- ---- a read
 
+-- A phase that is imaged is not loose.
 imaged_loose : (phase : Phase) → is_imaged phase ≡ true → is_loose phase ≡ false
 imaged_loose Loose e = absurd (true_false (sym e))
 imaged_loose (Sealed g) e = absurd (true_false (sym e))
 imaged_loose (Imaged g) e = refl
 
 module _ (shape : Shape) (parts : Parts) (is_shape : IsShape shape) (ok : Sound shape parts) where
+  -- The rows that a transaction reads of an imaged block are its rows.
   shared_is : (own : OwnTransaction) (table block : ℕ) → OwnsAll shape own parts → HasBlock shape table block → is_imaged (body_at shape parts table block).phase ≡ true
       → rows_read shape parts own table block ≡ rows_of (body_at shape parts table block)
   shared_is own table block owns has imaged =
@@ -118,6 +129,7 @@ module _ (shape : Shape) (parts : Parts) (is_shape : IsShape shape) (ok : Sound 
       let t = f.follows.desked.begun own.session own.snapshot open'.counted open'.is_open in
       (reads_hold_each_row shape parts own table ok.follows.0 t.0 is_shape ok owns f t.1).shared block has imaged
 
+  -- A lawful read stands where it was made, granted or refused memory.
   read_stands : (refused : Bool) (session : ℕ) (under_it : ℕ) (own : OwnTransaction) (table block : ℕ) → IsLawful shape (event.Read own table block) parts → own.session ≡ session
       → StandsRead shape parts session
       (record { session = under_it; before = parts; event = event.Read own table block; reply = cond refused reply.Memory (reply_to shape parts (event.Read own table block)) })
@@ -178,6 +190,7 @@ module _ (shape : Shape) (parts : Parts) (is_shape : IsShape shape) (ok : Sound 
             some = λ shared. absurd (true_false (sym shared));
           })
 
+-- A read leaves the parts as they are.
 read_leaves : (shape : Shape) (parts : Parts) (e : CoreEvent) → is_read e ≡ true → effect shape parts e ≡ parts
 read_leaves shape parts (event.Read own table block) e = Rattle.event_laws.proofs.Still.all_stay (Rattle.event_spec.specs.Parts.names shape) parts
 read_leaves shape parts (event.Begin session) e = absurd (true_false (sym e))
@@ -196,6 +209,7 @@ read_leaves shape parts (event.Seal table block) e = absurd (true_false (sym e))
 read_leaves shape parts (event.Image table block image) e = absurd (true_false (sym e))
 read_leaves shape parts (event.Thaw table block) e = absurd (true_false (sym e))
 
+-- A read in the log leaves the parts, granted or refused memory.
 after_read : (shape : Shape) (parts : Parts) (entry : Logged) → is_read entry.made.event ≡ true → after shape parts entry.made ≡ parts
 after_read shape parts entry e = go entry.made.refused
   where
@@ -205,6 +219,7 @@ after_read shape parts entry e = go entry.made.refused
 
 -- ---- the last of some events
 
+-- The last occurrence is the last of those done, unless none was done.
 last_of : (xs : List Occurrence) (x : Occurrence) (began done : List Occurrence) → xs ++ x ∷ [] ≡ began ++ done
     → (done ≡ []) ⊎ ((less : List Occurrence) × (done ≡ less ++ x ∷ []) × (xs ≡ began ++ less))
 last_of xs x [] done e = inr (xs, sym e, refl)
@@ -221,16 +236,19 @@ last_of (y ∷ xs) x (b ∷ began) done e =
     go (inl e) same = inl e
     go (inr h) same = inr (h.0, h.1, ap (λ z. z ∷ xs) same ∙ ap (λ zs. b ∷ zs) h.2)
 
+-- The events of two lists of occurrences are those of the one, then of the other.
 events_append : (xs ys : List Occurrence) → events_in (xs ++ ys) ≡ events_in xs ++ events_in ys
 events_append [] ys = refl
 events_append (x ∷ xs) ys = ap (λ es. x.event ∷ es) (events_append xs ys)
 
+-- Where two lists of events are together all reads, each of them is.
 all_front : (xs ys : List CoreEvent) → list_all is_read (xs ++ ys) ≡ true → (list_all is_read xs ≡ true) × (list_all is_read ys ≡ true)
 all_front [] ys e = (refl, e)
 all_front (x ∷ xs) ys e =
     let rest = all_front xs ys (and_second (is_read x) (list_all is_read (xs ++ ys)) e) in
     (Rattle.ran_laws.proofs.Along.both (is_read x) (list_all is_read xs) (and_first (is_read x) (list_all is_read (xs ++ ys)) e) rest.0, rest.1)
 
+-- Two numbers are equal, or they are not.
 same_number : (a b : ℕ) → (a ≡ b) ⊎ (a ≢ b)
 same_number a b = go (a == b) refl
   where
@@ -238,6 +256,7 @@ same_number a b = go (a == b) refl
     go true e = inl (grind (arith, nat_tests))
     go false e = inr (λ s. absurd (grind (arith, nat_tests)))
 
+-- An event that is named for one session is not another's.
 named_other : (o : Option ℕ) (q r : ℕ) → IfSome o (λ session. session ≡ r) → (q ≡ r → ⊥) → o ≢ Some q
 named_other None q r named ne e = none_same q e
 named_other (Some s) q r named ne e = ne (sym (some_same s q e) ∙ named)

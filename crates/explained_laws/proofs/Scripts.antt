@@ -38,6 +38,7 @@ use Rattle.moment_laws.specs.Laws.{IsAsked}
 use Rattle.moment_laws.proofs.Seats.{either}
 use Rattle.explained_laws.proofs.Keys.{KeyFits}
 
+-- What a test says of all of a list it says of each element.
 all_member : {X : Type 0} (p : X → Bool) (xs : List X) (x : X) → list_all p xs ≡ true → Among x xs → p x ≡ true
 all_member p [] x all a = absurd a
 all_member p (y ∷ xs) x all (inl e) = ap p e ∙ and_first (p y) (list_all p xs) all
@@ -45,10 +46,12 @@ all_member p (y ∷ xs) x all (inr a) = all_member p xs x (and_second (p y) (lis
 
 -- ---- workers
 
+-- Lists of commands that are each all upkeep are so together.
 upkeep_flat : {X : Type 0} (f : X → List Command) → ((x : X) → list_all is_upkeep (f x) ≡ true) → (xs : List X) → list_all is_upkeep (flat_map f xs) ≡ true
 upkeep_flat f each [] = refl
 upkeep_flat f each (x ∷ xs) = list_all-append is_upkeep (f x) (flat_map f xs) ∙ both (list_all is_upkeep (f x)) (list_all is_upkeep (flat_map f xs)) (each x) (upkeep_flat f each xs)
 
+-- The commands of a worker's turns are all upkeep.
 turns_upkeep : (script : Script) → list_all is_upkeep (turns_of script) ≡ true
 turns_upkeep script = upkeep_flat (λ turn. turn_of script.tables) (λ turn. each) (range_with_len 1 script.turns)
   where
@@ -66,10 +69,12 @@ worker_upkeep script seat asked high is =
 
 -- ---- keys
 
+-- A row without a fault has the right number of cells, and none with a fault.
 fit_parts : (b : Bool) (fault : Option RowFault) → is_none (cond b fault (Some Arity)) ≡ true → (b ≡ true) × (is_none fault ≡ true)
 fit_parts true fault fitting = (refl, fitting)
 fit_parts false fault fitting = absurd (let never : ⊥ = cc fitting in never)
 
+-- Where neither a first fault nor one behind it is found, the first is none.
 first_fits : (own rest : Option RowFault) → is_none (cond (is_none own) rest own) ≡ true → is_none own ≡ true
 first_fits None rest none = refl
 first_fits (Some fault) rest none = absurd (let never : ⊥ = cc none in never)
@@ -93,6 +98,7 @@ module _ (script : Script) (valid : is_valid script ≡ true) where
   head = and_first (has_head script) (nat_lt 0 (length script.rounds)) (and_first (has_head script && nat_lt 0 (length script.rounds)) (list_all (is_line script) (all_lines script))
       (and_first (has_head script && nat_lt 0 (length script.rounds) && list_all (is_line script) (all_lines script)) (nat_le (Rattle.std.specs.Prelude.count_by (λ line. is_export line.command) (all_lines script)) 1) valid))
 
+  -- The lines of a valid script are all as a line has to be.
   lines_are : list_all (is_line script) (all_lines script) ≡ true
   lines_are = and_second (has_head script && nat_lt 0 (length script.rounds)) (list_all (is_line script) (all_lines script))
       (and_first (has_head script && nat_lt 0 (length script.rounds) && list_all (is_line script) (all_lines script)) (nat_le (Rattle.std.specs.Prelude.count_by (λ line. is_export line.command) (all_lines script)) 1) valid)
@@ -112,6 +118,7 @@ module _ (script : Script) (valid : is_valid script ≡ true) where
 
   -- ---- tables
 
+  -- The tables of a valid script are all as a table has to be.
   tables_are : list_all is_table script.tables ≡ true
   tables_are = and_second (script.version == 1 && is_within 1 most_tables (length script.tables)) (list_all is_table script.tables)
       (and_first (script.version == 1 && is_within 1 most_tables (length script.tables) && list_all is_table script.tables) (have_own_names script.tables)
@@ -119,6 +126,7 @@ module _ (script : Script) (valid : is_valid script ≡ true) where
       (and_first (script.version == 1 && is_within 1 most_tables (length script.tables) && list_all is_table script.tables && have_own_names script.tables && is_within 1 most_sessions script.sessions) (nat_le script.workers most_workers)
       (and_first (script.version == 1 && is_within 1 most_tables (length script.tables) && list_all is_table script.tables && have_own_names script.tables && is_within 1 most_sessions script.sessions && nat_le script.workers most_workers) (nat_le script.turns most_turns) head))))
 
+  -- Where all tables are as they have to be, one with a number below their count is.
   table_at : (tables : List TableDecl) (t : ℕ) → list_all is_table tables ≡ true → t < length tables → (decl : TableDecl) × (slice_get tables t ≡ Some decl) × (is_table decl ≡ true)
   table_at [] t all less = absurd (let never : ⊥ = omega (arith, less) in never)
   table_at (x ∷ tables) zero all less = (x, refl, and_first (is_table x) (list_all is_table tables) all)
@@ -173,6 +181,7 @@ module _ (script : Script) (valid : is_valid script ≡ true) where
 
   -- ---- keys that are written
 
+  -- The key of a row that fits its table is a number of 64 bits.
   row_fits : (t : ℕ) (row : List Cell) → fits_table script.tables t row ≡ true → is_key_number (key_of row) ≡ true
   row_fits t row fitting = go (nat_lt t (length script.tables)) refl
     where

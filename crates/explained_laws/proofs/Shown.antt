@@ -33,6 +33,7 @@ use Rattle.count_laws.specs.Stamps.{imaged_by, sealed_by}
 use Rattle.told_laws.specs.Laws.{TellsAt, TellsMove, TellsQuietly, is_plain, is_quiet}
 use Rattle.told_laws.proofs.Tells.{not_silent}
 
+-- What is true is not false.
 true_false : true ≡ false → ⊥
 true_false e = cc
 
@@ -76,14 +77,17 @@ is_frost (said.Sealed table block stamp) = true
 is_frost (said.Frozen table block rows) = true
 is_frost _ = false
 
+-- A line of no seal and no image shows no stamp of a block.
 no_stamp : (table block : ℕ) (line : Said) → is_frost line ≡ false → stamp_in table block line ≡ None
 no_stamp table block (said.Sealed t b stamp) e = absurd (true_false e)
 no_stamp table block _ e = refl
 
+-- A line of no seal and no image shows no rows of a block.
 no_rows : (table block : ℕ) (line : Said) → is_frost line ≡ false → rows_in table block line ≡ None
 no_rows table block (said.Frozen t b rows) e = absurd (true_false e)
 no_rows table block _ e = refl
 
+-- A plain line is of no seal and no image.
 plain_frost : (line : Said) → is_plain line ≡ true → is_frost line ≡ false
 plain_frost (said.Sealed t b stamp) e = absurd (true_false (sym e))
 plain_frost (said.Frozen t b rows) e = absurd (true_false (sym e))
@@ -107,6 +111,7 @@ pub plain_adds : (table block : ℕ) (told : Option Said) (line : Said) → told
 plain_adds table block told line is (inl plain) = adds_none table block told line is (plain_frost line plain)
 plain_adds table block told line is (inr moved) = adds_none table block told line is (ap is_frost moved)
 
+-- A line that is told quietly adds no seal and no image.
 quiet_adds : (table block : ℕ) (asked : Command) (made : List Occurrence) (told : Option Said) → TellsQuietly asked made told → Adds table block told 0 0
 quiet_adds table block asked made told (line, is, inl plain) = adds_none table block told line is (plain_frost line plain)
 quiet_adds table block asked made told (line, is, inr (inl moved)) = adds_none table block told line is (ap is_frost moved)
@@ -114,6 +119,7 @@ quiet_adds table block asked made told (line, is, inr (inr pruned)) = adds_none 
 
 -- ---- by the event
 
+-- A line that is meant and never silent is told.
 told_as : (worker : Bool) (told : Option Said) (meant : Option Said) (line : Said) → told ≡ line_to worker meant → meant ≡ Some line → is_silent line ≡ false → told ≡ Some line
 told_as worker told meant line tells is loud = tells ∙ ap (line_to worker) is ∙ not_silent worker line loud
 
@@ -126,10 +132,12 @@ silent_or true line told e = go (is_silent line) e
     go true e = inl e
     go false e = inr e
 
+-- A line of no seal and no image adds none of them, told or silent.
 adds_silent : (table block : ℕ) (line : Said) (told : Option Said) → is_frost line ≡ false → (told ≡ None) ⊎ (told ≡ Some line) → Adds table block told 0 0
 adds_silent table block line told none (inl e) = record { seals_are = ap (shown (stamp_in table block)) e; images_are = ap (shown (rows_in table block)) e }
 adds_silent table block line told none (inr e) = adds_none table block told line e none
 
+-- The test of two numbers is the same in either order.
 turn : (a b : ℕ) → (a == b) ≡ (b == a)
 turn a b = go (a == b) (b == a) refl refl
   where
@@ -139,13 +147,16 @@ turn a b = go (a == b) (b == a) refl refl
     go false true e f = absurd (let never : ⊥ = grind (arith, nat_tests, e, f) in never)
     go false false e f = refl
 
+-- The test of a table and a block is the same in either order.
 both_turned : (t b u c : ℕ) → ((u == t) && (c == b)) ≡ ((t == u) && (b == c))
 both_turned t b u c = ap (λ x. x && (c == b)) (turn u t) ∙ ap (λ x. (t == u) && x) (turn c b)
 
+-- A number that a test lets through counts one, and else none.
 one_if : (x : Bool) (n : ℕ) → option_map_or (λ (n : ℕ). 1) (cond x (Some n) None) 0 ≡ cond {A = ℕ} x 1 0
 one_if true n = refl
 one_if false n = refl
 
+-- A choice between zero and zero is zero.
 zero_if : (x : Bool) → cond {A = ℕ} x 0 0 ≡ 0
 zero_if true = refl
 zero_if false = refl
@@ -166,6 +177,7 @@ module _ (shape : Shape) (parts : Parts) (t b : ℕ) (worker : Bool) (asked : Co
   write_adds table true r tells = adds_none t b told said.Memory (tells ∙ not_silent worker said.Memory refl) refl
   write_adds table false r tells = let w = write_line table r in adds_none t b told w.0 (told_as worker told (told_by table 0 (reply_to_write r)) w.0 tells w.1 w.2) w.3
 
+  -- A seal's line adds one to its own block's seals where it was granted.
   seal_adds : (u c : ℕ) (refused : Bool) (because : Option SealFault) (last : ℕ)
       → told ≡ line_to worker (told_by u c (cond refused reply.Memory (reply_to_seal because last)))
       → Adds t b told (cond ((t == u) && (b == c)) (Rattle.count_laws.specs.Stamps.seals_told (cond refused reply.Memory (reply_to_seal because last))) 0) 0
@@ -181,6 +193,7 @@ module _ (shape : Shape) (parts : Parts) (t b : ℕ) (worker : Bool) (asked : Co
       let none = adds_silent t b (said.NotSealed (cause_told fault)) told refl (silent_or worker (said.NotSealed (cause_told fault)) told tells) in
       record { seals_are = none.seals_are ∙ sym (zero_if ((t == u) && (b == c))); images_are = none.images_are }
 
+  -- An image's line adds one to its own block's images where it was granted.
   image_adds : (u c : ℕ) (refused : Bool) (phase : Phase) (body : Rattle.block_spec.specs.Bodies.Body)
       → told ≡ line_to worker (told_by u c (cond refused reply.Memory (reply_to_image phase body)))
       → Adds t b told 0 (cond ((t == u) && (b == c)) (Rattle.count_laws.specs.Stamps.images_told (cond refused reply.Memory (reply_to_image phase body))) 0)
@@ -200,6 +213,7 @@ module _ (shape : Shape) (parts : Parts) (t b : ℕ) (worker : Bool) (asked : Co
         images_are = ap (shown (rows_in t b)) is ∙ one_if ((u == t) && (c == b)) rows ∙ ap (λ x. cond {A = ℕ} x 1 0) (both_turned t b u c);
       }
 
+  -- A move's line adds no seal and no image.
   move_adds : (r : CoreReply) → TellsMove r told → Adds t b told 0 0
   move_adds r (inl h) = adds_none t b told said.Memory h.1 refl
   move_adds r (inr e) = adds_none t b told (said.Moved (Rattle.run_spec.specs.Told.moved_told r)) e refl

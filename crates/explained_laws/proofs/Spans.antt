@@ -14,6 +14,7 @@ use Rattle.workload_spec.specs.declared.reply.Said.{Said}
 use Rattle.workload_spec.specs.declared.reply.Who.{Who}
 use Rattle.workload_spec.specs.declared.reply.Who.TheVariants.{Session, Worker}
 
+-- What is true is not false.
 true_false : true ≡ false → ⊥
 true_false e = cc
 
@@ -54,6 +55,7 @@ record Goes (xs : List Entry) (entry : Entry) : Type 0 where
   found : find (λ (entry : Entry). is_end entry.reply.said) (xs ++ entry ∷ []) ≡ cond (is_end entry.reply.said) (Some entry) None
   ends : ends_in (xs ++ entry ∷ []) ≡ is_end entry.reply.said
 
+-- Replies of which none is an end go on with one more, which may be one.
 goes : (xs : List Entry) (entry : Entry) → ends_in xs ≡ false → Goes xs entry
 goes [] entry e = first (is_end entry.reply.said) refl
   where
@@ -85,9 +87,11 @@ goes (x ∷ xs) entry e = go (is_end x.reply.said) refl e (goes xs entry)
           ends = ap (λ b. b || ends_in (xs ++ entry ∷ [])) is ∙ h.ends;
         }
 
+-- One reply more adds its accepted write, if it has one.
 accepts_more : (xs : List Entry) (entry : Entry) → length (filter_map accepted_write (xs ++ entry ∷ [])) ≡ length (filter_map accepted_write xs) + length (filter_map accepted_write (entry ∷ []))
 accepts_more xs entry = ap length (filter_map-append accepted_write xs (entry ∷ [])) ∙ length-append (filter_map accepted_write xs) (filter_map accepted_write (entry ∷ []))
 
+-- The accepted writes of replies whose end is a commit, and none of others.
 abbrev by : List Entry → ℕ
 by ys = cond (option_map_or (λ (ending : Entry). is_commit ending.reply.said) (find (λ (entry : Entry). is_end entry.reply.said) ys) false) (length (filter_map accepted_write ys)) 0
 
@@ -169,6 +173,7 @@ pub over_spans : (Who → List Entry → ℕ) → List Entry → ℕ
 over_spans f [] = 0
 over_spans f (x ∷ xs) = of_span f x xs + over_spans f xs
 
+-- The writes that were committed are the sum of those of all spans.
 committed_sum : (lines : List Entry) → writes_committed_in lines ≡ over_spans (λ who replies. done_in replies) lines
 unfolding over_spans
 committed_sum [] = refl
@@ -180,6 +185,7 @@ committed_sum (x ∷ xs) = go (snapshot_in x.reply.said) (committed_sum xs)
     go None rest = omega (arith, rest)
     go (Some n) rest = sum_by-cons writes_committed (span_from x xs n) (transactions_of xs) ∙ ap (λ k. done_in (x ∷ thread x.reply.who xs) + k) rest
 
+-- Two counts summed together over all spans are the sums of both.
 over_plus : (f g : Who → List Entry → ℕ) (lines : List Entry) → over_spans (λ who replies. f who replies + g who replies) lines ≡ over_spans f lines + over_spans g lines
 unfolding over_spans
 over_plus f g [] = refl
@@ -191,6 +197,7 @@ over_plus f g (x ∷ xs) = go (snapshot_in x.reply.said) (over_plus f g xs)
     go None rest = omega (arith, rest)
     go (Some n) rest = omega (arith, rest)
 
+-- What bounds each span's count by one reply more bounds the sum over all spans.
 over_grows : (f g : Who → List Entry → ℕ) (entry : Entry)
     → ((who : Who) (replies : List Entry) → g who replies ≤ f who (replies ++ cond (is_same entry.reply.who who) (entry ∷ []) []))
     → (lines : List Entry) → over_spans g lines + of_span f entry [] ≤ over_spans f (lines ++ entry ∷ [])
@@ -226,6 +233,7 @@ open_writes q lines = over_spans (open_of q) lines
 abbrev pub open_spans : Who → List Entry → ℕ
 open_spans q lines = over_spans (is_open_of q) lines
 
+-- A list with nothing behind it is itself.
 none_behind : (xs : List Entry) → xs ++ [] ≡ xs
 none_behind [] = refl
 none_behind (x ∷ xs) = ap (λ ys. x ∷ ys) (none_behind xs)

@@ -39,15 +39,15 @@ use Rattle.explained_laws.proofs.Exporting.{count_few, export_low, has_rows, num
 use Rattle.explained_laws.proofs.Scripts.{is_shape, session_asked, worker_upkeep}
 use Rattle.explained_laws.proofs.Taking.{Ended, has_table, scanned, stand}
 
-true_false : true ≡ false → ⊥
-true_false e = cc
-
+-- What is told as one of two lines and as the other is one line.
 same_line : (a b : Said) → Some a ≡ Some b → a ≡ b
 same_line a b e = cc
 
+-- A line that is meant and never silent is the one that is told.
 line_same : (worker : Bool) (here line : Said) (told : Option Said) → is_silent here ≡ false → told ≡ line_to worker (Some here) → told ≡ Some line → here ≡ line
 line_same worker here line told loud is tells = same_line here line (sym (is ∙ not_silent worker here loud) ∙ tells)
 
+-- The event behind the quiet ones of a command is not quiet.
 loud_is : (shape : Shape) (own : Option OwnTransaction) (session : ℕ) (asked : Command) (made : List Occurrence) (l : CoreEvent) → loud_of shape own session asked made ≡ Some l → is_quiet l ≡ false
 loud_is shape own session command.Begin made l e = ap (λ (o : Option CoreEvent). option_map_or is_quiet o false) (sym e)
 loud_is shape own session (command.Get table key) made l e = absurd (let never : ⊥ = cc e in never)
@@ -75,6 +75,7 @@ loud_is shape own session (command.Export table) made l e = absurd (let never : 
 
 -- ---- lengths
 
+-- A number times one that is no greater is no greater.
 times_most : (a b c : ℕ) → b ≤ c → a * b ≤ a * c
 times_most zero b c h = omega arith
 times_most (suc a) b c h =
@@ -89,10 +90,12 @@ init_same [] (b ∷ ys) x y e = absurd (none_behind ys y [] (tails x b [] (ys ++
 init_same (a ∷ xs) [] x y e = absurd (none_behind xs x [] (sym (tails a y (xs ++ x ∷ []) [] e)))
 init_same (a ∷ xs) (b ∷ ys) x y e = init_same xs ys x y (tails a b (xs ++ x ∷ []) (ys ++ y ∷ []) e)
 
+-- The events of two lists of occurrences are those of the one, then of the other.
 events_append : (xs ys : List Occurrence) → events_in (xs ++ ys) ≡ events_in xs ++ events_in ys
 events_append [] ys = refl
 events_append (x ∷ xs) ys = ap (λ es. x.event ∷ es) (events_append xs ys)
 
+-- Replies of at most so many rows each have at most as many times that together.
 flat_stands : (ys : List CoreReply) (w : ℕ) → ((y : CoreReply) → Among y ys → length (rows_told y) ≤ w) → length (flat_map rows_told ys) ≤ length ys * w
 flat_stands [] w each = omega arith
 flat_stands (y ∷ ys) w each =
@@ -115,6 +118,7 @@ module _ (script : Script) (valid : is_valid script ≡ true) (seat : ℕ) (part
     (ended : Ended script seat parts front at next call)
     (fits : (count : ℕ) → call.told ≡ Some (said.Pruned count) → count < 2 ^ 64)
     (few_tables : length (at_all_blocks (shape_of script) event.Observe) < 2 ^ 32) (few_blocks : (t : ℕ) → blocks_of (shape_of script) t < 2 ^ 32) (line : Said) (tells : call.told ≡ Some line) (last : (call.made ≡ []) ⊎ LastStands call line) where
+  -- The seat is that of a worker.
   worker : Bool
   worker = is_worker (who_at script seat)
 

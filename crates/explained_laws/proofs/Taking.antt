@@ -58,14 +58,17 @@ use Rattle.explained_laws.proofs.Keys.{SameKeys, quiet_own}
 use Rattle.explained_laws.proofs.Rereading.{read_together}
 use Rattle.explained_laws.proofs.Scripts.{is_shape, session_asked, worker_upkeep}
 
+-- What is true is not false.
 true_false : true ≡ false → ⊥
 true_false e = cc
 
+-- What is told as one of two lines and as the other is one line.
 same_line : (a b : Said) → Some a ≡ Some b → a ≡ b
 same_line a b e = cc
 
 -- ---- what a session has open when a call ends
 
+-- Quiet events one after another leave what was open in front of them.
 quiet_after : (own : Option OwnTransaction) (xs : List Occurrence) → list_all is_quiet (events_in xs) ≡ true
     → fold (λ own (o : Occurrence). own_behind own o.event o.reply) own xs ≡ own
 quiet_after own [] q = refl
@@ -151,15 +154,13 @@ has_table tables t e = go (nat_lt t (length tables)) refl
 
 module _ (script : Script) (valid : is_valid script ≡ true) (seat : ℕ) (parts : Parts) (front : List Occurrence) (at next : IsolationMachine) (call : Call)
     (ended : Ended script seat parts front at next call) where
-  sh : Shape
-  sh = shape_of script
-
   -- a call that asks nothing of the machine leaves it as it is
   pub stays : is_single call.command ≡ false → next ≡ at
   stays other = stays_at call.made at next (others_ask_nothing (shape_of script) (is_worker (who_at script seat)) seat ended.began call other ended.is_call) ended.ends
 
   -- ---- a scan of a session
 
+  -- A call whose events read blocks one after another has only reads.
   all_reads : (own : OwnTransaction) (table : ℕ) (blocks : List ℕ) → events_in call.made ≡ map (event.Read own table) blocks → list_all is_read (events_in call.made) ≡ true
   all_reads own table blocks e = ap (list_all is_read) e ∙ go blocks
     where
@@ -214,9 +215,11 @@ module _ (script : Script) (valid : is_valid script ≡ true) (seat : ℕ) (part
         count = ap (λ (rows : List Row). length rows) together ∙ law.count;
       }
 
+  -- What the session asks by a scan of the table.
   abbrev asks : ℕ → Request
   asks table = record { session = seat; act = act.Scan table }
 
+  -- A session's scan that told a line is answered so by the machine.
   scan_by : (table : ℕ) (line : Said) → call.command ≡ command.Scan table → is_worker (who_at script seat) ≡ false → seat ≤ script.sessions → call.told ≡ Some line
       → Answers at (record { session = seat; act = act.Scan table }) line next
   scan_by table line is session low tells = go (own_after ended.began) refl
@@ -276,6 +279,7 @@ entry_as entry who asked line = record {
   reply = record { round = entry.reply.round; who = who; index = entry.reply.index; said = line };
 }
 
+-- Whatever a session is asked, its line comes about where each kind of command's does.
 session_takes : (tables : List TableDecl) (lines : List Entry) (at next : IsolationMachine) (entry : Entry) (seat : ℕ) (asked : Command) (line : Said)
     → (is_single asked ≡ true → IfSome (request_of (Session seat) asked) (λ request. Answers at request line next))
     → ((table : ℕ) → asked ≡ command.Scan table → Answers at (record { session = seat; act = act.Scan table }) line next)
@@ -297,6 +301,7 @@ session_takes tables lines at next entry seat (command.Seal table block) line co
 session_takes tables lines at next entry seat (command.Gather table block) line come scan export upkeep = let u = upkeep refl in ((refl, u.0), u.1)
 session_takes tables lines at next entry seat (command.Export table) line come scan export upkeep = export table refl
 
+-- A command of upkeep is none that is a single request of the machine.
 upkeep_other : (asked : Command) → is_upkeep asked ≡ true → is_single asked ≡ false
 upkeep_other command.Begin e = absurd (true_false (sym e))
 upkeep_other (command.Get table key) e = absurd (true_false (sym e))

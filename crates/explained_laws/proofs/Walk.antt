@@ -62,9 +62,11 @@ use Rattle.explained_laws.proofs.Scripts.{event_key, is_shape, worker_upkeep}
 use Rattle.explained_laws.proofs.Shown.{Adds, accepted, plain_adds, quiet_none, shown, write_line}
 use Rattle.explained_laws.proofs.Taking.{Ended, ends_at, front_quiet, own_same, takes}
 
+-- What is true is not false.
 true_false : true ≡ false → ⊥
 true_false e = cc
 
+-- The events of a pruning are quiet.
 pruning_quiet : (e : CoreEvent) → is_pruning e ≡ true → is_quiet e ≡ true
 pruning_quiet event.Oldest p = refl
 pruning_quiet (event.Prune table block oldest) p = refl
@@ -83,6 +85,7 @@ pruning_quiet (event.Seal table block) p = absurd (true_false (sym p))
 pruning_quiet (event.Image table block image) p = absurd (true_false (sym p))
 pruning_quiet (event.Thaw table block) p = absurd (true_false (sym p))
 
+-- An option is not both nothing and something.
 none_some : {X : Type 0} (x : X) → None ≡ Some x → ⊥
 none_some x e = cc
 
@@ -92,6 +95,7 @@ none_some x e = cc
 pub told_something : (told : Option Said) (line : Said) → told ≡ Some line → told ≡ None → ⊥
 told_something told line is none = none_some line (sym none ∙ is)
 
+-- An event at which a call ends in silence leaves the machine.
 silent_stays : (shape : Shape) (parts : Parts) (worker : Bool) (made : List Occurrence) (asked : Command) (told : Option Said) (at next : IsolationMachine) (e : CoreEvent) (refused : Bool)
     → TellsAt worker made e (cond refused reply.Memory (reply_to shape parts e)) asked told → told ≡ None
     → IsStep (command_in e) at (cond refused reply.Memory (reply_to shape parts e)) next → next ≡ at
@@ -124,6 +128,7 @@ silent_stays shape parts worker made asked told at next (event.Seal table block)
 silent_stays shape parts worker made asked told at next (event.Image table block image) refused h none step = step
 silent_stays shape parts worker made asked told at next (event.Thaw table block) refused h none step = step
 
+-- Upkeep has no accepted insert into any table.
 upkeep_accepted : (t : ℕ) (asked : Command) (told : Option Said) → is_upkeep asked ≡ true → accepted t asked told ≡ 0
 upkeep_accepted t asked None up = refl
 upkeep_accepted t command.Observe (Some line) up = refl
@@ -148,13 +153,6 @@ inserts_rise t lines (Some entry) = let more = Rattle.explained_laws.proofs.Show
 -- ---- one moment
 
 module _ (script : Script) (valid : is_valid script ≡ true) where
-  sh : Shape
-  sh = shape_of script
-
-  -- the lines from here on
-  abbrev Later : IsolationMachine → List Entry → List Moment → Type 0
-  Later at lines moments = Runs script.tables lines at (replies_at moments)
-
   -- a line and those behind it
   lines_on : (at next : IsolationMachine) (lines : List Entry) (printed : Option Entry) (moments : List Moment)
       → (printed ≡ None → next ≡ at)
@@ -164,20 +162,24 @@ module _ (script : Script) (valid : is_valid script ≡ true) where
   lines_on at next lines None moments stays comes rest = subst (λ m. Runs script.tables lines m (replies_at moments)) (stays refl) rest
   lines_on at next lines (Some entry) moments stays comes rest = let here = comes entry refl in (next, here.0, here.1, rest)
 
+  -- What a session has open in front of quiet events the machine has open for it.
   opens : (seat : ℕ) (at : IsolationMachine) (front began done : List Occurrence) → AgreesWith front at → under seat front ≡ began ++ done → list_all is_quiet (events_in done) ≡ true
       → OpenAs seat (own_after began) (transaction_of seat at)
   opens seat at front began done agrees behind quiet =
       subst (λ o. OpenAs seat o (transaction_of seat at)) (ap own_after behind ∙ own_same began done quiet) (agrees seat)
 
+  -- What a session wrote in front of quiet events its machine's transaction wrote.
   keys_same : (seat : ℕ) (at : IsolationMachine) (front began done : List Occurrence) → KeysAgree front at → under seat front ≡ began ++ done → list_all is_quiet (events_in done) ≡ true
       → SameKeys (own_after began) (transaction_of seat at)
   keys_same seat at front began done agrees behind quiet =
       subst (λ o. SameKeys o (transaction_of seat at)) (ap own_after behind ∙ own_same began done quiet) (agrees seat)
 
+  -- A printed reply says what its call told, whose it is, and of which command.
   is_said : (who : Rattle.workload_spec.specs.declared.reply.Who.Who) (call : Call) (printed : Option Entry) (entry : Entry) → IsPrinted who call printed → printed ≡ Some entry
       → (call.told ≡ Some entry.reply.said) × (entry.reply.who ≡ who) × (entry.command ≡ command_told who call.command)
   is_said who call printed entry is e = subst (IsPrinted who call) e is
 
+  -- A call without a printed reply told nothing.
   is_silent : (who : Rattle.workload_spec.specs.declared.reply.Who.Who) (call : Call) (printed : Option Entry) → IsPrinted who call printed → printed ≡ None → call.told ≡ None
   is_silent who call printed is e = subst (IsPrinted who call) e is
 
@@ -417,12 +419,14 @@ module _ (script : Script) (valid : is_valid script ≡ true) where
   pub rest_is : (a b : Occurrence) (xs ys : List Occurrence) → a ∷ xs ≡ b ∷ ys → xs ≡ ys
   rest_is a b xs ys e = cc
 
+  -- Behind whatever holds in front, the replies of these moments come about in their order.
   abbrev On : List Moment → Type 0
   On ms = (log : List Logged) (parts : Parts) (front : List Occurrence) (at : IsolationMachine) (lines : List Entry)
       → Holds script parts front at lines → IsLawfulFrom (shape_of script) parts (map (λ entry. entry.made) log) → are_named log ≡ true
       → AreMoments script front ms → events_at ms ≡ occurrences_from (shape_of script) parts log
       → Runs script.tables lines at (replies_at ms)
 
+  -- With one moment in front of others, the replies still come about in their order.
   one : (seat : ℕ) → 1 ≤ seat → seat ≤ script.sessions + script.workers → (event : Option Occurrence) (line : Option Lined) (ms : List Moment) → On ms
       → (log : List Logged) (parts : Parts) (front : List Occurrence) (at : IsolationMachine) (lines : List Entry)
       → Holds script parts front at lines → IsLawfulFrom (shape_of script) parts (map (λ entry. entry.made) log) → are_named log ≡ true

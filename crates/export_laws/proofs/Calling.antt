@@ -1,5 +1,5 @@
 -- A session's reads of a table's blocks are the call of an export.
-use Rattle.std.proofs.Common.{◌≡◌, ℕ, false, List, [], ◌++◌, Option, None, option_map, refl, sym, ap, ◌∙◌, subst, append-nil}
+use Rattle.std.proofs.Common.{◌≡◌, ℕ, false, List, [], ◌++◌, None, option_map, refl, sym, ap, ◌∙◌, subst, append-nil}
 use mathlib.Core.Logic.{inl, inr}
 use Rattle.event_spec.specs.declared.own.OwnTransaction.{OwnTransaction}
 use Rattle.event_spec.specs.Parts.{Shape}
@@ -15,16 +15,15 @@ use Rattle.workload_spec.specs.declared.reply.Said.{Said}
 use Rattle.workload_spec.specs.declared.reply.Said.TheVariants as said
 
 module _ (shape : Shape) (session : ℕ) (old new : List Logged) (own : OwnTransaction) (table : ℕ) (made : List Occurrence) (reads : ReadsOn shape session old new own table made) where
-  opened : Option OwnTransaction
-  opened = own_after (own_in shape session old)
-
   -- it is not refused
   free : refusal_of (command.Export table) (own_after (own_in shape session old)) ≡ None
   free = ap (refusal_of (command.Export table)) reads.own_is ∙ ap (option_map said.Dirty) reads.clean
 
+  -- The events that the export asks for are those made and those missed.
   asked : events_of shape (own_after (own_in shape session old)) session (command.Export table) made ≡ events_in made ++ reads.missed
   asked = ap (λ o. events_of shape o session (command.Export table) made) reads.own_is ∙ reads.events
 
+  -- A call that is made and not refused is a call of the session behind its earlier events.
   is_call : (line : Said) → IsCallBy shape false session (own_after (own_in shape session old)) None (export_call table made line)
       → IsCall shape false session (own_in shape session old) (export_call table made line)
   is_call line by = subst (λ r. IsCallBy shape false session (own_after (own_in shape session old)) r (export_call table made line)) (sym free) by

@@ -13,6 +13,7 @@ use Rattle.isolation_spec.specs.declared.place.Place.{Place}
 use Rattle.outcome_spec.specs.Upkeep.{least_key}
 use Rattle.scan_laws.proofs.Maps.{same_contents}
 
+-- Numbers that a test tells apart do not compare as equal.
 other_number : (a b : ℕ) → (b == a) ≡ false → is_eq (nat_cmp a b) ≡ false
 other_number a b e = go (nat_lt a b) refl
   where
@@ -20,6 +21,7 @@ other_number a b e = go (nat_lt a b) refl
     go true f = ap is_eq (sym (nat_cmp_is a b Less (grind (arith, nat_tests, f))))
     go false f = ap is_eq (sym (nat_cmp_is a b Greater (grind (arith, nat_tests, e, f))))
 
+-- Where the first comparison is not equal, the two in turn are not.
 then_other : (r s : Ordering) → is_eq r ≡ false → is_eq (ordering_then r s) ≡ false
 then_other Less s e = refl
 then_other Equal s e = absurd (let never : true ≡ false = e in let no : ⊥ = cc in no)

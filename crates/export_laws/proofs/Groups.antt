@@ -48,6 +48,7 @@ each_kept P rows_in (block ∷ blocks) each = go (is_some_row (rows_in block)) (
     go true here rest = All-cons P (rows_in block) (filter is_some_row (map rows_in blocks)) (here refl) rest
     go false here rest = rest
 
+-- A group that has some row is longer than zero.
 some_long : (rows : List Row) → is_some_row rows ≡ true → 0 < length rows
 some_long [] is = absurd (let never : ⊥ = cc is in never)
 some_long (row ∷ rows) is = omega arith
@@ -74,6 +75,7 @@ module _ (sh : Shape) (s : Parts) (own : OwnTransaction) (t : ℕ) (ok : Sound s
       go None fit = tt
       go (Some row) fit = kept (is_elsewhere (at_place own.writes (place_at t (key_of row))) place) row fit
 
+  -- All rows that are read in a block fit the table's columns.
   rows_fit : (block : ℕ) → All (Fits (columns_in sh t)) (rows_read sh s own t block)
   rows_fit block = go 0 (length (body_at sh s t block).slots)
     where
@@ -108,9 +110,11 @@ groups_read sh s own t = filter is_some_row (map (rows_read sh s own t) (below (
 module _ (sh : Shape) (s : Parts) (own : OwnTransaction) (t : ℕ) (m : IsolationMachine) (open' : Transaction)
     (shape : IsShape sh) (ok : Sound sh s) (owns : OwnsAll sh own s) (f : FollowsMachine sh s m)
     (is_open : transaction_of own.session m ≡ Some open') where
+  -- A number among the table's first block numbers is that of a block of it.
   has : (block : ℕ) → Among block (below (blocks_of sh t)) → HasBlock sh t block
   has block a = let less = member_below 0 (blocks_of sh t) block a in within sh t block (omega (arith, less))
 
+  -- The rows that are read in a block are no more than a block has slots.
   few : (block : ℕ) → Among block (below (blocks_of sh t)) → length (rows_read sh s own t block) ≤ slots_of sh t
   few block a = let most = rows_few sh s own t ok block in let count = (ok.bodies t block (has block a)).slots in omega (arith, most, count)
 

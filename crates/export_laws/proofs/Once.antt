@@ -21,12 +21,15 @@ use Rattle.workload_spec.specs.declared.reply.Said.TheVariants as said
 use Rattle.workload_spec.specs.declared.reply.Who.{Who}
 use Rattle.workload_spec.specs.declared.reply.Who.TheVariants.{Session, Worker}
 
+-- True and false are never the same.
 true_false : true ≡ false → ⊥
 true_false e = cc
 
+-- Something is never the same as nothing.
 none_some : {X : Type 0} (x : X) → Some x ≡ None → ⊥
 none_some x e = cc
 
+-- The number of a session, and zero for a worker.
 abbrev number_of : Who → ℕ
 number_of (Session session) = session
 number_of (Worker worker) = 0
@@ -41,6 +44,7 @@ behind who asked (said.Committed (Some number)) machine =
     option_map_or (λ (t : Transaction). committed (number_of who) t.own machine) (transaction_of (number_of who) machine) machine
 behind who asked _ machine = machine
 
+-- Behind a reply that changes nothing stands the machine that was before it.
 quiet_behind : (who : Who) (asked : Command) (told : Said) (machine after : IsolationMachine) → Quiet asked told machine after → behind who asked told machine ≡ machine
 quiet_behind who asked (said.At number) machine after q = absurd (none_some number q.opens)
 quiet_behind who asked said.Accepted machine after q = ap (λ w. option_map_or (λ (w : Place × Option (List Cell)). with_own (number_of who) w.0 w.1 machine) w machine) q.writes
@@ -49,6 +53,7 @@ quiet_behind who asked (said.Committed None) machine after q = absurd (true_fals
 quiet_behind who asked (said.Committed (Some number)) machine after q = absurd (true_false q.on)
 quiet_behind who asked _ machine after q = refl
 
+-- The machine that a reply changes to is the one that stands behind it.
 change_behind : (who : Who) (asked : Command) (told : Said) (machine after : IsolationMachine) → Change who asked told machine after → after ≡ behind who asked told machine
 change_behind who asked told machine after (quiet q) = q.same ∙ sym (quiet_behind who asked told machine after q)
 change_behind who asked told machine after (opens o) =
@@ -75,6 +80,7 @@ change_once who asked told machine a b one other = change_behind who asked told 
 
 -- ---- replies that leave the machine as it is
 
+-- A scan that the machine allows leaves it as it was.
 scan_stays : (machine : IsolationMachine) (session table : ℕ) (outcome : Outcome) (after : IsolationMachine)
     → Allows machine (record { session = session; act = act.Scan table }) outcome after → after ≡ machine
 scan_stays machine session table (Answered answer) after allows = go (transaction_of session machine) allows

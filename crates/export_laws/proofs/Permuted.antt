@@ -13,6 +13,7 @@ use Rattle.isolation_spec.specs.declared.place.Place.{Place}
 use Rattle.scan_laws.proofs.Maps.{put}
 use Rattle.export_laws.specs.Laws.{OrderedRowsAreTheRows}
 
+-- A number passes the test for equality with itself.
 same_number : (a : ℕ) → (a == a) ≡ true
 same_number a = grind (arith, nat_tests)
 
@@ -30,6 +31,7 @@ behind true first row rows more (inl moved) = inl
     (IsPermutation-sym (first ∷ row ∷ rows) (row ∷ first ∷ rows) (IsPermutation-middle (first ∷ []) row rows))
     (IsPermutation-cons first (row ∷ rows) more moved))
 
+-- Whichever of two rows stands in front, if one does, the rows are as many.
 as_many : (b : Bool) (x y : Row) (rows : List Row) → length (cons_option (cond b (Some x) None) rows) ≡ length (cons_option (cond b (Some y) None) rows)
 as_many true x y rows = refl
 as_many false x y rows = refl
@@ -54,6 +56,7 @@ module _ (table : ℕ) where
   abbrev with_row : State → Row → State
   with_row acc row = insert_entry place_cmp acc (place_of table row) row
 
+  -- Rows put into a map add to the table's contents at most their own count.
   at_most : (rows : List Row) (acc : State) → length (contents_of table (put table acc rows)) ≤ length (contents_of table acc) + length rows
   at_most [] acc = omega arith
   at_most (row ∷ rows) acc = go (inserted acc (place_of table row) row (same_number table)) (at_most rows (with_row acc row))
@@ -64,6 +67,7 @@ module _ (table : ℕ) where
       go (inl moved) rest = let long = length_permutation (row ∷ contents_of table acc) (contents_of table (with_row acc row)) moved in omega (arith, rest, long)
       go (inr same) rest = omega (arith, rest, same)
 
+  -- Where rows put into a map add their full count, old and new ones stand in it, each once.
   each_once : (rows : List Row) (acc : State) → length (contents_of table acc) + length rows ≤ length (contents_of table (put table acc rows))
       → IsPermutation (contents_of table acc ++ rows) (contents_of table (put table acc rows))
   each_once [] acc all = subst (λ xs. IsPermutation xs (contents_of table acc)) (sym (Rattle.std.proofs.Common.append-nil (contents_of table acc))) (IsPermutation-refl (contents_of table acc))

@@ -26,6 +26,7 @@ use Rattle.workload_spec.specs.declared.script.Line.{Line}
 use Rattle.workload_spec.specs.declared.script.Script.{Script}
 use Rattle.workload_spec.specs.Valid.{all_lines, is_export}
 
+-- Where no element of a list passes a test, one that is among them fails it.
 none_member : {X : Type 0} (p : X → Bool) (xs : List X) (x : X) → list_any p xs ≡ false → Among x xs → p x ≡ false
 none_member p [] x none among = absurd among
 none_member p (y ∷ xs) x none among = go (p y) refl (list_any p xs) none among (none_member p xs x)
@@ -63,6 +64,7 @@ module _ (script : Script) (quiet : list_any (λ (line : Line). is_export line.c
   abbrev NoExport : Who → Call → Type 0
   NoExport who call = is_export call.command ≡ false
 
+  -- No call that ends at one of the moments is an export.
   ends_none : (front : List Occurrence) (moments : List Moment) → AreMoments script front moments → EachEnds script NoExport moments
   ends_none front [] are = tt
   ends_none front (moment ∷ moments) are = (go moment.line are.0.stands, ends_none (with_event front moment.event) moments are.1)
@@ -77,20 +79,24 @@ module _ (script : Script) (quiet : list_any (λ (line : Line). is_export line.c
 abbrev pub is_one : Call → Bool
 is_one call = is_export call.command
 
+-- Where each of two is false, so is their disjunction.
 neither : (a b : Bool) → a ≡ false → b ≡ false → (a || b) ≡ false
 neither false b is e = e
 neither true b is e = absurd (let never : true ≡ false = is in let no : ⊥ = cc in no)
 
+-- Where each call of one session or worker is no export, none of these calls is one.
 calls_none : (who : Who) (calls : List Call) → EachOf (λ who call. is_export call.command ≡ false) who calls → list_any is_one calls ≡ false
 calls_none who [] each = refl
 calls_none who (call ∷ calls) each = neither (is_one call) (list_any is_one calls) each.0 (calls_none who calls each.1)
 
+-- Where each call of some shares is no export, none of all their calls is one.
 shares_none : (shares : List Share) → EachShare (λ who call. is_export call.command ≡ false) shares → list_any is_one (flat_map (λ share. share.calls) shares) ≡ false
 shares_none [] each = refl
 shares_none (share ∷ shares) each =
     list_any-append is_one share.calls (flat_map (λ share. share.calls) shares)
     ∙ neither (list_any is_one share.calls) (list_any is_one (flat_map (λ share. share.calls) shares)) (calls_none share.who share.calls each.0) (shares_none shares each.1)
 
+-- Where each call of some rounds is no export, none of all their calls is one.
 rounds_none : (rounds : List RoundRun) → EachCall (λ who call. is_export call.command ≡ false) rounds → list_any is_one (calls_in rounds) ≡ false
 rounds_none [] each = refl
 rounds_none (round ∷ rounds) each =

@@ -73,14 +73,13 @@ SaysBy tables machine (Some t) table told bytes = SaysWithin tables machine t ta
 
 -- ---- reads
 
+-- The lines that two equal options hold are the same.
 same_line : (a b : Said) → Some a ≡ Some b → a ≡ b
 same_line a b e = cc
 
+-- The numbers that two equal options hold are the same.
 same_number : (a b : ℕ) → Some a ≡ Some b → a ≡ b
 same_number a b e = cc
-
-true_false : true ≡ false → ⊥
-true_false e = cc
 
 -- reads are not cut short where none was refused
 reads_cut : (own : OwnTransaction) (t : ℕ) (made : List Occurrence) (blocks : List ℕ) → events_in made ≡ map (event.Read own t) blocks
@@ -103,6 +102,7 @@ reads_cut own t (x ∷ made) (block ∷ blocks) e granted = go (reads_cut own t 
         (subst (λ xs. is_cut_short xs ≡ true) same
         (again (tails x.event (event.Read own t block) (events_in made) (map (event.Read own t) blocks) e) told.1))
 
+-- Events that are the first of some reads are all reads.
 front_reads : (own : OwnTransaction) (t : ℕ) (made : List Occurrence) (missed : List CoreEvent) (blocks : List ℕ)
     → map (event.Read own t) blocks ≡ events_in made ++ missed → list_all is_read (events_in made) ≡ true
 front_reads own t [] missed blocks e = refl
@@ -111,6 +111,7 @@ front_reads own t (x ∷ made) missed (block ∷ blocks) e = both (is_read x.eve
     (ap is_read (sym (heads (event.Read own t block) x.event (map (event.Read own t) blocks) (events_in made ++ missed) e)))
     (front_reads own t made missed blocks (tails (event.Read own t block) x.event (map (event.Read own t) blocks) (events_in made ++ missed) e))
 
+-- The first event of those that are the first of some reads is a read of a block.
 first_read : (own : OwnTransaction) (t : ℕ) (x : Occurrence) (made : List Occurrence) (missed : List CoreEvent) (blocks : List ℕ)
     → map (event.Read own t) blocks ≡ events_in (x ∷ made) ++ missed → (block : ℕ) × (x.event ≡ event.Read own t block)
 first_read own t x made missed [] e = absurd (none_some x.event (events_in made ++ missed) e)
@@ -137,19 +138,24 @@ alone slots rows some = record {
 
 module _ (script : Script) (valid : is_valid script ≡ true) (seat : ℕ) (parts : Parts) (front : List Occurrence) (at next : IsolationMachine) (call : Call)
     (ended : Ended script seat parts front at next call) (table : ℕ) (is : call.command ≡ command.Export table) (bytes : List ℕ) where
+  -- The script has the table that the export names.
   has : is_some (slice_get script.tables table) ≡ true
   has = ap (is_command script.tables) (sym is)
       ∙ session_asked script valid seat call.command (export_low script valid seat parts front at next call ended table is) ended.asked
 
+  -- A block of the table has at least one slot, and at most 32768 of them.
   slots : (1 ≤ slots_of (shape_of script) table) × (slots_of (shape_of script) table ≤ 2 ^ 15)
   slots = (is_shape script valid).slots table (has_table script.tables table has)
 
+  -- The table has at least one block.
   some_block : 1 ≤ blocks_of (shape_of script) table
   some_block = (is_shape script valid).blocks table (has_table script.tables table has)
 
+  -- The export leaves the machine as it was.
   keeps : next ≡ at
   keeps = stays script valid seat parts front at next call ended (ap is_single is)
 
+  -- The numbers of the table's blocks are as many as the script gives it.
   many : length (below (blocks_of (shape_of script) table)) ≡ blocks_at script.tables table
   many = Rattle.std.proofs.lemmas.List.FromFn.length-range_with_len 0 (blocks_of (shape_of script) table) ∙ sym (blocks_same script.tables (script.sessions + script.workers) table)
 

@@ -53,6 +53,7 @@ sending_goes_on tables calls call sent bytes before one =
 
 -- ---- one export at most
 
+-- What a test adds to a count: one where it holds, else zero.
 abbrev counted : Bool → ℕ
 counted b = cond b 1 0
 
@@ -79,9 +80,11 @@ unsaid (command.Export table) P is = absurd (true_false is)
 unsaid _ P is = tt
 
 module _ (tables : List TableDecl) where
+  -- The bytes are what the call's line says it sent, where it is an export.
   abbrev SaysOf : List ℕ → Call → Type 0
   SaysOf bytes call = SendsBy tables call bytes
 
+  -- Of a call that is no export nothing is asked of the bytes.
   other_says : (bytes : List ℕ) (call : Call) → is_export call.command ≡ false → SaysOf bytes call
   other_says bytes call is = unsaid
       call.command
@@ -90,6 +93,7 @@ module _ (tables : List TableDecl) where
       (λ told. SendsAs (columns_at tables table) (blocks_at tables table) call.made told bytes))
       is
 
+  -- Of calls of which none is an export nothing is asked of the bytes.
   others_say : (bytes : List ℕ) (calls : List Call)
       → list_any is_one calls ≡ false
       → All (SaysOf bytes) calls
@@ -100,6 +104,7 @@ module _ (tables : List TableDecl) where
       (other_says bytes call both.0)
       (others_say bytes calls both.1)
 
+  -- Calls of which none is an export send nothing.
   others_send_nothing : (bytes : List ℕ) (calls : List Call)
       → CallsSend tables calls bytes
       → list_any is_one calls ≡ false
@@ -144,18 +149,23 @@ module _ (tables : List TableDecl) where
 
 -- ---- the exports that a run was asked
 
+-- Whether a line of the script asks for an export.
 abbrev line_exports : Line → Bool
 line_exports line = is_export line.command
 
+-- How many commands of an agenda are exports.
 abbrev exports_of : Agenda → ℕ
 exports_of agenda = count_by is_export agenda.commands
 
+-- How many exports some agendas have in all.
 abbrev exports_in : List Agenda → ℕ
 exports_in agendas = sum_by exports_of agendas
 
+-- The agendas of the shares of a round.
 abbrev agendas_of : RoundRun → List Agenda
 agendas_of round = map agenda_of round.shares
 
+-- A sum over the images of some elements is a sum over the elements.
 sum_mapped : {X Y : Type 0} (g : Y → ℕ) (f : X → Y) (xs : List X)
     → sum_by g (map f xs) ≡ sum_by (λ x. g (f x)) xs
 sum_mapped g f [] = refl
@@ -165,6 +175,7 @@ sum_mapped g f (x ∷ xs) =
     let rest = sum_mapped g f xs in
     omega (arith, here, there, rest)
 
+-- The calls of some shares have as many exports as their agendas.
 shares_count : (shares : List Share)
     → count_by is_one (flat_map (λ (share : Share). share.calls) shares)
     ≡ exports_in (map agenda_of shares)
@@ -178,6 +189,7 @@ shares_count (share ∷ shares) =
     let all = sum_by-cons exports_of (agenda_of share) (map agenda_of shares) in
     omega (arith, parts, here, rest, all)
 
+-- The calls of some rounds have as many exports as the agendas of each round in sum.
 rounds_count : (rounds : List RoundRun)
     → count_by is_one (calls_in rounds) ≡ sum_by exports_in (map agendas_of rounds)
 rounds_count [] = refl
@@ -212,9 +224,11 @@ line_more line lines session = go (line.session == session) refl
         omega (arith, here, more)
     go false is = omega arith
 
+-- How many exports a session is asked by some lines.
 abbrev session_exports : List Line → ℕ → ℕ
 session_exports lines session = count_by is_export (commands_of session lines)
 
+-- Some lines ask all sessions together for no more exports than there are among the lines.
 sessions_few : (sessions : ℕ) (lines : List Line)
     → sum_by (session_exports lines) (range_with_len 1 sessions) ≤ count_by line_exports lines
 sessions_few sessions [] =
@@ -230,10 +244,12 @@ sessions_few sessions (line ∷ lines) =
     omega (arith, grows, once, rest, more)
 
 module _ (script : Script) where
+  -- A session's agenda for some lines: its commands among them.
   abbrev session_agenda : List Line → ℕ → Agenda
   session_agenda lines session =
       record { who = Session session; commands = commands_of session lines }
 
+  -- A worker's agenda: the turns of the script.
   abbrev worker_agenda : ℕ → Agenda
   worker_agenda worker = record { who = Worker worker; commands = turns_of script }
 
@@ -257,6 +273,7 @@ module _ (script : Script) where
           (omega arith)
           (lines, there, subst (Among asked) (sym turns) among)
 
+  -- The agendas of a round have no more exports than its lines.
   round_few : (lines : List Line)
       → Among lines script.rounds
       → exports_in (agendas_in script lines) ≤ count_by line_exports lines
@@ -272,6 +289,7 @@ module _ (script : Script) where
       (range_with_len 1 script.workers) (λ worker among. turns_none lines there) in
       omega (arith, parts, sessions, few, workers, none)
 
+  -- The agendas of some rounds have no more exports than all their lines.
   rounds_few : (rounds : List (List Line))
       → ((lines : List Line) → Among lines rounds → Among lines script.rounds)
       → sum_by exports_in (map (agendas_in script) rounds)

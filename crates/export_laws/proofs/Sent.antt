@@ -22,6 +22,7 @@ module _ (P : Lined → Type 0) where
   EachLine [] = Unit {0}
   EachLine (moment ∷ moments) = IfSome moment.line P × EachLine moments
 
+  -- A fact of each line at two lists of moments is one of each line at both.
   each_append : (xs ys : List Moment) → EachLine xs → EachLine ys → EachLine (xs ++ ys)
   each_append [] ys first rest = rest
   each_append (x ∷ xs) ys first rest = (first.0, each_append xs ys first.1 rest)
@@ -36,6 +37,7 @@ module _ (P : Lined → Type 0) where
     lines : EachLine moments
     wait : Wait pending
 
+  -- The lines of one event's moments, and those then pending, have what all pending ones had.
   goes : (session : ℕ) (made : Occurrence) (calls : List Pending) → Wait calls
       → Goes (advanced session made calls).moments (advanced session made calls).pending
   goes session made [] wait = record { lines = tt; wait = λ call among. absurd among }
@@ -53,16 +55,19 @@ module _ (P : Lined → Type 0) where
 
   -- ---- the moments of a round
 
+  -- Where a session's pending calls end, each line has the fact that it had when pending.
   ended : (session : ℕ) (calls : List Pending) → Wait calls → EachLine (map (ended_at session) calls)
   ended session [] wait = tt
   ended session (call ∷ calls) wait = (wait call (inl refl), ended session calls (λ other a. wait other (inr a)))
 
+  -- Where the pending calls of all sessions end, each line has the fact that it had.
   all_ended : (sessions : List ℕ) (calls : ℕ → List Pending) → ((session : ℕ) → Wait (calls session))
       → EachLine (flat_map (λ session. map (ended_at session) (calls session)) sessions)
   all_ended [] calls wait = tt
   all_ended (session ∷ sessions) calls wait = each_append (map (ended_at session) (calls session)) (flat_map (λ session. map (ended_at session) (calls session)) sessions)
       (ended session (calls session) (wait session)) (all_ended sessions calls wait)
 
+  -- Each line at the moments of a round has the fact that all pending calls had.
   merged_lines : (sessions : List ℕ) (made : List Occurrence) (calls : ℕ → List Pending) → ((session : ℕ) → Wait (calls session)) → EachLine (merged sessions made calls)
   merged_lines sessions [] calls wait = all_ended sessions calls wait
   merged_lines sessions (o ∷ made) calls wait =
@@ -76,6 +81,7 @@ module _ (P : Lined → Type 0) where
       go other true here = here
       go other false here = wait other
 
+  -- The calls that are pending at a seat have the fact that all lines of the shares have.
   pending_lines : (seats : List ℕ) (shares : List (List Lined)) (seat : ℕ) → ((lines : List Lined) → Among lines shares → (line : Lined) → Among line lines → P line)
       → Wait (pending_at seats shares seat)
   pending_lines [] shares seat each call among = absurd among
@@ -94,9 +100,7 @@ module _ (P : Lined → Type 0) where
 -- ---- by a fact of calls
 
 module _ (S : Call → Type 0) (tables : List TableDecl) where
-  abbrev Of : Lined → Type 0
-  Of line = S line.call
-
+  -- A fact of each call of one session or worker is one of each of their lines.
   lined_each : (earlier : List Entry) (number : ℕ) (who : Who) (calls : List Call) → ((call : Call) → Among call calls → S call)
       → (line : Lined) → Among line (lined tables earlier number who calls) → S line.call
   lined_each earlier number who [] each line among = absurd among
@@ -104,6 +108,7 @@ module _ (S : Call → Type 0) (tables : List TableDecl) where
   lined_each earlier number who (call ∷ calls) each line (inr a) =
       lined_each (with_reply earlier (printed_by tables earlier (due_of number who call) call.told)) number who calls (λ other b. each other (inr b)) line a
 
+  -- A fact of each call of some shares is one of each of their lines.
   shares_each : (earlier : List Entry) (number : ℕ) (shares : List Share) → ((share : Share) → Among share shares → (call : Call) → Among call share.calls → S call)
       → (lines : List Lined) → Among lines (shares_lined tables earlier number shares) → (line : Lined) → Among line lines → S line.call
   shares_each earlier number [] each lines among line a = absurd among
@@ -112,6 +117,7 @@ module _ (S : Call → Type 0) (tables : List TableDecl) where
   shares_each earlier number (share ∷ shares) each lines (inr among) line a =
       shares_each (earlier ++ printed_in (lined tables earlier number share.who share.calls)) number shares (λ other b. each other (inr b)) lines among line a
 
+-- A fact of each call of some rounds is one of each line at their moments.
 rounds_each : (S : Call → Type 0) (script : Script) (earlier : List Entry) (number : ℕ) (rounds : List RoundRun)
     → ((round : RoundRun) → Among round rounds → (share : Share) → Among share round.shares → (call : Call) → Among call share.calls → S call)
     → EachLine (λ line. S line.call) (moments_from script earlier number rounds)

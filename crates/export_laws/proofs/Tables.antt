@@ -16,6 +16,7 @@ use Rattle.stream_laws.specs.Laws.{AreTold}
 use Rattle.workload_spec.specs.declared.script.Script.{Script}
 use Rattle.workload_spec.specs.Valid.{are_blocks, are_columns, are_slots, have_own_names, is_name, is_table, is_valid, is_within, most_sessions, most_tables, most_turns, most_workers}
 
+-- False and true are never the same.
 false_true : false ≡ true → ⊥
 false_true e = cc
 
@@ -26,6 +27,7 @@ table_at [] t all is = absurd (false_true is)
 table_at (x ∷ tables) zero all is = (x, refl, and_first (is_table x) (list_all is_table tables) all)
 table_at (x ∷ tables) (suc t) all is = table_at tables t (and_second (is_table x) (list_all is_table tables) all) is
 
+-- Columns that begin with the key are at least one.
 some_columns : (columns : List Column) → begins_with_key columns ≡ true → 0 < length columns
 some_columns [] key = absurd (false_true key)
 some_columns (column ∷ columns) key = omega arith

@@ -17,6 +17,7 @@ use Rattle.run_spec.specs.Occurrences.{Occurrence, events_in}
 use Rattle.run_spec.specs.Told.{is_some_row, rows_told}
 use Rattle.told_laws.proofs.Splits.{heads, none_some, tails}
 
+-- True and false are never the same.
 true_false : true ≡ false → ⊥
 true_false e = cc
 
@@ -52,6 +53,7 @@ module _ (sh : Shape) (s : Parts) (session : ℕ) (own : OwnTransaction) (t : �
     pub split : groups_told made ++ more ≡ groups_at blocks
     pub all : length made ≡ length blocks → list_any is_refused made ≡ false → more ≡ []
 
+  -- Where nothing was read, all groups of the blocks are still unread.
   none_read : (blocks : List ℕ) → TellsFirst [] blocks
   none_read [] = record { more = []; split = refl; all = λ same granted. refl }
   none_read (block ∷ blocks) = record {

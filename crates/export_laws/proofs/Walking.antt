@@ -45,13 +45,16 @@ use Rattle.export_laws.proofs.Once.{change_once, others_stay}
 use Rattle.export_laws.proofs.Saying.{SaysBy, says_by}
 use Rattle.export_laws.proofs.Sent.{EachLine}
 
+-- True and false are never the same.
 true_false : true ≡ false → ⊥
 true_false e = cc
 
+-- A command that is not single is not single where it shows as an observation, either.
 single_command : (b : Bool) (asked : Command) → is_single asked ≡ false → is_single (cond b command.Observe asked) ≡ false
 single_command true asked other = refl
 single_command false asked other = other
 
+-- A seal or a gathering is no single command.
 seal_other : (asked : Command) → is_seal_or_gather asked ≡ true → is_single asked ≡ false
 seal_other (command.Seal table block) e = refl
 seal_other (command.Gather table block) e = refl
@@ -68,6 +71,7 @@ seal_other (command.Delete table key) e = absurd (true_false (sym e))
 seal_other command.Commit e = absurd (true_false (sym e))
 seal_other command.Abort e = absurd (true_false (sym e))
 
+-- An export is no single command.
 export_other : (asked : Command) (table : ℕ) → asked ≡ command.Export table → is_single asked ≡ false
 export_other asked table is = ap is_single is
 
@@ -163,6 +167,7 @@ module _ (script : Script) (valid : is_valid script ≡ true) (printed timeline 
     alone_done ms sent rest behind = line_done seat parts front at at line.call (alone_ended script valid parts front at lines seat low line held ends) lines alone_loud ms line.printed
         ends.printed sent rest behind
 
+  -- What holds of the moments that follow holds with one moment more in front.
   one : (seat : ℕ) → 1 ≤ seat → seat ≤ script.sessions + script.workers → (event : Option Occurrence) (line : Option Lined) (ms : List Moment) → On ms
       → (log : List Logged) (parts : Parts) (front : List Occurrence) (at : IsolationMachine) (lines : List Entry)
       → Holds script parts front at lines → IsLawfulFrom (shape_of script) parts (map (λ entry. entry.made) log) → are_named log ≡ true

@@ -17,6 +17,7 @@ use Rattle.std.specs.Simd.{first_chunks}
 use Rattle.flat_column.specs.Bitmap.{AreBytes, IsPadded, PutsBit, bitmap_bit, bitmap_bits}
 use Rattle.arrow_spec.specs.Bytes.{byte_of_bits, bitmap}
 
+-- What follows where a number is below another, and where it is not, follows anyway.
 by_cases_lt : {P : Type 0} (m n : ℕ) → (m < n → P) → (n ≤ m → P) → P
 by_cases_lt m n f g = elim (cases_lt m n) [ inl h ↦ f h | inr h ↦ g h ]
 
@@ -39,9 +40,6 @@ get_or-map-first_chunks f n (suc k) xs (suc j) d h =
     get_or-map-first_chunks f n k (drop n xs) j d (omega arith)
     ∙ ap (λ (ys : List _). f (take n ys)) (drop-drop (n * j) n xs ∙ ap (λ (m : ℕ). drop m xs) (sym e))
 
-digit : Bool → ℕ
-digit bit = cond bit 1 0
-
 -- the byte of so many bits is below that power of two
 pub byte_of_bits-lt : (bits : List Bool) (k : ℕ) → length bits ≤ k → byte_of_bits bits < 2 ^ k
 byte_of_bits-lt [] k h = pow_pos k
@@ -61,6 +59,7 @@ bit_at-byte_of_bits (false ∷ bits) (suc i) =
     let half : (0 + 2 * byte_of_bits bits) / 2 ≡ byte_of_bits bits = omega arith in
     bit_at-suc (0 + 2 * byte_of_bits bits) i ∙ ap (λ (n : ℕ). bit_at n i) half ∙ bit_at-byte_of_bits bits i
 
+-- The number of a bit is one exactly where the bit is set.
 one_or_zero : (b : Bool) → eqb (cond b 1 0) 1 ≡ b
 one_or_zero true = refl
 one_or_zero false = refl
@@ -91,6 +90,7 @@ bitmap_bits-bitmap bits =
     sym (fill_by_all (bitmap_bit (bitmap bits)) bits (length bits) false refl
     (λ k h. sym (bitmap_bit-bitmap bits k)))
 
+-- Numbers below two of which both are one, or neither is, are the same.
 same_bit : (a b : ℕ) → a < 2 → b < 2 → eqb a 1 ≡ eqb b 1 → a ≡ b
 same_bit a b p q e = grind (arith, common_steps)
 
@@ -128,12 +128,14 @@ bitmap_is bytes len bits e n = e ∙ ap bitmap (sym (bitmap_bits_is bytes len bi
 
 -- ---- zeros at the end
 
+-- Zeros have zero at each place, also behind their end.
 get_or-zeros : (m i : ℕ) → get_or {A = ℕ} (replicate m 0) i 0 ≡ 0
 get_or-zeros m i =
     by_cases_lt i m
     (λ below. get_or-replicate m i 0 0 below)
     (λ past. get_or_past (replicate {A = ℕ} m 0) i 0 (rw length-replicate past))
 
+-- Zero bytes at the end of a bitmap change none of its bits.
 bitmap_bit-append_zeros : (bytes : List ℕ) (m i : ℕ) → bitmap_bit (bytes ++ replicate m 0) i ≡ bitmap_bit bytes i
 bitmap_bit-append_zeros bytes m i =
     by_cases_lt (i / 8) (length bytes)
@@ -143,6 +145,7 @@ bitmap_bit-append_zeros bytes m i =
     (get_or-append_right bytes (replicate m 0) (length bytes) (i / 8) 0 refl past
     ∙ get_or-zeros m (i / 8 - length bytes) ∙ sym (get_or_past bytes (i / 8) 0 past)))
 
+-- Bytes with zeros at their end are bytes.
 AreBytes-append_zeros : (bytes : List ℕ) (m : ℕ) → AreBytes bytes → AreBytes (bytes ++ replicate m 0)
 AreBytes-append_zeros bytes m h = record {
   below = λ k.
@@ -151,6 +154,7 @@ AreBytes-append_zeros bytes m h = record {
       (λ past. rw (get_or-append_right bytes (replicate m 0) (length bytes) k 0 refl past, get_or-zeros m (k - length bytes)) (omega arith));
 }
 
+-- Bits that are off at the end of a list leave the bit at each place.
 get_or-append_falses : (bits : List Bool) (n i : ℕ) → get_or (bits ++ replicate n false) i false ≡ get_or bits i false
 get_or-append_falses bits n i =
     by_cases_lt i (length bits)
@@ -180,6 +184,7 @@ bitmap-append_falses bits n m fits =
 
 -- ---- a bit put
 
+-- Bytes of which one was replaced by another byte are bytes.
 AreBytes-set : (bytes : List ℕ) (i b : ℕ) → AreBytes bytes → b < 256 → AreBytes (set bytes i b)
 AreBytes-set bytes i b h small = record {
   below = λ k.
@@ -191,6 +196,7 @@ AreBytes-set bytes i b h small = record {
       ];
 }
 
+-- A bitmap with a bit put into one byte has the bits of the list with that bit put.
 bit_put : (bits : List Bool) (index : ℕ) (bit : Bool) (new : ℕ) → index < length bits
     → PutsBit (get_or (bitmap bits) (index / 8) 0) new (index % 8) bit
     → (i : ℕ) → bitmap_bit (set (bitmap bits) (index / 8) new) i ≡ get_or (set bits index bit) i false
@@ -228,15 +234,18 @@ bitmap-set bits index bit new within puts =
 
 -- ---- the first bits
 
+-- A mask of the low bits leaves each bit below its width.
 bit_at-low : (b n i : ℕ) → i < n → bit_at (bit_and b (2 ^ n - 1)) i ≡ bit_at b i
 bit_at-low b n i below =
     bit_at_and b (2 ^ n - 1) i ∙ ap (λ (k : ℕ). min (bit_at b i) k) (bit_at_ones n i below)
     ∙ (let small = bit_at-lt b i in omega arith)
 
+-- A mask of the low bits turns off each bit from its width on.
 bit_at-high : (b n i : ℕ) → n ≤ i → bit_at (bit_and b (2 ^ n - 1)) i ≡ 0
 bit_at-high b n i past =
     bit_at_and b (2 ^ n - 1) i ∙ ap (λ (k : ℕ). min (bit_at b i) k) (bit_at_ones_above n i past) ∙ omega arith
 
+-- The first of some bytes are bytes.
 AreBytes-take : (bytes : List ℕ) (n : ℕ) → AreBytes bytes → AreBytes (take n bytes)
 AreBytes-take bytes n h = record {
   below = λ k.
@@ -245,9 +254,11 @@ AreBytes-take bytes n h = record {
       (λ past. rw (get_or_past (take n bytes) k 0 (rw length-take (omega arith))) (omega arith));
 }
 
+-- Those behind the first of some bytes are bytes.
 AreBytes-drop : (bytes : List ℕ) (n : ℕ) → AreBytes bytes → AreBytes (drop n bytes)
 AreBytes-drop bytes n h = record { below = λ k. rw (get_or-drop n bytes k 0) (h.below (n + k)) }
 
+-- Bytes with a byte more at the end are bytes.
 AreBytes-push : (bytes : List ℕ) (b : ℕ) → AreBytes bytes → b < 256 → AreBytes (bytes ++ b ∷ [])
 AreBytes-push bytes b h small = record {
   below = λ k.
@@ -259,6 +270,7 @@ AreBytes-push bytes b h small = record {
       ]);
 }
 
+-- The bitmap of the first bits has a byte for each eight that were begun.
 length-bitmap-take : (bits : List Bool) (n : ℕ) → n ≤ length bits → length (bitmap (take n bits)) ≡ (n + 7) / 8
 length-bitmap-take bits n within =
     length-bitmap (take n bits) ∙ ap (λ (k : ℕ). (k + 7) / 8) (length-take-le n bits within)
@@ -323,14 +335,17 @@ bitmap-take_part bits n within part =
 
 -- ---- ones
 
+-- Zero has no bit that is set.
 ones_zero : ones 0 ≡ 0
 unfolding ones ones_in
 ones_zero = refl
 
+-- The number one has one bit that is set.
 ones_one : ones 1 ≡ 1
 unfolding ones ones_in
 ones_one = refl
 
+-- The byte of some bits has as many ones as bits that are set.
 count_ones-byte_of_bits : (bits : List Bool) → count_ones (byte_of_bits bits) ≡ count_by (λ bit. bit) bits
 count_ones-byte_of_bits [] = ones_zero
 count_ones-byte_of_bits (true ∷ bits) =
@@ -344,6 +359,7 @@ count_ones-byte_of_bits (false ∷ bits) =
     ∙ ap (λ (n : ℕ). n + ones 0) (count_ones-byte_of_bits bits) ∙ ap (λ (n : ℕ). count_by (λ bit. bit) bits + n) ones_zero
     ∙ add_comm (count_by (λ bit. bit) bits) 0 ∙ sym (sum_by-cons (λ (bit : Bool). cond bit 1 0) false bits)
 
+-- The bytes of the first chunks of eight have as many ones as their bits.
 sum_by-first_chunks : (k : ℕ) (bits : List Bool)
     → sum_by count_ones (map byte_of_bits (first_chunks 8 k bits)) ≡ count_by (λ bit. bit) (take (8 * k) bits)
 sum_by-first_chunks zero bits = refl
@@ -361,9 +377,11 @@ sum_by-bitmap bits =
     sum_by-first_chunks ((length bits + 7) / 8) bits
     ∙ ap (count_by (λ bit. bit)) (take_all (8 * ((length bits + 7) / 8)) bits (omega arith))
 
+-- A number has the ones of its low byte and those of what stands above it.
 ones_byte : (b rest : ℕ) → b < 256 → ones (rest * 2 ^ 8 + b) ≡ ones b + ones rest
 ones_byte b rest small = ones_cat 8 rest b small ∙ add_comm (ones rest) (ones b)
 
+-- A word of eight bytes has the ones of each of them in sum.
 ones_word : (a b c d e f g h : ℕ) → a < 256 → b < 256 → c < 256 → d < 256 → e < 256 → f < 256 → g < 256 → h < 256
     → ones (a + b * 256 + c * 65536 + d * 16777216 + e * 4294967296 + f * 1099511627776 + g * 281474976710656 + h * 72057594037927936)
     ≡ ones a + (ones b + (ones c + (ones d + (ones e + (ones f + (ones g + ones h))))))

@@ -115,6 +115,7 @@ pub record Holds (width : ℕ) (signed : Bool) (bytes : List ℕ) (values : List
 pub length-all_bytes : (width : ℕ) (values : List ℤ) → length (all_bytes width values) ≡ width / 8 * length values
 length-all_bytes width values = length-pieces (bytes_of width) (width / 8) values (length-bytes_of width)
 
+-- The bytes of numbers, divided by the bytes of one, are as many as the numbers.
 count_of-bytes : (width : ℕ) (values : List ℤ) → IsWidth width → length (all_bytes width values) / (width / 8) ≡ length values
 count_of-bytes width values known =
     let s = sized width known in
@@ -143,6 +144,7 @@ pub record Opened (width : ℕ) (signed : Bool) (bytes : List ℕ) (now : Number
   pub signed_is : signed ≡ now.signed
   pub holds : Holds now.width now.signed bytes now.values
 
+-- What the fields show: the width, the sign and the numbers that the bytes hold.
 abbrev shown : ℕ → Bool → List ℕ → Numbers
 shown width signed bytes = record { width = width; signed = signed; values = values_in width signed bytes }
 
@@ -167,6 +169,7 @@ pub Holds-view : (width : ℕ) (signed : Bool) (bytes : List ℕ) (values : List
 Holds-view width signed bytes values h =
     ap (values_in width signed) h.stored ∙ values_in-all_bytes width signed values h.known h.ranged
 
+-- Bytes that hold a list of numbers keep the invariant.
 Holds-invariant : (width : ℕ) (signed : Bool) (bytes : List ℕ) (values : List ℤ) → Holds width signed bytes values
     → IsStored width signed bytes
 Holds-invariant width signed bytes values h =
@@ -246,6 +249,7 @@ Holds-set width signed bytes new values i value h within ranged is =
           ∙ flat_map-append (bytes_of width) (take i values) (value ∷ drop (suc i) values));
     }
 
+-- The low bytes of zero are zeros.
 bytes_of_zero : (i k : ℕ) → bytes_low_first i k 0 ≡ replicate k 0
 bytes_of_zero i zero = refl
 bytes_of_zero zero (suc k) = ap (λ (rest : List ℕ). 0 ∷ rest) (bytes_of_zero 1 k)
@@ -253,6 +257,7 @@ bytes_of_zero (suc i) (suc k) =
     ap (λ (n : ℕ). n % 256 ∷ bytes_low_first (suc (suc i)) k 0) (zero-div (256 ^ suc i))
     ∙ ap (λ (rest : List ℕ). 0 ∷ rest) (bytes_of_zero (suc (suc i)) k)
 
+-- The bytes of zeros are zeros, as many as the width asks for each.
 all_bytes-zeros : (width n : ℕ) → all_bytes width (replicate n (pos 0)) ≡ replicate (width / 8 * n) 0
 all_bytes-zeros width zero = let e : width / 8 * zero ≡ 0 = omega arith in rw e refl
 all_bytes-zeros width (suc n) =
@@ -261,10 +266,12 @@ all_bytes-zeros width (suc n) =
     ∙ ap (λ (rest : List ℕ). replicate (width / 8) 0 ++ rest) (all_bytes-zeros width n)
     ∙ replicate-append-replicate (width / 8) (width / 8 * n) 0 ∙ ap (λ (k : ℕ). replicate {A = ℕ} k 0) e
 
+-- Zero is in the range of each width, signed or not.
 IsInRange-zero : (width : ℕ) (signed : Bool) → IsInRange width signed (pos 0)
 IsInRange-zero width true = let some = pow_pos (width - 1) in (omega (arith, ints), omega (arith, ints))
 IsInRange-zero width false = let some = pow_pos width in (omega (arith, ints), omega (arith, ints))
 
+-- Zeros are in range, however many they are.
 All-zeros : (width : ℕ) (signed : Bool) (n : ℕ) → All (IsInRange width signed) (replicate n (pos 0))
 All-zeros width signed n k d h =
     let within : k < n = rw length-replicate at h in

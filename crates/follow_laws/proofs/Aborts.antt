@@ -46,6 +46,7 @@ module _ (slot : ℕ → ℕ → Slot) (places left : ℕ → ℤ → List ℕ) 
     (q : ℕ) (pass : HasPass desk q)
     (kept : (t p : ℕ) (key : ℤ) → Among p (left t key) → Among p (places t key) × (is_bare (rolled_back q (slot t p)) ≡ false))
     (stays : (t p : ℕ) (key : ℤ) → Among p (places t key) → is_bare (rolled_back q (slot t p)) ≡ false → Among p (left t key)) where
+  -- A slot with the session's entries rolled back.
   abbrev rolled : ℕ → ℕ → Slot
   rolled t p = rolled_back q (slot t p)
 
@@ -57,12 +58,15 @@ module _ (slot : ℕ → ℕ → Slot) (places left : ℕ → ℤ → List ℕ) 
   pub ended_own : transaction_of q (without q m) ≡ None
   ended_own = of-without-own q m.open_transactions
 
+  -- Who has a transaction after the abort is not the session that aborted.
   not_own : (r : ℕ) (tr : Transaction) → transaction_of r (without q m) ≡ Some tr → r ≢ q
   not_own r tr is e = none_not (transaction_of q (without q m)) tr ended_own (ap (λ x. transaction_of x (without q m)) (sym e) ∙ is)
 
+  -- Who has a snapshot after the abort is not the session that aborted.
   not_closed : (r : ℕ) (snapshot : Snapshot) → snapshot_of (closed q desk) r ≡ Some snapshot → r ≢ q
   not_closed r snapshot is e = none_not (snapshot_of (closed q desk) q) snapshot (closed_own q desk pass) (ap (snapshot_of (closed q desk)) (sym e) ∙ is)
 
+  -- The desk without the session's snapshot has the transactions of the machine after the abort.
   keeps_desk : Desked (closed q desk) (without q m)
   keeps_desk = record {
     counted = f.desked.counted;
@@ -80,9 +84,11 @@ module _ (slot : ℕ → ℕ → Slot) (places left : ℕ → ℤ → List ℕ) 
       idle' r some is (inl e) = ap (λ x. transaction_of x (without q m)) e ∙ ended_own
       idle' r some is (inr ne) = ended_other r ne ∙ f.desked.idle r some (sym (closed_other q r desk pass.0 some ne) ∙ is)
 
+  -- A roll-back leaves what nobody's session sees of a slot.
   same_view : (t p s : ℕ) → seen (rolled t p) s 0 ≡ seen (slot t p) s 0
   same_view t p s = seen_rolled q (slot t p).row (slot t p).entries s pass.0 (f.slots t p).lawful
 
+  -- The slots show at each stamp after the roll-back what they showed before it.
   keeps_shows : (stamp : ℕ) (rows : State) → Shows slot places stamp rows → Shows rolled left stamp rows
   keeps_shows stamp rows old = record {
     there = λ t p row is. old.there t p row (sym (same_view t p stamp) ∙ is);
@@ -93,6 +99,7 @@ module _ (slot : ℕ → ℕ → Slot) (places left : ℕ → ℤ → List ℕ) 
     once = λ t key p p' a a' is is'. old.once t key p p' (kept t p key a).0 (kept t p' key a').0 (ap is_some (sym (same_view t p stamp)) ∙ is) (ap is_some (sym (same_view t p' stamp)) ∙ is');
   }
 
+  -- The numbers above a snapshot agree with the history after the roll-back as before.
   keeps_numbers : (stamp number : ℕ) → Numbers slot places stamp number m.history → Numbers rolled left stamp number m.history
   keeps_numbers stamp number old = record {
     below = λ t key p k a n. old.below t key p k (kept t p key a).0 (subst (Among k) (numbers_rolled q stamp (slot t p).entries) n);
@@ -102,6 +109,7 @@ module _ (slot : ℕ → ℕ → Slot) (places left : ℕ → ℤ → List ℕ) 
         (found.0, stays t found.0 key found.1 (number_filled (rolled t found.0) stamp last here), here);
   }
 
+  -- The index that is left is right for the slots that were rolled back.
   keeps_index : Index rolled left
   keeps_index = record {
     keyed = λ t p key a. rolled_keyed key q (slot t p).row (slot t p).entries (f.slots t p).lawful (f.index.keyed t p key (kept t p key a).0);
@@ -110,6 +118,7 @@ module _ (slot : ℕ → ℕ → Slot) (places left : ℕ → ℤ → List ℕ) 
     one_key = λ t p key other a b. f.index.one_key t p key other (kept t p key a).0 (kept t p other b).0;
   }
 
+  -- The other transactions' own writes are the current rows of their slots after the roll-back.
   keeps_own : Own rolled left (without q m)
   keeps_own = record {
     writers = λ t p r w.

@@ -25,9 +25,11 @@ module _ (slot : ℕ → ℕ → Slot) (places : ℕ → ℤ → List ℕ) (desk
     (q : ℕ) (snapshot : Snapshot) (has : HasOpen desk q snapshot)
     (t : ℕ) (key : ℤ) (written : Option ℕ) (mine_at : OwnSlot slot places q t key written)
     (clear : conflict_of m (tr slot places desk m f q snapshot has) (place_at t key) ≡ None) where
+  -- The machine's transaction of this session.
   abbrev mine_tr : Transaction
   mine_tr = tr slot places desk m f q snapshot has
 
+  -- Without a conflict there is no rival, and no later commit that wrote the place.
   parts : (rival_of m mine_tr.session (place_at t key) ≡ None) × (last_behind (place_at t key) mine_tr.snapshot m.history ≡ None)
   parts = go (rival_of m mine_tr.session (place_at t key)) (last_behind (place_at t key) mine_tr.snapshot m.history) refl refl clear
     where
@@ -60,6 +62,7 @@ module _ (slot : ℕ → ℕ → Slot) (places : ℕ → ℤ → List ℕ) (desk
       ∙ state-stays (place_at t key) m.history mine_tr.snapshot f.desked.history_order parts.1
       ∙ ap (λ n. at_place (state_at m.history n) (place_at t key)) (at_number slot places desk m f q snapshot has)
 
+  -- At the newest stamp the slots show the state after all commits.
   newest : Shows slot places desk.newest (state_at m.history desk.commits)
   newest = f.shows desk.newest desk.commits (inl (refl, refl))
 
@@ -112,6 +115,7 @@ module _ (slot : ℕ → ℕ → Slot) (places : ℕ → ℤ → List ℕ) (desk
           let here = mine_at.there own.0 own.1 in
           (own.0, here.0, sym (seen_writer (slot t own.0).row (slot t own.0).entries snapshot.stamp q (f.slots t own.0).lawful here.1) ∙ ap (found_at (slot t) (places t key) (own_key q snapshot written)) (sym own.1) ∙ found)
 
+  -- A slot that has a row is current.
   row_current : (s : Slot) (row : Row) → s.row ≡ Some row → is_current s ≡ true
   row_current s row is = go (is_some s.row) (is_some (writer_of s.entries)) (ap is_some is)
     where

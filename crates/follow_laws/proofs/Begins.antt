@@ -23,16 +23,20 @@ begun_machine m q = record m { open_transactions = m.open_transactions ++ new_of
 
 module _ (slot : ℕ → ℕ → Slot) (places : ℕ → ℤ → List ℕ) (desk : DeskState) (m : IsolationMachine) (f : Follows slot places desk m)
     (q : ℕ) (pass : HasPass desk q) (idle : snapshot_of desk q ≡ None) where
+  -- A session without a snapshot has no transaction of the machine.
   none : transaction_of q m ≡ None
   none = f.desked.idle q pass.0 idle
 
+  -- A begin leaves the transactions of other sessions.
   other : (r : ℕ) → r ≢ q → transaction_of r (begun_machine m q) ≡ transaction_of r m
   other r ne = of-append-other r m.open_transactions (new_of m q) (λ e. ne (sym e))
 
+  -- After its begin a session has the transaction that was opened.
   own_new : transaction_of q (begun_machine m q) ≡ Some (new_of m q)
   unfolding none
   own_new = of-append-new m.open_transactions (new_of m q) none
 
+  -- The desk with the new snapshot has the transactions of the machine after the begin.
   keeps_desk : Desked (opened q desk) (begun_machine m q)
   keeps_desk = record {
     counted = f.desked.counted;
@@ -66,6 +70,7 @@ module _ (slot : ℕ → ℕ → Slot) (places : ℕ → ℤ → List ℕ) (desk
       order' r tr is (inl e) = let new : Some (new_of m q) ≡ Some tr = sym own_new ∙ ap (λ x. transaction_of x (begun_machine m q)) (sym e) ∙ is in let t : new_of m q ≡ tr = cc in subst (λ (t : Transaction). InOrder t.own) t tt
       order' r tr is (inr ne) = f.desked.own_order r tr (sym (other r ne) ∙ is)
 
+  -- After a begin the own writes of all transactions are the current rows of their slots.
   keeps_own : Own slot places (begun_machine m q)
   keeps_own = record {
     writers = λ t p r w. writers' t p r w (same_number r q);

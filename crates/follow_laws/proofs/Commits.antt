@@ -24,12 +24,15 @@ use Rattle.slot_laws.proofs.Endings.{committed_other, committed_writer, seen_com
 use Rattle.slot_laws.proofs.Kept.{same_option, bool_cases, shown_filled, shown_current, seen_later, writer_current, numbers_of_commit, numbers_stay, number_there, numbers_settled, sound_committed, small_number}
 use Rattle.follow_laws.proofs.Desks.{same_number, closed_own, closed_other, live_numbered, none_not}
 
+-- The numbers that two equal options hold are the same.
 some_same : (a b : ℕ) → Some a ≡ Some b → a ≡ b
 some_same a b e = cc
 
+-- True and false are never the same.
 true_false : true ≡ false → ⊥
 true_false e = cc
 
+-- What two equal options hold is the same, be it a row or none.
 value_same : (a b : Option Row) → Some a ≡ Some b → a ≡ b
 value_same a b e = cc
 
@@ -52,6 +55,7 @@ committed_current q newest commits slot ok is = go (same_option (writer_of slot.
     go (inl w) = writer_current slot q w
     go (inr ne) = sym (ap is_current (committed_other q (newest + 1) (commits + 1) slot ok.lawful ne)) ∙ is
 
+-- A slot is bare after a commit exactly where it was before it.
 committed_bare : (q S N : ℕ) (slot : Slot) → is_bare (committed q S N slot) ≡ is_bare slot
 committed_bare q S N slot = go slot.entries
   where
@@ -61,15 +65,19 @@ committed_bare q S N slot = go slot.entries
 
 module _ (slot : ℕ → ℕ → Slot) (places : ℕ → ℤ → List ℕ) (desk : DeskState) (m : IsolationMachine) (f : Follows slot places desk m)
     (q : ℕ) (pass : HasPass desk q) (tr : Transaction) (mine : transaction_of q m ≡ Some tr) where
+  -- The stamp of the commit: the next behind the desk's newest.
   abbrev S : ℕ
   S = desk.newest + 1
 
+  -- The number of the commit: the next behind the desk's count.
   abbrev N : ℕ
   N = desk.commits + 1
 
+  -- A slot with the session's entries stamped and numbered by the commit.
   abbrev stamped_slot : ℕ → ℕ → Slot
   stamped_slot t p = committed q S N (slot t p)
 
+  -- The desk with one commit more, and without the session's snapshot.
   abbrev after_desk : DeskState
   after_desk = closed q (numbered desk)
 
@@ -77,21 +85,27 @@ module _ (slot : ℕ → ℕ → Slot) (places : ℕ → ℤ → List ℕ) (desk
   abbrev pub after_commit : IsolationMachine
   after_commit = record (without q m) { history = m.history ++ tr.own ∷ [] }
 
+  -- A commit leaves the transactions of other sessions.
   other : (r : ℕ) → r ≢ q → transaction_of r after_commit ≡ transaction_of r m
   other r ne = of-without r q m.open_transactions ne
 
+  -- After its commit the session has no transaction.
   own_gone : transaction_of q after_commit ≡ None
   own_gone = of-without-own q m.open_transactions
 
+  -- Who has a transaction after the commit is not the session that committed.
   not_own : (r : ℕ) (tr' : Transaction) → transaction_of r after_commit ≡ Some tr' → r ≢ q
   not_own r tr' is e = none_not (transaction_of q after_commit) tr' own_gone (ap (λ x. transaction_of x after_commit) (sym e) ∙ is)
 
+  -- Who has a snapshot after the commit is not the session that committed.
   not_closed : (r : ℕ) (snapshot : Snapshot) → snapshot_of after_desk r ≡ Some snapshot → r ≢ q
   not_closed r snapshot is e = none_not (snapshot_of after_desk q) snapshot (closed_own q (numbered desk) pass) (ap (snapshot_of after_desk) (sym e) ∙ is)
 
+  -- The history is as long after the commit as its number says.
   count : length (m.history ++ tr.own ∷ []) ≡ N
   count = length_push m.history tr.own ∙ ap (λ n. n + 1) f.desked.counted
 
+  -- The desk after the commit has the machine's transactions, and its count of commits.
   keeps_desk : Desked after_desk after_commit
   keeps_desk = record {
     counted = count;
@@ -117,6 +131,7 @@ module _ (slot : ℕ → ℕ → Slot) (places : ℕ → ℤ → List ℕ) (desk
 
   -- ---- the new snapshot
 
+  -- The session has no other transaction than the one that commits.
   same_tr : (tr' : Transaction) → transaction_of q m ≡ Some tr' → tr' ≡ tr
   same_tr tr' is = let e : Some tr' ≡ Some tr = sym is ∙ mine in cc
 
@@ -134,11 +149,13 @@ module _ (slot : ℕ → ℕ → Slot) (places : ℕ → ℤ → List ℕ) (desk
       let same : w.0 ≡ p = f.current t key w.0 p w.1 a (writer_current (slot t w.0) q w.2) is in
       ap (λ x. writer_of (slot t x).entries) (sym same) ∙ w.2
 
+  -- A slot that the session did not write shows at the new stamp what it showed before.
   settled : (t p : ℕ) → writer_of (slot t p).entries ≢ Some q → seen (stamped_slot t p) S 0 ≡ seen (slot t p) desk.newest 0
   settled t p ne =
       ap (λ s. seen s S 0) (committed_other q S N (slot t p) (f.slots t p).lawful ne)
       ∙ seen_later (slot t p).row (slot t p).entries desk.newest S (f.slots t p).stamps (omega arith)
 
+  -- A slot that the session wrote shows at the new stamp what it has.
   written_view : (t p : ℕ) → writer_of (slot t p).entries ≡ Some q → seen (stamped_slot t p) S 0 ≡ (slot t p).row
   written_view t p w = seen_after_commit q S N (slot t p) S (f.slots t p).lawful w (omega arith)
 
@@ -150,12 +167,11 @@ module _ (slot : ℕ → ℕ → Slot) (places : ℕ → ℤ → List ℕ) (desk
       go (inl w) = writer_current (slot t p) q w
       go (inr ne) = shown_current (slot t p) desk.newest (f.slots t p).stamps (ap is_some (sym (settled t p ne)) ∙ is)
 
+  -- At the newest stamp before the commit the slots show the state after the commits so far.
   newest : Shows slot places desk.newest (state_at m.history desk.commits)
   newest = f.shows desk.newest desk.commits (inl (refl, refl))
 
-  rows_before : State
-  rows_before = state_at m.history desk.commits
-
+  -- The new state has at a place what the transaction wrote there, else what was there.
   at_new : (place : Place) → at_place (state_at (m.history ++ tr.own ∷ []) N) place ≡ over (at_place tr.own place) (at_place (state_at m.history desk.commits) place)
   at_new place =
       ap (λ n. at_place (state_at (m.history ++ tr.own ∷ []) (n + 1)) place) (sym f.desked.counted)
@@ -163,12 +179,15 @@ module _ (slot : ℕ → ℕ → Slot) (places : ℕ → ℤ → List ℕ) (desk
       ∙ ap (λ n. at_place (laid_over (state_at m.history n) tr.own) place) f.desked.counted
       ∙ (at-laid_over (state_at m.history desk.commits) tr.own place (state-order m.history desk.commits f.desked.history_order) (f.desked.own_order q tr mine)).0
 
+  -- Where a write set has a value at a place, this is what it leaves.
   over_some : (a : Option (Option Row)) (value row : Option Row) → a ≡ Some value → over a row ≡ value
   over_some a value row is = ap (λ x. over x row) is
 
+  -- Where a write set has nothing at a place, it leaves what was there.
   over_none : (a : Option (Option Row)) (row : Option Row) → a ≡ None → over a row ≡ row
   over_none a row is = ap (λ x. over x row) is
 
+  -- A write set has nothing at a place, or it has some value.
   option_cases : (a : Option (Option Row)) → (a ≡ None) ⊎ ((value : Option Row) × (a ≡ Some value))
   option_cases None = inl refl
   option_cases (Some v) = inr (v, refl)
@@ -177,6 +196,7 @@ module _ (slot : ℕ → ℕ → Slot) (places : ℕ → ℤ → List ℕ) (desk
   key_shown : (t p : ℕ) (key : ℤ) (s r : ℕ) (row : Row) → Among p (places t key) → seen (slot t p) s r ≡ Some row → key_of row ≡ key
   key_shown t p key s r row a is = subst (HasKey key) is (seen_keyed key (slot t p).row (slot t p).entries s r (f.index.keyed t p key a))
 
+  -- A row that a slot shows at the new stamp is in the new state.
   there_new : (t p : ℕ) (row : Row) → seen (stamped_slot t p) S 0 ≡ Some row → at_place (state_at (m.history ++ tr.own ∷ []) N) (place_of t row) ≡ Some row
   there_new t p row is = at_new (place_of t row) ∙ go (same_option (writer_of (slot t p).entries) q)
     where
@@ -200,6 +220,7 @@ module _ (slot : ℕ → ℕ → Slot) (places : ℕ → ℤ → List ℕ) (desk
           none None no' = refl
           none (Some v) no' = absurd (no' v refl)
 
+  -- A row of the new state is shown at the new stamp by a slot of its key.
   all_new : (t : ℕ) (key : ℤ) (row : Row) → at_place (state_at (m.history ++ tr.own ∷ []) N) (place_at t key) ≡ Some row → (p : ℕ) × Among p (places t key) × (seen (stamped_slot t p) S 0 ≡ Some row)
   all_new t key row is = go (option_cases (at_place tr.own (place_at t key)))
     where
@@ -213,6 +234,7 @@ module _ (slot : ℕ → ℕ → Slot) (places : ℕ → ℤ → List ℕ) (desk
           let v : wrote.0 ≡ Some row = sym (over_some (at_place tr.own (place_at t key)) wrote.0 (at_place (state_at m.history desk.commits) (place_at t key)) wrote.1) ∙ sym (at_new (place_at t key)) ∙ is in
           (w.0, w.1, written_view t w.0 w.2 ∙ value_same (slot t w.0).row (Some row) (sym (wrote_here t w.0 key w.1 w.2) ∙ wrote.1 ∙ ap Some v))
 
+  -- At the new stamp the slots show the state with the commit.
   shows_new : Shows stamped_slot places S (state_at (m.history ++ tr.own ∷ []) N)
   shows_new = record {
     there = there_new;
@@ -220,6 +242,7 @@ module _ (slot : ℕ → ℕ → Slot) (places : ℕ → ℤ → List ℕ) (desk
     once = λ t key p p' a a' is is'. f.current t key p p' a a' (was_current t p is) (was_current t p' is');
   }
 
+  -- At an earlier stamp the slots show after the commit what they showed before it.
   shows_old : (stamp number : ℕ) → stamp ≤ desk.newest → number ≤ desk.commits → Shows slot places stamp (state_at m.history number) → Shows stamped_slot places stamp (state_at (m.history ++ tr.own ∷ []) number)
   shows_old stamp number low few old =
       let same : (t p : ℕ) → seen (stamped_slot t p) stamp 0 ≡ seen (slot t p) stamp 0 = λ t p. seen_committed q S N (slot t p) stamp pass.0 (omega (arith, low)) in
@@ -232,12 +255,14 @@ module _ (slot : ℕ → ℕ → Slot) (places : ℕ → ℤ → List ℕ) (desk
 
   -- ---- numbers
 
+  -- The last commit that wrote a place is this one, if it wrote it, and else as before.
   last_now : (place : Place) (number : ℕ) → number ≤ desk.commits
       → last_behind place number (m.history ++ tr.own ∷ []) ≡ cond (writes_place place tr.own) (Some N) (last_behind place number m.history)
   last_now place number few =
       last-after place number m.history tr.own (let c = f.desked.counted in omega (arith, c, few))
       ∙ ap (λ n. cond (writes_place place tr.own) (Some (n + 1)) (last_behind place number m.history)) f.desked.counted
 
+  -- The numbers above the new snapshot agree with the history.
   numbers_new : Numbers stamped_slot places S N (m.history ++ tr.own ∷ [])
   numbers_new = record {
     below = λ t key p k a n. absurd (subst (Among k) (numbers_settled (stamped_slot t p).entries S S (sound_committed q desk.newest desk.commits (slot t p) (f.slots t p)).stamps (omega arith)) n);
@@ -245,10 +270,12 @@ module _ (slot : ℕ → ℕ → Slot) (places : ℕ → ℤ → List ℕ) (desk
         (last-none (place_at t key) N (m.history ++ tr.own ∷ []) (let c = count in omega (arith, c))) is);
   }
 
+  -- What a choice gives is its first where the test holds, and else its second.
   cond_cases : (b : Bool) (x : ℕ) (old : Option ℕ) (last : ℕ) → cond b (Some x) old ≡ Some last → ((b ≡ true) × (last ≡ x)) ⊎ ((b ≡ false) × (old ≡ Some last))
   cond_cases true x old last is = inl (refl, cc)
   cond_cases false x old last is = inr (refl, is)
 
+  -- The numbers above an earlier snapshot agree with the history after the commit as before.
   numbers_old : (stamp number : ℕ) → stamp ≤ desk.newest → number ≤ desk.commits → Numbers slot places stamp number m.history → Numbers stamped_slot places stamp number (m.history ++ tr.own ∷ [])
   numbers_old stamp number low few old = record {
     below = λ t key p k a n. below' t key p k a (bool_cases (writes_place (place_at t key) tr.own)) n;
@@ -288,6 +315,7 @@ module _ (slot : ℕ → ℕ → Slot) (places : ℕ → ℤ → List ℕ) (desk
               (w.0, w.1, subst (λ k. Among k (numbers_above (stamped_slot t w.0).entries stamp)) (sym both.1) (number_there q S N stamp (slot t w.0).entries (f.slots t w.0).lawful w.2 (omega (arith, low))))
       last' t key last (inr both) = let before = old.last t key last both.1 in (before.0, before.1, numbers_stay q S N stamp last (slot t before.0).entries before.2)
 
+  -- The index is right for the slots after the commit.
   keeps_index : Index stamped_slot places
   keeps_index = record {
     keyed = λ t p key a. committed_keyed key q S N (slot t p).row (slot t p).entries (f.index.keyed t p key a);
@@ -296,6 +324,7 @@ module _ (slot : ℕ → ℕ → Slot) (places : ℕ → ℤ → List ℕ) (desk
     one_key = f.index.one_key;
   }
 
+  -- The other transactions' own writes are the current rows of their slots after the commit.
   keeps_own : Own stamped_slot places after_commit
   keeps_own = record {
     writers = λ t p r w.

@@ -1,4 +1,5 @@
--- The first answer of some places, the largest of some numbers, and what a search among transactions finds.
+-- The first answer of some places, the largest of some numbers, and what a search among
+-- transactions finds.
 use Rattle.std.proofs.Common.{◌≡◌, ◌≢◌, ◌⊎◌, ℕ, ◌≤◌, Bool, true, false, cond, not, ◌&&◌, ◌==◌, List, [], ◌∷◌, ◌++◌, Option, None, Some, is_some, is_none, max, fold, refl, sym, ap, ◌∙◌, arith, subst}
 use mathlib.Core.Logic.{inl, inr}
 use Rattle.std.specs.Prelude.{find, IfNone, option_map}
@@ -19,6 +20,7 @@ use Rattle.event_spec.specs.Follows.{OneEach}
 use Rattle.slot_laws.proofs.Views.{writer_top}
 use Rattle.follow_laws.proofs.Machines.{of}
 
+-- True and false are never the same.
 true_false : true ≡ false → ⊥
 true_false e = cc
 
@@ -42,6 +44,7 @@ first_is answer (p0 ∷ ps) p x a is once = go (answer p0) refl a (λ a'. first_
 
 -- ---- the largest
 
+-- The largest of a start and some numbers is below none of them.
 fold_max : (ns : List ℕ) (x : ℕ) → (x ≤ fold max x ns) × ((k : ℕ) → Among k ns → k ≤ fold max x ns)
 fold_max [] x = (omega arith, λ k a. absurd a)
 fold_max (n ∷ ns) x =
@@ -53,6 +56,7 @@ fold_max (n ∷ ns) x =
     go k (inl e) first rest = omega (arith, e, first)
     go k (inr a) first rest = rest k a
 
+-- The largest of a start and some numbers is the start or one of them.
 fold_among : (ns : List ℕ) (x : ℕ) → (fold max x ns ≡ x) ⊎ Among (fold max x ns) ns
 fold_among [] x = inl refl
 fold_among (n ∷ ns) x = go (fold_among ns (max x n)) (max_cases x n)
@@ -87,6 +91,7 @@ pub largest_none : (ns : List ℕ) → ((k : ℕ) → Among k ns → ⊥) → la
 largest_none [] none = refl
 largest_none (n ∷ ns) none = absurd (none n (inl refl))
 
+-- What is among two lists put together is among the first or the second.
 among_append : (k : ℕ) (xs ys : List ℕ) → Among k (xs ++ ys) → Among k xs ⊎ Among k ys
 among_append k [] ys a = inr a
 among_append k (x ∷ xs) ys (inl e) = inl (inl e)
@@ -96,11 +101,13 @@ among_append k (x ∷ xs) ys (inr a) = go (among_append k xs ys a)
     go (inl a) = inl (inr a)
     go (inr b) = inr b
 
+-- What is among the first of two lists is among both put together.
 append_left : (k : ℕ) (xs ys : List ℕ) → Among k xs → Among k (xs ++ ys)
 append_left k [] ys a = absurd a
 append_left k (x ∷ xs) ys (inl e) = inl e
 append_left k (x ∷ xs) ys (inr a) = inr (append_left k xs ys a)
 
+-- What is among the second of two lists is among both put together.
 append_right : (k : ℕ) (xs ys : List ℕ) → Among k ys → Among k (xs ++ ys)
 append_right k [] ys a = a
 append_right k (x ∷ xs) ys a = inr (append_right k xs ys a)
@@ -123,6 +130,7 @@ flat_among numbers (x ∷ ps) p k (inr a) n = append_right k (numbers x) (flat_m
 
 -- ---- another writer of a slot
 
+-- An entry without a stamp passes the test of another writer's, where its session is another.
 open_top : (stamp : Option ℕ) (move : Bool) (session w q : ℕ) → IfNone stamp (move ≡ false) → is_none stamp ≡ true → session ≡ w → w ≢ q → (is_none stamp && not move && not (session == q)) ≡ true
 open_top (Some x) move session w q head n s ne = cc
 open_top None true session w q head n s ne = cc
@@ -136,6 +144,7 @@ other_is (e ∷ es) w q lawful is ne =
     (open_top e.stamp (is_move e.kind) e.session w q (IsLawful-head e es lawful) (writer_top e es w is).0 (writer_top e es w is).1 ne)
     ∙ ap Some (writer_top e es w is).1
 
+-- An entry whose writer can only be this session fails the test of another writer's.
 closed_top : (e : Undo Before) (stamp : Option ℕ) (move : Bool) (q : ℕ) → e.stamp ≡ stamp → ((w : ℕ) → cond (is_none e.stamp) (Some e.session) None ≡ Some w → w ≡ q) → (is_none stamp && not move && not (e.session == q)) ≡ false
 closed_top e (Some x) move q st none = refl
 closed_top e None true q st none = refl

@@ -43,13 +43,16 @@ of-append q (x ∷ ts) new = go (x.session == q) (of-append q ts new)
     go true rest = refl
     go false rest = rest
 
+-- What an option has is not changed by nothing as the alternative.
 or_none : {X : Type 0} (a : Option X) → option_or a None ≡ a
 or_none None = refl
 or_none (Some x) = refl
 
+-- Numbers that are not the same fail the test for equality.
 ne_false : (a b : ℕ) → a ≢ b → (a == b) ≡ false
 ne_false a b ne = grind (arith, nat_tests)
 
+-- Numbers that are the same pass the test for equality.
 eq_true : (a b : ℕ) → a ≡ b → (a == b) ≡ true
 eq_true a b e = grind (arith, nat_tests)
 
@@ -75,6 +78,7 @@ one-append (x ∷ ts) new one none = go (x.session == new.session) refl none (on
 
 -- ---- without a session's
 
+-- The transactions of all sessions but one.
 abbrev kept : ℕ → List Transaction → List Transaction
 kept q ts = filter (λ t. not (t.session == q)) ts
 
@@ -98,6 +102,7 @@ of-without-own q (x ∷ ts) = go (x.session == q) refl (of-without-own q ts)
     go true b rest = ap (λ b. of q (cond (not b) (x ∷ kept q ts) (kept q ts))) b ∙ rest
     go false b rest = ap (λ b. of q (cond (not b) (x ∷ kept q ts) (kept q ts))) b ∙ ap (λ b. cond b (Some x) (of q (kept q ts))) b ∙ rest
 
+-- A session without a transaction has none when one session's are left out.
 none_kept : (r q : ℕ) (ts : List Transaction) → of r ts ≡ None → of r (kept q ts) ≡ None
 none_kept r q ts none = go (r == q) refl
   where
@@ -120,6 +125,7 @@ one-without q (x ∷ ts) one = go (x.session == q) (one-without q ts one.1)
 abbrev pub enters : ℕ → Place → Option (List Cell) → Transaction → Transaction
 enters q place value t = cond (t.session == q) (entered place value t) t
 
+-- A write that is entered leaves the session of a transaction.
 enters_session : (q : ℕ) (place : Place) (value : Option (List Cell)) (t : Transaction) → (enters q place value t).session ≡ t.session
 enters_session q place value t = go (t.session == q)
   where
@@ -164,6 +170,7 @@ one-with_own q place value (x ∷ ts) one = (
 
 -- ---- the history
 
+-- A write set more is the last that wrote a place if it did, and else it is as before.
 last-append : (place : Place) (at : ℕ) (ws : List WriteSet) (w : WriteSet)
     → last_writer place at (ws ++ w ∷ []) ≡ cond (writes_place place w) (Some (at + length ws)) (last_writer place at ws)
 last-append place at [] w = go (writes_place place w)
@@ -180,6 +187,7 @@ last-append place at (x ∷ ws) w =
     go true = ap Some (omega arith)
     go false = refl
 
+-- The last writer behind a snapshot is the new commit if it wrote the place, else as before.
 last-writer-after : (place : Place) (n : ℕ) (history : History) (w : WriteSet) → n ≤ length history
     → last_writer place (n + 1) (drop n (history ++ w ∷ [])) ≡ cond (writes_place place w) (Some (length history + 1)) (last_writer place (n + 1) (drop n history))
 last-writer-after place n history w le =
@@ -213,16 +221,19 @@ state-after history w =
     ∙ fold-append laid_over [] history (w ∷ [])
     ∙ ap (λ h. laid_over (fold laid_over [] h) w) (sym (take_all (length history) history (omega arith)))
 
+-- Write sets in order that are laid over rows in order leave them in order.
 order_onto : (rows : State) (ws : List WriteSet) → InOrder rows → All InOrder ws → InOrder (fold laid_over rows ws)
 order_onto rows [] order all = order
 order_onto rows (w ∷ ws) order all =
     order_onto (laid_over rows w) ws (at-laid_over rows w (record { table = 0; key = pos 0 }) order (All-head InOrder w ws all)).1 (All-tail InOrder w ws all)
 
+-- Where all write sets are in order, the first of them are.
 All-take : (n : ℕ) (ws : List WriteSet) → All InOrder ws → All InOrder (take n ws)
 All-take zero ws all = All-nil InOrder
 All-take (suc n) [] all = all
 All-take (suc n) (w ∷ ws) all = All-cons InOrder w (take n ws) (All-head InOrder w ws all) (All-take n ws (All-tail InOrder w ws all))
 
+-- Where all write sets are in order, those behind the first are.
 All-drop : (n : ℕ) (ws : List WriteSet) → All InOrder ws → All InOrder (drop n ws)
 All-drop zero ws all = all
 All-drop (suc n) [] all = all

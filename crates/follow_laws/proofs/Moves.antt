@@ -33,9 +33,11 @@ module _ (slot : ℕ → ℕ → Slot) (places : ℕ → ℤ → List ℕ) (desk
     (added : Among b (places' t key))
     (kept : (u p : ℕ) (k : ℤ) → Among p (places u k) → Among p (places' u k))
     (more : (u p : ℕ) (k : ℤ) → Among p (places' u k) → Among p (places u k) ⊎ ((u ≡ t) × (p ≡ b) × (k ≡ key))) where
+  -- The desk with the stamp of the move as its newest.
   abbrev desk' : DeskState
   desk' = record desk { newest = S }
 
+  -- What holds of the source, of the target and of each other slot holds of all slots.
   at_slot : (P : Slot → ℕ → ℕ → Type 0) → P (moved_out S row (plain row)) t a → P (moved_in S row bare) t b
       → ((u p : ℕ) → ((u ≡ t) → (p ≡ a) → ⊥) → ((u ≡ t) → (p ≡ b) → ⊥) → P (slot u p) u p) → (u p : ℕ) → P (slot' u p) u p
   at_slot P x y z u p = go (apart u t p a) (apart u t p b)
@@ -52,6 +54,7 @@ module _ (slot : ℕ → ℕ → Slot) (places : ℕ → ℤ → List ℕ) (desk
       (in_view S s q row lt ∙ ap (λ x. seen x s q) (sym to))
       (λ u p n n'. refl) u p
 
+  -- A move leaves the numbers of commits at each slot.
   same_numbers : (s u p : ℕ) → numbers_above (slot' u p).entries s ≡ numbers_above (slot u p).entries s
   same_numbers s = at_slot (λ x u p. numbers_above x.entries s ≡ numbers_above (slot u p).entries s)
       (numbers_moved_out s ∙ ap (λ (x : Slot). numbers_above x.entries s) (sym from))
@@ -72,10 +75,12 @@ module _ (slot : ℕ → ℕ → Slot) (places : ℕ → ℤ → List ℕ) (desk
           no_commit true = refl
           no_commit false = refl
 
+  -- A move leaves the writer of each slot.
   same_writer : (u p : ℕ) → writer_of (slot' u p).entries ≡ writer_of (slot u p).entries
   same_writer = at_slot (λ x u p. writer_of x.entries ≡ writer_of (slot u p).entries)
       (ap (λ (x : Slot). writer_of x.entries) (sym from)) (ap (λ (x : Slot). writer_of x.entries) (sym to)) (λ u p n n'. refl)
 
+  -- Each slot is sound after the move.
   sound' : (u p : ℕ) → IsSoundSlot S desk.commits (slot' u p)
   sound' = at_slot (λ x u p. IsSoundSlot S desk.commits x) (sound_one S desk.commits None (out_entry S row) refl refl) (sound_one S desk.commits (Some row) (in_entry S) refl refl)
       (λ u p n n'. sound_later desk.newest S desk.commits (slot u p) newest (f.slots u p))
@@ -99,12 +104,14 @@ module _ (slot : ℕ → ℕ → Slot) (places : ℕ → ℤ → List ℕ) (desk
       go (inl e) = ap (λ u. is_current (slot u p)) e.0 ∙ ap (λ p. is_current (slot t p)) e.1 ∙ ap is_current from
       go (inr n) = sym (ap is_current (others u p n no')) ∙ is
 
+  -- A slot that is current after the move is not the source.
   not_source : (u p : ℕ) → is_current (slot' u p) ≡ true → (u ≡ t) → (p ≡ a) → ⊥
   not_source u p is e e' = no_way (sym (ap (λ u. is_current (slot' u p)) e ∙ ap (λ p. is_current (slot' t p)) e' ∙ ap is_current out) ∙ is)
     where
       no_way : false ≡ true → ⊥
       no_way x = cc
 
+  -- After the move a key has one current slot at most.
   keeps_current : (u : ℕ) (k : ℤ) (p p' : ℕ) → Among p (places' u k) → Among p' (places' u k) → is_current (slot' u p) ≡ true → is_current (slot' u p') ≡ true → p ≡ p'
   keeps_current u k p p' x x' is is' = go (apart u t p b) (apart u t p' b)
     where
@@ -136,6 +143,7 @@ module _ (slot : ℕ → ℕ → Slot) (places : ℕ → ℤ → List ℕ) (desk
       go (inr n) (inl e) = absurd (never p' p e x' n x is)
       go (inr n) (inr n') = f.current u k p p' (old p x n) (old p' x' n') (was_current u p n is) (was_current u p' n' is')
 
+  -- The index is right for the slots after the move.
   keeps_index : Index slot' places'
   keeps_index = record {
     keyed = λ u p k x. keyed' u p k x;
@@ -190,6 +198,7 @@ module _ (slot : ℕ → ℕ → Slot) (places : ℕ → ℤ → List ℕ) (desk
       one' u p k l (inr new) (inl y) = absurd (bare_not u p l new.0 new.1 y)
       one' u p k l (inr x) (inr y) = x.2 ∙ sym y.2
 
+  -- At a stamp before the move's the slots show what they showed before it.
   shows_old : (s : ℕ) (rows : State) → s < S → Shows slot places s rows → Shows slot' places' s rows
   shows_old s rows lt old = record {
     there = λ u p r is. old.there u p r (sym (move_view s 0 u p lt) ∙ is);
@@ -230,12 +239,14 @@ module _ (slot : ℕ → ℕ → Slot) (places : ℕ → ℤ → List ℕ) (desk
             ∙ seen_later (slot u x.0).row (slot u x.0).entries desk.newest S (f.slots u x.0).stamps newest ∙ x.2,
       )
 
+  -- The numbers above a snapshot agree with the history after the move as before.
   numbers_old : (s n : ℕ) → Numbers slot places s n m.history → Numbers slot' places' s n m.history
   numbers_old s n old = record {
     below = λ u k p x y z. let z' = subst (Among x) (same_numbers s u p) z in old.below u k p x (old_place u p k y (number_filled (slot u p) s x z')) z';
     last = λ u k last is. let x = old.last u k last is in (x.0, kept u x.0 k x.1, subst (Among last) (sym (same_numbers s u x.0)) x.2);
   }
 
+  -- The numbers above the stamp of the move agree with the history.
   numbers_new : Numbers slot' places' S desk.commits m.history
   numbers_new = record {
     below = λ u k p x y z. absurd (subst (Among x) (numbers_settled (slot' u p).entries S S (sound' u p).stamps (omega arith)) z);
@@ -243,6 +254,7 @@ module _ (slot : ℕ → ℕ → Slot) (places : ℕ → ℤ → List ℕ) (desk
         (last-none (place_at u k) desk.commits m.history (let c = f.desked.counted in omega (arith, c))) is);
   }
 
+  -- The own writes of all transactions are the current rows of their slots after the move.
   keeps_own : Own slot' places' m
   keeps_own = record {
     writers = λ u p q w.
@@ -254,6 +266,7 @@ module _ (slot : ℕ → ℕ → Slot) (places : ℕ → ℤ → List ℕ) (desk
       same_row : (u p q : ℕ) → writer_of (slot' u p).entries ≡ Some q → (slot' u p).row ≡ (slot u p).row
       same_row u p q w = at_slot (λ x u p. writer_of x.entries ≡ Some q → x.row ≡ (slot u p).row) (λ w. cc) (λ w. cc) (λ u p n n' w. refl) u p w
 
+  -- The desk with the stamp of the move has the machine's transactions.
   keeps_desk : Desked desk' m
   keeps_desk = record {
     counted = f.desked.counted;

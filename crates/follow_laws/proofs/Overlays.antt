@@ -1,4 +1,5 @@
--- Maps whose entries stand in the order of their places: look-ups, insertions, removals, and write sets laid over rows.
+-- Maps whose entries stand in the order of their places: look-ups, insertions, removals, and write
+-- sets laid over rows.
 use Rattle.std.proofs.Common.{◌≡◌, Bool, true, false, cond, List, [], ◌∷◌, Option, None, Some, Ordering, Less, Equal, Greater, All, refl, sym, ap, ◌∙◌}
 use Rattle.std.specs.BTreeMap.{insert_entry}
 use Rattle.std.specs.Cmp.{IsTotalOrder, tied_back, alike_right}
@@ -13,9 +14,11 @@ use Rattle.isolation_laws.proofs.Entries.{lookup-insert_entry}
 use Rattle.isolation_laws.proofs.Rows.{place_cmp-total}
 use Rattle.event_spec.specs.Follows.{InOrder}
 
+-- The comparison of places is a total order.
 o : IsTotalOrder place_cmp
 o = place_cmp-total
 
+-- A comparison that tests as equal has the answer equal.
 equal_from : (answer : Ordering) → is_eq answer ≡ true → answer ≡ Equal
 equal_from Less is = cc
 equal_from Equal is = refl
@@ -34,6 +37,7 @@ none_below (e ∷ es) k q same all =
 pub at-insert : {X : Type 0} (es : PlaceMap X) (k : Place) (v : X) (q : Place) → at_place (insert_entry place_cmp es k v) q ≡ cond (is_place q k) (Some v) (at_place es q)
 at-insert es k v q = lookup-insert_entry place_cmp-total es k v q
 
+-- Two places compare as equal either way around, or neither way.
 flip : (k q : Place) → is_eq (place_cmp k q) ≡ is_eq (place_cmp q k)
 flip k q = ap is_eq (o.antisymm k q) ∙ go (place_cmp q k)
   where
@@ -42,6 +46,7 @@ flip k q = ap is_eq (o.antisymm k q) ∙ go (place_cmp q k)
     go Equal = refl
     go Greater = refl
 
+-- A choice between a thing and itself is this thing.
 cond_same : {Y : Type 0} (b : Bool) (y : Y) → y ≡ cond b y y
 cond_same true y = refl
 cond_same false y = refl
@@ -115,6 +120,7 @@ abbrev pub over : Option (Option (List Cell)) → Option (List Cell) → Option 
 over None row = row
 over (Some value) row = value
 
+-- A write leaves its value at its place, and elsewhere what was there.
 at-write : (rows : State) (k q : Place) (value : Option (List Cell)) → InOrder rows → at_place (with_write rows k value) q ≡ cond (is_place q k) value (at_place rows q)
 at-write rows k q (Some row) order = at-insert rows k row q
 at-write rows k q None order = at-remove rows k q order

@@ -33,20 +33,25 @@ module _ (slot : ℕ → ℕ → Slot) (places left : ℕ → ℤ → List ℕ) 
   prune_view s q t p le = at_slot (λ x t p. seen x s q ≡ seen (slot t p) s q)
       (λ t p. visible_row-same laid_back (slot t p).row (rest o (slot t p).entries) (slot t p).entries s q (images_after_prune o (slot t p).entries s q (f.slots t p).lawful le)) (λ t p. refl) t p
 
+  -- A pruning leaves the writer of each slot.
   same_writer : (t p : ℕ) → writer_of (slot' t p).entries ≡ writer_of (slot t p).entries
   same_writer = at_slot (λ x t p. writer_of x.entries ≡ writer_of (slot t p).entries) (λ t p. pruned_writer o (slot t p).entries (f.slots t p).lawful) (λ t p. refl)
 
+  -- A pruning leaves the row of each slot.
   same_row : (t p : ℕ) → (slot' t p).row ≡ (slot t p).row
   same_row = at_slot (λ x t p. x.row ≡ (slot t p).row) (λ t p. refl) (λ t p. refl)
 
+  -- A pruning leaves the numbers at each slot above a stamp that is not older.
   same_numbers : (s t p : ℕ) → o ≤ s → numbers_above (slot' t p).entries s ≡ numbers_above (slot t p).entries s
   same_numbers s t p le = at_slot (λ x t p. numbers_above x.entries s ≡ numbers_above (slot t p).entries s) (λ t p. numbers_pruned o s (slot t p).entries le) (λ t p. refl) t p
 
+  -- A slot is current after the pruning exactly where it was before.
   same_current : (t p : ℕ) → is_current (slot' t p) ≡ is_current (slot t p)
   same_current t p =
       ap (λ row. is_current (record { row = row; entries = (slot' t p).entries })) (same_row t p)
       ∙ ap (λ w. is_some (slot t p).row || is_some w) (same_writer t p)
 
+  -- A slot that is not bare after the pruning was not bare before it.
   filled_before : (t p : ℕ) → is_bare (slot' t p) ≡ false → is_bare (slot t p) ≡ false
   filled_before = at_slot (λ x t p. is_bare x ≡ false → is_bare (slot t p) ≡ false) (λ t p is. go (slot t p) (bool_cases (is_bare (slot t p))) is) (λ t p is. is)
     where

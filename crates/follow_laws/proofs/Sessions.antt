@@ -26,11 +26,9 @@ use Rattle.follow_laws.proofs.Desks.{none_not}
 use Rattle.follow_laws.proofs.Firsts.{first_none, first_is, largest_is, largest_none, among_flat, flat_among, other_is, other_none, find_among, find_some, of_among}
 use Rattle.isolation_spec.specs.declared.command.Answer.TheVariants as answer
 
+-- True and false are never the same.
 true_false : true ≡ false → ⊥
 true_false e = cc
-
-row_same : (a b : Option Row) → Some a ≡ Some b → a ≡ b
-row_same a b e = cc
 
 -- what two `Some` hold is the same
 pub some_is : {X : Type 0} (a b : X) → Some a ≡ Some b → a ≡ b
@@ -210,6 +208,7 @@ module _ (slot : ℕ → ℕ → Slot) (places : ℕ → ℤ → List ℕ) (desk
           let le = b.2 in omega (arith, same, le))
           ∙ sym some.1
 
+  -- A rival is answered alike by its session's number and by its transaction.
   session_answer : (found : Option Transaction) → option_map (λ w. answer.ConflictSession w) (option_map (λ (u : Transaction). u.session) found) ≡ option_map (λ (rival : Transaction). answer.ConflictSession rival.session) found
   session_answer None = refl
   session_answer (Some u) = refl

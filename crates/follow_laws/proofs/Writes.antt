@@ -9,10 +9,8 @@ use Rattle.isolation_spec.specs.Machine.{IsolationMachine, Transaction, transact
 use Rattle.isolation_spec.specs.declared.place.Place.{Place}
 use Rattle.isolation_laws.proofs.Rows.{place_cmp-total}
 use Rattle.txn_desk.specs.Desk.{DeskState}
-use Rattle.undo_chain.specs.declared.undo.Undo.{Undo}
 use Rattle.undo_chain.specs.Conflict.{numbers_above}
-use Rattle.block_spec.specs.Slots.{Slot, Row, writer_of, written, seen, is_bare, row_after, image_before, laid_back, kind_of}
-use Rattle.block_spec.specs.declared.change.Before.{Before}
+use Rattle.block_spec.specs.Slots.{Slot, Row, writer_of, written, seen, is_bare, row_after, image_before, laid_back}
 use Rattle.block_spec.specs.declared.change.Change.{Change}
 use Rattle.slot_laws.proofs.Keys.{HasKey}
 use Rattle.event_spec.specs.SlotSound.{Keyed, IsSoundSlot}
@@ -26,10 +24,6 @@ use Rattle.slot_laws.proofs.Kept.{bool_cases, writer_filled, writer_current, sho
 use Rattle.follow_laws.proofs.Machines.{of-with_own, of-with_own-other, one-with_own}
 use Rattle.follow_laws.proofs.Desks.{same_number, none_not}
 use Rattle.follow_laws.proofs.Sessions.{some_is}
-
--- the entry of a write
-abbrev entry : ℕ → Change → Slot → Undo Before
-entry q change slot = record { session = q; stamp = None; number = 0; kind = kind_of change; before = image_before slot.row change }
 
 -- a place is itself
 pub place_self : (place : Place) → is_place place place ≡ true
@@ -66,7 +60,8 @@ module _ (slot : ℕ → ℕ → Slot) (places : ℕ → ℤ → List ℕ) (desk
     (leaves : HasKey key (row_after (slot t p).row change))
     (row_there : (is_some (row_after (slot t p).row change) || is_some (slot t p).row) ≡ true)
     (keyed : Keyed key (slot t p).row (slot t p).entries)
-    -- the slot is the key's or nobody's, no other session has written it, and no other slot of the key is current
+    -- the slot is the key's or nobody's, no other session has written it, and no other slot of the
+    -- key is current
     (one_key : (k : ℤ) → Among p (places t k) → k ≡ key)
     (free : (w : ℕ) → writer_of (slot t p).entries ≡ Some w → w ≡ q)
     (alone : (p' : ℕ) → Among p' (places t key) → is_current (slot t p') ≡ true → p' ≡ p)
@@ -77,9 +72,11 @@ module _ (slot : ℕ → ℕ → Slot) (places : ℕ → ℤ → List ℕ) (desk
     (added : Among p (places' t key))
     (kept : (u r : ℕ) (k : ℤ) → Among r (places u k) → Among r (places' u k))
     (more : (u r : ℕ) (k : ℤ) → Among r (places' u k) → Among r (places u k) ⊎ ((u ≡ t) × (r ≡ p) × (k ≡ key))) where
+  -- The row that the slot has after the write, if it has one.
   abbrev value : Option Row
   value = row_after (slot t p).row change
 
+  -- The place of the written key.
   abbrev place : Place
   place = place_at t key
 
@@ -95,9 +92,11 @@ module _ (slot : ℕ → ℕ → Slot) (places : ℕ → ℤ → List ℕ) (desk
       go (inl both) = subst (λ u. P (slot' u r) u r) (sym both.0) (subst (λ r. P (slot' t r) t r) (sym both.1) (subst (λ s. P s t p) (sym here) written'))
       go (inr no') = subst (λ s. P s u r) (sym (others u r no')) (old u r)
 
+  -- A write leaves what nobody's session sees of each slot.
   same_view : (s u r : ℕ) → seen (slot' u r) s 0 ≡ seen (slot u r) s 0
   same_view s = at_slot (λ x u r. seen x s 0 ≡ seen (slot u r) s 0) (seen_written q change (slot t p) s pass undone) (λ u r. refl)
 
+  -- A write leaves the numbers of commits at each slot.
   same_numbers : (s u r : ℕ) → numbers_above (slot' u r).entries s ≡ numbers_above (slot u r).entries s
   same_numbers s = at_slot (λ x u r. numbers_above x.entries s ≡ numbers_above (slot u r).entries s) refl (λ u r. refl)
 
@@ -112,6 +111,7 @@ module _ (slot : ℕ → ℕ → Slot) (places : ℕ → ℤ → List ℕ) (desk
           let same : listed.0 ≡ key = one_key listed.0 (subst (λ u. Among p (places u listed.0)) new.0 (subst (λ r. Among r (places u listed.0)) new.1 listed.1)) in
           subst (λ k. Among r (places u k)) (same ∙ sym new.2) listed.1
 
+  -- The slots show at each stamp after the write what they showed before it.
   keeps_shows : (s : ℕ) (rows : State) → Shows slot places s rows → Shows slot' places' s rows
   keeps_shows s rows old = record {
     there = λ u r row is. old.there u r row (sym (same_view s u r) ∙ is);
@@ -122,15 +122,18 @@ module _ (slot : ℕ → ℕ → Slot) (places : ℕ → ℤ → List ℕ) (desk
         old.once u k r r' (old_place u r k a (shown_filled (slot u r) s 0 x)) (old_place u r' k a' (shown_filled (slot u r') s 0 y)) x y;
   }
 
+  -- The numbers above a snapshot agree with the history after the write as before.
   keeps_numbers : (s n : ℕ) → Numbers slot places s n m.history → Numbers slot' places' s n m.history
   keeps_numbers s n old = record {
     below = λ u k r x a is. let is' = subst (Among x) (same_numbers s u r) is in old.below u k r x (old_place u r k a (number_filled (slot u r) s x is')) is';
     last = λ u k last is. let found = old.last u k last is in (found.0, kept u found.0 k found.1, subst (Among last) (sym (same_numbers s u found.0)) found.2);
   }
 
+  -- The session is the writer of the slot that it wrote.
   writes_now : writer_of (slot' t p).entries ≡ Some q
   writes_now = ap (λ (x : Slot). writer_of x.entries) here
 
+  -- The index is right for the slots after the write.
   keeps_index : Index slot' places'
   keeps_index = record {
     keyed = λ u r k a. keyed' u r k (more u r k a) (apart u t r p);
@@ -196,15 +199,19 @@ module _ (slot : ℕ → ℕ → Slot) (places : ℕ → ℤ → List ℕ) (desk
       go (inr x) (inl y) = one r' r y a' x a is
       go (inr x) (inr y) = f.current u k r r' (old r a x) (old r' a' y) (sym (ap is_current (others u r x)) ∙ is) (sym (ap is_current (others u r' y)) ∙ is')
 
+  -- After the write the session's transaction is the old one with the write entered.
   now_own : transaction_of q wrote ≡ Some (entered place value tr)
   now_own = of-with_own q place value m.open_transactions tr mine
 
+  -- A write leaves the transactions of other sessions.
   now_other : (r : ℕ) → r ≢ q → transaction_of r wrote ≡ transaction_of r m
   now_other r ne = of-with_own-other r q place value m.open_transactions ne
 
+  -- A transaction that the session has after the write is the old one with it entered.
   own_is : (r : ℕ) (tr' : Transaction) → r ≡ q → transaction_of r wrote ≡ Some tr' → entered place value tr ≡ tr'
   own_is r tr' e is = some_is (entered place value tr) tr' (sym now_own ∙ ap (λ x. transaction_of x wrote) (sym e) ∙ is)
 
+  -- The desk has the machine's transactions after the write.
   keeps_desk : Desked desk wrote
   keeps_desk = record {
     counted = f.desked.counted;
@@ -235,6 +242,7 @@ module _ (slot : ℕ → ℕ → Slot) (places : ℕ → ℤ → List ℕ) (desk
   own_at : (u : ℕ) (k : ℤ) → at_place (entered place value tr).own (place_at u k) ≡ cond (is_place (place_at u k) place) (Some value) (at_place tr.own (place_at u k))
   own_at u k = at-insert tr.own place value (place_at u k)
 
+  -- The own writes of all transactions are the current rows of their slots after the write.
   keeps_own : Own slot' places' wrote
   keeps_own = record {
     writers = λ u r w is. writers' u r w is (apart u t r p);

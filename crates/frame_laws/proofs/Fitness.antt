@@ -23,6 +23,7 @@ use Rattle.isolation_spec.specs.Contents.{key_of}
 use Rattle.key_index.specs.Candidates.{candidates_of}
 use Rattle.txn_desk.specs.Desk.{DeskState}
 
+-- What two equal options hold is the same.
 some_is : {X : Type 0} (a b : X) → Some a ≡ Some b → a ≡ b
 some_is a b e = cc
 
@@ -55,6 +56,7 @@ module _ (sh : Shape) (e : CoreEvent) (hand : List (Option CorePart)) (s u : Par
   pub part_same : (w : Name) → touches sh e hand w ≡ true → part_at sh u w ≡ part_at sh s w
   part_same w is = sym (look sh e hand u w covers there is) ∙ look sh e hand s w covers here is
 
+  -- Where the desk is touched and one core has a next stamp, the other has one.
   stamp_same : touches sh e hand TheDesk ≡ true → HasStamp sh s → HasStamp sh u
   stamp_same is less = subst (λ (desk : DeskState). desk.newest + 1 < 2 ^ 63) (sym (ap desk_from (part_same TheDesk is))) less
 
@@ -62,6 +64,7 @@ module _ (sh : Shape) (e : CoreEvent) (hand : List (Option CorePart)) (s u : Par
   pub body_same : (t b : ℕ) → touches sh e hand (BodyOf t b) ≡ true → body_at sh u t b ≡ body_at sh s t b
   body_same t b is = ap body_from (part_same (BodyOf t b) is)
 
+  -- Where a key's shard and bodies are touched, a key thawed in one core is thawed in the other.
   thawed_same : (t : ℕ) (key : ℤ) → touches sh e hand (ShardOf t (shard_of key)) ≡ true
       → ((p : ℕ) → Among p (candidates_of (shard_from (held_named (names sh) hand (ShardOf t (shard_of key)))) key) → touches sh e hand (BodyOf t (block_of p)) ≡ true)
       → IsThawed sh t key s → IsThawed sh t key u

@@ -49,6 +49,7 @@ use Rattle.slot_laws.proofs.Kept.{bool_cases, writer_filled}
 use Rattle.sound_laws.proofs.Written.{judged_ok}
 use Rattle.txn_desk.specs.Desk.{DeskState}
 
+-- Two numbers are tested for equality alike either way around.
 num_flip : (a b : ℕ) → (a == b) ≡ (b == a)
 num_flip a b = grind (arith, nat_tests)
 
@@ -61,6 +62,7 @@ pub record Rests (c : Changes) (n : Name) (piece : CorePart) : Type 0 where
   pub body : (t b : ℕ) (x : Body) → n ≡ BodyOf t b → piece ≡ part.Body x → c.body t b x ≡ x
   pub desk : (x : DeskState) → n ≡ TheDesk → piece ≡ part.Desk x → c.desk x ≡ x
 
+-- A part whose change does nothing is the same behind it.
 rests_same : (c : Changes) (n : Name) (piece : CorePart) → Rests c n piece → changed c n piece ≡ piece
 rests_same c n piece h = rests_at (λ m x. (n ≡ m) × (piece ≡ x)) c (record {
   head = λ t x is. h.head t x is.0 is.1;
@@ -69,6 +71,7 @@ rests_same c n piece h = rests_at (λ m x. (n ≡ m) × (piece ≡ x)) c (record
   desk = λ x is. h.desk x is.0 is.1;
 }) n piece (refl, refl)
 
+-- Where the change of the part at a place does nothing, this part is as it was.
 unchanged_at : (c : Changes) (ns : List Name) (s : Parts) (k : ℕ) → ((n : Name) (piece : CorePart) → slice_get ns k ≡ Some n → slice_get s k ≡ Some piece → Rests c n piece)
     → slice_get (each_changed c ns s) k ≡ slice_get s k
 unchanged_at c [] s k same = refl
@@ -87,6 +90,7 @@ frames_by sh s e hand covers agrees same k away =
     go n piece is at (inl t) = absurd (away (covers k (let l = within s k piece at in let size = agrees.0 in omega (arith, l, size)) (ap (passes_test (touches sh e hand)) is ∙ t)))
     go n piece is at (inr f) = f
 
+-- Where nothing is changed, the change of each part does nothing.
 rests_nothing : (n : Name) (piece : CorePart) → Rests nothing n piece
 rests_nothing n piece = record {
   head = λ t x e p. refl;
@@ -95,6 +99,7 @@ rests_nothing n piece = record {
   desk = λ x e p. refl;
 }
 
+-- A change of one block leaves what is another's.
 elsewhere : {X : Type 0} (t b : ℕ) (g : X → X) (u x : ℕ) (y : X) → ((t == u) && (b == x)) ≡ false → at_both t b g u x y ≡ y
 elsewhere t b g u x y e = ap (λ c. cond c (g y) y) (ap (λ d. d && (x == b)) (num_flip u t) ∙ ap (λ d. (t == u) && d) (num_flip x b) ∙ e)
 
@@ -132,14 +137,17 @@ written_passes test (e ∷ writes) t key p is passes = go (is_place (place_at t 
         (ap (λ u. test u e.0.key e.1) (sym same.0) ∙ ap (λ k. test t k e.1) (sym same.1) ∙ ap (test t key) (some_is e.1 p at) ∙ passes)
     go false here at rest = or_right (test e.0.table e.0.key e.1) (list_any (λ (write : Place × ℕ). test write.0.table write.0.key write.1) writes) (rest at)
 
+-- Slots that are each left as they were are the same list.
 map_same : (f : Slot → Slot) (xs : List Slot) → ((j : ℕ) → j < length xs → f (get_or xs j bare) ≡ get_or xs j bare) → map f xs ≡ xs
 map_same f [] same = refl
 map_same f (x ∷ xs) same = ap (λ y. y ∷ map f xs) (same 0 (omega arith)) ∙ ap (λ ys. x ∷ ys) (map_same f xs (λ j less. same (suc j) (omega (arith, less))))
 
+-- Where the slot at each place fails a test, no slot passes it.
 none_any : (test : Slot → Bool) (xs : List Slot) → ((j : ℕ) → j < length xs → test (get_or xs j bare) ≡ false) → list_any test xs ≡ false
 none_any test [] none = refl
 none_any test (x ∷ xs) none = ap (λ b. b || list_any test xs) (none 0 (omega arith)) ∙ none_any test xs (λ j less. none (suc j) (omega (arith, less)))
 
+-- A writer other than the session, or none, fails the test for the session.
 not_writer : (q : ℕ) (o : Option ℕ) → o ≢ Some q → is_writer q o ≡ false
 not_writer q None ne = refl
 not_writer q (Some w) ne = go (w == q) refl
@@ -149,6 +157,7 @@ not_writer q (Some w) ne = go (w == q) refl
     go false e = e
 
 module _ (sh : Shape) (s : Parts) (shape : IsShape sh) (ok : Sound sh s) (own : OwnTransaction) (owns : OwnsAll sh own s) where
+  -- The core's parts follow a machine.
   abbrev f : FollowsMachine sh s ok.follows.0
   f = follows_machine sh s ok
 
@@ -228,18 +237,12 @@ module _ (sh : Shape) (s : Parts) (shape : IsShape sh) (ok : Sound sh s) (own : 
 
 -- ---- the events
 
-left_none : {X : Type 0} (a b : Option X) → option_or a b ≡ None → a ≡ None
-left_none None b is = refl
-left_none (Some x) b is = cc
-
 module _ (sh : Shape) (s : Parts) (hand : List (Option CorePart)) (agrees : Agrees hand s) where
-  abbrev held : Name → Option CorePart
-  held = held_named (names sh) hand
-
   -- a name that is not touched is not this one
   away_from : (e : CoreEvent) (w n m : Name) → touches sh e hand n ≡ false → touches sh e hand w ≡ true → n ≡ m → same_name w m ≡ false
   away_from e w n m away is same = ap (same_name w) (sym same) ∙ untouched sh e hand w n away is
 
+  -- A change of a key, however it is judged, does nothing to a part that is not touched.
   change_rests : (e : CoreEvent) → Covers (touching sh e) hand → (own : OwnKey) (t : ℕ) (key : ℤ) (choice : Row → Change)
       → touches sh e hand (ShardOf t (shard_of key)) ≡ true
       → ((p : ℕ) → Among p (candidates_of (shard_from (held_named (names sh) hand (ShardOf t (shard_of key)))) key) → touches sh e hand (BodyOf t (block_of p)) ≡ true)
@@ -294,6 +297,7 @@ module _ (sh : Shape) (s : Parts) (hand : List (Option CorePart)) (agrees : Agre
           ∙ and_true (t == t) (list_any (λ place. block_of place == block_of p) (p ∷ candidates_of (shard_from (held_named (names sh) hand (ShardOf t (shard_of (key_of row))))) (key_of row))) (num_refl t)
           (or_left (block_of p == block_of p) _ (num_refl (block_of p)))
 
+  -- A commit does nothing to a part that it does not touch.
   commit_rests : (shape : IsShape sh) (ok : Sound sh s) (own : OwnTransaction) → OwnsAll sh own s
       → (n : Name) (piece : CorePart) → part_at sh s n ≡ Some piece → touches sh (event.Commit own) hand n ≡ false → Rests (after_commit sh s own) n piece
   commit_rests shape ok own owns n piece is away = record {
@@ -308,6 +312,7 @@ module _ (sh : Shape) (s : Parts) (hand : List (Option CorePart)) (agrees : Agre
       at t b x is none true = commit_stays sh s shape ok own owns t b x is none ((desk_at sh s).newest + 1) ((desk_at sh s).commits + 1)
       at t b x is none false = refl
 
+  -- An abort does nothing to a part that it does not touch.
   abort_rests : (shape : IsShape sh) (ok : Sound sh s) → ShardsHold sh s → (own : OwnTransaction) → OwnsAll sh own s
       → (n : Name) (piece : CorePart) → part_at sh s n ≡ Some piece → touches sh (event.Abort own) hand n ≡ false → Rests (changes_of sh s (event.Abort own)) n piece
   abort_rests shape ok shards own owns n piece is away = record {
@@ -324,6 +329,7 @@ module _ (sh : Shape) (s : Parts) (hand : List (Option CorePart)) (agrees : Agre
           → (changes_of sh s (event.Abort own)).shard t i x ≡ x
       shard t i x is none = kept_stays i _ x (shards t i x is) (shard_stays sh s shape ok own owns t i x is none)
 
+  -- A pruning does nothing to a part that it does not touch.
   prune_rests : (t b oldest : ℕ) (n : Name) (piece : CorePart) → touches sh (event.Prune t b oldest) hand n ≡ false → Rests (changes_of sh s (event.Prune t b oldest)) n piece
   prune_rests t b oldest n piece away = record {
     head = λ u x e p. skipped (u == t) _ x (num_flip u t ∙ away_from (event.Prune t b oldest) (HeadOf t) n (HeadOf u) away head e);
@@ -338,6 +344,7 @@ module _ (sh : Shape) (s : Parts) (hand : List (Option CorePart)) (agrees : Agre
       body : touches sh (event.Prune t b oldest) hand (BodyOf t b) ≡ true
       body = or_left (same_name (BodyOf t b) (BodyOf t b)) false (name_self (BodyOf t b))
 
+  -- A move of some of its pairs does nothing to a part that it does not touch.
   move_rests : (t : ℕ) (moves pairs : List MovePair) → ((pair : MovePair) → Among pair pairs → Among pair moves)
       → (n : Name) (piece : CorePart) → touches sh (event.Move t moves) hand n ≡ false → Rests (after_move sh s t pairs) n piece
   move_rests t moves [] of n piece away = rests_nothing n piece
@@ -379,6 +386,7 @@ module _ (sh : Shape) (s : Parts) (hand : List (Option CorePart)) (agrees : Agre
           skipped (block_of pair.target == b) _ _ (or_false (block_of pair.target == b) false two.1).0
           ∙ skipped (block_of pair.source == b) _ x two.0)
 
+  -- A seal, made or refused, does nothing to a part other than the block's body.
   seal_rests : (t b : ℕ) (n : Name) (piece : CorePart) → same_name (BodyOf t b) n ≡ false → (y : Bool) → Rests (cond y (record nothing { body = at_both t b sealed }) nothing) n piece
   seal_rests t b n piece away true = rests_block t b sealed n piece away
   seal_rests t b n piece away false = rests_nothing n piece
@@ -387,6 +395,7 @@ module _ (sh : Shape) (s : Parts) (hand : List (Option CorePart)) (agrees : Agre
   block_away : (e : CoreEvent) (t b : ℕ) (n : Name) → touches sh e hand n ≡ false → touches sh e hand (BodyOf t b) ≡ true → same_name (BodyOf t b) n ≡ false
   block_away e t b n away is = untouched sh e hand (BodyOf t b) n away is
 
+  -- A lawful event does nothing to a part that it does not touch.
   event_rests : IsShape sh → Sound sh s → ShardsHold sh s → (e : CoreEvent) → Covers (touching sh e) hand → IsLawful sh e s
       → (n : Name) (piece : CorePart) → part_at sh s n ≡ Some piece → touches sh e hand n ≡ false → Rests (changes_of sh s e) n piece
   event_rests shape ok shards (event.Begin q) covers lawful n piece is away = record {

@@ -54,6 +54,7 @@ pub record Alike (c d : Changes) (n : Name) (piece : CorePart) : Type 0 where
   pub body : (t b : ℕ) (x : Body) → n ≡ BodyOf t b → piece ≡ part.Body x → d.body t b x ≡ c.body t b x
   pub desk : (x : DeskState) → n ≡ TheDesk → piece ≡ part.Desk x → d.desk x ≡ c.desk x
 
+-- Changes that do the same to a part make the same of it.
 alike_same : (c d : Changes) (n : Name) (piece : CorePart) → Alike c d n piece → changed d n piece ≡ changed c n piece
 alike_same c d n piece h = same_at (λ m x. (n ≡ m) × (piece ≡ x)) d c (record {
   head = λ t x is. h.head t x is.0 is.1;
@@ -62,6 +63,7 @@ alike_same c d n piece h = same_at (λ m x. (n ≡ m) × (piece ≡ x)) d c (rec
   desk = λ x is. h.desk x is.0 is.1;
 }) n piece (refl, refl)
 
+-- Where two changes do the same to the part at a place, it is the same behind both.
 changed_alike : (c d : Changes) (ns : List Name) (s u : Parts) (k : ℕ) (piece : CorePart) → slice_get s k ≡ Some piece → slice_get u k ≡ Some piece
     → ((n : Name) → slice_get ns k ≡ Some n → Alike c d n piece) → slice_get (each_changed d ns u) k ≡ slice_get (each_changed c ns s) k
 changed_alike c d [] s u k piece a b same = b ∙ sym a
@@ -72,6 +74,7 @@ changed_alike c d (n ∷ ns) (p ∷ s) (r ∷ u) zero piece a b same =
     ap (λ x. Some (changed d n x)) two ∙ ap Some (alike_same c d n piece (same n refl)) ∙ ap (λ x. Some (changed c n x)) (sym one)
 changed_alike c d (n ∷ ns) (p ∷ s) (r ∷ u) (suc k) piece a b same = changed_alike c d ns s u k piece a b same
 
+-- Changes that are the same do the same to each part.
 alike_by : (c d : Changes) → d ≡ c → (n : Name) (piece : CorePart) → Alike c d n piece
 alike_by c d is n piece = record {
   head = λ t x e p. ap (λ (c : Changes). c.head t x) is;
@@ -82,6 +85,7 @@ alike_by c d is n piece = record {
 
 -- ---- lists
 
+-- Two steps that agree on each element of a list lead to the same end.
 fold_alike : {X Y : Type 0} (one other : X → Y → X) (ys : List Y) → ((y : Y) → Among y ys → (x : X) → other x y ≡ one x y) → (x : X) → fold other x ys ≡ fold one x ys
 fold_alike one other [] same x = refl
 fold_alike one other (y ∷ ys) same x =
@@ -97,6 +101,7 @@ filter_test p q xs b is a = go (bool_cases (p b)) (bool_cases (q b))
     go (inl x) (inr y) = absurd (true_false (sym (among_filter q b xs (subst (Among b) is (filter_among p b xs a x))).1 ∙ y))
     go (inr x) (inl y) = absurd (true_false (sym (among_filter p b xs (subst (Among b) (sym is) (filter_among q b xs a y))).1 ∙ x))
 
+-- Tests that agree on all candidates of a shard's keys keep the same of it.
 kept_alike : (i : ℕ) (keep other : ℕ → Bool) (ix : Places) → ShardHolds i ix
     → ((key : ℤ) (p : ℕ) → shard_of key ≡ i → Among p (candidates_of ix key) → other p ≡ keep p) → kept_places other ix ≡ kept_places keep ix
 kept_alike i keep other ix h same = fold_alike
@@ -133,6 +138,7 @@ head_is_there sh s t piece is = last (split (heads_in sh ++ shards_in sh ++ bodi
 module _ (sh : Shape) (s u : Parts) (ok : Sound sh s) (fine : Sound sh u) (t : ℕ) (g : ℕ → Body → Body)
     -- each body is the same in both, or the event leaves it in both
     (told : (b : ℕ) → HasBlock sh t b → (body_at sh u t b ≡ body_at sh s t b) ⊎ ((g b (body_at sh s t b) ≡ body_at sh s t b) × (g b (body_at sh u t b) ≡ body_at sh u t b))) where
+  -- A head that is the same in both cores has the same empty blocks after the event.
   emptied_alike : HasTable sh t → head_at sh u t ≡ head_at sh s t
       → with_empty (blocks_of sh t) (λ b. is_empty (g b (body_at sh u t b))) (head_at sh s t) ≡ with_empty (blocks_of sh t) (λ b. is_empty (g b (body_at sh s t b))) (head_at sh s t)
   emptied_alike has same =
@@ -171,6 +177,7 @@ module _ (sh : Shape) (s u : Parts) (ok : Sound sh s) (fine : Sound sh u) (t : �
           ∙ filter_test (λ b. is_empty (body_at sh s t b) && not (b == (head_at sh s t).block)) (λ b. is_empty (body_at sh u t b) && not (b == (head_at sh s t).block)) (below (blocks_of sh t)) b lists a
           ∙ ap (λ x. is_empty x && not (b == (head_at sh s t).block)) (sym e.0)
 
+  -- A shard that is the same in both cores keeps the same candidates after the event.
   swept_alike : (i : ℕ) (x : Places) → part_at sh s (ShardOf t i) ≡ Some (part.Shard x) → part_at sh u (ShardOf t i) ≡ Some (part.Shard x) → ShardHolds i x
       → kept_places (λ place. not (is_bare (slot_in (g (block_of place) (body_at sh u t (block_of place))) (slot_of place)))) x
       ≡ kept_places (λ place. not (is_bare (slot_in (g (block_of place) (body_at sh s t (block_of place))) (slot_of place)))) x
@@ -195,18 +202,22 @@ module _ (sh : Shape) (s u : Parts) (ok : Sound sh s) (fine : Sound sh u) (t : �
 
 -- ---- the events
 
+-- What a commit changes, by the desk before it.
 abbrev commit_by : OwnTransaction → DeskState → Changes
 commit_by own desk = record nothing {
   body = λ t b. cond (is_some_write own.writes) (committed_in own.session (desk.newest + 1) (desk.commits + 1)) (λ body. body);
   desk = λ desk. closed own.session (cond (is_some_write own.writes) (numbered desk) desk);
 }
 
+-- What an observation of a block changes, by its table's head.
 abbrev observe_by : ℕ → ℕ → Head → Changes
 observe_by t b head = record nothing { body = at_both t b (observed (b == head.block)) }
 
+-- What a seal changes, by its fault if it has one.
 abbrev seal_by : ℕ → ℕ → Option SealFault → Changes
 seal_by t b fault = cond (is_none fault) (record nothing { body = at_both t b sealed }) nothing
 
+-- What one pair of a move makes of a block's body, by its stamp and its row.
 abbrev half_by : ℕ → ℕ → MovePair → Row → Body → Body
 half_by stamp block pair row body =
     let gone : Body = cond (block_of pair.source == block) (with_slot (slot_of pair.source) (moved_out stamp row) body) body in
@@ -218,6 +229,7 @@ insert_made sh s u own t row (Ok p) = refl
 
 module _ (sh : Shape) (hand : List (Option CorePart)) (s u : Parts) (shape : IsShape sh) (ok : Sound sh s) (fine : Sound sh u)
     (shards : ShardsHold sh s) (here : Agrees hand s) (there : Agrees hand u) where
+  -- A change of a key, by its judgement, is the same in both cores.
   change_made : (e : CoreEvent) (covers : Covers (touching sh e) hand) (own : OwnKey) (t : ℕ) (key : ℤ) (choice : Row → Change) → ReadsKey sh e hand s u covers here there own t key
       → (r : Result ℕ WriteFault) → change_judged sh s own t key ≡ r → after_change sh u own t choice r ≡ after_change sh s own t choice r
   change_made e covers own t key choice reads (Err fault) is = refl
@@ -231,6 +243,7 @@ module _ (sh : Shape) (hand : List (Option CorePart)) (s u : Parts) (shape : IsS
           (option_and_then (λ place. freezing_of (block_of place) (body_at sh s t (block_of place)).phase) (current_place (slot_at sh s t) (places_at sh s t key)))))
           (current_place (slot_at sh s t) (places_at sh s t key)) Missing p is).1
 
+  -- Pairs of a move do the same to each part in both cores.
   move_made : (t : ℕ) (moves : List MovePair) → Covers (touching sh (event.Move t moves)) hand → (pairs : List MovePair) → ((pair : MovePair) → Among pair pairs → Among pair moves)
       → (n : Name) (piece : CorePart) → Alike (after_move sh s t pairs) (after_move sh u t pairs) n piece
   move_made t moves covers [] of n piece = alike_by nothing nothing refl n piece
@@ -274,6 +287,7 @@ module _ (sh : Shape) (hand : List (Option CorePart)) (s u : Parts) (shape : IsS
       go (inl is) = inl (body_same sh (event.Abort own) hand s u covers here there t b is)
       go (inr e) = let none = (or_false (is_body_written own.writes (BodyOf t b)) false e).0 in inr (left s ok owns none, left u fine owned none)
 
+  -- An abort does the same to a part that both cores have.
   abort_made : (own : OwnTransaction) → Covers (touching sh (event.Abort own)) hand → OwnsAll sh own s → OwnsAll sh own u
       → (n : Name) (piece : CorePart) → part_at sh s n ≡ Some piece → part_at sh u n ≡ Some piece → Alike (changes_of sh s (event.Abort own)) (changes_of sh u (event.Abort own)) n piece
   abort_made own covers owns owned n piece is was = record {
@@ -284,6 +298,7 @@ module _ (sh : Shape) (hand : List (Option CorePart)) (s u : Parts) (shape : IsS
     desk = λ x e p. refl;
   }
 
+  -- A body is the same in both cores, or the pruning leaves it in both.
   prune_told : (t b oldest : ℕ) → Covers (touching sh (event.Prune t b oldest)) hand → (v x : ℕ) → HasBlock sh v x
       → ((body_at sh u v x ≡ body_at sh s v x) ⊎ ((at_both t b (pruned_in oldest) v x (body_at sh s v x) ≡ body_at sh s v x) × (at_both t b (pruned_in oldest) v x (body_at sh u v x) ≡ body_at sh u v x)))
   prune_told t b oldest covers v x has = go (v == t) (x == b) refl refl
@@ -306,6 +321,7 @@ module _ (sh : Shape) (hand : List (Option CorePart)) (s u : Parts) (shape : IsS
       go true false i j = skip (none true false i j refl)
       go false c i j = skip (none false c i j refl)
 
+  -- A pruning does the same to a part that both cores have.
   prune_made : (t b oldest : ℕ) → Covers (touching sh (event.Prune t b oldest)) hand
       → (n : Name) (piece : CorePart) → part_at sh s n ≡ Some piece → part_at sh u n ≡ Some piece → Alike (changes_of sh s (event.Prune t b oldest)) (changes_of sh u (event.Prune t b oldest)) n piece
   prune_made t b oldest covers n piece is was = record {
@@ -316,6 +332,7 @@ module _ (sh : Shape) (hand : List (Option CorePart)) (s u : Parts) (shape : IsS
     desk = λ x e p. refl;
   }
 
+  -- An event that is lawful in both cores does the same to a part that both have.
   event_made : (e : CoreEvent) → Covers (touching sh e) hand → IsLawful sh e s → IsLawful sh e u
       → (n : Name) (piece : CorePart) → part_at sh s n ≡ Some piece → part_at sh u n ≡ Some piece → Alike (changes_of sh s e) (changes_of sh u e) n piece
   event_made (event.Begin q) covers lawful also n piece is was = alike_by _ _ refl n piece

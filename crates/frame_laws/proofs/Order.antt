@@ -23,10 +23,12 @@ rank (ShardOf t i) = 1
 rank (BodyOf t b) = 2
 rank TheDesk = 3
 
+-- Each name's rank is no higher than those of the names behind it.
 abbrev Ranked : List Name → Type 0
 Ranked [] = Unit {0}
 Ranked (n ∷ ns) = ((w : Name) → Among w ns → rank n ≤ rank w) × Ranked ns
 
+-- Ranked lists, the second with no lower ranks than the first, are ranked when put together.
 ranked_append : (xs ys : List Name) → Ranked xs → Ranked ys → ((m n : Name) → Among m xs → Among n ys → rank m ≤ rank n) → Ranked (xs ++ ys)
 ranked_append [] ys r s c = s
 ranked_append (x ∷ xs) ys r s c = (λ w a. go w (split xs ys w a), ranked_append xs ys r.1 s (λ m n a b. c m n (inr a) b))
@@ -35,6 +37,7 @@ ranked_append (x ∷ xs) ys r s c = (λ w a. go w (split xs ys w a), ranked_appe
     go w (inl a) = r.0 w a
     go w (inr b) = c x w (inl refl) b
 
+-- Names that all have one rank are ranked.
 ranked_alike : (k : ℕ) (ns : List Name) → ((w : Name) → Among w ns → rank w ≡ k) → Ranked ns
 ranked_alike k [] all = tt
 ranked_alike k (n ∷ ns) all = (
@@ -42,6 +45,7 @@ ranked_alike k (n ∷ ns) all = (
   ranked_alike k ns (λ w a. all w (inr a)),
 )
 
+-- Among ranked names one that stands no later has no higher rank.
 ranked_at : (ns : List Name) (j k : ℕ) (m n : Name) → Ranked ns → j ≤ k → slice_get ns j ≡ Some m → slice_get ns k ≡ Some n → rank m ≤ rank n
 ranked_at [] j k m n r le a b = cc
 ranked_at (x ∷ ns) zero zero m n r le a b = let same : m ≡ n = cc in let e = ap rank same in omega (arith, e)
@@ -76,6 +80,7 @@ module _ (sh : Shape) where
   desk_rank w (inl e) = ap rank e
   desk_rank w (inr a) = absurd a
 
+  -- The names of all parts are ranked.
   names_ranked : Ranked (names sh)
   names_ranked =
       ranked_append (heads_in sh ++ shards_in sh ++ bodies_in sh) (TheDesk ∷ [])
@@ -106,15 +111,18 @@ head_low t = refl
 
 -- ---- what two hands tell alike
 
+-- Where a name is none of the list's, the hand holds no part under it.
 held_none : (ns : List Name) (hand : List (Option CorePart)) (w : Name) → ((j : ℕ) (n : Name) → slice_get ns j ≡ Some n → same_name n w ≡ false) → held_named ns hand w ≡ None
 held_none [] hand w none = refl
 held_none (n ∷ ns) [] w none = refl
 held_none (n ∷ ns) (o ∷ hand) w none =
     ap (λ b. cond b o (held_named ns hand w)) (none 0 n refl) ∙ held_none ns hand w (λ j. none (suc j))
 
+-- What two equal options hold is the same.
 some_is : {X : Type 0} (a b : X) → Some a ≡ Some b → a ≡ b
 some_is a b e = cc
 
+-- Nothing is never the same as something.
 none_some : {X : Type 0} (a : X) → None ≡ Some a → ⊥
 none_some a e = cc
 
@@ -154,6 +162,7 @@ module _ (sh : Shape) (one other : List (Option CorePart)) (k : ℕ) (same : (j 
   told u x is w low = held_before (names sh) one other k w same
       (λ j n le at. let up = ranked_at (names sh) k j (BodyOf u x) n (names_ranked sh) le is at in lower w n low (omega (arith, up)))
 
+  -- Whether an event on a key touches a body is told alike by hands that agree before it.
   key_told : (u x t : ℕ) (key : ℤ) (written : Option ℕ) → slice_get (names sh) k ≡ Some (BodyOf u x)
       → touched_by_key t key (option_to_list written ++ candidates_of (shard_from (held_named (names sh) one (ShardOf t (shard_of key)))) key) (BodyOf u x)
       ≡ touched_by_key t key (option_to_list written ++ candidates_of (shard_from (held_named (names sh) other (ShardOf t (shard_of key)))) key) (BodyOf u x)
@@ -171,6 +180,7 @@ module _ (sh : Shape) (one other : List (Option CorePart)) (k : ℕ) (same : (j 
       ∙ ap (λ o. touched_by_insert t key (option_or written (next_place (head_from (held_named (names sh) other (HeadOf t))) (slots_of sh t))) (candidates_of (shard_from o) key) (BodyOf u x))
       (told u x is (ShardOf t (shard_of key)) (omega arith))
 
+  -- Whether an event touches a part is told alike, by its name, by hands that agree before it.
   by_name : (e : CoreEvent) (n : Name) → slice_get (names sh) k ≡ Some n → touched sh (held_named (names sh) one) e n ≡ touched sh (held_named (names sh) other) e n
   by_name (event.Begin q) n is = refl
   by_name (event.Get own t key) (HeadOf u) is = refl

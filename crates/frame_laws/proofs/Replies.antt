@@ -40,16 +40,19 @@ use Rattle.undo_chain.specs.Conflict.{conflict_by, largest, numbers_above, other
 
 -- ---- lists of which each member is told alike
 
+-- Answers that agree at each of some places have the same first.
 first_same : {X : Type 0} (one other : ℕ → Option X) (ps : List ℕ) → ((p : ℕ) → Among p ps → other p ≡ one p) → first_at other ps ≡ first_at one ps
 first_same one other [] same = refl
 first_same one other (p ∷ ps) same =
     ap (λ o. option_or o (first_at other ps)) (same p (inl refl)) ∙ ap (option_or (one p)) (first_same one other ps (λ r a. same r (inr a)))
 
+-- Lists that agree at each of some places are the same when put together.
 flat_same : (one other : ℕ → List ℕ) (ps : List ℕ) → ((p : ℕ) → Among p ps → other p ≡ one p) → flat_map other ps ≡ flat_map one ps
 flat_same one other [] same = refl
 flat_same one other (p ∷ ps) same =
     ap (λ y. y ++ flat_map other ps) (same p (inl refl)) ∙ ap (λ y. one p ++ y) (flat_same one other ps (λ r a. same r (inr a)))
 
+-- Options that agree at each of some places hold the same in all.
 kept_same : {Y : Type 0} (one other : ℕ → Option Y) (ps : List ℕ) → ((p : ℕ) → Among p ps → other p ≡ one p) → filter_map other ps ≡ filter_map one ps
 kept_same one other [] same = refl
 kept_same one other (p ∷ ps) same =
@@ -71,6 +74,7 @@ told_by n row place phase = judged
     place Missing
 
 module _ (slot other : ℕ → Slot) (places : List ℕ) (own : OwnKey) (same : (p : ℕ) → Among p places → other p ≡ slot p) (mine : (p : ℕ) → own.written ≡ Some p → other p ≡ slot p) where
+  -- Where the key's slots are the same, so is what an event on it meets that is newer.
   newer_same : newer_by other places own ≡ newer_by slot places own
   newer_same =
       ap (λ o. conflict_by o (largest (flat_map (λ place. numbers_above (other place).entries own.snapshot.stamp) places)))
@@ -80,6 +84,7 @@ module _ (slot other : ℕ → Slot) (places : List ℕ) (own : OwnKey) (same : 
       (flat_same (λ place. numbers_above (slot place).entries own.snapshot.stamp) (λ place. numbers_above (other place).entries own.snapshot.stamp) places
       (λ p a. ap (λ (x : Slot). numbers_above x.entries own.snapshot.stamp) (same p a)))
 
+  -- Where the key's slots are the same, so is the row that an event on it finds.
   found_same : found_by other places own ≡ found_by slot places own
   found_same = go own.written refl
     where
@@ -97,6 +102,7 @@ module _ (slot other : ℕ → Slot) (places : List ℕ) (own : OwnKey) (same : 
       ap (λ n. judged (option_or (fault_of n) (cond (is_some (found_by other places own)) (Some Exists) None)) (option_or own.written (next_place head slots)) (Full head.inserts)) newer_same
       ∙ ap (λ o. judged (option_or (fault_of (newer_by slot places own)) (cond (is_some o) (Some Exists) None)) (option_or own.written (next_place head slots)) (Full head.inserts)) found_same
 
+  -- A change of a key is judged the same where slots and phases are.
   change_same : (phase another : ℕ → Phase) → ((p : ℕ) → Among p places → another (block_of p) ≡ phase (block_of p)) → judged_change other places another own ≡ judged_change slot places phase own
   change_same phase another alike =
       ap (λ n. told_by n (found_by other places own) (current_place other places) another) newer_same
@@ -135,6 +141,7 @@ module _ (sh : Shape) (e : CoreEvent) (hand : List (Option CorePart)) (s u : Par
     pub bodies : (p : ℕ) → Among p (places_at sh s t key) → body_at sh u t (block_of p) ≡ body_at sh s t (block_of p)
     pub mine : (p : ℕ) → own.written ≡ Some p → slot_at sh u t p ≡ slot_at sh s t p
 
+  -- Where a key's shard and bodies are touched, an event on it reads the same in both cores.
   reads_key : (own : OwnKey) (t : ℕ) (key : ℤ) → touches sh e hand (ShardOf t (shard_of key)) ≡ true
       → ((p : ℕ) → Among p (candidates_of (shard_from (held_named (names sh) hand (ShardOf t (shard_of key)))) key) → touches sh e hand (BodyOf t (block_of p)) ≡ true)
       → ((p : ℕ) → own.written ≡ Some p → touches sh e hand (BodyOf t (block_of p)) ≡ true) → ReadsKey own t key
@@ -147,6 +154,7 @@ module _ (sh : Shape) (e : CoreEvent) (hand : List (Option CorePart)) (s u : Par
       held : candidates_of (shard_from (held_named (names sh) hand (ShardOf t (shard_of key)))) key ≡ places_at sh s t key
       held = ap (λ o. candidates_of (shard_from o) key) (look sh e hand s (ShardOf t (shard_of key)) covers here shard)
 
+  -- The row that an event on a key finds is the same in both cores that it reads alike.
   found_alike : (own : OwnKey) (t : ℕ) (key : ℤ) → ReadsKey own t key → found sh u own t key ≡ found sh s own t key
   found_alike own t key reads =
       ap (λ ps. found_by (slot_at sh u t) ps own) reads.places
@@ -169,6 +177,7 @@ module _ (sh : Shape) (e : CoreEvent) (hand : List (Option CorePart)) (s u : Par
 abbrev may_give : ℕ → Head → Body → Bool
 may_give block head x = is_loose x.phase && x.cooling && not (block == head.block) && has_row x
 
+-- Whether a pair of a move holds, by its table's head and the bodies of its two places.
 abbrev holds_by : MovePair → Head → Body → Body → Bool
 holds_by pair head from to =
     may_give (block_of pair.source) head from && may_give (block_of pair.target) head to
@@ -182,9 +191,11 @@ own_touched t key written places p is =
     ∙ and_true (t == t) (list_any (λ place. block_of place == block_of p) (p ∷ places)) (num_refl t) (block_among (p ∷ places) p (inl refl))
 
 module _ (sh : Shape) (hand : List (Option CorePart)) (s u : Parts) (here : Agrees hand s) (there : Agrees hand u) where
+  -- The candidates of a key, by the shard in the hand.
   abbrev in_hand : ℕ → ℤ → List ℕ
   in_hand t key = candidates_of (shard_from (held_named (names sh) hand (ShardOf t (shard_of key)))) key
 
+  -- What a get reads of its key is the same in both cores.
   get_reads : (own : OwnKey) (t : ℕ) (key : ℤ) → (covers : Covers (touching sh (event.Get own t key)) hand) → ReadsKey sh (event.Get own t key) hand s u covers here there own t key
   get_reads own t key covers = reads_key sh (event.Get own t key) hand s u covers here there own t key
       (shard_touched t key (option_to_list own.written ++ in_hand t key)) (body_touched t key (option_to_list own.written) (in_hand t key)) (own_touched t key own.written (in_hand t key))
@@ -224,6 +235,7 @@ module _ (sh : Shape) (hand : List (Option CorePart)) (s u : Parts) (here : Agre
       (any_true (λ (pair : MovePair). is_body_of t (pair.source ∷ pair.target ∷ []) (BodyOf t (block_of p))) moves pair a
       (and_true (t == t) (list_any (λ place. block_of place == block_of p) (pair.source ∷ pair.target ∷ [])) (num_refl t) (block_among (pair.source ∷ pair.target ∷ []) p b)))
 
+  -- A move touches the head of its table.
   move_head : (t : ℕ) (moves : List MovePair) → touches sh (event.Move t moves) hand (HeadOf t) ≡ true
   move_head t moves = or_left (((t == t) || false) || is_body_moved t moves (HeadOf t)) false (or_left ((t == t) || false) (is_body_moved t moves (HeadOf t)) (or_left (t == t) false (num_refl t)))
 
@@ -245,6 +257,7 @@ module _ (sh : Shape) (hand : List (Option CorePart)) (s u : Parts) (here : Agre
 
   -- ---- reads
 
+  -- A read of a block replies the same in both cores where the body is the same.
   read_alike : (own : OwnTransaction) (t b : ℕ) → IsShape sh → Sound sh s → HasBlock sh t b → body_at sh u t b ≡ body_at sh s t b → reply_to_read sh u own t b ≡ reply_to_read sh s own t b
   read_alike own t b shape ok has body =
       ap (λ x. cond (is_imaged x.phase) (reply.Shared (rows_of x)) (reply.Rows (rows_read sh u own t b))) body
@@ -267,6 +280,7 @@ module _ (sh : Shape) (hand : List (Option CorePart)) (s u : Parts) (here : Agre
           (λ row. cond (is_elsewhere (at_place own.writes (place_at t (key_of row))) (place_of b j)) None (Some row))
           (seen x own.snapshot.stamp own.session)) (slot j a))
 
+-- The reply to a begin: the desk's newest stamp and its count of commits.
 abbrev begun_of : DeskState → CoreReply
 begun_of desk = reply.Begun (record { stamp = desk.newest; number = desk.commits })
 

@@ -32,12 +32,14 @@ use Rattle.isolation_spec.specs.Contents.{key_of}
 use Rattle.key_index.specs.Candidates.{Places, candidates_of, with_candidates}
 use Rattle.txn_desk.specs.Desk.{DeskState}
 
+-- Where a conjunction is true, so is each of the two.
 both : (a b : Bool) → (a && b) ≡ true → (a ≡ true) × (b ≡ true)
 both true b e = (refl, e)
 both false b e = cc
 
 -- ---- changes of one shard
 
+-- A shard in order is so with other candidates for one of its own keys.
 with_holds : (i : ℕ) (ix : Places) (key : ℤ) (ps : List ℕ) → ShardHolds i ix → shard_of key ≡ i → ShardHolds i (with_candidates ix key ps)
 with_holds i ix key [] h own = record {
   own = λ k cs is. h.own k cs (there (eq_by_cmp int_cmp k key) (finite.get ix k) cs (sym (get-remove int_cmp_total ix key k) ∙ is));
@@ -65,6 +67,7 @@ with_holds i ix key (p ∷ ps) h own = record {
     filled k is (inl x) = never (sym (ap (λ b. cond b (Some (p ∷ ps)) (finite.get ix k)) x.0) ∙ is)
     filled k is (inr x) = h.some k (sym (ap (λ b. cond b (Some (p ∷ ps)) (finite.get ix k)) x.0) ∙ is)
 
+-- A shard in order is so with one more candidate for one of its own keys.
 place_holds : (i : ℕ) (ix : Places) (key : ℤ) (p : ℕ) → ShardHolds i ix → shard_of key ≡ i → ShardHolds i (with_place key p ix)
 place_holds i ix key p h own = go (list_any (λ other. other == p) (candidates_of ix key))
   where
@@ -95,6 +98,7 @@ entry_there ix e a = go (finite.get ix e.0) refl (contains_key-keys ix e.0 ∙ n
     go None is some = absurd (true_false (sym some ∙ ap is_some is))
     go (Some cs) is some = (cs, is)
 
+-- A shard in order is so with those candidates alone that pass a test.
 kept_holds : (i : ℕ) (keep : ℕ → Bool) (ix : Places) → ShardHolds i ix → ShardHolds i (kept_places keep ix)
 kept_holds i keep ix h = go (finite.entries ix) (λ e a. let x = entry_there ix e a in h.own e.0 x.0 x.1) ix h
   where
@@ -121,11 +125,13 @@ pub fold_same : {X Y : Type 0} (step : X → Y → X) (x : X) (ys : List Y) → 
 fold_same step x [] same = refl
 fold_same step x (y ∷ ys) same = ap (λ z. fold step z ys) (same y (inl refl)) ∙ fold_same step x ys (λ z a. same z (inr a))
 
+-- Where all places pass the test, it keeps them all.
 filter_all : (keep : ℕ → Bool) (ps : List ℕ) → ((p : ℕ) → Among p ps → keep p ≡ true) → filter keep ps ≡ ps
 filter_all keep [] all = refl
 filter_all keep (p ∷ ps) all =
     ap (λ b. cond b (p ∷ filter keep ps) (filter keep ps)) (all p (inl refl)) ∙ ap (λ qs. p ∷ qs) (filter_all keep ps (λ q a. all q (inr a)))
 
+-- A shard with an entry's own candidates put in again is the same.
 put_same : (ix : Places) (key : ℤ) (cs : List ℕ) → finite.get ix key ≡ Some cs → finite.get ix key ≢ Some [] → with_candidates ix key cs ≡ ix
 put_same ix key [] is some = absurd (some is)
 put_same ix key (p ∷ ps) is some = same_map int_cmp_total int_cmp-IsAntisymmetric (finite.insert ix key (p ∷ ps)) ix
@@ -149,24 +155,31 @@ kept_stays i keep ix h all = fold_same (λ now (e : ℤ × List ℕ). with_candi
 
 -- ---- the events
 
+-- Where there is no part, there is not this one.
 none_not : (a : Option CorePart) (x : CorePart) → a ≡ None → a ≡ Some x → ⊥
 none_not a x n e = cc
 
+-- A part that is a head is no shard.
 head_not : (a : Option CorePart) (x : Head) (y : Places) → a ≡ Some (part.Head x) → a ≡ Some (part.Shard y) → ⊥
 head_not a x y n e = cc
 
+-- A part that is a body is no shard.
 body_not : (a : Option CorePart) (x : Body) (y : Places) → a ≡ Some (part.Body x) → a ≡ Some (part.Shard y) → ⊥
 body_not a x y n e = cc
 
+-- A part that is the desk is no shard.
 desk_not : (a : Option CorePart) (x : DeskState) (y : Places) → a ≡ Some (part.Desk x) → a ≡ Some (part.Shard y) → ⊥
 desk_not a x y n e = cc
 
+-- A part that is one shard is not another.
 shard_is : (a : CorePart) (x y : Places) → a ≡ part.Shard x → a ≡ part.Shard y → x ≡ y
 shard_is a x y n e = cc
 
+-- What two equal options hold is the same part.
 some_is : (a b : CorePart) → Some a ≡ Some b → a ≡ b
 some_is a b e = cc
 
+-- Where changes leave each shard in order, all shards are so after them.
 shards_after : (sh : Shape) (s : Parts) (c : Changes) → ((t i : ℕ) (x : Places) → ShardHolds i x → ShardHolds i (c.shard t i x))
     → ShardsHold sh s → ShardsHold sh (each_changed c (names sh) s)
 shards_after sh s c step holds t i places is = go (part_named (names sh) s (ShardOf t i)) refl
@@ -195,22 +208,27 @@ module _ (sh : Shape) (s : Parts) where
           (place_holds i x (key_of row) p h (sym (num i (shard_of (key_of row)) (both (u == t) (i == shard_of (key_of row)) is).1)))
       go false is = subst (λ b. ShardHolds i (cond b (with_place (key_of row) p x) x)) (sym is) h
 
+  -- A change of a key leaves each shard in order.
   change_holds : (own : OwnKey) (t : ℕ) (choice : Row → Change) (r : Result ℕ WriteFault) (u i : ℕ) (x : Places) → ShardHolds i x → ShardHolds i ((after_change sh s own t choice r).shard u i x)
   change_holds own t choice (Err fault) u i x h = h
   change_holds own t choice (Ok p) u i x h = h
 
+  -- Whichever of two shards in order is chosen, it is in order.
   one_table : (i : ℕ) (x y : Places) (b : Bool) → ShardHolds i x → ShardHolds i y → ShardHolds i (cond b x y)
   one_table i x y true h g = h
   one_table i x y false h g = g
 
+  -- The pairs of a move leave each shard in order.
   move_holds : (t : ℕ) (pairs : List MovePair) (u i : ℕ) (x : Places) → ShardHolds i x → ShardHolds i ((after_move sh s t pairs).shard u i x)
   move_holds t [] u i x h = h
   move_holds t (first ∷ rest) u i x h = one_table i (fold (places_moved sh s i) x (first ∷ rest)) x (u == t) (moved_holds sh s i (first ∷ rest) x h) h
 
+  -- A seal, made or refused, leaves each shard in order.
   seal_holds : (y : Bool) (t b u i : ℕ) (x : Places) → ShardHolds i x → ShardHolds i ((cond y (record nothing { body = at_both t b sealed }) nothing).shard u i x)
   seal_holds true t b u i x h = h
   seal_holds false t b u i x h = h
 
+  -- Each event leaves a shard in order.
   event_holds : (e : CoreEvent) (u i : ℕ) (x : Places) → ShardHolds i x → ShardHolds i ((changes_of sh s e).shard u i x)
   event_holds (event.Begin q) u i x h = h
   event_holds (event.Get own t key) u i x h = h
@@ -235,6 +253,7 @@ shards_kept sh e s holds = shards_after sh s (changes_of sh s e) (event_holds sh
 
 -- ---- the opening core
 
+-- Of parts that were made by their names, the part of a name is what was made by it.
 opened_as : (f : Name → CorePart) (ns : List Name) (w : Name) (piece : CorePart) → part_named ns (map f ns) w ≡ Some piece → f w ≡ piece
 opened_as f [] w piece is = cc
 opened_as f (n ∷ ns) w piece is = go (same_name n w) refl is (opened_as f ns w piece)
@@ -243,9 +262,11 @@ opened_as f (n ∷ ns) w piece is = go (same_name n w) refl is (opened_as f ns w
     go true e x rest = ap f (sym (name_is n w e)) ∙ some_is (f n) piece x
     go false e x rest = rest x
 
+-- Where a key has no entry, it has no list of candidates.
 no_entry : (k : ℤ) (o : Option (List ℕ)) (cs : List ℕ) → o ≡ None → o ≡ Some cs → ⊥
 no_entry k o cs n e = cc
 
+-- A shard without entries is in order.
 bare_holds : (i : ℕ) → ShardHolds i finite.empty
 bare_holds i = record {
   own = λ k cs is. absurd (no_entry k (finite.get (finite.empty {X = List ℕ} {R = int_cmp}) k) cs (get-empty int_cmp k) is);

@@ -42,9 +42,11 @@ use Rattle.undo_chain.specs.declared.undo.Undo.{Undo}
 use Rattle.undo_chain.specs.Entry.{is_stamped_by}
 use Rattle.undo_chain.specs.Stamped.{stamped}
 
+-- Numbers that pass the test for equality are the same.
 num : (a b : ℕ) → (a == b) ≡ true → a ≡ b
 num a b e = grind (arith, nat_tests)
 
+-- A phase that has a stamp is not loose.
 not_loose : (phase : Phase) (stamp : ℕ) → stamp_of phase ≡ Some stamp → is_loose phase ≡ false
 not_loose Loose stamp is = cc
 not_loose (Sealed g) stamp is = refl
@@ -55,17 +57,20 @@ pub record Same (x y : Body) : Type 0 where
   pub slots : y.slots ≡ x.slots
   pub stamp : stamp_of y.phase ≡ stamp_of x.phase
 
+-- A body has the slots and the stamp that it has.
 same : (x : Body) → Same x x
 same x = record { slots = refl; stamp = refl }
 
 -- ---- quiet slots
 
+-- Where a change leaves slots without entries, it leaves a list of such slots.
 quiet_map : (g : Slot → Slot) → ((slot : Slot) → has_none slot.entries ≡ true → g slot ≡ slot) → (slots : List Slot) → list_all (λ slot. has_none slot.entries) slots ≡ true → map g slots ≡ slots
 quiet_map g stays [] q = refl
 quiet_map g stays (x ∷ slots) q =
     let both = and_parts (has_none x.entries) (list_all (λ slot. has_none slot.entries) slots) q in
     ap (λ y. y ∷ map g slots) (stays x both.0) ∙ ap (λ ys. x ∷ ys) (quiet_map g stays slots both.1)
 
+-- A commit leaves a slot without entries.
 committed_none : (q stamp number : ℕ) (slot : Slot) → has_none slot.entries ≡ true → committed q stamp number slot ≡ slot
 committed_none q stamp number slot none = ap (λ es. record slot { entries = es }) (go slot.entries none)
   where
@@ -73,6 +78,7 @@ committed_none q stamp number slot none = ap (λ es. record slot { entries = es 
     go [] n = refl
     go (e ∷ es) n = cc
 
+-- A pruning leaves a slot without entries.
 pruned_none : (oldest : ℕ) (slot : Slot) → has_none slot.entries ≡ true → pruned oldest slot ≡ slot
 pruned_none oldest slot none = ap (λ es. record slot { entries = es }) (go slot.entries none)
   where
@@ -92,12 +98,15 @@ at_one t b g u x y stays = go (u == t) (x == b) refl refl
     go false n' m n = subst (λ e. Same y (cond (e && (x == b)) (g y) y)) (sym m) (same y)
 
 module _ (sh : Shape) (s : Parts) (shape : IsShape sh) (ok : Sound sh s) (t b : ℕ) (has : HasBlock sh t b) (stamp : ℕ) (frozen : stamp_of (body_at sh s t b).phase ≡ Some stamp) where
+  -- The body of the block before the event.
   abbrev x : Body
   x = body_at sh s t b
 
+  -- The block is not loose.
   closed : is_loose (body_at sh s t b).phase ≡ false
   closed = not_loose (body_at sh s t b).phase stamp frozen
 
+  -- The block is quiet: its slots have no entries.
   quiet : is_quiet (body_at sh s t b) ≡ true
   quiet = (ok.bodies t b has).quiet (not_loose (body_at sh s t b).phase stamp frozen)
 
@@ -105,6 +114,7 @@ module _ (sh : Shape) (s : Parts) (shape : IsShape sh) (ok : Sound sh s) (t b : 
   elsewhere : (u p : ℕ) → is_loose (body_at sh s u (block_of p)).phase ≡ true → (t ≡ u) → (b ≡ block_of p) → ⊥
   elsewhere u p loose e e' = true_false (sym loose ∙ ap (λ u. is_loose (body_at sh s u (block_of p)).phase) (sym e) ∙ ap (λ b. is_loose (body_at sh s t b).phase) (sym e') ∙ closed)
 
+  -- A write to a slot of a loose block leaves this one its slots and its stamp.
   write_same : (u p : ℕ) (g : Slot → Slot) → is_loose (body_at sh s u (block_of p)).phase ≡ true → Same (body_at sh s t b) (at_both u (block_of p) (with_slot (slot_of p) g) t b (body_at sh s t b))
   write_same u p g loose = at_one u (block_of p) (with_slot (slot_of p) g) t b (body_at sh s t b) (λ e e'. absurd (elsewhere u p loose e e'))
 
@@ -128,6 +138,7 @@ module _ (sh : Shape) (s : Parts) (shape : IsShape sh) (ok : Sound sh s) (t b : 
           (option_or (fault_of (newer_by (slot_at sh s u) (places_at sh s u (key_of row)) own)) (cond (is_some (found sh s own u (key_of row))) (Some Exists) None))
           (option_or own.written (next_place (head_at sh s u) (slots_of sh u))) (Full (head_at sh s u).inserts) p is).1))
 
+  -- A change of a key that is thawed leaves this block its slots and its stamp.
   change_same : (own : OwnKey) (u : ℕ) (key : ℤ) (choice : Row → Change) → IsThawed sh u key s
       → Same (body_at sh s t b) ((after_change sh s own u choice (change_judged sh s own u key)).body t b (body_at sh s t b))
   change_same own u key choice thawed = go (change_judged sh s own u key) refl
@@ -137,23 +148,28 @@ module _ (sh : Shape) (s : Parts) (shape : IsShape sh) (ok : Sound sh s) (t b : 
       go (Ok p) is = subst (λ r. Same (body_at sh s t b) ((after_change sh s own u choice r).body t b (body_at sh s t b))) (sym is)
           (write_same u p (written own.session (choice (unwrap_or (slot_at sh s u p).row []))) (change_goes sh s ok own u key p thawed is).spot.loose)
 
+  -- A commit, with writes or without, leaves this block its slots and its stamp.
   commit_same : (wrote : Bool) (q at number : ℕ) → Same (body_at sh s t b) ((cond wrote (committed_in q at number) (λ (body : Body). body)) (body_at sh s t b))
   commit_same true q at number = record { slots = quiet_map (committed q at number) (committed_none q at number) (body_at sh s t b).slots quiet; stamp = refl }
   commit_same false q at number = same (body_at sh s t b)
 
+  -- An abort leaves this block its slots and its stamp.
   abort_same : (q : ℕ) → Same (body_at sh s t b) (rolled_back_in q (body_at sh s t b))
   abort_same q = subst (λ e. Same (body_at sh s t b) (cond e (record (modified (body_at sh s t b)) { slots = map (rolled_back q) (body_at sh s t b).slots }) (body_at sh s t b)))
       (sym (unwritten q (body_at sh s t b).slots quiet)) (same (body_at sh s t b))
 
+  -- A pruning of any block leaves this one its slots and its stamp.
   prune_same : (u y oldest : ℕ) → Same (body_at sh s t b) (at_both u y (pruned_in oldest) t b (body_at sh s t b))
   prune_same u y oldest = at_one u y (pruned_in oldest) t b (body_at sh s t b)
       (λ e e'. record { slots = quiet_map (pruned oldest) (pruned_none oldest) (body_at sh s t b).slots quiet; stamp = refl })
 
+  -- A phase keeps its stamp when it gets an image.
   imaged_stamp : (phase : Phase) → stamp_of (imaged_phase phase) ≡ stamp_of phase
   imaged_stamp Loose = refl
   imaged_stamp (Sealed g) = refl
   imaged_stamp (Imaged g) = refl
 
+  -- A seal of any block leaves this one its slots and its stamp.
   seal_same : (u y : ℕ) → Same (body_at sh s t b) ((changes_of sh s (event.Seal u y)).body t b (body_at sh s t b))
   seal_same u y = go (seal_fault (is_head sh s u y) (body_at sh s u y)) refl
     where
@@ -169,6 +185,7 @@ module _ (sh : Shape) (s : Parts) (shape : IsShape sh) (ok : Sound sh s) (t b : 
 
   -- ---- a move
 
+  -- Pairs neither place of which is in this block leave a body as it was.
   halves_same : (at : ℕ) (row : MovePair → Row) (pairs : List MovePair) (y : Body)
       → ((pair : MovePair) → Among pair pairs → (block_of pair.source ≢ b) × (block_of pair.target ≢ b)) → fold (halves at row b) y pairs ≡ y
   halves_same at row [] y far = refl
@@ -184,6 +201,7 @@ module _ (sh : Shape) (s : Parts) (shape : IsShape sh) (ok : Sound sh s) (t b : 
           ap (λ e. cond e (with_slot (slot_of first.target) (moved_in at (row first)) (left_half at row b first y)) (left_half at row b first y)) q
           ∙ ap (λ e. cond e (with_slot (slot_of first.source) (moved_out at (row first)) y) y) p
 
+  -- A move leaves this block its slots and its stamp.
   move_same : (u : ℕ) (moves : List MovePair) → Same (body_at sh s t b) ((changes_of sh s (event.Move u moves)).body t b (body_at sh s t b))
   move_same u moves = go (held_pairs sh s u moves) (λ pair a. (kept_among (holds sh s u) moves pair a).1)
     where
@@ -217,6 +235,7 @@ module _ (sh : Shape) (s : Parts) (shape : IsShape sh) (ok : Sound sh s) (t b : 
 
   -- ---- the events
 
+  -- A lawful event that is not the block's thaw leaves it its slots and its stamp.
   event_same : (e : CoreEvent) → IsLawful sh e s → e ≢ event.Thaw t b → Same (body_at sh s t b) ((changes_of sh s e).body t b (body_at sh s t b))
   event_same (event.Begin q) lawful ne = same (body_at sh s t b)
   event_same (event.Get own u key) lawful ne = same (body_at sh s t b)

@@ -23,6 +23,7 @@ use Rattle.isolation_spec.specs.Contents.{key_of}
 use Rattle.sound_laws.proofs.Keeps.{shaped}
 use Rattle.sound_laws.proofs.Kept.{body_after}
 
+-- A number passes the test for equality with itself.
 num_refl : (a : ℕ) → (a == a) ≡ true
 num_refl a = grind (arith, nat_tests)
 
@@ -39,14 +40,17 @@ module _ (sh : Shape) (s : Parts) (t b : ℕ) where
   insert_last own u row (Err fault) y = omega arith
   insert_last own u row (Ok p) y = at_one u (block_of p) (with_slot (slot_of p) (written own.session (change.Put row))) (λ y. omega arith) t b y
 
+  -- A change of a key, however it is judged, does not lower a block's last stamp.
   change_last : (own : OwnKey) (u : ℕ) (choice : Row → Change) (r : Result ℕ WriteFault) (y : Body) → y.last ≤ ((after_change sh s own u choice r).body t b y).last
   change_last own u choice (Err fault) y = omega arith
   change_last own u choice (Ok p) y = at_one u (block_of p) (with_slot (slot_of p) (written own.session (choice (unwrap_or (slot_at sh s u p).row [])))) (λ y. omega arith) t b y
 
+  -- A commit, with writes or without, does not lower a body's last stamp.
   commit_last : (wrote : Bool) (q at number : ℕ) (y : Body) → y.last ≤ ((cond wrote (committed_in q at number) (λ (body : Body). body)) y).last
   commit_last true q at number y = omega arith
   commit_last false q at number y = omega arith
 
+  -- A roll-back does not lower a body's last stamp.
   abort_last : (q : ℕ) (y : Body) → y.last ≤ (rolled_back_in q y).last
   abort_last q y = go (is_written_by q y)
     where
@@ -54,6 +58,7 @@ module _ (sh : Shape) (s : Parts) (t b : ℕ) where
       go true = omega arith
       go false = omega arith
 
+  -- One pair of a move does not lower a body's last stamp.
   half_last : (at : ℕ) (row : MovePair → Row) (pair : MovePair) (y : Body) → y.last ≤ (halves at row b y pair).last
   half_last at row pair y = go (block_of pair.target == b) (block_of pair.source == b)
     where
@@ -63,10 +68,12 @@ module _ (sh : Shape) (s : Parts) (t b : ℕ) where
       go false true = omega arith
       go false false = omega arith
 
+  -- Pairs of a move, one after another, do not lower a body's last stamp.
   halves_last : (at : ℕ) (row : MovePair → Row) (pairs : List MovePair) (y : Body) → y.last ≤ (fold (halves at row b) y pairs).last
   halves_last at row [] y = omega arith
   halves_last at row (first ∷ rest) y = let one = half_last at row first y in let more = halves_last at row rest (halves at row b y first) in omega (arith, one, more)
 
+  -- A move of some pairs does not lower a block's last stamp.
   move_last : (u : ℕ) (pairs : List MovePair) (y : Body) → y.last ≤ ((after_move sh s u pairs).body t b y).last
   move_last u [] y = omega arith
   move_last u (first ∷ rest) y = go (t == u)
@@ -75,6 +82,7 @@ module _ (sh : Shape) (s : Parts) (t b : ℕ) where
       go true = halves_last ((desk_at sh s).newest + 1) (moved_row sh s u) (first ∷ rest) y
       go false = omega arith
 
+  -- A seal does not lower a block's last stamp.
   seal_last : (u x : ℕ) (y : Body) → y.last ≤ ((changes_of sh s (event.Seal u x)).body t b y).last
   seal_last u x y = go (is_none (seal_fault (is_head sh s u x) (body_at sh s u x)))
     where
@@ -82,6 +90,7 @@ module _ (sh : Shape) (s : Parts) (t b : ℕ) where
       go true = at_one u x sealed (λ y. omega arith) t b y
       go false = omega arith
 
+  -- No event lowers a block's last stamp.
   event_last : (e : CoreEvent) (y : Body) → y.last ≤ ((changes_of sh s e).body t b y).last
   event_last (event.Begin q) y = omega arith
   event_last (event.Get own u key) y = omega arith

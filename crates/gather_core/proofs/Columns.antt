@@ -21,6 +21,7 @@ pub buffers_long : (at : ℕ) (cs : List Column) (slots : List (Option Row)) →
 buffers_long at [] slots = refl
 buffers_long at (c ∷ cs) slots = ap suc (buffers_long (at + 1) cs slots)
 
+-- At the place of a column stand the buffers of its cells.
 buffers_at : (at : ℕ) (cs : List Column) (slots : List (Option Row)) (k j : ℕ) (c : Column) (d : List (List ℕ)) → at + k ≡ j → slice_get cs k ≡ Some c
     → get_or (buffers_from at cs slots) k d ≡ column_buffers c.kind (map (cell_of j) slots)
 buffers_at at [] slots k j c d is found = cc
@@ -63,10 +64,12 @@ buffers_each {E = E} cs slots made buffers is long each =
     (each at (held d) (omega (arith, lt, count))) in
     there ∙ get_or_default all at (get_or buffers at d) d (omega (arith, lt, count, buffers_long 0 cs slots)))
 
+-- The arrays of the rows' columns, the first of which has a given number.
 arrays_from : ℕ → List Column → List Row → List Array
 arrays_from at columns rows =
     map (λ (place, column). record { nulls = null_count (column_cells place rows); buffers = column_buffers column.kind (column_cells place rows) }) (enumerate_from at columns)
 
+-- The buffers of columns in the slots of rows are those of the rows' arrays.
 batch_from : (at : ℕ) (cs : List Column) (batch : List Row) → buffers_from at cs (map (λ x. Some x) batch) ≡ map (λ (array : Array). array.buffers) (arrays_from at cs batch)
 unfolding arrays_from
 batch_from at [] batch = refl

@@ -17,15 +17,18 @@ use Rattle.hall_rule.proofs.Lists.{by_cases}
 use Rattle.hall_rule.proofs.Logs.{replay_append}
 use Rattle.hall_steps.specs.Hall.{EndsWith, LooksOn, TookParts}
 
+-- The transaction of a session is the same for any count of parts.
 open_any : (sh parts : ℕ) (s : List ℕ) (q : ℕ) → open_of sh s q ≡ open_of parts s q
 open_any sh parts s zero = refl
 open_any sh parts s (suc q) = refl
 
 module _ (parts : ℕ) (start : List ℕ) (passes : ℕ) where
+  -- What marks mean to the hall, with these parts, this start and these passes.
   abbrev M : Meaning ℕ Deed ℕ Least
   M = meaning_of parts start passes
 
-  -- a pass that looks on finds the transactions of its sessions as they were, whatever other passes did
+  -- a pass that looks on finds the transactions of its sessions as they were, whatever other passes
+  -- did
   pub looked_open : (sh id : ℕ) (v w : View Deed) → LooksOn M id v w → (r : ℕ) → has r v.sessions ≡ true → open_of sh (replay M w.log) r ≡ open_of sh (replay M v.log) r
   looked_open sh id v w looks r mine = open_any sh parts (replay M w.log) r ∙ (looks.learned.transactions r mine ∙ open_any parts sh (replay M v.log) r)
 
@@ -77,6 +80,7 @@ module _ (parts : ℕ) (start : List ℕ) (passes : ℕ) where
   raise_between None deed full said v u w x k same gave m = none_between full v u w x k same gave m
   raise_between (Some was) deed full said v u w x k same gave m = made_between deed (said was) v u w x k same gave m
 
+-- A number that passes the test for zero is zero.
 only_zero : (k : ℕ) → eqb k 0 ≡ true → k ≡ 0
 only_zero k e = by_cases k 0 (k ≡ 0) (λ x. x) (λ ne. absurd (true≢false (sym e ∙ ne_eqb k 0 ne)))
 

@@ -6,6 +6,7 @@ use Rattle.hall_rule.specs.Hands.{Agrees, Holds, SameRoom}
 use Rattle.hall_rule.proofs.Lists.{by_cases, get_set_else, get_set_here}
 
 module _ {A : Type 0} where
+  -- A place at which a list has something is below its length.
   get_below : (l : List A) (k : ℕ) (a : A) → slice_get l k ≡ Some a → k < length l
   get_below [] k a e = absurd (cc)
   get_below (x ∷ xs) zero a e = omega arith

@@ -27,6 +27,7 @@ module _ {P : Type 0} where
   pub took_left : (h h' : List (Option P)) (k i : ℕ) (p : P) → h' ≡ set h k (Some p) → i ≢ k → Holds h' i → Holds h i
   took_left h h' k i p e ne held = (held.0, sym (get_set_else h k i (Some p) ne) ∙ (ap (λ x. slice_get x i) (sym e) ∙ held.1))
 
+-- Where each hand has so many places, the first of some hands has.
 first_length : {P : Type 0} (n : ℕ) (hands : List (List (Option P))) → 0 < length hands → EachHand (λ h. length h ≡ n) hands → length (first_of hands) ≡ n
 first_length n [] lt a = absurd (omega (arith, lt))
 first_length n (h ∷ hs) lt a = a.0

@@ -1,4 +1,5 @@
--- Where one pass has all hands and holds no part, all parts are at home, and it has seen the whole log.
+-- Where one pass has all hands and holds no part, all parts are at home, and it has seen the whole
+-- log.
 use Rattle.std.proofs.Common.{◌≡◌, ◌≢◌, ℕ, zero, suc, ◌+◌, ◌<◌, ◌≤◌, true, false, cond, List, [], ◌∷◌, ◌++◌, Option, Some, length, refl, sym, ap, ◌∙◌, append-nil, length-append, arith}
 use Rattle.std.specs.Prelude.{slice_get, slice_index}
 use mathlib.Core.Option as maybe
@@ -14,6 +15,7 @@ use Rattle.hall_rule.proofs.Joins.{length_zero}
 use Rattle.hall_rule.proofs.Lists.{by_cases, total_at}
 
 module _ {E : Type 0} where
+  -- The numbers of two views together are no more than the total of all.
   total_pair : (f : View E → ℕ) (views : List (View E)) (id j : ℕ) (v u : View E) → j ≢ id → get_elem? views id ≡ maybe.some v → get_elem? views j ≡ maybe.some u → f v + f u ≤ total_of f views
   total_pair f [] id j v u ne a b = absurd (maybe.some-ne-none v (sym a))
   total_pair f (x ∷ xs) zero zero v u ne a b = absurd (ne refl)
@@ -21,15 +23,18 @@ module _ {E : Type 0} where
   total_pair f (x ∷ xs) (suc id) zero v u ne a b = let t = total_at f xs id v a in let e = t.1 in let same : f x ≡ f u = ap f (maybe.some-injective x u b) in omega (arith, e, same)
   total_pair f (x ∷ xs) (suc id) (suc j) v u ne a b = let h = total_pair f xs id j v u (λ e. ne (ap suc e)) a b in omega (arith, h)
 
+  -- Where each view's number is zero, so is the total.
   total_none : (f : View E → ℕ) (views : List (View E)) → ((j : ℕ) (u : View E) → get_elem? views j ≡ maybe.some u → f u ≡ 0) → total_of f views ≡ 0
   total_none f [] none' = refl
   total_none f (x ∷ xs) none' = let a = none' 0 x refl in let b = total_none f xs (λ j u e. none' (suc j) u e) in omega (arith, a, b)
 
+  -- Where all other views have zero, the total is the number of the one view.
   total_only : (f : View E → ℕ) (views : List (View E)) (id : ℕ) (v : View E) → get_elem? views id ≡ maybe.some v → ((j : ℕ) (u : View E) → j ≢ id → get_elem? views j ≡ maybe.some u → f u ≡ 0) → total_of f views ≡ f v
   total_only f [] id v a none' = absurd (maybe.some-ne-none v (sym a))
   total_only f (x ∷ xs) zero v a none' = let b = total_none f xs (λ j u e. none' (suc j) u (λ z. absurd (omega (arith, z))) e) in let same : f x ≡ f v = ap f (maybe.some-injective x v a) in omega (arith, b, same)
   total_only f (x ∷ xs) (suc id) v a none' = let h = total_only f xs id v a (λ j u ne e. none' (suc j) u (λ z. ne (omega (arith, z))) e) in let b = none' 0 x (λ z. absurd (omega (arith, z))) refl in omega (arith, h, b)
 
+  -- The entries of some passes are no more than all entries.
   own_fewer : (ps : List ℕ) (es : List (Entry E)) → length (own ps es) ≤ length es
   own_fewer ps [] = omega arith
   own_fewer ps (e ∷ es) =
@@ -50,6 +55,7 @@ all_at (x ∷ xs) (p ∷ ps) n each =
 
 module _ {P E T F : Type 0} (M : Meaning P E T F) (log : List (Entry E)) (o : Owners) (s : State (Option P) (View E)) (kept : HallInvariant M log o s) (id : ℕ) (v : View E)
     (at : get_elem? s.views id ≡ maybe.some v) (live : v.spent ≡ false) (all : hands_of v ≡ M.passes) (empty : (k : ℕ) → stage v k ≡ 0) where
+  -- No other pass has a hand.
   handless : (j : ℕ) (u : View E) → j ≢ id → get_elem? s.views j ≡ maybe.some u → hands_of u ≡ 0
   handless j u ne there = let t = total_pair hands_of s.views id j v u ne at there in let h = kept.hands.handed in omega (arith, t, h, all)
 

@@ -28,7 +28,8 @@ module _ {P E T F : Type 0} (M : Meaning P E T F) (laws : Laws M) where
       let e = kept.hands.entries in
       omega (arith, b, h, l, e)
 
-  -- What an event of a pass asks, by what the pass knows: its parts are in the hand, it is lawful by the pass's log, and of its sessions.
+  -- What an event of a pass asks, by what the pass knows: its parts are in the hand, it is lawful
+  -- by the pass's log, and of its sessions.
   pub record Asks (hand : List (Option P)) (v : View E) (event : E) : Type 0 where
     pub covers : Covers (M.touching event) hand
     pub agrees : Agrees hand (replay M v.log)

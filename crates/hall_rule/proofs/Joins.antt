@@ -22,10 +22,12 @@ pub length_zero : {A : Type 0} (l : List A) → length l ≡ 0 → l ≡ []
 length_zero [] e = refl
 length_zero (x ∷ xs) e = absurd (omega (arith, e))
 
+-- A list without its first element.
 abbrev tail_of : {A : Type 0} → List A → List A
 tail_of [] = []
 tail_of (x ∷ xs) = xs
 
+-- The first element of a list, or a given one where it is empty.
 abbrev head_of : {A : Type 0} → A → List A → A
 head_of d [] = d
 head_of d (x ∷ xs) = x

@@ -23,7 +23,8 @@ module _ {P E T F : Type 0} (M : Meaning P E T F) where
   abbrev pub with_parts : Owners → (ℕ → ℕ) → Owners
   with_parts o part = record { part = part; number = o.number; session = o.session }
 
-  -- What a step of the seat id owes: its view becomes w, the words, the slots and the holders of parts change, and the log grows by `more`.
+  -- What a step of the seat id owes: its view becomes w, the words, the slots and the holders of
+  -- parts change, and the log grows by `more`.
   pub record Moves (log more : List (Entry E)) (o : Owners) (part : ℕ → ℕ) (s : State (Option P) (View E)) (words : List ℕ) (homes : Homes) (id : ℕ) (v w : View E) : Type 0 where
     pub joined : w.joined ≡ v.joined
     pub sessions : w.sessions ≡ v.sessions
@@ -65,7 +66,8 @@ module _ {P E T F : Type 0} (M : Meaning P E T F) where
     pub later_lawful : (log : List (Entry E)) (v : View E) → GoesOn v log → LawfulFrom M M.start log → LawfulFrom M M.start v.log × LawfulFrom M (replay M v.log) (since v log)
     later_lawful log v on a = let b = subst (LawfulFrom M M.start) on a in (lawful_front M M.start v.log (since v log) b, lawful_rest M M.start v.log (since v log) b)
 
-    -- What a pass learned from an earlier log still stands later: the transactions of its sessions, and lasting facts.
+    -- What a pass learned from an earlier log still stands later: the transactions of its sessions,
+    -- and lasting facts.
     pub still_open : (log : List (Entry E)) (v : View E) (q : ℕ) → M.sound M.start → GoesOn v log → LawfulFrom M M.start log → Spares M q (since v log) → M.transaction (replay M log) q ≡ M.transaction (replay M v.log) q
     still_open log v q ok on a spared =
         let b = later_lawful log v on a in

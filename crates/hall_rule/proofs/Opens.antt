@@ -29,10 +29,12 @@ in_all [] k lt = absurd (omega arith)
 in_all (x ∷ xs) zero lt = (x, refl, refl)
 in_all (x ∷ xs) (suc k) lt = in_all xs k (omega (arith, lt))
 
+-- In a list of one, what is found is its element, at the first place.
 only_one : {A : Type 0} (x y : A) (j : ℕ) → get_elem? (x ∷ []) j ≡ maybe.some y → (j ≡ 0) × (x ≡ y)
 only_one x y zero e = (refl, maybe.some-injective x y e)
 only_one x y (suc j) e = absurd (maybe.some-ne-none y (sym e))
 
+-- A list of images is as long as the list.
 map-length : {A B : Type 0} (f : A → B) (xs : List A) → length (map f xs) ≡ length xs
 map-length f [] = refl
 map-length f (x ∷ xs) = let h = map-length f xs in omega (arith, h)
@@ -54,6 +56,7 @@ sessions_to-distinct (suc n) = distinct_append (sessions_to n) (suc n ∷ []) (s
 
 module _ {P E T F : Type 0} (M : Meaning P E T F) (begins : M.sound M.start) (some' : 1 ≤ M.passes) (limit : M.passes ≤ 128)
     (words : List ℕ) (wide : length words ≡ suc (length M.start + M.blocks)) (zero' : (k : ℕ) → slice_index words k ≡ 0) where
+  -- The table that the hall begins with: all parts in it, and the first view.
   abbrev at_first : State (Option P) (View E)
   at_first = opening words (all_in M.start) (first_view M.start M.passes)
 
@@ -61,12 +64,15 @@ module _ {P E T F : Type 0} (M : Meaning P E T F) (begins : M.sound M.start) (so
   alone : (B : ℕ → View E → Type 0) → B 0 (first_view M.start M.passes) → (j : ℕ) (v : View E) → get_elem? (first_view {E = E} M.start M.passes ∷ []) j ≡ maybe.some v → B j v
   alone B b j v there = let t = only_one (first_view M.start M.passes) v j there in subst (λ i. B i v) (sym t.0) (subst (B 0) t.1 b)
 
+  -- The first view holds no part.
   none_held : (k : ℕ) → stage {E = E} (first_view M.start M.passes) k ≡ 0
   none_held k = zeros (length M.start) k
 
+  -- The first pass owns all parts, numbers and sessions.
   abbrev owners : Owners
   owners = record { part = (λ k. 0); number = (λ i. 0); session = (λ q. 0) }
 
+  -- The table that the hall begins with keeps the invariant with an empty log.
   kept : HallInvariant M [] owners at_first
   kept = record {
     one_log = record {

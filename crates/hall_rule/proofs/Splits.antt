@@ -42,44 +42,56 @@ module _ {P E T F : Type 0} (M : Meaning P E T F) (log : List (Entry E)) (o : Ow
     (in_left : (q : ℕ) → has q ls ≡ true → has q v.sessions ≡ true) (in_right : (q : ℕ) → has q rs ≡ true → has q v.sessions ≡ true)
     (apart : (q : ℕ) → has q ls ≡ true → has q rs ≡ true → ⊥) (distinct_left : Distinct ls) (distinct_right : Distinct rs)
     (count : length ls + length rs ≤ length v.sessions) (few : length v.mine ≤ 2 ^ 56 * length ls) (idle : length ls ≡ 0 → (k : ℕ) → stage v k ≡ 0) where
+  -- The view of the old pass after the split, with the sessions that it keeps.
   abbrev left : View E
   left = record v { sessions = ls }
 
+  -- The view of the new pass, with the sessions that it gets.
   abbrev right : View E
   right = newcomer v rs
 
+  -- The number of the new pass: how many views there were.
   abbrev n : ℕ
   n = length s.views
 
+  -- The views after the split: the old pass changed, and the new pass last.
   abbrev views : List (View E)
   views = set s.views id left ++ right ∷ []
 
+  -- The owner of each number after the split.
   abbrev number : ℕ → ℕ
   number i = cond (eqb i n) n (o.number i)
 
+  -- The owner of each session after the split.
   abbrev session : ℕ → ℕ
   session q = cond (has q rs) n (o.session q)
 
+  -- After the split there is one view more.
   longer_by_one : length views ≡ n + 1
   longer_by_one = let a : length views ≡ length (set s.views id left) + 1 = length-append (set s.views id left) (right ∷ []) in let b : length (set s.views id left) ≡ n = length-set s.views id left in omega (arith, a, b)
 
+  -- What holds of the other live views as before, and of the two passes, holds of each live view.
   each : (A B : ℕ → View E → Type 0) → EachLive A s.views → ((j : ℕ) (u : View E) → j ≢ id → get_elem? s.views j ≡ maybe.some u → u.spent ≡ false → A j u → B j u) → B id left → B n right → EachLive B views
   each A B all others here there j u found alive = ⊎_elim
       (λ t. each_set s.views id left A B all others (λ _. here) j u t alive)
       (λ t. subst (λ i. B i u) (sym (t.0 ∙ length-set s.views id left)) (subst (B n) t.1 there))
       (at_snoc_index (set s.views id left) right u j found)
 
+  -- An old number belongs after the split to the pass that it belonged to.
   old_number : (i j : ℕ) → (o.number i ≡ j) × (i < n) → (number i ≡ j) × (i < length views)
   old_number i j t =
       let ne : i ≢ n = λ e. absurd (let lt = t.1 in omega (arith, lt, e)) in
       (ap (λ b. cond b n (o.number i)) (ne_eqb i n ne) ∙ t.0, let l = longer_by_one in let lt = t.1 in omega (arith, l, lt))
 
+  -- A pass that saw the log sees it by the owners after the split.
   sees_other : (j : ℕ) (u : View E) → SeesLog M log o.number n j u → SeesLog M log number (length views) j u
   sees_other j u l = record { goes_on = l.goes_on; before = l.before; heard = l.heard; mine = l.mine; seen = l.seen; total = l.total; numbers = λ i h. old_number i j (l.numbers i h) }
 
+  -- The old pass saw the log before the split.
   mine : SeesLog M log o.number n id v
   mine = kept.one_log.each id v at live
 
+  -- The new pass sees the log.
   sees_right : SeesLog M log number (length views) n right
   sees_right =
       let front : MadeBelow n v.log = made_front n v.log (since v log) (subst (MadeBelow n) mine.goes_on kept.one_log.made) in
@@ -95,12 +107,15 @@ module _ {P E T F : Type 0} (M : Meaning P E T F) (log : List (Entry E)) (o : Ow
             (λ z. absurd (true≢false (sym z))) (has_cons i n [] h);
       }
 
+  -- The new pass holds no part.
   none_held : (k : ℕ) → stage right k ≡ 0
   none_held k = zeros (length v.stages) k
 
+  -- The old pass held its parts before the split.
   parts : HoldsParts M log o.part s.words s.homes id v
   parts = kept.at_home.each id v at live
 
+  -- A part whose latch is taken is held by a live view after the split too.
   latched : (k : ℕ) → k < length M.start → slice_index s.words (suc k) ≢ 0 → (u : View E) × (get_elem? views (o.part k) ≡ maybe.some u) × (u.spent ≡ false) × (stage u k ≢ 0)
   latched k lt taken =
       let h = kept.at_home.latched k lt taken in
@@ -114,9 +129,11 @@ module _ {P E T F : Type 0} (M : Meaning P E T F) (log : List (Entry E)) (o : Ow
       ))
       (λ ne. (h.0, at_longer (set s.views id left) (right ∷ []) (o.part k) h.0 (set_else s.views id (o.part k) left ne ∙ h.1), h.2, h.3))
 
+  -- The old pass owned its sessions before the split.
   sessions : OwnsSessions M log o.session id v
   sessions = kept.lawful.each id v at live
 
+  -- Another pass owns its sessions after the split as before.
   session_other : (j : ℕ) (u : View E) → j ≢ id → OwnsSessions M log o.session j u → OwnsSessions M log session j u
   session_other j u ne a = record {
     sessions = λ q h.
@@ -130,6 +147,7 @@ module _ {P E T F : Type 0} (M : Meaning P E T F) (log : List (Entry E)) (o : Ow
     tied = a.tied;
   }
 
+  -- What holds of the two passes and of each view before the split holds of each after it.
   all_views : (B : View E → Type 0) → B left → B right → ((j : ℕ) (u : View E) → get_elem? s.views j ≡ maybe.some u → B u) → (j : ℕ) (u : View E) → get_elem? views j ≡ maybe.some u → B u
   all_views B here there others j u found = ⊎_elim
       (λ t. ⊎_elim (λ a. subst B a.1 here) (λ a. others j u a.1) (at_set s.views id j left u t))

@@ -22,11 +22,13 @@ replicate-length zero x = refl
 replicate-length (suc n) x = let h = replicate-length n x in omega (arith, h)
 
 module _ {P : Type 0} (Q : List (Option P) → Type 0) where
+  -- What holds of each hand holds of those behind the first ones.
   each_drop : (n : ℕ) (hs : List (List (Option P))) → EachHand Q hs → EachHand Q (drop n hs)
   each_drop zero hs a = a
   each_drop (suc n) [] a = tt
   each_drop (suc n) (h ∷ hs) a = each_drop n hs a.1
 
+  -- What holds of each hand holds of the first ones.
   each_take : (n : ℕ) (hs : List (List (Option P))) → EachHand Q hs → EachHand Q (take n hs)
   each_take zero hs a = tt
   each_take (suc n) [] a = tt
@@ -42,6 +44,7 @@ module _ {P : Type 0} (Q : List (Option P) → Type 0) where
   each_first [] a none' = none'
   each_first (h ∷ hs) a none' = a.0
 
+  -- What holds of each hand holds of each spare one.
   each_spare : (hs : List (List (Option P))) → EachHand Q hs → EachHand Q (spares_of hs)
   each_spare [] a = tt
   each_spare (h ∷ hs) a = a.1
@@ -67,16 +70,19 @@ first_take zero hs lt = absurd (omega (arith, lt))
 first_take (suc n) [] lt = refl
 first_take (suc n) (h ∷ hs) lt = refl
 
+-- What holds of each spare hand holds of the spare ones among the first.
 spares_take : {P : Type 0} (Q : List (Option P) → Type 0) (n : ℕ) (hs : List (List (Option P))) → EachHand Q (spares_of hs) → EachHand Q (spares_of (take n hs))
 spares_take Q zero hs a = tt
 spares_take Q (suc n) [] a = tt
 spares_take Q (suc n) (h ∷ hs) a = each_take Q n hs a
 
+-- What holds of each spare hand holds of those behind one first or more.
 spares_drop : {P : Type 0} (Q : List (Option P) → Type 0) (n : ℕ) (hs : List (List (Option P))) → 0 < n → EachHand Q (spares_of hs) → EachHand Q (drop n hs)
 spares_drop Q zero hs lt a = absurd (omega (arith, lt))
 spares_drop Q (suc n) [] lt a = tt
 spares_drop Q (suc n) (h ∷ hs) lt a = each_drop Q n hs a
 
+-- What holds of the spare hands and of each further one holds of the spare ones of both.
 spares_append : {P : Type 0} (Q : List (Option P) → Type 0) (hs gs : List (List (Option P))) → EachHand Q (spares_of hs) → EachHand Q gs → EachHand Q (spares_of (hs ++ gs))
 spares_append Q [] gs a b = each_spare Q gs b
 spares_append Q (h ∷ hs) gs a b = each_append Q hs gs a b
@@ -86,14 +92,17 @@ pub held_before : {P : Type 0} (hs gs : List (List (Option P))) → Empty (first
 held_before [] gs empty k h = absurd (empty k h)
 held_before (x ∷ hs) gs empty k h = h
 
+-- What the first hand holds it holds with further hands behind it.
 held_after : {P : Type 0} (hs gs : List (List (Option P))) → (k : ℕ) → Holds (first_of hs) k → Holds (first_of (hs ++ gs)) k
 held_after [] gs k h = absurd (nothing k h)
 held_after (x ∷ hs) gs k h = h
 
+-- A part in the first of all hands lies in the first in front, where that holds one there.
 same_first : {P : Type 0} (hs gs : List (List (Option P))) (k : ℕ) (p : P) → Holds (first_of hs) k → slice_get (first_of (hs ++ gs)) k ≡ Some (Some p) → slice_get (first_of hs) k ≡ Some (Some p)
 same_first [] gs k p h e = absurd (nothing k h)
 same_first (x ∷ hs) gs k p h e = e
 
+-- Where the first hand and all spare ones are empty, each hand is.
 empty_all : {P : Type 0} (hs : List (List (Option P))) → Empty (first_of hs) → EachHand Empty (spares_of hs) → EachHand Empty hs
 empty_all [] a b = tt
 empty_all (h ∷ hs) a b = (a, b)

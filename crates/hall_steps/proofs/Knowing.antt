@@ -208,9 +208,11 @@ module _ {P E T F : Type 0} (M : Meaning P E T F) where
       matched true hand hand' s s' e a k p at = a.1 k p (ap (λ h. slice_get h k) (sym e) ∙ at)
       matched false hand hand' s s' e a k p at = e.1 k p at
 
+  -- A pass that knows its hand knows it with nothing out.
   at_rest : (id : ℕ) (me : Me (Option P) (View E)) (hand : List (Option P)) → Knows M id me hand → Knows M id (me.0, []) hand
   at_rest id me hand knows = subst (λ (cs : List (ℕ × Option P)). Knows M id (me.0, cs) hand) knows.none_out knows
 
+  -- What a pass knows is known by the same number, of the same view and hand.
   known_at : (id id' : ℕ) (me me' : Me (Option P) (View E)) (hand hand' : List (Option P)) → id' ≡ id → me' ≡ me → hand' ≡ hand → Knows M id me hand → Knows M id' me' hand'
   known_at id id' me me' hand hand' a b c knows =
       subst (λ (i : ℕ). Knows M i me' hand') (sym a) (subst (λ (m : Me (Option P) (View E)). Knows M id m hand') (sym b) (subst (λ (h : List (Option P)). Knows M id me h) (sym c) knows))
@@ -262,11 +264,9 @@ match_second P Q R false m = m.1
 
 -- An event as a whole: what it made of the hand, and where it stands in the log.
 module _ {C P E R S T F : Type 0} (t : Ghosts C P E R S T F) (core : C) (passes : ℕ) (laws : Laws (meaning t core passes)) (z : TableId) (s u : Seat (Option P) (View E)) (hand hand' : List (Option P)) (event : E) (reply : R) (old new : ℕ) where
+  -- What the events mean to the hall, by the core and the count of passes.
   abbrev M : Meaning P E T F
   M = meaning t core passes
-
-  abbrev Lawful : S → List P → Type 0
-  Lawful sh x = t.sound sh x × Agrees hand x × t.stands sh event x × t.fits sh event x
 
   -- the hand has what the event makes of its parts, or is as it was where the event was refused
   abbrev pub Meets : S → Type 0

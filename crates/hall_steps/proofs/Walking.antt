@@ -16,10 +16,12 @@ use Rattle.hall_rule.proofs.Numbers.{has_append, has_cons}
 use Rattle.hall_steps.specs.Hall.{EachHand, IsPass, LooksOn, SeesMore, TookParts, first_of}
 use Rattle.hall_steps.proofs.Knowing.{get_below}
 
+-- What follows where a number is below another, and where it is not, follows anyway.
 below_or : (n m : ℕ) (Q : Type 0) → (n < m → Q) → (m ≤ n → Q) → Q
 below_or n m Q lt ge = bool_cases (ltb n m) Q (λ e. lt (ltb-true n m e)) (λ e. ge (ltb-false n m e))
 
 module _ {P : Type 0} where
+  -- What a hand holds it holds, too, with a part put in a place of it.
   still_held : (hand : List (Option P)) (part k : ℕ) (p : P) → part < length hand → Holds hand k → Holds (set hand part (Some p)) k
   still_held hand part k p lt held = by_cases k part (Holds (set hand part (Some p)) k)
       (λ e. subst (Holds (set hand part (Some p))) (sym e) (p, get_set_here hand part (Some p) lt))
@@ -120,6 +122,7 @@ module _ {P E T F : Type 0} (M : Meaning P E T F) where
         stays = stays_on v.sessions v.log w.log x.log a.stays (subst (λ qs. Stays M qs w.log x.log) a.sessions step);
       }
 
+  -- Where each hand has so many places, the first of some hands has.
   first_length : (n : ℕ) (hands : List (List (Option P))) → 0 < length hands → EachHand (λ h. length h ≡ n) hands → length (first_of hands) ≡ n
   first_length n [] lt a = absurd (omega (arith, lt))
   first_length n (h ∷ hs) lt a = a.0

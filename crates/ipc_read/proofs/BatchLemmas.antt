@@ -26,6 +26,7 @@ use Rattle.ipc_read.proofs.ViewLemmas.{anded, room_at}
 
 -- what holds of all holds of each
 module _ {X : Type 0} (p : X → Bool) (xs : List X) (k : ℕ) (x : X) (all : list_all p xs ≡ true) (lt : k < length xs) (is : x ≡ get_or xs k x) where
+  -- The element passes the test that all pass, whatever its answer is.
   all_by : (b : Bool) → p x ≡ b → p x ≡ true
   all_by true e = e
   all_by false e = let none : list_all p xs ≡ false = list_all_at p xs k x lt (ap p (sym is) ∙ e) in absurd (let f : true ≡ false = sym all ∙ none in cc)
@@ -129,10 +130,12 @@ behind_more front cells one (Err cause) is = ap (λ (r : Result (List Cell) Caus
 
 -- ---- rows
 
+-- Functions that agree everywhere give the same images of a list.
 map_same : {A B : Type 0} (f g : A → B) → ((x : A) → f x ≡ g x) → (xs : List A) → map f xs ≡ map g xs
 map_same f g same [] = refl
 map_same f g same (x ∷ xs) = ap (λ y. y ∷ map f xs) (same x) ∙ ap (λ ys. g x ∷ ys) (map_same f g same xs)
 
+-- The images of images are those of the two functions in turn.
 map_map : {A B C : Type 0} (f : A → B) (g : B → C) (xs : List A) → map g (map f xs) ≡ map (λ x. g (f x)) xs
 map_map f g [] = refl
 map_map f g (x ∷ xs) = ap (λ ys. g (f x) ∷ ys) (map_map f g xs)

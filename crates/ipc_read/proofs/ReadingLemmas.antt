@@ -46,6 +46,7 @@ module _ (columns : List Column) (place : ℕ) (bytes : List ℕ) where
     | Ok (Some batch) ↦ with_batch batch.rows (batches_from more columns (place + batch.size) (drop batch.size bytes))
   ]
 
+  -- What the bytes from a place on read as is what their next message makes of them.
   from_next : (more : ℕ) (read : Result (Option BatchRead) Cause) → next_batch columns bytes ≡ read → batches_from (suc more) columns place bytes ≡ after more read
   from_next more read is = ap (after more) is
 
@@ -55,6 +56,7 @@ one_more zero n place lt le = absurd (omega arith)
 one_more (suc more) n place lt le = (more, refl)
 
 module _ (bytes : List ℕ) (columns : List Column) (place : ℕ) (batches : List (List (List Cell))) (left : Left bytes columns place batches) where
+  -- All bytes read as the batches so far, and then as the next message says.
   next_is : (more : ℕ) → left.fuel ≡ suc more → (read : Result (Option BatchRead) Cause) → next_batch columns (drop place bytes) ≡ read
       → reading_of bytes ≡ in_front batches (after columns place (drop place bytes) more read)
   next_is more is read next =
@@ -62,6 +64,7 @@ module _ (bytes : List ℕ) (columns : List Column) (place : ℕ) (batches : Lis
       ∙ (ap (λ fuel. in_front batches (batches_from fuel columns place (drop place bytes))) is
       ∙ ap (in_front batches) (from_next columns place (drop place bytes) more read next))
 
+  -- Where the rest ends, with a fault or without, the reading has the batches so far.
   ends_by : (fault : Option StreamFault) → reading_of bytes ≡ in_front batches (ends_with columns fault) → record { schema = Some columns; batches = batches; fault = fault } ≡ reading_of bytes
   ends_by fault is = ap (λ (all : List (List (List Cell))). record { schema = Some columns; batches = all; fault = fault }) (sym (append-nil batches)) ∙ sym is
 

@@ -30,6 +30,7 @@ grows kind.Bool i rows lt = omega arith
 grows kind.Utf8 i rows lt = omega arith
 grows kind.Binary i rows lt = omega arith
 
+-- Data that have room for some rows are as long as these need.
 room_by : (none : Bool) (rows need length : ℕ) → (rows == 0) ≡ none → 0 < rows → (none || nat_le need length) ≡ true → need ≤ length
 room_by true rows need length none some room = let zero : rows ≡ 0 = eqb-true rows 0 none in omega arith
 room_by false rows need length none some room = leb-true need length room
@@ -45,6 +46,7 @@ room_at k i rows length lt room =
 pub anded : (a b : Bool) → a ≡ true → b ≡ true → (a && b) ≡ true
 anded a b p q = ap (λ (x : Bool). x && b) p ∙ q
 
+-- Where the first and the last hold, the first and one of the other two do.
 free : (a b c : Bool) → a ≡ true → c ≡ true → (a && (b || c)) ≡ true
 free a true c p q = anded a true p refl
 free a false c p q = anded a c p q
@@ -55,6 +57,7 @@ one_item [] d is = absurd cc
 one_item (x ∷ []) d is = refl
 one_item (x ∷ y ∷ items) d is = absurd (omega (arith, is))
 
+-- A list of length two is its first and its second element.
 two_items : {A : Type 0} (items : List A) (d e : A) → length items ≡ 2 → items ≡ get_or items 0 d ∷ get_or items 1 e ∷ []
 two_items [] d e is = absurd cc
 two_items (x ∷ []) d e is = absurd (omega (arith, is))
@@ -66,6 +69,7 @@ pub record Shape (values : Values) (rows count : ℕ) (needs : List ℕ) : Type 
   pub count_is : data_count values ≡ count
   pub needs_are : data_needs values rows ≡ needs
 
+-- A kind has one buffer of data, or two, the second of any length.
 shape_of : (values : Values) (rows : ℕ) → Shape values rows 1 (slice_index (data_needs values rows) 0 ∷ []) ⊎ Shape values rows 2 (slice_index (data_needs values rows) 0 ∷ 0 ∷ [])
 shape_of (signed width) rows = inl (record { count_is = refl; needs_are = refl })
 shape_of (unsigned width) rows = inl (record { count_is = refl; needs_are = refl })
@@ -73,6 +77,7 @@ shape_of truths rows = inl (record { count_is = refl; needs_are = refl })
 shape_of texts rows = inr (record { count_is = refl; needs_are = refl })
 shape_of blobs rows = inr (record { count_is = refl; needs_are = refl })
 
+-- How long a buffer is by its place, without a sign.
 abbrev count_in : BufferPlace → ℕ
 count_in buffer = unsigned_abs buffer.length
 

@@ -1,4 +1,5 @@
--- Insertions into entries that are kept in an order: look-ups, and that insertions at other keys change places.
+-- Insertions into entries that are kept in an order: look-ups, and that insertions at other keys
+-- change places.
 use Rattle.std.proofs.Common.{◌≡◌, Bool, true, false, cond, List, [], ◌∷◌, Option, None, Some, Ordering, Less, Equal, Greater, fold, All, filter_map, map, true≢false, refl, sym, ap, ◌∙◌, subst}
 use Rattle.std.specs.BTreeMap.{insert_entry, is_at}
 use Rattle.std.specs.Cmp.{IsTotalOrder, alike_right, tied_back, eq_by_cmp_equiv}
@@ -11,6 +12,7 @@ use Rattle.std.proofs.lemmas.List.Elements.{All-head, All-tail}
 use Rattle.std.proofs.lemmas.List.Sorted.{IsPermutation-refl, IsPermutation-cons, IsPermutation-trans, IsPermutation-middle}
 use Rattle.std.proofs.lemmas.Map.Views.{All-keys-insert_entry}
 
+-- A comparison that tests as equal has the answer equal.
 Equal-from_is_eq : (answer : Ordering) → is_eq answer ≡ true → answer ≡ Equal
 Equal-from_is_eq Less is = cc
 Equal-from_is_eq Equal is = refl
@@ -37,6 +39,7 @@ module _ {K : Type 0} {R : K → K → Ordering} (o : IsTotalOrder R) where
       cc
 
 module _ {K X : Type 0} {R : K → K → Ordering} (o : IsTotalOrder R) where
+  -- What is found after an insertion, by its key's answer at the first entry.
   found_at : (q k : K) (v : X) (e : K × X) (es : List (K × X)) (answer : Ordering) → R k e.0 ≡ answer
       → lookup (is_at (R q)) (insert_entry R es k v) ≡ cond (is_eq (R q k)) (Some v) (lookup (is_at (R q)) es)
       → lookup (is_at (R q)) (match_ordering answer ((k, v) ∷ e ∷ es) ((e.0, v) ∷ es) (e ∷ insert_entry R es k v))
@@ -84,6 +87,7 @@ module _ {K X : Type 0} {R : K → K → Ordering} (o : IsTotalOrder R) where
   above_both : (e : K × X) (k l : K) → R k l ≡ Less → R e.0 k ≡ Less → R l e.0 ≡ Greater
   above_both e k l less above = o.antisymm l e.0 ∙ ap ordering_reverse (o.trans e.0 k l above less)
 
+  -- Insertions at two keys change places, by the lesser key's answer at the first entry.
   swapped : (e : K × X) (es : List (K × X)) (k l : K) (v w : X) (answer : Ordering) → R k l ≡ Less → R k e.0 ≡ answer
       → insert_entry R (insert_entry R es k v) l w ≡ insert_entry R (insert_entry R es l w) k v
       → insert_entry R (insert_entry R (e ∷ es) k v) l w ≡ insert_entry R (insert_entry R (e ∷ es) l w) k v
@@ -141,14 +145,17 @@ abbrev pub HasNone : {K X : Type 0} → (K → K → Ordering) → List (K × X)
 HasNone R before [] = Unit {0}
 HasNone R before (e ∷ es) = (lookup (is_at (R e.0)) before ≡ None) × HasNone R before es
 
+-- Where nothing is found, the first entry does not pass the test.
 none_first : {X : Type 0} (b : Bool) (x : X) (found : Option X) → cond b (Some x) found ≡ None → b ≡ false
 none_first true x found none = cc
 none_first false x found none = refl
 
+-- Where nothing is found, nothing is found behind the first entry.
 none_rest : {X : Type 0} (b : Bool) (x : X) (found : Option X) → cond b (Some x) found ≡ None → found ≡ None
 none_rest true x found none = cc
 none_rest false x found none = none
 
+-- Where the first entry does not pass and nothing is found behind it, nothing is found.
 none_both : {X : Type 0} (b : Bool) (x : X) (found : Option X) → b ≡ false → found ≡ None → cond b (Some x) found ≡ None
 none_both true x found untied none = cc
 none_both false x found untied none = none
@@ -169,6 +176,7 @@ module _ {K X : Type 0} {R : K → K → Ordering} (o : IsTotalOrder R) where
       ap (λ (now : List (K × X)). inserted R now es) (insert-insert o before k e.0 v e.1 (none_first (is_eq (R k e.0)) e.1 (lookup (is_at (R k)) es) none))
       ∙ inserted-insert (insert_entry R before e.0 e.1) es k v (none_rest (is_eq (R k e.0)) e.1 (lookup (is_at (R k)) es) none)
 
+  -- An entry more among those inserted is inserted last, by its key's answer at the first.
   one_more : (before : List (K × X)) (e : K × X) (es : List (K × X)) (k : K) (v : X) (answer : Ordering) → R k e.0 ≡ answer
       → lookup (is_at (R k)) (e ∷ es) ≡ None
       → inserted R (insert_entry R before e.0 e.1) (insert_entry R es k v) ≡ insert_entry R (inserted R (insert_entry R before e.0 e.1) es) k v
@@ -226,6 +234,7 @@ module _ {K X : Type 0} {R : K → K → Ordering} (o : IsTotalOrder R) where
       (ap is_eq (o.congr q k e.0 tied) ∙ none_first (is_eq (R k e.0)) e.1 (lookup (is_at (R k)) es) none)
       (none_at_tied es q k tied (none_rest (is_eq (R k e.0)) e.1 (lookup (is_at (R k)) es) none))
 
+  -- An entry whose key no later one has may be looked for before them or after them.
   found_first : (q : K) (e : K × X) (es : List (K × X)) (had : Option X) (b : Bool) → is_eq (R q e.0) ≡ b → lookup (is_at (R e.0)) es ≡ None
       → option_or (lookup (is_at (R q)) es) (cond b (Some e.1) had) ≡ option_or (cond b (Some e.1) (lookup (is_at (R q)) es)) had
   found_first q e es had true is none =
@@ -243,11 +252,13 @@ module _ {K X : Type 0} {R : K → K → Ordering} (o : IsTotalOrder R) where
 
   -- ---- what is kept of entries
 
+  -- An entry in front adds what is kept of it.
   kept_first : {Y : Type 0} (keep : K × X → Option Y) (k : K) (v : X) (y : Y) (es : List (K × X)) → keep (k, v) ≡ Some y
       → IsPermutation (y ∷ filter_map keep es) (filter_map keep ((k, v) ∷ es))
   kept_first {Y = Y} keep k v y es kept =
       subst (λ (found : Option Y). IsPermutation (y ∷ filter_map keep es) (cons_option found (filter_map keep es))) (sym kept) (IsPermutation-refl (y ∷ filter_map keep es))
 
+  -- An inserted entry adds what is kept of it, by its key's answer at the first entry.
   kept_by : {Y : Type 0} (keep : K × X → Option Y) (e : K × X) (es : List (K × X)) (k : K) (v : X) (y : Y) (answer : Ordering) → R k e.0 ≡ answer
       → keep (k, v) ≡ Some y → lookup (is_at (R k)) (e ∷ es) ≡ None
       → IsPermutation (y ∷ filter_map keep es) (filter_map keep (insert_entry R es k v))
@@ -271,6 +282,7 @@ module _ {K X : Type 0} {R : K → K → Ordering} (o : IsTotalOrder R) where
 
 -- ---- values rewritten, and keys
 
+-- An insertion goes with f at each value, by the answer at the first entry.
 map_by : {K X Y : Type 0} (R : K → K → Ordering) (f : X → Y) (e : K × X) (es : List (K × X)) (k : K) (v : X) (answer : Ordering)
     → insert_entry R (map_values f es) k (f v) ≡ map_values f (insert_entry R es k v)
     → match_ordering answer ((k, f v) ∷ (e.0, f e.1) ∷ map_values f es) ((e.0, f v) ∷ map_values f es) ((e.0, f e.1) ∷ insert_entry R (map_values f es) k (f v))

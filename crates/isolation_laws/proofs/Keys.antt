@@ -29,6 +29,7 @@ are_distinct-push (first ∷ rows) row =
     (int_eq_equiv.symm (key_of row) (key_of first))
     ∙ with_one_more (has_key (key_of first) rows) (has_key (key_of row) rows) (are_distinct rows) (int_eq (key_of first) (key_of row))
 
+-- Where neither of two holds, the first does not.
 front_parts : (among rest : Bool) → not (among || rest) ≡ true → not among ≡ true
 front_parts true rest holds = holds
 front_parts false rest holds = refl
@@ -48,6 +49,7 @@ pub are_distinct-rest : (front rest : List (List Cell)) → are_distinct (front 
 are_distinct-rest [] rest distinct = distinct
 are_distinct-rest (row ∷ front) rest distinct = are_distinct-rest front rest (and_parts (not (has_key (key_of row) (front ++ rest))) (are_distinct (front ++ rest)) distinct).1
 
+-- Something is found where the first row passes, or where something is found behind it.
 found-where : (b : Bool) (row : List Cell) (rest : Option (List Cell)) (has : Bool) → is_some rest ≡ has → is_some (cond b (Some row) rest) ≡ (b || has)
 found-where true row rest has is = refl
 found-where false row rest has is = is
@@ -57,6 +59,7 @@ pub is_some-row_at : (key : ℤ) (rows : List (List Cell)) → is_some (row_at k
 is_some-row_at key [] = refl
 is_some-row_at key (row ∷ rows) = found-where (int_eq (key_of row) key) row (row_at key rows) (has_key key rows) (is_some-row_at key rows)
 
+-- Where the test says that no row is found, none is.
 none-from : (found : Option (List Cell)) → is_some found ≡ false → found ≡ None
 none-from None is = refl
 none-from (Some row) is = cc

@@ -24,14 +24,17 @@ over None x o = refl
 over (Some y) x o = refl
 
 module _ (history : History) (n : ℕ) (place : Place) where
+  -- Whether the commit of a number is above the snapshot and wrote the place.
   abbrev is_later : ℕ → Bool
   is_later k = nat_lt n k && writes_place place (get_or history (k - 1) [])
 
+  -- The write set of the number behind a front of the history is the first behind that front.
   its-set : (front : List WriteSet) (w : WriteSet) (rest : List WriteSet) → history ≡ front ++ w ∷ rest → get_or history ((length front + 1) - 1) [] ≡ w
   its-set front w rest whole =
       let e : (length front + 1) - 1 ≡ length front + 0 = omega arith in
       ap (λ (i : ℕ). get_or history i []) e ∙ ap (λ (h : History). get_or h (length front + 0) []) whole ∙ get_or-append-add front (w ∷ rest) 0 []
 
+  -- The history parts as well behind the first write set of the rest.
   moved-on : (front : List WriteSet) (w : WriteSet) (rest : List WriteSet) → history ≡ front ++ w ∷ rest → history ≡ (front ++ w ∷ []) ++ rest
   moved-on front w rest whole = whole ∙ sym (append_assoc front (w ∷ []) rest)
 
@@ -42,6 +45,7 @@ module _ (history : History) (n : ℕ) (place : Place) where
   last-step at o true w rest is is_w h = rw (is, is_w) (h (Some at) ∙ sym (over (last_writer place (at + 1) rest) at o))
   last-step at o false w rest is is_w h = rw (is, is_w) (h o ∙ ap (λ (l : Option ℕ). option_or l o) (sym (nothing-more (last_writer place (at + 1) rest))))
 
+  -- Above the snapshot, the last later writer is the last write set that has the place.
   last-above : (front sets : List WriteSet) (o : Option ℕ) → history ≡ front ++ sets → n ≤ length front
       → last_or o (filter is_later (range_with_len (length front + 1) (length sets))) ≡ option_or (last_writer place (length front + 1) sets) o
   last-above front [] o whole low = refl
@@ -68,6 +72,7 @@ module _ (history : History) (n : ℕ) (place : Place) where
       let later = last-from left (front ++ w ∷ []) rest (moved-on front w rest whole) (omega (arith, is, longer)) in
       rw below (subst (λ (l : ℕ). last_or None (filter is_later (range_with_len (l + 1) (length rest))) ≡ last_writer place (n + 1) (drop left rest)) longer later)
 
-  -- The last of the later writers is the last of the write sets behind the snapshot that has the place.
+  -- The last of the later writers is the last of the write sets behind the snapshot that has the
+  -- place.
   pub last-later : last_or None (later_writers history n place) ≡ last_writer place (n + 1) (drop n history)
   last-later = last-from n [] history refl (omega arith)

@@ -46,6 +46,7 @@ compared table key place of_table =
     ap (λ (other : ℕ). ordering_then (nat_cmp table other) (int_cmp key place.key)) of_table
     ∙ ap (λ (tables : Ordering). ordering_then tables (int_cmp key place.key)) (tied_itself nat_cmp_total table)
 
+-- With one more write the least key is the lesser of two, by the answer at the first entry.
 least_by : (table : ℕ) (first : Place × Option (List Cell)) (own : WriteSet) (key : ℤ) (row : Option (List Cell)) (answer : Ordering)
     → first.0.table ≡ table
     → least_key table (match_ordering answer ((place_at table key, row) ∷ first ∷ own) ((first.0, row) ∷ own) (first ∷ insert_entry place_cmp own (place_at table key) row))
@@ -66,6 +67,7 @@ least_key-insert_entry table (first ∷ own) key row all =
     ∙ ap Some (sym (lesser_by (int_lt key first.0.key) (int_lt first.0.key key) key first.0.key (int_cmp key first.0.key) refl))
     ∙ ap (λ (least : Option ℤ). Some (option_map_or (λ (least : ℤ). int_min least key) least key)) (sym (least_first table first.0 first.1 own of_table))
 
+-- With more inserts the least key is the least of the one before and their rows' keys.
 least_onto : (table : ℕ) (own : WriteSet) (least : ℤ) (rows : List (List Cell)) → All (IsOf table) (keys_of own) → least_key table own ≡ Some least
     → least_key table (fold (λ (own : WriteSet) (row : List Cell). insert_entry place_cmp own (place_of table row) (Some row)) own rows)
     ≡ Some (fold int_min least (map key_of rows))
@@ -92,12 +94,14 @@ least_of-push (first ∷ rows) row =
     ap (λ (keys : List ℤ). Some (fold int_min (key_of first) keys)) (map-append key_of rows (row ∷ []))
     ∙ ap Some (fold-append int_min (key_of first) (map key_of rows) (key_of row ∷ []))
 
+-- A key is among the keys of rows exactly where a row has it.
 has_key-from_any : (key : ℤ) (rows : List (List Cell)) → list_any (int_eq key) (map key_of rows) ≡ has_key key rows
 has_key-from_any key [] = refl
 has_key-from_any key (row ∷ rows) =
     ap (λ (is : Bool). is || list_any (int_eq key) (map key_of rows)) (int_eq_equiv.symm key (key_of row))
     ∙ ap (λ (rest : Bool). int_eq (key_of row) key || rest) (has_key-from_any key rows)
 
+-- A key that the first row has, or that is among the others' keys, is one of the rows'.
 has_key-reached : (key : ℤ) (row : List Cell) (rows : List (List Cell)) → (key ≡ key_of row) ⊎ Contains (map key_of rows) key
     → has_key key (row ∷ rows) ≡ true
 has_key-reached key row rows (inl is) =
@@ -106,9 +110,11 @@ has_key-reached key row rows (inr contains) =
     ap (λ (rest : Bool). int_eq (key_of row) key || rest) (sym (has_key-from_any key rows) ∙ list_any-from_Contains int_eq_equiv key (map key_of rows) contains)
     ∙ or_right (int_eq (key_of row) key) true refl
 
+-- An integer that is at most another passes the test for it.
 at_most : (a b : ℤ) → a ≤ℤ b → int_le a b ≡ true
 at_most a b le = grind (arith, ints)
 
+-- A key that is at most each row's key passes the test with each row.
 at_most_each : (key : ℤ) (rows : List (List Cell)) → All (λ other. key ≤ℤ other) (map key_of rows) → All (λ row. int_le key (key_of row) ≡ true) rows
 at_most_each key [] all = All-nil (λ (row : List Cell). int_le key (key_of row) ≡ true)
 at_most_each key (row ∷ rows) all =
@@ -116,6 +122,7 @@ at_most_each key (row ∷ rows) all =
     (at_most key (key_of row) (All-head (λ (other : ℤ). key ≤ℤ other) (key_of row) (map key_of rows) all))
     (at_most_each key rows (All-tail (λ (other : ℤ). key ≤ℤ other) (key_of row) (map key_of rows) all))
 
+-- The keys that two equal options hold are the same.
 same_key : (a b : ℤ) → Some a ≡ Some b → b ≡ a
 same_key a b is = cc
 

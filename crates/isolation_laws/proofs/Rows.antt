@@ -36,6 +36,7 @@ entries_of table rows = map (λ row. (place_of table row, row)) rows
 abbrev pub with_rows : ℕ → State → List (List Cell) → State
 with_rows table before rows = inserted place_cmp before (entries_of table rows)
 
+-- Among the entries of rows a key's place has the row that is found at the key.
 lookup-entries_of : (table : ℕ) (key : ℤ) (rows : List (List Cell)) → at_place (entries_of table rows) (place_at table key) ≡ row_at key rows
 lookup-entries_of table key [] = refl
 lookup-entries_of table key (row ∷ rows) =
@@ -51,6 +52,7 @@ apart_from_distinct table (row ∷ rows) distinct =
       apart_from_distinct table rows parts.1,
     )
 
+-- Inserts written after others have their rows inserted in turn.
 writes-onto : (table : ℕ) (before : State) (rows : List (List Cell))
     → fold (λ (own : WriteSet) (row : List Cell). insert_entry place_cmp own (place_of table row) (Some row)) (map_values Some before) rows
     ≡ map_values Some (with_rows table before rows)
@@ -64,6 +66,7 @@ writes-onto table before (row ∷ rows) =
 pub writes_of-with_rows : (table : ℕ) (rows : List (List Cell)) → writes_of table rows ≡ map_values Some (with_rows table [] rows)
 writes_of-with_rows table rows = writes-onto table [] rows
 
+-- Entries that are laid over a state as writes are inserted in turn.
 laid_over-inserted : (before es : State) → laid_over before (map_values Some es) ≡ inserted place_cmp before es
 laid_over-inserted before [] = refl
 laid_over-inserted before (e ∷ es) = laid_over-inserted (insert_entry place_cmp before e.0 e.1) es
@@ -76,11 +79,13 @@ laid_over-writes_of table before rows distinct =
     ∙ laid_over-inserted before (with_rows table [] rows)
     ∙ inserted-inserted place_cmp-total before (entries_of table rows) (apart_from_distinct table rows distinct)
 
+-- Rows that are inserted after others are inserted as one list of both.
 with_rows-append : (table : ℕ) (before : State) (front rest : List (List Cell))
     → with_rows table (with_rows table before front) rest ≡ with_rows table before (front ++ rest)
 with_rows-append table before [] rest = refl
 with_rows-append table before (row ∷ front) rest = with_rows-append table (insert_entry place_cmp before (place_of table row) row) front rest
 
+-- Commits of distinct rows laid over a state leave it with all rows inserted in turn.
 committed-onto : (table : ℕ) (before : State) (groups : List (List (List Cell))) → are_distinct (all_rows groups) ≡ true
     → fold laid_over before (history_of table groups) ≡ with_rows table before (all_rows groups)
 committed-onto table before [] distinct = refl
@@ -109,6 +114,7 @@ seen-with_rows table groups own distinct =
     ∙ ap (λ (now : State). with_rows table now own) (state_after-with_rows table groups (are_distinct-front (all_rows groups) own distinct))
     ∙ with_rows-append table [] (all_rows groups) own
 
+-- An option with nothing to fall back on is itself.
 or_None : {X : Type 0} (found : Option X) → option_or found None ≡ found
 or_None None = refl
 or_None (Some x) = refl
@@ -135,12 +141,14 @@ at_place-seen table groups own key distinct =
 abbrev kept_in : ℕ → Place × List Cell → Option (List Cell)
 kept_in table entry = cond (entry.0.table == table) (Some entry.1) None
 
+-- A row that is inserted at a new place is added to the contents.
 contents-insert : (table : ℕ) (before : State) (row : List Cell) → at_place before (place_of table row) ≡ None
     → IsPermutation (row ∷ contents_of table before) (contents_of table (insert_entry place_cmp before (place_of table row) row))
 contents-insert table before row none =
     IsPermutation-insert_entry place_cmp-total (kept_in table) before (place_of table row) row row
     (ap (λ (is : Bool). cond is (Some row) None) (eq-eqb table table refl)) none
 
+-- Rows that are inserted at new places are added to the contents.
 contents-onto : (table : ℕ) (before : State) (rows : List (List Cell)) → AreApart place_cmp (entries_of table rows)
     → HasNone place_cmp before (entries_of table rows)
     → IsPermutation (contents_of table before ++ rows) (contents_of table (with_rows table before rows))
@@ -180,6 +188,7 @@ length-contents_of table groups distinct =
 abbrev pub IsOf : ℕ → Place → Type 0
 IsOf table place = place.table ≡ table
 
+-- The places of a table's rows are the table's.
 all_of_table : (table : ℕ) (rows : List (List Cell)) → All (IsOf table) (keys_of (entries_of table rows))
 all_of_table table [] = All-nil (IsOf table)
 all_of_table table (row ∷ rows) = All-cons (IsOf table) (place_of table row) (keys_of (entries_of table rows)) refl (all_of_table table rows)
@@ -189,6 +198,7 @@ pub All-with_rows : (table : ℕ) (before : State) (rows : List (List Cell)) →
     → All (IsOf table) (keys_of (with_rows table before rows))
 All-with_rows table before rows all = All-keys-inserted place_cmp (IsOf table) before (entries_of table rows) all (all_of_table table rows)
 
+-- Places of one table are so still with inserts into it laid over.
 laid_over-All : (table : ℕ) (before : State) (rows : List (List Cell)) → All (IsOf table) (keys_of before)
     → All (IsOf table) (keys_of (laid_over before (writes_of table rows)))
 laid_over-All table before rows all =
@@ -196,11 +206,13 @@ laid_over-All table before rows all =
     (sym (ap (laid_over before) (writes_of-with_rows table rows) ∙ laid_over-inserted before (with_rows table [] rows)))
     (All-keys-inserted place_cmp (IsOf table) before (with_rows table [] rows) all (All-with_rows table [] rows (All-nil (IsOf table))))
 
+-- Places of one table are so still after commits of inserts into it.
 committed-All : (table : ℕ) (before : State) (groups : List (List (List Cell))) → All (IsOf table) (keys_of before)
     → All (IsOf table) (keys_of (fold laid_over before (history_of table groups)))
 committed-All table before [] all = all
 committed-All table before (group ∷ groups) all = committed-All table (laid_over before (writes_of table group)) groups (laid_over-All table before group all)
 
+-- Where all places are one table's, another has no contents.
 other_empty : (table other : ℕ) (now : State) → table == other ≡ false → All (IsOf table) (keys_of now) → contents_of other now ≡ []
 other_empty table other [] apart all = refl
 other_empty table other (entry ∷ now) apart all =

@@ -20,16 +20,19 @@ writes_of-push table rows row =
 abbrev HasFirst : WriteSet → Type 0
 HasFirst own = (first : Place × Option (List Cell)) × (rest : WriteSet) × (own ≡ first ∷ rest)
 
+-- An insertion leaves a first entry, whatever its answer at the old first one is.
 first_by : (first : Place × Option (List Cell)) (own : WriteSet) (place : Place) (row : Option (List Cell)) (answer : Ordering)
     → HasFirst (match_ordering answer ((place, row) ∷ first ∷ own) ((first.0, row) ∷ own) (first ∷ insert_entry place_cmp own place row))
 first_by first own place row Less = ((place, row), first ∷ own, refl)
 first_by first own place row Equal = ((first.0, row), own, refl)
 first_by first own place row Greater = (first, insert_entry place_cmp own place row, refl)
 
+-- A write set has a first entry after an insertion.
 first_of_insert : (own : WriteSet) (place : Place) (row : Option (List Cell)) → HasFirst (insert_entry place_cmp own place row)
 first_of_insert [] place row = ((place, row), [], refl)
 first_of_insert (first ∷ own) place row = first_by first own place row (place_cmp place first.0)
 
+-- A write set that has a first entry has one after more inserts.
 first_onto : (table : ℕ) (own : WriteSet) (rows : List (List Cell)) → HasFirst own
     → HasFirst (fold (λ (own : WriteSet) (row : List Cell). insert_entry place_cmp own (place_of table row) (Some row)) own rows)
 first_onto table own [] has = has

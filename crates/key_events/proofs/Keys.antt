@@ -28,6 +28,7 @@ module _ (sh : Shape) (e : CoreEvent) (hand : Held) (m : MayRun sh e hand) (own 
   pub the_shard : Has sh hand (ShardOf t (shard_of key))
   the_shard = has_shard sh e hand m t (shard_of key) has (small_shard key) shard
 
+  -- The slot of a candidate of the key is in the hand.
   a_slot : (p : ℕ) → Among p (candidates_in sh hand t key) → HasSlot sh hand t p
   a_slot p a =
       let x = a_shard sh hand t (shard_of key) the_shard in

@@ -14,6 +14,7 @@ use Rattle.slot_laws.proofs.Kept.{bool_cases}
 use Rattle.slot_laws.proofs.Patches.{cell_is}
 use Rattle.sound_laws.proofs.Fits.{image_fits}
 
+-- Two cells are tested for being the same alike either way around.
 same_back : (x y : Cell) → same_cell y x ≡ same_cell x y
 same_back x y = go (bool_cases (same_cell x y)) (bool_cases (same_cell y x))
   where
@@ -27,6 +28,7 @@ same_back x y = go (bool_cases (same_cell x y)) (bool_cases (same_cell y x))
 abbrev IsFrom : Row → ℕ → Row → Type 0
 IsFrom whole at rest = (j : ℕ) → j < length rest → get_or whole (at + j) Null ≡ get_or rest j Null
 
+-- What the new row has where it differs from the old is what the update changes.
 stand : (whole : Row) (at : ℕ) (old new : Row) → length old ≡ length new → IsFrom whole at new → map (standing whole) (differences at new old) ≡ differences at old new
 stand whole at [] [] same from = refl
 stand whole at [] (y ∷ new) same from = let l : 0 ≡ suc (length new) = same in absurd (omega (arith, l))

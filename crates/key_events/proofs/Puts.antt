@@ -38,6 +38,7 @@ shard_same sh hand t i g has same =
     (ap (λ z. laid sh (ShardOf t i) (Some (part.Shard z)) out) (sym here)))
     ∙ put_back sh hand out (laid sh (ShardOf t i) (Some (part.Shard x.0)) out) (ShardOf t i) (part.Shard x.0) x.1 refl refl
 
+-- One change after another, made at one place together, is each made there in turn.
 twice_both : {X : Type 0} (t i : ℕ) (f g : X → X) (u j : ℕ) (x : X) → at_both t i (λ x. g (f x)) u j x ≡ at_both t i g u j (at_both t i f u j x)
 twice_both t i f g u j x = go ((u == t) && (j == i))
   where
@@ -80,6 +81,7 @@ not_false false e = cc
 
 -- ---- parts that stay
 
+-- A body that the changes leave as it is stays the same part.
 body_same : (c : Changes) (t b : ℕ) (o : Option CorePart) → ((x : Body) → c.body t b x ≡ x) → IsOfKind (BodyOf t b) o → option_map (changed c (BodyOf t b)) o ≡ o
 body_same c t b None same k = absurd k
 body_same c t b (Some (part.Head x)) same k = absurd k
@@ -87,6 +89,7 @@ body_same c t b (Some (part.Shard x)) same k = absurd k
 body_same c t b (Some (part.Body x)) same k = ap (λ y. Some (part.Body y)) (same x)
 body_same c t b (Some (part.Desk x)) same k = absurd k
 
+-- A head that the changes leave as it is stays the same part.
 head_same : (c : Changes) (t : ℕ) (o : Option CorePart) → ((x : Head) → c.head t x ≡ x) → IsOfKind (HeadOf t) o → option_map (changed c (HeadOf t)) o ≡ o
 head_same c t None same k = absurd k
 head_same c t (Some (part.Head x)) same k = ap (λ y. Some (part.Head y)) (same x)

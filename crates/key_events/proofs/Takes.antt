@@ -46,19 +46,23 @@ use Rattle.undo_chain.specs.declared.undo.Undo.{Undo}
 
 -- ---- who is in the way
 
+-- Where neither of two faults is there, each of them is missing.
 nothing_first : (a b : Option WriteFault) → option_or a b ≡ None → (a ≡ None) × (b ≡ None)
 nothing_first None b n = (refl, n)
 nothing_first (Some x) b n = cc
 
+-- Where what a write meets is no fault, it meets nothing.
 no_fault : (n : Newer) → fault_of n ≡ None → n ≡ newer.Nothing
 no_fault newer.Nothing e = refl
 no_fault (newer.Session w) e = cc
 no_fault (newer.Number k) e = cc
 
+-- Where a write meets nothing, there is no other writer.
 no_writer : (a b : Option ℕ) → conflict_by a b ≡ newer.Nothing → a ≡ None
 no_writer None b e = refl
 no_writer (Some w) b e = cc
 
+-- Where some places have no first answer, each of them has none.
 none_at : {X : Type 0} (answer : ℕ → Option X) (places : List ℕ) (p : ℕ) → first_at answer places ≡ None → Among p places → answer p ≡ None
 none_at answer [] p none a = absurd a
 none_at {X} answer (q ∷ places) p none (inl e) = ap answer e ∙ left (answer q) none
@@ -78,6 +82,7 @@ none_writes slot places own p none a =
     none_at (λ place. other_writer (slot place).entries own.session) places p
     (no_writer (first_at (λ place. other_writer (slot place).entries own.session) places) (largest (flat_map (λ place. numbers_above (slot place).entries own.snapshot.stamp) places)) (no_fault (newer_by slot places own) none)) a
 
+-- A bare slot has no row and no entry.
 bare_both : (slot : Slot) → is_bare slot ≡ true → (is_some slot.row ≡ false) × (slot.entries ≡ [])
 bare_both slot e = go slot.row slot.entries e
   where
@@ -97,9 +102,11 @@ module _ (sh : Shape) (s : Parts) (shape : IsShape sh) (ok : Sound sh s) (own : 
       (option_or (fault_of (newer_by (slot_at sh s t) (places_at sh s t (key_of row)) own)) (cond (is_some (found sh s own t (key_of row))) (Some Exists) None))
       (option_or own.written (next_place (head_at sh s t) (slots_of sh t))) (Full (head_at sh s t).inserts) p goes
 
+  -- Nothing that a write meets is against the insert, and no row that it finds.
   abbrev apart : (fault_of (newer_by (slot_at sh s t) (places_at sh s t (key_of row)) own) ≡ None) × (cond (is_some (found sh s own t (key_of row))) (Some Exists) None ≡ None)
   apart = nothing_first (fault_of (newer_by (slot_at sh s t) (places_at sh s t (key_of row)) own)) (cond (is_some (found sh s own t (key_of row))) (Some Exists) None) fine.0
 
+  -- The session of the insert finds no row of its key.
   not_found : is_some (found sh s own t (key_of row)) ≡ false
   not_found = go (is_some (found sh s own t (key_of row))) apart.1
     where
@@ -107,9 +114,11 @@ module _ (sh : Shape) (s : Parts) (shape : IsShape sh) (ok : Sound sh s) (own : 
       go true e = cc
       go false e = refl
 
+  -- A slot with the row put by the session.
   abbrev new : Slot → Slot
   new = written own.session (change.Put row)
 
+  -- The row that is put fits the columns of the body at its place.
   fits_here : (has : HasBlock sh t (block_of p)) → ChangeFits (body_at sh s t (block_of p)).columns (change.Put row)
   fits_here has = subst (λ columns. ChangeFits columns (change.Put row)) (sym (ok.bodies t (block_of p) has).columns)
       (fits_unnamed (columns_in sh t) row (fits_columns sh t row lawful.1.0 lawful.1.1))
@@ -163,6 +172,7 @@ module _ (sh : Shape) (s : Parts) (shape : IsShape sh) (ok : Sound sh s) (own : 
 -- ---- an update or a delete
 
 module _ (sh : Shape) (s : Parts) (ok : Sound sh s) (own : OwnKey) (t : ℕ) (key : ℤ) (thawed : IsThawed sh t key s) (p : ℕ) (goes : change_judged sh s own t key ≡ Ok p) where
+  -- What may be against the change besides a conflict: no row is found, or its block freezes.
   abbrev rest : Option WriteFault
   rest = cond (is_none (found sh s own t key)) (Some Missing)
       (option_and_then (λ place. freezing_of (block_of place) (body_at sh s t (block_of place)).phase) (current_place (slot_at sh s t) (places_at sh s t key)))

@@ -68,6 +68,7 @@ module _ (sh : Shape) (hand : Held) (own : OwnKey) (t : ℕ) (row : Row) (m : Ma
       (shard_touched t (key_of row) (option_to_list own.written ++ candidates_in sh hand t (key_of row))) (body_touched t (key_of row) (option_to_list own.written) (candidates_in sh hand t (key_of row)))
 
 module _ (sh : Shape) (hand : Held) (own : OwnKey) (t : ℕ) (row : Row) (m : MayRun sh (event.Insert own t row) hand) where
+  -- The slot that the insert takes, as the hand tells: the own write's, else the head's next.
   abbrev taken : Option ℕ
   taken = option_or own.written (held_next sh (held_named (names sh) hand) t)
 

@@ -15,6 +15,7 @@ Entries = List (ℤ × List ℕ)
 abbrev pub seen : Entries → Places
 seen es = map.from_entries {R = int_cmp} es
 
+-- The finite map's search finds what a look-up in the entries does.
 find-lookup : (es : Entries) (q : ℤ) → map.find int_cmp q es ≡ lookup (int_eq q) es
 find-lookup [] q = refl
 find-lookup (e ∷ es) q = ap (λ o. cond (int_eq q e.0) (Some e.1) o) (find-lookup es q)
@@ -58,6 +59,7 @@ seen-remove old new key is =
     ∙ ap (λ b. cond b None (map.get (seen old) q)) (int_eq_equiv.symm q key)
     ∙ ap (λ o. cond (int_eq key q) None o) (get-seen old q)))
 
+-- At a key that is the same as another is found what the other has.
 lookup-tied : (es : Entries) (key q : ℤ) (had : Option (List ℕ)) → lookup (int_eq key) es ≡ had →
     (b : Bool) → int_eq key q ≡ b → cond b had (lookup (int_eq q) es) ≡ lookup (int_eq q) es
 lookup-tied es key q had is true tied = sym is ∙ ap (λ (k : ℤ). lookup (int_eq k) es) ((signed_Decides key q).0 tied)

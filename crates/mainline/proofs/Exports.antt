@@ -9,6 +9,7 @@ use Rattle.workload_spec.specs.Valid.{is_export}
 use Rattle.workload_spec.specs.declared.script.Line.{Line}
 use Rattle.workload_spec.specs.declared.script.Script.{Script}
 
+-- Whether a line of the workload is an export.
 abbrev exports : Line → Bool
 exports line = is_export line.command
 
@@ -20,14 +21,17 @@ rounds_export (round ∷ rounds) =
     ap (λ (b : Bool). list_any exports round || b) (rounds_export rounds)
     ∙ sym (list_any-append exports round (flat_map (λ (round : List Line). round) rounds))
 
+-- Where the first of two is true, so is their disjunction.
 or_left : (a b : Bool) → a ≡ true → (a || b) ≡ true
 or_left true b is = refl
 or_left false b is = absurd cc
 
+-- Where the second of two is true, so is their disjunction.
 or_right : (a b : Bool) → b ≡ true → (a || b) ≡ true
 or_right true b is = refl
 or_right false b is = is
 
+-- A true disjunction is true with a second in place that its own second implies.
 or_more : (a b c : Bool) → (b ≡ true → c ≡ true) → (a || b) ≡ true → (a || c) ≡ true
 or_more true b c more any = refl
 or_more false b c more any = more any
@@ -36,9 +40,11 @@ or_more false b c more any = more any
 any_in_front : {X : Type 0} (test : X → Bool) (front rest : List X) → list_any test front ≡ true → list_any test (front ++ rest) ≡ true
 any_in_front test front rest any = list_any-append test front rest ∙ or_left (list_any test front) (list_any test rest) any
 
+-- What one of those behind a front has, one of all has.
 any_behind : {X : Type 0} (test : X → Bool) (front rest : List X) → list_any test rest ≡ true → list_any test (front ++ rest) ≡ true
 any_behind test front rest any = list_any-append test front rest ∙ or_right (list_any test front) (list_any test rest) any
 
+-- If an export among the kept lines is one of all, it is so with one line more in front.
 kept_export : (kept : Bool) (line : Line) (some lines : List Line) → (list_any exports some ≡ true → list_any exports lines ≡ true)
     → list_any exports (cond kept (line ∷ some) some) ≡ true → list_any exports (line ∷ lines) ≡ true
 kept_export true line some lines more any = or_more (exports line) (list_any exports some) (list_any exports lines) more any

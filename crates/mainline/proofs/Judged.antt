@@ -28,9 +28,11 @@ record HasFront (separator : ℕ) (all : List (List ℕ)) (place : ℕ) : Type 0
   pub bytes : List ℕ
   pub are : parts separator bytes ≡ take place all ++ [] ∷ []
 
+-- A number passes the test for equality with itself.
 same_number : (n : ℕ) → (n == n) ≡ true
 same_number n = grind (arith, nat_tests)
 
+-- Where each front of some parts is that of bytes, so it is with one byte more in front.
 put_front : (separator byte : ℕ) (b : Bool) (all : List (List ℕ)) (place : ℕ) → (byte == separator) ≡ b → 0 < length all
     → ((place : ℕ) → HasFront separator all place) → HasFront separator (parted b byte all) (suc place)
 put_front separator byte true all place is some each = let front = each place in record {
@@ -43,6 +45,7 @@ put_front separator byte false (first ∷ rest) place is some each = let front =
   are = ap (λ c. parted c byte (parts separator front.bytes)) is ∙ ap (onto_first byte) front.are;
 }
 
+-- For each front of the parts of bytes there are bytes with these and an empty one.
 front_of : (separator : ℕ) (bytes : List ℕ) (place : ℕ) → HasFront separator (parts separator bytes) place
 front_of separator bytes zero = record { bytes = []; are = refl }
 front_of separator [] (suc place) = record {

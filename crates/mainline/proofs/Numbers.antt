@@ -8,23 +8,28 @@ use Rattle.std.proofs.lemmas.Bool.{le-leb, leb-true, lt-ltb, ltb-true}
 use Rattle.clap.specs.Words.{Text}
 use Rattle.mainline.specs.Words.{are_digits, number_in, within}
 
+-- Where a conjunction is true, so is each of the two.
 both : (a b : Bool) → (a && b) ≡ true → (a ≡ true) × (b ≡ true)
 both true b is = (refl, is)
 both false b is = absurd cc
 
+-- Where all bytes are digits, each of them has a value below ten.
 each_digit : (bytes : List ℕ) → AllDigits 10 bytes → list_all (λ byte. nat_lt (digit_value byte) 10) bytes ≡ true
 each_digit [] all = refl
 each_digit (byte ∷ bytes) all = ap₂ (λ (a b : Bool). a && b) (lt-ltb (digit_value byte) 10 all.0) (each_digit bytes all.1)
 
+-- Where each byte has a value below ten, all are digits.
 all_digits : (bytes : List ℕ) → list_all (λ byte. nat_lt (digit_value byte) 10) bytes ≡ true → AllDigits 10 bytes
 all_digits [] each = tt
 all_digits (byte ∷ bytes) each =
     let parts = both (nat_lt (digit_value byte) 10) (list_all (λ b. nat_lt (digit_value b) 10) bytes) each in
     (ltb-true (digit_value byte) 10 parts.0, all_digits bytes parts.1)
 
+-- The bytes of a decimal numeral pass the test for digits.
 digits_are : (bytes : List ℕ) → IsNumeral 10 bytes → are_digits bytes ≡ true
 digits_are bytes numeral = ap₂ (λ (a b : Bool). a && b) (lt-ltb 0 (length bytes) numeral.0) (each_digit bytes numeral.1)
 
+-- Bytes that pass the test for digits are a decimal numeral.
 numeral_of : (bytes : List ℕ) → are_digits bytes ≡ true → IsNumeral 10 bytes
 numeral_of bytes are =
     let parts = both (nat_lt 0 (length bytes)) (list_all (λ b. nat_lt (digit_value b) 10) bytes) are in
@@ -39,10 +44,12 @@ number_found low high word number numeral is above below =
     some ∙ ap (within low high) is
     ∙ ap (λ (b : Bool). if b then within low high (digits_value 10 (without_leading_plus word)) else None) (sym (digits_are (without_leading_plus word) numeral))
 
+-- A conjunction with something false is false.
 and_false : (a : Bool) → (a && false) ≡ false
 and_false true = refl
 and_false false = refl
 
+-- A value above the high bound is not within the bounds.
 too_high : (low high value : ℕ) (b : Bool) → nat_le value high ≡ b → (value ≤ high → ⊥) → None ≡ within low high value
 too_high low high value true is above = absurd (above (leb-true value high is))
 too_high low high value false is above =

@@ -19,6 +19,7 @@ OfRounds = List (List Line) → List ℕ → Type 0
 abbrev TellsBy : OfRounds → OfRounds → Type 0
 TellsBy Goes Told = (asked : List (List Line)) (text : List ℕ) → Goes asked text → Told asked text
 
+-- A run that went whole is told so in other words too.
 whole_told : (Goes Told : OfRounds) (script : Script) (before now : Option (List ℕ)) → TellsBy Goes Told → GoesWhole Goes script before now → GoesWhole Told script before now
 whole_told Goes Told script before now told goes = record {
   text = goes.text;
@@ -26,6 +27,7 @@ whole_told Goes Told script before now told goes = record {
   printed = goes.printed;
 }
 
+-- A run whose text was cut off is told so in other words too.
 cut_told : (Goes Told : OfRounds) (script : Script) (before now : Option (List ℕ)) → TellsBy Goes Told → GoesCutOff Goes script before now → GoesCutOff Told script before now
 cut_told Goes Told script before now told goes = record {
   whole = goes.whole;
@@ -36,6 +38,7 @@ cut_told Goes Told script before now told goes = record {
   printed = goes.printed;
 }
 
+-- A run that went up to some lines is told so in other words too.
 abbrev to_told : (Goes Told : OfRounds) (script : Script) (lines : List Line) (before now : Option (List ℕ)) → TellsBy Goes Told → GoesTo Goes script lines before now → GoesTo Told script lines before now
 to_told Goes Told script lines before now told goes = record {
   whole = goes.whole;
@@ -52,6 +55,7 @@ to_told Goes Told script lines before now told goes = record {
   printed = goes.printed;
 }
 
+-- A run that stopped is told so in other words too.
 stopped_told : (Goes Told : OfRounds) (script : Script) (before now : Option (List ℕ)) → TellsBy Goes Told → GoesStopped Goes script before now → GoesStopped Told script before now
 stopped_told Goes Told script before now told (inl goes) = inl (record {
   whole = goes.whole;
@@ -68,6 +72,7 @@ stopped_told Goes Told script before now told (inr goes) = inr (record {
   whole = goes.whole;
 })
 
+-- A run that went to an export is told so in other words too.
 export_told : (Goes Told : OfRounds) (script : Script) (before now : Option (List ℕ)) → TellsBy Goes Told → GoesToExport Goes script before now → GoesToExport Told script before now
 export_told Goes Told script before now told goes = record {
   lines = goes.lines;

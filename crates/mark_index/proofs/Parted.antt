@@ -5,12 +5,14 @@ use Rattle.std.specs.List.Sorted.{IsPartitionPoint}
 use Rattle.std.proofs.lemmas.List.{length-take-le}
 use Rattle.std.proofs.lemmas.List.Sums.{length-filter}
 
+-- Where the element at each place fails the test, none is kept.
 filter-none : {X : Type 0} (p : X → Bool) (xs : List X) (d : X) → ((k : ℕ) → k < length xs → p (get_or xs k d) ≡ false) → filter p xs ≡ []
 filter-none p [] d h = refl
 filter-none p (x ∷ xs) d h =
     let none : p x ≡ false = h zero (omega arith) in
     rw none (filter-none p xs d (λ k within. h (suc k) (omega (arith, within))))
 
+-- Where those in front of a place pass and the others fail, those in front are kept.
 filter-take : {X : Type 0} (p : X → Bool) (xs : List X) (i : ℕ) (d : X) → i ≤ length xs
     → ((k : ℕ) → k < i → p (get_or xs k d) ≡ true) → ((k : ℕ) → i ≤ k → k < length xs → p (get_or xs k d) ≡ false) → filter p xs ≡ take i xs
 filter-take p xs zero d within pass fail = filter-none p xs d (λ k below. fail k (omega arith) below)
@@ -31,6 +33,7 @@ passed-front p (x ∷ xs) i within point = filter-take p (x ∷ xs) i x within (
 pub passed-count : {X : Type 0} (p : X → Bool) (xs : List X) (i : ℕ) → i ≤ length xs → IsPartitionPoint (λ x. p x ≡ true) (λ x. p x ≡ false) xs i → i ≡ count_by p xs
 passed-count p xs i within point = sym (length-take-le i xs within) ∙ ap length (sym (passed-front p xs i within point)) ∙ length-filter p xs
 
+-- As far behind a first element as there are others stands the last.
 last-onto : {X : Type 0} (x : X) (xs : List X) → slice_get (x ∷ xs) (length xs) ≡ last_or (Some x) xs
 last-onto x [] = refl
 last-onto x (y ∷ ys) = last-onto y ys

@@ -9,10 +9,12 @@ use Rattle.std.specs.declared.cmp.Ordering.{Ordering}
 use Rattle.std.specs.declared.cmp.Ordering.TheVariants.{Equal, Less, Greater}
 use Rattle.mark_index.specs.Lists.{with_mark}
 
+-- Tests that agree on each key find the same among entries.
 same-lookup : {K X : Type 0} (p q : K → Bool) → ((x : K) → p x ≡ q x) → (es : List (K × X)) → lookup p es ≡ lookup q es
 same-lookup p q same [] = refl
 same-lookup p q same (e ∷ es) = rw (same e.0, same-lookup p q same es) refl
 
+-- A comparison that tests as equal has the answer equal.
 equal : (o : Ordering) → is_eq o ≡ true → o ≡ Equal
 equal Equal h = refl
 equal Less h = absurd (let never : ⊥ = cc in never)
@@ -30,6 +32,7 @@ marks-or-none None none is = is
 -- where a list is put at a key, equal keys have it
 module _ {K M : Type 0} (cmp : K → K → Ordering) (total : IsTotalOrder cmp) (before now : BTreeMap K (Vec M Global)) (key other : K) (list : Vec M Global)
     (put : get cmp now other ≡ cond (is_at (cmp key) other) (Some list) (get cmp before other)) where
+  -- Equal keys had the same list before.
   same : is_eq (cmp key other) ≡ true → get cmp before key ≡ get cmp before other
   same h = same-lookup (is_at (cmp key)) (is_at (cmp other)) (λ x. ap is_eq (total.congr key other x (equal (cmp key other) h))) before.entries
 

@@ -19,16 +19,19 @@ pub cons_append : {X : Type 0} (o : Option X) (xs ys : List X) → cons_option o
 cons_append None xs ys = refl
 cons_append (Some x) xs ys = refl
 
+-- A reply put in front of later ones is put as well behind the earlier ones.
 with_cons : (earlier : List Entry) (o : Option Entry) (more : List Entry) → earlier ++ cons_option o more ≡ with_reply earlier o ++ more
 with_cons earlier None more = refl
 with_cons earlier (Some entry) more = sym (append_assoc earlier (entry ∷ []) more)
 
+-- The first printed reply is what is first due, and the others follow behind it.
 first_printed : (tables : List TableDecl) (earlier : List Entry) (due : Due) (dues : List Due) (told : Option Said) (rest : List (Option Said))
     → printed_from tables earlier (due ∷ dues) (told ∷ rest)
     ≡ cons_option (printed_by tables earlier due told) (printed_from tables (with_reply earlier (printed_by tables earlier due told)) dues rest)
 first_printed tables earlier due dues None rest = refl
 first_printed tables earlier due dues (Some told) rest = refl
 
+-- What is printed of one's calls and of what follows is the calls' replies, then the rest.
 calls_printed : (tables : List TableDecl) (earlier : List Entry) (number : ℕ) (who : Who) (calls : List Call) (dues : List Due) (rest : List (Option Said))
     → printed_from tables earlier (map (due_of number who) calls ++ dues) (map (λ (call : Call). call.told) calls ++ rest)
     ≡ printed_in (lined tables earlier number who calls)
@@ -50,6 +53,7 @@ share_dues number share = map (due_of number share.who) share.calls
 abbrev pub share_told : Share → List (Option Said)
 share_told share = map (λ (call : Call). call.told) share.calls
 
+-- What is printed of some shares and of what follows is the shares' replies, then the rest.
 shares_printed : (tables : List TableDecl) (earlier : List Entry) (number : ℕ) (shares : List Share) (dues : List Due) (rest : List (Option Said))
     → printed_from tables earlier (flat_map (share_dues number) shares ++ dues) (flat_map share_told shares ++ rest)
     ≡ all_printed (shares_lined tables earlier number shares)
@@ -74,6 +78,7 @@ rounds_printed tables earlier number (round ∷ rounds) =
     all_printed (shares_lined tables earlier number round.shares)
     ++ rounds_printed tables (earlier ++ all_printed (shares_lined tables earlier number round.shares)) (number + 1) rounds
 
+-- What is printed of rounds is the replies of their shares, round by round.
 rounds_are : (tables : List TableDecl) (earlier : List Entry) (number : ℕ) (rounds : List RoundRun)
     → printed_from tables earlier (flat_map (λ (entry : ℕ × RoundRun). dues_answered entry.0 entry.1) (enumerate_from number rounds)) (told_in rounds)
     ≡ rounds_printed tables earlier number rounds

@@ -30,16 +30,20 @@ use Rattle.moment_laws.proofs.Threads.{IsStranger, Rises, in_order, of_script, o
 
 module _ (script : Script) (lines : List Line) (there : Among lines script.rounds) (front : List Occurrence) (earlier : List Entry) (number : ℕ) (round : RoundRun) (is : IsRound script front round)
     (al : Aligned script lines 1 (script.sessions + script.workers) round.shares) where
+  -- The moments of the round.
   abbrev moments : List Moment
   moments = round_moments script earlier number round
 
+  -- The moments of the round stand one behind the other, after the events in front.
   are : AreMoments script front (round_moments script earlier number round)
   are = merged_are script (seats_of script) (all_seats_are script lines there number front earlier round is al) front round.made (calls_at script lines there number front earlier round is al)
       is.nobody_else (parted script lines there number front earlier round is al) (waits script lines there number front earlier round is al)
 
+  -- The moments of the round have its events in their order.
   events : events_at (round_moments script earlier number round) ≡ round.made
   events = (moments_are_the_round (seats_of script) round.made (calls_at script lines there number front earlier round is al) (parted script lines there number front earlier round is al)).0
 
+  -- The moments of the round have the printed replies of each session and worker.
   threads : (who : Who) → thread who (all_printed (shares_lined script.tables earlier number round.shares)) ≡ thread who (replies_at (round_moments script earlier number round))
   threads who = go (of_script script who)
     where
@@ -60,9 +64,11 @@ module _ (script : Script) (lines : List Line) (there : Among lines script.round
   in_round = Each-timeline (λ entry. entry.reply.round ≡ number) (all_printed (shares_lined script.tables earlier number round.shares)) (replies_at (round_moments script earlier number round))
       threads (shares_in script lines number script.tables earlier round.shares)
 
+-- Lists of agendas that are the same have the same first.
 heads : (a b : List Agenda) (xs ys : List (List Agenda)) → a ∷ xs ≡ b ∷ ys → a ≡ b
 heads a b xs ys e = cc
 
+-- Lists of agendas that are the same are so without the first.
 tails : (a b : List Agenda) (xs ys : List (List Agenda)) → a ∷ xs ≡ b ∷ ys → xs ≡ ys
 tails a b xs ys e = cc
 
@@ -76,10 +82,12 @@ record HaveRounds (script : Script) (front : List Occurrence) (earlier : List En
 
 -- ---- facts of calls
 
+-- A fact of each call that ends at some moments and at others is one of those at each.
 ends_first : (script : Script) (P : Who → Call → Type 0) (xs ys : List Moment) → EachEnds script P (xs ++ ys) → EachEnds script P xs × EachEnds script P ys
 ends_first script P [] ys each = (tt, each)
 ends_first script P (x ∷ xs) ys each = let rest = ends_first script P xs ys each.1 in ((each.0, rest.0), rest.1)
 
+-- A fact of each call that ends at the moments is one of each line at a seat.
 ends_at_seat : (script : Script) (P : Who → Call → Type 0) (q : ℕ) (moments : List Moment) → EachEnds script P moments → (line : Lined) → Among line (lines_at q moments) → P (who_at script q) line.call
 ends_at_seat script P q [] each line among = absurd among
 ends_at_seat script P q (m ∷ ms) each line among = go (m.session == q) refl among (ends_at_seat script P q ms each.1 line)
@@ -98,6 +106,7 @@ ends_at_seat script P q (m ∷ ms) each line among = go (m.session == q) refl am
     go false e among rest = rest
         (subst (λ b. Among line (filter_map (λ (moment : Moment). moment.line) (cond b (m ∷ filter (λ (moment : Moment). moment.session == q) ms) (filter (λ (moment : Moment). moment.session == q) ms)))) e among)
 
+-- A fact of each of the lines of calls is one of each of the calls.
 lined_each : (tables : List TableDecl) (P : Who → Call → Type 0) (w : Who) (earlier : List Entry) (number : ℕ) (who : Who) (calls : List Call)
     → ((line : Lined) → Among line (lined tables earlier number who calls) → P w line.call) → EachOf P w calls
 lined_each tables P w earlier number who [] each = tt
@@ -106,11 +115,13 @@ lined_each tables P w earlier number who (call ∷ calls) each = (
   lined_each tables P w (with_reply earlier (printed_by tables earlier (due_of number who call) call.told)) number who calls (λ line a. each line (inr a)),
 )
 
+-- Each of some lines is one of the calls that are pending for them.
 pending_back : (line : Lined) (lines : List Lined) → Among line lines → Among line (lines_of (map pending_of lines))
 pending_back line [] among = absurd among
 pending_back line (l ∷ lines) (inl e) = inl e
 pending_back line (l ∷ lines) (inr a) = inr (pending_back line lines a)
 
+-- A fact of each line that is pending at its seat is one of each call of the shares.
 shares_each : (script : Script) (asked_lines : List Line) (P : Who → Call → Type 0) (number a n : ℕ) (earlier : List Entry) (shares : List Share) → Aligned script asked_lines a n shares
     → ((q : ℕ) → a ≤ q → q < a + n → (line : Lined) → Among line (lines_of (pending_at (range_with_len a n) (shares_lined script.tables earlier number shares) q)) → P (who_at script q) line.call)
     → EachShare P shares
@@ -131,6 +142,7 @@ shares_each script asked_lines P number a (suc n) earlier (share ∷ shares) al 
           (let other : false ≡ (a == q) = grind (arith, nat_tests, low) in other) among)),
     )
 
+-- The moments of rounds, one behind the other, have their events and printed replies.
 have_rounds : (script : Script) (front : List Occurrence) (earlier : List Entry) (number : ℕ) (rounds : List RoundRun) (asked : List (List Line))
     → map (λ (round : RoundRun). map agenda_of round.shares) rounds ≡ map (agendas_in script) asked
     → ((lines : List Line) → Among lines asked → Among lines script.rounds)
@@ -181,6 +193,7 @@ runs_have_moments script log text ran =
       calls = all.are;
     }
 
+-- A fact of each call that ends at the moments of rounds is one of each of their calls.
 rounds_each : (script : Script) (P : Who → Call → Type 0) (front : List Occurrence) (earlier : List Entry) (number : ℕ) (rounds : List RoundRun) (asked : List (List Line))
     → map (λ (round : RoundRun). map agenda_of round.shares) rounds ≡ map (agendas_in script) asked
     → ((lines : List Line) → Among lines asked → Among lines script.rounds)

@@ -72,25 +72,32 @@ Aligned script lines a (suc n) (share ∷ shares) =
     × (map (λ (call : Call). call.command) share.calls ≡ commands_at script lines a)
     × Aligned script lines (a + 1) n shares
 
+-- Lists of agendas that are the same have the same first.
 heads : (a b : Agenda) (xs ys : List Agenda) → a ∷ xs ≡ b ∷ ys → a ≡ b
 heads a b xs ys e = cc
 
+-- Lists of agendas that are the same are so without the first.
 tails : (a b : Agenda) (xs ys : List Agenda) → a ∷ xs ≡ b ∷ ys → xs ≡ ys
 tails a b xs ys e = cc
 
+-- An empty list of agendas has no first one.
 none_some : (a : Agenda) (xs : List Agenda) → [] ≡ a ∷ xs → ⊥
 none_some a xs e = cc
 
+-- A list of agendas with a first is not empty.
 some_none : (a : Agenda) (xs : List Agenda) → a ∷ xs ≡ [] → ⊥
 some_none a xs e = cc
 
 module _ (script : Script) (lines : List Line) where
+  -- A session's agenda for these lines: its commands among them.
   abbrev session_agenda : ℕ → Agenda
   session_agenda session = record { who = Session session; commands = commands_of session lines }
 
+  -- A worker's agenda: the turns of the script.
   abbrev worker_agenda : ℕ → Agenda
   worker_agenda worker = record { who = Worker worker; commands = turns_of script }
 
+  -- Shares with the agendas of the workers are those of the workers' seats.
   workers_aligned : (a n seat : ℕ) (shares : List Share) → 1 ≤ a → seat ≡ script.sessions + a
       → map agenda_of shares ≡ map worker_agenda (range_with_len a n) → Aligned script lines seat n shares
   workers_aligned a zero seat [] low is e = tt
@@ -106,6 +113,7 @@ module _ (script : Script) (lines : List Line) where
         (tails (agenda_of share) (worker_agenda a) (map agenda_of shares) (map worker_agenda (range_with_len (a + 1) n)) e),
   )
 
+  -- Shares with the sessions' agendas, and others behind, are those of the seats in order.
   sessions_aligned : (a n : ℕ) (shares : List Share) (rest : List Agenda) (m : ℕ) → 1 ≤ a → a + n ≡ script.sessions + 1
       → ((left : List Share) → map agenda_of left ≡ rest → Aligned script lines (a + n) m left)
       → map agenda_of shares ≡ map session_agenda (range_with_len a n) ++ rest → Aligned script lines a (n + m) shares
@@ -143,9 +151,7 @@ pub record ShareAt (script : Script) (lines : List Line) (number : ℕ) (front m
   pub done : IsDone script front made share
   pub is : calls ≡ map pending_of (lined script.tables earlier number share.who share.calls)
 
-test_same : (q : ℕ) → (q == q) ≡ true
-test_same q = grind (arith, nat_tests)
-
+-- Numbers that are not the same fail the test for equality.
 test_other : (r q : ℕ) → (r ≡ q → ⊥) → (r == q) ≡ false
 test_other r q ne = go (r == q) refl
   where
@@ -154,6 +160,7 @@ test_other r q ne = go (r == q) refl
     go false e = e
 
 module _ (script : Script) (asked_lines : List Line) (number : ℕ) (front made : List Occurrence) where
+  -- What is pending at a seat of the shares is its share, lined.
   share_at : (a n : ℕ) (earlier : List Entry) (shares : List Share) (q : ℕ) → Aligned script asked_lines a n shares → All (IsDone script front made) shares
       → a ≤ q → q < a + n
       → ShareAt script asked_lines number front made q (pending_at (range_with_len a n) (shares_lined script.tables earlier number shares) q)
@@ -213,6 +220,7 @@ lined_events tables earlier number who [] = refl
 lined_events tables earlier number who (call ∷ calls) =
     ap (λ es. call.made ++ es) (lined_events tables (with_reply earlier (printed_by tables earlier (due_of number who call) call.told)) number who calls)
 
+-- The reply that is printed by what a call told is the call's.
 printed_is : (tables : List TableDecl) (earlier : List Entry) (number : ℕ) (who : Who) (call : Call)
     → IsPrinted who call (printed_by tables earlier (due_of number who call) call.told)
 printed_is tables earlier number who call = go call.told refl
@@ -221,6 +229,7 @@ printed_is tables earlier number who call = go call.told refl
     go None e = e
     go (Some said) e = (e, refl, refl)
 
+-- The lined calls of one seat wait to end behind what it made before.
 lined_await : (script : Script) (q : ℕ) (number : ℕ) (earlier : List Entry) (began : List Occurrence) (calls : List Call)
     → AreCalls (shape_of script) (is_worker (who_at script q)) q began calls
     → ((asked : Command) → Among asked (map (λ (call : Call). call.command) calls) → IsAsked script q asked)
@@ -249,6 +258,7 @@ module _ (script : Script) (lines : List Line) (there : Among lines script.round
   inside q s = let low = s.0 in let high = s.1 in
       share_at script lines number front round.made 1 (script.sessions + script.workers) earlier round.shares q al is.done (omega (arith, low)) (omega (arith, high))
 
+  -- A number is a seat, or it is below or above all seats.
   seat_or : (q : ℕ) → Seat script q ⊎ ((q < 1) ⊎ (1 + (script.sessions + script.workers) ≤ q))
   seat_or q = go (nat_le 1 q) (nat_le q (script.sessions + script.workers)) refl refl
     where
@@ -257,6 +267,7 @@ module _ (script : Script) (lines : List Line) (there : Among lines script.round
       go true false e f = inr (inr (grind (arith, nat_tests, f)))
       go false b e f = inr (inl (grind (arith, nat_tests, e)))
 
+  -- At a number that is no seat no event was made.
   nobody : (q : ℕ) → (q < 1) ⊎ (1 + (script.sessions + script.workers) ≤ q) → (made : List Occurrence) → All (IsOfScript script) made → under q made ≡ []
   nobody q out [] all = refl
   nobody q out (o ∷ made) all =

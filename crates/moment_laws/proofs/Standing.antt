@@ -14,7 +14,8 @@ use Rattle.ran_laws.specs.Moments.{AreParted, Lined, Moment, Pending, advanced, 
 use Rattle.moment_laws.specs.Laws.{IsAsked, AreMoments, IsMoment, IsPrinted, with_event}
 use Rattle.moment_laws.specs.Moments.{who_at}
 
--- Calls that are to end, behind these events of their session; the first of them made some of its events.
+-- Calls that are to end, behind these events of their session; the first of them made some of its
+-- events.
 abbrev pub Awaits : Script → ℕ → List Occurrence → List Occurrence → List Pending → Type 0
 Awaits script seat began done [] = Unit {0}
 Awaits script seat began done (call ∷ calls) =
@@ -31,6 +32,7 @@ pub record Waits (script : Script) (seat : ℕ) (front : List Occurrence) (calls
   pub behind : under seat front ≡ began ++ done
   pub awaits : Awaits script seat began done calls
 
+-- The number is the seat of a session or a worker of the script.
 abbrev IsSeat : Script → ℕ → Type 0
 IsSeat script seat = (1 ≤ seat) × (seat ≤ script.sessions + script.workers)
 
@@ -47,21 +49,22 @@ other_last seat front made ne =
     ∙ ap (λ b. under seat front ++ cond b (made ∷ []) []) (test_other made.session seat ne)
     ∙ append-nil (under seat front)
 
+-- Lists of events that are the same have the same first.
 head_is : (a b : Occurrence) (xs ys : List Occurrence) → a ∷ xs ≡ b ∷ ys → a ≡ b
 head_is a b xs ys e = cc
 
+-- An event is never the same as none.
 some_none : (o : Occurrence) → Some o ≡ None → ⊥
 some_none o e = cc
 
+-- A list of events with a first is not empty.
 none_first : (o : Occurrence) (os : List Occurrence) → o ∷ os ≡ [] → ⊥
 none_first o os e = cc
 
 -- ---- one event
 
 module _ (script : Script) (front : List Occurrence) (made : Occurrence) (seat : IsSeat script made.session) where
-  abbrev q : ℕ
-  q = made.session
-
+  -- A call that made no event ends at a moment without one.
   ended : (line : Lined) (began done : List Occurrence) → under made.session front ≡ began ++ done
       → line.call.made ≡ done ++ []
       → IsCall (shape_of script) (is_worker (who_at script made.session)) made.session began line.call
@@ -182,6 +185,7 @@ module _ (script : Script) (front : List Occurrence) (made : Occurrence) (seat :
 
 -- ---- what is left at the end
 
+-- Calls that are left with no event to come end at moments without one.
 left_over : (script : Script) (front : List Occurrence) (seat : ℕ) → IsSeat script seat → (calls : List Pending) → Waits script seat front calls
     → events_to_come calls ≡ [] → AreMoments script front (map (ended_at seat) calls)
 left_over script front seat is [] waits none = tt
@@ -234,6 +238,7 @@ with_events script front (x ∷ xs) ys are more = (
     at None = refl
     at (Some made) = append_assoc front (made ∷ []) (events_at xs)
 
+-- Two numbers are the same or not.
 same_number : (a b : ℕ) → (a ≡ b) ⊎ (a ≢ b)
 same_number a b = go (a == b) refl
   where
@@ -241,6 +246,7 @@ same_number a b = go (a == b) refl
     go true e = inl (grind (arith, nat_tests))
     go false e = inr (λ s. absurd (grind (arith, nat_tests)))
 
+-- Where no seat has an event to come, the calls left at all seats end without one.
 all_seats : (script : Script) (front : List Occurrence) (seats : List ℕ) → Rattle.std.specs.Prelude.All (IsSeat script) seats → (calls : ℕ → List Pending)
     → ((seat : ℕ) → Waits script seat front (calls seat)) → ((seat : ℕ) → events_to_come (calls seat) ≡ [])
     → (AreMoments script front (flat_map (λ seat. map (ended_at seat) (calls seat)) seats))

@@ -21,6 +21,7 @@ use Rattle.moment_laws.proofs.Seats.{Aligned, Seat, same_seat, stands_at}
 
 -- ---- replies of moments
 
+-- A moment's reply is to the session or worker at its seat.
 reply_is : (script : Script) (front : List Occurrence) (seat : ℕ) (event : Option Occurrence) (line : Option Lined)
     → Rattle.moment_laws.specs.Laws.Stands script front seat event line
     → IfSome (reply_of (record { session = seat; event = event; line = line })) (λ entry. entry.reply.who ≡ who_at script seat)
@@ -31,31 +32,38 @@ reply_is script front seat event (Some line) stands = go line.printed stands.pri
     go None is = tt
     go (Some entry) is = is.1
 
+-- A reply to one put in front of others is in front of the thread.
 kept : (who : Who) (o : Option Entry) (xs : List Entry) → IfSome o (λ entry. is_same entry.reply.who who ≡ true)
     → thread who (cons_option o xs) ≡ cons_option o (thread who xs)
 kept who None xs is = refl
 kept who (Some entry) xs is = ap (λ b. cond b (entry ∷ thread who xs) (thread who xs)) is
 
+-- A reply to another put in front leaves the thread.
 dropped : (who : Who) (o : Option Entry) (xs : List Entry) → IfSome o (λ entry. is_same entry.reply.who who ≡ false)
     → thread who (cons_option o xs) ≡ thread who xs
 dropped who None xs is = refl
 dropped who (Some entry) xs is = ap (λ b. cond b (entry ∷ thread who xs) (thread who xs)) is
 
+-- A fact of a reply, if there is one, may be weakened.
 if_some : (P Q : Entry → Type 0) → ((e : Entry) → P e → Q e) → (o : Option Entry) → IfSome o P → IfSome o Q
 if_some P Q f None is = tt
 if_some P Q f (Some e) is = f e is
 
+-- With a line in front, if there is one, its printed reply comes first.
 line_printed : (o : Option Lined) (xs : List Lined)
     → printed_in (cons_option o xs) ≡ cons_option (Rattle.std.specs.Prelude.option_and_then (λ (line : Lined). line.printed) o) (printed_in xs)
 line_printed None xs = refl
 line_printed (Some line) xs = refl
 
+-- Numbers that pass the test for equality are the same.
 number_is : (a b : ℕ) → (a == b) ≡ true → a ≡ b
 number_is a b e = grind (arith, nat_tests, e)
 
+-- Numbers that fail the test for equality are not the same.
 number_not : (a b : ℕ) → (a == b) ≡ false → a ≡ b → ⊥
 number_not a b e s = absurd (let never : ⊥ = grind (arith, nat_tests, e, s) in never)
 
+-- At different seats stand different sessions or workers.
 not_same : (script : Script) (a b : ℕ) → (a == b) ≡ false → is_same (who_at script a) (who_at script b) ≡ false
 not_same script a b e = go (is_same (who_at script a) (who_at script b)) refl
   where
@@ -140,6 +148,7 @@ of_script script who = go (nat_le 1 q && nat_le q n && is_same (who_at script q)
 
 -- ---- printed replies
 
+-- The printed replies of one's calls are all in the thread of the same one.
 lined_kept : (tables : List TableDecl) (earlier : List Entry) (number : ℕ) (who other : Who) (calls : List Call) → is_same who other ≡ true
     → thread other (printed_in (lined tables earlier number who calls)) ≡ printed_in (lined tables earlier number who calls)
 lined_kept tables earlier number who other [] same = refl
@@ -152,6 +161,7 @@ lined_kept tables earlier number who other (call ∷ calls) same =
     go None = tt
     go (Some said) = same
 
+-- None of the printed replies of one's calls is in another's thread.
 lined_dropped : (tables : List TableDecl) (earlier : List Entry) (number : ℕ) (who other : Who) (calls : List Call) → is_same who other ≡ false
     → thread other (printed_in (lined tables earlier number who calls)) ≡ []
 lined_dropped tables earlier number who other [] same = refl
@@ -164,6 +174,7 @@ lined_dropped tables earlier number who other (call ∷ calls) same =
     go None = tt
     go (Some said) = same
 
+-- The thread of two lists is that of the first and then that of the second.
 thread_append : (who : Who) (xs ys : List Entry) → thread who (xs ++ ys) ≡ thread who xs ++ thread who ys
 thread_append who xs ys = filter-append (λ (entry : Entry). is_same entry.reply.who who) xs ys
 
@@ -182,6 +193,7 @@ module _ (script : Script) (asked_lines : List Rattle.workload_spec.specs.declar
       (lined_dropped script.tables earlier number share.who other share.calls (ap (λ w. is_same w other) al.0 ∙ out a (omega arith) (omega arith)))
       ∙ shares_dropped (a + 1) n (earlier ++ printed_in lines) shares other al.2 (λ q low high. out q (omega (arith, low)) (omega (arith, high)))
 
+  -- The lines of calls that are pending for some lines are these.
   lines_back : (lines : List Lined) → lines_of (map pending_of lines) ≡ lines
   lines_back [] = refl
   lines_back (line ∷ lines) = ap (λ ls. line ∷ ls) (lines_back lines)
@@ -229,6 +241,7 @@ module _ (script : Script) (asked_lines : List Rattle.workload_spec.specs.declar
   abbrev pub IsIn : Entry → Type 0
   IsIn entry = entry.reply.round ≡ number
 
+  -- Each printed reply of one's calls in the round has its number.
   lined_in : (tables : List TableDecl) (earlier : List Entry) (who : Who) (calls : List Call) → Each IsIn (printed_in (lined tables earlier number who calls))
   lined_in tables earlier who [] = tt
   lined_in tables earlier who (call ∷ calls) =
@@ -276,6 +289,7 @@ abbrev pub Rises : List Entry → Type 0
 Rises [] = Unit {0}
 Rises (entry ∷ rest) = Each (λ later. entry.reply.round ≤ later.reply.round) rest × Rises rest
 
+-- A fact of each reply that a test keeps is one of each that passes it.
 each_kept : (P : Entry → Type 0) (test : Entry → Bool) (xs : List Entry) → Each P (filter test xs) → Each (λ x. test x ≡ true → P x) xs
 each_kept P test [] each = tt
 each_kept P test (x ∷ xs) each = go (test x) refl each (each_kept P test xs)
@@ -285,6 +299,7 @@ each_kept P test (x ∷ xs) each = go (test x) refl each (each_kept P test xs)
     go true e h rest = (λ is. h.0, rest h.1)
     go false e h rest = (λ is. absurd (let never : ⊥ = cc in never), rest h)
 
+-- A later reply of no earlier round follows one, if it does where both are to the same.
 follows_one : (e later : Entry) → e.reply.round ≤ later.reply.round → (is_same later.reply.who e.reply.who ≡ true → Follows e later) → Follows e later
 follows_one e later low same = go (is_same later.reply.who e.reply.who) refl
   where
@@ -303,6 +318,7 @@ follows_one e later low same = go (is_same later.reply.who e.reply.who) refl
         middle true b = refl
         middle false b = refl
 
+-- Replies of no earlier rounds each follow one, if those to the same do.
 each_both : (e : Entry) (rest : List Entry) → Each (λ later. e.reply.round ≤ later.reply.round) rest
     → Each (λ later. is_same later.reply.who e.reply.who ≡ true → Follows e later) rest → Each (Follows e) rest
 each_both e [] low same = tt

@@ -1,5 +1,5 @@
 -- Which replies of each side are before one, and which it is before.
-use Rattle.std.proofs.Common.{◌≡◌, ℕ, Bool, true, false, cond, ◌&&◌, ◌||◌, not, eqb, nat_lt, List, [], ◌∷◌, ◌++◌, refl, ap, ◌∙◌, ◌+◌, sum_by, append-nil, arith}
+use Rattle.std.proofs.Common.{◌≡◌, ℕ, Bool, true, false, cond, ◌&&◌, not, eqb, nat_lt, List, [], ◌∷◌, ◌++◌, refl, ap, ◌∙◌, ◌+◌, sum_by, append-nil, arith}
 use Rattle.std.specs.List.{filter, list_all}
 use Rattle.std.proofs.lemmas.Bool.{and_parts, not-true}
 use Rattle.std.proofs.lemmas.Bool.Decides.{nat_tests}
@@ -28,35 +28,38 @@ keep-none p q so (x ∷ xs) h =
 
 -- ---- the order, by its three tests
 
+-- Whether two are one session or worker is told alike either way around.
 same-turned : (a b : Who) → is_same a b ≡ is_same b a
 same-turned (Session a) (Session b) = grind (arith, nat_tests)
 same-turned (Session a) (Worker b) = refl
 same-turned (Worker a) (Session b) = refl
 same-turned (Worker a) (Worker b) = grind (arith, nat_tests)
 
+-- A session or worker is the same as itself.
 itself : (a : Who) → is_same a a ≡ true
 itself (Session a) = grind (arith, nat_tests)
 itself (Worker a) = grind (arith, nat_tests)
 
--- a round, who and index before another's
-abbrev comes : Bool → Bool → Bool → Bool → Bool
-comes less equal same index = less || equal && same && index
-
+-- A number that is below another is neither above nor equal to it.
 less-not : (a b : ℕ) → nat_lt a b ≡ true → (nat_lt b a ≡ false) × (eqb b a ≡ false)
 less-not a b h = (grind (arith, nat_tests, h), grind (arith, nat_tests, h))
 
+-- Of equal numbers neither is below the other, and they are equal either way around.
 equal-not : (a b : ℕ) → eqb a b ≡ true → (nat_lt a b ≡ false) × (nat_lt b a ≡ false) × (eqb b a ≡ true)
 equal-not a b h = (grind (arith, nat_tests, h), grind (arith, nat_tests, h), grind (arith, nat_tests, h))
 
 module _ (entry other : Entry) where
+  -- A reply of an earlier round is before the one.
   past-before : is_past entry other ≡ true → is_before other entry ≡ true
   past-before h = rw h refl
 
+  -- The one is not before a reply of an earlier round.
   past-not-behind : is_past entry other ≡ true → is_before entry other ≡ false
   past-not-behind h =
       let facts = less-not other.reply.round entry.reply.round h in
       rw (facts.0, facts.1) refl
 
+  -- Another's reply of the same round is not before the one.
   beside-not-before : is_beside entry other ≡ true → is_before other entry ≡ false
   beside-not-before h =
       let parts = and_parts (eqb other.reply.round entry.reply.round) (not (is_same other.reply.who entry.reply.who)) h in
@@ -64,6 +67,7 @@ module _ (entry other : Entry) where
       let apart : is_same other.reply.who entry.reply.who ≡ false = not-true (is_same other.reply.who entry.reply.who) parts.1 in
       rw (facts.0, parts.0, apart) refl
 
+  -- The one is not before another's reply of its round.
   beside-not-behind : is_beside entry other ≡ true → is_before entry other ≡ false
   beside-not-behind h =
       let parts = and_parts (eqb other.reply.round entry.reply.round) (not (is_same other.reply.who entry.reply.who)) h in
@@ -72,6 +76,7 @@ module _ (entry other : Entry) where
       rw (facts.1, facts.2, apart) refl
 
 module _ (entry other : Entry) where
+  -- A reply of its own with a smaller index is before the one.
   own-before : (is_own entry other && nat_lt other.reply.index entry.reply.index) ≡ true → is_before other entry ≡ true
   own-before h =
       let parts = and_parts (is_own entry other) (nat_lt other.reply.index entry.reply.index) h in
@@ -79,6 +84,7 @@ module _ (entry other : Entry) where
       let facts = equal-not other.reply.round entry.reply.round own.0 in
       rw (facts.0, own.0, own.1, parts.1) refl
 
+  -- The one is not before a reply of its own with a smaller index.
   own-not-behind : (is_own entry other && nat_lt other.reply.index entry.reply.index) ≡ true → is_before entry other ≡ false
   own-not-behind h =
       let parts = and_parts (is_own entry other) (nat_lt other.reply.index entry.reply.index) h in
@@ -87,6 +93,7 @@ module _ (entry other : Entry) where
       let less = less-not other.reply.index entry.reply.index parts.1 in
       rw (facts.1, facts.2, same-turned entry.reply.who other.reply.who ∙ own.1, less.0) refl
 
+  -- A reply of its own with a greater index is not before the one.
   rest-not-before : (is_own entry other && nat_lt entry.reply.index other.reply.index) ≡ true → is_before other entry ≡ false
   rest-not-before h =
       let parts = and_parts (is_own entry other) (nat_lt entry.reply.index other.reply.index) h in
@@ -95,6 +102,7 @@ module _ (entry other : Entry) where
       let less = less-not entry.reply.index other.reply.index parts.1 in
       rw (facts.0, own.0, own.1, less.0) refl
 
+  -- The one is before a reply of its own with a greater index.
   rest-behind : (is_own entry other && nat_lt entry.reply.index other.reply.index) ≡ true → is_before entry other ≡ true
   rest-behind h =
       let parts = and_parts (is_own entry other) (nat_lt entry.reply.index other.reply.index) h in
@@ -102,6 +110,7 @@ module _ (entry other : Entry) where
       let facts = equal-not other.reply.round entry.reply.round own.0 in
       rw (facts.1, facts.2, same-turned entry.reply.who other.reply.who ∙ own.1, parts.1) refl
 
+-- A reply is not before itself.
 not-before-itself : (entry : Entry) → is_before entry entry ≡ false
 not-before-itself entry =
     let round : nat_lt entry.reply.round entry.reply.round ≡ false = grind (arith, nat_tests) in
@@ -109,15 +118,18 @@ not-before-itself entry =
     let index : nat_lt entry.reply.index entry.reply.index ≡ false = grind (arith, nat_tests) in
     rw (round, equal, itself entry.reply.who, index) refl
 
+-- The negation of what is false is true.
 turn-not : (b : Bool) → b ≡ false → not b ≡ true
 turn-not b h = ap not h
 
+-- The negation of what is true is false.
 turn-true : (b : Bool) → b ≡ true → not b ≡ false
 turn-true b h = ap not h
 
 -- ---- the sides, kept or left
 
 module _ (q : Entry → Bool) where
+  -- What a test keeps of the replies about one is what it keeps of each of the six sides.
   split-six : (a b c : List Entry) (entry : Entry) (d e f : List Entry)
       → filter q (a ++ (b ++ (c ++ entry ∷ (d ++ (e ++ f))))) ≡ filter q a ++ (filter q b ++ (filter q c ++ (cond (q entry) (entry ∷ (filter q d ++ (filter q e ++ filter q f))) (filter q d ++ (filter q e ++ filter q f)))))
   split-six a b c entry d e f =
@@ -171,9 +183,11 @@ sides-after entries entry sides =
 -- ---- sums
 
 module _ (f : Entry → ℕ) where
+  -- A sum with one reply more in front is its value and the sum of the others.
   sum-cons : (entry : Entry) (entries : List Entry) → sum_by f (entry ∷ entries) ≡ f entry + sum_by f entries
   sum-cons entry entries = sum_by-cons f entry entries
 
+  -- A sum over two lists, a reply and two more lists is added up of these.
   sum-round : (a b : List Entry) (entry : Entry) (c d : List Entry)
       → sum_by f (a ++ (b ++ entry ∷ (c ++ d))) ≡ sum_by f a + (sum_by f b + (f entry + (sum_by f c + sum_by f d)))
   sum-round a b entry c d =
@@ -181,6 +195,7 @@ module _ (f : Entry → ℕ) where
       ∙ ap (λ n. sum_by f a + n) (sum_by-append f b (entry ∷ (c ++ d))
       ∙ ap (λ n. sum_by f b + n) (sum-cons entry (c ++ d) ∙ ap (λ n. f entry + n) (sum_by-append f c d)))
 
+  -- A sum over three lists, a reply and one more list is added up of these.
   sum-not_after : (a b c : List Entry) (entry : Entry) (d : List Entry)
       → sum_by f (a ++ (b ++ (c ++ entry ∷ d))) ≡ sum_by f a + (sum_by f b + (sum_by f c + (f entry + sum_by f d)))
   sum-not_after a b c entry d =

@@ -31,6 +31,7 @@ module _ {X : Type 0} (p : X → Bool) where
       by true h = sym h
       by false h = refl
 
+  -- As many in front as pass all pass, with one element more in front.
   front-step : (x : X) (xs : List X) (b : Bool) → p x ≡ b → (p x ≡ false → list_all (λ y. not (p y)) xs ≡ true)
       → list_all p (take (count_by p xs) xs) ≡ true → list_all p (take (cond b 1 0 + count_by p xs) (x ∷ xs)) ≡ true
   front-step x xs true is none rest =
@@ -46,6 +47,7 @@ module _ {X : Type 0} (p : X → Bool) where
   parted-front [] h = refl
   parted-front (x ∷ xs) h = rw (count-cons x xs) (front-step x xs (p x) refl h.0 (parted-front xs h.1))
 
+  -- All behind as many as pass fail, with one element more in front.
   back-step : (x : X) (xs : List X) (b : Bool) → p x ≡ b → (p x ≡ false → list_all (λ y. not (p y)) xs ≡ true)
       → list_all (λ y. not (p y)) (drop (count_by p xs) xs) ≡ true → list_all (λ y. not (p y)) (drop (cond b 1 0 + count_by p xs) (x ∷ xs)) ≡ true
   back-step x xs true is none rest =
@@ -82,7 +84,8 @@ module _ {X : Type 0} (p : X → Bool) where
   all-drop-take (suc m) (suc n) [] h = refl
   all-drop-take (suc m) (suc n) (x ∷ xs) h = all-drop-take m n xs h
 
-  -- how far a front may reach whose elements all pass, where this one fails; and how near a back, where this one passes
+  -- how far a front may reach whose elements all pass, where this one fails; and how near a back,
+  -- where this one passes
   pub front-reaches : (n : ℕ) (front : List X) (x : X) (rest : List X) → p x ≡ false → list_all p (take n (front ++ x ∷ rest)) ≡ true → n ≤ length front
   front-reaches zero front x rest is h = omega arith
   front-reaches (suc n) [] x rest is h =

@@ -13,11 +13,13 @@ use Rattle.outcome_check.specs.Sides.{Sides, is_past, is_beside, is_own}
 use Rattle.outcome_check.proofs.Order.{sides-before, sides-not_after, sides-after}
 use Rattle.outcome_check.proofs.Pieces.{Parted, parted-front, parted-back, all-drop, all-drop-take, front-reaches, back-reaches, all-weaker, all-both, cut-between, drop-between, count-weaker}
 
+-- The other reply is of no later round.
 abbrev is_up_to_round : Entry → Entry → Bool
 is_up_to_round entry other = nat_le other.reply.round entry.reply.round
 
 -- ---- facts of two or three replies
 
+-- Who is earlier than another is not the same one.
 earlier-apart : (a b : Who) → is_earlier a b ≡ true → is_same a b ≡ false
 earlier-apart (Session a) (Session b) h = grind (arith, nat_tests)
 earlier-apart (Session a) (Worker b) h = refl
@@ -38,6 +40,7 @@ same-is (Session a) (Worker b) h = absurd (let never : ⊥ = cc in never)
 same-is (Worker a) (Session b) h = absurd (let never : ⊥ = cc in never)
 same-is (Worker a) (Worker b) h = let e : a ≡ b = grind (arith, nat_tests) in ap (λ n. Worker n) e
 
+-- Who is earlier than one that is earlier than a third is earlier than the third.
 earlier-trans : (a b c : Who) → is_earlier a b ≡ true → is_earlier b c ≡ true → is_earlier a c ≡ true
 earlier-trans (Session a) (Session b) (Session c) h k = grind (arith, nat_tests)
 earlier-trans (Session a) (Session b) (Worker c) h k = refl
@@ -71,6 +74,7 @@ pub record Own (x y : Entry) : Type 0 where
   pub who : x.reply.who ≡ y.reply.who
   pub index : x.reply.index < y.reply.index
 
+-- A reply that is among is of an earlier round, or of the same one and to a chosen one.
 among-parts : (chosen : Who → Bool) (entry other : Entry) → is_among chosen entry other ≡ true
     → (other.reply.round < entry.reply.round) ⊎ ((other.reply.round ≡ entry.reply.round) × (chosen other.reply.who ≡ true))
 among-parts chosen entry other h = by (or_cases (is_past entry other) (eqb other.reply.round entry.reply.round && chosen other.reply.who) h)
@@ -82,10 +86,12 @@ among-parts chosen entry other h = by (or_cases (is_past entry other) (eqb other
         let parts = and_parts (eqb other.reply.round entry.reply.round) (chosen other.reply.who) beside in
         inr (eqb-true other.reply.round entry.reply.round parts.0, parts.1)
 
+-- A reply of an earlier round is among, whoever is chosen.
 among-past : (chosen : Who → Bool) (entry other : Entry) → other.reply.round < entry.reply.round → is_among chosen entry other ≡ true
 among-past chosen entry other h =
     or_left (is_past entry other) (eqb other.reply.round entry.reply.round && chosen other.reply.who) (grind (arith, nat_tests))
 
+-- A reply of the same round to a chosen one is among.
 among-beside : (chosen : Who → Bool) (entry other : Entry) → other.reply.round ≡ entry.reply.round → chosen other.reply.who ≡ true → is_among chosen entry other ≡ true
 among-beside chosen entry other round h =
     or_right (is_past entry other) (eqb other.reply.round entry.reply.round && chosen other.reply.who)
@@ -110,6 +116,7 @@ ahead-cases x y h = by (or_cases (is_in_front y x) (is_own y x && nat_lt x.reply
           index = ltb-true x.reply.index y.reply.index parts.1;
         }))
 
+-- The reply that another is ahead of is of no earlier round.
 no-earlier-round : (x y : Entry) → is_ahead x y ≡ true → x.reply.round ≤ y.reply.round
 no-earlier-round x y h = by (ahead-cases x y h)
   where
@@ -120,12 +127,14 @@ no-earlier-round x y h = by (ahead-cases x y h)
 
 -- ---- tests that fail from some reply on
 
+-- Behind a reply that is not of an earlier round none is.
 past-stays : (entry x y : Entry) → is_ahead x y ≡ true → is_past entry x ≡ false → not (is_past entry y) ≡ true
 past-stays entry x y ahead fails =
     let low = no-earlier-round x y ahead in
     let e : is_past entry y ≡ false = grind (arith, nat_tests, low, fails) in
     not_from_false (is_past entry y) e
 
+-- Behind a reply that is of a later round each is.
 round-stays : (entry x y : Entry) → is_ahead x y ≡ true → is_up_to_round entry x ≡ false → not (is_up_to_round entry y) ≡ true
 round-stays entry x y ahead fails =
     let low = no-earlier-round x y ahead in
@@ -136,6 +145,7 @@ round-stays entry x y ahead fails =
 abbrev IsFront : (Who → Bool) → Type 0
 IsFront chosen = (a b : Who) → is_earlier a b ≡ true → chosen b ≡ true → chosen a ≡ true
 
+-- Behind a reply that is not among none is, where the choice is a front.
 among-stays : (chosen : Who → Bool) → IsFront chosen → (entry x y : Entry) → is_ahead x y ≡ true → is_among chosen entry x ≡ false → not (is_among chosen entry y) ≡ true
 among-stays chosen fronts entry x y ahead fails =
     not_from_false (is_among chosen entry y) (false_from_ne_true (is_among chosen entry y)
@@ -152,9 +162,11 @@ among-stays chosen fronts entry x y ahead fails =
     back (inr (inr o)) (inl past) = among-past chosen entry x (omega (arith, o.round, past))
     back (inr (inr o)) (inr same) = among-beside chosen entry x (o.round ∙ same.0) (subst (λ (w : Who). chosen w ≡ true) (sym o.who) same.1)
 
+-- Those that are earlier than one are a front.
 earlier-front : (who : Who) → IsFront (λ w. is_earlier w who)
 earlier-front who a b h k = earlier-trans a b who h k
 
+-- Those that are up to one are a front.
 up-to-front : (who : Who) → IsFront (λ w. is_up_to w who)
 up-to-front who a b h k = by (or_cases (is_earlier b who) (is_same b who) k)
   where
@@ -164,6 +176,7 @@ up-to-front who a b h k = by (or_cases (is_earlier b who) (is_same b who) k)
 
 -- ---- so the replies are parted
 
+-- Replies that rise are parted by a test that fails behind each that fails.
 parted-by : (p : Entry → Bool) → ((x y : Entry) → is_ahead x y ≡ true → p x ≡ false → not (p y) ≡ true) → (entries : List Entry) → Rises entries → Parted p entries
 parted-by p stays [] h = tt
 parted-by p stays (x ∷ entries) h = (
@@ -215,9 +228,11 @@ beside-front entry other late front = by (or_cases (is_past entry other) (eqb ot
         and_from (eqb other.reply.round entry.reply.round) (not (is_same other.reply.who entry.reply.who)) parts.0
         (not_from_false (is_same other.reply.who entry.reply.who) (earlier-apart other.reply.who entry.reply.who parts.1))
 
+-- Sessions or workers that are one are taken as one.
 same-of : (a b : Who) → a ≡ b → is_same a b ≡ true
 same-of a b e = subst (λ (w : Who). is_same a w ≡ true) e (same-itself a)
 
+-- What is ahead of a reply and not in front of its own is its own, with a smaller index.
 own-front : (entry other : Entry) → not (is_in_front entry other) ≡ true → is_ahead other entry ≡ true → (is_own entry other && nat_lt other.reply.index entry.reply.index) ≡ true
 own-front entry other late ahead = by (or_cases (is_in_front entry other) (is_own entry other && nat_lt other.reply.index entry.reply.index) ahead)
   where
@@ -271,40 +286,52 @@ beside-back entry other ahead h =
         let never : true ≡ false = sym e ∙ f in
         let impossible : ⊥ = cc in impossible
 
+-- A reply that is not up to the round of one is of a later round.
 later-back : (entry other : Entry) → not (is_up_to_round entry other) ≡ true → is_past other entry ≡ true
 later-back entry other h = let e = not-true (is_up_to_round entry other) h in grind (arith, nat_tests, e)
 
 module _ (front : List Entry) (entry : Entry) (rest : List Entry) (rises : Rises (front ++ entry ∷ rest)) where
+  -- All replies: those in front, the one and those behind it.
   abbrev es : List Entry
   es = front ++ entry ∷ rest
 
+  -- The place of the reply.
   abbrev at : ℕ
   at = length front
 
+  -- The place at which the reply's round begins.
   abbrev rs : ℕ
   rs = round_start es entry
 
+  -- The place at which its own of the round begin.
   abbrev os : ℕ
   os = own_start es entry
 
+  -- The place at which its own of the round end.
   abbrev oe : ℕ
   oe = own_end es entry
 
+  -- The place at which the reply's round ends.
   abbrev re : ℕ
   re = round_end es entry
 
+  -- The replies of earlier rounds stand in front of all others.
   past-parted : Parted (is_past entry) es
   past-parted = past-parts entry es rises
 
+  -- The replies in front of the reply's own stand in front of all others.
   front-parted : Parted (is_in_front entry) es
   front-parted = front-parts entry es rises
 
+  -- The replies up to the reply's own stand in front of all others.
   own-parted : Parted (is_up_to_own entry) es
   own-parted = own-parts entry es rises
 
+  -- The replies up to the reply's round stand in front of all others.
   round-parted : Parted (is_up_to_round entry) es
   round-parted = round-parts entry es rises
 
+  -- The reply is not in front of its own.
   itself-not-front : is_in_front entry entry ≡ false
   itself-not-front =
       let round : nat_lt entry.reply.round entry.reply.round ≡ false = grind (arith, nat_tests) in
@@ -315,6 +342,7 @@ module _ (front : List Entry) (entry : Entry) (rest : List Entry) (rises : Rises
       and-false true = refl
       and-false false = refl
 
+  -- The reply is up to its own.
   itself-own : is_up_to_own entry entry ≡ true
   itself-own = among-beside (λ w. is_up_to w entry.reply.who) entry entry refl (or_right (is_earlier entry.reply.who entry.reply.who) (is_same entry.reply.who entry.reply.who) (same-itself entry.reply.who))
 
@@ -338,12 +366,15 @@ module _ (front : List Entry) (entry : Entry) (rest : List Entry) (rises : Rises
       in-round x (inl less) = grind (arith, nat_tests, less)
       in-round x (inr same) = let e = same.0 in grind (arith, nat_tests, e)
 
+  -- Up to its place stand those in front of the reply.
   front-is : take at es ≡ front
   front-is = take_at front (entry ∷ rest) at refl
 
+  -- Behind its place stand those behind the reply.
   rest-is : drop (at + 1) es ≡ rest
   rest-is = ap (λ ys. drop (at + 1) ys) (sym (append_assoc front (entry ∷ []) rest)) ∙ drop_at (front ++ entry ∷ []) rest (at + 1) (length-append front (entry ∷ []))
 
+  -- The reply is ahead of all that stand from a place behind it on.
   ahead-from : (n : ℕ) → at < n → list_all (is_ahead entry) (drop n es) ≡ true
   ahead-from n h =
       let e : at + 1 + (n - (at + 1)) ≡ n = omega (arith, h) in
@@ -351,17 +382,20 @@ module _ (front : List Entry) (entry : Entry) (rest : List Entry) (rises : Rises
       subst (λ (ys : List Entry). list_all (is_ahead entry) ys ≡ true) cut
       (all-drop (is_ahead entry) (n - (at + 1)) (drop (at + 1) es) (subst (λ (ys : List Entry). list_all (is_ahead entry) ys ≡ true) (sym rest-is) (rest-behind front entry rest rises)))
 
+  -- Those in front are cut where its round and where its own begin.
   front-cut : front ≡ take rs es ++ (between rs os es ++ between os at es)
   front-cut =
       sym front-is ∙ cut-between os at es os-at
       ∙ ap (λ ys. ys ++ between os at es) (cut-between rs os es rs-os)
       ∙ append_assoc (take rs es) (between rs os es) (between os at es)
 
+  -- Those behind are cut where its own and where its round end.
   rest-cut : rest ≡ between (at + 1) oe es ++ (between oe re es ++ drop re es)
   rest-cut =
       let low : at + 1 ≤ oe = omega (arith, at-oe) in
       sym rest-is ∙ drop-between (at + 1) oe es low ∙ ap (λ ys. between (at + 1) oe es ++ ys) (drop-between oe re es oe-re)
 
+  -- Three lists with a fourth behind them are the first with the others behind it.
   regroup : (a b c : List Entry) (d : List Entry) → (a ++ (b ++ c)) ++ d ≡ a ++ (b ++ (c ++ d))
   regroup a b c d = append_assoc a (b ++ c) d ∙ ap (λ ys. a ++ ys) (append_assoc b c d)
 
@@ -394,6 +428,7 @@ module _ (front : List Entry) (entry : Entry) (rest : List Entry) (rises : Rises
     later_are = all-weaker (λ x. not (is_up_to_round entry x)) (λ x. is_past x entry) (later-back entry) (drop re es) (parted-back (is_up_to_round entry) es round-parted);
   }
 
+  -- Up to the place behind it stand those in front and the reply.
   front-more : take (at + 1) es ≡ front ++ entry ∷ []
   front-more = ap (λ ys. take (at + 1) ys) (sym (append_assoc front (entry ∷ []) rest)) ∙ take_at (front ++ entry ∷ []) rest (at + 1) (length-append front (entry ∷ []))
 
@@ -417,6 +452,7 @@ module _ (front : List Entry) (entry : Entry) (rest : List Entry) (rises : Rises
   unfolding sides
   places-after = sides-after es entry sides
 
+-- What is before a reply, not after it and after it stands between these places.
 abbrev Stands : List Entry → Entry → List Entry → Type 0
 Stands front entry es = (before es entry ≡ take (round_start es entry) es ++ between (own_start es entry) (length front) es)
     × (not_after es entry ≡ take (length front + 1) es ++ between (own_end es entry) (round_end es entry) es)
@@ -432,6 +468,7 @@ by-places front entry rest entries whole rises =
     subst (Stands front entry) (sym whole) (places-before front entry rest r, places-not_after front entry rest r, places-after front entry rest r)
 
 module _ (front : List Entry) (entry : Entry) (rest : List Entry) (rises : Rises (front ++ entry ∷ rest)) where
+  -- Behind the reply, up to where its own end, all are its own.
   own-behind : list_all (is_own entry) (between (length front + 1) (own_end (front ++ entry ∷ rest) entry) (front ++ entry ∷ rest)) ≡ true
   unfolding sides
   own-behind =
@@ -439,6 +476,7 @@ module _ (front : List Entry) (entry : Entry) (rest : List Entry) (rises : Rises
       (λ other h. (and_parts (is_own entry other) (nat_lt entry.reply.index other.reply.index) h).0)
       (between (length front + 1) (own_end (front ++ entry ∷ rest) entry) (front ++ entry ∷ rest)) (sides front entry rest rises).rest_are
 
+  -- From where its own end to where its round ends, all are others' of its round.
   beside-behind : list_all (is_beside entry) (between (own_end (front ++ entry ∷ rest) entry) (round_end (front ++ entry ∷ rest) entry) (front ++ entry ∷ rest)) ≡ true
   unfolding sides
   beside-behind = (sides front entry rest rises).back_are

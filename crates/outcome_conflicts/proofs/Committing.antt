@@ -20,20 +20,25 @@ use Rattle.outcome_conflicts.proofs.Whos.{same-is, same-itself}
 abbrev pub Among : {X : Type 0} → X → List X → Type 0
 Among {X} x xs = (q : X → Bool) → q x ≡ true → list_any q xs ≡ true
 
+-- Where the second of two is true, so is their disjunction.
 or-right : (a b : Bool) → b ≡ true → (a || b) ≡ true
 or-right true b h = refl
 or-right false b h = h
 
+-- Where the first of two is true, so is their disjunction.
 or-left : (a b : Bool) → a ≡ true → (a || b) ≡ true
 or-left true b h = refl
 or-left false b h = absurd (let never : ⊥ = cc in never)
 
+-- A list has its first element.
 among-first : {X : Type 0} (x : X) (xs : List X) → Among x (x ∷ xs)
 among-first x xs q is = or-left (q x) (list_any q xs) is
 
+-- What a list has it has with one element more in front.
 among-behind : {X : Type 0} (x y : X) (xs : List X) → Among x xs → Among x (y ∷ xs)
 among-behind x y xs h q is = or-right (q y) (list_any q xs) (h q is)
 
+-- Where all elements pass, none fails.
 none-fails : {X : Type 0} (p : X → Bool) (xs : List X) → list_all p xs ≡ true → list_any (λ x. not (p x)) xs ≡ false
 none-fails p [] h = refl
 none-fails p (x ∷ xs) h =
@@ -48,10 +53,12 @@ all-at p xs x h among = by (p x) refl
     by true is = refl
     by false is = absurd (let e : list_any (λ y. not (p y)) xs ≡ true = among (λ y. not (p y)) (ap not is) in let f = none-fails p xs h in let never : true ≡ false = sym e ∙ f in let impossible : ⊥ = cc in impossible)
 
+-- Where each element that a list has passes, all pass.
 all-from : {X : Type 0} (p : X → Bool) (xs : List X) → ((x : X) → Among x xs → p x ≡ true) → list_all p xs ≡ true
 all-from p [] h = refl
 all-from p (x ∷ xs) h = and_from (p x) (list_all p xs) (h x (among-first x xs)) (all-from p xs (λ y among. h y (among-behind y x xs among)))
 
+-- All that a test keeps pass it.
 filter-passes : {X : Type 0} (p : X → Bool) (xs : List X) → list_all p (filter p xs) ≡ true
 filter-passes p [] = refl
 filter-passes p (x ∷ xs) = by (p x) refl (filter-passes p xs)
@@ -60,11 +67,13 @@ filter-passes p (x ∷ xs) = by (p x) refl (filter-passes p xs)
     by true is rest = rw (is, is) rest
     by false is rest = rw is rest
 
+-- An element that a list has and that passes is among those kept.
 among-filter : {X : Type 0} (p : X → Bool) (xs : List X) (x : X) → Among x xs → p x ≡ true → Among x (filter p xs)
 among-filter p xs x among is q its = any-filter q p xs ∙ among (λ y. q y && p y) (and_from (q x) (p x) its is)
 
 -- ---- the highest
 
+-- Where no value is above a bound, the highest is not.
 highest-within : {X : Type 0} (value : X → ℕ) (bound : ℕ) (xs : List X) → ((x : X) → Among x xs → value x ≤ bound) → highest value xs ≤ bound
 highest-within value bound [] h = omega arith
 highest-within value bound (x ∷ xs) h =
@@ -72,6 +81,7 @@ highest-within value bound (x ∷ xs) h =
     let rest = highest-within value bound xs (λ y among. h y (among-behind y x xs among)) in
     omega (arith, first, rest)
 
+-- Where some value is at least a number, the highest is at least that.
 any-low : {X : Type 0} (value : X → ℕ) (n : ℕ) (xs : List X) → list_any (λ x. nat_le n (value x)) xs ≡ true → n ≤ highest value xs
 any-low value n [] h = absurd (let never : ⊥ = cc in never)
 any-low value n (x ∷ xs) h = by (nat_le n (value x)) refl h (any-low value n xs)
@@ -80,6 +90,7 @@ any-low value n (x ∷ xs) h = by (nat_le n (value x)) refl h (any-low value n x
     by true is k rest = let low : n ≤ value x = grind (arith, nat_tests, is) in omega (arith, low)
     by false is k rest = let low = rest k in omega (arith, low)
 
+-- The highest is no less than the value of an element.
 highest-above : {X : Type 0} (value : X → ℕ) (xs : List X) (x : X) → Among x xs → value x ≤ highest value xs
 highest-above value xs x among = any-low value (value x) xs (among (λ y. nat_le (value x) (value y)) (grind (arith, nat_tests)))
 
@@ -115,6 +126,7 @@ reply-before x y entry h =
     ∙ ap (λ (w : Who). nat_lt y.reply.round entry.reply.round || ((eqb y.reply.round entry.reply.round && is_same w entry.reply.who) && nat_lt x.reply.index entry.reply.index)) who
     ∙ ap (λ (n : ℕ). nat_lt y.reply.round entry.reply.round || ((eqb y.reply.round entry.reply.round && is_same y.reply.who entry.reply.who) && nat_lt n entry.reply.index)) index
 
+-- A number that is tested to be the one shown is shown.
 shown-is : (number : ℕ) (shown : Option ℕ) → option_map_or (λ n. n == number) shown false ≡ true → shown ≡ Some number
 shown-is number None h = absurd (let never : ⊥ = cc in never)
 shown-is number (Some n) h = ap (λ (k : ℕ). Some k) (eqb-true n number h)
@@ -122,6 +134,7 @@ shown-is number (Some n) h = ap (λ (k : ℕ). Some k) (eqb-true n number h)
 -- ---- none of the numbers above a bound is before
 
 module _ (entries : List Entry) (entry : Entry) (numbers : List ℕ) where
+  -- The number of which a reply is the line, if it is one of these, else zero.
   abbrev value : Entry → ℕ
   value x = number_told entries numbers x
 
@@ -133,6 +146,7 @@ module _ (entries : List Entry) (entry : Entry) (numbers : List ℕ) where
   abbrev pub is_free : ℕ → ℕ → Bool
   is_free bound later = nat_le later bound || not (comes_before later)
 
+  -- A number that is tested to be in the list is one that it has.
   number-among : (number : ℕ) → is_number_in numbers number ≡ true → Among number numbers
   number-among number h q is =
       let at = found-in (λ its. its == number) numbers h in

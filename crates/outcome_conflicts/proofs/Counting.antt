@@ -9,6 +9,7 @@ use Rattle.outcome_conflicts.specs.Writers.{count_up_to, is_number_in}
 
 -- ---- one is there where more are up to it than below it
 
+-- No more numbers are below a number than up to it.
 below-up : (number : ℕ) (xs : List ℕ) → count_below number xs ≤ count_up_to number xs
 below-up number xs = count-weaker (λ x. nat_lt x number) (λ x. nat_le x number) (λ x h. grind (arith, nat_tests, h)) xs
 
@@ -45,15 +46,18 @@ all-filter p q (x ∷ xs) = by (q x) refl (all-filter p q xs)
     by true is rest = rw is (ap (λ (b : Bool). p x && b) rest)
     by false is rest = rw is rest
 
+-- Where each element passes, all of a list do.
 all-true : {X : Type 0} (p : X → Bool) → ((x : X) → p x ≡ true) → (xs : List X) → list_all p xs ≡ true
 all-true p is [] = refl
 all-true p is (x ∷ xs) = and_from (p x) (list_all p xs) (is x) (all-true p is xs)
 
 -- ---- none is above a bound and below another where no more are below the one than up to the other
 
+-- The number is not above the low bound, or it is no less than the high one.
 abbrev kept : ℕ → ℕ → ℕ → Bool
 kept low high x = not (nat_lt low x) || nat_le high x
 
+-- No more are below the high bound than up to the low one exactly where each is kept.
 none-above : (low high : ℕ) → low < high → (xs : List ℕ) → nat_le (count_below high xs) (count_up_to low xs) ≡ list_all (kept low high) xs
 none-above low high h [] = refl
 none-above low high h (x ∷ xs) =

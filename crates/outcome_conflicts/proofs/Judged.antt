@@ -28,24 +28,31 @@ use Rattle.outcome_conflicts.proofs.Tops.{names-by, passes-by}
 
 module _ (replies : List KeptReply) (at : ℕ) (stretch : Stretch) (asked : IsAsked replies at stretch) (rivals : Rivals) (held : AreRivals (entries_of replies) (length replies) rivals)
     (reply : KeptReply) (is : reply ≡ slice_index_or replies at reply) (small : reply.round < 2 ^ 32) where
+  -- The replies as they are judged.
   abbrev es : List Entry
   es = entries_of replies
 
+  -- The reply that is judged.
   abbrev e : Entry
   e = entry_of reply
 
+  -- The reply is kept at its place.
   its : KeptAt replies at reply
   its = kept-at replies at reply asked.inside is
 
+  -- The places about the judged reply stand in order.
   order : InOrder es e (length its.front)
   order = in-order es its.front e its.rest its.whole asked.rises
 
+  -- The replies to judge are as many as the kept ones.
   long : length es ≡ length replies
   long = length-map replies entry_of
 
+  -- The reply that is asked for at the place is the judged one.
   same : (none : KeptReply) → asked_at replies at none ≡ e
   same none = sym (asked-is replies at reply none asked.inside is)
 
+  -- The round behind the reply's is below the bound that stands for no end.
   round : e.reply.round + 1 < 2 ^ 33
   round = let s = small in omega (arith, s)
 

@@ -36,24 +36,29 @@ lead-kept false false others most value apart low = omega (arith, low)
 
 -- ---- an element more
 
+-- Where all elements pass the test, it keeps them all.
 filter-all : {X : Type 0} (p : X → Bool) (xs : List X) → list_all p xs ≡ true → filter p xs ≡ xs
 filter-all p [] h = refl
 filter-all p (x ∷ xs) h =
     let parts = and_parts (p x) (list_all p xs) h in
     rw parts.0 (ap (λ (ys : List _). x ∷ ys) (filter-all p xs parts.1))
 
+-- Where all elements pass and one more does, all of them with it do.
 all-push : {X : Type 0} (p : X → Bool) (xs : List X) (x : X) → list_all p xs ≡ true → p x ≡ true → list_all p (xs ++ x ∷ []) ≡ true
 all-push p xs x h k = list_all-append p xs (x ∷ []) ∙ rw (h, k) refl
 
+-- Where all elements pass, the one at each place does.
 all-get : {X : Type 0} (p : X → Bool) (xs : List X) (i : ℕ) (d : X) → i < length xs → list_all p xs ≡ true → p (get_or xs i d) ≡ true
 all-get p [] i d within h = absurd (omega (arith, within))
 all-get p (x ∷ xs) zero d within h = (and_parts (p x) (list_all p xs) h).0
 all-get p (x ∷ xs) (suc i) d within h = all-get p xs i d (omega (arith, within)) (and_parts (p x) (list_all p xs) h).1
 
+-- The last of a list with one element more is this element.
 last-push : {X : Type 0} (first : Option X) (xs : List X) (x : X) → last_or first (xs ++ x ∷ []) ≡ Some x
 last-push first [] x = refl
 last-push first (y ∷ xs) x = last-push (Some y) xs x
 
+-- A place up to the next is up to this one, or it is the next.
 up-to-next : (place n : ℕ) → place ≤ n + 1 → (place ≤ n) ⊎ (place ≡ n + 1)
 up-to-next place n h = by (cases_lt n place)
   where
@@ -61,19 +66,23 @@ up-to-next place n h = by (cases_lt n place)
     by (inl above) = inr (omega (arith, above, h))
     by (inr low) = inl low
 
+-- Leads that are all below a place are all below one that is no less.
 lower : (m n : ℕ) → m ≤ n → (leads : List Lead) → list_all (λ (lead : Lead). nat_lt lead.place m) leads ≡ true → list_all (λ (lead : Lead). nat_lt lead.place n) leads ≡ true
 lower m n h leads k = all-weaker (λ (lead : Lead). nat_lt lead.place m) (λ (lead : Lead). nat_lt lead.place n) (λ lead is. lt-ltb lead.place n (let low = ltb-true lead.place m is in omega (arith, low, h))) leads k
 
 module _ {X : Type 0} (whose : X → Who) (value : X → ℕ) (xs front : List X) (x : X) (rest : List X) (n : ℕ) (whole : xs ≡ front ++ x ∷ rest) (far : length front ≡ n)
     (leads : List Lead) (noted : AreLeads whose value xs n leads) where
+  -- Below the next element's place and each behind it the last lead is the last of all.
   last-is : (k : ℕ) → n ≤ k → lead_below k leads ≡ last_or None leads
   last-is k h = ap (last_or None) (filter-all (λ (lead : Lead). nat_lt lead.place k) leads (lower n k h leads noted.within))
 
+  -- With the next element the highest of all but one is the greater of the old one and its own.
   highest-next : (own : Who) → highest (but_own own whose value) (take (n + 1) xs) ≡ max (highest (but_own own whose value) (take n xs)) (but_own own whose value x)
   highest-next own =
       ap (highest (but_own own whose value)) (take-next xs front x rest n whole far) ∙ highest-append (but_own own whose value) (take n xs) (x ∷ [])
       ∙ (let e : max (but_own own whose value x) 0 ≡ but_own own whose value x = omega arith in ap (max (highest (but_own own whose value) (take n xs))) e)
 
+  -- A value of zero is zero for all but one, whoever this is.
   none-own : value x ≡ 0 → (own : Who) → but_own own whose value x ≡ 0
   none-own none own = by (is_same (whose x) own)
     where
@@ -81,6 +90,7 @@ module _ {X : Type 0} (whose : X → Who) (value : X → ℕ) (xs front : List X
       by true = refl
       by false = none
 
+  -- Where the next value is zero, the leads tell the highest up to the next place too.
   missed : value x ≡ 0 → (own : Who) (place : ℕ) → (place ≤ n) ⊎ (place ≡ n + 1) → but_of own (lead_below place leads) ≡ highest (but_own own whose value) (take place xs)
   missed none own place (inl low) = noted.most own place low
   missed none own place (inr at) =

@@ -35,6 +35,7 @@ writes-keyed of None (Some write) h = absurd (let never : ⊥ = cc in never)
 writes-keyed of (Some key) None h = absurd (let never : ⊥ = cc in never)
 writes-keyed of (Some key) (Some write) h = let e : place_in key ≡ write.0 = cc in ap (λ (p : Place). is_place p (place_in of)) e
 
+-- Three comparisons in turn are equal where the second is and the others in turn are.
 then-swapped : (a b c : Ordering) → is_eq (ordering_then a (ordering_then b c)) ≡ (is_eq b && is_eq (ordering_then a c))
 then-swapped Less Less c = refl
 then-swapped Less Equal c = refl
@@ -54,6 +55,7 @@ writer-same a b =
 
 -- ---- a reply more
 
+-- Places that each begin at themselves are starts of what is held.
 same-starts : (xs : List Held) → AreStarts xs (λ place. place)
 same-starts xs = record {
   up_to = λ place inside. omega arith;
@@ -86,6 +88,7 @@ rivals-nil entries rivals writers leads = record {
 
 -- ---- keys that compare as one are one
 
+-- Where two comparisons in turn are equal, each of them is.
 then-equal : (a b : Ordering) → is_eq (ordering_then a b) ≡ true → (a ≡ Equal) × (b ≡ Equal)
 then-equal Less b h = absurd (let never : ⊥ = cc in never)
 then-equal Equal Less h = absurd (let never : ⊥ = cc in never)
@@ -93,6 +96,7 @@ then-equal Equal Equal h = (refl, refl)
 then-equal Equal Greater h = absurd (let never : ⊥ = cc in never)
 then-equal Greater b h = absurd (let never : ⊥ = cc in never)
 
+-- A comparison with the answer equal tests as equal.
 equal-eq : (o : Ordering) → o ≡ Equal → is_eq o ≡ true
 equal-eq o h = ap is_eq h
 

@@ -17,10 +17,12 @@ pub record IsLine (entries : List Entry) (taken number : ℕ) (place : Option �
   pub line : option_and_then (slice_get entries) place ≡ find (commits_as number) (take taken entries)
   pub there : is_some place ≡ is_some (find (commits_as number) (take taken entries))
 
+-- A number is keyed by what is shown exactly where it is the one shown.
 keyed-as : (number : ℕ) (shown : Option ℕ) → is_keyed nat_cmp number shown ≡ option_map_or (λ n. n == number) shown false
 keyed-as number None = refl
 keyed-as number (Some n) = nat-same n number
 
+-- With a reply more, the place that is kept has the line found before, or else this reply.
 step-line : (entries : List Entry) (n : ℕ) (entry : Entry) (old : Option ℕ) (found : Option Entry) (keyed : Bool) → option_and_then (slice_get entries) old ≡ found → is_some old ≡ is_some found → slice_get entries n ≡ Some entry
     → option_and_then (slice_get entries) (option_or old (if keyed then Some n else None)) ≡ option_or found (if keyed then Some entry else None)
 step-line entries n entry None None true is there at = at
@@ -29,6 +31,7 @@ step-line entries n entry None (Some found) keyed is there at = absurd (let neve
 step-line entries n entry (Some old) None keyed is there at = absurd (let never : ⊥ = cc in never)
 step-line entries n entry (Some old) (Some found) keyed is there at = is
 
+-- With a reply more, a place is kept exactly where a line is found.
 step-there : (n : ℕ) (entry : Entry) (old : Option ℕ) (found : Option Entry) (keyed : Bool) → is_some old ≡ is_some found
     → is_some (option_or old (if keyed then Some n else None)) ≡ is_some (option_or found (if keyed then Some entry else None))
 step-there n entry None None true there = refl

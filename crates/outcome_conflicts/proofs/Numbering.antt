@@ -54,6 +54,7 @@ on-each-of (Err e) f g h same next = tt
 
 -- ---- a mark is put once
 
+-- What is true when negated is false.
 not-true : (b : Bool) → not b ≡ true → b ≡ false
 not-true true h = absurd (let never : ⊥ = cc in never)
 not-true false h = refl
@@ -63,10 +64,12 @@ pub or-none : (b : Bool) → (b || false) ≡ b
 or-none true = refl
 or-none false = refl
 
+-- The last of a list with one element more is this element.
 last-push : {X : Type 0} (o : Option X) (xs : List X) (x : X) → last_or o (xs ++ x ∷ []) ≡ Some x
 last-push o [] x = refl
 last-push o (y ∷ xs) x = last-push (Some y) xs x
 
+-- Where none of some marks is seen, the last of them is not seen.
 last-none : {X : Type 0} (seen : X → Bool) (xs : List X) → list_all (λ x. not (seen x)) xs ≡ true → (o : Option X) → option_map_or seen o false ≡ false → option_map_or seen (last_or o xs) false ≡ false
 last-none seen [] h o is = is
 last-none seen (x ∷ xs) h o is =
@@ -98,6 +101,7 @@ written-step of bound own i change next b is =
 
 -- ---- what a write set has
 
+-- A write set with changes entered has a place that it had, or that a change has.
 entered-writes : (place : Place) (changes : List (Place × Option (List Cell))) (writes : WriteSet)
     → writes_place place (entered writes changes) ≡ (writes_place place writes || list_any (λ (c : Place × Option (List Cell)). is_place place c.0) changes)
 entered-writes place [] writes = sym (or-none (writes_place place writes))
@@ -112,6 +116,7 @@ entered-writes place (change ∷ changes) writes =
     by true (Some row) = refl
     by false o = refl
 
+-- The changes up to a bound have a row's place exactly where the row is written up to it.
 changed-any : (of : RowKey) (bound : ℕ) (own : List Change)
     → list_any (λ (c : Place × Option (List Cell)). is_place (place_in of) c.0) (changes_of (up_to bound (map written_by own))) ≡ is_written of bound own
 changed-any of bound [] = refl
@@ -128,6 +133,7 @@ changed-any of bound (change ∷ own) = by (nat_le change.left.time bound) (chan
 -- ---- what a commit wrote
 
 module _ (openings : List (Option ℕ)) (entries : List Entry) (output : IsOutput openings entries) (changes : Changes) (changed : AreChanges openings entries (length entries) changes) where
+  -- Where the transactions of the replies were opened.
   abbrev os : List (Option ℕ)
   os = openings_in entries
 
@@ -139,12 +145,15 @@ module _ (openings : List (Option ℕ)) (entries : List Entry) (output : IsOutpu
   abbrev pub wrote_at : RowKey → Option ℕ → Bool
   wrote_at of first = option_map_or (λ place. wrote_from of place (opening_of openings place)) first false
 
+  -- What the transaction of a line wrote, if there is such a line.
   abbrev of_line : Option Entry → WriteSet
   of_line line = option_map_or (λ t. writes_in t.replies) (option_and_then (transaction_with (transactions_of entries)) line) []
 
+  -- The changes that are kept of an owner are its own writes.
   own : (owner : ℕ) → map written_by (marks_at nat_cmp changes.own owner) ≡ own_writes owner 0 os entries
   own owner = changes-all openings entries output.own.long changes changed owner ∙ ap (λ (o : List (Option ℕ)). own_writes owner 0 o entries) output.each
 
+  -- What a commit's line wrote has a row where the changes kept of its transaction have it.
   wrote-found : (of : RowKey) (number place : ℕ) → (first : FirstAt (commits_as number) 0 entries place) → (opening : Option ℕ) → opening_of openings place ≡ opening
       → writes_place (place_in of) (of_line (Some first.entry)) ≡ wrote_from of place opening
   wrote-found of number place first None is =
@@ -181,6 +190,7 @@ history-at entries at inside =
     ap (λ (n : ℕ). slice_index_or (history_in entries) n []) back
     ∙ get_or-map-range_with_len (committed_writes entries (transactions_of entries)) 1 (commit_count entries) at (at + 1) [] inside (omega arith)
 
+-- A number that is put behind others, or not, is a mark that is put or not.
 put-by : (b : Bool) (xs : List ℕ) (n : ℕ) → xs ++ cond b (n ∷ []) [] ≡ with_mark b n xs
 put-by true xs n = refl
 put-by false xs n = push-none xs
@@ -198,11 +208,13 @@ numbers-next entries at place inside =
     ∙ put-by (test (at + 1)) (numbers_up_to at entries place) (at + 1)
     ∙ ap (λ (b : Bool). with_mark b (at + 1) (numbers_up_to at entries place)) is
 
+-- Where all elements pass, the one at each place does.
 below-got : {X : Type 0} (test : X → Bool) (xs : List X) (i : ℕ) (d : X) → i < length xs → list_all test xs ≡ true → test (get_or xs i d) ≡ true
 below-got test [] i d within h = absurd (omega (arith, within))
 below-got test (x ∷ xs) zero d within h = (and_parts (test x) (list_all test xs) h).0
 below-got test (x ∷ xs) (suc i) d within h = below-got test xs i d (omega (arith, within)) (and_parts (test x) (list_all test xs) h).1
 
+-- Elements that rise by their places do so with one behind them that is above all.
 rises-push : {X : Type 0} (place : X → ℕ) (xs : List X) (x : X) → IsNonDecreasingBy place xs → list_all (λ y. nat_lt (place y) (place x)) xs ≡ true → IsNonDecreasingBy place (xs ++ x ∷ [])
 rises-push place xs x rise within =
     IsNonDecreasingBy-push place xs x rise
@@ -213,6 +225,7 @@ pub numbers-rise : (b : Bool) (n : ℕ) (xs : List ℕ) → IsNonDecreasing xs �
 numbers-rise true n xs rise below = rises-push (λ (k : ℕ). k) xs n rise below
 numbers-rise false n xs rise below = rise
 
+-- Numbers that are all below one are all below the next.
 numbers-weaker : (n : ℕ) (xs : List ℕ) → list_all (λ number. nat_lt number n) xs ≡ true → list_all (λ number. nat_lt number (n + 1)) xs ≡ true
 numbers-weaker n xs h = all-weaker (λ number. nat_lt number n) (λ number. nat_lt number (n + 1)) (λ number k. grind (arith, nat_tests, k)) xs h
 

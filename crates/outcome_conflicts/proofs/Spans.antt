@@ -18,6 +18,7 @@ pub record Found {X : Type 0} (p : X → Bool) (xs : List X) : Type 0 where
   pub passes : p item ≡ true
   pub found : (q : X → Bool) → q item ≡ true → list_any q xs ≡ true
 
+-- Where the second of two is true, so is their disjunction.
 or-right : (a b : Bool) → b ≡ true → (a || b) ≡ true
 or-right true b h = refl
 or-right false b h = h
@@ -81,6 +82,7 @@ module _ (test : Entry → Bool) (quiet : (entry : Entry) → is_accepted entry.
   opened who entry entries None = refl
   opened who entry entries (Some snapshot) = refl
 
+  -- The transaction that a reply opens passes where the reply and its thread behind it do.
   span-passes : (entry : Entry) (entries : List Entry) → is_passing entry.reply.who (span_from entry entries 0) ≡ passes (entry ∷ thread entry.reply.who entries)
   span-passes entry entries =
       ap (λ (b : Bool). b && (list_any test (up_to_end (entry ∷ thread entry.reply.who entries)) && far (stop_in (up_to_end (entry ∷ thread entry.reply.who entries))))) (same-itself entry.reply.who)

@@ -42,9 +42,11 @@ stop-at entries front entry rest place none whole far = ap (λ (es : List Entry)
 -- ---- from the end, a reply more in front
 
 module _ (entries front : List Entry) (entry : Entry) (rest : List Entry) (place above : ℕ) (up : place + 1 ≡ above) (whole : entries ≡ front ++ entry ∷ rest) (far : length front ≡ place) where
+  -- From the place on stand the reply and those behind it.
   here : drop place entries ≡ entry ∷ rest
   here = drop-here entries front entry rest place whole far
 
+  -- From the next place on stand those behind the reply.
   behind : drop above entries ≡ rest
   behind = ap (λ (n : ℕ). drop n entries) (sym up) ∙ drop-behind entries front entry rest place whole far
 
@@ -95,6 +97,7 @@ pub record HeldAt (helds : List Held) (held : Held) (place : ℕ) : Type 0 where
   pub whole : helds ≡ front ++ held ∷ rest
   pub far : length front ≡ place
 
+-- At a reply's place stands what is held there, by those in front and behind.
 held-behind-at : (before front : List Entry) (entry : Entry) (rest : List Entry) → HeldAt (held_behind before (front ++ entry ∷ rest)) (held_at (before ++ front) entry rest) (length front)
 held-behind-at before [] entry rest = record {
   front = [];

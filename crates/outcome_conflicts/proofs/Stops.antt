@@ -1,4 +1,5 @@
--- Up to when transactions last, with a reply more in front, and who is in one, with a reply more behind.
+-- Up to when transactions last, with a reply more in front, and who is in one, with a reply more
+-- behind.
 use Rattle.std.proofs.Common.{◌≡◌, ◌+◌, Bool, true, false, cond, List, [], ◌∷◌, ◌++◌, map, refl, ap, ◌∙◌}
 use Rattle.std.specs.List.{filter, fold}
 use Rattle.std.specs.Prelude.{is_some, if◌then◌else◌}
@@ -20,6 +21,7 @@ stop-cons entry entries = by (is_end entry.reply.said) refl
     by true is = rw is refl
     by false is = rw is refl
 
+-- The stop with a reply more in front, if it is one's own, by whether it ends a transaction.
 thread-with : (entry : Entry) (entries : List Entry) (same : Bool)
     → stop_in (cond same (entry ∷ entries) entries) ≡ (if same then (if is_end entry.reply.said then entry.reply.round + 1 else stop_in entries) else stop_in entries)
 thread-with entry entries true = stop-cons entry entries
@@ -32,6 +34,7 @@ stop-next who entry entries = thread-with entry (thread who entries) (is_same en
 
 -- ---- who is in a transaction
 
+-- One is in a transaction behind a reply more as it says, if it is one's own.
 within-with : (same : Bool) (before : Bool) (entry : Entry)
     → fold within_behind before (map (λ (e : Entry). e.reply.said) (cond same (entry ∷ []) [])) ≡ (if same then within_behind before entry.reply.said else before)
 within-with true before entry = refl

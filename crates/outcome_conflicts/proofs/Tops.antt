@@ -61,6 +61,7 @@ found-agree p s f g none same (x ∷ xs) h = by (p x) refl (and_parts (s x) (lis
 
 -- ---- the replies of a transaction are its session's
 
+-- The replies of a thread are all to its session or worker.
 same-thread : (who : Who) (entries : List Entry) → list_all (λ (x : Entry). is_same x.reply.who who) (thread who entries) ≡ true
 same-thread who [] = refl
 same-thread who (entry ∷ entries) = by (is_same entry.reply.who who) refl (same-thread who entries)
@@ -70,6 +71,7 @@ same-thread who (entry ∷ entries) = by (is_same entry.reply.who who) refl (sam
     by true is rest = rw (is, is) rest
     by false is rest = rw is rest
 
+-- What all of some replies pass those up to the end pass.
 all-up : (s : Entry → Bool) (entries : List Entry) → list_all s entries ≡ true → list_all s (up_to_end entries) ≡ true
 all-up s [] h = refl
 all-up s (entry ∷ entries) h = by (is_end entry.reply.said) refl (and_parts (s entry) (list_all s entries) h) (all-up s entries)
@@ -112,6 +114,7 @@ any-above c near u v bound is (x ∷ xs) = by (near x) refl (any-above c near u 
     by true k rest = rw k (ap (λ (b : Bool). (c x && nat_lt bound (u x)) || b) rest ∙ above (c x) (u x) (highest v (filter near xs)) ∙ ap (λ (n : ℕ). nat_lt bound (max n (highest v (filter near xs)))) (sym (is x)))
     by false k rest = rw k rest
 
+-- Where all elements fail the test, it keeps none.
 filter-none : {X : Type 0} (p : X → Bool) (xs : List X) → list_all (λ x. not (p x)) xs ≡ true → filter p xs ≡ []
 filter-none p [] h = refl
 filter-none p (x ∷ xs) h = by (p x) refl (and_parts (not (p x)) (list_all (λ y. not (p y)) xs) h) (filter-none p xs)
@@ -143,22 +146,28 @@ held-front p entries parted =
 module _ (place : Place) (own : Who) (chosen : Who → Bool) (others : (who : Who) → chosen who ≡ true → is_same who own ≡ false)
     (counts near : Entry → Bool) (counted : (x : Entry) → is_same x.reply.who own ≡ false → counts x ≡ near x)
     (ends : Entry → Bool) (bound : ℕ) (ended : (x : Entry) → is_same x.reply.who own ≡ false → ends x ≡ nat_lt bound (x.reply.round + 1)) (low : nat_lt bound never ≡ true) where
+  -- The reply writes the place and counts.
   abbrev test : Entry → Bool
   test x = writes_to place x && counts x
 
+  -- The stop is above the bound.
   abbrev far : ℕ → Bool
   far stop = nat_lt bound stop
 
+  -- A reply that accepts no write fails the test.
   quiet : (entry : Entry) → is_accepted entry.reply.said ≡ false → test entry ≡ false
   quiet entry none = rw none refl
 
+  -- Zero is no stop above the bound.
   nothing : far 0 ≡ false
   nothing = grind (arith, nat_tests)
 
+  -- An end is above the bound, or missing, exactly where the stop is above the bound.
   by-stop : (found : Option Entry) → option_map_or (λ (x : Entry). nat_lt bound (x.reply.round + 1)) found true ≡ nat_lt bound (option_map_or (λ (x : Entry). x.reply.round + 1) found never)
   by-stop None = sym low
   by-stop (Some x) = refl
 
+  -- A chosen one's transaction is in the way exactly where its replies and its stop pass.
   one-span : (who : Who) (replies : List Entry) → list_all (λ (x : Entry). is_same x.reply.who who) replies ≡ true → chosen who ≡ true
       → (has_write place (filter counts replies) && option_map_or ends (find (λ x. is_end x.reply.said) replies) true) ≡ (list_any test replies && far (stop_in replies))
   one-span who replies same is =
@@ -168,10 +177,12 @@ module _ (place : Place) (own : Who) (chosen : Who → Bool) (others : (who : Wh
       (λ x its. ended x (ap (λ (w : Who). is_same w own) (same-is x.reply.who who its) ∙ others who is)) replies same
       ∙ by-stop (find (λ x. is_end x.reply.said) replies))
 
+  -- Two conjunctions are the same where their seconds are, as far as the first is true.
   under : (a b c : Bool) → (a ≡ true → b ≡ c) → (a && b) ≡ (a && c)
   under true b c h = h refl
   under false b c h = refl
 
+  -- Of four conditions together the third may go to the front.
   moved : (c w n f : Bool) → (c && ((w && n) && f)) ≡ (n && ((c && w) && f))
   moved true true true f = refl
   moved true true false f = refl
@@ -206,6 +217,7 @@ apart-turned a b h = by (is_same b a) refl
     by true is = absurd (let e : is_same a b ≡ true = same-turned b a is in let never : true ≡ false = sym e ∙ h in let impossible : ⊥ = cc in impossible)
     by false is = refl
 
+-- A reply is before one of another session or worker exactly where its round is earlier.
 before-by-round : (a b : Entry) → is_same a.reply.who b.reply.who ≡ false → is_before a b ≡ nat_lt a.reply.round b.reply.round
 before-by-round a b apart =
     ap (λ (t : Bool). nat_lt a.reply.round b.reply.round || ((eqb a.reply.round b.reply.round && t) && nat_lt a.reply.index b.reply.index)) apart
@@ -217,6 +229,7 @@ before-by-round a b apart =
     by false false i = refl
 
 module _ (entries : List Entry) (entry : Entry) (rises : Rises entries) (round : entry.reply.round + 1 < 2 ^ 33) where
+  -- The round of the reply.
   abbrev r : ℕ
   r = entry.reply.round
 

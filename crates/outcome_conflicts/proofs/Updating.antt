@@ -22,6 +22,7 @@ use Rattle.outcome_conflicts.proofs.Whos.{same-is}
 
 -- ---- the commits above a snapshot
 
+-- What passes two tests is kept by one and then by the other.
 filter-twice : (p q r : ℕ → Bool) → ((n : ℕ) → r n ≡ (q n && p n)) → (ns : List ℕ) → filter r ns ≡ filter p (filter q ns)
 filter-twice p q r is [] = refl
 filter-twice p q r is (n ∷ ns) = by (q n) (p n) refl refl (filter-twice p q r is ns)
@@ -31,6 +32,7 @@ filter-twice p q r is (n ∷ ns) = by (q n) (p n) refl refl (filter-twice p q r 
     by true false h k rest = let e : r n ≡ false = is n ∙ ap (λ (c : Bool). c && p n) h ∙ k in rw (e, h, k) rest
     by false b h k rest = let e : r n ≡ false = is n ∙ ap (λ (c : Bool). c && p n) h in rw (e, h) rest
 
+-- What is above a snapshot and writes is above zero, writes, and is above the snapshot.
 later-test : (snapshot n : ℕ) (writes : Bool) → (nat_lt snapshot n && writes) ≡ ((nat_lt 0 n && writes) && nat_lt snapshot n)
 later-test snapshot n true = grind (arith, nat_tests)
 later-test snapshot n false = grind (arith, nat_tests)
@@ -39,6 +41,7 @@ later-test snapshot n false = grind (arith, nat_tests)
 pub later-above : (entries : List Entry) (snapshot : ℕ) (place : Place) → later_writers (history_in entries) snapshot place ≡ filter (nat_lt snapshot) (numbers_of entries place)
 later-above entries snapshot place = filter-twice (nat_lt snapshot) _ _ (λ n. later-test snapshot n _) _
 
+-- Two tests that agree on each element are passed by all of a list alike.
 all-agree : {X : Type 0} (p q : X → Bool) → ((x : X) → p x ≡ q x) → (xs : List X) → list_all p xs ≡ list_all q xs
 all-agree p q same [] = refl
 all-agree p q same (x ∷ xs) = ap (λ (b : Bool). b && list_all p xs) (same x) ∙ ap (λ (b : Bool). q x && b) (all-agree p q same xs)
@@ -64,11 +67,13 @@ passes-commit tables entries t place entry =
 
 -- ---- the one that is named
 
+-- A condition that is the same for each element may be asked once, in front of all.
 any-both : {X : Type 0} (b : Bool) (p : X → Bool) (xs : List X) → list_any (λ x. b && p x) xs ≡ (b && list_any p xs)
 any-both true p xs = refl
 any-both false p [] = refl
 any-both false p (x ∷ xs) = any-both false p xs
 
+-- A number is among those above a snapshot exactly where it is above it and among all.
 number-above : (snapshot number : ℕ) (ns : List ℕ) → list_any (λ later. later == number) (filter (nat_lt snapshot) ns) ≡ (nat_lt snapshot number && is_number_in ns number)
 number-above snapshot number ns =
     any-filter (λ later. later == number) (nat_lt snapshot) ns
@@ -113,9 +118,11 @@ first-updater tables entries span place t is =
 
 -- ---- whose transaction it is
 
+-- All replies of the transaction are to its own session or worker.
 abbrev is_own_span : Span → Bool
 is_own_span t = list_all (λ (x : Entry). is_same x.reply.who t.who) t.replies
 
+-- The replies of each transaction are all to its own session or worker.
 spans-own : (entries : List Entry) → list_all is_own_span (transactions_of entries) ≡ true
 spans-own [] = refl
 spans-own (entry ∷ entries) = by (snapshot_in entry.reply.said) (spans-own entries)

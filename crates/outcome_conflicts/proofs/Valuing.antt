@@ -29,12 +29,14 @@ use Rattle.outcome_conflicts.proofs.Whos.{same-is}
 
 -- ---- replies at two places are two
 
+-- Three tests that cannot all be true are false together.
 apart-when : (a b c : Bool) → (a ≡ true → b ≡ true → c ≡ true → ⊥) → (a && b && c) ≡ false
 apart-when true true true h = absurd (h refl refl refl)
 apart-when true true false h = refl
 apart-when true false c h = refl
 apart-when false b c h = refl
 
+-- Of a reply and one that it is ahead of, round, who and index are not all the same.
 ahead-apart : (a b : Entry) → Behind a b ⊎ (Beside a b ⊎ Own a b) → a.reply.round ≡ b.reply.round → a.reply.who ≡ b.reply.who → a.reply.index ≡ b.reply.index → ⊥
 ahead-apart a b (inl behind) round who index = let l = behind.later in omega (arith, l, round)
 ahead-apart a b (inr (inl beside)) round who index =
@@ -43,22 +45,27 @@ ahead-apart a b (inr (inl beside)) round who index =
     never
 ahead-apart a b (inr (inr own)) round who index = let l = own.index in omega (arith, l, index)
 
+-- A reply that is ahead of another is not this one.
 ahead-not : (a b : Entry) → is_ahead a b ≡ true → is_reply a b ≡ false
 ahead-not a b h = apart-when (eqb a.reply.round b.reply.round) (is_same a.reply.who b.reply.who) (eqb a.reply.index b.reply.index)
     (λ round who index. ahead-apart a b (ahead-cases a b h) (eqb-true a.reply.round b.reply.round round) (same-is a.reply.who b.reply.who who) (eqb-true a.reply.index b.reply.index index))
 
+-- A reply that another is ahead of is not this one.
 behind-not : (a b : Entry) → is_ahead b a ≡ true → is_reply a b ≡ false
 behind-not a b h = apart-when (eqb a.reply.round b.reply.round) (is_same a.reply.who b.reply.who) (eqb a.reply.index b.reply.index)
     (λ round who index. ahead-apart b a (ahead-cases b a h) (sym (eqb-true a.reply.round b.reply.round round)) (sym (same-is a.reply.who b.reply.who who)) (sym (eqb-true a.reply.index b.reply.index index)))
 
+-- At a place within the front stands the front's element.
 got-front : (front rest : List Entry) (i : ℕ) → i < length front → slice_get (front ++ rest) i ≡ slice_get front i
 got-front [] rest i h = absurd (omega (arith, h))
 got-front (x ∷ front) rest zero h = refl
 got-front (x ∷ front) rest (suc i) h = got-front front rest i (omega (arith, h))
 
+-- The replies that two equal options hold are the same.
 some-entry : (a b : Entry) → Some a ≡ Some b → a ≡ b
 some-entry a b h = ap (λ (o : Option Entry). unwrap_or o a) h
 
+-- Where all replies pass, the one at each place does.
 got-all : (test : Entry → Bool) (xs : List Entry) (i : ℕ) (x : Entry) → list_all test xs ≡ true → slice_get xs i ≡ Some x → test x ≡ true
 got-all test [] i x h got = absurd (let never : ⊥ = cc in never)
 got-all test (y ∷ xs) zero x h got = ap test (sym (some-entry y x got)) ∙ (and_parts (test y) (list_all test xs) h).0
@@ -71,6 +78,7 @@ places-ahead entries fa a ra fb b rb first second rises less =
     sym (got-front fb (b ∷ rb) (length fa) less) ∙ ap (λ (es : List Entry). slice_get es (length fa)) (sym second ∙ first) ∙ get-at fa a ra in
     got-all (λ other. is_ahead other b) fb (length fa) a (front-ahead fb b rb (subst Rises second rises)) there
 
+-- Two replies at one place are the same.
 same-place : (entries fa : List Entry) (a : Entry) (ra fb : List Entry) (b : Entry) (rb : List Entry) → entries ≡ fa ++ a ∷ ra → entries ≡ fb ++ b ∷ rb → length fa ≡ length fb → a ≡ b
 same-place entries fa a ra fb b rb first second far =
     some-entry a b (sym (get-at fa a ra) ∙ ap (λ (es : List Entry). slice_get es (length fa)) (sym first ∙ second) ∙ ap (slice_get (fb ++ b ∷ rb)) far ∙ get-at fb b rb)
@@ -95,6 +103,7 @@ reply-at entries fa a ra fb b rb first second rises = by (cases_lt (length fa) (
 -- ---- the line of a number, and its commit
 
 module _ (entries front : List Entry) (entry : Entry) (rest : List Entry) (place : ℕ) (whole : entries ≡ front ++ entry ∷ rest) (at : length front ≡ place) (rises : Rises entries) where
+  -- The reply is the line of a number exactly where the first that commits as it stands here.
   line-is : (number : ℕ) → is_line_of entries number entry ≡ option_map_or (λ first. first == place) (first_of (commits_as number) entries) false
   line-is number = by (first_of (commits_as number) entries) refl
     where
@@ -107,6 +116,7 @@ module _ (entries front : List Entry) (entry : Entry) (rest : List Entry) (place
           ∙ reply-at entries first.front first.entry first.rest front entry rest first.whole whole rises
           ∙ ap (λ (n : ℕ). eqb n (length front)) far ∙ ap (eqb f) at
 
+-- A number of a range passes a test exactly where it lies in the range and passes it.
 any-range : (test : ℕ → Bool) (number first n : ℕ) → list_any (λ x. (x == number) && test x) (range_with_len first n) ≡ ((nat_le first number && nat_lt number (first + n)) && test number)
 any-range test number first zero =
     let none : (nat_le first number && nat_lt number (first + 0)) ≡ false = grind (arith, nat_tests) in
@@ -127,6 +137,7 @@ any-range test number first (suc n) = ap (λ (b : Bool). ((first == number) && t
         let same : (nat_le (first + 1) number && nat_lt number ((first + 1) + n)) ≡ (nat_le first number && nat_lt number (first + suc n)) = grind (arith, nat_tests, is) in
         ap (λ (b : Bool). b && test number) same
 
+-- Two conjunctions are the same where their seconds are, as far as the first is true.
 under : (a b c : Bool) → (a ≡ true → b ≡ c) → (a && b) ≡ (a && c)
 under true b c h = h refl
 under false b c h = refl
@@ -156,7 +167,8 @@ number-in entries place number =
         ∙ ap (writes_place place) (history-at entries n inside)
         ∙ ap (λ (m : ℕ). writes_place place (committed_writes entries (transactions_of entries) m)) (sym next)
 
--- The number that is told of a place is that of which the reply is the line, if the commit wrote the place.
+-- The number that is told of a place is that of which the reply is the line, if the commit wrote
+-- the place.
 pub value-is : (entries front : List Entry) (entry : Entry) (rest : List Entry) (place : ℕ) → entries ≡ front ++ entry ∷ rest → length front ≡ place → Rises entries → (of : RowKey)
     → value_at entries of entry
     ≡ option_map_or (λ number. if writes_place (place_in of) (committed_writes entries (transactions_of entries) number) then number else 0) (line_told entries (commit_count entries) place entry) 0
@@ -201,6 +213,7 @@ pub record IsLineAt (entries : List Entry) (place number : ℕ) : Type 0 where
   pub first : first_of (commits_as number) entries ≡ Some place
   pub low : 1 ≤ number
 
+-- A place that is tested to be the first one is the first.
 same-first : (first : Option ℕ) (place : ℕ) → option_map_or (λ its. its == place) first false ≡ true → first ≡ Some place
 same-first None place h = absurd (let never : ⊥ = cc in never)
 same-first (Some first) place h = ap (λ (n : ℕ). Some n) (eqb-true first place h)

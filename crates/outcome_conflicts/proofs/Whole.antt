@@ -20,10 +20,12 @@ use Rattle.outcome_conflicts.proofs.Updating.{names-commit}
 
 -- ---- the rule that a reply is under, in three parts
 
+-- A conjunction with something true is its first.
 with-true : (a : Bool) → (a && true) ≡ a
 with-true false = refl
 with-true true = refl
 
+-- A conjunction is the same either way around.
 turned : (a b : Bool) → (a && b) ≡ (b && a)
 turned false false = refl
 turned false true = refl
@@ -49,6 +51,7 @@ last-first true true true = refl
 abbrev all_rules : Run → Span → Place → Entry → Shown → Bool
 all_rules run t place entry its = (session_rule run t place entry its && height_rule run t place entry its) && number_rule run t place entry its
 
+-- The rules of sessions, of heights and of numbers together are the rule on conflicts.
 rule-parts : (tables : List TableDecl) (entries : List Entry) (t : Span) (place : Place) (entry : Entry) (told : Said)
     → all_rules (run_of tables entries) t place entry (shown_in told) ≡ conflict_holds (run_of tables entries) t place entry told
 rule-parts tables entries t place entry said.Memory = refl

@@ -34,12 +34,15 @@ counted-all test replies places counted =
 
 module _ (test : Entry → Bool) (replies : List KeptReply) (at : ℕ) (stretch : Stretch) (asked : IsAsked replies at stretch)
     (places : List ℕ) (counted : AreCounted test (entries_of replies) (length replies) places) where
+  -- The replies as they are judged.
   abbrev es : List Entry
   es = entries_of replies
 
+  -- The replies to judge are as many as the kept ones.
   long : length es ≡ length replies
   long = length-map replies entry_of
 
+  -- The places count the elements that pass among all replies.
   whole-counted : AreCounted test es (length es) places
   whole-counted = subst (λ (n : ℕ). AreCounted test es n places) (sym long) counted
 
@@ -93,6 +96,7 @@ insert-into table into false = by (into == table)
     by true = refl
     by false = refl
 
+-- A reply that tells of no table is not counted for one.
 none-into : (table : ℕ) (accepted : Bool) → false ≡ is_keyed nat_cmp table (if accepted then None else None)
 none-into table true = refl
 none-into table false = refl

@@ -17,6 +17,7 @@ use Rattle.outcome_counts.specs.declared.stretch.Stretch.{Stretch}
 
 -- ---- sessions and workers
 
+-- Sessions or workers that are taken as one are one.
 same-is : (v w : Who) → is_same v w ≡ true → v ≡ w
 same-is (Session a) (Session b) h = ap (λ (n : ℕ). Session n) (eqb-true a b h)
 same-is (Session a) (Worker b) h = absurd (let never : ⊥ = cc in never)
@@ -31,6 +32,7 @@ not-both a b h k = by (or_cases (nat_lt b a) (b == a) k)
     by (inl less) = absurd (omega (arith, ltb-true a b h, ltb-true b a less))
     by (inr same) = absurd (omega (arith, ltb-true a b h, eqb-true b a same))
 
+-- Where one is earlier than another, this other is not up to the one.
 not-earlier : (v w : Who) → is_earlier v w ≡ true → is_up_to w v ≡ true → ⊥
 not-earlier (Session a) (Session b) h k = not-both a b h k
 not-earlier (Session a) (Worker b) h k = let never : ⊥ = cc in never
@@ -53,14 +55,17 @@ no-other h = let never : ⊥ = cc in never
 -- ---- one that is ahead, and of which the other is among its own
 
 module _ (x y : Entry) where
+  -- The two replies are of one round, and to one session or worker.
   abbrev Together : Type 0
   Together = (x.reply.round ≡ y.reply.round) × (x.reply.who ≡ y.reply.who)
 
+  -- A reply that is the other's own is together with it.
   of-own : is_own y x ≡ true → Together
   of-own h =
       let parts = and_parts (x.reply.round == y.reply.round) (is_same x.reply.who y.reply.who) h in
       (eqb-true x.reply.round y.reply.round parts.0, same-is x.reply.who y.reply.who parts.1)
 
+  -- Where one is in front of the other's own, the other is not up to the one's own.
   not-front : is_in_front y x ≡ true → is_up_to_own x y ≡ true → ⊥
   not-front h k = by (or_cases (nat_lt x.reply.round y.reply.round) (x.reply.round == y.reply.round && is_earlier x.reply.who y.reply.who) h)
       (or_cases (nat_lt y.reply.round x.reply.round) (y.reply.round == x.reply.round && is_up_to y.reply.who x.reply.who) k)
@@ -78,6 +83,7 @@ module _ (x y : Entry) where
           not-earlier x.reply.who y.reply.who (and_parts (x.reply.round == y.reply.round) (is_earlier x.reply.who y.reply.who) same).1
           (and_parts (y.reply.round == x.reply.round) (is_up_to y.reply.who x.reply.who) also).1
 
+  -- Where one is ahead of the other, and this is up to its own, they are together.
   together : is_ahead x y ≡ true → is_up_to_own x y ≡ true → Together
   together h k = by (or_cases (is_in_front y x) (is_own y x && nat_lt x.reply.index y.reply.index) h)
     where
@@ -85,6 +91,7 @@ module _ (x y : Entry) where
       by (inl front) = absurd (not-front front k)
       by (inr own) = of-own (and_parts (is_own y x) (nat_lt x.reply.index y.reply.index) own).0
 
+  -- Where one is ahead of the other, and not in front of its own, they are together.
   beside : is_ahead x y ≡ true → not (is_in_front y x) ≡ true → Together
   beside h k = by (or_cases (is_in_front y x) (is_own y x && nat_lt x.reply.index y.reply.index) h)
     where
@@ -92,12 +99,14 @@ module _ (x y : Entry) where
       by (inl front) = absurd (no-other (subst (λ (b : Bool). not b ≡ true) front k))
       by (inr own) = of-own (and_parts (is_own y x) (nat_lt x.reply.index y.reply.index) own).0
 
+  -- Replies that are together have the same places about them.
   same-stretch : (entries : List Entry) → Together → stretch_of entries x ≡ stretch_of entries y
   same-stretch entries same =
       ap (λ (round : ℕ). by-these entries round x.reply.who) same.0 ∙ ap (λ (who : Who). by-these entries y.reply.round who) same.1
 
 -- ---- among replies that rise
 
+-- What all kept replies pass each of them passes, at its place.
 all-kept : (p : Entry → Bool) (xs : List Kept) (j : ℕ) (d : Kept) → j < length xs → list_all p (entries_of xs) ≡ true → p (entry_of (get_or xs j d)) ≡ true
 all-kept p [] j d within h = absurd (omega (arith, within))
 all-kept p (x ∷ xs) zero d within h = (and_parts (p (entry_of x)) (list_all p (entries_of xs)) h).0

@@ -23,9 +23,11 @@ use Rattle.outcome_counts.proofs.Starts.{at-place}
 
 -- ---- one beside another
 
+-- Each session or worker is up to itself.
 up-to-itself : (who : Who) → is_up_to who who ≡ true
 up-to-itself who = or_right (is_earlier who who) (is_same who who) (same-itself who)
 
+-- A reply of the same round to the same one is up to a reply's own.
 own-itself : (x y : Entry) → x.reply.round ≡ y.reply.round → x.reply.who ≡ y.reply.who → is_up_to_own x y ≡ true
 own-itself x y round who =
     or_right (is_past x y) _
@@ -36,16 +38,19 @@ module _ (x y : Entry) (beside : Beside x y) where
   in-front : is_in_front y x ≡ true
   in-front = let round = beside.round in or_right (is_past y x) _ (and_from (eqb x.reply.round y.reply.round) (is_earlier x.reply.who y.reply.who) (grind (arith, nat_tests, round)) beside.who)
 
+  -- A reply to an earlier session or worker of the round is up to the other's own.
   up-to : is_up_to_own y x ≡ true
   up-to = let round = beside.round in or_right (is_past y x) _
       (and_from (eqb x.reply.round y.reply.round) (is_up_to x.reply.who y.reply.who) (grind (arith, nat_tests, round)) (or_left (is_earlier x.reply.who y.reply.who) (is_same x.reply.who y.reply.who) beside.who))
 
+-- A reply is not in front of its own.
 not-in-front : (y : Entry) → is_in_front y y ≡ false
 not-in-front y =
     let low : is_past y y ≡ false = grind (arith, nat_tests) in
     let same : eqb y.reply.round y.reply.round ≡ true = grind (arith, nat_tests) in
     rw (low, same, earlier-itself y.reply.who) refl
 
+-- A reply of a later round is not up to the own of one of the round.
 later-not : (x y other : Entry) → x.reply.round ≡ y.reply.round → not (nat_le other.reply.round x.reply.round) ≡ true → not (is_up_to_own y other) ≡ true
 later-not x y other round h =
     let low : is_past y other ≡ false = grind (arith, nat_tests, h, round) in
@@ -62,18 +67,23 @@ count-at p n xs within front back =
 
 module _ (xs : List Kept) (rises : Rises (entries_of xs)) (at : ℕ) (d : Kept) (within : suc at < length xs)
     (past : own_end (entries_of xs) (entry_of (get_or xs at d)) ≤ suc at) (early : suc at < round_end (entries_of xs) (entry_of (get_or xs at d))) where
+  -- The kept replies as they are judged.
   abbrev es : List Entry
   es = entries_of xs
 
+  -- The reply at the place.
   abbrev x : Entry
   x = entry_of (get_or xs at d)
 
+  -- The reply behind the one at the place.
   abbrev y : Entry
   y = entry_of (get_or xs (suc at) d)
 
+  -- The other reply is of no later round than the one at the place.
   abbrev up-to-round : Entry → Bool
   up-to-round other = nat_le other.reply.round x.reply.round
 
+  -- The reply behind is of the same round, and to a later session or worker.
   are-beside : Beside x y
   are-beside = by (ahead-cases x y (ahead-of xs at (suc at) d rises (omega arith) within))
     where
@@ -91,6 +101,7 @@ module _ (xs : List Kept) (rises : Rises (entries_of xs)) (at : ℕ) (d : Kept) 
       by (inr (inl beside)) = beside
       by (inr (inr own)) = absurd (no-other (subst (λ (b : Bool). not b ≡ true) (own-itself x y own.round own.who) apart))
 
+  -- The own replies of the reply behind begin at its place.
   starts : suc at ≡ own_start es y
   starts =
       let p : Kept → Bool = λ k. is_in_front y (entry_of k) in
@@ -99,6 +110,7 @@ module _ (xs : List Kept) (rises : Rises (entries_of xs)) (at : ℕ) (d : Kept) 
       (front-passes p xs at d parted (omega (arith, within)) (in-front x y are-beside))
       (back-fails p xs (suc at) d parted within (not-in-front y)))
 
+  -- The own replies of the reply behind end behind as many as are counted.
   ends : (own : ℕ) → own ≡ count_by (λ (k : Kept). is_up_to_own y (entry_of k)) (drop (suc at) (take (round_end es x) xs)) → suc at + own ≡ own_end es y
   ends own is =
       let p : Kept → Bool = λ k. is_up_to_own y (entry_of k) in
@@ -114,12 +126,15 @@ module _ (xs : List Kept) (rises : Rises (entries_of xs)) (at : ℕ) (d : Kept) 
       ∙ sym (count-map entry_of (is_up_to_own y) xs
       ∙ count-near p (suc at) (round_end es x) xs (omega (arith, early)) (omega (arith, counted, most)) (front-passes p xs at d parted (omega (arith, within)) (up-to x y are-beside)) back)
 
+  -- The round of both replies begins at one place.
   same-starts : round_start es x ≡ round_start es y
   same-starts = ap (λ (round : ℕ). count_by (λ (other : Entry). nat_lt other.reply.round round) es) are-beside.round
 
+  -- The round of both replies ends at one place.
   same-ends : round_end es x ≡ round_end es y
   same-ends = ap (λ (round : ℕ). count_by (λ (other : Entry). nat_le other.reply.round round) es) are-beside.round
 
+  -- The places about the reply behind are those about the first, but for its own.
   all-places : (own : ℕ) → own ≡ count_by (λ (k : Kept). is_up_to_own y (entry_of k)) (drop (suc at) (take (round_end es x) xs))
       → record (stretch_of es x) { own_start = suc at; own_end = suc at + own } ≡ stretch_of es y
   all-places own is =

@@ -39,12 +39,15 @@ in-order entries front entry rest whole rises =
 
 module _ (test : Entry → Bool) (entries front : List Entry) (entry : Entry) (rest : List Entry) (whole : entries ≡ front ++ entry ∷ rest) (rises : Rises entries)
     (places : List ℕ) (counted : AreCounted test entries (length entries) places) where
+  -- The places about the reply stand in order.
   order : InOrder entries entry (length front)
   order = in-order entries front entry rest whole rises
 
+  -- The place of the reply is within the replies.
   at-within : length front < length entries
   at-within = let l = ap length whole in let m = length-append front (entry ∷ rest) in omega (arith, l, m)
 
+  -- The places below a bound are those below a lower one and those counted between.
   count-between : (from to : ℕ) → from ≤ to → to ≤ length entries → count_below to places ≡ count_below from places + count_by test (between from to entries)
   count-between from to h k =
       counted.count to k ∙ ap (count_by test) (cut-between from to entries h) ∙ count-append test (take from entries) (between from to entries)
@@ -76,6 +79,7 @@ count-agree p q same [] = refl
 count-agree p q same (x ∷ xs) =
     count-cons p x xs ∙ ap (λ (b : Bool). cond b 1 0 + count_by p xs) (same x) ∙ ap (λ (n : ℕ). cond (q x) 1 0 + n) (count-agree p q same xs) ∙ sym (count-cons q x xs)
 
+-- With what one shows in front, if anything, the count has it where it passes.
 shown-step : (p : ℕ → Bool) (o : Option ℕ) (others : List ℕ) → count_by p (cons_option o others) ≡ cond (option_map_or p o false) 1 0 + count_by p others
 shown-step p None others = sym (zero-add (count_by p others))
 shown-step p (Some n) others = count-cons p n others
@@ -87,6 +91,7 @@ count-shown p shown (x ∷ xs) =
     shown-step p (shown x) (filter_map shown xs) ∙ ap (λ (n : ℕ). cond (option_map_or p (shown x) false) 1 0 + n) (count-shown p shown xs)
     ∙ sym (count-cons (λ y. option_map_or p (shown y) false) x xs)
 
+-- With what one shows in front, if anything, the list is one longer.
 length-step : (o : Option ℕ) (others : List ℕ) → length (cons_option o others) ≡ cond (is_some o) 1 0 + length others
 length-step None others = sym (zero-add (length others))
 length-step (Some n) others = omega arith

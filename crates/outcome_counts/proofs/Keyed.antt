@@ -15,13 +15,6 @@ use Rattle.outcome_counts.specs.Keys.{block_cmp, stamp_cmp, stamp_told, block_se
 use Rattle.outcome_counts.specs.declared.keys.Block.{Block}
 use Rattle.outcome_counts.specs.declared.keys.Stamp.{Stamp}
 
-then-equal : (a b : Ordering) → is_eq (ordering_then a b) ≡ true → (a ≡ Equal) × (b ≡ Equal)
-then-equal Less b h = absurd (let never : ⊥ = cc in never)
-then-equal Equal Less h = absurd (let never : ⊥ = cc in never)
-then-equal Equal Equal h = (refl, refl)
-then-equal Equal Greater h = absurd (let never : ⊥ = cc in never)
-then-equal Greater b h = absurd (let never : ⊥ = cc in never)
-
 -- numbers that compare as one are one
 pub nat-one : (a b : ℕ) → is_eq (nat_cmp a b) ≡ true → a ≡ b
 nat-one a b h = by (nat_cmp a b) refl h
@@ -41,6 +34,7 @@ nat-same a b = by (cases_eq a b)
     by (inl e) = ap (λ (n : ℕ). is_eq (nat_cmp n b)) e ∙ ap is_eq (tied_itself nat_cmp_total b) ∙ sym (eq-eqb a b e)
     by (inr n) = false_from_ne_true (is_eq (nat_cmp a b)) (λ h. n (nat-one a b h)) ∙ sym (ne_eqb a b n)
 
+-- Two comparisons in turn are equal exactly where both are.
 then-same : (a b : Ordering) → is_eq (ordering_then a b) ≡ (is_eq a && is_eq b)
 then-same Less b = refl
 then-same Equal b = refl
@@ -62,6 +56,7 @@ stamp-same a b =
 
 -- ---- what the definitions ask of what is said
 
+-- A number that is shown by a test is there exactly where the test is true.
 some-if : (b : Bool) (n : ℕ) → is_some (if b then Some n else None) ≡ b
 some-if true n = refl
 some-if false n = refl
@@ -78,6 +73,7 @@ freeze-told block (said.Frozen table of rows) =
     some-if (eqb table block.table && eqb of block.block) rows ∙ sym (block-same (record { table = table; block = of }) block)
 freeze-told block _ = refl
 
+-- A number that is shown by a test is this stamp where the test is true and it is equal.
 counted-if : (b : Bool) (n stamp : ℕ) → option_map_or (λ shown. shown == stamp) (if b then Some n else None) false ≡ (b && eqb n stamp)
 counted-if true n stamp = refl
 counted-if false n stamp = refl
@@ -89,6 +85,7 @@ stamp-said stamp (said.Sealed table of shown) =
     ∙ sym (stamp-same (record { of = record { table = table; block = of }; stamp = shown }) stamp)
 stamp-said stamp _ = refl
 
+-- One more than a number that is shown by a test, or zero, is a choice by the test.
 above-if : (b : Bool) (n : ℕ) → option_map_or (λ stamp. stamp + 1) (if b then Some n else None) 0 ≡ (if b then n + 1 else 0)
 above-if true n = refl
 above-if false n = refl

@@ -53,15 +53,18 @@ end-at entries front entry rest back whole far =
     ∙ ap (λ (n : ℕ). slice_get (reverse rest ++ entry ∷ reverse front) n) (sym (length-reverse rest ∙ far)) ∙ get-at (reverse rest) entry (reverse front) in
     ap (λ (o : Option Entry). length entries - option_map_or (own_end entries) o 0) found
 
+-- A reply stands in front of where its own end.
 high-at : (entries front : List Entry) (entry : Entry) (rest : List Entry) → entries ≡ front ++ entry ∷ rest → Rises entries → length front < own_end entries entry
 high-at entries front entry rest whole rises =
     subst (λ (es : List Entry). length front < own_end es entry) (sym whole) (at-oe front entry rest (subst Rises whole rises))
 
+-- Replies of one round to one session or worker have their own end at one place.
 same-end : (x y : Entry) → x.reply.round ≡ y.reply.round → x.reply.who ≡ y.reply.who → (entries : List Entry) → own_end entries x ≡ own_end entries y
 same-end x y round who entries =
     ap (λ (n : ℕ). count_by (λ (o : Entry). nat_lt o.reply.round n || eqb o.reply.round n && is_up_to o.reply.who x.reply.who) entries) round
     ∙ ap (λ (w : Who). count_by (λ (o : Entry). nat_lt o.reply.round y.reply.round || eqb o.reply.round y.reply.round && is_up_to o.reply.who w) entries) who
 
+-- Where one is earlier than another, this other is not up to the one.
 up-not : (a b : Who) → is_earlier a b ≡ true → is_up_to b a ≡ false
 up-not a b h = or_from (is_earlier b a) (is_same b a) (earlier-not a b h) (false_from_ne_true (is_same b a) (λ same. never (same-is b a same)))
   where
@@ -71,10 +74,12 @@ up-not a b h = or_from (is_earlier b a) (is_same b a) (earlier-not a b h) (false
         let f : true ≡ false = sym k ∙ earlier-itself a in
         let impossible : ⊥ = cc in impossible
 
+-- A conjunction with something false is false.
 and-false : (b : Bool) → (b && false) ≡ false
 and-false true = refl
 and-false false = refl
 
+-- A reply of a later round, or to a later one in the round, is not up to one's own.
 behind-not : (x y : Entry) → Behind x y ⊎ Beside x y → is_up_to_own x y ≡ false
 behind-not x y (inl b) =
     let l = b.later in
@@ -87,6 +92,7 @@ behind-not x y (inr b) =
     or_from (nat_lt y.reply.round x.reply.round) (eqb y.reply.round x.reply.round && is_up_to y.reply.who x.reply.who) less
     (ap (λ (t : Bool). eqb y.reply.round x.reply.round && t) (up-not x.reply.who y.reply.who b.who) ∙ and-false (eqb y.reply.round x.reply.round))
 
+-- Where the next reply is none of its own, a reply's own end behind it.
 fresh-end : (entries front : List Entry) (x y : Entry) (rest : List Entry) → entries ≡ front ++ x ∷ y ∷ rest → Rises entries → Behind x y ⊎ Beside x y → own_end entries x ≡ length front + 1
 fresh-end entries front x y rest whole rises how =
     let low = high-at entries front x (y ∷ rest) whole rises in
@@ -97,6 +103,7 @@ fresh-end entries front x y rest whole rises how =
     let far = length-append front (x ∷ []) in
     omega (arith, low, high, far)
 
+-- From the end, a reply's own begin at it, or where those of the one behind it do.
 ends-go-on : (entries front : List Entry) (x : Entry) (rest : List Entry) (back : ℕ) → entries ≡ front ++ x ∷ rest → length rest ≡ back + 1 → Rises entries
     → (ends_in entries (back + 1) ≡ back + 1) ⊎ (ends_in entries (back + 1) ≡ ends_in entries back)
 ends-go-on entries front x [] back whole far rises = absurd (omega (arith, far))
@@ -158,24 +165,31 @@ ends-are entries rises = record {
 
 module _ (replies : List KeptReply) (at : ℕ) (stretch : Stretch) (asked : IsAsked replies at stretch)
     (peaks : List Peak) (later : AreLater (entries_of replies) (length replies) peaks) (none : KeptReply) where
+  -- The replies as they are judged.
   abbrev es : List Entry
   es = entries_of replies
 
+  -- The reply that is judged.
   abbrev e : Entry
   e = asked_at replies at none
 
+  -- The judged reply is kept at its place.
   its : KeptAt replies at (slice_index_or replies at none)
   its = kept-at replies at (slice_index_or replies at none) asked.inside (get_or_default replies at none (slice_index_or replies at none) asked.inside)
 
+  -- The places about the judged reply stand in order.
   order : InOrder es e (length its.front)
   order = in-order es its.front e its.rest its.whole asked.rises
 
+  -- The replies to judge are as many as the kept ones.
   long : length es ≡ length replies
   long = length-map replies entry_of
 
+  -- In front of the judged reply are as many as its place tells.
   far : length its.front ≡ at
   far = its.far
 
+  -- The peaks from the end up to where its round ends give the highest behind the round.
   behind : most_below (length replies - round_end es e) peaks ≡ highest below_commit (drop (round_end es e) es)
   behind =
       let within = order.within in
@@ -185,6 +199,7 @@ module _ (replies : List KeptReply) (at : ℕ) (stretch : Stretch) (asked : IsAs
       ∙ ap (highest below_commit) (take-reverse (round_end es e) es within)
       ∙ highest-reverse below_commit (drop (round_end es e) es)
 
+  -- Behind the judged reply are as many as its place from the end tells.
   rest-far : length its.rest ≡ length replies - 1 - at
   rest-far =
       let w = ap length its.whole in
@@ -193,9 +208,11 @@ module _ (replies : List KeptReply) (at : ℕ) (stretch : Stretch) (asked : IsAs
       let f = far in
       omega (arith, w, m, l, f)
 
+  -- From the end, the judged reply's own begin where they end from the start.
   start : ends_in es (length replies - 1 - at) ≡ length es - own_end es e
   start = end-at es its.front e its.rest (length replies - 1 - at) its.whole rest-far
 
+  -- Its own behind the judged reply, turned around, are a part of the turned replies.
   own-list : part (length es - own_end es e) (length replies - 1 - at) (reverse es) ≡ reverse (between (at + 1) (own_end es e) es)
   own-list =
       let l = long in
@@ -213,6 +230,7 @@ module _ (replies : List KeptReply) (at : ℕ) (stretch : Stretch) (asked : IsAs
       ∙ ap (drop (length es - own_end es e)) (reverse-append (between (at + 1) (own_end es e) es) (drop (own_end es e) es))
       ∙ drop_at (reverse (drop (own_end es e) es)) (reverse (between (at + 1) (own_end es e) es)) (length es - own_end es e) (length-reverse (drop (own_end es e) es) ∙ length-drop (own_end es e) es)
 
+  -- The peaks from the end give the highest of its own behind the judged reply.
   own : own_below (length replies - own_end es e) (length replies - 1 - at) peaks ≡ highest below_commit (between (at + 1) (own_end es e) es)
   own =
       let l = long in
@@ -225,6 +243,7 @@ module _ (replies : List KeptReply) (at : ℕ) (stretch : Stretch) (asked : IsAs
       ∙ ap (highest below_commit) own-list
       ∙ highest-reverse below_commit (between (at + 1) (own_end es e) es)
 
+  -- The greater of two numbers is the same either way around.
   swapped : (a b : ℕ) → max a b ≡ max b a
   swapped a b = omega arith
 
@@ -241,6 +260,7 @@ module _ (replies : List KeptReply) (at : ℕ) (stretch : Stretch) (asked : IsAs
 
 -- ---- numbers that are all above one
 
+-- With a number more in front, all are above one where none is too far from the top.
 above-step : (top number : ℕ) → number < top → (o : Option ℕ) (others : List ℕ) (high : ℕ) → list_all (λ n. nat_lt number n) others ≡ nat_lt high (top - number)
     → list_all (λ n. nat_lt number n) (cons_option o others) ≡ nat_lt (max (option_map_or (λ n. top - n) o 0) high) (top - number)
 above-step top number small None others high h = h ∙ (let e : max 0 high ≡ high = omega arith in rw e refl)

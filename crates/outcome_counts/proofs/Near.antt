@@ -32,6 +32,7 @@ module _ {X : Type 0} (p : X → Bool) where
   parted-take (suc n) [] h = tt
   parted-take (suc n) (x ∷ xs) h = (λ fails. all-take (λ y. not (p y)) n xs (h.0 fails), parted-take n xs h.1)
 
+  -- What is left of a parted list behind its first elements is parted.
   parted-drop : (n : ℕ) (xs : List X) → Parted p xs → Parted p (drop n xs)
   parted-drop zero xs h = h
   parted-drop (suc n) [] h = tt

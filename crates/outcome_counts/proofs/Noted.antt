@@ -12,6 +12,7 @@ use Rattle.outcome_counts.specs.declared.keys.Block.{Block}
 use Rattle.outcome_counts.specs.declared.keys.Stamp.{Stamp}
 use Rattle.outcome_counts.specs.declared.block_marks.BlockMarks.{BlockMarks}
 
+-- A reply that tells no stamp of the block counts zero for its highest.
 none-above : (block : Block) (told : Option Stamp) → is_keyed block_cmp block (option_map (λ stamp. stamp.of) told) ≡ false → above_told block told ≡ 0
 none-above block None h = refl
 none-above block (Some stamp) h = ap (λ (b : Bool). if b then stamp.stamp + 1 else 0) h

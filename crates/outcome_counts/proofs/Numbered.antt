@@ -11,6 +11,7 @@ use Rattle.outcome_counts.specs.BlockMarks.{starts_in}
 use Rattle.outcome_counts.specs.NumberMarks.{AreNumberMarks, IsNumbered, is_commit_of, is_numbered, above, above_commit, above_shown}
 use Rattle.outcome_counts.specs.declared.number_marks.NumberMarks.{NumberMarks}
 
+-- Where there is no number, one more than it is taken as zero.
 none-above : (number : Option ℕ) → is_some number ≡ false → above number ≡ 0
 none-above None h = refl
 none-above (Some n) h = absurd (let never : ⊥ = cc in never)

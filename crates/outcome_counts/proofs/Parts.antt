@@ -5,6 +5,7 @@ use Rattle.std.specs.List.Sorted.{IsPartitionedBy}
 use Rattle.std.proofs.lemmas.Bool.{and_parts, not-true}
 use Rattle.outcome_check.proofs.Pieces.{Parted, count-cons}
 
+-- Where all elements pass, the one at each place does.
 all-get : {X : Type 0} (p : X → Bool) (xs : List X) (i : ℕ) (d : X) → i < length xs → list_all p xs ≡ true → p (get_or xs i d) ≡ true
 all-get p [] i d within h = absurd (omega (arith, within))
 all-get p (x ∷ xs) zero d within h = (and_parts (p x) (list_all p xs) h).0
@@ -25,6 +26,7 @@ parted-at p (x ∷ xs) h zero (suc j) d low within is = first-passes p x xs j d 
 parted-at p (x ∷ xs) h (suc i) zero d low within is = absurd (omega (arith, low))
 parted-at p (x ∷ xs) h (suc i) (suc j) d low within is = parted-at p xs h.1 i j d (omega (arith, low)) (omega (arith, within)) is
 
+-- All images pass exactly where all elements pass by their images.
 all-map : {X Y : Type 0} (f : X → Y) (p : Y → Bool) (xs : List X) → list_all p (map f xs) ≡ list_all (λ x. p (f x)) xs
 all-map f p [] = refl
 all-map f p (x ∷ xs) = ap (λ (b : Bool). p (f x) && b) (all-map f p xs)

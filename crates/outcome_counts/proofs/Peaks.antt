@@ -24,27 +24,35 @@ use Rattle.outcome_counts.proofs.Starts.{KeptAt, kept-at, start-at}
 
 module _ (value : Entry → ℕ) (replies : List KeptReply) (at : ℕ) (stretch : Stretch) (asked : IsAsked replies at stretch)
     (peaks : List Peak) (noted : ArePeaks value (starts_in (entries_of replies)) (entries_of replies) (length replies) peaks) (none : KeptReply) where
+  -- The replies as they are judged.
   abbrev es : List Entry
   es = entries_of replies
 
+  -- The reply that is judged.
   abbrev e : Entry
   e = asked_at replies at none
 
+  -- The judged reply is kept at its place.
   its : KeptAt replies at (slice_index_or replies at none)
   its = kept-at replies at (slice_index_or replies at none) asked.inside (get_or_default replies at none (slice_index_or replies at none) asked.inside)
 
+  -- The places about the judged reply stand in order.
   order : InOrder es e (length its.front)
   order = in-order es its.front e its.rest its.whole asked.rises
 
+  -- The replies to judge are as many as the kept ones.
   long : length es ≡ length replies
   long = length-map replies entry_of
 
+  -- In front of the judged reply are as many as its place tells.
   far : length its.front ≡ at
   far = its.far
 
+  -- The peaks give the highest of the rounds before the judged reply's.
   past : most_below (round_start es e) peaks ≡ highest value (take (round_start es e) es)
   past = noted.most (round_start es e) (let a = order.starts in let b = order.rounds in let f = far in let i = asked.inside in omega (arith, a, b, f, i))
 
+  -- The peaks give the highest of its own in front of the judged reply.
   own : own_below (own_start es e) at peaks ≡ highest value (between (own_start es e) at es)
   own =
       let start : starts_in es at ≡ own_start es e = start-at es its.front e its.rest at its.whole far in
@@ -64,6 +72,7 @@ module _ (value : Entry → ℕ) (replies : List KeptReply) (at : ℕ) (stretch 
 
 -- ---- numbers that are all below one
 
+-- With a number more in front, if one is shown, all are below a bound where the highest is.
 below-step : (o : Option ℕ) (others : List ℕ) (high bound : ℕ) → list_all (λ n. nat_lt n bound) others ≡ nat_le high bound
     → list_all (λ n. nat_lt n bound) (cons_option o others) ≡ nat_le (max (option_map_or (λ n. n + 1) o 0) high) bound
 below-step None others high bound h = h ∙ (let e : max 0 high ≡ high = omega arith in rw e refl)

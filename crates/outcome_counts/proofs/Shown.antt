@@ -19,6 +19,7 @@ use Rattle.outcome_counts.proofs.Keyed.{nat-same}
 use Rattle.outcome_counts.proofs.Later.{all-above}
 use Rattle.outcome_counts.proofs.Peaks.{all-below}
 
+-- A number is the one shown exactly where the two compare as one.
 commit-told : (number : ℕ) (told : Option ℕ) → option_map_or (λ shown. shown == number) told false ≡ option_map_or (λ its. is_eq (nat_cmp its number)) told false
 commit-told number None = refl
 commit-told number (Some n) = sym (nat-same n number)
@@ -35,6 +36,7 @@ numbered-counted entries = length-shown (λ (e : Entry). commit_in e.reply.said)
 pub commits-below : (number : ℕ) (entries : List Entry) → list_all (λ earlier. nat_lt earlier number) (shown_in commit_in entries) ≡ nat_le (highest above_commit entries) number
 commits-below number entries = all-below (λ (e : Entry). commit_in e.reply.said) number entries
 
+-- Two tests that agree on each element are passed by all of a list alike.
 all-agree : {X : Type 0} (p q : X → Bool) → ((x : X) → p x ≡ q x) → (xs : List X) → list_all p xs ≡ list_all q xs
 all-agree p q same [] = refl
 all-agree p q same (x ∷ xs) = ap (λ (b : Bool). b && list_all p xs) (same x) ∙ ap (λ (b : Bool). q x && b) (all-agree p q same xs)

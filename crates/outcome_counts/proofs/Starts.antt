@@ -51,6 +51,7 @@ start-at entries front entry rest place whole far =
     let found : slice_get entries place ≡ Some entry = ap (λ (es : List Entry). slice_get es place) whole ∙ ap (λ (n : ℕ). slice_get (front ++ entry ∷ rest) n) (sym far) ∙ get-at front entry rest in
     ap (λ (o : Option Entry). option_map_or (own_start entries) o 0) found
 
+-- A reply's own begin no further on than at it.
 low-at : (entries front : List Entry) (entry : Entry) (rest : List Entry) → entries ≡ front ++ entry ∷ rest → Rises entries → own_start entries entry ≤ length front
 low-at entries front entry rest whole rises =
     subst (λ (es : List Entry). own_start es entry ≤ length front) (sym whole) (os-at front entry rest (subst Rises whole rises))
@@ -66,6 +67,7 @@ in-front x y (inl b) = or_left (is_past y x) (eqb x.reply.round y.reply.round &&
 in-front x y (inr b) = or_right (is_past y x) (eqb x.reply.round y.reply.round && is_earlier x.reply.who y.reply.who)
     (and_from (eqb x.reply.round y.reply.round) (is_earlier x.reply.who y.reply.who) (let r = b.round in grind (arith, nat_tests, r)) b.who)
 
+-- The next reply's own begin at it, or where those of the one in front of it do.
 next-start : (front : List Entry) (x y : Entry) (rest : List Entry) → Rises (front ++ x ∷ y ∷ rest) → Behind x y ⊎ (Beside x y ⊎ Own x y)
     → (own_start (front ++ x ∷ y ∷ rest) y ≡ length front + 1) ⊎ (own_start (front ++ x ∷ y ∷ rest) y ≡ own_start (front ++ x ∷ y ∷ rest) x)
 next-start front x y rest rises how = by how
@@ -83,6 +85,7 @@ next-start front x y rest rises how = by how
     by (inr (inl b)) = inl (fresh (inr b))
     by (inr (inr o)) = inr (same-front x y o.round o.who (front ++ x ∷ y ∷ rest))
 
+-- What starts at the next place is this place, or what starts at the one in front.
 go-on : (entries front : List Entry) (x : Entry) (rest : List Entry) (place : ℕ) → entries ≡ front ++ x ∷ rest → length front ≡ place → Rises entries → place + 1 < length entries
     → (starts_in entries (place + 1) ≡ place + 1) ⊎ (starts_in entries (place + 1) ≡ starts_in entries place)
 go-on entries front x [] place whole far rises inside =
@@ -124,6 +127,7 @@ pub record KeptAt (replies : List KeptReply) (place : ℕ) (reply : KeptReply) :
   pub far : length front ≡ place
   pub there : (none : KeptReply) → slice_index_or replies place none ≡ reply
 
+-- A kept reply that is found at its place is kept there.
 kept-front : (replies : List KeptReply) (place : ℕ) (reply : KeptReply) → place < length replies → slice_index_or replies place reply ≡ reply → KeptAt replies place reply
 kept-front [] place reply within is = absurd (omega (arith, within))
 kept-front (kept ∷ replies) zero reply within is = record {

@@ -34,6 +34,7 @@ use Rattle.outcome_history.proofs.Noted.{push-none, filter-all, kept-next}
 
 -- ---- the places of replies
 
+-- With a reply more, its place is put behind those that pass, if it passes.
 places-append : (test : Entry → Bool) (place : ℕ) (front : List Entry) (entry : Entry)
     → places_of test place (front ++ entry ∷ []) ≡ with_mark (test entry) (place + length front) (places_of test place front)
 places-append test place [] entry = let e : place ≡ place + 0 = omega arith in by (test entry) e
@@ -55,6 +56,7 @@ places-append test place (first ∷ front) entry =
     by true h = ap (λ (ps : List ℕ). place ∷ ps) h ∙ pushed (test entry) (place + suc (length front)) (places_of test (place + 1) front)
     by false h = h
 
+-- The places among the first replies, with the next one's if it passes, are those among one more.
 places-next : (test : Entry → Bool) (entries front : List Entry) (entry : Entry) (rest : List Entry) (n : ℕ) → entries ≡ front ++ entry ∷ rest → length front ≡ n
     → (old : List ℕ) (b : Bool) → test entry ≡ b → old ≡ places_of test 0 (take n entries) → with_mark b n old ≡ places_of test 0 (take (n + 1) entries)
 places-next test entries front entry rest n whole far old b is are =
@@ -79,6 +81,7 @@ first-next test entries front entry rest n whole far old b is are =
     ∙ first-pushed b n (places_of test 0 (take n entries))
     ∙ ap (λ (ps : List ℕ). slice_get ps 0) (places-next test entries front entry rest n whole far (places_of test 0 (take n entries)) b is refl)
 
+-- A number is keyed by what is told exactly where it is the one shown.
 keyed-by : (number : ℕ) (told : Option ℕ) → is_keyed nat_cmp number told ≡ option_map_or (λ shown. shown == number) told false
 keyed-by number None = refl
 keyed-by number (Some shown) = nat-same shown number
@@ -130,6 +133,7 @@ laid-one front before now spot left had owner laid later has noted =
 
 -- ---- several changes
 
+-- Of changes that are made at a time none is made behind it.
 all-made : (number : ℕ) (changes : List (Place × Option (List Cell))) → AreLater number (timed number changes)
 all-made number [] = refl
 all-made number (change ∷ changes) = let e : nat_le number number ≡ true = grind (arith, nat_tests) in rw e (all-made number changes)
@@ -215,10 +219,12 @@ module _ (openings : List (Option ℕ)) (entries : List Entry) where
       ∙ sym (append_assoc (commit_writes openings entries first) (commits_from openings entries (first + 1) count) (commit_writes openings entries ((first + 1) + count)))
       ∙ ap (λ (n : ℕ). (commit_writes openings entries first ++ commits_from openings entries (first + 1) count) ++ commit_writes openings entries n) f
 
+  -- What a transaction made at a number, if there is one, has no write behind the number.
   made-at-by : (number place : ℕ) (opening : Option ℕ) → AreLater number (option_map_or (made_of openings entries number place) opening [])
   made-at-by number place None = refl
   made-at-by number place (Some owner) = all-made number (changes_of (up_to place (own_writes owner 0 openings entries)))
 
+  -- What the transaction of a line made at a number, if there is one, has no write behind it.
   commit-at-by : (number : ℕ) (place : Option ℕ) → AreLater number (option_map_or (λ place. option_map_or (made_of openings entries number place) (opening_of openings place) []) place [])
   commit-at-by number None = refl
   commit-at-by number (Some place) = made-at-by number place (opening_of openings place)

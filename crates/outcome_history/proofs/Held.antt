@@ -35,6 +35,7 @@ held_from place held (entry ∷ entries) = held_from (place + 1) (open_next entr
 abbrev pub held_behind : List Entry → Who → Option ℕ
 held_behind entries = held_from 0 (λ who. None) entries
 
+-- Behind a reply more, what is open from a place on is what the reply makes of it.
 held-append : (place : ℕ) (held : Who → Option ℕ) (front : List Entry) (entry : Entry) → held_from place held (front ++ entry ∷ []) ≡ open_next entry (place + length front) (held_from place held front)
 held-append place held [] entry = let e : place ≡ place + 0 = omega arith in ap (λ (n : ℕ). open_next entry n held) e
 held-append place held (first ∷ front) entry =
@@ -70,11 +71,13 @@ openings-push front entry =
     openings-append 0 (λ who. None) front (entry ∷ [])
     ∙ (let e : 0 + length front ≡ length front = omega arith in ap (λ (n : ℕ). openings_in front ++ opening_next entry n (held_behind front) ∷ []) e)
 
+-- With a reply more, the open transactions are what it makes of those behind the front.
 held-push : (front : List Entry) (entry : Entry) → held_behind (front ++ entry ∷ []) ≡ open_next entry (length front) (held_behind front)
 held-push front entry =
     held-append 0 (λ who. None) front entry
     ∙ (let e : 0 + length front ≡ length front = omega arith in ap (λ (n : ℕ). open_next entry n (held_behind front)) e)
 
+-- With a reply more, a transaction has accepted what it had and what the reply adds.
 so-far-push : (owner : ℕ) (front : List Entry) (entry : Entry) → so_far owner (front ++ entry ∷ []) ≡ so_far owner front ++ own_one owner (length front) (opening_here front entry) entry
 so-far-push owner front entry =
     ap (λ (os : List (Option ℕ)). own_writes owner 0 os (front ++ entry ∷ [])) (openings-push front entry)
@@ -84,48 +87,60 @@ so-far-push owner front entry =
 
 -- ---- what is accepted
 
+-- The changes of the one write that is accepted, if there is one, are its change.
 accepted-one : (place : ℕ) (change : Option (Place × Option (List Cell))) → changes_of (option_map_or (λ its. timed_one place its ∷ []) change []) ≡ option_map_or (λ its. its ∷ []) change []
 accepted-one place None = refl
 accepted-one place (Some change) = refl
 
+-- Of a single reply is kept what it shows, if it shows something.
 kept-one : (f : Entry → Option (Place × Option (List Cell))) (entry : Entry) (shown : Option (Place × Option (List Cell))) → f entry ≡ shown → filter_map f (entry ∷ []) ≡ option_map_or (λ its. its ∷ []) shown []
 kept-one f entry None is = rw is refl
 kept-one f entry (Some change) is = rw is refl
 
+-- What opens a transaction accepts no change.
 opens-accepts-none : (told : Said) (change : Option (Place × Option (List Cell))) → is_some (snapshot_in told) ≡ true → (if is_accepted told then change else None) ≡ None
 opens-accepts-none (said.At number) change h = refl
 opens-accepts-none _ change h = absurd (let never : ⊥ = cc in never)
 
+-- Where true were the same as false, anything would follow.
 impossible : {P : Type 0} → true ≡ false → P
 impossible h = absurd (let never : ⊥ = cc in never)
 
+-- Where there are no writes, a choice of them has none.
 none-of : (b : Bool) (ws : List TimedWrite) → ws ≡ [] → (if b then ws else []) ≡ []
 none-of true ws h = h
 none-of false ws h = refl
 
+-- The numbers that two equal options hold are the same.
 some-number : (a b : ℕ) → Some a ≡ Some b → a ≡ b
 some-number a b h = ap (λ (o : Option ℕ). unwrap_or o a) h
 
+-- The replies that two equal options hold are the same.
 some-entry : (a b : Entry) → Some a ≡ Some b → a ≡ b
 some-entry a b h = ap (λ (o : Option Entry). unwrap_or o a) h
 
--- What stands behind replies: the open transactions, and what each has accepted; none that is opened later has.
+-- What stands behind replies: the open transactions, and what each has accepted; none that is
+-- opened later has.
 pub record Stands (front : List Entry) : Type 0 where
   pub idle : (k : ℕ) → held_behind front (Worker k) ≡ None
   pub standing : (who : Who) → Standing who front (held_behind front who)
   pub own : (who : Who) (owner : ℕ) → held_behind front who ≡ Some owner → changes_of (so_far owner front) ≡ filter_map accepted_write (thread who (drop owner front))
   pub fresh : (owner : ℕ) → length front ≤ owner → so_far owner front ≡ []
 
+-- Before all replies no transaction is open, and none has accepted anything.
 stands-nil : Stands []
 stands-nil = record { idle = λ k. refl; standing = standing-nil; own = λ who owner h. absurd (let never : ⊥ = cc in never); fresh = λ owner h. refl }
 
 module _ (entries front : List Entry) (entry : Entry) (rest : List Entry) (whole : entries ≡ front ++ entry ∷ rest) (outside : OpensOutside entries) (stands : Stands front) where
+  -- Where the open transaction of each session is opened, behind the replies in front.
   abbrev held : Who → Option ℕ
   held = held_behind front
 
+  -- The session or worker of the reply.
   abbrev its : Who
   its = entry.reply.who
 
+  -- A transaction that one has open behind the front is open there.
   open-of : (who : Who) (owner : ℕ) → held who ≡ Some owner → IsOpen who front owner
   open-of who owner h = subst (Standing who front) h (stands.standing who)
 
@@ -147,10 +162,12 @@ module _ (entries front : List Entry) (entry : Entry) (rest : List Entry) (whole
       ∙ ap (slice_get (y.ahead ++ y.opening ∷ y.mid)) (x.far ∙ sym y.far) ∙ get-at y.ahead y.opening y.mid) in
       sym x.of ∙ ap (λ (e : Entry). e.reply.who) one ∙ y.of
 
+  -- A worker has no transaction open.
   worker-none : (who : Who) → is_worker who ≡ true → held who ≡ None
   worker-none (Session n) h = impossible (sym h)
   worker-none (Worker n) h = stands.idle n
 
+  -- There is no place where a worker's transaction is opened.
   no-owner : (who : Who) (owner : ℕ) → is_worker who ≡ true → held who ≡ Some owner → ⊥
   no-owner who owner h k = let e : None ≡ Some owner = sym (worker-none who h) ∙ k in let never : ⊥ = cc in never
 
@@ -163,11 +180,13 @@ module _ (entries front : List Entry) (entry : Entry) (rest : List Entry) (whole
       by (inl e) = absurd (never (is ∙ ap Some e))
       by (inr n) = ne_eqb at owner n
 
+  -- A transaction that is neither opened at the reply nor open to its session is not the reply's.
   not-opened : (owner : ℕ) (opens : Bool) → is_some (snapshot_in entry.reply.said) ≡ opens → (length front ≡ owner → ⊥) → (held its ≡ Some owner → ⊥)
       → is_opened owner (if opens then Some (length front) else held its) ≡ false
   not-opened owner true is here never = ne_eqb (length front) owner here
   not-opened owner false is here never = other-opening owner (held its) refl never
 
+  -- A transaction that is neither opened at the reply nor its session's accepts nothing by it.
   none-more : (owner : ℕ) → (length front ≡ owner → ⊥) → (held its ≡ Some owner → ⊥) → so_far owner (front ++ entry ∷ []) ≡ so_far owner front
   none-more owner here never =
       so-far-push owner front entry
@@ -175,9 +194,11 @@ module _ (entries front : List Entry) (entry : Entry) (rest : List Entry) (whole
       (not-opened owner (is_some (snapshot_in entry.reply.said)) refl here never)
       ∙ push-none (so_far owner front)
 
+  -- With a reply more, those from a place in front on are the same and the reply.
   dropped : (owner : ℕ) → owner ≤ length front → drop owner (front ++ entry ∷ []) ≡ drop owner front ++ entry ∷ []
   dropped owner h = drop-append-le owner front (entry ∷ []) h
 
+  -- With a reply more, one's own from a place on have it too, if it is to him.
   thread-more : (who : Who) (owner : ℕ) (b : Bool) → owner ≤ length front → is_same its who ≡ b → thread who (drop owner (front ++ entry ∷ [])) ≡ thread who (drop owner front) ++ cond b (entry ∷ []) []
   thread-more who owner b h is =
       ap (thread who) (dropped owner h) ∙ filter-append (λ e. is_same e.reply.who who) (drop owner front) (entry ∷ [])
@@ -223,6 +244,8 @@ module _ (entries front : List Entry) (entry : Entry) (rest : List Entry) (whole
       ∙ sym (ap (λ (es : List Entry). filter_map accepted_write (thread who es)) (drop_at front (entry ∷ []) owner far)
       ∙ ap (λ (b : Bool). filter_map accepted_write (cond b (entry ∷ []) [])) same ∙ kept-one accepted_write entry None none)
 
+  -- By whose the reply is, an open transaction has accepted the writes of its session from there
+  -- on.
   own-by : (who : Who) (owner : ℕ) (worker same : Bool) → is_worker its ≡ worker → is_same its who ≡ same
       → (if worker then held who else (if same then own_next entry (length front) (held who) else held who)) ≡ Some owner
       → changes_of (so_far owner (front ++ entry ∷ [])) ≡ filter_map accepted_write (thread who (drop owner (front ++ entry ∷ [])))
@@ -237,6 +260,7 @@ module _ (entries front : List Entry) (entry : Entry) (rest : List Entry) (whole
       by false true t e h = absurd (let never : ⊥ = cc in never)
       by false false t e h = goes-on who owner h s t
 
+  -- By whose the reply is, a worker has no transaction open behind it.
   idle-by : (k : ℕ) (worker same : Bool) → is_worker its ≡ worker → is_same its (Worker k) ≡ same
       → (if worker then held (Worker k) else (if same then own_next entry (length front) (held (Worker k)) else held (Worker k))) ≡ None
   idle-by k true same w s = stands.idle k
@@ -257,6 +281,7 @@ module _ (entries front : List Entry) (entry : Entry) (rest : List Entry) (whole
         ∙ stands.fresh owner (omega (arith, high));
   }
 
+-- What stands behind a front stands behind it and further replies.
 stands-on : (entries front back rest : List Entry) → entries ≡ (front ++ back) ++ rest → OpensOutside entries → Stands front → Stands (front ++ back)
 stands-on entries front [] rest whole outside stands = subst Stands (sym (push-none front)) stands
 stands-on entries front (entry ∷ back) rest whole outside stands =

@@ -37,6 +37,7 @@ pub record FirstAt (test : Entry → Bool) (place : ℕ) (entries : List Entry) 
   pub found : find test entries ≡ Some entry
   pub passes : test entry ≡ true
 
+-- The numbers that two equal options hold are the same.
 some-number : (a b : ℕ) → Some a ≡ Some b → a ≡ b
 some-number a b h = ap (λ (o : Option ℕ). unwrap_or o a) h
 
@@ -79,12 +80,15 @@ commits-end number (said.Committed shown) h = refl
 commits-end number _ h = absurd (let never : ⊥ = cc in never)
 
 module _ (entries : List Entry) (ordered : Ordered entries) (outside : OpensOutside entries) (are : AreOpenings entries (openings_in entries)) where
+  -- Where the transactions of the replies were opened.
   abbrev os : List (Option ℕ)
   os = openings_in entries
 
+  -- The write set of each commit number.
   abbrev written : ℕ → WriteSet
   written = committed_writes entries (transactions_of entries)
 
+  -- What the transaction of a line wrote, if there is such a line.
   abbrev of_line : Option Entry → WriteSet
   of_line line = option_map_or (λ t. writes_in t.replies) (option_and_then (transaction_with (transactions_of entries)) line) []
 
@@ -104,6 +108,8 @@ module _ (entries : List Entry) (ordered : Ordered entries) (outside : OpensOuts
       ∙ ap (λ (cs : List (Place × Option (List Cell))). after_writes rows (timed number cs)) (its.ended (commits-end number first.entry.reply.said first.passes))
       ∙ ap (λ (n : ℕ). after_writes rows (made_of os entries number n owner)) far
 
+  -- A commit's write set, laid over rows, leaves what its line's transaction made, if it has a
+  -- line.
   laid-line : (number : ℕ) (rows : State) → Rises rows → (first : Option ℕ) → first_of (commits_as number) entries ≡ first
       → laid_over rows (written number) ≡ after_writes rows (option_map_or (λ place. option_map_or (made_of os entries number place) (opening_of os place) []) first [])
   laid-line number rows h None is = ap (λ (o : Option Entry). laid_over rows (of_line o)) (first-none (commits_as number) 0 entries is)
@@ -111,23 +117,28 @@ module _ (entries : List Entry) (ordered : Ordered entries) (outside : OpensOuts
       let first = first-some (commits_as number) 0 entries place is in
       ap (λ (o : Option Entry). laid_over rows (of_line o)) first.found ∙ laid-found number place rows h first (opening_of os place) refl
 
+  -- A commit's write set, laid over rows, leaves what its writes leave one after another.
   laid-commit : (number : ℕ) (rows : State) → Rises rows → laid_over rows (written number) ≡ after_writes rows (commit_writes os entries number)
   laid-commit number rows h = laid-line number rows h (first_of (commits_as number) entries) refl
 
   -- ---- commits up to a number
 
+  -- Of changes made at a number above a bound none is up to the bound.
   none-up-to : (bound number : ℕ) → bound < number → (changes : List (Place × Option (List Cell))) → up_to bound (timed number changes) ≡ []
   none-up-to bound number h [] = refl
   none-up-to bound number h (change ∷ changes) = let late : nat_le number bound ≡ false = grind (arith, nat_tests, h) in rw late (none-up-to bound number h changes)
 
+  -- Of what a transaction made at a number above a bound none is up to the bound.
   none-opened : (bound number place : ℕ) → bound < number → (opening : Option ℕ) → up_to bound (option_map_or (made_of os entries number place) opening []) ≡ []
   none-opened bound number place h None = refl
   none-opened bound number place h (Some owner) = none-up-to bound number h (changes_of (up_to place (own_writes owner 0 os entries)))
 
+  -- Of what the line of a number above a bound made none is up to the bound.
   none-line : (bound number : ℕ) → bound < number → (first : Option ℕ) → up_to bound (option_map_or (λ place. option_map_or (made_of os entries number place) (opening_of os place) []) first []) ≡ []
   none-line bound number h None = refl
   none-line bound number h (Some place) = none-opened bound number place h (opening_of os place)
 
+  -- Of the commits from a number above a bound on no write is up to the bound.
   none-from : (bound number count : ℕ) → bound < number → up_to bound (commits_from os entries number count) ≡ []
   none-from bound number zero h = refl
   none-from bound number (suc count) h =
@@ -135,6 +146,7 @@ module _ (entries : List Entry) (ordered : Ordered entries) (outside : OpensOuts
       ∙ ap (λ (ws : List TimedWrite). ws ++ up_to bound (commits_from os entries (number + 1) count)) (none-line bound number h (first_of (commits_as number) entries))
       ∙ none-from bound (number + 1) count (omega (arith, h))
 
+  -- The first commits, laid over rows, leave what the writes up to the last of them leave.
   fold-commits : (n number count bound : ℕ) (rows : State) → number + n ≡ bound + 1 → Rises rows
       → fold laid_over rows (take n (map written (range_with_len number count))) ≡ after_writes rows (up_to bound (commits_from os entries number count))
   fold-commits zero number count bound rows is h = sym (ap (after_writes rows) (none-from bound number count (omega (arith, is))))

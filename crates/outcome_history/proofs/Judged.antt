@@ -24,23 +24,29 @@ use Rattle.outcome_history.proofs.Seen.{base-rises}
 use Rattle.outcome_history.proofs.Spanned.{IsSpan, spanned, unspanned}
 use Rattle.std.proofs.lemmas.List.{get_or_default}
 
+-- The changes of some writes leave the same rows at whatever time they are made.
 after-changes : (time : ℕ) (rows : State) (writes : List TimedWrite) → after_writes rows (timed time (changes_of writes)) ≡ after_writes rows writes
 after-changes time rows [] = refl
 after-changes time rows (write ∷ writes) = after-changes time (with_write rows write.place write.row) writes
 
 module _ (tables : List TableDecl) (openings : List (Option ℕ)) (replies : List KeptReply) (output : IsOutput openings (entries_of replies)) (at : ℕ) (inside : at < length replies) (none : KeptReply) where
+  -- The replies as they are judged.
   abbrev entries : List Entry
   entries = entries_of replies
 
+  -- The reply that is judged.
   abbrev entry : Entry
   entry = asked_at replies at none
 
+  -- What all the replies tell.
   abbrev run : Run
   run = run_of tables entries
 
+  -- The judged reply is kept at its place.
   its : KeptAt replies at (slice_index_or replies at none)
   its = kept-at replies at (slice_index_or replies at none) inside (get_or_default replies at none (slice_index_or replies at none) inside)
 
+  -- The openings that the replies tell are theirs.
   own : AreOpenings entries (openings_in entries)
   own = subst (AreOpenings entries) output.each output.own
 

@@ -37,6 +37,7 @@ EachKeyed (write ∷ writes) = IsKeyed write.place write.row × EachKeyed writes
 
 -- ---- states
 
+-- An insertion of a row at the place of its key leaves each row at its own.
 keyed-insert : (rows : State) (place : Place) (row : List Cell) → place ≡ place_of place.table row → AreKeyed rows → AreKeyed (insert_entry place_cmp rows place row)
 keyed-insert [] place row h k = (h, tt)
 keyed-insert (entry ∷ rows) place row h k = by (keyed-insert rows place row h k.1) (place_cmp place entry.0) refl
@@ -47,6 +48,7 @@ keyed-insert (entry ∷ rows) place row h k = by (keyed-insert rows place row h 
     by rest Equal is = (subst (λ (p : Place). p ≡ place_of p.table row) (same-place place entry.0 (ap is_eq is)) h, k.1)
     by rest Greater is = (k.0, rest)
 
+-- A removal leaves each row at the place of its key.
 keyed-remove : (rows : State) (test : Place → Bool) → AreKeyed rows → AreKeyed (remove_entry test rows)
 keyed-remove [] test k = tt
 keyed-remove (entry ∷ rows) test k = by (test entry.0) (keyed-remove rows test k.1)
@@ -55,6 +57,7 @@ keyed-remove (entry ∷ rows) test k = by (test entry.0) (keyed-remove rows test
     by true rest = k.1
     by false rest = (k.0, rest)
 
+-- A write that leaves its row at the place of its key leaves each row at its own.
 keyed-write : (rows : State) (place : Place) (change : Option (List Cell)) → IsKeyed place change → AreKeyed rows → AreKeyed (with_write rows place change)
 keyed-write rows place None h k = keyed-remove rows (is_place place) k
 keyed-write rows place (Some row) h k = keyed-insert rows place row h k
@@ -66,6 +69,7 @@ keyed-after rows (write ∷ writes) h k = keyed-after (with_write rows write.pla
 
 -- ---- writes
 
+-- Writes that leave rows at the places of their keys are so with more of them behind.
 keyed-append : (a b : List TimedWrite) → EachKeyed a → EachKeyed b → EachKeyed (a ++ b)
 keyed-append [] b h k = k
 keyed-append (write ∷ a) b h k = (h.0, keyed-append a b h.1 k)
@@ -79,14 +83,17 @@ keyed-up-to bound (write ∷ writes) h = by (nat_le write.time bound) (keyed-up-
     by true rest = (h.0, rest)
     by false rest = rest
 
+-- Writes that leave rows at the places of their keys are so when made at another time.
 keyed-timed : (time : ℕ) (writes : List TimedWrite) → EachKeyed writes → EachKeyed (timed time (changes_of writes))
 keyed-timed time [] h = tt
 keyed-timed time (write ∷ writes) h = (h.0, keyed-timed time writes h.1)
 
+-- A change, if there is one, leaves its row at the place of its key.
 abbrev IsKeyedChange : Option (Place × Option (List Cell)) → Type 0
 IsKeyedChange None = Unit {0}
 IsKeyedChange (Some change) = IsKeyed change.0 change.1
 
+-- What a command writes leaves its row at the place of its key.
 keyed-command : (asked : Command) → IsKeyedChange (write_of asked)
 keyed-command (command.Insert table row) = refl
 keyed-command (command.Update table row) = refl
@@ -103,10 +110,12 @@ keyed-command (command.Seal table block) = tt
 keyed-command (command.Gather table block) = tt
 keyed-command (command.Export table) = tt
 
+-- A change that is accepted or not leaves its row at the place of its key, if it does anyway.
 keyed-accepted : (b : Bool) (change : Option (Place × Option (List Cell))) → IsKeyedChange change → IsKeyedChange (if b then change else None)
 keyed-accepted true change h = h
 keyed-accepted false change h = tt
 
+-- The one write of a change, where it is made, leaves its row at the place of its key.
 keyed-one : (b : Bool) (time : ℕ) (change : Option (Place × Option (List Cell))) → IsKeyedChange change → EachKeyed (if b then option_map_or (λ its. timed_one time its ∷ []) change [] else [])
 keyed-one true time None h = tt
 keyed-one true time (Some change) h = (h, tt)
@@ -122,10 +131,12 @@ keyed-own owner place (opening ∷ openings) (entry ∷ entries) =
     (keyed-own owner (place + 1) openings entries)
 
 module _ (openings : List (Option ℕ)) (entries : List Entry) where
+  -- What a transaction made, if there is one, leaves rows at the places of their keys.
   keyed-made : (number place : ℕ) (opening : Option ℕ) → EachKeyed (option_map_or (made_of openings entries number place) opening [])
   keyed-made number place None = tt
   keyed-made number place (Some owner) = keyed-timed number (up_to place (own_writes owner 0 openings entries)) (keyed-up-to place (own_writes owner 0 openings entries) (keyed-own owner 0 openings entries))
 
+  -- What the line of a commit made, if there is one, leaves rows at the places of their keys.
   keyed-line : (number : ℕ) (first : Option ℕ) → EachKeyed (option_map_or (λ place. option_map_or (made_of openings entries number place) (opening_of openings place) []) first [])
   keyed-line number None = tt
   keyed-line number (Some place) = keyed-made number place (opening_of openings place)

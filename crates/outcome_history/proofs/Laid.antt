@@ -23,6 +23,7 @@ use Rattle.outcome_history.specs.Timed.{TimedWrite, after_writes, left_at, timed
 pub rises-write : (rows : State) (place : Place) (change : Option (List Cell)) → Rises rows → Rises (with_write rows place change)
 rises-write rows place change h = rises-laid rows ((place, change) ∷ []) h
 
+-- A change that is there by a test, or else what was, is a choice by the test.
 unwrapped : (b : Bool) (change : Option (List Cell)) (was : Option (List Cell)) → unwrap_or (cond b (Some change) None) was ≡ cond b change was
 unwrapped true change was = refl
 unwrapped false change was = refl
@@ -38,15 +39,18 @@ pub rises-after : (rows : State) (writes : List TimedWrite) → Rises rows → R
 rises-after rows [] h = h
 rises-after rows (write ∷ writes) h = rises-after (with_write rows write.place write.row) writes (rises-write rows write.place write.row h)
 
+-- What holds of each element holds of the last of a list that has a first.
 last-some : {X : Type 0} (x : X) (xs : List X) (P : Option X → Type 0) → ((y : X) → P (Some y)) → P (last_or (Some x) xs)
 last-some x [] P h = h x
 last-some x (y ∷ xs) P h = last-some y xs P h
 
+-- What the last of further writes leaves, or else the first, is what the last of all leaves.
 left-onto : (was : Option (List Cell)) (write : TimedWrite) (xs : List TimedWrite)
     → unwrap_or (option_map (λ w. w.row) (last_or None xs)) write.row ≡ unwrap_or (option_map (λ w. w.row) (last_or (Some write) xs)) was
 left-onto was write [] = refl
 left-onto was write (x ∷ xs) = last-some x xs (λ o. unwrap_or (option_map (λ w. w.row) o) write.row ≡ unwrap_or (option_map (λ w. w.row) o) was) (λ y. refl)
 
+-- What a first write and others leave at a place is what the last of all leaves there.
 left-step : (was : Option (List Cell)) (q : Place) (write : TimedWrite) (writes : List TimedWrite) (b : Bool)
     → unwrap_or (left_at q writes) (cond b write.row was)
     ≡ unwrap_or (option_map (λ w. w.row) (last_or None (cond b (write ∷ filter (λ w. is_place q w.place) writes) (filter (λ w. is_place q w.place) writes)))) was
@@ -68,12 +72,14 @@ after-append rows (write ∷ front) back = after-append (with_write rows write.p
 
 -- ---- states with the same rows at each place are one
 
+-- No two places are each below the other.
 less-both : (a b : Place) → place_cmp a b ≡ Less → place_cmp b a ≡ Less → ⊥
 less-both a b h k =
     let e : Less ≡ place_cmp a a = sym (place_cmp-total.trans a b a h k) in
     let f : is_eq Less ≡ true = ap is_eq e ∙ itself a in
     let never : ⊥ = cc in never
 
+-- At the place of its first entry a state has this entry's row.
 first-here : (x : Place × List Cell) (xs : State) → at_place (x ∷ xs) x.0 ≡ Some x.1
 first-here x xs = ap (λ (b : Bool). cond b (Some x.1) (at_place xs x.0)) (itself x.0)
 
@@ -84,9 +90,11 @@ found-behind y ys q r false is fails below h =
     let there : at_place ys q ≡ Some r = ap (λ (b : Bool). cond b (Some y.1) (at_place ys q)) (sym is) ∙ h in
     among q ys y.0 below (ap is_some there)
 
+-- The rows that two equal options hold are the same.
 some-is : (a b : List Cell) → Some a ≡ Some b → a ≡ b
 some-is a b h = ap (λ (o : Option (List Cell)). unwrap_or o a) h
 
+-- States with the same first entry and the same at each place have the same behind it.
 rest-same : (x y : Place × List Cell) (xs ys : State) → x ≡ y → Below x.0 xs → Below y.0 ys → ((q : Place) → at_place (x ∷ xs) q ≡ at_place (y ∷ ys) q)
     → (q : Place) (b : Bool) → is_place q x.0 ≡ b → at_place xs q ≡ at_place ys q
 rest-same x y xs ys same low high h q true is =
@@ -127,11 +135,13 @@ same-states (x ∷ xs) (y ∷ ys) h k same = by (same-states xs ys h.1 k.1) (is_
 
 -- ---- a transaction's write set leaves what its writes do one after another
 
+-- A change that is found first is what is left, or else what the others leave.
 laid-one : (b : Bool) (change : Option (List Cell)) (found : Option (Option (List Cell))) (was : Option (List Cell))
     → unwrap_or (cond b (Some change) found) was ≡ cond b change (unwrap_or found was)
 laid-one true change found was = refl
 laid-one false change found was = refl
 
+-- A write set with one write more, laid over rows, leaves what this write leaves after the others.
 laid-insert : (rows : State) (writes : WriteSet) (place : Place) (change : Option (List Cell)) → Rises rows → Rises writes
     → laid_over rows (insert_entry place_cmp writes place change) ≡ with_write (laid_over rows writes) place change
 laid-insert rows writes place change h k =
@@ -148,6 +158,7 @@ laid-insert rows writes place change h k =
 abbrev pub entered : WriteSet → List (Place × Option (List Cell)) → WriteSet
 entered writes changes = fold (λ writes write. insert_entry place_cmp writes write.0 write.1) writes changes
 
+-- A write set with changes entered, laid over rows, leaves what these leave after the others.
 laid-entered : (time : ℕ) (rows : State) (writes : WriteSet) (changes : List (Place × Option (List Cell))) → Rises rows → Rises writes
     → laid_over rows (entered writes changes) ≡ after_writes (laid_over rows writes) (timed time changes)
 laid-entered time rows writes [] h k = refl

@@ -34,11 +34,13 @@ use Rattle.outcome_history.proofs.Spanned.{IsSpan}
 
 -- ---- one more write
 
+-- A key that compares as less is below the other.
 below-is : (a b : ℤ) (low high : Bool) → int_lt a b ≡ low → cond low Less (cond high Greater Equal) ≡ Less → int_lt a b ≡ true
 below-is a b true high is h = is
 below-is a b false true is h = absurd (let never : ⊥ = cc in never)
 below-is a b false false is h = absurd (let never : ⊥ = cc in never)
 
+-- A key that compares as greater is not below the other.
 above-is : (a b : ℤ) (low high : Bool) → int_lt a b ≡ low → cond low Less (cond high Greater Equal) ≡ Greater → int_lt a b ≡ false
 above-is a b true high is h = absurd (let never : ⊥ = cc in never)
 above-is a b false high is h = is
@@ -63,19 +65,23 @@ later-key table place (write ∷ writes) low here below h = by (write.0.table ==
         ap (int_lt place.key) (sym key) ∙ below-is place.key write.0.key (int_lt place.key write.0.key) (int_lt write.0.key place.key) refl less
     by false is k again = again k
 
+-- A key that is below the least one, if there is one, is the lesser of both.
 lesser-low : (key : ℤ) (o : Option ℤ) → ((low : ℤ) → o ≡ Some low → int_lt key low ≡ true) → lesser o key ≡ key
 lesser-low key None h = refl
 lesser-low key (Some low) h = ap (λ (b : Bool). if b then key else low) (h low refl)
 
+-- A choice between a key and itself is this key.
 lesser-itself : (key : ℤ) (b : Bool) → key ≡ (if b then key else key)
 lesser-itself key true = refl
 lesser-itself key false = refl
 
+-- The least key of one write is its key, if it is of the table.
 least-first : (table : ℕ) (place : Place) (row : Option (List Cell)) (b : Bool)
     → option_map (λ (w : Place × Option (List Cell)). w.0.key) (cond b (Some (place, row)) None) ≡ (if b then Some (lesser None place.key) else None)
 least-first table place row true = refl
 least-first table place row false = refl
 
+-- The least key of a first write, if it is of the table, and else of the others.
 abbrev first_key : ℕ → Bool → Place × Option (List Cell) → WriteSet → Option ℤ
 first_key table b write writes = option_map (λ (w : Place × Option (List Cell)). w.0.key) (cond b (Some write) (find (λ (w : Place × Option (List Cell)). w.0.table == table) writes))
 
@@ -117,6 +123,7 @@ least-insert table (write ∷ writes) place row h = by (least-insert table write
 
 -- ---- all that is written
 
+-- The least key of a write set with changes entered goes on from its own with each change.
 least-entered : (table : ℕ) (changes : List (Place × Option (List Cell))) (writes : WriteSet) → Rises writes
     → least_key table (entered writes changes) ≡ fold (λ (least : Option ℤ) (change : Place × Option (List Cell)). least_with table least change.0) (least_key table writes) changes
 least-entered table [] writes h = refl
@@ -124,6 +131,7 @@ least-entered table (change ∷ changes) writes h =
     least-entered table changes (insert_entry place_cmp writes change.0 change.1) (rises-insert change.0 change.1 writes h)
     ∙ ap (λ (o : Option ℤ). fold (λ (least : Option ℤ) (change : Place × Option (List Cell)). least_with table least change.0) o changes) (least-insert table writes change.0 change.1 h)
 
+-- The least key goes on with the changes of writes as with the writes.
 least-timed : (table : ℕ) (writes : List TimedWrite) (least : Option ℤ)
     → fold (λ (least : Option ℤ) (change : Place × Option (List Cell)). least_with table least change.0) least (changes_of writes)
     ≡ fold (λ (least : Option ℤ) (write : TimedWrite). least_with table least write.place) least writes
@@ -146,15 +154,19 @@ least-changed table bound (change ∷ own) least = by (nat_le change.left.time b
 -- ---- the transaction of the reply that is judged
 
 module _ (tables : List TableDecl) (openings : List (Option ℕ)) (replies : List KeptReply) (output : IsOutput openings (entries_of replies)) (at : ℕ) (inside : at < length replies) (none : KeptReply) where
+  -- The replies as they are judged.
   abbrev entries : List Entry
   entries = entries_of replies
 
+  -- The reply that is judged.
   abbrev entry : Entry
   entry = asked_at replies at none
 
+  -- What all the replies tell.
   abbrev run : Run
   run = run_of tables entries
 
+  -- What is kept tells of the transaction of the judged reply.
   known : (owner : ℕ) → (span : IsSpan entries at entry owner) → IsKnown openings entries owner at entry span.span
   known owner span = record {
     snapshot =

@@ -45,17 +45,20 @@ pub push-none : {X : Type 0} (xs : List X) → xs ++ [] ≡ xs
 push-none [] = refl
 push-none (x ∷ xs) = ap (λ (ys : List _). x ∷ ys) (push-none xs)
 
+-- Where all elements pass, the one at each place does.
 all-get : {X : Type 0} (p : X → Bool) (xs : List X) (i : ℕ) (d : X) → i < length xs → list_all p xs ≡ true → p (get_or xs i d) ≡ true
 all-get p [] i d within h = absurd (omega (arith, within))
 all-get p (x ∷ xs) zero d within h = (and_parts (p x) (list_all p xs) h).0
 all-get p (x ∷ xs) (suc i) d within h = all-get p xs i d (omega (arith, within)) (and_parts (p x) (list_all p xs) h).1
 
+-- Elements that rise by their times do so with one more, if put, that is no earlier.
 rise-by : {X : Type 0} (time : X → ℕ) (put : Bool) (x : X) (xs : List X) → (put ≡ true → list_all (λ y. nat_le (time y) (time x)) xs ≡ true)
     → IsNonDecreasingBy time xs → IsNonDecreasingBy time (with_mark put x xs)
 rise-by time true x xs within rise = IsNonDecreasingBy-push time xs x rise
     (λ d some. let last = all-get (λ y. nat_le (time y) (time x)) xs (length xs - 1) d (omega (arith, some)) (within refl) in grind (arith, nat_tests, last))
 rise-by time false x xs within rise = rise
 
+-- Where all elements pass, and one more if it is put, all of them with it do.
 within-by : {X : Type 0} (p : X → Bool) (put : Bool) (x : X) (xs : List X) → list_all p xs ≡ true → (put ≡ true → p x ≡ true) → list_all p (with_mark put x xs) ≡ true
 within-by p true x xs h one = list_all-append p xs (x ∷ []) ∙ rw (h, one refl) refl
 within-by p false x xs h one = h
@@ -69,11 +72,13 @@ filter-all p (x ∷ xs) h =
 
 -- ---- keys
 
+-- Two comparisons in turn are equal exactly where both are.
 then-same : (a b : Ordering) → is_eq (ordering_then a b) ≡ (is_eq a && is_eq b)
 then-same Less b = refl
 then-same Equal b = refl
 then-same Greater b = refl
 
+-- Of three conditions together the first and the last may change places.
 turned : (a b c : Bool) → (a && (b && c)) ≡ (c && (b && a))
 turned false false false = refl
 turned false false true = refl
@@ -84,6 +89,7 @@ turned true false true = refl
 turned true true false = refl
 turned true true true = refl
 
+-- Three comparisons in turn are equal where the last is, and the second and first in turn are.
 then-turned : (a b c : Ordering) → is_eq (ordering_then a (ordering_then b c)) ≡ (is_eq c && is_eq (ordering_then b a))
 then-turned a b c =
     then-same a (ordering_then b c)
@@ -91,11 +97,13 @@ then-turned a b c =
     ∙ turned (is_eq a) (is_eq b) (is_eq c)
     ∙ ap (λ (t : Bool). is_eq c && t) (sym (then-same b a))
 
+-- The places of owners' rows compare as one where the owners are equal and the places are one.
 spot-same : (a b : Spot) → is_eq (spot_cmp a b) ≡ (eqb a.owner b.owner && is_place (place_in (row_at a)) (place_in (row_at b)))
 spot-same a b =
     then-turned (int_cmp a.key b.key) (nat_cmp a.table b.table) (nat_cmp a.owner b.owner)
     ∙ ap (λ (t : Bool). t && is_place (place_in (row_at a)) (place_in (row_at b))) (nat-same a.owner b.owner)
 
+-- The tables of owners compare as one where the owners and the tables are equal.
 shelf-same : (a b : Shelf) → is_eq (shelf_cmp a b) ≡ (eqb a.owner b.owner && eqb a.table b.table)
 shelf-same a b =
     then-same (nat_cmp a.owner b.owner) (nat_cmp a.table b.table)
@@ -111,26 +119,33 @@ module _ (bases : ℕ → State) (written : ℕ → List TimedWrite) (before now
     (latest : list_all (λ write. nat_le write.time left.time) (written spot.owner) ≡ true)
     (rises : Rises (bases spot.owner))
     (has : had ≡ is_some (at_place (after_writes (bases spot.owner) (written spot.owner)) (place_in (row_at spot)))) where
+  -- The write that is noted.
   abbrev more : TimedWrite
   more = write_noted spot left
 
+  -- The place of the write that is noted.
   abbrev its : Place
   its = place_in (row_at spot)
 
+  -- The writes of each owner, with the one that is noted.
   abbrev now_written : ℕ → List TimedWrite
   now_written = with_one spot.owner more written
 
+  -- The writes of another owner are as they were.
   other-written : (owner : ℕ) → eqb spot.owner owner ≡ false → now_written owner ≡ written owner
   other-written owner apart = ap (λ (b : Bool). if b then written owner ++ more ∷ [] else written owner) apart
 
+  -- The writes of the owner have the noted one behind them.
   own-written : (owner : ℕ) → eqb spot.owner owner ≡ true → now_written owner ≡ written owner ++ more ∷ []
   own-written owner same = ap (λ (b : Bool). if b then written owner ++ more ∷ [] else written owner) same
 
+  -- The owner that a test finds to be the write's is the write's.
   owner-is : (owner : ℕ) → eqb spot.owner owner ≡ true → spot.owner ≡ owner
   owner-is owner h = grind (arith, nat_tests, h)
 
   -- what is kept at a place
 
+  -- What is kept at a place has the noted write behind it, where it is the owner's of that place.
   marks-left : (owner : ℕ) (place : Place) (b : Bool) → eqb spot.owner owner ≡ b
       → marks_at spot_cmp now.left (spot_of owner place) ≡ with_mark (b && is_place place its) left (marks_at spot_cmp before.left (spot_of owner place))
   marks-left owner place b is =
@@ -138,6 +153,7 @@ module _ (bases : ℕ → State) (written : ℕ → List TimedWrite) (before now
       ∙ ap (λ (put : Bool). with_mark put left (marks_at spot_cmp before.left (spot_of owner place)))
       (spot-same spot (spot_of owner place) ∙ ap (λ (t : Bool). t && is_place its place) is ∙ ap (λ (t : Bool). b && t) (symmetric its place))
 
+  -- With the noted write, what is kept at a place up to a bound is what the writes left there.
   left-push : (place : Place) (bound : ℕ) (marks : List Left) (writes : List TimedWrite) (c d : Bool) → is_place place its ≡ c → nat_le left.time bound ≡ d
       → row_up_to bound marks ≡ left_at place (up_to bound writes)
       → row_up_to bound (with_mark c left marks) ≡ left_at place (up_to bound writes ++ cond d (more ∷ []) [])
@@ -159,6 +175,7 @@ module _ (bases : ℕ → State) (written : ℕ → List TimedWrite) (before now
       ∙ ap (λ (b : Bool). filter (λ w. is_place place w.place) (up_to bound writes) ++ cond b (more ∷ []) []) is)
       ∙ ap (option_map (λ w. w.row)) (last-push None (filter (λ w. is_place place w.place) (up_to bound writes)) more))
 
+  -- What is kept now at an owner's place up to a bound is what his writes now left there.
   now-left-by : (owner : ℕ) (place : Place) (bound : ℕ) (b : Bool) → eqb spot.owner owner ≡ b
       → row_up_to bound (marks_at spot_cmp now.left (spot_of owner place)) ≡ left_at place (up_to bound (now_written owner))
   now-left-by owner place bound false is =
@@ -170,9 +187,11 @@ module _ (bases : ℕ → State) (written : ℕ → List TimedWrite) (before now
       ∙ ap (left_at place) (sym (filter-push (λ w. nat_le w.time bound) (written owner) more))
       ∙ ap (λ (ws : List TimedWrite). left_at place (up_to bound ws)) (sym (own-written owner is))
 
+  -- No write of the owner is later than the noted one.
   latest-of : (owner : ℕ) → spot.owner ≡ owner → list_all (λ write. nat_le write.time left.time) (written owner) ≡ true
   latest-of owner e = ap (λ (n : ℕ). list_all (λ write. nat_le write.time left.time) (written n)) (sym e) ∙ latest
 
+  -- Where all an owner's writes now are up to a bound, the old ones are, and his noted one.
   within-rest : (owner bound : ℕ) (b : Bool) → eqb spot.owner owner ≡ b → list_all (λ write. nat_le write.time bound) (now_written owner) ≡ true
       → (list_all (λ write. nat_le write.time bound) (written owner) ≡ true) × (b ≡ true → nat_le left.time bound ≡ true)
   within-rest owner bound false is h =
@@ -183,9 +202,11 @@ module _ (bases : ℕ → State) (written : ℕ → List TimedWrite) (before now
       let parts = and_parts (list_all (λ (write : TimedWrite). nat_le write.time bound) (written owner)) (nat_le left.time bound && true) whole in
       (parts.0, (λ e. (and_parts (nat_le left.time bound) true parts.1).0))
 
+  -- A place that compares as one with the noted write's is of the same owner.
   spot-own : (other : Spot) → is_eq (spot_cmp spot other) ≡ true → eqb spot.owner other.owner ≡ true
   spot-own other h = (and_parts (eqb spot.owner other.owner) (is_place its (place_in (row_at other))) (sym (spot-same spot other) ∙ h)).0
 
+  -- A table at which the noted write's time is put is of the same owner.
   shelf-own : (put : Bool) (other : Shelf) → (put && is_eq (shelf_cmp (shelf_of spot.owner spot.table) other)) ≡ true → eqb spot.owner other.owner ≡ true
   shelf-own put other h =
       let eq = (and_parts put (is_eq (shelf_cmp (shelf_of spot.owner spot.table) other)) h).1 in
@@ -193,6 +214,7 @@ module _ (bases : ℕ → State) (written : ℕ → List TimedWrite) (before now
 
   -- how many rows a table has
 
+  -- The noted write's time, if put, is put at an owner's table where both are the write's.
   time-put : (put : Bool) (owner table : ℕ) (b : Bool) (times : List ℕ) → eqb spot.owner owner ≡ b
       → with_time put (shelf_of spot.owner spot.table) (shelf_of owner table) left.time times ≡ with_mark (b && (eqb spot.table table && put)) left.time times
   time-put put owner table b times is =
@@ -207,6 +229,7 @@ module _ (bases : ℕ → State) (written : ℕ → List TimedWrite) (before now
       turn false true false = refl
       turn false false c = refl
 
+  -- With the noted write's time one more is up to a bound, if it is put and up to it.
   counted : (bound : ℕ) (put d : Bool) (times : List ℕ) → nat_le left.time bound ≡ d → count_up_to bound (with_mark put left.time times) ≡ count_up_to bound times + cond (d && put) 1 0
   counted bound false true times is = omega arith
   counted bound false false times is = omega arith
@@ -216,6 +239,7 @@ module _ (bases : ℕ → State) (written : ℕ → List TimedWrite) (before now
       same true = refl
       same false = refl
 
+  -- With the noted write a table has the rows that it had, but for one that it gains or loses.
   rows-next : (table bound : ℕ) (d : Bool) → nat_le left.time bound ≡ d
       → rows_in table (after_writes (bases spot.owner) (up_to bound (written spot.owner) ++ cond d (more ∷ []) [])) + cond (d && (eqb spot.table table && loses had (row_left left))) 1 0
       ≡ rows_in table (after_writes (bases spot.owner) (up_to bound (written spot.owner))) + cond (d && (eqb spot.table table && gains had (row_left left))) 1 0
@@ -231,6 +255,7 @@ module _ (bases : ℕ → State) (written : ℕ → List TimedWrite) (before now
       ∙ step
       ∙ ap (λ (b : Bool). rows_in table (after_writes (bases spot.owner) (up_to bound (written spot.owner))) + cond (eqb spot.table table && gains b (row_left left)) 1 0) (sym found)
 
+  -- The rows of an owner's table now are those at first, with the gained and without the lost.
   now-rows-by : (owner table bound : ℕ) (b : Bool) → eqb spot.owner owner ≡ b
       → rows_in table (after_writes (bases owner) (up_to bound (now_written owner))) + count_up_to bound (marks_at shelf_cmp now.lost (shelf_of owner table))
       ≡ rows_in table (bases owner) + count_up_to bound (marks_at shelf_cmp now.gained (shelf_of owner table))

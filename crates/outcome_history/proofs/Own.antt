@@ -29,9 +29,11 @@ own-append owner place (o ∷ openings) openings2 (e ∷ entries) entries2 long 
     ∙ ap (λ (n : ℕ). own_one owner place o e ++ (own_writes owner (place + 1) openings entries ++ own_writes owner n openings2 entries2)) next
     ∙ sym (append_assoc (own_one owner place o e) (own_writes owner (place + 1) openings entries) (own_writes owner (place + suc (length entries)) openings2 entries2))
 
+-- The writes that two equal options hold are the same.
 some-timed : (a b : TimedWrite) → Some a ≡ Some b → a ≡ b
 some-timed a b h = ap (λ (o : Option TimedWrite). unwrap_or o a) h
 
+-- With a change more, if there is one, the changes are the writes with its write behind them.
 pushed : (time : ℕ) (change : Option Change) (told : Option (Place × Option (List Cell))) (changes : List Change) → option_map written_by change ≡ option_map (timed_one time) told
     → map written_by (option_map_or (λ its. changes ++ its ∷ []) change changes) ≡ map written_by changes ++ option_map_or (λ its. timed_one time its ∷ []) told []
 pushed time None None changes h = sym (push-none (map written_by changes))
@@ -40,6 +42,7 @@ pushed time (Some change) None changes h = absurd (let never : ⊥ = cc in never
 pushed time (Some change) (Some told) changes h =
     map-push written_by changes change ∙ ap (λ (w : TimedWrite). map written_by changes ++ w ∷ []) (some-timed (written_by change) (timed_one time told) h)
 
+-- With a change more, if a test puts it, the changes are the writes with its write behind them.
 pushed-by : (b : Bool) (time : ℕ) (change : Option Change) (told : Option (Place × Option (List Cell))) (changes : List Change) → option_map written_by change ≡ option_map (timed_one time) told
     → map written_by (if b then option_map_or (λ its. changes ++ its ∷ []) change changes else changes)
     ≡ map written_by changes ++ (if b then option_map_or (λ its. timed_one time its ∷ []) told [] else [])

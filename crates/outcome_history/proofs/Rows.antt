@@ -14,12 +14,15 @@ use Rattle.si_machine.proofs.Rising.{same-place, at-below, below-less}
 use Rattle.outcome_history.specs.Timed.{rows_in, gains, loses}
 
 module _ (table : ℕ) where
+  -- The place is the table's.
   abbrev here : Place → Bool
   here place = place.table == table
 
+  -- One where a test is true, else zero.
   abbrev one : Bool → ℕ
   one b = cond b 1 0
 
+  -- With a row in front a table has one row more, if a test says that it is the table's.
   cons-by : (x : Place × List Cell) (xs : State) (b : Bool) → here x.0 ≡ b → rows_in table (x ∷ xs) ≡ one b + rows_in table xs
   cons-by x xs true is = rw is (omega arith)
   cons-by x xs false is = rw is (omega arith)
@@ -28,6 +31,7 @@ module _ (table : ℕ) where
   pub rows-cons : (x : Place × List Cell) (xs : State) → rows_in table (x ∷ xs) ≡ one (here x.0) + rows_in table xs
   rows-cons x xs = cons-by x xs (here x.0) refl
 
+  -- A conjunction with something true is its first.
   both-true : (a b : Bool) → b ≡ true → (a && b) ≡ a
   both-true a b h = rw h (by a)
     where
@@ -35,10 +39,12 @@ module _ (table : ℕ) where
       by true = refl
       by false = refl
 
+  -- A conjunction with something false is false.
   both-false : (a b : Bool) → b ≡ false → (a && b) ≡ false
   both-false true b h = h
   both-false false b h = refl
 
+  -- An insertion adds a row to its table where there was none at the place.
   rows-insert : (rows : State) (place : Place) (row : List Cell) → Rises rows
       → rows_in table (insert_entry place_cmp rows place row) + one (here place && is_some (at_place rows place)) ≡ rows_in table rows + one (here place)
   rows-insert [] place row h =
@@ -66,6 +72,7 @@ module _ (table : ℕ) where
           let b = rows-cons e rows in
           omega (arith, a, b, rest)
 
+  -- A removal takes a row of its table away where there was one at the place.
   rows-remove : (rows : State) (place : Place) → rows_in table (remove_entry (is_place place) rows) + one (here place && is_some (at_place rows place)) ≡ rows_in table rows
   rows-remove [] place =
       let b : one (here place && false) ≡ 0 = ap one (both-false (here place) false refl) in

@@ -38,6 +38,7 @@ abbrev pub Ordered : ℕ → List (List Cell) → Type 0
 Ordered table [] = Unit {0}
 Ordered table (row ∷ rows) = Under table (place_of table row) rows × Ordered table rows
 
+-- The rows that two equal options hold are the same.
 one-row : (a b : List Cell) → Some a ≡ Some b → a ≡ b
 one-row a b h = ap (λ (o : Option (List Cell)). unwrap_or o a) h
 
@@ -46,6 +47,7 @@ module _ (table : ℕ) where
   behind : (e : Place × List Cell) (seen : State) (row : List Cell) → is_place (place_of table row) e.0 ≡ false → at_place (e ∷ seen) (place_of table row) ≡ Some row → at_place seen (place_of table row) ≡ Some row
   behind e seen row apart h = sym (ap (λ (b : Bool). cond b (Some e.1) (at_place seen (place_of table row))) apart) ∙ h
 
+  -- Rows that are found, and are all above the first place, are found behind it.
   all-behind : (e : Place × List Cell) (seen : State) (rows : List (List Cell)) → Under table e.0 rows → Found table (e ∷ seen) rows → Found table seen rows
   all-behind e seen [] under found = tt
   all-behind e seen (row ∷ rows) under found =
@@ -62,21 +64,26 @@ module _ (table : ℕ) where
       never h = let e : eqb table table ≡ true = eq-eqb table table refl in let no : ⊥ = cc in no
   other-table place row false apart is = refl
 
+  -- Rows that are found where the first place is another table's are found behind it.
   all-other : (e : Place × List Cell) (seen : State) (rows : List (List Cell)) → (e.0.table == table) ≡ false → Found table (e ∷ seen) rows → Found table seen rows
   all-other e seen [] apart found = tt
   all-other e seen (row ∷ rows) apart found =
       (behind e seen row (other-table e.0 row (is_place (place_of table row) e.0) apart refl) found.0, all-other e seen rows apart found.1)
 
+  -- A place below one that is below all rows is below them, too.
   under-less : (low high : Place) (rows : List (List Cell)) → place_cmp low high ≡ Less → Under table high rows → Under table low rows
   under-less low high [] less h = tt
   under-less low high (row ∷ rows) less h = (place_cmp-total.trans low high (place_of table row) less h.0, under-less low high rows less h.1)
 
+  -- A first entry of another table leaves a table's count of rows and its contents.
   rows-other : (e : Place × List Cell) (seen : State) → (e.0.table == table) ≡ false → (rows_in table (e ∷ seen) ≡ rows_in table seen) × (contents_of table (e ∷ seen) ≡ contents_of table seen)
   rows-other e seen apart = (rw apart refl, rw apart refl)
 
+  -- A first entry of the table is the first of its contents.
   contents-own : (e : Place × List Cell) (seen : State) → (e.0.table == table) ≡ true → contents_of table (e ∷ seen) ≡ e.1 ∷ contents_of table seen
   contents-own e seen same = rw same refl
 
+  -- A first entry of the table is one more of its rows.
   rows-own : (e : Place × List Cell) (seen : State) → (e.0.table == table) ≡ true → rows_in table (e ∷ seen) ≡ suc (rows_in table seen)
   rows-own e seen same = rw same refl
 
@@ -140,6 +147,7 @@ module _ (table : ℕ) where
 
 -- ---- cells and rows that are tested to be one are one
 
+-- Cells that are tested to be one are one.
 cell-same : (a b : Cell) → is_cell a b ≡ true → a ≡ b
 cell-same Null Null h = refl
 cell-same (Num a) (Num b) h = ap Num ((Decides-int_eq a b).0 h)
@@ -149,6 +157,7 @@ cell-same (Text a) (Text b) h = ap Text ((bytes_eq-Decides a b).0 h)
 cell-same (Blob a) (Blob b) h = ap Blob ((bytes_eq-Decides a b).0 h)
 cell-same _ _ h = absurd (let never : ⊥ = cc in never)
 
+-- Each cell is tested to be one with itself.
 cell-itself : (a : Cell) → is_cell a a ≡ true
 cell-itself Null = refl
 cell-itself (Num a) = (Decides-int_eq a a).1 refl
@@ -157,6 +166,7 @@ cell-itself (Truth false) = refl
 cell-itself (Text a) = (bytes_eq-Decides a a).1 refl
 cell-itself (Blob a) = (bytes_eq-Decides a a).1 refl
 
+-- Lists that are tested to be one, element by element, are one where such elements are.
 lists-same : {X : Type 0} (test : X → X → Bool) → ((a b : X) → test a b ≡ true → a ≡ b) → (xs ys : List X) → pointwise test xs ys ≡ true → xs ≡ ys
 lists-same test same [] [] h = refl
 lists-same test same [] (y ∷ ys) h = absurd (let never : ⊥ = cc in never)
@@ -165,40 +175,49 @@ lists-same test same (x ∷ xs) (y ∷ ys) h =
     let parts = and_parts (test x y) (pointwise test xs ys) h in
     ap (λ z. z ∷ xs) (same x y parts.0) ∙ ap (λ zs. y ∷ zs) (lists-same test same xs ys parts.1)
 
+-- Each list is tested to be one with itself where each element is.
 lists-itself : {X : Type 0} (test : X → X → Bool) → ((a : X) → test a a ≡ true) → (xs : List X) → pointwise test xs xs ≡ true
 lists-itself test itself [] = refl
 lists-itself test itself (x ∷ xs) = and_from (test x x) (pointwise test xs xs) (itself x) (lists-itself test itself xs)
 
+-- Rows that are tested to be one are one.
 row-same : (a b : List Cell) → is_row a b ≡ true → a ≡ b
 row-same = lists-same is_cell cell-same
 
+-- Each row is tested to be one with itself.
 row-itself : (a : List Cell) → is_row a a ≡ true
 row-itself = lists-itself is_cell cell-itself
 
 -- ---- keys
 
+-- A key that is below another compares as less.
 key-less : (a b : ℤ) → int_lt a b ≡ true → int_cmp a b ≡ Less
 key-less a b h = ap (λ (t : Bool). cond t Less (cond (int_lt b a) Greater Equal)) h
 
+-- A comparison that is less is so by its first test.
 less-by : (below above : Bool) → cond below Less (cond above Greater Equal) ≡ Less → below ≡ true
 less-by true above h = refl
 less-by false true h = absurd (let never : ⊥ = cc in never)
 less-by false false h = absurd (let never : ⊥ = cc in never)
 
+-- A key that compares as less is below the other.
 less-key : (a b : ℤ) → int_cmp a b ≡ Less → int_lt a b ≡ true
 less-key a b h = less-by (int_lt a b) (int_lt b a) h
 
 module _ (table : ℕ) where
+  -- Places of one table compare as their keys.
   place-less : (a b : ℤ) → place_cmp (place_at table a) (place_at table b) ≡ int_cmp a b
   place-less a b = ap (λ (o : Ordering). ordering_then o (int_cmp a b)) (nat-tied table)
     where
       nat-tied : (n : ℕ) → nat_cmp n n ≡ Equal
       nat-tied n = sym (nat_cmp_is n n Equal refl)
 
+  -- A row that is tested to be the one found is found.
   found-row : (seen : State) (row : List Cell) (found : Option (List Cell)) → option_map_or (is_row row) found false ≡ true → found ≡ Some row
   found-row seen row None h = absurd (let never : ⊥ = cc in never)
   found-row seen row (Some found) h = ap Some (sym (row-same row found h))
 
+  -- Rows that pass the test of a scan are each found at their place.
   found-all : (seen : State) (last : Option ℤ) (rows : List (List Cell)) → are_found table seen last rows ≡ true → Found table seen rows
   found-all seen last [] h = tt
   found-all seen last (row ∷ rows) h =
@@ -206,6 +225,7 @@ module _ (table : ℕ) where
       let two = and_parts (is_found table seen row) (are_found table seen (Some (key_of row)) rows) one.1 in
       (found-row seen row (at_place seen (place_of table row)) two.0, found-all seen (Some (key_of row)) rows two.1)
 
+  -- Rows that pass the test of a scan above a key have places above the key's.
   under-all : (seen : State) (low : ℤ) (rows : List (List Cell)) → are_found table seen (Some low) rows ≡ true → Under table (place_at table low) rows
   under-all seen low [] h = tt
   under-all seen low (row ∷ rows) h =
@@ -214,6 +234,7 @@ module _ (table : ℕ) where
       let less : place_cmp (place_at table low) (place_of table row) ≡ Less = place-less low (key_of row) ∙ key-less low (key_of row) one.0 in
       (less, under-less table (place_at table low) (place_of table row) rows less (under-all seen (key_of row) rows two.1))
 
+  -- Rows that pass the test of a scan have places that rise.
   ordered-all : (seen : State) (last : Option ℤ) (rows : List (List Cell)) → are_found table seen last rows ≡ true → Ordered table rows
   ordered-all seen last [] h = tt
   ordered-all seen last (row ∷ rows) h =
@@ -223,6 +244,7 @@ module _ (table : ℕ) where
 
   -- ---- the rows that are seen are found
 
+  -- At the place of its first entry a state has this entry's row.
   first-found : (e : Place × List Cell) (seen : State) → at_place (e ∷ seen) e.0 ≡ Some e.1
   first-found e seen = ap (λ (b : Bool). cond b (Some e.1) (at_place seen e.0)) (itself e.0)
 
@@ -230,23 +252,28 @@ module _ (table : ℕ) where
   abbrev Within : State → State → Type 0
   Within whole part = (place : Place) (row : List Cell) → at_place part place ≡ Some row → at_place whole place ≡ Some row
 
+  -- Where each entry is one of the whole, each behind the first is.
   within-rest : (whole : State) (e : Place × List Cell) (part : State) → Below e.0 part → Within whole (e ∷ part) → Within whole part
   within-rest whole e part below within place row h =
       let less : place_cmp e.0 place ≡ Less = among place part e.0 below (ap is_some h) in
       within place row (ap (λ (b : Bool). cond b (Some e.1) (at_place part place)) (unlike e.0 place less) ∙ h)
 
+  -- All entries are above the place of the last key, if there is one.
   abbrev AllAbove : Option ℤ → State → Type 0
   AllAbove None part = Unit {0}
   AllAbove (Some low) part = Below (place_at table low) part
 
+  -- Where all entries are above the last key, those behind the first are.
   above-rest : (last : Option ℤ) (e : Place × List Cell) (part : State) → AllAbove last (e ∷ part) → AllAbove last part
   above-rest None e part h = tt
   above-rest (Some low) e part h = h.1
 
+  -- Where all entries are above the last key, the key of the first is.
   above-key : (last : Option ℤ) (key : ℤ) (part : State) (row : List Cell) → AllAbove last ((place_at table key, row) ∷ part) → is_above last key ≡ true
   above-key None key part row h = refl
   above-key (Some low) key part row h = less-key low key (sym (place-less low key) ∙ h.0)
 
+  -- The contents of a part of the whole pass the test of a scan from a lower key on.
   contents-found : (whole part : State) (last : Option ℤ) → Rises part → AreKeyed part → Within whole part → AllAbove last part → are_found table whole last (contents_of table part) ≡ true
   contents-found whole [] last rises keyed within above = refl
   contents-found whole (e ∷ part) last rises keyed within above = by (e.0.table == table) refl
@@ -267,6 +294,7 @@ module _ (table : ℕ) where
           ∙ and_from (is_above last (key_of e.1)) (is_found table whole e.1 && are_found table whole (Some (key_of e.1)) (contents_of table part)) above-it
           (and_from (is_found table whole e.1) (are_found table whole (Some (key_of e.1)) (contents_of table part)) found (next (subst (λ (p : Place). Below p part) place rises.0)))
 
+  -- Two tests that follow from each other are one.
   both-ways : (a b : Bool) → (a ≡ true → b ≡ true) → (b ≡ true → a ≡ true) → a ≡ b
   both-ways true b f g = sym (f refl)
   both-ways false true f g = g refl

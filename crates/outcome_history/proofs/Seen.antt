@@ -96,6 +96,7 @@ rows-own openings entries taken writes own owner table at =
 pub opening-cut : (openings : List (Option ℕ)) (place : ℕ) (item : Option ℕ) → slice_get openings place ≡ Some item → item ≡ opening_of openings place
 opening-cut openings place item found = sym (ap (option_and_then (λ (o : Option ℕ). o)) found)
 
+-- Where what is told makes no change, nothing is accepted.
 none-accepted : (time : ℕ) (told : Option (Place × Option (List Cell))) → option_map written_by None ≡ option_map (timed_one time) told → told ≡ None
 none-accepted time None h = refl
 none-accepted time (Some told) h = absurd (let never : ⊥ = cc in never)
@@ -106,6 +107,7 @@ pub some-change : (time : ℕ) (change : Change) (told : Option (Place × Option
 some-change time change None h = absurd (let never : ⊥ = cc in never)
 some-change time change (Some told) h = ap (λ (o : Option TimedWrite). unwrap_or o (written_by change) ∷ []) (sym h)
 
+-- The own writes of replies up to a bound are all made up to it.
 own-times : (bound owner place : ℕ) (openings : List (Option ℕ)) (entries : List Entry) → place + length entries ≤ bound → list_all (λ w. nat_le w.time bound) (own_writes owner place openings entries) ≡ true
 own-times bound owner place [] entries h = refl
 own-times bound owner place (o ∷ openings) [] h = refl
@@ -123,9 +125,11 @@ own-times bound owner place (o ∷ openings) (e ∷ entries) h =
 
 module _ (openings : List (Option ℕ)) (entries front : List Entry) (entry : Entry) (rest : List Entry) (ofront : List (Option ℕ)) (opening : Option ℕ) (orest : List (Option ℕ)) (n : ℕ)
     (whole : entries ≡ front ++ entry ∷ rest) (far : length front ≡ n) (owhole : openings ≡ ofront ++ opening ∷ orest) (ofar : length ofront ≡ n) where
+  -- With a reply more, an owner's writes are those it had and what the reply adds.
   next : (owner : ℕ) → own_writes owner 0 (take (n + 1) openings) (take (n + 1) entries) ≡ own_writes owner 0 (take n openings) (take n entries) ++ own_one owner n opening entry
   next owner = own-next owner entries front entry rest openings ofront opening orest n whole far owhole ofar
 
+  -- What is kept is that of one reply more where this adds no write to any transaction.
   none-with : (writes : Writes) → ((owner : ℕ) → own_one owner n opening entry ≡ []) → AreOwn openings entries n writes → AreOwn openings entries (n + 1) writes
   none-with writes none own = record {
     written = own.written;
@@ -133,6 +137,7 @@ module _ (openings : List (Option ℕ)) (entries front : List Entry) (entry : En
     own = λ owner. own.own owner ∙ sym (next owner ∙ ap (λ (ws : List TimedWrite). own_writes owner 0 (take n openings) (take n entries) ++ ws) (none owner) ∙ push-none (own_writes owner 0 (take n openings) (take n entries)));
   }
 
+  -- Where there are no writes, a choice of them has none.
   none-of : (b : Bool) (ws : List TimedWrite) → ws ≡ [] → (if b then ws else []) ≡ []
   none-of true ws h = h
   none-of false ws h = refl

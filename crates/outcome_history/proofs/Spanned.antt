@@ -32,20 +32,24 @@ use Rattle.outcome_history.proofs.Held.{held_behind, opening_here, so_far, openi
 
 -- ---- which replies of one are before a reply to it
 
+-- With no end in front, those up to the end are all in front and the others up to it.
 up-to-append : (a b : List Entry) → list_any (λ e. is_end e.reply.said) a ≡ false → up_to_end (a ++ b) ≡ a ++ up_to_end b
 up-to-append [] b h = refl
 up-to-append (e ∷ a) b h =
     let parts = or_parts (is_end e.reply.said) (list_any (λ x. is_end x.reply.said) a) h in
     rw parts.0 (ap (λ (es : List Entry). e ∷ es) (up-to-append a b parts.1))
 
+-- Of replies in order those behind a front are in order.
 order-back : (front back : List Entry) → InOrder (front ++ back) → InOrder back
 order-back [] back h = h
 order-back (x ∷ front) back h = order-back front back h.1
 
+-- Where all replies follow one, that at a place does.
 follows-at : (x : Entry) (front : List Entry) (entry : Entry) (rest : List Entry) → Each (Follows x) (front ++ entry ∷ rest) → Follows x entry
 follows-at x [] entry rest h = h.0
 follows-at x (y ∷ front) entry rest h = follows-at x front entry rest h.1
 
+-- Of one's replies in order, all that stand in front of a reply are before it.
 front-before : (front : List Entry) (entry : Entry) (rest : List Entry) → InOrder (front ++ entry ∷ rest) → Each (λ other. is_same other.reply.who entry.reply.who ≡ true) front → before front entry ≡ front
 front-before [] entry rest h of = refl
 front-before (x ∷ front) entry rest h of =
@@ -53,14 +57,17 @@ front-before (x ∷ front) entry rest h of =
     let first : is_before x entry ≡ true = (follows-at x front entry rest h.0).in_turn same in
     rw first (ap (λ (es : List Entry). x ∷ es) (front-before front entry rest h.1 of.1))
 
+-- Replies that follow a reply are not before it.
 rest-not-before : (entry : Entry) (rest : List Entry) → Each (Follows entry) rest → Each (λ other. is_before other entry ≡ false) rest
 rest-not-before entry [] h = tt
 rest-not-before entry (x ∷ rest) h = (h.0.not_before, rest-not-before entry rest h.1)
 
+-- Where none of some replies is before one, those before it are none.
 none-before : (entry : Entry) (rest : List Entry) → Each (λ other. is_before other entry ≡ false) rest → before rest entry ≡ []
 none-before entry [] h = refl
 none-before entry (x ∷ rest) h = rw h.0 (none-before entry rest h.1)
 
+-- A reply is not before itself.
 not-before-itself : (entry : Entry) → is_before entry entry ≡ false
 not-before-itself entry =
     let r : nat_lt entry.reply.round entry.reply.round ≡ false = grind (arith, nat_tests) in
@@ -73,6 +80,7 @@ not-before-itself entry =
 
 -- ---- what a transaction accepts up to a place
 
+-- Of what a transaction writes from a place on, none is up to a bound that is no further on.
 own-late : (bound owner place : ℕ) (openings : List (Option ℕ)) (entries : List Entry) → bound ≤ place → up_to bound (own_writes owner place openings entries) ≡ []
 own-late bound owner place [] entries h = refl
 own-late bound owner place (o ∷ openings) [] h = refl
@@ -130,19 +138,22 @@ opening-at front entry rest =
 
 -- ---- the transaction of a reply
 
+-- What ends a transaction accepts no change.
 ends-accept-none : (told : Said) (change : Option (Place × Option (List Cell))) → is_end told ≡ true → (if is_accepted told then change else None) ≡ None
 ends-accept-none said.Accepted change h = absurd (let never : false ≡ true = h in let no : ⊥ = cc in no)
 ends-accept-none _ change h = refl
 
+-- What shows a snapshot ends no transaction.
 opens-number : (told : Said) (number : ℕ) → snapshot_in told ≡ Some number → is_end told ≡ false
 opens-number (said.At number) n h = refl
 opens-number _ n h = absurd (let never : ⊥ = cc in never)
 
+-- The numbers that two equal options hold are the same.
 some-number : (a b : ℕ) → Some a ≡ Some b → a ≡ b
 some-number a b h = ap (λ (o : Option ℕ). unwrap_or o a) h
 
--- The transaction that is opened at a place, of a reply: its snapshot, and what it has accepted in front of the reply, which
--- is all that it accepts where the reply ends it.
+-- The transaction that is opened at a place, of a reply: its snapshot, and what it has accepted in
+-- front of the reply, which is all that it accepts where the reply ends it.
 pub record IsSpan (entries : List Entry) (place : ℕ) (entry : Entry) (owner : ℕ) : Type 0 where
   pub span : Span
   pub found : transaction_with (transactions_of entries) entry ≡ Some span
@@ -154,21 +165,27 @@ pub record IsSpan (entries : List Entry) (place : ℕ) (entry : Entry) (owner : 
 
 module _ (entries front : List Entry) (entry : Entry) (rest : List Entry) (whole : entries ≡ front ++ entry ∷ rest) (rises : Rises entries) (outside : OpensOutside entries)
     (are : AreOpenings entries (openings_in entries)) where
+  -- The session or worker of the reply.
   abbrev its : Who
   its = entry.reply.who
 
+  -- What is open and accepted stands behind the replies in front.
   stands : Stands front
   stands = stands-behind entries front (entry ∷ rest) whole outside
 
+  -- The place of the reply.
   abbrev place : ℕ
   place = length front
 
+  -- The opening at the reply's place is the one that the replies in front tell.
   here : opening_of (openings_in entries) place ≡ opening_here front entry
   here = ap (λ (es : List Entry). opening_of (openings_in es) place) whole ∙ opening-at front entry rest
 
+  -- A transaction's writes up to the reply's place are those that it has accepted so far.
   own-so-far : (owner : ℕ) → up_to place (own_writes owner 0 (openings_in entries) entries) ≡ so_far owner front
   own-so-far owner = ap (λ (es : List Entry). up_to place (own_writes owner 0 (openings_in es) es)) whole ∙ own-up-to owner front (entry ∷ rest)
 
+  -- The reply belongs to the transaction that is opened where its opening is, if it has one.
   belongs : transaction_with (transactions_of entries) entry ≡ option_and_then (λ at. opened_at at entries) (opening_here front entry)
   belongs = are.own front entry rest whole ∙ ap (option_and_then (λ at. opened_at at entries)) here
 

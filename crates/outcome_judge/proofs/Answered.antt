@@ -10,6 +10,7 @@ use Rattle.output_read.specs.declared.fault.ReadFault.TheVariants as read
 use Rattle.outcome_judge.specs.declared.fault.ExplainFault.{ExplainFault}
 use Rattle.outcome_judge.specs.declared.fault.ExplainFault.TheVariants as fault
 
+-- The line at which an output fails, by what was read of it.
 abbrev answer-of : Script → Result (List Entry) ℕ → Option ℕ
 answer-of script told = elim told [ Ok entries ↦ unsound_line (run_of script.tables entries) | Err line ↦ Some line ]
 

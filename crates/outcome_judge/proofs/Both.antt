@@ -51,6 +51,7 @@ last-is false b c d e v j k f g h = absurd (never (sym j))
 
 -- ---- the conditions by views, in two parts
 
+-- The condition of exports in front of those of reads and writes holds as behind them.
 exports-first : (r w x : Bool) → (x && (r && w)) ≡ (r && w && x)
 exports-first false w false = refl
 exports-first false w true = refl

@@ -11,14 +11,17 @@ use Rattle.output_read.specs.declared.kept.KeptReply.{KeptReply}
 use Rattle.outcome_judge.specs.Judged.{EndsAt}
 use Rattle.outcome_judge.proofs.Found.{failing, found-first, none-found}
 
+-- Where the first is false, so is the conjunction.
 first-false : (a b : Bool) → a ≡ false → (a && b) ≡ false
 first-false false b h = refl
 first-false true b h = absurd (let never : ⊥ = cc in never)
 
+-- Where the second is false, so is the conjunction.
 second-false : (a b : Bool) → b ≡ false → (a && b) ≡ false
 second-false false b h = refl
 second-false true b h = h
 
+-- Where both are true, so is the conjunction.
 both-true : (a b : Bool) → a ≡ true → b ≡ true → (a && b) ≡ true
 both-true a b g h = rw (g, h) refl
 

@@ -19,6 +19,7 @@ module _ (sound : Entry → Bool) where
   abbrev pub failing : List KeptReply → Option ℕ
   failing replies = option_map (λ entry. entry.number) (find (λ entry. not (sound entry)) (entries_of replies))
 
+  -- With a sound reply behind those that were sound, all up to it are sound.
   so-far : (replies : List KeptReply) (at : ℕ) → at < length replies → list_all sound (take at (entries_of replies)) ≡ true → ((none : KeptReply) → true ≡ sound (asked_at replies at none)) → list_all sound (take (suc at) (entries_of replies)) ≡ true
   so-far [] at few all good = absurd (omega (arith, few))
   so-far (reply ∷ replies) zero few all good = and_from (sound (entry_of reply)) true (sym (good reply)) refl
@@ -30,6 +31,7 @@ module _ (sound : Entry → Bool) where
   pub sound-so-far : (replies : List KeptReply) (at : ℕ) → at < length replies → list_all sound (take at (entries_of replies)) ≡ true → ((none : KeptReply) → true ≡ sound (asked_at replies at none)) → list_all sound (take (at + 1) (entries_of replies)) ≡ true
   sound-so-far replies at few all good = subst (λ (n : ℕ). list_all sound (take n (entries_of replies)) ≡ true) (let e : suc at ≡ at + 1 = omega arith in e) (so-far replies at few all good)
 
+  -- A sound reply in front leaves the line of the first unsound one.
   passed : (reply : KeptReply) (replies : List KeptReply) → sound (entry_of reply) ≡ true → failing replies ≡ failing (reply ∷ replies)
   passed reply replies good =
       ap (λ (b : Bool). option_map (λ (entry : Entry). entry.number) (cond (not b) (Some (entry_of reply)) (find (λ entry. not (sound entry)) (entries_of replies)))) (sym good)

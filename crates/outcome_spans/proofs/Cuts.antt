@@ -4,6 +4,7 @@ use Rattle.std.specs.List.{slice_get}
 use Rattle.outcome_spec.specs.Entries.{Entry}
 use Rattle.outcome_counts.proofs.Starts.{get-at}
 
+-- What two equal options hold is the same.
 some-one : {X : Type 0} (a b : X) → Some a ≡ Some b → a ≡ b
 some-one a b h = cc
 

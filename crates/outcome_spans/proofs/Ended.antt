@@ -14,20 +14,24 @@ use Rattle.timeline_laws.proofs.Order.{same-itself}
 use Rattle.outcome_counts.proofs.Starts.{get-at}
 use Rattle.outcome_spans.specs.Ends.{ends_of, next_end, AreEnds, ended_next}
 
--- for each session the place of its first end among the last replies, the count of all where there is none
+-- for each session the place of its first end among the last replies, the count of all where there
+-- is none
 abbrev pub Known : List Entry → List Entry → List Entry → (Who → Option ℕ) → Type 0
 Known entries front rest ended = (k : ℕ) → unwrap_or (ended (Session k)) (length entries) ≡ length front + next_end (Session k) rest
 
+-- A reply in front that ends none of one's transactions puts the next end one further on.
 passed : (p : ℕ) (rest : List Entry) (entry : Entry) (who : Who) → ends_of who entry ≡ false → p + 1 + next_end who rest ≡ p + next_end who (entry ∷ rest)
 passed p rest entry who is =
     let next : next_end who (entry ∷ rest) ≡ 1 + next_end who rest = ap (λ (b : Bool). cond (not b) (1 + next_end who rest) 0) is in
     omega (arith, next)
 
+-- Where the first reply ends one's transaction, the next end is at its place.
 here : (p : ℕ) (rest : List Entry) (entry : Entry) (who : Who) → ends_of who entry ≡ true → p ≡ p + next_end who (entry ∷ rest)
 here p rest entry who is =
     let next : next_end who (entry ∷ rest) ≡ 0 = ap (λ (b : Bool). cond (not b) (1 + next_end who rest) 0) is in
     omega (arith, next)
 
+-- The known end is right with one reply more in front, by whether that is a worker's or ends one.
 known-step : (n p : ℕ) (rest : List Entry) (entry : Entry) (who : Who) (old : Option ℕ) (worker ends : Bool) → (worker ≡ true → ends ≡ false) → ends_of who entry ≡ ends
     → unwrap_or old n ≡ p + 1 + next_end who rest
     → unwrap_or (if worker then old else (if ends then Some p else old)) n ≡ p + next_end who (entry ∷ rest)
@@ -36,6 +40,7 @@ known-step n p rest entry who old true false quiet is h = h ∙ passed p rest en
 known-step n p rest entry who old false true quiet is h = here p rest entry who is
 known-step n p rest entry who old false false quiet is h = h ∙ passed p rest entry who is
 
+-- A worker is not the same as a session.
 worker-quiet : (a : Who) (k : ℕ) → is_worker a ≡ true → is_same a (Session k) ≡ false
 worker-quiet (Session n) k h = absurd (let never : ⊥ = cc in never)
 worker-quiet (Worker n) k h = refl
@@ -50,15 +55,18 @@ known-next entries front entry rest place far ended known k =
     (known k ∙ ap (λ (n : ℕ). n + next_end (Session k) rest) long)
     ∙ ap (λ (n : ℕ). n + next_end (Session k) (entry ∷ rest)) (sym far)
 
+-- What is known of the ends of sessions holds for whoever is no worker.
 own-of : (entries front rest : List Entry) (who : Who) (ended : Who → Option ℕ) → is_worker who ≡ false → Known entries front rest ended → unwrap_or (ended who) (length entries) ≡ length front + next_end who rest
 own-of entries front rest (Session k) ended h known = known k
 own-of entries front rest (Worker k) ended h known = absurd (let never : ⊥ = cc in never)
 
+-- An element in front of an append is that of the first list.
 get-before : {X : Type 0} (xs ys : List X) (i : ℕ) → i < length xs → slice_get (xs ++ ys) i ≡ slice_get xs i
 get-before [] ys i h = absurd (omega (arith, h))
 get-before (x ∷ xs) ys zero h = refl
 get-before (x ∷ xs) ys (suc i) h = get-before xs ys i (omega (arith, h))
 
+-- A number below the next one is below this one or is it.
 up-to-next : (i n : ℕ) → i < n + 1 → (i < n) ⊎ (i ≡ n)
 up-to-next i n h = from (cases_lt i n)
   where
@@ -90,6 +98,7 @@ own-end entries front entry rest ended session known = own-of entries front (ent
 
 -- ---- a transaction by where it ends
 
+-- One's replies up to the first end are known with one reply more in front.
 cut-step : (who : Who) (x : Entry) (xs : List Entry) (same ends : Bool) → is_same x.reply.who who ≡ same → is_end x.reply.said ≡ ends
     → up_to_end (thread who xs) ≡ thread who (take (next_end who xs + 1) xs)
     → up_to_end (cond same (x ∷ thread who xs) (thread who xs)) ≡ thread who (take (cond (not (same && ends)) (1 + next_end who xs) 0 + 1) (x ∷ xs))
@@ -106,6 +115,7 @@ pub cut-at-end : (who : Who) (xs : List Entry) → up_to_end (thread who xs) ≡
 cut-at-end who [] = refl
 cut-at-end who (x ∷ xs) = cut-step who x xs (is_same x.reply.who who) (is_end x.reply.said) refl refl (cut-at-end who xs)
 
+-- The reply that ends one's transaction is found with one reply more in front.
 find-step : (who : Who) (x : Entry) (xs : List Entry) (same ends : Bool) → is_same x.reply.who who ≡ same → is_end x.reply.said ≡ ends
     → find (λ e. is_end e.reply.said) (up_to_end (thread who xs)) ≡ slice_get xs (next_end who xs)
     → find (λ e. is_end e.reply.said) (up_to_end (cond same (x ∷ thread who xs) (thread who xs))) ≡ slice_get (x ∷ xs) (cond (not (same && ends)) (1 + next_end who xs) 0)
@@ -122,21 +132,26 @@ pub end-found : (who : Who) (xs : List Entry) → find (λ e. is_end e.reply.sai
 end-found who [] = refl
 end-found who (x ∷ xs) = find-step who x xs (is_same x.reply.who who) (is_end x.reply.said) refl refl (end-found who xs)
 
+-- An element of what is left behind some is so many places further on in the whole.
 get-drop : (n i : ℕ) (es : List Entry) → slice_get (drop n es) i ≡ slice_get es (n + i)
 get-drop zero i es = let e : i ≡ zero + i = omega arith in ap (slice_get es) e
 get-drop (suc n) i [] = refl
 get-drop (suc n) i (e ∷ es) = let k : suc n + i ≡ suc (n + i) = omega arith in rw k (get-drop n i es)
 
 module _ (entries front : List Entry) (opening : Entry) (behind : List Entry) (snapshot : ℕ) (whole : entries ≡ front ++ opening ∷ behind) where
+  -- The session or worker of the opening reply.
   abbrev its : Who
   its = opening.reply.who
 
+  -- The place of the first end of the opener's from its opening on.
   abbrev end : ℕ
   end = length front + next_end its (opening ∷ behind)
 
+  -- The opening reply is the first of its thread from there on.
   thread-first : thread its (opening ∷ behind) ≡ opening ∷ thread its behind
   thread-first = ap (λ (b : Bool). cond b (opening ∷ thread its behind) (thread its behind)) (same-itself its)
 
+  -- What is left behind the front begins with the opening reply.
   from-opening : drop (length front) entries ≡ opening ∷ behind
   from-opening = ap (drop (length front)) whole ∙ drop_at front (opening ∷ behind) (length front) refl
 

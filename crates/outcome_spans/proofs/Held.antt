@@ -24,6 +24,7 @@ use Rattle.outcome_spans.proofs.Ordered.{at-rising}
 
 -- ---- what is said
 
+-- From true being false anything follows.
 impossible : {P : Type 0} → true ≡ false → P
 impossible h = absurd (let never : ⊥ = cc in never)
 
@@ -32,20 +33,24 @@ pub opens-not-end : (told : Said) (n : ℕ) → snapshot_in told ≡ Some n → 
 opens-not-end (said.At number) n h = refl
 opens-not-end _ n h = absurd (let never : ⊥ = cc in never)
 
+-- Behind a reply that shows a snapshot one is in a transaction.
 opens-within : (told : Said) (n : ℕ) (b : Bool) → snapshot_in told ≡ Some n → within_behind b told ≡ true
 opens-within (said.At number) n b h = refl
 opens-within _ n b h = absurd (let never : ⊥ = cc in never)
 
+-- Who is in no transaction stays out behind a reply that shows no snapshot.
 stays-out : (told : Said) → snapshot_in told ≡ None → within_behind false told ≡ false
 stays-out (said.At number) h = absurd (let never : ⊥ = cc in never)
 stays-out _ h = refl
 
+-- Who is in a transaction stays in it behind a reply that does not end it.
 stays-in : (told : Said) → snapshot_in told ≡ None → is_end told ≡ false → within_behind true told ≡ true
 stays-in (said.At number) h k = absurd (let never : ⊥ = cc in never)
 stays-in (said.Committed number) h k = impossible k
 stays-in said.Aborted h k = impossible k
 stays-in _ h k = refl
 
+-- Behind a reply that ends a transaction one is in none.
 goes-out : (told : Said) (b : Bool) → is_end told ≡ true → within_behind b told ≡ false
 goes-out (said.Committed number) b h = refl
 goes-out said.Aborted b h = refl
@@ -58,6 +63,7 @@ pub thread-own : (who : Who) (front : List Entry) (entry : Entry) → is_same en
 thread-own who front entry same =
     filter-append (λ e. is_same e.reply.who who) front (entry ∷ []) ∙ ap (λ (b : Bool). thread who front ++ cond b (entry ∷ []) []) same
 
+-- A list with nothing behind it is itself.
 append-none : {X : Type 0} (xs : List X) → xs ++ [] ≡ xs
 append-none [] = refl
 append-none (x ∷ xs) = ap (λ ys. x ∷ ys) (append-none xs)
@@ -67,16 +73,20 @@ pub thread-other : (who : Who) (front : List Entry) (entry : Entry) → is_same 
 thread-other who front entry apart =
     filter-append (λ e. is_same e.reply.who who) front (entry ∷ []) ∙ ap (λ (b : Bool). thread who front ++ cond b (entry ∷ []) []) apart ∙ append-none (thread who front)
 
+-- Whether replies of one alone leave a transaction open.
 abbrev within_by : List Entry → Bool
 within_by entries = fold within_behind false (map (λ (e : Entry). e.reply.said) entries)
 
+-- One reply more decides by what it says whether a transaction is open behind it.
 within-push : (entries : List Entry) (entry : Entry) → within_by (entries ++ entry ∷ []) ≡ within_behind (within_by entries) entry.reply.said
 within-push entries entry =
     ap (fold within_behind false) (map_push (λ (e : Entry). e.reply.said) entries entry) ∙ fold_push within_behind false (map (λ (e : Entry). e.reply.said) entries) entry.reply.said
 
+-- One's own reply more decides whether one is in a transaction.
 within-own : (who : Who) (front : List Entry) (entry : Entry) → is_same entry.reply.who who ≡ true → is_within who (front ++ entry ∷ []) ≡ within_behind (is_within who front) entry.reply.said
 within-own who front entry same = ap within_by (thread-own who front entry same) ∙ within-push (thread who front) entry
 
+-- Another's reply more does not change whether one is in a transaction.
 within-other : (who : Who) (front : List Entry) (entry : Entry) → is_same entry.reply.who who ≡ false → is_within who (front ++ entry ∷ []) ≡ is_within who front
 within-other who front entry apart = ap within_by (thread-other who front entry apart)
 
@@ -117,6 +127,7 @@ other-idle who front entry apart idle = record {
   within = within-other who front entry apart ∙ idle.within;
 }
 
+-- A reply of another leaves an open transaction open.
 other-open : (who : Who) (front : List Entry) (entry : Entry) (place : ℕ) → is_same entry.reply.who who ≡ false → IsOpen who front place → IsOpen who (front ++ entry ∷ []) place
 other-open who front entry place apart held =
     let mid : thread who (held.mid ++ entry ∷ []) ≡ thread who held.mid = thread-other who held.mid entry apart in
@@ -143,15 +154,18 @@ standing-other who front entry None apart h = other-idle who front entry apart h
 standing-other who front entry (Some place) apart h = other-open who front entry place apart h
 
 module _ (who : Who) (front : List Entry) (entry : Entry) (same : is_same entry.reply.who who ≡ true) where
+  -- One's own reply is the last of one's thread with it.
   own : thread who (front ++ entry ∷ []) ≡ thread who front ++ entry ∷ []
   own = thread-own who front entry same
 
+  -- One's own reply that shows no snapshot leaves one without a transaction.
   own-idle : IsIdle who front → snapshot_in entry.reply.said ≡ None → IsIdle who (front ++ entry ∷ [])
   own-idle idle none = record {
     spanned = subst (λ (es : List Entry). Past who es None) (sym own) (past-idle who (thread who front) entry idle.spanned none);
     within = within-own who front entry same ∙ ap (λ (b : Bool). within_behind b entry.reply.said) idle.within ∙ stays-out entry.reply.said none;
   }
 
+  -- One's own reply that shows a snapshot opens a transaction at its place.
   own-opens : IsIdle who front → (n : ℕ) → snapshot_in entry.reply.said ≡ Some n → (place : ℕ) → length front ≡ place → IsOpen who (front ++ entry ∷ []) place
   own-opens idle n opens place far =
       let on : is_end entry.reply.said ≡ false = opens-not-end entry.reply.said n opens in
@@ -170,6 +184,7 @@ module _ (who : Who) (front : List Entry) (entry : Entry) (same : is_same entry.
         within = within-own who front entry same ∙ opens-within entry.reply.said n (is_within who front) opens;
       }
 
+  -- One's own reply that neither opens nor ends leaves the transaction open.
   own-stays : (place : ℕ) → IsOpen who front place → snapshot_in entry.reply.said ≡ None → is_end entry.reply.said ≡ false → IsOpen who (front ++ entry ∷ []) place
   own-stays place held none on =
       let mid : thread who (held.mid ++ entry ∷ []) ≡ thread who held.mid ++ entry ∷ [] = thread-own who held.mid entry same in
@@ -194,6 +209,7 @@ module _ (who : Who) (front : List Entry) (entry : Entry) (same : is_same entry.
         within = within-own who front entry same ∙ ap (λ (b : Bool). within_behind b entry.reply.said) held.within ∙ stays-in entry.reply.said none on;
       }
 
+  -- One's own reply that ends the open transaction leaves one without any.
   own-ends : (place : ℕ) → IsOpen who front place → snapshot_in entry.reply.said ≡ None → is_end entry.reply.said ≡ true → IsIdle who (front ++ entry ∷ [])
   own-ends place held none ends = record {
     spanned = subst (λ (es : List Entry). Past who es None) (sym own)
@@ -214,6 +230,7 @@ module _ (who : Who) (front : List Entry) (entry : Entry) (same : is_same entry.
 
 -- ---- the transaction of a reply
 
+-- Behind replies that end nothing, the first end is looked for among those that follow.
 up-to-append : (a b : List Entry) → list_any (λ e. is_end e.reply.said) a ≡ false → up_to_end (a ++ b) ≡ a ++ up_to_end b
 up-to-append [] b h = refl
 up-to-append (e ∷ a) b h =
@@ -227,17 +244,21 @@ opened-there entries ahead opening behind place whole far =
     ap opened_by (ap (drop place) whole ∙ drop_at ahead (opening ∷ behind) place far)
 
 module _ (entries front : List Entry) (entry : Entry) (rest : List Entry) (whole : entries ≡ front ++ entry ∷ rest) (rises : Rises entries) where
+  -- The session or worker of the reply.
   abbrev its : Who
   its = entry.reply.who
 
+  -- The reply stands in the timeline of the replies themselves at its place.
   at : At entries entries front entry rest
   at = at-rising entries front entry rest whole rises
 
+  -- A reply that opens a transaction where none is open belongs to that one.
   opens-own : (n : ℕ) → snapshot_in entry.reply.said ≡ Some n → IsIdle its front → transaction_with (transactions_of entries) entry ≡ opened_at (length front) entries
   opens-own n opens idle =
       found-opened entries entries front entry rest at idle.spanned n opens
       ∙ sym (opened-there entries front entry rest (length front) whole refl ∙ ap (option_map (span_from entry rest)) opens)
 
+  -- A reply behind which one's transaction was open belongs to that transaction.
   held-own : (place : ℕ) → IsOpen its front place → transaction_with (transactions_of entries) entry ≡ opened_at place entries
   held-own place held =
       let cut : entries ≡ held.ahead ++ held.opening ∷ (held.mid ++ entry ∷ rest) = whole ∙ ap (λ (es : List Entry). es ++ entry ∷ rest) held.whole ∙ append_assoc held.ahead (held.opening ∷ held.mid) (entry ∷ rest) in
@@ -252,6 +273,7 @@ module _ (entries front : List Entry) (entry : Entry) (rest : List Entry) (whole
       ∙ ap (λ (es : List Entry). Some (span its held.snapshot es)) replies in
       found-open entries entries front entry rest at held.snapshot (held.opening ∷ thread its held.mid) held.spanned ∙ sym there
 
+  -- The transaction of a reply, by what is open in front of it and what it shows.
   belongs-by : (held : Option ℕ) (shown : Option ℕ) → snapshot_in entry.reply.said ≡ shown → (is_some shown ≡ true → is_within its front ≡ false) → Standing its front held
       → transaction_with (transactions_of entries) entry ≡ option_and_then (λ place. opened_at place entries) (if is_some shown then Some (length front) else held)
   belongs-by None (Some n) opens out h = opens-own n opens h
@@ -280,10 +302,12 @@ there entries front entry rest whole (Some place) None opens h s is =
 
 module _ (entries front : List Entry) (entry : Entry) (rest : List Entry) (whole : entries ≡ front ++ entry ∷ rest) (outside : OpensOutside entries) (held : Who → Option ℕ)
     (idle : (k : ℕ) → held (Worker k) ≡ None) (standing : (who : Who) → Standing who front (held who)) where
+  -- A worker has no open transaction.
   worker-none : (who : Who) → is_worker who ≡ true → held who ≡ None
   worker-none (Session n) h = impossible (sym h)
   worker-none (Worker n) h = idle n
 
+  -- A worker's reply shows no snapshot.
   worker-quiet : is_worker entry.reply.who ≡ true → (shown : Option ℕ) → snapshot_in entry.reply.said ≡ shown → shown ≡ None
   worker-quiet h None is = refl
   worker-quiet h (Some n) is = impossible (sym h ∙ (outside front entry rest whole (ap is_some is)).1)
@@ -295,12 +319,14 @@ module _ (entries front : List Entry) (entry : Entry) (rest : List Entry) (whole
       let quiet : snapshot_in entry.reply.said ≡ None = worker-quiet worker (snapshot_in entry.reply.said) refl in
       subst (Standing who (front ++ entry ∷ [])) (sym none) (own-idle who front entry same (subst (Standing who front) none (standing who)) quiet)
 
+  -- What a session has open behind its own reply is what that reply opens, ends or leaves.
   own-session : (who : Who) → is_same entry.reply.who who ≡ true → Standing who (front ++ entry ∷ []) (own_next entry (length front) (held who))
   own-session who same =
       standing-own who front entry same (held who) (length front) refl (snapshot_in entry.reply.said) refl
       (λ some. subst (λ (w : Who). is_within w front ≡ false) (same-is entry.reply.who who same) (outside front entry rest whole some).0)
       (is_end entry.reply.said) refl (standing who)
 
+  -- What one has open behind a reply, by whether it is a worker's and whether it is one's own.
   by : (who : Who) (worker same : Bool) → is_worker entry.reply.who ≡ worker → is_same entry.reply.who who ≡ same
       → Standing who (front ++ entry ∷ []) (if worker then held who else (if same then own_next entry (length front) (held who) else held who))
   by who true true w s = own-worker who s w

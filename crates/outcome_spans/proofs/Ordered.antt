@@ -1,4 +1,5 @@
--- Replies that rise came about in order, and each is the only one of its round, session or worker, and index.
+-- Replies that rise came about in order, and each is the only one of its round, session or worker,
+-- and index.
 use Rattle.std.proofs.Common.{◌≡◌, Bool, true, false, ◌&&◌, eqb, nat_lt, List, [], ◌∷◌, ◌++◌, ◌⊎◌, inl, inr, refl, sym, ◌∙◌, subst, arith}
 use Rattle.std.specs.List.{list_all}
 use Rattle.std.proofs.lemmas.Bool.{and_parts}
@@ -12,14 +13,17 @@ use Rattle.timeline_laws.proofs.Order.{Each-at}
 use Rattle.timeline_laws.proofs.Unique.{Only, unique}
 use Rattle.timeline_laws.proofs.Belongs.{At}
 
+-- A conjunction whose second is false is false.
 and-false : (b : Bool) → (b && false) ≡ false
 and-false true = refl
 and-false false = refl
 
+-- What is never true is false.
 false-of : (b : Bool) → (b ≡ true → ⊥) → b ≡ false
 false-of true h = absurd (h refl)
 false-of false h = refl
 
+-- A reply of no earlier round and of another session or worker is not before this one.
 apart-before : (x y : Entry) → nat_lt y.reply.round x.reply.round ≡ false → (is_same y.reply.who x.reply.who ≡ true → ⊥) → is_before y x ≡ false
 apart-before x y less never =
     let apart = false-of (is_same y.reply.who x.reply.who) never in
@@ -29,6 +33,7 @@ apart-before x y less never =
     and-left true b = refl
     and-left false b = refl
 
+-- A reply of a later round, beside in the round, or further on among one's own, follows.
 follows-by : (x y : Entry) → Behind x y ⊎ (Beside x y ⊎ Own x y) → Follows x y
 follows-by x y (inl b) =
     let l = b.later in

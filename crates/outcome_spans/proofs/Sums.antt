@@ -20,24 +20,31 @@ use Rattle.outcome_spans.specs.Prunes.{sum_before, sum_not_after}
 
 module _ (value : Entry → ℕ) (replies : List KeptReply) (at : ℕ) (stretch : Stretch) (asked : IsAsked replies at stretch)
     (sums : List Sum) (summed : AreSums value (entries_of replies) (length replies) sums) (none : KeptReply) where
+  -- The entries of the replies that are kept.
   abbrev es : List Entry
   es = entries_of replies
 
+  -- The entry of the reply that is judged.
   abbrev e : Entry
   e = asked_at replies at none
 
+  -- The judged reply stands among those that are kept at its place.
   its : KeptAt replies at (slice_index_or replies at none)
   its = kept-at replies at (slice_index_or replies at none) asked.inside (get_or_default replies at none (slice_index_or replies at none) asked.inside)
 
+  -- So many replies stand in front of the judged one as its place says.
   far : length its.front ≡ at
   far = its.far
 
+  -- The places about the judged reply stand in order.
   order : InOrder es e at
   order = subst (InOrder es e) far (in-order es its.front e its.rest its.whole asked.rises)
 
+  -- There are as many entries as kept replies.
   long : length es ≡ length replies
   long = length-map replies entry_of
 
+  -- The total below a later place is that below an earlier one and what lies between.
   total-between : (from to : ℕ) → from ≤ to → to ≤ length replies → total_below to sums ≡ total_below from sums + sum_by value (between from to es)
   total-between from to h k =
       summed.total to k ∙ ap (sum_by value) (cut-between from to es h) ∙ sum_by-append value (take from es) (between from to es)
@@ -75,6 +82,7 @@ module _ (value : Entry → ℕ) (replies : List KeptReply) (at : ℕ) (stretch 
 
 -- ---- sums of what is shown
 
+-- One more that is shown or not adds its number or nothing to the sum.
 shown-step : (o : Option ℕ) (others : List ℕ) → sum (cons_option o others) ≡ unwrap_or o 0 + sum others
 shown-step None others = omega arith
 shown-step (Some n) others = sum_by-cons (λ (x : ℕ). x) n others

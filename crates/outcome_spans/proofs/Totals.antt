@@ -37,12 +37,15 @@ use Rattle.outcome_spans.proofs.Held.{Standing, standing-nil, standing-other, st
 -- ---- sums that are equal for each session or worker
 
 module _ {X : Type 0} (key : X → Who) where
+  -- An element is of this session or worker.
   abbrev own : Who → X → Bool
   own who x = is_same (key x) who
 
+  -- An element is of another session or worker.
   abbrev others : Who → X → Bool
   others who x = not (is_same (key x) who)
 
+  -- With one element more that is kept only if another's, still none is one's own.
   none-step : (w who : Who) (x : X) (kept : List X) → is_same who w ≡ true → (b : Bool) → is_same (key x) w ≡ b → filter (own who) kept ≡ []
       → filter (own who) (cond (not b) (x ∷ kept) kept) ≡ []
   none-step w who x kept same true is rest = rest
@@ -50,10 +53,12 @@ module _ {X : Type 0} (key : X → Who) where
       let apart : is_same (key x) who ≡ false = ap (is_same (key x)) (same-is who w same) ∙ is in
       rw apart rest
 
+  -- Among the elements of others none is one's own.
   none-left : (w who : Who) → is_same who w ≡ true → (xs : List X) → filter (own who) (filter (others w) xs) ≡ []
   none-left w who same [] = refl
   none-left w who same (x ∷ xs) = none-step w who x (filter (others w) xs) same (is_same (key x) w) refl (none-left w who same xs)
 
+  -- With one element more, taking out another's still leaves all of one's own.
   all-step : (w who : Who) (x : X) (kept all : List X) → is_same who w ≡ false → (a b : Bool) → is_same (key x) who ≡ a → is_same (key x) w ≡ b → filter (own who) kept ≡ filter (own who) all
       → filter (own who) (cond (not b) (x ∷ kept) kept) ≡ cond a (x ∷ filter (own who) all) (filter (own who) all)
   all-step w who x kept all apart true true is_a is_b rest =
@@ -62,28 +67,35 @@ module _ {X : Type 0} (key : X → Who) where
   all-step w who x kept all apart true false is_a is_b rest = rw is_a (ap (λ ys. x ∷ ys) rest)
   all-step w who x kept all apart false false is_a is_b rest = rw is_a rest
 
+  -- Taking out another's elements leaves all of one's own.
   all-left : (w who : Who) → is_same who w ≡ false → (xs : List X) → filter (own who) (filter (others w) xs) ≡ filter (own who) xs
   all-left w who apart [] = refl
   all-left w who apart (x ∷ xs) = all-step w who x (filter (others w) xs) xs apart (is_same (key x) who) (is_same (key x) w) refl refl (all-left w who apart xs)
 
+  -- The elements of others are no more than all.
   fewer : (w : Who) (xs : List X) → length (filter (others w) xs) ≤ length xs
   fewer w xs = let a = length-filter (others w) xs in let b = count_by-le-length (others w) xs in omega (arith, a, b)
 
+  -- Taking out the elements of the first one's session or worker drops the first.
   drops : (x : X) (xs : List X) → filter (others (key x)) (x ∷ xs) ≡ filter (others (key x)) xs
   drops x xs = ap (λ (b : Bool). cond (not b) (x ∷ filter (others (key x)) xs) (filter (others (key x)) xs)) (same-itself (key x))
 
+  -- The sum over one's own and the sum over the others' make the sum over all.
   parted : (f : X → ℕ) (w : Who) (xs : List X) → sum_by f (filter (own w) xs) + sum_by f (filter (others w) xs) ≡ sum_by f xs
   parted f w xs = sum_by-filter_both (own w) (others w) (λ x. refl) f xs
 
 module _ {X Y : Type 0} (kx : X → Who) (ky : Y → Who) (f : X → ℕ) (g : Y → ℕ) where
+  -- The sums of two lists are equal for each session or worker.
   abbrev Agrees : List X → List Y → Type 0
   Agrees xs ys = (who : Who) → sum_by f (filter (λ x. is_same (kx x) who) xs) ≡ sum_by g (filter (λ y. is_same (ky y) who) ys)
 
+  -- Where two lists agree for each one, they do without one of them.
   others-agree : (w : Who) (xs : List X) (ys : List Y) → Agrees xs ys → (who : Who) (b : Bool) → is_same who w ≡ b
       → sum_by f (filter (λ x. is_same (kx x) who) (filter (λ x. not (is_same (kx x) w)) xs)) ≡ sum_by g (filter (λ y. is_same (ky y) who) (filter (λ y. not (is_same (ky y) w)) ys))
   others-agree w xs ys h who true is = ap (sum_by f) (none-left kx w who is xs) ∙ sym (ap (sum_by g) (none-left ky w who is ys))
   others-agree w xs ys h who false is = ap (sum_by f) (all-left kx w who is xs) ∙ h who ∙ sym (ap (sum_by g) (all-left ky w who is ys))
 
+  -- Where two lists agree for one, and in sum for the others, their sums are equal.
   by-own : (w : Who) (xs : List X) (ys : List Y) → Agrees xs ys
       → sum_by f (filter (λ x. not (is_same (kx x) w)) xs) ≡ sum_by g (filter (λ y. not (is_same (ky y) w)) ys) → sum_by f xs ≡ sum_by g ys
   by-own w xs ys h rest =
@@ -113,19 +125,23 @@ module _ {X Y : Type 0} (kx : X → Who) (ky : Y → Who) (f : X → ℕ) (g : Y
 
 -- ---- what is said
 
+-- What does not end a transaction does not commit it.
 commit-ends : (told : Said) → is_end told ≡ false → is_commit told ≡ false
 commit-ends (said.Committed number) h = h
 commit-ends _ h = refl
 
+-- What shows a snapshot does not commit.
 opens-no-commit : (told : Said) (n : ℕ) → snapshot_in told ≡ Some n → is_commit told ≡ false
 opens-no-commit (said.At number) n h = refl
 opens-no-commit (said.Committed number) n h = absurd (let never : ⊥ = cc in never)
 opens-no-commit _ n h = refl
 
+-- One option more adds one to the length where it holds something, else nothing.
 mapped-step : {X Y : Type 0} (f : X → Option Y) (o : Option Y) (others : List Y) → length (cons_option o others) ≡ cond (is_some o) 1 0 + length others
 mapped-step f None others = omega arith
 mapped-step f (Some y) others = omega arith
 
+-- As many results are kept as there are elements that give one.
 mapped-count : {X Y : Type 0} (f : X → Option Y) (xs : List X) → length (filter_map f xs) ≡ count_by (λ x. is_some (f x)) xs
 mapped-count f [] = refl
 mapped-count f (x ∷ xs) =
@@ -133,14 +149,17 @@ mapped-count f (x ∷ xs) =
 
 -- ---- one more reply
 
+-- Where no element passes, none is found.
 none-found : {X : Type 0} (p : X → Bool) (xs : List X) → list_any p xs ≡ false → find p xs ≡ None
 none-found p [] h = refl
 none-found p (x ∷ xs) h = let parts = or_parts (p x) (list_any p xs) h in rw parts.0 (none-found p xs parts.1)
 
+-- Where none in front passes, the last element is found if it passes.
 found-last : {X : Type 0} (p : X → Bool) (xs : List X) (x : X) → list_any p xs ≡ false → find p (xs ++ x ∷ []) ≡ cond (p x) (Some x) None
 found-last p [] x h = refl
 found-last p (y ∷ xs) x h = let parts = or_parts (p y) (list_any p xs) h in rw parts.0 (found-last p xs x parts.1)
 
+-- The reply ends a transaction.
 abbrev ends : Entry → Bool
 ends e = is_end e.reply.said
 
@@ -149,11 +168,13 @@ open-none : (who : Who) (n : ℕ) (replies : List Entry) → list_any ends repli
 open-none who n replies h =
     ap (λ (o : Option Entry). if option_map_or (λ ending. is_commit ending.reply.said) o false then length (filter_map accepted_write replies) else 0) (none-found ends replies h)
 
+-- A transaction that no reply ends, not even the last one, has committed nothing.
 still-none : (who : Who) (n : ℕ) (replies : List Entry) (x : Entry) → list_any ends replies ≡ false → ends x ≡ false → writes_committed (span who n (replies ++ x ∷ [])) ≡ 0
 still-none who n replies x h on =
     ap (λ (o : Option Entry). if option_map_or (λ ending. is_commit ending.reply.said) o false then length (filter_map accepted_write (replies ++ x ∷ [])) else 0)
     (found-last ends replies x h ∙ ap (λ (b : Bool). cond b (Some x) None) on)
 
+-- A transaction that its last reply ends has committed all its writes if that commits.
 now-ended : (who : Who) (n : ℕ) (replies : List Entry) (x : Entry) → list_any ends replies ≡ false → ends x ≡ true
     → writes_committed (span who n (replies ++ x ∷ [])) ≡ (if is_commit x.reply.said then count_by is_write (replies ++ x ∷ []) else 0)
 now-ended who n replies x h on =
@@ -163,9 +184,11 @@ now-ended who n replies x h on =
 
 -- ---- along the replies
 
+-- The writes that the transactions of one among replies have committed.
 abbrev total : Who → List Entry → ℕ
 total who replies = sum_by writes_committed (spans who replies)
 
+-- A list with nothing behind it is itself.
 append-none : {X : Type 0} (xs : List X) → xs ++ [] ≡ xs
 append-none [] = refl
 append-none (x ∷ xs) = ap (λ ys. x ∷ ys) (append-none xs)
@@ -175,9 +198,11 @@ idle-total : (who : Who) (replies : List Entry) (past : Past who replies None) �
 idle-total who replies past =
     ap (total who) (sym (append-none replies)) ∙ ap (sum_by writes_committed) (past.parts [] ∙ append-none past.done)
 
+-- Where none is open, one reply more adds what it commits by itself to the total.
 idle-more : (who : Who) (replies : List Entry) (past : Past who replies None) (x : Entry) → total who (replies ++ x ∷ []) ≡ sum_by writes_committed past.done + total who (x ∷ [])
 idle-more who replies past x = ap (sum_by writes_committed) (past.parts (x ∷ [])) ∙ sum_by-append writes_committed past.done (spans who (x ∷ []))
 
+-- An open transaction adds nothing to what those that are done have committed.
 open-total : (who : Who) (replies : List Entry) (n : ℕ) (its : List Entry) (past : Past who replies (Some (n, its))) → list_any ends its ≡ false → total who replies ≡ sum_by writes_committed past.done
 open-total who replies n its past on =
     let whole : total who replies ≡ sum_by writes_committed past.done + sum_by writes_committed (span who n (its ++ []) ∷ []) =
@@ -187,6 +212,7 @@ open-total who replies n its past on =
     let quiet : writes_committed (span who n (its ++ [])) ≡ 0 = ap (λ (es : List Entry). writes_committed (span who n es)) (append-none its) ∙ open-none who n its on in
     omega (arith, whole, one, none, quiet)
 
+-- With one reply more the open transaction adds what it has committed with it.
 open-more : (who : Who) (replies : List Entry) (n : ℕ) (its : List Entry) (past : Past who replies (Some (n, its))) (x : Entry) → snapshot_in x.reply.said ≡ None
     → total who (replies ++ x ∷ []) ≡ sum_by writes_committed past.done + writes_committed (span who n (its ++ x ∷ []))
 open-more who replies n its past x none =
@@ -215,6 +241,7 @@ opened-total who x n opens =
     let quiet : writes_committed (span who n (x ∷ [])) ≡ 0 = open-none who n (x ∷ []) (ap (λ (b : Bool). b || false) on) in
     omega (arith, one, sum, none, quiet)
 
+-- A choice between a number and itself is that number.
 either-one : (b : Bool) (n : ℕ) → (if b then n else n) ≡ n
 either-one true n = refl
 either-one false n = refl
@@ -230,18 +257,23 @@ pub counted-nil : (entries : List Entry) (who : Who) → Counted entries who []
 counted-nil entries who = record { held = None; standing = standing-nil who; same = refl }
 
 module _ (entries front : List Entry) (x : Entry) (rest : List Entry) (whole : entries ≡ front ++ x ∷ rest) (rises : Rises entries) (outside : OpensOutside entries) where
+  -- The session or worker of the reply that is added.
   abbrev its : Who
   its = x.reply.who
 
+  -- The added reply stands in the timeline of the replies at its place.
   at : At entries entries front x rest
   at = at-rising entries front x rest whole rises
 
+  -- The replies in front to the session or worker of the added one.
   abbrev V : List Entry
   V = thread its front
 
+  -- The added reply is the last of its thread.
   longer : thread its (front ++ x ∷ []) ≡ V ++ x ∷ []
   longer = thread-own its front x (same-itself its)
 
+  -- The weights of a thread with the added reply are those of the thread and its own.
   weight-more : sum_by (committed_by entries) (V ++ x ∷ []) ≡ sum_by (committed_by entries) V + committed_by entries x
   weight-more =
       let one = sum_by-cons (committed_by entries) x [] in
@@ -249,12 +281,16 @@ module _ (entries front : List Entry) (x : Entry) (rest : List Entry) (whole : e
       let split = sum_by-append (committed_by entries) V (x ∷ []) in
       omega (arith, one, none, split)
 
+  -- A reply that does not commit has no weight.
   no-weight : is_commit x.reply.said ≡ false → committed_by entries x ≡ 0
   no-weight h = ap (λ (b : Bool). if b then option_map_or writes_of (transaction_with (transactions_of entries) x) 0 else 0) h
 
+  -- A reply in no transaction has no weight.
   none-weight : transaction_with (transactions_of entries) x ≡ None → committed_by entries x ≡ 0
   none-weight h = ap (λ (o : Option Span). if is_commit x.reply.said then option_map_or writes_of o 0 else 0) h ∙ either-one (is_commit x.reply.said) 0
 
+  -- The total and the weights stay equal with one reply more, whatever is open and whatever it
+  -- ends.
   total-by : (held shown : Option ℕ) → snapshot_in x.reply.said ≡ shown → (is_some shown ≡ true → is_within its front ≡ false) → (ending : Bool) → is_end x.reply.said ≡ ending → Standing its front held
       → total its V ≡ sum_by (committed_by entries) V → total its (V ++ x ∷ []) ≡ sum_by (committed_by entries) (V ++ x ∷ [])
   total-by (Some s) (Some n) opens out ending is h same = absurd (let e : true ≡ false = sym h.within ∙ out refl in let never : ⊥ = cc in never)
@@ -292,6 +328,7 @@ module _ (entries front : List Entry) (x : Entry) (rest : List Entry) (whole : e
       let equal : writes_committed (span its h.snapshot ((h.opening ∷ thread its h.mid) ++ x ∷ [])) ≡ committed_by entries x = ended ∙ sym weighs in
       omega (arith, a, b, w, equal, same)
 
+  -- The writes of the reply's own session or worker stay counted with the reply.
   counted-own : Counted entries its front → Counted entries its (front ++ x ∷ [])
   counted-own c = record {
     held = if is_some (snapshot_in x.reply.said) then Some (length front) else (if is_end x.reply.said then None else c.held);
@@ -301,6 +338,7 @@ module _ (entries front : List Entry) (x : Entry) (rest : List Entry) (whole : e
         ∙ ap (sum_by (committed_by entries)) (sym longer);
   }
 
+  -- The writes of another session or worker stay counted with the reply.
   counted-other : (who : Who) → is_same its who ≡ false → Counted entries who front → Counted entries who (front ++ x ∷ [])
   counted-other who apart c =
       let same = thread-other who front x apart in
@@ -328,37 +366,46 @@ counted-front entries front (x ∷ mid) rest whole rises outside who c =
 -- ---- what is not after a reply
 
 module _ (entries front : List Entry) (x : Entry) (rest : List Entry) (whole : entries ≡ front ++ x ∷ rest) (rises : Rises entries) (outside : OpensOutside entries) where
+  -- The place where the reply's own in its round end.
   abbrev oe : ℕ
   oe = own_end entries x
 
+  -- The place where the reply's round ends.
   abbrev re : ℕ
   re = round_end entries x
 
+  -- The places about the reply stand in order.
   order : InOrder entries x (length front)
   order = in-order entries front x rest whole rises
 
-  -- replies that are not after it are, of its own, those up to it, and of each other, those up to the end of its round
+  -- replies that are not after it are, of its own, those up to it, and of each other, those up to
+  -- the end of its round
   behind : (list_all (is_own x) (between (length front + 1) oe entries) ≡ true) × (list_all (is_beside x) (between oe re entries) ≡ true)
   behind = behind-places front x rest entries whole rises
 
+  -- Not after a reply are those up to it, and those of its round behind its own.
   not-after-is : not_after entries x ≡ take (length front + 1) entries ++ between oe re entries
   not-after-is = (by-places front x rest entries whole rises).1
 
+  -- Behind its own in the round stands none of its own session or worker.
   none-beside : (who : Who) → is_same x.reply.who who ≡ true → thread who (between oe re entries) ≡ []
   none-beside who same =
       keep-none (is_beside x) (λ e. is_same e.reply.who who)
       (λ e h. ap (is_same e.reply.who) (sym (same-is x.reply.who who same)) ∙ not-true (is_same e.reply.who x.reply.who) (and_parts (eqb e.reply.round x.reply.round) (not (is_same e.reply.who x.reply.who)) h).1)
       (between oe re entries) behind.1
 
+  -- Among its own behind it in the round stands none of another.
   none-own : (who : Who) → is_same x.reply.who who ≡ false → thread who (between (length front + 1) oe entries) ≡ []
   none-own who apart =
       keep-none (is_own x) (λ e. is_same e.reply.who who)
       (λ e h. ap (λ (w : Who). is_same w who) (same-is e.reply.who x.reply.who (and_parts (eqb e.reply.round x.reply.round) (is_same e.reply.who x.reply.who) h).1) ∙ apart)
       (between (length front + 1) oe entries) behind.0
 
+  -- One's replies not after it are those up to it, and those of its round behind its own.
   thread-not-after : (who : Who) → thread who (not_after entries x) ≡ thread who (take (length front + 1) entries) ++ thread who (between oe re entries)
   thread-not-after who = ap (thread who) not-after-is ∙ filter-append (λ e. is_same e.reply.who who) (take (length front + 1) entries) (between oe re entries)
 
+  -- One's replies not after it are one's own up to some place.
   reach : (who : Who) → (k : ℕ) × (thread who (not_after entries x) ≡ thread who (take k entries))
   reach who = by (is_same x.reply.who who) refl
     where
@@ -377,6 +424,7 @@ module _ (entries front : List Entry) (x : Entry) (rest : List Entry) (whole : e
           ∙ ap (λ (es : List Entry). es ++ thread who (between oe re entries)) (append-none (thread who (take (length front + 1) entries))) in
           (re, thread-not-after who ∙ sym short)
 
+  -- For each one, the writes committed not after the reply are the weights of one's commits there.
   each-equal : (who : Who) → sum_by writes_committed (filter (λ t. is_same t.who who) (transactions_of (not_after entries x))) ≡ sum_by (committed_by entries) (filter (λ e. is_same e.reply.who who) (not_after entries x))
   each-equal who =
       let r = reach who in

@@ -12,6 +12,7 @@ use Rattle.outcome_spec.specs.Upkeep.{upkeep_reply_holds, prune_holds, pruned_in
 use Rattle.outcome_counts.specs.Blocks.{is_seal, is_freeze, is_idle}
 use Rattle.outcome_counts.specs.Keys.{stamp_told, freeze_told, idle_told, block_gathered}
 
+-- A test of the block that a command gathers is one however the block is given.
 gathered-by : (f : ℕ → ℕ → Bool) (asked : Command) → option_map_or (λ block. f block.0 block.1) (gathered_block asked) true ≡ option_map_or (λ block. f block.table block.block) (block_gathered asked) true
 gathered-by f (command.Gather table block) = refl
 gathered-by f _ = refl

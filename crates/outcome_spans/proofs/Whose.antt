@@ -26,9 +26,11 @@ pub found-passes : {X : Type 0} (p : X → Bool) (xs : List X) (y : X) → find 
 found-passes p [] y h = absurd (let never : ⊥ = cc in never)
 found-passes p (x ∷ xs) y h = found-step p x y xs (p x) refl h (found-passes p xs y)
 
+-- Replies that are one are of one session or worker.
 same-reply : (a b : Entry) → is_reply a b ≡ true → is_same a.reply.who b.reply.who ≡ true
 same-reply a b h = (and_parts (eqb a.reply.round b.reply.round) (is_same a.reply.who b.reply.who) (and_parts (eqb a.reply.round b.reply.round && is_same a.reply.who b.reply.who) (eqb a.reply.index b.reply.index) h).0).1
 
+-- A reply that is among those of one session or worker is of that one.
 any-same : (entry : Entry) (who : Who) (xs : List Entry) → Each (λ x. is_same x.reply.who who ≡ true) xs → list_any (is_reply entry) xs ≡ true → entry.reply.who ≡ who
 any-same entry who [] each h = absurd (let never : ⊥ = cc in never)
 any-same entry who (x ∷ xs) each h = by (or_cases (is_reply entry x) (list_any (is_reply entry) xs) h) (any-same entry who xs each.1)
@@ -42,6 +44,7 @@ all-its : (opening : Entry) (behind : List Entry) (n : ℕ) → Each (λ x. is_s
 all-its opening behind n =
     Each-up_to_end (λ x. is_same x.reply.who opening.reply.who ≡ true) (opening ∷ thread opening.reply.who behind) (same-itself opening.reply.who, thread-of opening.reply.who behind)
 
+-- The replies of the transaction that is opened are all of its session or worker.
 opened-by-own : (xs : List Entry) (t : Span) → opened_by xs ≡ Some t → Each (λ x. is_same x.reply.who t.who ≡ true) t.replies
 opened-by-own [] t h = absurd (let never : ⊥ = cc in never)
 opened-by-own (opening ∷ behind) t h = by (snapshot_in opening.reply.said) h

@@ -32,6 +32,7 @@ use Rattle.outcome_spans.proofs.Held.{opened-there}
 
 -- ---- counts
 
+-- Some element passes with one more in front, where more than none are counted with it.
 any-step : {X : Type 0} (p : X → Bool) (x : X) (xs : List X) (b : Bool) → list_any p xs ≡ nat_lt 0 (count_by p xs) → (b || list_any p xs) ≡ nat_lt 0 (cond b 1 0 + count_by p xs)
 any-step p x xs true h = let e : nat_lt 0 (1 + count_by p xs) ≡ true = grind (arith, nat_tests) in sym e
 any-step p x xs false h = h ∙ (let e : 0 + count_by p xs ≡ count_by p xs = omega arith in ap (nat_lt 0) (sym e))
@@ -41,6 +42,7 @@ pub any-counted : {X : Type 0} (p : X → Bool) (xs : List X) → list_any p xs 
 any-counted p [] = refl
 any-counted p (x ∷ xs) = any-step p x xs (p x) (any-counted p xs) ∙ ap (nat_lt 0) (sym (count-cons p x xs))
 
+-- One element more is counted among those kept where it passes both tests.
 filter-step : {X : Type 0} (p q : X → Bool) (x : X) (xs : List X) (b : Bool) → q x ≡ b → count_by p (filter q xs) ≡ count_by (λ y. q y && p y) xs
     → count_by p (cond b (x ∷ filter q xs) (filter q xs)) ≡ cond (b && p x) 1 0 + count_by (λ y. q y && p y) xs
 filter-step p q x xs true is h = count-cons p x (filter q xs) ∙ ap (λ (n : ℕ). cond (p x) 1 0 + n) h
@@ -60,6 +62,7 @@ counted-between test xs taken places counted from to h k =
 
 -- ---- whose writes
 
+-- A reply is a write of a session's where it accepts one and is to that session.
 by-write : (who : Who) (k : ℕ) (w : Bool) → is_keyed nat_cmp k (if w then session_of who else None) ≡ (is_same who (Session k) && w)
 by-write (Session n) k true = nat-same n k ∙ sym (and-true (n == k))
   where
@@ -82,16 +85,20 @@ writes-by k entries =
 
 -- ---- the transaction that a reply opens
 
+-- What a mapped option holds is the image of what the option holds.
 some-mapped : {A B : Type 0} (f : A → B) (o : Option A) (b : B) → option_map f o ≡ Some b → (a : A) × (o ≡ Some a) × (f a ≡ b)
 some-mapped f None b h = absurd (let never : ⊥ = cc in never)
 some-mapped f (Some a) b h = (a, refl, (let e : f a ≡ b = cc in e))
 
+-- From one who is neither a session nor a worker anything follows.
 worker-not : {P : Type 0} (who : Who) → ((k : ℕ) → who ≡ Session k → ⊥) → is_worker who ≡ false → P
 worker-not (Session n) never h = absurd (never n refl)
 worker-not (Worker n) never h = absurd (let impossible : ⊥ = cc in impossible)
 
 module _ (entries front : List Entry) (entry : Entry) (rest : List Entry) (whole : entries ≡ front ++ entry ∷ rest) (outside : OpensOutside entries) (t : Span)
     (opened : opened_at (length front) entries ≡ Some t) where
+  -- The reply that opens the transaction shows a snapshot, and the transaction begins there with
+  -- it.
   shown : (n : ℕ) × (snapshot_in entry.reply.said ≡ Some n) × (span_from entry rest n ≡ t)
   shown = some-mapped (span_from entry rest) (snapshot_in entry.reply.said) t (sym (opened-there entries front entry rest (length front) whole refl) ∙ opened)
 

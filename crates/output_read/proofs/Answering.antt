@@ -1,8 +1,9 @@
--- What may be said where a reply is due, both ways: by kind, and among those that the definition of forms lists.
+-- What may be said where a reply is due, both ways: by kind, and among those that the definition of
+-- forms lists.
 use Rattle.std.proofs.Common.{◌≡◌, ℕ, ◌^◌, ◌<◌, Bool, true, false, cond, ◌&&◌, ◌||◌, not, List, [], ◌∷◌, length, drop, Option, None, Some, refl, sym, subst, arith, ℤ}
 use Rattle.std.proofs.Common.{◌≤◌, ◌-◌}
 use Rattle.std.proofs.lemmas.Bool.{leb-true}
-use Rattle.std.specs.Prelude.{◌==◌, nat_lt, nat_le, is_some, if◌then◌else◌, unwrap_or, option_and_then}
+use Rattle.std.specs.Prelude.{◌==◌, nat_le, if◌then◌else◌, unwrap_or, option_and_then}
 use Rattle.workload_spec.specs.Valid.{is_within as is_within_range}
 use Rattle.workload_spec.specs.Reading.{natural_of}
 use Rattle.outcome_spec.specs.Reading.{word_at}
@@ -37,10 +38,12 @@ use Rattle.output_read.proofs.Fitting.{never, row_fits, row_of_is}
 
 -- ---- by kind: what answers is a reply
 
+-- What answers a begin in a transaction says that one is open.
 begin-reply : (told : Said) → answers_begin told ≡ true → told ≡ said.InTransaction
 begin-reply said.InTransaction h = refl
 begin-reply _ h = absurd (never h)
 
+-- What answers a get is a get's reply, with a row that fits and has the key.
 get-reply : (columns : List Column) (key : ℤ) (told : Said) → answers_get columns key told ≡ true → IsGetReply told × GotFits columns key told
 get-reply columns key (said.Found row) h = (tt, and_parts (fits columns row) (int_eq (key_of row) key) h)
 get-reply columns key said.Absent h = (tt, tt)
@@ -56,6 +59,7 @@ insert-reply tables (said.ConflictSession session) h fit = ltb-true session (2 ^
 insert-reply tables (said.ConflictCommit number) h fit = ltb-true number (2 ^ 64) fit
 insert-reply tables _ h fit = absurd (never h)
 
+-- What answers an update or a delete, and fits the tables, is a reply to one.
 change-reply : (tables : List TableDecl) (table : ℕ) (told : Said) → answers_change table told ≡ true → is_said tables told ≡ true → IsChangeReply table told
 change-reply tables table said.Accepted h fit = tt
 change-reply tables table said.Missing h fit = tt
@@ -68,28 +72,34 @@ change-reply tables table (said.ConflictSession session) h fit = ltb-true sessio
 change-reply tables table (said.ConflictCommit number) h fit = ltb-true number (2 ^ 64) fit
 change-reply tables table _ h fit = absurd (never h)
 
+-- What answers a commit, and fits the tables, is a commit's reply.
 commit-reply : (tables : List TableDecl) (told : Said) → answers_commit told ≡ true → is_said tables told ≡ true → IsCommitReply told
 commit-reply tables (said.Committed None) h fit = tt
 commit-reply tables (said.Committed (Some number)) h fit = ltb-true number (2 ^ 64) fit
 commit-reply tables _ h fit = absurd (never h)
 
+-- What answers an abort says that it was aborted.
 abort-reply : (told : Said) → answers_abort told ≡ true → told ≡ said.Aborted
 abort-reply said.Aborted h = refl
 abort-reply _ h = absurd (never h)
 
+-- What answers an observation, and fits the tables, is a reply to one.
 observe-reply : (tables : List TableDecl) (told : Said) → answers_observe told ≡ true → is_said tables told ≡ true → IsObserveReply told
 observe-reply tables (said.Cooling count) h fit = ltb-true count (2 ^ 64) fit
 observe-reply tables _ h fit = absurd (never h)
 
+-- What answers a pruning, and fits the tables, is a reply to one.
 prune-reply : (tables : List TableDecl) (told : Said) → answers_prune told ≡ true → is_said tables told ≡ true → IsPruneReply told
 prune-reply tables (said.Pruned count) h fit = ltb-true count (2 ^ 64) fit
 prune-reply tables _ h fit = absurd (never h)
 
+-- What answers a compaction, and fits the tables, is a reply to one.
 compact-reply : (tables : List TableDecl) (told : Said) → answers_compact told ≡ true → is_said tables told ≡ true → IsCompactReply told
 compact-reply tables (said.Moved count) h fit = ltb-true count (2 ^ 64) fit
 compact-reply tables said.Memory h fit = tt
 compact-reply tables _ h fit = absurd (never h)
 
+-- What answers a seal of a block, and fits the tables, is a reply to it.
 seal-reply : (tables : List TableDecl) (table block : ℕ) (told : Said) → answers_seal table block told ≡ true → is_said tables told ≡ true → IsSealReply table block told
 seal-reply tables table block (said.Sealed of at stamp) h fit =
     let same = and_parts (of == table) (at == block) h in
@@ -97,6 +107,7 @@ seal-reply tables table block (said.Sealed of at stamp) h fit =
 seal-reply tables table block (said.NotSealed cause) h fit = tt
 seal-reply tables table block _ h fit = absurd (never h)
 
+-- What answers a gathering of a block, and fits the tables, is a reply to it.
 gather-reply : (tables : List TableDecl) (table block : ℕ) (told : Said) → answers_gather table block told ≡ true → is_said tables told ≡ true → IsGatherReply table block told
 gather-reply tables table block (said.Frozen of at rows) h fit =
     let same = and_parts (of == table) (at == block) h in
@@ -105,6 +116,7 @@ gather-reply tables table block said.NotFrozen h fit = tt
 gather-reply tables table block said.Memory h fit = tt
 gather-reply tables table block _ h fit = absurd (never h)
 
+-- What answers an export, and fits the tables, is a reply to one.
 export-reply : (tables : List TableDecl) (told : Said) → answers_export told ≡ true → is_said tables told ≡ true → IsExportReply told
 export-reply tables (said.Exported number rows batches frozen) h fit =
     let a = and_parts (is_u64 number && is_u64 rows && is_u32 batches) (is_u32 frozen) fit in
@@ -115,10 +127,12 @@ export-reply tables (said.Dirty key) h fit = fit
 export-reply tables said.Memory h fit = tt
 export-reply tables _ h fit = absurd (never h)
 
+-- What answers a scan in one line says that memory was refused.
 scan-reply : (told : Said) → answers_scan told ≡ true → told ≡ said.Memory
 scan-reply said.Memory h = refl
 scan-reply _ h = absurd (never h)
 
+-- What answers a command in a transaction is a reply to it, whose rows fit.
 within-reply : (tables : List TableDecl) (asked : Command) (told : Said) → answers_within tables asked told ≡ true → is_said tables told ≡ true → IsReplyWithin asked told × RowsFit tables asked told
 within-reply tables command.Begin told h fit = (begin-reply told h, tt)
 within-reply tables (command.Get table key) told h fit = get-reply (columns_at tables table) key told h
@@ -136,10 +150,12 @@ within-reply tables (command.Seal table block) told h fit = (seal-reply tables t
 within-reply tables (command.Gather table block) told h fit = (gather-reply tables table block told h fit, tt)
 within-reply tables (command.Export table) told h fit = (export-reply tables told h fit, tt)
 
+-- What opens a transaction, and fits the tables, is a begin's reply.
 opening-reply : (tables : List TableDecl) (told : Said) → is_opening told ≡ true → is_said tables told ≡ true → IsBeginReply told
 opening-reply tables (said.At number) h fit = ltb-true number (2 ^ 64) fit
 opening-reply tables _ h fit = absurd (never h)
 
+-- What answers without a transaction says that there is none.
 without-reply : (told : Said) → is_without told ≡ true → told ≡ said.NoTransaction
 without-reply said.NoTransaction h = refl
 without-reply _ h = absurd (never h)
@@ -150,6 +166,7 @@ none-fit tables (command.Get table key) told e = subst (GotFits (columns_at tabl
 none-fit tables (command.Scan table) told e = subst (λ (s : Said). RowsFit tables (command.Scan table) s) (sym e) tt
 none-fit tables _ told e = tt
 
+-- What answers a command but upkeep without a transaction is a reply to it there.
 without-replies : (tables : List TableDecl) (asked : Command) (told : Said) → is_upkeep asked ≡ false → answers_without asked told ≡ true → is_said tables told ≡ true → IsReplyWithout asked told × RowsFit tables asked told
 without-replies tables command.Begin told up h fit = (opening-reply tables told h fit, tt)
 without-replies tables (command.Get table key) told up h fit = let e = without-reply told h in (e, none-fit tables (command.Get table key) told e)
@@ -162,12 +179,14 @@ without-replies tables command.Abort told up h fit = (without-reply told h, tt)
 without-replies tables (command.Export table) told up h fit = (without-reply told h, tt)
 without-replies tables _ told up h fit = absurd (never (sym up))
 
+-- What answers in a transaction or without one is a reply there, whose rows fit.
 chosen-reply : (tables : List TableDecl) (asked : Command) (told : Said) (b : Bool) → (b ≡ false → is_upkeep asked ≡ false)
     → (if b then answers_within tables asked told else answers_without asked told) ≡ true → is_said tables told ≡ true
     → (elim b as (λ x. Type 0) [ true ↦ IsReplyWithin asked told | false ↦ IsReplyWithout asked told ]) × RowsFit tables asked told
 chosen-reply tables asked told true up h fit = within-reply tables asked told h fit
 chosen-reply tables asked told false up h fit = without-replies tables asked told (up refl) h fit
 
+-- Where neither of two is true, the second is false.
 or-false : (a b : Bool) → (a || b) ≡ false → b ≡ false
 or-false true b h = absurd (never (sym h))
 or-false false b h = h
@@ -182,50 +201,57 @@ answer-reply tables within asked told h fit = chosen-reply tables asked told (wi
 abbrev pub Answered : List TableDecl → (Said → Bool) → Said → Type 0
 Answered tables test told = (test told ≡ true) × (is_said tables told ≡ true) × (lines_behind told ≡ [])
 
+-- A number of 64 bits that is read of a line's words fits them.
 fits_u64 : (words : List (List ℕ)) (at : ℕ) → is_u64 (u64_at words at) ≡ true
 fits_u64 words at = lt-ltb (u64_at words at) (2 ^ 64) (u64_small words at)
 
+-- A number of 32 bits that is read of a line's words fits them.
 fits_u32 : (words : List (List ℕ)) (at : ℕ) → is_u32 (u32_at words at) ≡ true
 fits_u32 words at = lt-ltb (u32_at words at) (2 ^ 32) (u32_small words at)
 
+-- A number is tested as the same as itself.
 same-number : (n : ℕ) → (n == n) ≡ true
 same-number n = eq-eqb n n refl
 
-block-place : (o : Option TableDecl) (block : ℕ) → option_map_or (λ table. nat_lt block table.blocks) o false ≡ true → is_some o ≡ true
-block-place None block h = absurd (never h)
-block-place (Some table) block h = refl
-
+-- A value that is chosen only within a range, and else none, is not above its most.
 chosen_most : (b : Bool) (most value : ℕ) → is_within_range 0 most value ≡ b → unwrap_or (cond b (Some value) None) 0 ≤ most
 chosen_most true most value h = let e : value ≤ most = leb-true value most (and_parts (nat_le 0 value) (nat_le value most) h).1 in e
 chosen_most false most value h = omega arith
 
+-- What is read within a range, or else none, is not above its most.
 read_most : (most : ℕ) (o : Option ℕ) → unwrap_or (option_and_then (λ value. cond (is_within_range 0 most value) (Some value) None) o) 0 ≤ most
 read_most most None = omega arith
 read_most most (Some value) = chosen_most (is_within_range 0 most value) most value refl
 
+-- A tagged number that is read of a line's words fits 64 bits.
 tagged_small : (words : List (List ℕ)) (at : ℕ) → is_u64 (tagged_u64_at words at) ≡ true
 tagged_small words at =
     let e : tagged_u64_at words at ≤ 2 ^ 64 - 1 = read_most (2 ^ 64 - 1) (natural_of (drop 1 (word_at words at))) in
     lt-ltb (tagged_u64_at words at) (2 ^ 64) (omega (arith, e))
 
 module _ (tables : List TableDecl) (words behind : List (List ℕ)) where
+  -- Each of these replies answers the command in a transaction, on one line.
   abbrev Each : Command → List Said → Type 0
   Each asked saids = EachSaid (Answered tables (answers_within tables asked)) saids
 
+  -- The row that a get finds answers it where it has the key.
   each-got : (columns : List Column) (key : ℤ) (row : List Cell) (b : Bool) → 0 < length columns → fits columns row ≡ true → int_eq (key_of row) key ≡ b
       → EachSaid (Answered tables (answers_get columns key)) (if b then said.Found row ∷ [] else [])
   each-got columns key row true some fit same = ((and_from (fits columns row) (int_eq (key_of row) key) fit same, row_fits columns row some fit, refl), tt)
   each-got columns key row false some fit same = tt
 
+  -- The row of the line's words answers a get, where there is one with the key.
   each-row : (columns : List Column) (key : ℤ) → 0 < length columns → (o : Option (List Cell)) → row_of columns (drop 1 words) ≡ o
       → EachSaid (Answered tables (answers_get columns key)) (option_map_or (λ row. if int_eq (key_of row) key then said.Found row ∷ [] else []) o [])
   each-row columns key some None is = tt
   each-row columns key some (Some row) is = each-got columns key row (int_eq (key_of row) key) some (row_of_is columns (drop 1 words) row is).1 refl
 
+  -- The two conflicts of the line's words answer where a test passes them.
   each-conflict : (test : Said → Bool) → test (said.ConflictSession (u32_at words 2)) ≡ true → test (said.ConflictCommit (tagged_u64_at words 1)) ≡ true
       → EachSaid (Answered tables test) (conflict_replies words)
   each-conflict test h k = ((h, fits_u32 words 2, refl), ((k, tagged_small words 1, refl), tt))
 
+  -- Each reply that is listed for an update or a delete answers it.
   each-change : (table : ℕ) → is_table_place tables table ≡ true → EachSaid (Answered tables (answers_change table)) (change_replies table words)
   each-change table place = (
     (refl, refl, refl),
@@ -241,13 +267,16 @@ module _ (tables : List TableDecl) (words behind : List (List ℕ)) where
     ),
   )
 
+  -- The refusal of an export for a key answers it where the key fits.
   each-dirty : (key : ℤ) (b : Bool) → is_integer_of kind.I64 key ≡ b → EachSaid (Answered tables answers_export) (if b then said.Dirty key ∷ [] else [])
   each-dirty key true fit = ((refl, fit, refl), tt)
   each-dirty key false fit = tt
 
+  -- The numbers of a reply about a block fit where the table is there.
   block-fits : (table block : ℕ) (number : ℕ) → is_table_place tables table ≡ true → is_u32 block ≡ true → is_u32 number ≡ true → (is_table_place tables table && is_u32 block && is_u32 number) ≡ true
   block-fits table block number a b c = and_from (is_table_place tables table && is_u32 block) (is_u32 number) (and_from (is_table_place tables table) (is_u32 block) a b) c
 
+  -- A block is tested as the same as itself.
   same-block : (table block : ℕ) → (table == table && block == block) ≡ true
   same-block table block = and_from (table == table) (block == block) (same-number table) (same-number block)
 
@@ -261,6 +290,7 @@ module _ (tables : List TableDecl) (words behind : List (List ℕ)) where
   IsListed (command.Gather table block) = (is_table_place tables table ≡ true) × (is_u32 block ≡ true)
   IsListed _ = Unit {0}
 
+  -- Each reply that is listed for a command in a transaction answers it.
   each-within : (asked : Command) → IsListed asked → Each asked (replies_within tables words behind asked)
   each-within command.Begin h = ((refl, refl, refl), tt)
   each-within (command.Get table key) h =
@@ -292,6 +322,7 @@ module _ (tables : List TableDecl) (words behind : List (List ℕ)) where
     ((refl, refl, refl), each-dirty (integer_at words 1) (is_integer_of kind.I64 (integer_at words 1)) refl),
   )
 
+  -- Each reply that is listed for a command without a transaction answers it.
   each-without : (asked : Command) → EachSaid (Answered tables (answers_without asked)) (replies_without words asked)
   each-without command.Begin = ((refl, fits_u64 words 1, refl), tt)
   each-without (command.Get table key) = ((refl, refl, refl), tt)
@@ -308,15 +339,18 @@ module _ (tables : List TableDecl) (words behind : List (List ℕ)) where
   each-without (command.Gather table block) = ((refl, refl, refl), tt)
   each-without (command.Export table) = ((refl, refl, refl), tt)
 
+  -- Each reply that is listed answers, be it in a transaction or without one.
   each-chosen : (asked : Command) (b : Bool) → (b ≡ true → IsListed asked)
       → EachSaid (Answered tables (λ told. if b then answers_within tables asked told else answers_without asked told)) (if b then replies_within tables words behind asked else replies_without words asked)
   each-chosen asked true h = each-within asked (h refl)
   each-chosen asked false h = each-without asked
 
+-- What holds of those kept holds with one more that is kept only where it holds of it.
 kept-step : (Q : Said → Type 0) (b : Bool) (told : Said) (kept : List Said) → (b ≡ true → Q told) → EachSaid Q kept → EachSaid Q (cond b (told ∷ kept) kept)
 kept-step Q true told kept h rest = (h refl, rest)
 kept-step Q false told kept h rest = rest
 
+-- Of replies that answer, those that are kept answer and pass the test that keeps them.
 each-kept : (tables : List TableDecl) (keep test : Said → Bool) (saids : List Said) → EachSaid (Answered tables test) saids → EachSaid (Answered tables (λ told. keep told && test told)) (filter keep saids)
 each-kept tables keep test [] h = tt
 each-kept tables keep test (told ∷ saids) h =

@@ -8,6 +8,7 @@ use Rattle.output_read.specs.declared.fault.ReadFault.{ReadFault}
 use Rattle.output_read.specs.declared.fault.ReadFault.TheVariants as fault
 use Rattle.output_read.specs.Readers.{OnLine}
 
+-- What is said of the line of a fault is weakened, whatever value was asked for.
 of-fault : (X Y : Type 0) (e : ReadFault) (P Q : ℕ → Type 0) → ((n : ℕ) → P n → Q n) → OnLine {X = X} (Err e) P → OnLine {X = Y} (Err e) Q
 of-fault X Y (fault.Line n) P Q on h = on n h
 of-fault X Y (fault.Memory refused) P Q on h = tt

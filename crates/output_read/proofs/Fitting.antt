@@ -32,14 +32,17 @@ use Rattle.std.specs.Prelude.{codes}
 pub never : false ≡ true → ⊥
 never h = let n : ⊥ = cc in n
 
+-- A number between signed bounds of 63 bits has a magnitude that fits 64 bits.
 signed_small : (low high : ℕ) (z : ℤ) → low < 2 ^ 63 → high < 2 ^ 63 → is_between (negsuc low) (pos high) z ≡ true → magnitude z < 2 ^ 64
 signed_small low high (pos n) l h e = omega (arith, leb-true n high (and_parts (int_le (negsuc low) (pos n)) (nat_le n high) e).1, h)
 signed_small low high (negsuc n) l h e = omega (arith, leb-true n low (and_parts (nat_le n low) (int_le (negsuc n) (pos high)) e).0, l)
 
+-- A number between zero and a bound of 64 bits has a magnitude that fits them.
 unsigned_small : (high : ℕ) (z : ℤ) → high < 2 ^ 64 → is_between (pos 0) (pos high) z ≡ true → magnitude z < 2 ^ 64
 unsigned_small high (pos n) h e = omega (arith, leb-true n high (and_parts (int_le (pos 0) (pos n)) (nat_le n high) e).1, h)
 unsigned_small high (negsuc n) h e = absurd cc
 
+-- An integer of a kind has a magnitude that fits 64 bits.
 small_of : (k : Kind) (z : ℤ) → is_integer_of k z ≡ true → magnitude z < 2 ^ 64
 small_of kind.I8 z e = signed_small (2 ^ 7 - 1) (2 ^ 7 - 1) z (omega arith) (omega arith) e
 small_of kind.I16 z e = signed_small (2 ^ 15 - 1) (2 ^ 15 - 1) z (omega arith) (omega arith) e
@@ -53,6 +56,7 @@ small_of kind.Bool z e = absurd cc
 small_of kind.Utf8 z e = absurd cc
 small_of kind.Binary z e = absurd cc
 
+-- A cell that fits a column is one of replies.
 cell_fits : (column : Column) (cell : Cell) → is_none (cell_fault 0 column cell) ≡ true → is_cell cell ≡ true
 cell_fits column Null fit = refl
 cell_fits column (Num z) fit = lt-ltb (magnitude z) (2 ^ 64) (small_of column.kind z (value_of_fit column (Num z) refl fit))
@@ -60,6 +64,7 @@ cell_fits column (Truth truth) fit = refl
 cell_fits column (Text text) fit = refl
 cell_fits column (Blob bytes) fit = (and_parts (is_binary_kind column.kind) (are_bytes bytes) (value_of_fit column (Blob bytes) refl fit)).1
 
+-- Cells that fit their columns are those of replies.
 cells_fit : (columns : List Column) (cells : List Cell) (at : ℕ) → length cells ≡ length columns → is_none (first_fault at columns cells) ≡ true → list_all is_cell cells ≡ true
 cells_fit columns [] at many fit = refl
 cells_fit [] (cell ∷ cells) at many fit = absurd (omega (arith, many))
@@ -67,10 +72,12 @@ cells_fit (column ∷ columns) (cell ∷ cells) at many fit =
     let f = first_fits (cell_fault at column cell) (first_fault (at + 1) columns cells) fit in
     and_from (is_cell cell) (list_all is_cell cells) (cell_fits column cell (sym (fault_at column cell at) ∙ f.0)) (cells_fit columns cells (at + 1) (omega (arith, many)) f.1)
 
+-- Where a row has no fault, it has as many cells as it should, and its cells no fault.
 arity_none : (b : Bool) (rest : Option RowFault) → is_none (if b then rest else Some Arity) ≡ true → (b ≡ true) × (is_none rest ≡ true)
 arity_none true rest h = (refl, h)
 arity_none false rest h = absurd cc
 
+-- Cells of which there is one at least, all of them of replies, are a row of replies.
 some_row : (row : List Cell) (n : ℕ) → length row ≡ n → 0 < n → list_all is_cell row ≡ true → is_row row ≡ true
 some_row [] n many some all = absurd (omega (arith, many, some))
 some_row (key ∷ cells) n many some all = all
@@ -82,14 +89,17 @@ row_fits columns row some fit =
     let many : length row ≡ length columns = eqb-true (length row) (length columns) a.0 in
     some_row row (length columns) many some (cells_fit columns row 0 many a.1)
 
+-- A row with as many cells as it should have, and no fault in them, has no fault.
 arity_from : (b : Bool) (rest : Option RowFault) → b ≡ true → is_none rest ≡ true → is_none (if b then rest else Some Arity) ≡ true
 arity_from true rest h k = k
 arity_from false rest h k = absurd (never h)
 
+-- What an answer holds is the value that it was answered with.
 of_ok : (r : Result (List Cell) Cause) (row : List Cell) → result_ok r ≡ Some row → r ≡ Ok row
 of_ok (Ok cells) row h = let same : cells ≡ row = cc in ap Ok same
 of_ok (Err cause) row h = absurd (let n : ⊥ = cc in n)
 
+-- A row that is read of words spells them and fits, by whether there are as many as columns.
 row_by : (columns : List Column) (words : List (List ℕ)) (row : List Cell) (b : Bool) → (length words == length columns) ≡ b → (if b then result_ok (cells_of columns words) else None) ≡ Some row
     → (cell_words row ≡ words) × (fits columns row ≡ true)
 row_by columns words row true many h =
@@ -102,6 +112,7 @@ row_by columns words row false many h = absurd (let n : ⊥ = cc in n)
 pub row_of_is : (columns : List Column) (words : List (List ℕ)) (row : List Cell) → row_of columns words ≡ Some row → (cell_words row ≡ words) × (fits columns row ≡ true)
 row_of_is columns words row h = row_by columns words row (length words == length columns) refl h
 
+-- A row that is kept for its line was read, and has this line.
 kept_line : (line : List ℕ) (o : Option (List Cell)) (row : List Cell) → option_and_then (λ r. if bytes_eq (row_line r ++ 10 ∷ []) line then Some r else None) o ≡ Some row → (o ≡ Some row) × (row_line row ++ 10 ∷ [] ≡ line)
 kept_line line None row h = absurd (let n : ⊥ = cc in n)
 kept_line line (Some r) row h = by (bytes_eq (row_line r ++ 10 ∷ []) line) refl h

@@ -43,9 +43,11 @@ still-reading old new kept n k reading told count = record {
 
 module _ (old new : Reader) (kept : KeptReply) (n : ℕ) (k : Kept old new kept n) (due : Due) (told : Said) (speaks : may_be_silent due ≡ false)
     (entry : entry_of kept ≡ entry_behind old.tables.now (read_by old) due told) (count : line_count old.tables.now (entry_of kept) ≡ n) where
+  -- The tables of the reader in front of the kept reply.
   abbrev T : List TableDecl
   T = old.tables.now
 
+  -- The replies that were read in front of the kept reply.
   abbrev E : List Entry
   E = read_by old
 
@@ -85,6 +87,7 @@ fails-anew reader dues n h rest anew = h rest
 
 -- ---- one more of the round to one
 
+-- One entry more that passes a test is counted once more.
 count-more : (test : Entry → Bool) (entries : List Entry) (entry : Entry) → test entry ≡ true → count_by test (entries ++ entry ∷ []) ≡ count_by test entries + 1
 count-more test entries entry is = sum_by_push (λ e. cond (test e) 1 0) entries entry ∙ ap (λ (b : Bool). count_by test entries + cond b 1 0) is
 

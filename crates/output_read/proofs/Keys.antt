@@ -59,6 +59,7 @@ who-same (Worker n) = eq-eqb n n refl
 
 -- ---- no scan's rows answer in one line
 
+-- A scan's rows answer no command without a transaction.
 without-scanned : (asked : Command) (rows : List (List _)) → answers_without asked (said.Scanned rows) ≡ false
 without-scanned command.Begin rows = refl
 without-scanned (command.Get table key) rows = refl
@@ -75,6 +76,7 @@ without-scanned (command.Seal table block) rows = refl
 without-scanned (command.Gather table block) rows = refl
 without-scanned (command.Export table) rows = refl
 
+-- A scan's rows answer no command in a transaction on one line.
 within-scanned : (tables : List TableDecl) (asked : Command) (rows : List (List _)) → answers_within tables asked (said.Scanned rows) ≡ false
 within-scanned tables command.Begin rows = refl
 within-scanned tables (command.Get table key) rows = refl
@@ -118,6 +120,7 @@ module _ (tables : List TableDecl) (are : are_tables tables ≡ true) where
   one-text reply one =
       ap (λ (more : List (List ℕ)). (first_line tables reply ++ 10 ∷ []) ++ lines_text more) one ∙ append-nil (first_line tables reply ++ 10 ∷ [])
 
+  -- The text of a reply of one line has that line alone.
   one-line : (reply : ReplyLine) → is_said tables reply.said ≡ true → lines_behind reply.said ≡ [] → lines_of (reply_text tables reply) ≡ (first_line tables reply ++ 10 ∷ []) ∷ []
   one-line reply fit one = ap lines_of (one-text reply one) ∙ lines_behind_first (first_line tables reply) [] (first-whole reply fit)
 

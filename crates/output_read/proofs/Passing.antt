@@ -78,6 +78,7 @@ adds-append a b c round who h k = record {
 pub adds-one : (a b : Reader) (round : ℕ) (who : Who) → Adds a b round who → AddsAll a b round who
 adds-one a b round who h = record { added = h.entry ∷ []; is = h.is; own = and_from (is_of round who h.entry) true h.own refl }
 
+-- Replies to another one leave it as it was whether one is in a transaction.
 within-apart : (who other : Who) (entries added : List Entry) (round : ℕ) → is_same other who ≡ false → list_all (is_of round other) added ≡ true → is_within who (entries ++ added) ≡ is_within who entries
 within-apart who other entries [] round apart own = ap (is_within who) (append-nil entries)
 within-apart who other entries (entry ∷ added) round apart own =
@@ -93,6 +94,7 @@ within-as-before a b round who other h apart = ap (is_within who) h.is ∙ withi
 
 -- ---- what is ahead
 
+-- A reply that is ahead of one in a round is none of the round to that one.
 ahead-other : (round : ℕ) (who : Who) (entry : Entry) → is_ahead round who entry ≡ true → is_of round who entry ≡ false
 ahead-other round who entry h = by entry.reply.who who h
   where
@@ -102,6 +104,7 @@ ahead-other round who entry h = by entry.reply.who who h
     by (Worker m) (Session n) e = grind (arith, nat_tests, e)
     by (Worker m) (Worker n) e = grind (arith, nat_tests, e)
 
+-- Of replies that are all ahead of one in a round none is of the round to that one.
 count-none : (round : ℕ) (who : Who) (entries : List Entry) → are_ahead round who entries ≡ true → count_by (is_of round who) entries ≡ 0
 count-none round who [] h = refl
 count-none round who (entry ∷ entries) h =
@@ -114,6 +117,7 @@ count-none round who (entry ∷ entries) h =
 pub first-index : (round : ℕ) (who : Who) (entries : List Entry) → are_ahead round who entries ≡ true → 0 + 1 ≡ next_index round who entries
 first-index round who entries h = let e = count-none round who entries h in omega (arith, e)
 
+-- A reply that is ahead of one is ahead of the next, where those before come before both.
 ahead-on : (round : ℕ) (who next : Who) → ((other : Who) → comes_before other who ≡ true → comes_before other next ≡ true) → (entry : Entry) → is_ahead round who entry ≡ true → is_ahead round next entry ≡ true
 ahead-on round who next on entry h = by (nat_lt entry.reply.round round) (entry.reply.round == round) (comes_before entry.reply.who who) refl h
   where
@@ -123,6 +127,7 @@ ahead-on round who next on entry h = by (nat_lt entry.reply.round round) (entry.
     by false true false is e = absurd (never e)
     by false false c is e = absurd (never e)
 
+-- A reply of the round to one is ahead of whoever comes behind that one.
 own-on : (round : ℕ) (who next : Who) → comes_before who next ≡ true → (entry : Entry) → is_of round who entry ≡ true → is_ahead round next entry ≡ true
 own-on round who next before entry h =
     let p = and_parts (entry.reply.round == round) (is_same entry.reply.who who) h in
@@ -134,6 +139,7 @@ own-on round who next before entry h =
     by false true e k = k
     by false false e k = absurd (never e)
 
+-- Where one test passes no less than another, all that pass the one pass it.
 all-on : (f g : Entry → Bool) → ((entry : Entry) → f entry ≡ true → g entry ≡ true) → (entries : List Entry) → list_all f entries ≡ true → list_all g entries ≡ true
 all-on f g on [] h = refl
 all-on f g on (entry ∷ entries) h = let p = and_parts (f entry) (list_all f entries) h in and_from (g entry) (list_all g entries) (on entry p.0) (all-on f g on entries p.1)

@@ -117,6 +117,7 @@ module _ (test : Command → Bool) (table : ℕ) where
 
 -- ---- further tables
 
+-- A table without columns and blocks, which stands where there is none.
 abbrev no_table : TableDecl
 no_table = record { name = []; schema = []; slots = 0; blocks = 0 }
 
@@ -150,6 +151,7 @@ module _ (tables : List TableDecl) where
           let past : blocks_at tables table ≡ 0 = ap (λ (o : Option TableDecl). option_map_or (λ decl. decl.blocks) o 0) (slice_get_past tables table (ltb-false table (length tables) h)) in
           absurd (omega (arith, past, few))
 
+  -- Behind the end of a list nothing is left of it.
   entries-past : (xs : List (ℕ × TableDecl)) (k : ℕ) → length xs ≤ k → drop k xs ≡ []
   entries-past [] zero few = refl
   entries-past [] (suc k) few = refl
@@ -160,6 +162,7 @@ module _ (tables : List TableDecl) where
   pub entries-none : (table : ℕ) → length tables ≤ table → entries_at table ≡ []
   entries-none table few = entries-past (enumerate_from 0 tables) table (let e = length-enumerate_from 0 tables in omega (arith, e, few))
 
+  -- Of a list are left as many as it has, less those that were taken away.
   length-left : (xs : List (ℕ × TableDecl)) (k : ℕ) → length (drop k xs) ≡ length xs - k
   length-left xs zero = let e : length xs ≡ length xs - 0 = omega arith in e
   length-left [] (suc k) = let e : 0 ≡ 0 - suc k = omega arith in e

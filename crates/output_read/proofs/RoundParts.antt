@@ -77,6 +77,7 @@ ask-few script reader valid same = subst (λ (ts : List TableDecl). IsFew (lengt
 
 -- ---- parts of a round
 
+-- What is due in one part more stands behind what is due in the parts so far.
 parts-more : (f : ℕ → List Due) (first n : ℕ) → flat_map f (range_with_len first (n + 1)) ≡ flat_map f (range_with_len first n) ++ f (first + n)
 parts-more f first zero = append-nil (f first) ∙ ap f (let e : first ≡ first + 0 = omega arith in e)
 parts-more f first (suc n) =
@@ -85,6 +86,7 @@ parts-more f first (suc n) =
     ∙ sym (append_assoc (f first) (flat_map f (range_with_len (first + 1) n)) (f (first + 1 + n)))
     ∙ ap (λ (k : ℕ). flat_map f (range_with_len first (suc n)) ++ f k) (let e : first + 1 + n ≡ first + suc n = omega arith in e)
 
+-- What is due in parts is due in the first so many and then in the others.
 parts-split : (f : ℕ → List Due) (first n k : ℕ) → flat_map f (range_with_len first (n + k)) ≡ flat_map f (range_with_len first n) ++ flat_map f (range_with_len (first + n) k)
 parts-split f first zero k =
     ap (λ (m : ℕ). flat_map f (range_with_len first m)) (let e : 0 + k ≡ k = omega arith in e)
@@ -95,16 +97,19 @@ parts-split f first (suc n) k =
     ∙ sym (append_assoc (f first) (flat_map f (range_with_len (first + 1) n)) (flat_map f (range_with_len (first + 1 + n) k)))
     ∙ ap (λ (m : ℕ). flat_map f (range_with_len first (suc n)) ++ flat_map f (range_with_len m k)) (let e : first + 1 + n ≡ first + suc n = omega arith in e)
 
+-- Parts that all begin anew begin anew one behind the other.
 parts-anew : (f : ℕ → List Due) → ((n : ℕ) → OpensAnew (f n)) → (first n : ℕ) → OpensAnew (flat_map f (range_with_len first n))
 parts-anew f h first zero = anew-none
 parts-anew f h first (suc n) = anew-append (f first) (flat_map f (range_with_len (first + 1) n)) (h first) (parts-anew f h (first + 1) n)
 
 module _ (f : ℕ → List Due) (opens : (n : ℕ) → OpensAnew (f n)) (old cur : Reader) (n : ℕ) (h : Passes old cur (flat_map f (range_with_len 1 n))) where
+  -- Where the next part passes behind those so far, one part more has passed.
   part-passes : (new : Reader) → Passes cur new (f (n + 1)) → Passes old new (flat_map f (range_with_len 1 (n + 1)))
   part-passes new g =
       subst (Passes old new) (sym (parts-more f 1 n ∙ ap (λ (k : ℕ). flat_map f (range_with_len 1 n) ++ f k) (let e : 1 + n ≡ n + 1 = omega arith in e)))
       (passes-append old cur new (flat_map f (range_with_len 1 n)) (f (n + 1)) h g (opens (n + 1)))
 
+  -- Where the next part fails behind those so far, all parts fail at that line.
   part-fails : (many line : ℕ) → n < many → FailsAt cur (f (n + 1)) line → FailsAt old (flat_map f (range_with_len 1 many)) line
   part-fails many line few g =
       let more = flat_map f (range_with_len (1 + n + 1) (many - (n + 1))) in
@@ -119,24 +124,29 @@ module _ (f : ℕ → List Due) (opens : (n : ℕ) → OpensAnew (f n)) (old cur
 
 -- ---- who comes next
 
+-- Who comes before a session comes before the next session.
 session-next : (n : ℕ) (other : Who) → comes_before other (Session n) ≡ true → comes_before other (Session (n + 1)) ≡ true
 session-next n (Session m) h = grind (arith, nat_tests, h)
 session-next n (Worker m) h = absurd (never h)
 
+-- Who comes before a session comes before the first worker.
 session-worker : (n : ℕ) (other : Who) → comes_before other (Session n) ≡ true → comes_before other (Worker 1) ≡ true
 session-worker n (Session m) h = refl
 session-worker n (Worker m) h = absurd (never h)
 
+-- Who comes before a worker comes before the next worker.
 worker-next : (n : ℕ) (other : Who) → comes_before other (Worker n) ≡ true → comes_before other (Worker (n + 1)) ≡ true
 worker-next n (Session m) h = refl
 worker-next n (Worker m) h = grind (arith, nat_tests, h)
 
+-- A number is tested as below the next one.
 own-next : (n : ℕ) → nat_lt n (n + 1) ≡ true
 own-next n = grind (arith, nat_tests)
 
 -- ---- the sessions of a round
 
 module _ (script : Script) (round : ℕ) (lines : List Line) (old : Reader) where
+  -- What is due to a session in the round.
   abbrev of_session : ℕ → List Due
   of_session session = dues_to round (Session session) (commands_of session lines)
 
@@ -204,9 +214,11 @@ module _ (script : Script) (round : ℕ) (lines : List Line) (old : Reader) wher
 -- ---- the workers of a round
 
 module _ (script : Script) (round : ℕ) (old : Reader) (tables_are : old.tables.now ≡ script.tables) where
+  -- What is due to a worker in the round, over all its turns.
   abbrev of_worker : ℕ → List Due
   of_worker worker = dues_to round (Worker worker) (flat_map (λ turn. turn_of script.tables) (range_with_len 1 script.turns))
 
+  -- What is due to a worker in the round begins anew.
   worker-anew : (n : ℕ) → OpensAnew (of_worker n)
   worker-anew n = anew-turns round n 1 script.turns script.tables
 
@@ -288,10 +300,12 @@ round-fails-then script round lines a b n h k =
 abbrev pub rounds_from : Script → ℕ → List (List Line) → List Due
 rounds_from script first rounds = flat_map (λ entry. dues_in script entry.0 entry.1) (enumerate_from first rounds)
 
+-- What is due in some rounds begins anew.
 rounds-open : (script : Script) (first : ℕ) (rounds : List (List Line)) → OpensAnew (rounds_from script first rounds)
 rounds-open script first [] = anew-none
 rounds-open script first (lines ∷ rounds) = anew-append (dues_in script first lines) (rounds_from script (first + 1) rounds) (round-opens script first lines) (rounds-open script (first + 1) rounds)
 
+-- What is due in rounds is due in the first of them and then in those behind.
 rounds-append : (script : Script) (first : ℕ) (a b : List (List Line)) → rounds_from script first (a ++ b) ≡ rounds_from script first a ++ rounds_from script (first + length a) b
 rounds-append script first [] b = ap (λ (n : ℕ). rounds_from script n b) (let e : first ≡ first + 0 = omega arith in e)
 rounds-append script first (lines ∷ a) b =
@@ -299,6 +313,7 @@ rounds-append script first (lines ∷ a) b =
     ∙ sym (append_assoc (dues_in script first lines) (rounds_from script (first + 1) a) (rounds_from script (first + 1 + length a) b))
     ∙ ap (λ (n : ℕ). (dues_in script first lines ++ rounds_from script (first + 1) a) ++ rounds_from script n b) (let e : first + 1 + length a ≡ first + suc (length a) = omega arith in e)
 
+-- Where the lines of all rounds are valid, so are those of one of them.
 lines-valid : (script : Script) (rounds : List (List Line)) (i : ℕ) (d : List Line) → i < length rounds → list_all (is_line script) (flat_map (λ round. round) rounds) ≡ true → list_all (is_line script) (get_or rounds i d) ≡ true
 lines-valid script [] i d few h = absurd (omega (arith, few))
 lines-valid script (lines ∷ rounds) zero d few h = (and_parts (list_all (is_line script) lines) (list_all (is_line script) (flat_map (λ round. round) rounds)) (sym (list_all-append (is_line script) lines (flat_map (λ round. round) rounds)) ∙ h)).0
@@ -312,19 +327,16 @@ pub record RoundsOn (script : Script) (old cur : Reader) (within : List Bool) (n
   pub passes : Passes old cur (rounds_from script 1 so_far)
   pub many : length so_far ≡ number
 
-outside-at : (n at : ℕ) (d : Bool) → at < n → get_or (Rattle.std.specs.Prelude.replicate n false) at d ≡ false
-outside-at zero at d few = absurd (omega (arith, few))
-outside-at (suc n) zero d few = refl
-outside-at (suc n) (suc at) d few = outside-at n at d (omega (arith, few))
-
 module _ (script : Script) (old cur : Reader) (within : List Bool) (i number : ℕ) (item : List Line) (few : i < length script.rounds) (is : item ≡ get_or script.rounds i item) (same : number ≡ i) (h : RoundsOn script old cur within number (take i script.rounds)) where
   -- the lines of a round of a valid script are valid
   pub item-lines : is_valid script ≡ true → list_all (is_line script) item ≡ true
   item-lines valid = ap (list_all (is_line script)) is ∙ lines-valid script script.rounds i item few (script-sound script valid).lines
 
+  -- The rounds up to the next one are those so far and it.
   taken : take (i + 1) script.rounds ≡ take i script.rounds ++ item ∷ []
   taken = take_more script.rounds i item few ∙ ap (λ (l : List Line). take i script.rounds ++ l ∷ []) (sym is)
 
+  -- What is due in the next round alone is what is due in it by its number.
   one : rounds_from script (1 + length (take i script.rounds)) (item ∷ []) ≡ dues_in script (number + 1) item
   one = append-nil (dues_in script (1 + length (take i script.rounds)) item) ∙ ap (λ (n : ℕ). dues_in script n item) (let m = h.many in let e : 1 + length (take i script.rounds) ≡ number + 1 = omega (arith, m) in e)
 

@@ -23,6 +23,7 @@ use Rattle.output_read.specs.Rows.{AreAbove, key_above, row_behind}
 use Rattle.output_read.proofs.Fitting.{never, row_fits, row_at_is, row_at_back}
 use Rattle.output_read.proofs.Texts.{first-line}
 
+-- Lines that are the same with their ends are the same without them.
 ends-alike : (xs ys : List ℕ) → xs ++ 10 ∷ [] ≡ ys ++ 10 ∷ [] → xs ≡ ys
 ends-alike [] [] h = refl
 ends-alike [] (y ∷ []) h = absurd (let n : ⊥ = cc in n)
@@ -35,12 +36,14 @@ ends-alike (x ∷ xs) (y ∷ ys) h =
     ap (λ (n : ℕ). n ∷ xs) first ∙ ap (λ (zs : List ℕ). y ∷ zs) (ends-alike xs ys rest)
 
 module _ (columns : List Column) (some : 0 < length columns) where
+  -- A row that fits is read from its line without the end.
   behind-row : (row : List Cell) → is_row row ≡ true → fits columns row ≡ true → row_behind columns (row_line row) ≡ Some row
   behind-row [] is fit = absurd (never is)
   behind-row (key ∷ cells) is fit =
       gives (row_in (spaced (cell_words (key ∷ cells)))) (λ row. where_true (fits columns row) row) (Some (key ∷ cells)) (key ∷ cells) (row_back (key ∷ cells) is)
       (ap (λ (b : Bool). where_true b (key ∷ cells)) fit)
 
+  -- A row that is read from a line without its end is read from it with the end.
   row-of-line : (line : List ℕ) (row : List Cell) → row_behind columns line ≡ Some row → row_at columns (line ++ 10 ∷ []) ≡ Some row
   row-of-line line row h =
       step (behind (codes "| ") line >>= row_in) (λ r. where_true (fits columns r) r) row h (λ other at e.
@@ -50,6 +53,7 @@ module _ (columns : List Column) (some : 0 < length columns) where
       let text : row_line other ≡ line = row_words (codes "|") other cells r ∙ sym (behind_is (codes "| ") line cells front) in
       ap (λ (l : List ℕ). row_at columns (l ++ 10 ∷ [])) (sym text) ∙ row_at_back columns other w.0 ∙ ap Some w.1))
 
+  -- What row a line is with its end and without it are the same, if there is any.
   row-by : (line : List ℕ) (o p : Option (List Cell)) → row_at columns (line ++ 10 ∷ []) ≡ o → row_behind columns line ≡ p → o ≡ p
   row-by line None None is be = refl
   row-by line None (Some row) is be = sym is ∙ row-of-line line row be
@@ -62,6 +66,7 @@ module _ (columns : List Column) (some : 0 < length columns) where
   pub row-line : (line : List ℕ) → row_at columns (line ++ 10 ∷ []) ≡ row_behind columns line
   row-line line = row-by line (row_at columns (line ++ 10 ∷ [])) (row_behind columns line) refl refl
 
+  -- A line in which no byte is an end does not end with one.
   no-ends : (line : List ℕ) → list_all (λ byte. not (byte == 10)) line ≡ true → (xs : List ℕ) → xs ++ 10 ∷ [] ≡ line → ⊥
   no-ends [] whole [] e = (let n : ⊥ = cc in n)
   no-ends [] whole (x ∷ xs) e = (let n : ⊥ = cc in n)
@@ -100,16 +105,19 @@ walk-ends columns count lines rows below rest w none = record {
   fit = w.fit;
 }
 
+-- Where the first line is no row, no rows are read.
 above-none : (columns : List Column) (below : Option ℤ) (line : List ℕ) (lines : List (List ℕ)) → row_at columns line ≡ None → rows_above columns below (line ∷ lines) ≡ []
 above-none columns below line lines is =
     ap (λ (x : Option (List Cell)). elim x as (λ y. List (List Cell)) [ Some row ↦ cond (option_map_or (λ b. int_lt b (key_of row)) below true) (row ∷ rows_above columns (Some (key_of row)) lines) [] | None ↦ [] ]) is
 
+-- Where the first line is a row, it and those behind are read if its key is above.
 above-some : (columns : List Column) (below : Option ℤ) (line : List ℕ) (lines : List (List ℕ)) (row : List Cell) (b : Bool) → row_at columns line ≡ Some row → option_map_or (λ last. int_lt last (key_of row)) below true ≡ b
     → rows_above columns below (line ∷ lines) ≡ cond b (row ∷ rows_above columns (Some (key_of row)) lines) []
 above-some columns below line lines row b is rises =
     ap (λ (x : Option (List Cell)). elim x as (λ y. List (List Cell)) [ Some r ↦ cond (option_map_or (λ last. int_lt last (key_of r)) below true) (r ∷ rows_above columns (Some (key_of r)) lines) [] | None ↦ [] ]) is
     ∙ ap (λ (c : Bool). cond c (row ∷ rows_above columns (Some (key_of row)) lines) []) rises
 
+-- Where the first line is no row, none of the first so many lines is read.
 take-none : (columns : List Column) (below : Option ℤ) (n : ℕ) (line : List ℕ) (lines : List (List ℕ)) → row_at columns line ≡ None → rows_above columns below (take n (line ∷ lines)) ≡ []
 take-none columns below zero line lines is = refl
 take-none columns below (suc n) line lines is = above-none columns below line (take n lines) is
@@ -218,6 +226,7 @@ module _ (columns : List Column) (some : 0 < length columns) (count : ℕ) (line
     key-kept None is some few = absurd (never some)
     key-kept (Some key) is some few = key-some key is few
 
+-- The text of rows has at least as many bytes as there are rows.
 text-long : (rows : List (List Cell)) → length rows ≤ length (lines_text (map row_line rows))
 text-long [] = omega arith
 text-long (row ∷ rows) =

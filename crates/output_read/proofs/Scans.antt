@@ -108,6 +108,7 @@ scan-counts round index count who fit =
 
 -- ---- the rows behind it
 
+-- What rows are read from a line on, by what row that line is.
 above-by : (columns : List Column) (key : Option ℤ) (line : List ℕ) (lines : List (List ℕ)) (o : Option (List Cell)) → row_at columns line ≡ o → rows_above columns key (line ∷ lines)
     ≡ elim o as (λ x. List (List Cell)) [ Some row ↦ cond (option_map_or (λ below. int_lt below (key_of row)) key true) (row ∷ rows_above columns (Some (key_of row)) lines) [] | None ↦ [] ]
 above-by columns key line lines o is = ap (λ (x : Option (List Cell)). elim x as (λ y. List (List Cell)) [ Some row ↦ cond (option_map_or (λ below. int_lt below (key_of row)) key true) (row ∷ rows_above columns (Some (key_of row)) lines) [] | None ↦ [] ]) is
@@ -119,6 +120,7 @@ pub record AreRows (columns : List Column) (key : Option ℤ) (all : List (List 
   pub lines : all ≡ ended (map row_line rows) ++ behind
   pub few : length rows ≤ length all
 
+-- No rows stand at the front of any lines.
 no-rows : (columns : List Column) (key : Option ℤ) (lines : List (List ℕ)) → AreRows columns key lines []
 no-rows columns key lines = record { rise = tt; behind = lines; lines = refl; few = omega arith }
 
@@ -146,11 +148,13 @@ are-rows columns key (line ∷ lines) = by (row_at columns line) refl (λ row. a
     by (Some row) is later = subst (AreRows columns key (line ∷ lines)) (sym (above-by columns key line lines (Some row) is))
         (more row (option_map_or (λ below. int_lt below (key_of row)) key true) is refl (later row))
 
+-- The first so many lines are no more than that.
 most : (n : ℕ) (lines : List (List ℕ)) → length (take n lines) ≤ n
 most zero lines = omega arith
 most (suc n) [] = omega arith
 most (suc n) (line ∷ lines) = let e = most n lines in omega (arith, e)
 
+-- The first so many lines and those behind them are all lines.
 rejoined : (n : ℕ) (lines : List (List ℕ)) → take n lines ++ drop n lines ≡ lines
 rejoined zero lines = refl
 rejoined (suc n) [] = refl
@@ -161,9 +165,11 @@ module _ (tables : List TableDecl) (are : are_tables tables ≡ true) (names : N
   abbrev pub scan_due : Due
   scan_due = record { round = round; who = Session session; command = command.Scan table }
 
+  -- The columns of the table that is scanned.
   abbrev columns : List Column
   columns = columns_at tables table
 
+  -- The index of the session's next reply in the round.
   abbrev there : ℕ
   there = next tables are earlier scan_due
 
@@ -171,6 +177,7 @@ module _ (tables : List TableDecl) (are : are_tables tables ≡ true) (names : N
   abbrev pub rows_of : ℕ → List (List ℕ) → List (List Cell)
   rows_of count behind = rows_above columns None (take count behind)
 
+  -- The reply of a scan with the rows at the front of the lines behind, up to a count.
   abbrev scanned : ℕ → List (List ℕ) → Said
   scanned count behind = said.Scanned (rows_of count behind)
 

@@ -18,6 +18,7 @@ use Rattle.output_read.specs.Readers.{FailsAt, IsReading, Passes, read_by}
 use Rattle.output_read.specs.Threads.{IsThread, LineGoes, line_dues, session_due}
 use Rattle.output_read.proofs.Passing.{adds-none, adds-append, anew-session, anew-append, commands-more, dues-more, fails-more, passes-append, passes-fails, passes-none}
 
+-- What a line has due is its command if it is the session's, and else nothing.
 one-line : (thread : Thread) (line : Line) (b : Bool) → (line.session == thread.session) ≡ b → line_dues thread line ≡ dues_to thread.round (Session thread.session) (cons_option (cond b (Some line.command) None) [])
 one-line thread line b is = ap (λ (x : Bool). dues_to thread.round (Session thread.session) (cons_option (cond x (Some line.command) None) [])) is
 
@@ -40,9 +41,11 @@ pub record LinesGo (old new : Reader) (round session : ℕ) (thread : Thread) (l
   pub adds : AddsAll old new round (Session session)
 
 module _ (old cur : Reader) (round session : ℕ) (thread : Thread) (lines : List Line) (h : LinesGo old cur round session thread lines) where
+  -- What a line has due by the thread is what it has due by the round and the session.
   dues-is : (line : Line) → line_dues thread line ≡ dues_to round (Session session) (commands_of session (line ∷ []))
   dues-is line = ap (λ (r : ℕ). dues_to r (Session thread.session) (commands_of thread.session (line ∷ []))) h.round_is ∙ ap (λ (s : ℕ). dues_to round (Session s) (commands_of s (line ∷ []))) h.session_is
 
+  -- What lines have due comes in three parts, of those in front, of one, and of those behind.
   whole : (line : Line) (rest : List Line) → dues_to round (Session session) (commands_of session (lines ++ line ∷ rest))
       ≡ dues_to round (Session session) (commands_of session lines) ++ (dues_to round (Session session) (commands_of session (line ∷ [])) ++ dues_to round (Session session) (commands_of session rest))
   whole line rest =
@@ -76,6 +79,7 @@ module _ (old cur : Reader) (round session : ℕ) (thread : Thread) (lines : Lis
       (fails-more cur own more n (subst (λ (ds : List Due). FailsAt cur ds n) (dues-is line) f) (anew-session round session (commands_of session rest)))
       (anew-append own more (anew-session round session (commands_of session (line ∷ []))) (anew-session round session (commands_of session rest))))
 
+-- Lines are those in front of a place, the one at it, and those behind it.
 item-next : (lines : List Line) (i : ℕ) (item : Line) → i < length lines → item ≡ get_or lines i item → lines ≡ take i lines ++ item ∷ drop (i + 1) lines
 item-next lines i item few is =
     sym (take-append-drop i lines)

@@ -105,18 +105,23 @@ scans false (command.Scan of) table h = absurd (absurdly (sym h))
 scans within _ table h = absurd (absurdly (sym h))
 
 module _ (old : Reader) (thread : Thread) (asked : Command) (are : are_tables old.tables.now ≡ true) (reading : IsReading old) (is_thread : IsThread thread (read_by old)) (valid : is_command old.tables.now asked ≡ true) where
+  -- The tables of the reader in front of the reply.
   abbrev T : List TableDecl
   T = old.tables.now
 
+  -- The replies that were read in front of the reply.
   abbrev E : List Entry
   E = read_by old
 
+  -- What is due to the session, which is the command of its line.
   abbrev due : Due
   due = session_due thread asked
 
+  -- The session of the thread, as whom a reply answers.
   abbrev who : Who
   who = Session thread.session
 
+  -- The index of the session's next reply in the round.
   abbrev heading : ℕ
   heading = thread.index + 1
 
@@ -124,6 +129,7 @@ module _ (old : Reader) (thread : Thread) (asked : Command) (are : are_tables ol
   pub plain : NamesPlain T
   plain = names-plain T (tables-valid T are)
 
+  -- The session's next index by the replies that were read fits 64 bits.
   few-index : next_index thread.round who E < 2 ^ 64
   few-index = let a = index-few old thread.round who reading in let b = reading.room in omega (arith, a, b)
 
@@ -131,18 +137,23 @@ module _ (old : Reader) (thread : Thread) (asked : Command) (are : are_tables ol
   pub heading-small : heading < 2 ^ 64
   heading-small = let a = few-index in let b = is_thread.index in omega (arith, a, b)
 
+  -- The numbers of what is due to the session have their widths.
   narrow-of : (d : Command) → IsNarrow T are E (session_due thread d)
   narrow-of d = record { round = lt-ltb thread.round (2 ^ 32) is_thread.round; who = lt-ltb thread.session (2 ^ 32) is_thread.session; index = lt-ltb (next T are E (session_due thread d)) (2 ^ 64) few-index }
 
+  -- What a line says at the thread's next index it says as the reply that is due.
   said-there : (line : List ℕ) (told : Said) → said_at T thread.round who heading line ≡ Some told → said_there T are E due line ≡ Some told
   said-there line told h = ap (λ (n : ℕ). said_at T thread.round who n line) (sym is_thread.index) ∙ h
 
+  -- What a line says as the reply that is due it says at the thread's next index.
   said-here : (line : List ℕ) (told : Said) → said_there T are E due line ≡ Some told → said_at T thread.round who heading line ≡ Some told
   said-here line told h = ap (λ (n : ℕ). said_at T thread.round who n line) is_thread.index ∙ h
 
+  -- What may be said is what answers the command by the thread's flag.
   may-is : (told : Said) → may T are E due told ≡ answers T thread.within asked told
   may-is told = ap (λ (b : Bool). answers T b asked told) (sym is_thread.within)
 
+  -- What table the command scans is the same by the thread's flag and by the replies.
   scanned-is : (o : Option ℕ) → scanned_by thread.within asked ≡ o → scanned_by (is_within who E) asked ≡ o
   scanned-is o h = ap (λ (b : Bool). scanned_by b asked) (sym is_thread.within) ∙ h
 
@@ -197,9 +208,11 @@ module _ (old : Reader) (thread : Thread) (asked : Command) (are : are_tables ol
 
   -- ---- it fails
 
+  -- What fails no lines behind the reader's next line fails at that line.
   zero-fails : FailsAt old (due ∷ []) (old.line + 0) → FailsAt old (due ∷ []) old.line
   zero-fails h dues anew = h dues anew ∙ ap Err (let e : old.line + 0 ≡ old.line = omega arith in e)
 
+  -- Where the command scans no table, no line of its reply is begun.
   unscanned-begun : (line : List ℕ) (behind : List (List ℕ)) → scanned_by thread.within asked ≡ None → lines_begun T E due line behind ≡ 0
   unscanned-begun line behind none =
       ap (λ (o : Option ℕ). option_map_or (lines_of_scan T (entry_behind T E due said.Memory).reply line behind) o 0) (scanned-is None none)

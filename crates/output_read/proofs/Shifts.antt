@@ -19,9 +19,11 @@ pub first-place : (T : List TableDecl) → 0 < length T → is_table_place T 0 �
 first-place [] some = absurd (omega (arith, some))
 first-place (t ∷ T) some = refl
 
+-- What steps have due is the same for shifts of one round and one worker.
 moved-dues : (s t : Shift) (steps : List Command) → t.round ≡ s.round → t.worker ≡ s.worker → work_dues t steps ≡ work_dues s steps
 moved-dues s t steps r w = ap (λ (n : ℕ). dues_to n (Worker t.worker) steps) r ∙ ap (λ (n : ℕ). dues_to s.round (Worker n) steps) w
 
+-- Replies that were added to a shift's worker are added for shifts of one round and worker.
 moved-adds : (a b : Reader) (s t : Shift) → t.round ≡ s.round → t.worker ≡ s.worker → AddsAll a b t.round (Worker t.worker) → AddsAll a b s.round (Worker s.worker)
 moved-adds a b s t r w h = subst (λ (n : ℕ). AddsAll a b s.round (Worker n)) w (subst (λ (n : ℕ). AddsAll a b n (Worker t.worker)) r h)
 
@@ -40,6 +42,7 @@ pub partly-none : (old : Reader) (begun : Shift) → IsReading old → IsShift b
 partly-none old begun reading is = record { tables = refl; reading = reading; shift_is = is; round = refl; worker = refl; passes = λ dues. refl; adds = adds-none old begun.round (Worker begun.worker) }
 
 module _ (old cur : Reader) (begun shift : Shift) (steps : List Command) (h : Partly old cur begun shift steps) where
+  -- What a turn reads from its start on is what its rest reads from where it was read to.
   joined : (more : List Command) (dues : List Due) → reads old (work_dues begun (steps ++ more) ++ dues) ≡ reads cur (work_dues shift more ++ dues)
   joined more dues =
       ap (λ (ds : List Due). reads old (ds ++ dues)) (dues-more begun.round (Worker begun.worker) steps more)
@@ -89,6 +92,7 @@ turn-steps (t ∷ T) some = refl
 
 -- ---- turn after turn
 
+-- The steps of one turn more stand behind those of the turns so far.
 turns-more : (T : List TableDecl) (first n : ℕ) → flat_map (λ (turn : ℕ). turn_of T) (range_with_len first (n + 1)) ≡ flat_map (λ (turn : ℕ). turn_of T) (range_with_len first n) ++ turn_of T
 turns-more T first zero = append-nil (turn_of T)
 turns-more T first (suc n) =
@@ -100,6 +104,7 @@ pub anew-turns : (round worker first n : ℕ) (T : List TableDecl) → OpensAnew
 anew-turns round worker first zero T rest anew = anew
 anew-turns round worker first (suc n) T rest anew = refl
 
+-- The steps of turns are those of the first so many and then of the others.
 turns-split : (T : List TableDecl) (first n k : ℕ) → flat_map (λ (turn : ℕ). turn_of T) (range_with_len first (n + k)) ≡ flat_map (λ (turn : ℕ). turn_of T) (range_with_len first n) ++ flat_map (λ (turn : ℕ). turn_of T) (range_with_len (first + n) k)
 turns-split T first zero k =
     ap (λ (m : ℕ). flat_map (λ (turn : ℕ). turn_of T) (range_with_len first m)) (let e : 0 + k ≡ k = omega arith in e)
@@ -133,6 +138,7 @@ turned-start old round worker a b reading ahead = record {
 }
 
 module _ (old cur : Reader) (round worker : ℕ) (shift : Shift) (turns : ℕ) (h : Turned old cur round worker shift turns) where
+  -- What a turn has due from the shift on is due to the worker in the round.
   turn-dues : work_dues shift (turn_of cur.tables.now) ≡ dues_to round (Worker worker) (turn_of old.tables.now)
   turn-dues =
       ap (λ (ts : List TableDecl). work_dues shift (turn_of ts)) h.tables ∙ ap (λ (n : ℕ). dues_to n (Worker shift.worker) (turn_of old.tables.now)) h.round_is

@@ -1,4 +1,5 @@
--- A worker's steps that may be silent: which of them may be next is known by where the first of them is.
+-- A worker's steps that may be silent: which of them may be next is known by where the first of
+-- them is.
 use Rattle.std.proofs.Common.{◌≡◌, ℕ, ◌+◌, ◌≤◌, Bool, true, false, cond, List, [], ◌∷◌, ◌++◌, length, drop, Option, None, Some, Ok, Err, refl, sym, ap, ◌∙◌, subst, arith, append_assoc, suc, zero, max}
 use Rattle.std.specs.Prelude.{if◌then◌else◌}
 use Rattle.std.specs.List.{flat_map, range_with_len}
@@ -34,6 +35,7 @@ steps_of entries = flat_map (λ entry. command.Compact entry.0 ∷ blocks_of ent
 abbrev Covers : Reading → Reading → Type 0
 Covers a b = further a b ≡ a
 
+-- The further of two readings goes as far as a third where the second does.
 covers-more : (a b c : Reading) → Covers b c → Covers (further a b) c
 covers-more a b c h = further-assoc a b c ∙ ap (further a) h
 
@@ -62,6 +64,7 @@ module _ (tables : List TableDecl) (round worker : ℕ) where
   AreQuiet [] = Unit {0}
   AreQuiet (asked ∷ steps) = ((is_seal_or_gather asked ≡ true) × ((words behind : List (List ℕ)) → IsListed tables words behind asked) × (scanned_by true asked ≡ None) × (scanned_by false asked ≡ None)) × AreQuiet steps
 
+  -- What is due of steps in two parts is due of one part after the other.
   dues-append : (a b : List Command) (dues : List Due) → worker_dues (a ++ b) ++ dues ≡ worker_dues a ++ (worker_dues b ++ dues)
   dues-append a b dues =
       ap (λ (ds : List Due). ds ++ dues) (map-append (step_due round worker) a b) ∙ append_assoc (worker_dues a) (worker_dues b) dues
@@ -81,6 +84,7 @@ module _ (tables : List TableDecl) (round worker : ℕ) where
       let is : reading tables (due ∷ rest) earlier (line ∷ behind) ≡ further here skip = ap (λ (b : Bool). elim b as (λ x. Reading) [ true ↦ further here skip | false ↦ here ]) quiet in
       ap (λ (r : Reading). further r skip) is ∙ covers-more here skip skip (further-self skip) ∙ sym is
 
+  -- Of three readings the first goes as far as the third where each goes as far as the next.
   covers-trans : (a b c : Reading) → Covers a b → Covers b c → Covers a c
   covers-trans a b c h k = ap (λ (r : Reading). further r c) (sym h) ∙ further-assoc a b c ∙ ap (further a) k ∙ h
 
@@ -161,7 +165,8 @@ module _ (tables : List TableDecl) (round worker : ℕ) where
             ∙ ap (further (Err (next_line tables earlier))) rest
             ∙ late-first (next_line tables earlier) (outcome (reaches n entries)) (late-outcome (reaches n entries))
 
-        -- the steps are passed over where the end is among those that may be next, and else the line there fails
+        -- the steps are passed over where the end is among those that may be next, and else the
+        -- line there fails
         pub steps-stop : (steps : List Command) → AreQuiet steps → (n : ℕ) (entries : List (ℕ × TableDecl)) → AllQuiet entries → from_steps steps entries n earlier lines ≡ outcome (reaches n entries)
         steps-stop steps quiet n entries all =
             ap (λ (r : Reading). further r (joined n entries earlier lines)) (over steps quiet (tail entries)) ∙ joined-stops n entries all
@@ -262,7 +267,8 @@ module _ (tables : List TableDecl) (round worker : ℕ) where
                 late-last (next_line tables earlier) r (late-onward (worker_dues steps ++ tail [])) ∙ sym (no-first r)
             gathered steps n (e ∷ entries) = refl
 
-            -- it answers the first of the steps that says it, or any of the compactions that may be next
+            -- it answers the first of the steps that says it, or any of the compactions that may be
+            -- next
             pub compact-hit : (steps later : List Command) → AreQuiet steps → (n : ℕ) (entries : List (ℕ × TableDecl)) → AllQuiet entries → first_hit says steps ≡ Some later
                 → from_steps steps entries n earlier (line ∷ behind) ≡ from_steps later entries (suc n) further_on lines_left
             compact-hit steps later quiet n entries all is =

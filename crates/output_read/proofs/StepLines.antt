@@ -44,6 +44,7 @@ one-kind (said.Sealed table block stamp) h = refl
 one-kind (said.Frozen table block rows) h = refl
 one-kind _ h = absurd (never h)
 
+-- What a step says, where it fits the tables, has its numbers in their widths.
 step-kind : (tables : List TableDecl) (told : Said) → is_step_said told ≡ true → is_said tables told ≡ true → StepSaid tables told
 step-kind tables (said.Moved count) h fit = ltb-true count (2 ^ 64) fit
 step-kind tables said.Memory h fit = tt
@@ -62,21 +63,25 @@ other-seal : (tables : List TableDecl) (table block : ℕ) (told : Said) → is_
 other-seal tables table block (said.Sealed of at stamp) h = absurd (never (sym h))
 other-seal tables table block _ h = refl
 
+-- What is none of a step's four kinds answers no gathering in a line.
 other-gather : (tables : List TableDecl) (table block : ℕ) (told : Said) → is_step_said told ≡ false → (not (is_silent told) && answers_within tables (command.Gather table block) told) ≡ false
 other-gather tables table block (said.Frozen of at rows) h = absurd (never (sym h))
 other-gather tables table block said.Memory h = absurd (never (sym h))
 other-gather tables table block _ h = refl
 
+-- What is none of a step's four kinds answers no compaction in a line.
 other-compact : (tables : List TableDecl) (table : ℕ) (told : Said) → is_step_said told ≡ false → (not (is_silent told) && answers_within tables (command.Compact table) told) ≡ false
 other-compact tables table (said.Moved count) h = absurd (never (sym h))
 other-compact tables table said.Memory h = absurd (never (sym h))
 other-compact tables table _ h = refl
 
+-- What is none of a step's four kinds answers neither a seal nor a gathering in a line.
 other-quiet : (tables : List TableDecl) (asked : Command) → is_seal_or_gather asked ≡ true → (told : Said) → is_step_said told ≡ false → (not (is_silent told) && answers_within tables asked told) ≡ false
 other-quiet tables (command.Seal table block) is told h = other-seal tables table block told h
 other-quiet tables (command.Gather table block) is told h = other-gather tables table block told h
 other-quiet tables _ is told h = absurd (never is)
 
+-- A seal or a gathering is a command of upkeep.
 quiet-upkeep : (asked : Command) → is_seal_or_gather asked ≡ true → is_upkeep asked ≡ true
 quiet-upkeep (command.Seal table block) is = refl
 quiet-upkeep (command.Gather table block) is = refl
@@ -93,6 +98,7 @@ unsaid tables steps _ after h = absurd (absurdly (sym h))
 module _ (tables : List TableDecl) (are : are_tables tables ≡ true) (names : NamesPlain tables) (valid : list_all is_table tables ≡ true) (round worker : ℕ) (earlier : List Entry)
     (small_round : is_u32 round ≡ true) (small_worker : is_u32 worker ≡ true)
     (small_there : is_u64 (there tables are names valid round worker earlier small_round small_worker) ≡ true) (dues : List Due) (anew : begins_anew dues ≡ true) where
+  -- What is due to the worker of a step.
   abbrev due : Command → Due
   due asked = step_due round worker asked
 
@@ -100,6 +106,7 @@ module _ (tables : List TableDecl) (are : are_tables tables ≡ true) (names : N
   abbrev pub from_here : NextSteps → List Entry → List (List ℕ) → Reading
   from_here steps es ls = from_next tables round worker valid dues steps es ls
 
+  -- The worker's reply behind the earlier ones that says this.
   abbrev the_entry : Said → Entry
   the_entry told = entry_behind tables earlier (due command.Observe) told
 
@@ -134,9 +141,11 @@ module _ (tables : List TableDecl) (are : are_tables tables ≡ true) (names : N
 
   -- ---- where no step takes what is there
 
+  -- What is read behind the turn where its end was reached, or else the fault at the next line.
   abbrev outcome : Bool → Reading → Reading
   outcome b read = cond b read (Err (next_line tables earlier))
 
+  -- The end is reached where no more tables are left than may be passed over.
   reaches-is : (n : ℕ) (entries : List (ℕ × TableDecl)) (lines : List (List ℕ)) (ends : Reading) (late_ends : Late (next_line tables earlier) ends)
       (over : (steps : List Command) → AreQuiet tables round worker steps → (rest : List Due) → reading tables (worker_dues tables round worker steps ++ rest) earlier lines ≡ reading tables rest earlier lines)
       (stops : (table : ℕ) (rest : List Due) → reading tables (step_due round worker (command.Compact table) ∷ rest) earlier lines ≡ Err (next_line tables earlier))
@@ -173,9 +182,6 @@ module _ (tables : List TableDecl) (are : are_tables tables ≡ true) (names : N
         at-end : (until table many : ℕ) → table < until → until ≤ many → not (nat_lt (until - (table + 1)) (many - (table + 1))) ≡ (until == many)
         at-end until table many behind most = grind (arith, nat_tests, behind, most)
 
-  zero-more : (n k : ℕ) → k ≡ 0 → n + k ≡ n
-  zero-more n k e = omega (arith, e)
-
   -- where no line is left, what is due behind the turn is read if its end was reached, or it fails
   pub stop-end : (steps : NextSteps) → InTurn tables round worker valid steps → from_here steps earlier [] ≡ outcome (steps.until == length tables) (reading tables dues earlier [])
   stop-end steps in_turn =
@@ -203,7 +209,7 @@ module _ (tables : List TableDecl) (are : are_tables tables ≡ true) (names : N
         may-upkeep : (asked : Command) → is_upkeep asked ≡ true → (told : Said) → Rattle.output_read.proofs.Keys.may tables are earlier (due asked) told ≡ (not (is_silent told) && answers_within tables asked told)
         may-upkeep asked up told =
             ap (λ (b : Bool). not (is_silent told) && cond (Rattle.outcome_spec.specs.Forms.is_within (Worker worker) earlier || b) (answers_within tables asked told) (Rattle.output_read.specs.Answers.answers_without asked told)) up
-            ∙ ap (λ (b : Bool). not (is_silent told) && cond b (answers_within tables asked told) (Rattle.output_read.specs.Answers.answers_without asked told)) (Rattle.timeline_laws.proofs.Turns.or-last (Rattle.outcome_spec.specs.Forms.is_within (Worker worker) earlier))
+            ∙ ap (λ (b : Bool). not (is_silent told) && cond b (answers_within tables asked told) (Rattle.output_read.specs.Answers.answers_without asked told)) (Rattle.timeline_laws.proofs.Tests.or-last (Rattle.outcome_spec.specs.Forms.is_within (Worker worker) earlier))
 
     -- the line is none of the steps that may be next
     pub step-stop : (steps : NextSteps) → InTurn tables round worker valid steps → ((told : Said) → said_there tables are earlier (due command.Observe) line ≡ Some told → next_steps tables steps told ≡ None)

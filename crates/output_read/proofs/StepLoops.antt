@@ -37,9 +37,11 @@ use Rattle.output_read.proofs.WorkLines.{kept-entry, reads-on, shift-on, adds-it
 -- ---- the steps behind one are in the turn
 
 module _ (tables : List TableDecl) (round worker : ℕ) (valid : list_all is_table tables ≡ true) where
+  -- The steps that may be next are steps of the worker's turn.
   abbrev In : NextSteps → Type 0
   In steps = InTurn tables round worker valid steps
 
+  -- One table further is not behind the last table.
   more-until : (until : ℕ) → until ≤ length tables → one_more tables until ≤ length tables
   more-until until most = by (nat_lt until (length tables)) refl
     where
@@ -47,6 +49,7 @@ module _ (tables : List TableDecl) (round worker : ℕ) (valid : list_all is_tab
       by true h = let e = ltb-true until (length tables) h in omega (arith, e)
       by false h = most
 
+  -- One table further is no table back.
   more-least : (until : ℕ) → until ≤ one_more tables until
   more-least until = by (nat_lt until (length tables))
     where
@@ -54,6 +57,7 @@ module _ (tables : List TableDecl) (round worker : ℕ) (valid : list_all is_tab
       by true = omega arith
       by false = omega arith
 
+  -- The next table is in front of where the steps end with one table further.
   grows : (steps : NextSteps) → In steps → steps.table + 1 < length tables → steps.table + 1 < one_more tables steps.until
   grows steps is few = by (nat_lt steps.until (length tables)) refl
     where
@@ -61,6 +65,7 @@ module _ (tables : List TableDecl) (round worker : ℕ) (valid : list_all is_tab
       by true h = let e = is.behind in omega (arith, e)
       by false h = let e = ltb-false steps.until (length tables) h in omega (arith, e, few)
 
+  -- The steps behind the next table's compaction are steps of the turn.
   table-in : (steps after : NextSteps) → In steps → next_table tables steps ≡ Some after → In after
   table-in steps after is h = by (nat_lt (steps.table + 1) (length tables)) refl h
     where
@@ -76,6 +81,7 @@ module _ (tables : List TableDecl) (round worker : ℕ) (valid : list_all is_tab
           })
       by false t e = absurd (absurdly (sym e))
 
+  -- The steps behind a refusal of memory are steps of the turn.
   memory-in : (steps after : NextSteps) → In steps → after_memory tables steps ≡ Some after → In after
   memory-in steps after is h = by (nat_lt steps.block (blocks_at tables steps.table)) refl h
     where
@@ -92,6 +98,7 @@ module _ (tables : List TableDecl) (round worker : ℕ) (valid : list_all is_tab
           })
       by false t e = table-in steps after is e
 
+  -- The steps from a place among a table's blocks on are steps of the turn.
   one-in : (table block : ℕ) (sealed : Bool) (from : ℕ) → block < blocks_at tables table → from ≤ blocks_at tables table → (sealed ≡ true → from < blocks_at tables table) → In (record { table = table; block = from; sealed = sealed; until = table + 1 })
   one-in table block sealed from few most there = record {
     table = has-blocks tables table block few;
@@ -101,12 +108,14 @@ module _ (tables : List TableDecl) (round worker : ℕ) (valid : list_all is_tab
     sealed = there;
   }
 
+  -- The steps behind a block's seal are steps of the turn.
   seal-in : (steps after : NextSteps) (table block : ℕ) (b : Bool) → may_seal tables steps table block ≡ b → cond b (Some (record { table = table; block = block; sealed = true; until = table + 1 })) None ≡ Some after → In after
   seal-in steps after table block true t e =
       let few = ltb-true block (blocks_at tables table) (and_parts (nat_lt block (blocks_at tables table)) _ t).0 in
       subst In (same-said _ after e) (one-in table block true block few (omega (arith, few)) (λ f. few))
   seal-in steps after table block false t e = absurd (absurdly (sym e))
 
+  -- The steps behind a block's gathering are steps of the turn.
   gather-in : (steps after : NextSteps) (table block : ℕ) (b : Bool) → may_gather tables steps table block ≡ b → cond b (Some (record { table = table; block = block + 1; sealed = false; until = table + 1 })) None ≡ Some after → In after
   gather-in steps after table block true t e =
       let few = ltb-true block (blocks_at tables table) (and_parts (nat_lt block (blocks_at tables table)) _ t).0 in
@@ -123,13 +132,16 @@ module _ (tables : List TableDecl) (round worker : ℕ) (valid : list_all is_tab
 
 -- ---- line by line
 
+-- The steps over the first table's blocks, in front of any of them.
 abbrev first_steps : NextSteps
 first_steps = record { table = 0; block = 0; sealed = false; until = 1 }
 
 module _ (old : Reader) (begun : Shift) (are : are_tables old.tables.now ≡ true) where
+  -- The tables of the reader in front of the steps.
   abbrev T : List TableDecl
   T = old.tables.now
 
+  -- Each of the reader's tables is valid.
   valid : list_all is_table T ≡ true
   valid = tables-valid T are
 
@@ -143,6 +155,7 @@ module _ (old : Reader) (begun : Shift) (are : are_tables old.tables.now ≡ tru
     pub adds : AddsAll old cur begun.round (Worker begun.worker)
     pub goes : (dues : List Due) → begins_anew dues ≡ true → reads old (work_dues begun (steps_behind T) ++ dues) ≡ from_next T begun.round begun.worker (tables-valid T are) dues steps (read_by cur) (lines_left cur)
 
+  -- What the turn's steps behind its first compaction read is what is read from the first table on.
   starts-by : (ts : List TableDecl) → 0 < length ts → (v : list_all is_table ts ≡ true) (dues : List Due) (es : List Entry) (ls : List (List ℕ))
       → reading ts (work_dues begun (steps_behind ts) ++ dues) es ls ≡ from_next ts begun.round begun.worker v dues first_steps es ls
   starts-by [] some v dues es ls = absurd (omega (arith, some))

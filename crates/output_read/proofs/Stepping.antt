@@ -24,7 +24,8 @@ use Rattle.timeline_laws.proofs.Lines.{first_line, all-words, a-word, said-words
 use Rattle.timeline_laws.proofs.ReadBack.{NamesPlain}
 use Rattle.timeline_laws.proofs.ReadLines.{words_of_line}
 use Rattle.timeline_laws.proofs.ReadNumbers.{is_digit_byte, digits_decimal, plain_decimal}
-use Rattle.timeline_laws.proofs.Turns.{StepSaid, or-last, any-found, begin-found, session-not-step, begin-not-step, step-is-said}
+use Rattle.timeline_laws.proofs.Tests.{or-last}
+use Rattle.timeline_laws.proofs.Turns.{StepSaid, any-found, begin-found, session-not-step, begin-not-step, step-is-said}
 use Rattle.output_read.specs.declared.turns.NextSteps.{NextSteps}
 use Rattle.output_read.specs.Answers.{answers_within, answers_without}
 use Rattle.output_read.specs.Turns.{begins_turn, begins_anew}

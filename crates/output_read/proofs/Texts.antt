@@ -30,15 +30,18 @@ module _ (round : ℕ) (who : Who) (index : ℕ) where
 
   -- ---- a line without its end
 
+  -- A text that begins with an end of a line is not one part.
   parts-more : (byte : ℕ) (text : List ℕ) → (byte == 10) ≡ true → parts 10 (byte ∷ text) ≡ (byte ∷ text) ∷ [] → ⊥
   parts-more byte text h is =
       let e : [] ∷ parts 10 text ≡ (byte ∷ text) ∷ [] = sym (ap (λ (b : Bool). parted b byte (parts 10 text)) h) ∙ is in
       (let n : ⊥ = cc in n)
 
+  -- Where one part has a byte in front, it was one part without the byte, or none.
   onto-back : (byte : ℕ) (text : List ℕ) (ps : List (List ℕ)) → onto_first byte ps ≡ (byte ∷ text) ∷ [] → (ps ≡ text ∷ []) ⊎ (ps ≡ [])
   onto-back byte text [] h = inr refl
   onto-back byte text (p ∷ ps) h = inl (let e : p ∷ ps ≡ text ∷ [] = cc in e)
 
+  -- A text has a part at least.
   some-parts : (text : List ℕ) → parts 10 text ≡ [] → ⊥
   some-parts [] h = (let n : ⊥ = cc in n)
   some-parts (byte ∷ text) h = by (byte == 10) (parts 10 text) h
@@ -59,6 +62,7 @@ module _ (round : ℕ) (who : Who) (index : ℕ) where
           let is : onto_first byte (parts 10 text) ≡ (byte ∷ text) ∷ [] = sym (ap (λ (b : Bool). parted b byte (parts 10 text)) e) ∙ h in
           and_from (not (byte == 10)) (list_all (λ b. not (b == 10)) text) (ap not e) (elim (onto-back byte text (parts 10 text) is) [ inl one ↦ later one | inr none ↦ absurd (some-parts text none) ])
 
+  -- A text without an end of a line is not cut.
   no-cut : (text : List ℕ) → list_all (λ byte. not (byte == 10)) text ≡ true → cut 10 text ≡ None
   no-cut [] h = refl
   no-cut (byte ∷ text) h =

@@ -25,18 +25,23 @@ use Rattle.output_read.proofs.Stepping.{due_of, there, says, says-is, the_entry,
 
 -- ---- tests
 
+-- The blocks behind a block or at it are those not in front of it.
 at-seal : (a b : ℕ) → (nat_lt a b || (b == a && true)) ≡ not (nat_lt b a)
 at-seal a b = grind (arith, nat_tests)
 
+-- The blocks behind a block, without it, are those not in front of the next.
 behind-seal : (a b : ℕ) → (nat_lt a b || (b == a && false)) ≡ not (nat_lt b (a + 1))
 behind-seal a b = grind (arith, nat_tests)
 
+-- Another block is not in front of the next where it is not in front of this one.
 after-block : (a b : ℕ) → (b == a) ≡ false → not (nat_lt b (a + 1)) ≡ not (nat_lt b a)
 after-block a b h = grind (arith, nat_tests, h)
 
+-- No number is below zero.
 from-none : (b : ℕ) → not (nat_lt b 0) ≡ true
 from-none b = grind (arith, nat_tests)
 
+-- The last two of three may be turned in a conjunction.
 and-turned : (own low high : Bool) → (own && (low && high)) ≡ (own && high && low)
 and-turned true true true = refl
 and-turned true true false = refl
@@ -47,12 +52,15 @@ and-turned false low high = refl
 module _ (tables : List TableDecl) (are : are_tables tables ≡ true) (names : NamesPlain tables) (valid : list_all is_table tables ≡ true) (round worker : ℕ) (earlier : List Entry)
     (small_round : is_u32 round ≡ true) (small_worker : is_u32 worker ≡ true)
     (small_there : is_u64 (there tables are names valid round worker earlier small_round small_worker) ≡ true) (line : List ℕ) (behind : List (List ℕ)) where
+  -- The line says this as the worker's next reply.
   abbrev Spoken : Said → Type 0
   Spoken told = said_there tables are earlier (due_of tables are names valid round worker earlier small_round small_worker command.Observe) line ≡ Some told
 
+  -- With these dues the reading fails at the line.
   abbrev Ends : List Due → Type 0
   Ends dues = reading tables dues earlier (line ∷ behind) ≡ Err (next_line tables earlier)
 
+  -- The steps that may be next are steps of the worker's turn.
   abbrev InTurnHere : NextSteps → Type 0
   InTurnHere steps = InTurn tables round worker valid steps
 
@@ -76,12 +84,14 @@ module _ (tables : List TableDecl) (are : are_tables tables ≡ true) (names : N
     chosen-on true steps = refl
     chosen-on false steps = refl
 
+  -- Over all blocks of a table, a block's seal leaves its gathering and the blocks behind it.
   whole-seal : (own : Bool) (table block blocks : ℕ) → cond (own && (not (nat_lt block 0) && nat_lt block (0 + blocks))) (Some (command.Gather table block ∷ blocks_from table (block + 1) (0 + blocks - (block + 1)))) None
       ≡ cond (own && nat_lt block blocks) (Some (command.Gather table block ∷ blocks_from table (block + 1) (blocks - (block + 1)))) None
   whole-seal own table block blocks =
       ap (λ (b : Bool). cond (own && (b && nat_lt block (0 + blocks))) (Some (command.Gather table block ∷ blocks_from table (block + 1) (0 + blocks - (block + 1)))) None) (from-none block)
       ∙ ap (λ (n : ℕ). cond (own && nat_lt block n) (Some (command.Gather table block ∷ blocks_from table (block + 1) (n - (block + 1)))) None) (let e : 0 + blocks ≡ blocks = omega arith in e)
 
+  -- Over all blocks of a table, a block's gathering leaves the blocks behind it.
   whole-gather : (own : Bool) (table block blocks : ℕ) → cond (own && (not (nat_lt block 0) && nat_lt block (0 + blocks))) (Some (blocks_from table (block + 1) (0 + blocks - (block + 1)))) None
       ≡ cond (own && nat_lt block blocks) (Some (blocks_from table (block + 1) (blocks - (block + 1)))) None
   whole-gather own table block blocks =

@@ -40,12 +40,15 @@ way-passed at next fail skip silent s a =
 
 -- ---- of two readings
 
+-- The greater of two is the first where the second is not above it.
 max-left : (a b : ℕ) → b ≤ a → max a b ≡ a
 max-left a b h = omega (arith, h)
 
+-- The greater of two is the second where the first is not above it.
 max-right : (a b : ℕ) → a ≤ b → max a b ≡ b
 max-right a b h = omega (arith, h)
 
+-- The greatest of three is the same however they are paired.
 max-assoc : (a b c : ℕ) → max (max a b) c ≡ max a (max b c)
 max-assoc a b c = omega arith
 
@@ -87,6 +90,7 @@ pub late-last : (line : ℕ) (r : Reading) → Late line r → further r (Err li
 late-last line (Ok entries) h = refl
 late-last line (Err at) h = ap Err (max-left at line h)
 
+-- One due's way is late enough where its reply, its fault and what is read without it are.
 late-way : (line : ℕ) (silent : Bool) (at : Option Entry) (next : Entry → Reading) (fail : ℕ) (skip : Reading) → ((entry : Entry) → Late line (next entry)) → line ≤ fail → Late line skip
     → Late line (way silent at next fail skip)
 late-way line true (Some entry) next fail skip h few k = late-further line (next entry) skip (h entry) k
@@ -94,6 +98,7 @@ late-way line true None next fail skip h few k = late-further line (Err fail) sk
 late-way line false (Some entry) next fail skip h few k = h entry
 late-way line false None next fail skip h few k = few
 
+-- A reading that ends, or fails at a line, fails at that line or later.
 late-end : (b : Bool) (line : ℕ) (earlier : List Entry) → Late line (cond {A = Reading} b (Ok earlier) (Err line))
 late-end true line earlier = tt
 late-end false line earlier = omega arith

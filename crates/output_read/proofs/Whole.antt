@@ -18,15 +18,18 @@ begun byte lines tables earlier true e = ap (λ (c : Bool). reading tables [] ea
 begun byte [] tables earlier false e = ap (λ (c : Bool). reading tables [] earlier (if c then (byte ∷ []) ∷ [] else onto_first byte [])) e
 begun byte (line ∷ lines) tables earlier false e = ap (λ (c : Bool). reading tables [] earlier (if c then (byte ∷ []) ∷ line ∷ lines else onto_first byte (line ∷ lines))) e
 
+-- Where nothing is due, a text that is not empty fails at the next line.
 left-over : (text : List ℕ) (tables : List TableDecl) (earlier : List Entry) → (length text ≡ 0 → ⊥) → reading tables [] earlier (lines_of text) ≡ Err (next_line tables earlier)
 left-over [] tables earlier some = absurd (some refl)
 left-over (byte ∷ text) tables earlier some = begun byte (lines_of text) tables earlier (byte == 10) refl
 
+-- Where nothing is due and no text is left, the replies are those that were read.
 none-left : (text : List ℕ) (tables : List TableDecl) (earlier : List Entry) → length text ≡ 0 → reading tables [] earlier (lines_of text) ≡ Ok earlier
 none-left [] tables earlier none = refl
 none-left (byte ∷ text) tables earlier none = absurd (omega (arith, none))
 
 module _ (script : Script) (old : Reader) (tables_are : old.tables.now ≡ script.tables) (none : read_by old ≡ []) where
+  -- The replies of a text are what all that is due reads from the start on.
   from-start : replies_of script old.rest.now ≡ reads old (dues_of script ++ [])
   from-start =
       ap (λ (earlier : List Entry). reading script.tables (dues_of script) earlier (lines_left old)) (sym none)

@@ -15,7 +15,7 @@ use Rattle.outcome_spec.specs.Reading.{words_in}
 use Rattle.outcome_spec.specs.Forms.{Due, entry_behind, line_count, lines_of_scan, next_line, is_within, is_silent, is_upkeep, is_seal_or_gather, scanned_by}
 use Rattle.reply_text.specs.Shown.{is_u32, are_tables}
 use Rattle.timeline_laws.proofs.ReadBack.{NamesPlain}
-use Rattle.timeline_laws.proofs.Turns.{or-last}
+use Rattle.timeline_laws.proofs.Tests.{or-last}
 use Rattle.output_read.specs.declared.kept.KeptReply.{KeptReply}
 use Rattle.output_read.specs.declared.reader.Reader.{Reader}
 use Rattle.output_read.specs.declared.workers.Shift.{Shift}
@@ -36,43 +36,51 @@ use Rattle.output_read.proofs.Silences.{step_due}
 
 -- ---- steps that have a line
 
+-- What answers an observation is not silent.
 loud-observe : (told : Said) → answers_observe told ≡ true → is_silent told ≡ false
 loud-observe (said.Cooling count) h = refl
 loud-observe _ h = absurd (never h)
 
+-- What answers a pruning is not silent.
 loud-prune : (told : Said) → answers_prune told ≡ true → is_silent told ≡ false
 loud-prune (said.Pruned count) h = refl
 loud-prune _ h = absurd (never h)
 
+-- What answers a compaction is not silent.
 loud-compact : (told : Said) → answers_compact told ≡ true → is_silent told ≡ false
 loud-compact (said.Moved count) h = refl
 loud-compact said.Memory h = refl
 loud-compact _ h = absurd (never h)
 
+-- What answers a step that has a line in any case is not silent.
 loud : (tables : List TableDecl) (asked : Command) → IsSpoken asked → (told : Said) → answers tables true asked told ≡ true → is_silent told ≡ false
 loud tables command.Observe is told h = loud-observe told h
 loud tables command.Prune is told h = loud-prune told h
 loud tables (command.Compact table) is told h = loud-compact told h
 loud tables _ is told h = absurd is
 
+-- A step that has a line in any case is upkeep.
 spoken-upkeep : (asked : Command) → IsSpoken asked → is_upkeep asked ≡ true
 spoken-upkeep command.Observe is = refl
 spoken-upkeep command.Prune is = refl
 spoken-upkeep (command.Compact table) is = refl
 spoken-upkeep _ is = absurd is
 
+-- A step that has a line in any case is no seal and no gathering.
 spoken-speaks : (asked : Command) → IsSpoken asked → is_seal_or_gather asked ≡ false
 spoken-speaks command.Observe is = refl
 spoken-speaks command.Prune is = refl
 spoken-speaks (command.Compact table) is = refl
 spoken-speaks _ is = absurd is
 
+-- A step that has a line in any case scans no table.
 spoken-unscanned : (within : Bool) (asked : Command) → IsSpoken asked → scanned_by within asked ≡ None
 spoken-unscanned within command.Observe is = refl
 spoken-unscanned within command.Prune is = refl
 spoken-unscanned within (command.Compact table) is = refl
 spoken-unscanned within _ is = absurd is
 
+-- A step that has a line in any case names only what there is.
 spoken-listed : (tables : List TableDecl) (words behind : List (List ℕ)) (asked : Command) → IsSpoken asked → IsListed tables words behind asked
 spoken-listed tables words behind command.Observe is = tt
 spoken-listed tables words behind command.Prune is = tt
@@ -80,18 +88,23 @@ spoken-listed tables words behind (command.Compact table) is = tt
 spoken-listed tables words behind _ is = absurd is
 
 module _ (old : Reader) (shift : Shift) (are : are_tables old.tables.now ≡ true) (reading_is : IsReading old) (is_shift : IsShift shift old) where
+  -- The tables of the reader in front of the step.
   abbrev T : List TableDecl
   T = old.tables.now
 
+  -- The replies that were read in front of the step.
   abbrev E : List Entry
   E = read_by old
 
+  -- The worker of the shift, as whom a reply answers.
   abbrev who : Who
   who = Worker shift.worker
 
+  -- The index of the worker's next reply in the round.
   abbrev heading : ℕ
   heading = shift.index + 1
 
+  -- What is due to the shift's worker of a step.
   abbrev due : Command → Due
   due asked = step_due shift.round shift.worker asked
 
@@ -99,6 +112,7 @@ module _ (old : Reader) (shift : Shift) (are : are_tables old.tables.now ≡ tru
   pub plain : NamesPlain T
   plain = names-plain T (tables-valid T are)
 
+  -- The worker's next index by the replies that were read fits 64 bits.
   few-index : next_index shift.round who E < 2 ^ 64
   few-index = let a = index-few old shift.round who reading_is in let b = reading_is.room in omega (arith, a, b)
 
@@ -106,12 +120,15 @@ module _ (old : Reader) (shift : Shift) (are : are_tables old.tables.now ≡ tru
   pub heading-small : heading < 2 ^ 64
   heading-small = let a = few-index in let b = is_shift.index in omega (arith, a, b)
 
+  -- The round of the shift fits 32 bits.
   small_round : is_u32 shift.round ≡ true
   small_round = lt-ltb shift.round (2 ^ 32) is_shift.round
 
+  -- The number of the shift's worker fits 32 bits.
   small_worker : is_u32 shift.worker ≡ true
   small_worker = lt-ltb shift.worker (2 ^ 32) is_shift.worker
 
+  -- The numbers of what is due to the worker have their widths.
   narrow-of : (asked : Command) → IsNarrow T are E (due asked)
   narrow-of asked = record { round = small_round; who = small_worker; index = lt-ltb (next T are E (due asked)) (2 ^ 64) few-index }
 
@@ -119,6 +136,7 @@ module _ (old : Reader) (shift : Shift) (are : are_tables old.tables.now ≡ tru
   pub said-there : (asked : Command) (line : List ℕ) (told : Said) → said_at T shift.round who heading line ≡ Some told → said_there T are E (due asked) line ≡ Some told
   said-there asked line told h = ap (λ (n : ℕ). said_at T shift.round who n line) (sym is_shift.index) ∙ h
 
+  -- What a line says as the reply that is due it says at the shift's next index.
   said-here : (asked : Command) (line : List ℕ) (told : Said) → said_there T are E (due asked) line ≡ Some told → said_at T shift.round who heading line ≡ Some told
   said-here asked line told h = ap (λ (n : ℕ). said_at T shift.round who n line) is_shift.index ∙ h
 

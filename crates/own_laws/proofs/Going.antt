@@ -54,6 +54,7 @@ rests sh q shape = at_rest sh q shape
 
 -- ---- other events
 
+-- Where an event leaves a session's transaction, the session owns what it owned.
 moved_open : (sh : Shape) (s u : Parts) (own : OwnTransaction) → transaction sh u own.session ≡ transaction sh s own.session → OwnsAll sh own s → OwnsAll sh own u
 moved_open sh s u own same owns = (owns.0, subst (λ o. IsSomeAnd o (IsOwn sh u own)) (sym same) (go (transaction sh s own.session) owns.1))
   where
@@ -84,6 +85,7 @@ keys sh s own t key owns = (owns.0, go (transaction sh s own.session) owns.1)
 
 -- ---- its own events
 
+-- The current place of a key is one of its candidates.
 current_among : (slot : ℕ → Slot) (places : List ℕ) (p : ℕ) → current_place slot places ≡ Some p → Among p places
 current_among slot [] p is = cc
 current_among slot (x ∷ places) p is = go (slot x).row refl is (current_among slot places p)
@@ -118,12 +120,15 @@ of_session reply.Thawed place own = refl
 of_session reply.Memory place own = refl
 
 module _ (sh : Shape) (s : Parts) (holds : CoreHolds sh s) where
+  -- The core in front of the event is sound.
   abbrev ok : Sound sh s
   ok = holds.sound
 
+  -- The core in front of the event follows its machine.
   abbrev f : FollowsMachine sh s holds.sound.follows.0
   f = follows_machine sh s holds.sound
 
+  -- With a write at a place, and the place as its candidate, the session owns that place too.
   wrote : (own : OwnTransaction) → OwnsAll sh own s → (c : Changes) (t p : ℕ) (key : ℤ) (new : Change) (body : Body)
       → CoreHolds sh (each_changed c (names sh) s)
       → part_named (names sh) s (BodyOf t (block_of p)) ≡ Some (part.Body body) → slot_of p < length body.slots
@@ -140,6 +145,7 @@ module _ (sh : Shape) (s : Parts) (holds : CoreHolds sh s) where
       (write_else sh s c (written own.session new) t p body f.kinds there inside bodies)
       more follows.index.one_key follows.current own.writes (record { each = all_slots sh s ok own owns }))
 
+  -- Where nothing changes, a session has open what it had.
   kept_open : (q : ℕ) (own : Option OwnTransaction) → HasOpened sh s q own → HasOpened sh (each_changed nothing (names sh) s) q own
   kept_open q own has = subst (λ u. HasOpened sh u q own) (sym (all_stay (names sh) s)) has
 
@@ -217,6 +223,7 @@ module _ (sh : Shape) (s : Parts) (holds : CoreHolds sh s) where
       ∙ ap (λ (d : DeskState). option_map (open_with (writes_of sh (effect sh s e) q)) (snapshot_of d q)) (desk_at_after sh s (changes_of sh s e) f.desk.0 f.desk.1 ∙ is)
       ∙ ap (option_map (open_with (writes_of sh (effect sh s e) q))) (closed_own q desk has)
 
+  -- A session of the core has a pass at the desk.
   has_pass : (q : ℕ) → IsSession sh q → HasPass (desk_at sh s) q
   has_pass q counted = let n = ok.sessions in let h = counted.1 in (counted.0, omega (arith, n, h))
 
@@ -256,16 +263,20 @@ module _ (sh : Shape) (s : Parts) (holds : CoreHolds sh s) where
   key_opened me t key q None P owns same none by = absurd (subst (λ o. IsSomeAnd o (IsOwnKey sh s me t key)) (ap (transaction sh s) same ∙ none) owns.1)
   key_opened me t key q (Some own) P owns same has by = by own (has.0 ∙ sym same) has.0 has.1
 
+  -- What two equal options hold is the same number.
   some_is : (a b : ℕ) → Some a ≡ Some b → a ≡ b
   some_is a b e = cc
 
+  -- Nothing is not a session.
   none_is : (q : ℕ) → None ≡ Some q → ⊥
   none_is q e = cc
 
+  -- A session has its pass at the desk too where a commit may have taken a number.
   passes_on : (y : Bool) (q : ℕ) → HasPass (desk_at sh s) q → HasPass (cond y (numbered (desk_at sh s)) (desk_at sh s)) q
   passes_on true q has = has
   passes_on false q has = has
 
+  -- Behind a lawful event of its own, case by case, a session has open what it tells.
   own_goes : (e : CoreEvent) (q : ℕ) (own : Option OwnTransaction) → IsLawful sh e s → session_of e ≡ Some q → HasOpened sh s q own
       → HasOpened sh (effect sh s e) q (own_behind own e (reply_to sh s e))
   own_goes (event.Begin r) q own lawful is has = (some_is r q is, begins r lawful)

@@ -25,16 +25,19 @@ use Rattle.txn_desk.specs.Oldest.{snapshot_of}
 
 -- ---- places that compare as one
 
+-- Where a comparison by two answers in turn finds both equal, each of them is.
 then-equal : (a b : Ordering) → ordering_then a b ≡ Equal → (a ≡ Equal) × (b ≡ Equal)
 then-equal Less b h = absurd (let never : ⊥ = cc in never)
 then-equal Equal b h = (refl, h)
 then-equal Greater b h = absurd (let never : ⊥ = cc in never)
 
+-- An answer that is tested as equal is equal.
 is-equal : (answer : Ordering) → is_eq answer ≡ true → answer ≡ Equal
 is-equal Less h = absurd (let never : ⊥ = cc in never)
 is-equal Equal h = refl
 is-equal Greater h = absurd (let never : ⊥ = cc in never)
 
+-- An answer that is its own reverse is equal.
 self-equal : (answer : Ordering) → answer ≡ ordering_reverse answer → answer ≡ Equal
 self-equal Less h = absurd (let never : ⊥ = cc in never)
 self-equal Equal h = refl
@@ -74,6 +77,7 @@ module _ (slot slot' : ℕ → ℕ → Slot) (places places' : ℕ → ℤ → L
     (one_key : (t p : ℕ) (key other : ℤ) → Among p (places' t key) → Among p (places' t other) → key ≡ other)
     (current : (t : ℕ) (key : ℤ) (one other : ℕ) → Among one (places' t key) → Among other (places' t key) → is_current (slot' t one) ≡ true → is_current (slot' t other) ≡ true → one ≡ other)
     (writes : PlaceMap ℕ) (owns : Owns slot places q writes) where
+  -- What two equal options hold is the same place.
   is_at : (r : ℕ) → Some p ≡ Some r → p ≡ r
   is_at r e = cc
 

@@ -14,18 +14,23 @@ use Rattle.frame_laws.proofs.Replies.{filter_same}
 use Rattle.part_changes.specs.Heads.{Rises, with_block}
 use Rattle.part_changes.specs.Laws.{GainsGoOn, KnowingRests, SweptKnows}
 
+-- True is not the same as false.
 true_false : true ≡ false → ⊥
 true_false e = cc
 
+-- A number below another is tested as below it.
 lt_true : (a b : ℕ) → a < b → nat_lt a b ≡ true
 lt_true a b less = grind (arith, nat_tests)
 
+-- A number not below another is tested as not below it.
 lt_false : (a b : ℕ) → b ≤ a → nat_lt a b ≡ false
 lt_false a b le = grind (arith, nat_tests)
 
+-- Numbers that differ are tested as different.
 eq_false : (a b : ℕ) → a ≢ b → (a == b) ≡ false
 eq_false a b ne = grind (arith, nat_tests)
 
+-- Of two numbers one is below the other, or they are the same.
 order : (a b : ℕ) → (a < b) ⊎ (a ≡ b) ⊎ (b < a)
 order a b = go (nat_lt a b) (nat_lt b a) refl refl
   where
@@ -41,6 +46,7 @@ pub rises_more : (least more limit : ℕ) (xs : List ℕ) → least ≤ more →
 rises_more least more limit [] le r = r
 rises_more least more limit (x ∷ xs) le r = let a = r.0 in (omega (arith, a, le), r.1, r.2)
 
+-- No block of those that rise from a number is below that number.
 from_least : (least limit : ℕ) (xs : List ℕ) (j : ℕ) → Rises least limit xs → j < length xs → least ≤ get_or xs j 0
 from_least least limit [] j r less = absurd (omega (arith, less))
 from_least least limit (x ∷ xs) zero r less = r.0
@@ -141,6 +147,7 @@ range_more a (suc n) =
 
 -- ---- sweeps over all blocks
 
+-- A block below a range adds nothing to those of the range that pass.
 above_all : (p : ℕ → Bool) (a n block : ℕ) → block < a → filter (λ c. p c || (c == block)) (range_with_len a n) ≡ filter p (range_with_len a n)
 above_all p a n block less = filter_same p (λ c. p c || (c == block)) (range_with_len a n) (λ c x. same c (higher a n c x))
   where
@@ -162,6 +169,7 @@ first least limit [] block less r = refl
 first least limit (x ∷ xs) block less r =
     let a = r.0 in ap (λ b. cond b (block ∷ x ∷ xs) (cond (block == x) (x ∷ xs) (x ∷ with_block block xs))) (lt_true block x (omega (arith, a, less)))
 
+-- Of blocks that rise those that pass a test rise.
 rises_filter : (p : ℕ → Bool) (least limit : ℕ) (xs : List ℕ) → Rises least limit xs → Rises least limit (filter p xs)
 rises_filter p least limit [] r = r
 rises_filter p least limit (x ∷ xs) r = go (p x) (rises_filter p (x + 1) limit xs r.2)
@@ -170,6 +178,7 @@ rises_filter p least limit (x ∷ xs) r = go (p x) (rises_filter p (x + 1) limit
     go true rest = (r.0, r.1, rest)
     go false rest = let a = r.0 in rises_more least (x + 1) limit (filter p xs) (omega (arith, a)) rest
 
+-- With a block of a range put among those that pass, they are as if it passed too.
 with_filter : (p : ℕ → Bool) (a n block : ℕ) → a ≤ block → block < a + n → with_block block (filter p (range_with_len a n)) ≡ filter (λ c. p c || (c == block)) (range_with_len a n)
 with_filter p a zero block le less = absurd (omega (arith, le, less))
 with_filter p a (suc n) block le less = go (order a block) (p a) refl (λ x y. with_filter p (a + 1) n block x y)

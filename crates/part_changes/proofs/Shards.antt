@@ -17,6 +17,7 @@ use Rattle.key_index.specs.Candidates.{Places, candidates_of, with_candidates, w
 use Rattle.part_changes.specs.Laws.{AddedIsDropped, DropsGoOn, SweepRests, SweepsAgree}
 use Rattle.part_changes.specs.Shards.{without_place}
 
+-- True is not the same as false.
 true_false : true ≡ false → ⊥
 true_false e = cc
 
@@ -51,6 +52,7 @@ put_is ix key k (p ∷ ps) = ap (λ o. unwrap_or o []) (get-insert int_cmp_total
     go true = refl
     go false = refl
 
+-- After candidates of a key were put, no key has an empty entry.
 filled_with : (ix : Places) (key : ℤ) (ps : List ℕ) → Filled ix → Filled (with_candidates ix key ps)
 filled_with ix key [] some k is = go (eq_by_cmp int_cmp k key) (finite.get ix k) (some k) (sym (get-remove int_cmp_total ix key k) ∙ is)
   where
@@ -66,6 +68,7 @@ filled_with ix key (p ∷ ps) some k is = go (eq_by_cmp int_cmp k key) (finite.g
     go true o s e = never e
     go false o s e = s e
 
+-- After a sweep of the candidates, no key has an empty entry.
 filled_kept : (keep : ℕ → Bool) (ix : Places) → Filled ix → Filled (kept_places keep ix)
 filled_kept keep ix some = go (finite.entries ix) ix some
   where
@@ -77,6 +80,7 @@ filled_kept keep ix some = go (finite.entries ix) ix some
 put_here : (ix : Places) (key k : ℤ) (ps : List ℕ) → k ≡ key → eq_by_cmp int_cmp k key ≡ true → candidates_of (with_candidates ix key ps) k ≡ ps
 put_here ix key k ps same e = put_is ix key k ps ∙ ap (λ b. cond b ps (candidates_of ix k)) e
 
+-- The candidates of another key are what they were before some were put.
 put_else : (ix : Places) (key k : ℤ) (ps : List ℕ) → eq_by_cmp int_cmp k key ≡ false → candidates_of (with_candidates ix key ps) k ≡ candidates_of ix k
 put_else ix key k ps e = put_is ix key k ps ∙ ap (λ b. cond b ps (candidates_of ix k)) e
 
@@ -115,15 +119,19 @@ others_of place ps = filter (λ other. not (other == place)) ps
 abbrev found : ℕ → List ℕ → List ℕ
 found n ps = unwrap_or (option_map (remove ps) (cond (nat_lt n (length ps)) (Some n) None)) ps
 
+-- Zero is tested as below the successor of a number.
 lt_first : (n : ℕ) → nat_lt 0 (suc n) ≡ true
 lt_first n = grind (arith, nat_tests)
 
+-- Two successors are tested as the numbers themselves.
 lt_next : (n m : ℕ) → nat_lt (suc n) (suc m) ≡ nat_lt n m
 lt_next n m = grind (arith, nat_tests)
 
+-- Without the first of the places, those behind it are left.
 found_first : (x : ℕ) (ps : List ℕ) → found 0 (x ∷ ps) ≡ ps
 found_first x ps = ap (λ b. unwrap_or (option_map (remove (x ∷ ps)) (cond b (Some 0) None)) (x ∷ ps)) (lt_first (length ps))
 
+-- Without one of the places behind the first, the first stays in front.
 found_next : (n x : ℕ) (ps : List ℕ) → found (suc n) (x ∷ ps) ≡ x ∷ found n ps
 found_next n x ps = ap (λ b. unwrap_or (option_map (remove (x ∷ ps)) (cond b (Some (suc n)) None)) (x ∷ ps)) (lt_next n (length ps)) ∙ go (nat_lt n (length ps))
   where

@@ -24,13 +24,10 @@ use Rattle.part_laws.specs.Laws.{Learns, Outlives}
 use Rattle.sound_laws.proofs.Calm.{all_index}
 use Rattle.txn_desk.proofs.LeastStart.{least_at_begin, least_at_end, least_at_tick}
 use Rattle.txn_desk.specs.declared.Snapshot.{Snapshot}
-use Rattle.txn_desk.specs.Desk.{DeskState}
 use Rattle.txn_desk.specs.Oldest.{oldest_of, snapshot_of}
 
 module _ (sh : Shape) (s : Parts) (ok : Sound sh s) where
-  abbrev now : DeskState
-  now = desk_at sh s
-
+  -- No open snapshot has a stamp above the desk's newest.
   begun : All (λ (o : Option Snapshot). IfSome o (λ snapshot. snapshot.stamp ≤ (desk_at sh s).newest)) (desk_at sh s).open_snapshots
   begun = all_index (λ o. IfSome o (λ snapshot. snapshot.stamp ≤ (desk_at sh s).newest)) (desk_at sh s).open_snapshots None
       (λ i less. at i (get_or (desk_at sh s).open_snapshots i None) refl)
@@ -43,6 +40,7 @@ module _ (sh : Shape) (s : Parts) (ok : Sound sh s) where
           subst (λ o. IfSome o (λ (snapshot : Snapshot). snapshot.stamp ≤ (desk_at sh s).newest)) (sym is)
           (ok.follows.1.desked.bounds (i + 1) snapshot (omega arith) (ap (λ j. get_or (desk_at sh s).open_snapshots j None) here ∙ is)).0
 
+  -- A lawful begin makes the oldest stamp no older.
   begin_up : (q : ℕ) → IsLawful sh (event.Begin q) s → oldest_of (desk_at sh s) ≤ oldest_of (opened q (desk_at sh s))
   begin_up q lawful =
       let same = least_at_begin (desk_at sh s).newest (desk_at sh s).open_snapshots (q - 1) (record { stamp = (desk_at sh s).newest; number = (desk_at sh s).commits }) begun refl
@@ -54,6 +52,7 @@ module _ (sh : Shape) (s : Parts) (ok : Sound sh s) where
           absurd (none_not (transaction sh s q) (open_with (writes_of sh s q) snapshot) lawful.0.1
           (transaction_is sh s q lawful.0.0.0 ∙ ap (option_map (open_with (writes_of sh s q))) is))
 
+  -- The end of a session, with a number taken or not, makes the oldest stamp no older.
   commit_up : (wrote : Bool) (q : ℕ) → oldest_of (desk_at sh s) ≤ oldest_of (closed q (cond wrote (numbered (desk_at sh s)) (desk_at sh s)))
   commit_up true q = least_at_end (desk_at sh s).newest ((desk_at sh s).newest + 1) (desk_at sh s).open_snapshots (q - 1) begun (omega arith)
   commit_up false q = least_at_end (desk_at sh s).newest (desk_at sh s).newest (desk_at sh s).open_snapshots (q - 1) begun (omega arith)
@@ -62,14 +61,17 @@ module _ (sh : Shape) (s : Parts) (ok : Sound sh s) where
   insert_up own t row (Err fault) = omega arith
   insert_up own t row (Ok p) = omega arith
 
+  -- An update or a delete makes the oldest stamp no older.
   change_up : (own : OwnKey) (t : ℕ) (choice : Row → Change) (r : Result ℕ WriteFault) → oldest_of (desk_at sh s) ≤ oldest_of ((after_change sh s own t choice r).desk (desk_at sh s))
   change_up own t choice (Err fault) = omega arith
   change_up own t choice (Ok p) = omega arith
 
+  -- A move makes the oldest stamp no older.
   move_up : (t : ℕ) (pairs : List MovePair) → oldest_of (desk_at sh s) ≤ oldest_of ((after_move sh s t pairs).desk (desk_at sh s))
   move_up t [] = omega arith
   move_up t (first ∷ rest) = least_at_tick (desk_at sh s).newest ((desk_at sh s).newest + 1) (desk_at sh s).open_snapshots begun (omega arith)
 
+  -- A seal, be it made or not, makes the oldest stamp no older.
   seal_up : (y : Bool) (t b : ℕ) → oldest_of (desk_at sh s) ≤ oldest_of ((cond y (record nothing { body = at_both t b sealed }) nothing).desk (desk_at sh s))
   seal_up true t b = omega arith
   seal_up false t b = omega arith
@@ -93,6 +95,7 @@ module _ (sh : Shape) (s : Parts) (ok : Sound sh s) where
   event_up (event.Image t b image) lawful = omega arith
   event_up (event.Thaw t b) lawful = omega arith
 
+  -- The desk behind an event is what the event makes of the desk.
   desk_now : (e : CoreEvent) → desk_at sh (effect sh s e) ≡ (changes_of sh s e).desk (desk_at sh s)
   desk_now e = let f = follows_machine sh s ok in desk_at_after sh s (changes_of sh s e) f.desk.0 f.desk.1
 

@@ -47,15 +47,18 @@ use Rattle.undo_chain.specs.Lawful.{IsLawful as IsLawfulChain}
 
 -- ---- the write on one slot
 
+-- A slot of which a session is not the writer has no write of it.
 no_write : (q t p : ℕ) (slot : Slot) → is_writer q (writer_of slot.entries) ≡ false → write_on q t p slot ≡ None
 no_write q t p slot is = ap (λ b. cond b (option_map (write_of t p) (slot_key slot.row slot.entries)) None) is
 
+-- A session is not the writer of a slot that another one writes.
 not_writer : (q r : ℕ) (o : Option ℕ) → o ≡ Some r → q ≢ r → is_writer q o ≡ false
 not_writer q r o is ne = ap (is_writer q) is ∙ go q r ne
   where
     go : (q r : ℕ) → q ≢ r → (r == q) ≡ false
     go q r ne = grind (arith, nat_tests)
 
+-- A session is not the writer of a slot that nobody but another one may write.
 not_free : (q r : ℕ) (o : Option ℕ) → q ≢ r → ((w : ℕ) → o ≡ Some w → w ≡ r) → is_writer q o ≡ false
 not_free q r None ne free = refl
 not_free q r (Some w) ne free = not_writer q r (Some w) (ap Some (free w refl)) ne
@@ -91,10 +94,12 @@ roll_back_leaves q t p r slot ne lawful = go (same_option (writer_of slot.entrie
 
 -- ---- the writes of a session
 
+-- Lists made of the elements by two maps that agree are the same when joined.
 flat_same : {X Y : Type 0} (f g : X → List Y) (xs : List X) → ((x : X) → f x ≡ g x) → flat_map f xs ≡ flat_map g xs
 flat_same f g [] same = refl
 flat_same f g (x ∷ xs) same = ap (λ y. y ++ flat_map f xs) (same x) ∙ ap (λ y. g x ++ y) (flat_same f g xs same)
 
+-- Of the elements two maps that agree keep the same.
 kept_same : {X Y : Type 0} (f g : X → Option Y) (xs : List X) → ((x : X) → f x ≡ g x) → filter_map f xs ≡ filter_map g xs
 kept_same f g [] same = refl
 kept_same f g (x ∷ xs) same = ap (λ y. cons_option y (filter_map f xs)) (same x) ∙ ap (cons_option (g x)) (kept_same f g xs same)
@@ -111,6 +116,7 @@ writes_same sh s u q same =
 
 -- ---- what an accepted write met
 
+-- Where the first answer over some places is none, each place answers with none.
 first_at_none : {X : Type 0} (answer : ℕ → Option X) (places : List ℕ) (p : ℕ) → first_at answer places ≡ None → Among p places → answer p ≡ None
 first_at_none answer [] p is a = absurd a
 first_at_none {X} answer (x ∷ places) p is a = go (answer x) refl is a (first_at_none answer places p)
@@ -120,10 +126,12 @@ first_at_none {X} answer (x ∷ places) p is a = go (answer x) refl is a (first_
     go None here is (inl e) rest = ap answer e ∙ here
     go None here is (inr b) rest = rest is b
 
+-- Where no conflict is found, there is none with a session.
 no_session : (a b : Option ℕ) → fault_of (conflict_by a b) ≡ None → a ≡ None
 no_session None b is = refl
 no_session (Some w) b is = cc
 
+-- Where one of two options would do and there is none, the first is none.
 left_none : {X : Type 0} (a b : Option X) → option_or a b ≡ None → a ≡ None
 left_none None b is = refl
 left_none (Some x) b is = cc
@@ -144,6 +152,7 @@ module _ (sh : Shape) (s : Parts) (ok : Sound sh s) where
       go (inr ne) = absurd (none_not (other_writer (slot_at sh s t p).entries own.session) w none
           (other_is (slot_at sh s t p).entries w own.session (ok.follows.1.slots t p).lawful is ne))
 
+-- The current place of a key is one of its candidates.
 current_among : (slot : ℕ → Slot) (places : List ℕ) (p : ℕ) → current_place slot places ≡ Some p → Among p places
 current_among slot [] p is = cc
 current_among slot (x ∷ places) p is = go (slot x).row refl is (current_among slot places p)
@@ -158,12 +167,15 @@ current_among slot (x ∷ places) p is = go (slot x).row refl is (current_among 
 -- ---- the events
 
 module _ (sh : Shape) (s : Parts) (shape : IsShape sh) (ok : Sound sh s) (q : ℕ) where
+  -- The core in front of the event follows its machine.
   abbrev f : FollowsMachine sh s ok.follows.0
   f = follows_machine sh s ok
 
+  -- Parts that are the same have the same write of the session on each slot.
   still : (after : Parts) → after ≡ s → (t p : ℕ) → write_on q t p (slot_at sh after t p) ≡ write_on q t p (slot_at sh s t p)
   still after same t p = ap (λ parts. write_on q t p (slot_at sh parts t p)) same
 
+  -- Where nothing changes, each slot has the session's write as before.
   same_parts : (t p : ℕ) → write_on q t p (slot_at sh (each_changed nothing (names sh) s) t p) ≡ write_on q t p (slot_at sh s t p)
   same_parts = still (each_changed nothing (names sh) s) (all_stay (names sh) s)
 
@@ -186,6 +198,7 @@ module _ (sh : Shape) (s : Parts) (shape : IsShape sh) (ok : Sound sh s) (q : �
       go true = same
       go false = refl
 
+  -- A write of another session at one place leaves the session's write on each slot.
   written_writes : (c : Changes) (t p r : ℕ) (new : Change) (body : Body) → part_named (names sh) s (BodyOf t (block_of p)) ≡ Some (part.Body body) → slot_of p < length body.slots
       → ((u b : ℕ) (x : Body) → c.body u b x ≡ at_both t (block_of p) (with_slot (slot_of p) (written r new)) u b x)
       → q ≢ r → ((w : ℕ) → writer_of (slot_at sh s t p).entries ≡ Some w → w ≡ r)
@@ -232,6 +245,7 @@ module _ (sh : Shape) (s : Parts) (shape : IsShape sh) (ok : Sound sh s) (q : �
           subst (λ r. write_on q u x (slot_at sh (each_changed (after_insert sh s own t row r) (names sh) s) u x) ≡ write_on q u x (slot_at sh s u x)) (sym is)
           (written_writes (after_insert sh s own t row (Ok p)) t p own.session (change.Put row) here.0 here.1 here.2 (λ u b x. refl) ne here.3 u x)
 
+  -- Another's update or delete leaves the session's write on each slot.
   change_writes : (own : OwnKey) (t : ℕ) (key : ℤ) (choice : Row → Change) → IsThawed sh t key s → q ≢ own.session
       → (u x : ℕ) → write_on q u x (slot_at sh (each_changed (after_change sh s own t choice (change_judged sh s own t key)) (names sh) s) u x) ≡ write_on q u x (slot_at sh s u x)
   change_writes own t key choice thawed ne u x = go (change_judged sh s own t key) refl
@@ -259,6 +273,7 @@ module _ (sh : Shape) (s : Parts) (shape : IsShape sh) (ok : Sound sh s) (q : �
           (written_writes (after_change sh s own t choice (Ok p)) t p own.session (choice (unwrap_or (slot_at sh s t p).row [])) here.0 here.1 here.2 (λ u b x. refl) ne
           (met_none sh s ok own t key p clear.0 (current_among (slot_at sh s t) (places_at sh s t key) p clear.1)) u x)
 
+  -- Another's commit leaves the session's write on each slot.
   commit_writes : (own : OwnTransaction) → q ≢ own.session → (t p : ℕ) → write_on q t p (slot_at sh (effect sh s (event.Commit own)) t p) ≡ write_on q t p (slot_at sh s t p)
   commit_writes own ne t p = by_body (after_commit sh s own) t p (at (is_some_write own.writes))
     where
@@ -270,6 +285,7 @@ module _ (sh : Shape) (s : Parts) (shape : IsShape sh) (ok : Sound sh s) (q : �
           ∙ commit_leaves q t p own.session ((desk_at sh s).newest + 1) ((desk_at sh s).commits + 1) (slot_at sh s t p) ne (ok.follows.1.slots t p).lawful
       at false = refl
 
+  -- Another's abort leaves the session's write on each slot.
   abort_writes : (own : OwnTransaction) → q ≢ own.session → (t p : ℕ) → write_on q t p (slot_at sh (effect sh s (event.Abort own)) t p) ≡ write_on q t p (slot_at sh s t p)
   abort_writes own ne t p = by_body (changes_of sh s (event.Abort own)) t p
       (ap (λ (x : Slot). write_on q t p x) (rolled_slot own.session (desk_at sh s).newest (desk_at sh s).commits (body_at sh s t (block_of p)) (slot_of p) (ok.follows.1.slots t p))
@@ -298,17 +314,20 @@ module _ (sh : Shape) (s : Parts) (shape : IsShape sh) (ok : Sound sh s) (q : �
           ap (λ o. cond (is_writer q o) (option_map (write_of t p) (slot_key (pruned oldest (slot_at sh s t p)).row (pruned oldest (slot_at sh s t p)).entries)) None) writer
           ∙ ap (λ k. cond (is_writer q (writer_of (slot_at sh s t p).entries)) (option_map (write_of t p) k) None) (after ∙ sym before)
 
+  -- A pruning leaves the session's write on each slot.
   prune_writes : (t b oldest : ℕ) → (u p : ℕ) → write_on q u p (slot_at sh (effect sh s (event.Prune t b oldest)) u p) ≡ write_on q u p (slot_at sh s u p)
   prune_writes t b oldest u p = by_body (changes_of sh s (event.Prune t b oldest)) u p
       (at_one t b (pruned_in oldest) u (block_of p) (body_at sh s u (block_of p)) (slot_of p) p
       (ap (λ (x : Slot). write_on q u p x) (slot_map (pruned oldest) refl (body_at sh s u (block_of p)).slots (slot_of p))
       ∙ pruned_write oldest u p))
 
+  -- A change of a body that leaves its slots leaves the session's write on each.
   phase_writes : (t b : ℕ) (g : Body → Body) → ((x : Body) (j : ℕ) → slot_in (g x) j ≡ slot_in x j)
       → (u p : ℕ) → write_on q u p (slot_at sh (each_changed (record nothing { body = at_both t b g }) (names sh) s) u p) ≡ write_on q u p (slot_at sh s u p)
   phase_writes t b g same u p = by_body (record nothing { body = at_both t b g }) u p
       (at_one t b g u (block_of p) (body_at sh s u (block_of p)) (slot_of p) p (ap (λ (y : Slot). write_on q u p y) (same (body_at sh s u (block_of p)) (slot_of p))))
 
+  -- A seal leaves the session's write on each slot.
   seal_writes : (t b : ℕ) → (u p : ℕ) → write_on q u p (slot_at sh (effect sh s (event.Seal t b)) u p) ≡ write_on q u p (slot_at sh s u p)
   seal_writes t b u p = go (is_none (seal_fault (is_head sh s t b) (body_at sh s t b)))
     where
@@ -320,6 +339,7 @@ module _ (sh : Shape) (s : Parts) (shape : IsShape sh) (ok : Sound sh s) (q : �
   other : (r : ℕ) → (Some r ≢ Some q) → q ≢ r
   other r ne e = ne (ap Some (sym e))
 
+  -- A lawful event of none or of another session leaves the session's write on each slot.
   event_writes : (e : CoreEvent) → IsLawful sh e s → session_of e ≢ Some q → (t p : ℕ) → write_on q t p (slot_at sh (effect sh s e) t p) ≡ write_on q t p (slot_at sh s t p)
   event_writes (event.Begin r) lawful ne = λ t p. by_body (changes_of sh s (event.Begin r)) t p refl
   event_writes (event.Get own t key) lawful ne = same_parts
@@ -344,22 +364,27 @@ module _ (sh : Shape) (s : Parts) (shape : IsShape sh) (ok : Sound sh s) (q : �
   insert_snapshot own t row (Err fault) = refl
   insert_snapshot own t row (Ok p) = refl
 
+  -- Another's update or delete leaves the session's snapshot.
   change_snapshot : (own : OwnKey) (t : ℕ) (choice : Row → Change) (r : Result ℕ WriteFault) → snapshot_of ((after_change sh s own t choice r).desk (desk_at sh s)) q ≡ snapshot_of (desk_at sh s) q
   change_snapshot own t choice (Err fault) = refl
   change_snapshot own t choice (Ok p) = refl
 
+  -- A move leaves the session's snapshot.
   move_snapshot : (t : ℕ) (pairs : List MovePair) → snapshot_of ((after_move sh s t pairs).desk (desk_at sh s)) q ≡ snapshot_of (desk_at sh s) q
   move_snapshot t [] = refl
   move_snapshot t (first ∷ rest) = refl
 
+  -- A seal, be it made or not, leaves the session's snapshot.
   seal_snapshot : (y : Bool) (t b : ℕ) → snapshot_of ((cond y (record nothing { body = at_both t b sealed }) nothing).desk (desk_at sh s)) q ≡ snapshot_of (desk_at sh s) q
   seal_snapshot true t b = refl
   seal_snapshot false t b = refl
 
+  -- A commit's number, be it taken or not, leaves the session's snapshot.
   commit_snapshot : (wrote : Bool) → snapshot_of (cond wrote (numbered (desk_at sh s)) (desk_at sh s)) q ≡ snapshot_of (desk_at sh s) q
   commit_snapshot true = refl
   commit_snapshot false = refl
 
+  -- A lawful event of none or of another session leaves the session's snapshot.
   event_snapshot : (e : CoreEvent) → 1 ≤ q → IsLawful sh e s → session_of e ≢ Some q → snapshot_of ((changes_of sh s e).desk (desk_at sh s)) q ≡ snapshot_of (desk_at sh s) q
   event_snapshot (event.Begin r) some lawful ne = opened_other r q (desk_at sh s) lawful.0.0.0 some (other r ne)
   event_snapshot (event.Get own t key) some lawful ne = refl

@@ -40,6 +40,7 @@ pair_writes before after moved t source target row is q u p = go (places_apart u
     go (inr n) (inr n') = ap (λ (x : Slot). write_on q u p x) (is.others u p n n')
 
 module _ (sh : Shape) (t moved : ℕ) (row : MovePair → Row) (m : IsolationMachine) (has : HasTable sh t) (q : ℕ) where
+  -- The first pair of a move leaves the write on each slot where those behind it do.
   first_writes : (s : Parts) → (f : FollowsMachine sh s m) → Wide sh s t
       → (g : DeskState → DeskState) → g (desk_at sh s) ≡ record (desk_at sh s) { newest = moved }
       → (desk_at sh s).newest ≤ moved
@@ -64,6 +65,7 @@ module _ (sh : Shape) (t moved : ℕ) (row : MovePair → Row) (m : IsolationMac
       ∙ pair_writes (slot_at sh s) (slot_at sh (each_changed (coming t moved (row first) first) (names sh) (each_changed (leaving t moved (row first) g first) (names sh) s)))
       moved t first.source first.target (row first) (pair_slots sh s m f t moved has wide g is newest later (row first) first one far.0) q u p
 
+  -- The pairs of a move, one behind the other, leave the write on each slot.
   rest_writes : (pairs : List MovePair) (s : Parts) → FollowsMachine sh s m → Wide sh s t → (desk_at sh s).newest ≡ moved
       → ((session : ℕ) (snapshot : Snapshot) → HasOpen (desk_at sh s) session snapshot → snapshot.stamp < moved)
       → ((pair : MovePair) → Among pair pairs → IsReady sh s t (row pair) pair) → Apart pairs

@@ -14,21 +14,25 @@ use Rattle.run_laws.proofs.Opening.{desk, idle}
 use Rattle.txn_desk.specs.Desk.{DeskState}
 use Rattle.txn_desk.specs.Oldest.{snapshot_of}
 
+-- What is handed in for a key is the session's own over other parts too.
 key_by : (sh : Shape) (s u : Parts) (own : OwnKey) (t : ℕ) (key : ℤ) (o : Option Opened) → IsSomeAnd o (IsOwnKey sh s own t key) → IsSomeAnd o (IsOwnKey sh u own t key)
 key_by sh s u own t key None has = has
 key_by sh s u own t key (Some open') has = record { snapshot = has.snapshot; written = has.written }
 
+-- What is handed in as a transaction is the session's own over other parts too.
 all_by : (sh : Shape) (s u : Parts) (own : OwnTransaction) (o : Option Opened) → IsSomeAnd o (IsOwn sh s own) → IsSomeAnd o (IsOwn sh u own)
 all_by sh s u own None has = has
 all_by sh s u own (Some open') has = record { snapshot = has.snapshot; writes = has.writes }
 
 module _ (sh : Shape) (s u : Parts) where
+  -- A session whose transaction stays owns the key that it owned.
   owns_key : (own : OwnKey) (t : ℕ) (key : ℤ) → transaction sh u own.session ≡ transaction sh s own.session → OwnsKey sh own t key s → OwnsKey sh own t key u
   owns_key own t key same owns = (
     owns.0,
     subst (λ o. IsSomeAnd o (IsOwnKey sh u own t key)) (sym same) (key_by sh s u own t key (transaction sh s own.session) owns.1),
   )
 
+  -- A session whose transaction stays owns the transaction that it owned.
   owns_all : (own : OwnTransaction) → transaction sh u own.session ≡ transaction sh s own.session → OwnsAll sh own s → OwnsAll sh own u
   owns_all own same owns = (
     owns.0,

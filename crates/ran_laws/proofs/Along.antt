@@ -26,6 +26,7 @@ use Rattle.ran_laws.specs.Open.{AgreesWith}
 use Rattle.ran_laws.proofs.Asking.{events_are_the_sessions}
 use Rattle.ran_laws.proofs.Open.{nothing_is_open, opens_as, with_own_is}
 
+-- False is not the same as true.
 not_true : false ≡ true → ⊥
 not_true e = cc
 
@@ -44,6 +45,7 @@ pub both : (a b : Bool) → a ≡ true → b ≡ true → (a && b) ≡ true
 both true b e f = f
 both false b e f = absurd (not_true e)
 
+-- Numbers that are tested as the same are the same.
 number_is : (a b : ℕ) → (a == b) ≡ true → a ≡ b
 number_is a b e = grind (arith, nat_tests, e)
 
@@ -56,6 +58,7 @@ named session e is = go (session_of e) is
     go None h = tt
     go (Some other) h = number_is other session h
 
+-- From any parts on the machine goes along a log that it answers and whose events are named.
 along : (shape : Shape) (parts : Parts) (front : List Occurrence) (before : IsolationMachine) (log : List Logged)
     → are_named log ≡ true → AgreesWith front before
     → IsAnsweredFrom shape parts before (map (λ entry. entry.made) log) → GoesAlong shape parts front before log
@@ -98,19 +101,23 @@ machines_go_along shape log is_shape lawful are = along
 
 -- ---- a session's events
 
+-- What is open, if anything, is of the session.
 abbrev IsOwn : ℕ → Option OwnTransaction → Type 0
 IsOwn session own = IfSome own (λ t. t.session ≡ session)
 
+-- Behind a begin of the session what is open is of it.
 begun_is : (session other : ℕ) (own : Option OwnTransaction) (told : CoreReply) → IsOwn session own → (other == session) ≡ true
     → IsOwn session (Rattle.run_spec.specs.Opened.begun_by other own told)
 begun_is session other own (reply.Begun snapshot) was is = number_is other session is
 begun_is session other own _ was is = was
 
+-- Behind a write, accepted or not, what is open is of the session still.
 wrote_is : (session : ℕ) (place : Place) (own : Option OwnTransaction) (told : CoreReply) → IsOwn session own
     → IsOwn session (option_map (with_own place told) own)
 wrote_is session place None told was = tt
 wrote_is session place (Some t) told was = (with_own_is place told t).1 ∙ was
 
+-- Behind an event that is of the session or of none what is open is of the session.
 behind_is : (session : ℕ) (own : Option OwnTransaction) (e : CoreEvent) (told : CoreReply) → IsOwn session own
     → is_of session e ≡ true → IsOwn session (own_behind own e told)
 behind_is session own (event.Begin other) told was is = begun_is session other own told was is
@@ -130,6 +137,7 @@ behind_is session own (event.Seal table block) told was is = was
 behind_is session own (event.Image table block image) told was is = was
 behind_is session own (event.Thaw table block) told was is = was
 
+-- Behind events of the session, with its own open in front, what is open is of it.
 own_is_from : (session : ℕ) (own : Option OwnTransaction) (events : List Occurrence) → IsOwn session own
     → list_all (is_of session) (events_in events) ≡ true
     → IsOwn session (fold (λ own (o : Occurrence). own_behind own o.event o.reply) own events)
@@ -141,10 +149,12 @@ own_is_from session own (first ∷ rest) was are = own_is_from
     (behind_is session own first.event first.reply was (and_first (is_of session first.event) (list_all (is_of session) (events_in rest)) are))
     (and_second (is_of session first.event) (list_all (is_of session) (events_in rest)) are)
 
+-- Behind events that are all of the session what is open is of it.
 own_is : (session : ℕ) (front : List Occurrence) → list_all (is_of session) (events_in front) ≡ true
     → IsOwn session (own_after front)
 own_is session front are = own_is_from session None front tt are
 
+-- The events of two lists in a row are those of the first and those of the second.
 events_append : (xs ys : List Occurrence) → events_in (xs ++ ys) ≡ events_in xs ++ events_in ys
 events_append [] ys = refl
 events_append (x ∷ xs) ys = ap (λ (es : List CoreEvent). x.event ∷ es) (events_append xs ys)

@@ -23,13 +23,16 @@ use Rattle.run_spec.specs.Told.{refusal_of}
 use Rattle.ran_laws.specs.Asking.{EventsAreTheSessions, OthersAskNothing, asks_nothing, is_of}
 use Rattle.ran_laws.specs.Coming.{is_single}
 
+-- True is not the same as false.
 not_true : true ≡ false → ⊥
 not_true e = cc
 
+-- Where each of two holds, both do.
 both : (a b : Bool) → a ≡ true → b ≡ true → (a && b) ≡ true
 both true b e f = f
 both false b e f = e
 
+-- Of two that hold together the first does.
 and_first : (a b : Bool) → (a && b) ≡ true → a ≡ true
 and_first true b e = refl
 and_first false b e = e
@@ -112,6 +115,7 @@ module _ (p : CoreEvent → Bool) where
       (all_map (event.Look table) looks (below (blocks_of shape table)))
       (all_moves table (plan_of (looks_in made)) each)
 
+-- The events of a scan, an export or a command of upkeep ask the machine nothing.
 asks : (shape : Shape) (own : Option OwnTransaction) (session : ℕ) (asked : Command) (made : List Occurrence)
     → is_single asked ≡ false → list_all asks_nothing (events_of shape own session asked made) ≡ true
 asks shape own session command.Begin made other = absurd (not_true other)
@@ -144,6 +148,7 @@ others_ask_nothing shape worker session front call other is = call_passes
 
 -- ---- under which session
 
+-- Numbers that are the same are tested as the same.
 test_same : (a b : ℕ) → a ≡ b → (a == b) ≡ true
 test_same a b e = grind (arith, nat_tests, e)
 
@@ -157,11 +162,13 @@ thawed session table block e h = all_append
     (all_thaws (is_of session) table block (λ block. refl))
     (one (is_of session) e h)
 
+-- The open transaction, if it is of the session, is tested as of it.
 owned : (session : ℕ) (own : Option OwnTransaction) (t : OwnTransaction) → IfSome own (λ t. t.session ≡ session)
     → own ≡ Some t → (t.session == session) ≡ true
 owned session own t same is =
     test_same t.session session (subst (λ (o : Option OwnTransaction). IfSome o (λ t. t.session ≡ session)) is same)
 
+-- The events of a command are of the session, where what is open is of it.
 stand : (shape : Shape) (own : Option OwnTransaction) (session : ℕ) (asked : Command) (made : List Occurrence)
     → IfSome own (λ t. t.session ≡ session) → list_all (is_of session) (events_of shape own session asked made) ≡ true
 stand shape own session command.Begin made same =

@@ -34,24 +34,31 @@ use Rattle.ran_laws.specs.Coming.{EndsAt, LinesComeAbout, is_single}
 use Rattle.ran_laws.specs.Open.{OpenAs}
 use Rattle.ran_laws.proofs.Lines.{lines_tell}
 
+-- What a session asks of the machine by an act.
 abbrev asked : ℕ → Act → Request
 asked session what = record { session = session; act = what }
 
+-- False is not the same as true.
 not_true : false ≡ true → ⊥
 not_true e = cc
 
+-- An empty list does not begin with an event.
 no_first : (e : CoreEvent) (es : List CoreEvent) → [] ≡ e ∷ es → ⊥
 no_first e es h = cc
 
+-- A list that begins with an event is not empty.
 no_second : (e : CoreEvent) (es : List CoreEvent) → e ∷ es ≡ [] → ⊥
 no_second e es h = cc
 
+-- Lists of events that are one begin with the same event.
 heads : (a b : CoreEvent) (xs ys : List CoreEvent) → a ∷ xs ≡ b ∷ ys → a ≡ b
 heads a b xs ys e = cc
 
+-- Lists of events that are one go on alike behind the first.
 tails : (a b : CoreEvent) (xs ys : List CoreEvent) → a ∷ xs ≡ b ∷ ys → xs ≡ ys
 tails a b xs ys e = cc
 
+-- What two equal options hold is the same line.
 same_line : (a b : Said) → Some a ≡ Some b → a ≡ b
 same_line a b e = cc
 
@@ -60,10 +67,12 @@ no_last : (es : List CoreEvent) (e : CoreEvent) → [] ≡ es ++ e ∷ [] → �
 no_last [] e h = no_first e [] h
 no_last (x ∷ es) e h = no_first x (es ++ e ∷ []) h
 
+-- A list of one event has that one as its last.
 one_is : (x : CoreEvent) (es : List CoreEvent) (e : CoreEvent) → x ∷ [] ≡ es ++ e ∷ [] → x ≡ e
 one_is x [] e h = heads x e [] [] h
 one_is x (y ∷ es) e h = absurd (no_last es e (tails x y [] (es ++ e ∷ []) h))
 
+-- The last of two events or more is the last of those behind the first.
 rest_is : (x y : CoreEvent) (xs es : List CoreEvent) (e : CoreEvent) → x ∷ y ∷ xs ≡ es ++ e ∷ []
     → (fs : List CoreEvent) × (y ∷ xs ≡ fs ++ e ∷ [])
 rest_is x y xs [] e h = absurd (no_second y xs (tails x e (y ∷ xs) [] h))
@@ -78,6 +87,7 @@ pub record Last (m n : IsolationMachine) (made : List Occurrence) (e : CoreEvent
   pub replied : last_or None (replies_in made) ≡ Some last.reply
   pub stepped : IsStep (command_in last.event) m last.reply n
 
+-- The machine at the end of some events is the one at the last of them.
 last_of : (m n : IsolationMachine) (made : List Occurrence) (es : List CoreEvent) (e : CoreEvent)
     → events_in made ≡ es ++ e ∷ [] → EndsAt made m n → Last m n made e
 last_of m n [] es e h ends = absurd (no_last es e h)
@@ -87,6 +97,7 @@ last_of m n (x ∷ y ∷ rest) es e h ends =
     let behind = last_of m n (y ∷ rest) fewer.0 e fewer.1 ends in
     record { last = behind.last; is = behind.is; replied = behind.replied; stepped = behind.stepped }
 
+-- What an option is said to hold with a property is there, with the property.
 some_and : {X : Type 0} (P : X → Type 0) (o : Option X) → IsSomeAnd o P → (x : X) × (o ≡ Some x) × P x
 some_and P None h = absurd h
 some_and P (Some x) h = (x, refl, h)
@@ -112,6 +123,7 @@ is_calm (event.Seal table block) = true
 is_calm (event.Image table block image) = true
 is_calm (event.Thaw table block) = true
 
+-- A get, however it is answered, leaves the machine.
 get_stays : (m n : IsolationMachine) (session table : ℕ) (key : ℤ) (outcome : Outcome)
     → Allows m (asked session (act.Get table key)) outcome n → n ≡ m
 get_stays m n session table key (Answered answered) h = go (transaction_of session m) h
@@ -123,10 +135,12 @@ get_stays m n session table key Freezing h = h.2
 get_stays m n session table key Full h = h.2
 get_stays m n session table key Memory h = h.2
 
+-- A reply that is tested as want of memory is want of memory.
 memory_is : (told : CoreReply) → is_memory told ≡ true → told ≡ reply.Memory
 memory_is reply.Memory e = refl
 memory_is _ e = absurd (not_true e)
 
+-- A final event at which a call is cut short was refused memory.
 was_refused : (refused : Bool) → (refused || not true) ≡ true → refused ≡ true
 was_refused true e = refl
 was_refused false e = absurd (not_true e)
@@ -167,10 +181,12 @@ event_stays m n (event.Seal table block) told calm cut h = h
 event_stays m n (event.Image table block image) told calm cut h = h
 event_stays m n (event.Thaw table block) told calm cut h = h
 
+-- Of two that hold together the first does.
 and_first : (a b : Bool) → (a && b) ≡ true → a ≡ true
 and_first true b e = refl
 and_first false b e = absurd (not_true e)
 
+-- Of two that hold together the second does.
 and_second : (a b : Bool) → (a && b) ≡ true → b ≡ true
 and_second true b e = e
 and_second false b e = absurd (not_true e)
@@ -194,6 +210,7 @@ thaws_calm : (table : ℕ) (block : Option ℕ) (e : CoreEvent) → is_calm e �
 thaws_calm table None e calm = ap (λ (b : Bool). b && true) calm
 thaws_calm table (Some block) e calm = ap (λ (b : Bool). b && true) calm
 
+-- The events of a front of calm ones are calm.
 front_calm : (made : List Occurrence) (missed es : List CoreEvent) → list_all is_calm es ≡ true
     → es ≡ events_in made ++ missed → list_all is_calm (events_in made) ≡ true
 front_calm made missed es calm e = and_first
@@ -203,6 +220,7 @@ front_calm made missed es calm e = and_first
 
 -- ---- a line
 
+-- Where a session has nothing open, neither has the machine for it.
 none_open : (session : ℕ) (m : IsolationMachine) → OpenAs session None (transaction_of session m) → transaction_of session m ≡ None
 none_open session m open' = go (transaction_of session m) open'.snapshot
   where
@@ -210,6 +228,7 @@ none_open session m open' = go (transaction_of session m) open'.snapshot
     go None e = refl
     go (Some t) e = absurd (let never : ⊥ = cc e in never)
 
+-- Where a session has a transaction open, the machine has one for it.
 one_open : (session : ℕ) (m : IsolationMachine) (own : OwnTransaction) → OpenAs session (Some own) (transaction_of session m)
     → (t : Transaction) × (transaction_of session m ≡ Some t)
 one_open session m own open' = go (transaction_of session m) open'.snapshot refl
@@ -257,12 +276,14 @@ module _ (session : ℕ) (made : List Occurrence) (told : Option Said) (line : S
         allows = (may, subst (λ (o : Option Transaction). IsSome o) (sym t.1) refl, stays);
       }
 
+  -- Where nothing is open, the machine answers too that there is no transaction.
   without_one : (what : Act) → OpenAs session None (transaction_of session m)
       → (made ≡ []) × (told ≡ Some said.NoTransaction) → step_of m (asked session what) None ≡ (answer.NoTransaction, m)
       → Answers m (asked session what) line n
   without_one what open' h is = refused what answer.NoTransaction h
       (ap (λ o. step_of m (asked session what) o) (none_open session m open') ∙ is)
 
+  -- The machine, which stays, answers a call that was cut short with its line.
   cut_at : (shape : Shape) (what : Act) (own : OwnTransaction) (command : Command) → OpenAs session (Some own) (transaction_of session m)
       → (IsRead what ⊎ IsChange what ⊎ IsInsert what)
       → list_all is_calm (events_of shape (Some own) session command made) ≡ true
@@ -271,12 +292,15 @@ module _ (session : ℕ) (made : List Occurrence) (told : Option Said) (line : S
   cut_at shape what own command open' may calm p = part what own open' may p.line
       (cut_stays m n made (front_calm made p.missed (events_of shape (Some own) session command made) calm p.events) p.cut ends)
 
+  -- An act asked by the transaction's session is asked by the session that has it.
   asks_as : (own : OwnTransaction) (what : Act) → own.session ≡ session → Some (asked own.session what) ≡ Some (asked session what)
   asks_as own what same = ap (λ q. Some (asked q what)) same
 
+  -- The machine answers the command's request, if it has one, with the line.
   abbrev Takes : Command → Type 0
   Takes command = IfSome (request_of (Session session) command) (λ request. Answers m request line n)
 
+  -- The machine answers each command of a single event with its line.
   line_taken : (shape : Shape) (command : Command) (own : Option OwnTransaction) → is_single command ≡ true
       → OpenAs session own (transaction_of session m)
       → IsCallBy shape false session own (refusal_of command own) (record { command = command; made = made; told = told })

@@ -9,21 +9,25 @@ use Rattle.run_spec.specs.Calls.{Call}
 use Rattle.run_spec.specs.Ran.{Agenda, RoundRun, Share, agenda_of, agendas_in, turns_of}
 use Rattle.ran_laws.specs.Dues.{CallsAnswerDues, dues_answered}
 
+-- What is made of two lists in a row is that of the first and that of the second.
 flat_append : {X Y : Type 0} (f : X → List Y) (xs ys : List X)
     → flat_map f (xs ++ ys) ≡ flat_map f xs ++ flat_map f ys
 flat_append f [] ys = refl
 flat_append f (x ∷ xs) ys =
     ap (λ zs. f x ++ zs) (flat_append f xs ys) ∙ sym (append_assoc (f x) (flat_map f xs) (flat_map f ys))
 
+-- What is made of the images is what is made of the elements by way of them.
 flat_of_map : {X Y Z : Type 0} (f : Y → List Z) (g : X → Y) (xs : List X)
     → flat_map f (map g xs) ≡ flat_map (λ x. f (g x)) xs
 flat_of_map f g [] = refl
 flat_of_map f g (x ∷ xs) = ap (λ zs. f (g x) ++ zs) (flat_of_map f g xs)
 
+-- Two maps in turn are one map by both.
 map_of_map : {X Y Z : Type 0} (f : Y → Z) (g : X → Y) (xs : List X) → map f (map g xs) ≡ map (λ x. f (g x)) xs
 map_of_map f g [] = refl
 map_of_map f g (x ∷ xs) = ap (λ zs. f (g x) ∷ zs) (map_of_map f g xs)
 
+-- What two maps that agree make of a list is the same when joined.
 same_flat : {X Y : Type 0} (f g : X → List Y) → ((x : X) → f x ≡ g x) → (xs : List X) → flat_map f xs ≡ flat_map g xs
 same_flat f g same [] = refl
 same_flat f g same (x ∷ xs) = ap (λ ys. ys ++ flat_map f xs) (same x) ∙ ap (λ ys. g x ++ ys) (same_flat f g same xs)
@@ -32,6 +36,7 @@ same_flat f g same (x ∷ xs) = ap (λ ys. ys ++ flat_map f xs) (same x) ∙ ap 
 abbrev due_by : ℕ → Agenda → List Due
 due_by number agenda = dues_to number agenda.who agenda.commands
 
+-- What is due in a round is what its agendas ask, one behind the other.
 dues_are_asked : (script : Script) (number : ℕ) (lines : List Line)
     → dues_in script number lines ≡ flat_map (due_by number) (agendas_in script lines)
 dues_are_asked script number lines =
@@ -43,6 +48,7 @@ dues_are_asked script number lines =
     ∙ ap (λ dues. dues ++ flat_map (due_by number) (map worker workers)) (flat_of_map (due_by number) session sessions)
     ∙ ap (λ dues. flat_map (λ n. due_by number (session n)) sessions ++ dues) (flat_of_map (due_by number) worker workers))
 
+-- What is due by a share's agenda is what its calls answer.
 share_answers : (number : ℕ) (share : Share)
     → due_by number (agenda_of share) ≡ map (λ call. record { round = number; who = share.who; command = call.command }) share.calls
 share_answers number share = map_of_map
@@ -50,6 +56,7 @@ share_answers number share = map_of_map
     (λ (call : Call). call.command)
     share.calls
 
+-- What is due in a round is what its calls answer, where its shares have its agendas.
 round_answers : (script : Script) (number : ℕ) (lines : List Line) (round : RoundRun)
     → map agenda_of round.shares ≡ agendas_in script lines → dues_in script number lines ≡ dues_answered number round
 round_answers script number lines round asked =
@@ -62,12 +69,15 @@ round_answers script number lines round asked =
     (share_answers number)
     round.shares
 
+-- Lists that are one begin with the same element.
 heads : {X : Type 0} (a b : X) (xs ys : List X) → a ∷ xs ≡ b ∷ ys → a ≡ b
 heads a b xs ys e = cc
 
+-- Lists that are one go on alike behind the first.
 tails : {X : Type 0} (a b : X) (xs ys : List X) → a ∷ xs ≡ b ∷ ys → xs ≡ ys
 tails a b xs ys e = cc
 
+-- What is due in rounds is what their calls answer, round by round.
 rounds_answer : (script : Script) (number : ℕ) (asked : List (List Line)) (rounds : List RoundRun)
     → map (λ round. map agenda_of round.shares) rounds ≡ map (agendas_in script) asked
     → flat_map (λ entry. dues_in script entry.0 entry.1) (enumerate_from number asked)

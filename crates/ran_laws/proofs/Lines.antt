@@ -14,12 +14,15 @@ use Rattle.workload_spec.specs.declared.reply.Said.TheVariants as said
 use Rattle.run_spec.specs.Told.{fault_told, row_told}
 use Rattle.ran_laws.specs.Lines.{LinesTellOutcomes}
 
+-- What two equal options hold is the same.
 some_is : {X : Type 0} (a b : X) → Some a ≡ Some b → a ≡ b
 some_is a b e = cc
 
+-- Nothing is not the same as something.
 none_some : {X : Type 0} (a : X) → None ≡ Some a → ⊥
 none_some a e = cc
 
+-- What a refused write is told tells the outcome of the fault.
 fault_tells : (table : ℕ) (refused : WriteFault) → Tells (outcome_of_fault refused) (fault_told table refused)
 fault_tells table (fault.ConflictSession session) = refl
 fault_tells table (fault.ConflictCommit number) = refl
@@ -28,6 +31,7 @@ fault_tells table fault.Missing = refl
 fault_tells table (fault.Freezing block stamp) = (table, block, stamp, refl)
 fault_tells table (fault.Full inserts) = refl
 
+-- What a get is told tells the row that was found, or that there was none.
 row_tells : (row : Option (List Cell)) → Tells (store.Answered (answer.Found row)) (row_told row)
 row_tells None = refl
 row_tells (Some row) = refl

@@ -16,6 +16,7 @@ use Rattle.ran_laws.specs.Meeting.{MetRoundsAreDone}
 abbrev left_by : Shape → Parts → List Logged → Parts
 left_by shape parts log = fold (after shape) parts (map (λ entry. entry.made) log)
 
+-- The events of a log with more behind it are its own and those of the rest.
 occurrences_append : (shape : Shape) (parts : Parts) (log more : List Logged)
     → occurrences_from shape parts (log ++ more)
     ≡ occurrences_from shape parts log ++ occurrences_from shape (left_by shape parts log) more
@@ -28,6 +29,7 @@ occurrences_append shape parts (entry ∷ log) more = ap
 abbrev own_since : Shape → ℕ → List Logged → List Logged → List Occurrence
 own_since shape session log more = under session (occurrences_from shape (left_by shape (opening shape) log) more)
 
+-- One's own events of a longer log are those of the log and those since.
 own_append : (shape : Shape) (session : ℕ) (log more : List Logged)
     → own_in shape session (log ++ more) ≡ own_in shape session log ++ own_since shape session log more
 own_append shape session log more =
@@ -37,20 +39,25 @@ own_append shape session log more =
     (occurrences_in shape log)
     (occurrences_from shape (left_by shape (opening shape) log) more)
 
+-- Lists of events that are one go on alike behind the first.
 tails : (a b : Occurrence) (xs ys : List Occurrence) → a ∷ xs ≡ b ∷ ys → xs ≡ ys
 tails a b xs ys e = cc
 
+-- Lists that are one and begin with the same events go on alike.
 same_rest : (xs ys zs : List Occurrence) → xs ++ ys ≡ xs ++ zs → ys ≡ zs
 same_rest [] ys zs e = e
 same_rest (x ∷ xs) ys zs e = same_rest xs ys zs (tails x x (xs ++ ys) (xs ++ zs) e)
 
+-- A list that begins with an event is not empty.
 no_first : (x : Occurrence) (xs : List Occurrence) → x ∷ xs ≡ [] → ⊥
 no_first x xs e = cc
 
+-- Where two lists in a row have nothing, the first has nothing.
 none_of_none : (xs ys : List Occurrence) → xs ++ ys ≡ [] → xs ≡ []
 none_of_none [] ys e = refl
 none_of_none (x ∷ xs) ys e = absurd (no_first x (xs ++ ys) e)
 
+-- The events that some calls made, one call behind the other.
 abbrev made_by : List Call → List Occurrence
 made_by calls = flat_map (λ (call : Call). call.made) calls
 

@@ -15,6 +15,7 @@ events_to_come calls = flat_map (λ call. call.made) calls
 pub test_same : (q : ℕ) → (q == q) ≡ true
 test_same q = grind (arith, nat_tests)
 
+-- Two numbers are the same or not.
 same_number : (a b : ℕ) → (a ≡ b) ⊎ (a ≢ b)
 same_number a b = go (a == b) refl
   where
@@ -43,6 +44,7 @@ abbrev with_line : Option Lined → List Lined → List Lined
 with_line None lines = lines
 with_line (Some line) lines = line ∷ lines
 
+-- A moment of a session adds its line, if it has one, to those of the session.
 line_at : (q : ℕ) (event : Option Occurrence) (line : Option Lined) (moments : List Moment) → lines_at q (record { session = q; event = event; line = line } ∷ moments) ≡ with_line line (lines_at q moments)
 line_at q event line moments = ap (λ (b : Bool). filter_map (λ (moment : Moment). moment.line) (cond b (record { session = q; event = event; line = line } ∷ filter (λ (moment : Moment). moment.session == q) moments) (filter (λ (moment : Moment). moment.session == q) moments))) (test_same q) ∙ go line
   where
@@ -92,9 +94,11 @@ events_of_one q made rest (call ∷ calls) e = go call.made e (events_of_one q m
 
 -- ---- a round
 
+-- An event stands first among those under its own session.
 own_first : (made : Occurrence) (others : List Occurrence) → under made.session (made ∷ others) ≡ made ∷ under made.session others
 own_first made others = ap (λ (b : Bool). cond b (made ∷ under made.session others) (under made.session others)) (test_same made.session)
 
+-- An event of another session adds nothing to those under a session.
 other_first : (q : ℕ) (made : Occurrence) (others : List Occurrence) → made.session ≢ q → under q (made ∷ others) ≡ under q others
 other_first q made others ne = ap (λ (b : Bool). cond b (made ∷ under q others) (under q others)) (test_other made.session q ne)
 
@@ -103,6 +107,7 @@ module _ (made : Occurrence) (others : List Occurrence) (calls : ℕ → List Pe
   abbrev pub left : List Pending
   left = (advanced made.session made (calls made.session)).pending
 
+  -- The event's moments have it alone, and those under its session behind it are to come.
   one : (events_at (advanced made.session made (calls made.session)).moments ≡ made ∷ []) × (under made.session others ≡ events_to_come left)
   one = events_of_one made.session made (under made.session others) (calls made.session) (sym (own_first made others) ∙ parted made.session)
 
@@ -121,17 +126,20 @@ ended_events : (q : ℕ) (calls : List Pending) → events_at (map (ended_at q) 
 ended_events q [] = refl
 ended_events q (call ∷ calls) = ended_events q calls
 
+-- The moments of the calls that are left at the end have no events.
 all_ended : (sessions : List ℕ) (calls : ℕ → List Pending) → events_at (flat_map (λ q. map (ended_at q) (calls q)) sessions) ≡ []
 all_ended [] calls = refl
 all_ended (q ∷ sessions) calls =
     filter_map-append (λ (moment : Moment). moment.event) (map (ended_at q) (calls q)) (flat_map (λ q. map (ended_at q) (calls q)) sessions)
     ∙ ap (λ (xs : List Occurrence). xs ++ events_at (flat_map (λ q. map (ended_at q) (calls q)) sessions)) (ended_events q (calls q)) ∙ all_ended sessions calls
 
+-- The lines of moments in a row are those of the first and those of the second.
 lines_append : (q : ℕ) (xs ys : List Moment) → lines_at q (xs ++ ys) ≡ lines_at q xs ++ lines_at q ys
 lines_append q xs ys =
     ap (filter_map (λ (moment : Moment). moment.line)) (filter-append (λ (moment : Moment). moment.session == q) xs ys)
     ∙ filter_map-append (λ (moment : Moment). moment.line) (filter (λ (moment : Moment). moment.session == q) xs) (filter (λ (moment : Moment). moment.session == q) ys)
 
+-- The calls that a session ends have their lines in its own, and in no other's.
 ended_lines : (r q : ℕ) (calls : List Pending) → lines_at q (map (ended_at r) calls) ≡ cond (r == q) (lines_of calls) []
 ended_lines r q calls = go (same_number r q)
   where
@@ -149,6 +157,7 @@ ended_lines r q calls = go (same_number r q)
     go (inl e) = ap (λ n. lines_at q (map (ended_at n) calls)) e ∙ same calls ∙ ap (λ (b : Bool). cond b (lines_of calls) []) (sym (ap (λ n. n == q) e ∙ test_same q))
     go (inr ne) = other ne calls ∙ ap (λ (b : Bool). cond b (lines_of calls) []) (sym (test_other r q ne))
 
+-- The lines of calls left at the end are those of the session's, as often as it is listed.
 left_lines : (q : ℕ) (sessions : List ℕ) (calls : ℕ → List Pending) → lines_at q (flat_map (λ r. map (ended_at r) (calls r)) sessions) ≡ flat_map (λ r. lines_of (calls r)) (filter (λ r. r == q) sessions)
 left_lines q [] calls = refl
 left_lines q (r ∷ sessions) calls =

@@ -19,6 +19,7 @@ use Rattle.ran_laws.specs.Asking.{is_of}
 use Rattle.ran_laws.specs.Named.{RunsGoAlong}
 use Rattle.ran_laws.proofs.Along.{all_append, and_first, and_second, both, calls_are_the_sessions, machines_go_along}
 
+-- Two numbers are the same or not.
 same_or_not : (a b : ℕ) → (a ≡ b) ⊎ (a ≢ b)
 same_or_not a b = go (a == b) refl
   where
@@ -28,25 +29,30 @@ same_or_not a b = go (a == b) refl
 
 -- ---- each session of a script has a share
 
+-- One of the agendas is that of this session or worker.
 abbrev HasWho : Who → List Agenda → Type 0
 HasWho who [] = ⊥
 HasWho who (agenda ∷ agendas) = (agenda.who ≡ who) ⊎ HasWho who agendas
 
+-- Where one is among the agendas of the shares, there is a share of it, with what all have.
 share_of : (P : Share → Type 0) (who : Who) (shares : List Share) → HasWho who (map agenda_of shares) → All P shares
     → (share : Share) × (share.who ≡ who) × P share
 share_of P who [] has all = absurd has
 share_of P who (share ∷ shares) (inl e) all = (share, e, All-head P share shares all)
 share_of P who (share ∷ shares) (inr has) all = share_of P who shares has (All-tail P share shares all)
 
+-- Who is among the first agendas is among both.
 has_left : (who : Who) (xs ys : List Agenda) → HasWho who xs → HasWho who (xs ++ ys)
 has_left who [] ys has = absurd has
 has_left who (x ∷ xs) ys (inl e) = inl e
 has_left who (x ∷ xs) ys (inr has) = inr (has_left who xs ys has)
 
+-- Who is among the second agendas is among both.
 has_right : (who : Who) (xs ys : List Agenda) → HasWho who ys → HasWho who (xs ++ ys)
 has_right who [] ys has = has
 has_right who (x ∷ xs) ys has = inr (has_right who xs ys has)
 
+-- Who is in a range of agendas by number is among them.
 has_range : (f : ℕ → Agenda) (who : ℕ → Who) → ((k : ℕ) → (f k).who ≡ who k) → (base n q : ℕ) → base ≤ q → q < base + n
     → HasWho (who q) (map f (range_with_len base n))
 has_range f who same base zero q low high = absurd (omega (arith, low, high))
@@ -64,6 +70,7 @@ pub record Asked (script : Script) (q : ℕ) : Type 0 where
   pub is : session_of script who ≡ q
   pub has : (lines : List Line) → HasWho who (agendas_in script lines)
 
+-- Each number of a script's sessions and workers is of one that each round asks.
 asked_of : (script : Script) (q : ℕ) → 1 ≤ q → q ≤ script.sessions + script.workers → Asked script q
 asked_of script q low high = go (nat_le q script.sessions) refl
   where
@@ -112,11 +119,13 @@ abbrev Own : Script → List Occurrence → Type 0
 Own script events = (q : ℕ) → 1 ≤ q → q ≤ script.sessions + script.workers
     → list_all (is_of q) (events_in (under q events)) ≡ true
 
+-- Where each session's events are its own among two lists, they are among both.
 own_append : (script : Script) (xs ys : List Occurrence) → Own script xs → Own script ys → Own script (xs ++ ys)
 own_append script xs ys own more q low high =
     ap (λ (zs : List Occurrence). list_all (is_of q) (events_in zs)) (filter-append (λ (o : Occurrence). o.session == q) xs ys)
     ∙ all_append q (under q xs) (under q ys) (own q low high) (more q low high)
 
+-- Each session's events of a round are its own, where those in front are.
 round_own : (script : Script) (front : List Occurrence) (round : RoundRun) (lines : List Line)
     → map agenda_of round.shares ≡ agendas_in script lines → IsRound script front round
     → Own script front → Own script round.made
@@ -144,15 +153,19 @@ round_own script front round lines asked is own q low high =
     before
     share.2.calls)
 
+-- Lists that are one begin with the same element.
 heads : {X : Type 0} (a b : X) (xs ys : List X) → a ∷ xs ≡ b ∷ ys → a ≡ b
 heads a b xs ys e = cc
 
+-- Lists that are one go on alike behind the first.
 tails : {X : Type 0} (a b : X) (xs ys : List X) → a ∷ xs ≡ b ∷ ys → xs ≡ ys
 tails a b xs ys e = cc
 
+-- The events of rounds, one round behind the other.
 abbrev made_in : List RoundRun → List Occurrence
 made_in rounds = flat_map (λ (round : RoundRun). round.made) rounds
 
+-- Each session's events of some rounds are its own, where those in front are.
 rounds_own : (script : Script) (front : List Occurrence) (rounds : List RoundRun) (asked : List (List Line))
     → map (λ (round : RoundRun). map agenda_of round.shares) rounds ≡ map (agendas_in script) asked
     → AreRounds script front rounds → Own script front → Own script (made_in rounds)
@@ -176,6 +189,7 @@ rounds_own script front (round ∷ rounds) (lines ∷ asked) e are own =
     are.1
     (own_append script front round.made own here))
 
+-- The events of rounds stand under sessions and workers of the script.
 all_of_script : (script : Script) (front : List Occurrence) (rounds : List RoundRun) → AreRounds script front rounds
     → All (IsOfScript script) (made_in rounds)
 all_of_script script front [] are = All-nil (IsOfScript script)
@@ -188,14 +202,17 @@ all_of_script script front (round ∷ rounds) are = All-append
 
 -- ---- each event
 
+-- Where the events with or without a first one pass, those behind it do.
 rest_passes : (q : ℕ) (b : Bool) (first : Occurrence) (rest : List Occurrence)
     → list_all (is_of q) (events_in (cond b (first ∷ rest) rest)) ≡ true → list_all (is_of q) (events_in rest) ≡ true
 rest_passes q true first rest e = and_second (is_of q first.event) (list_all (is_of q) (events_in rest)) e
 rest_passes q false first rest e = e
 
+-- The event is of the session under which it stands, or of none.
 abbrev is_its : Occurrence → Bool
 is_its occurrence = is_of occurrence.session occurrence.event
 
+-- Each of the events is its session's, where those of each session are its own.
 each_is_its : (script : Script) (events : List Occurrence) → Own script events → All (IsOfScript script) events
     → list_all is_its events ≡ true
 each_is_its script [] own all = refl
@@ -215,6 +232,7 @@ each_is_its script (first ∷ rest) own all =
     (λ q low high. rest_passes q (first.session == q) first (under q rest) (own q low high))
     (All-tail (IsOfScript script) first rest all))
 
+-- A log is named exactly where each of its occurrences is its session's.
 named_log : (shape : Shape) (parts : Parts) (log : List Logged)
     → are_named log ≡ list_all is_its (occurrences_from shape parts log)
 named_log shape parts [] = refl

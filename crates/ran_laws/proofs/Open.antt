@@ -34,11 +34,13 @@ use Rattle.ran_laws.specs.Open.{NothingIsOpen, OpenAs, OpensAsTheMachine}
 abbrev snapshot_in : ℕ → IsolationMachine → Option ℕ
 snapshot_in r m = option_map (λ (t : Transaction). t.snapshot) (transaction_of r m)
 
+-- What a session asks of the machine by an act.
 abbrev asked : ℕ → Act → Command
 asked q what = record { session = q; act = what }
 
 -- ---- acts that neither begin nor end a transaction
 
+-- A write that is entered into a transaction leaves the transaction's snapshot.
 enters_snapshot : (q : ℕ) (place : Place) (value : Option (List Cell)) (o : Option Transaction)
     → option_map (λ (t : Transaction). t.snapshot) (option_map (enters q place value) o)
     ≡ option_map (λ (t : Transaction). t.snapshot) o
@@ -50,6 +52,7 @@ enters_snapshot q place value (Some t) = go (t.session == q)
     go true = refl
     go false = refl
 
+-- A write, refused or not, leaves the snapshots of all sessions.
 write_keeps : (m : IsolationMachine) (t : Transaction) (place : Place) (value : Option (List Cell))
     (refusal : Option Answer) (r : ℕ) → snapshot_in r (write m t place value refusal).1 ≡ snapshot_in r m
 write_keeps m t place value (Some refusal) r = refl
@@ -57,6 +60,7 @@ write_keeps m t place value None r =
     ap (option_map (λ (t : Transaction). t.snapshot)) (of-map r t.session place value m.open_transactions)
     ∙ enters_snapshot t.session place value (transaction_of r m)
 
+-- The act neither begins nor ends a transaction.
 abbrev is_plain : Act → Bool
 is_plain act.Begin = false
 is_plain (act.Get table key) = true
@@ -67,9 +71,11 @@ is_plain (act.Delete table key) = true
 is_plain act.Commit = false
 is_plain act.Abort = false
 
+-- False is not the same as true.
 not_plain : false ≡ true → ⊥
 not_plain e = cc
 
+-- A step that neither begins nor ends a transaction leaves all snapshots.
 plain_step : (m : IsolationMachine) (q : ℕ) (what : Act) (o : Option Transaction) (r : ℕ) → is_plain what ≡ true
     → snapshot_in r (step_of m (asked q what) o).1 ≡ snapshot_in r m
 plain_step m q act.Begin o r plain = absurd (not_plain plain)
@@ -86,6 +92,7 @@ plain_step m q (act.Delete table key) (Some t) r plain = write_keeps m t _ _ _ r
 plain_step m q act.Commit o r plain = absurd (not_plain plain)
 plain_step m q act.Abort o r plain = absurd (not_plain plain)
 
+-- An outcome of an act that neither begins nor ends a transaction leaves all snapshots.
 allows_plain : (m next : IsolationMachine) (q : ℕ) (what : Act) (outcome : Outcome) (r : ℕ) → is_plain what ≡ true
     → Allows m (asked q what) outcome next → snapshot_in r next ≡ snapshot_in r m
 allows_plain m next q what (Answered said) r plain h =
@@ -95,10 +102,12 @@ allows_plain m next q what Freezing r plain h = ap (snapshot_in r) h.2
 allows_plain m next q what Full r plain h = ap (snapshot_in r) h.2
 allows_plain m next q what Memory r plain h = ap (snapshot_in r) h.2
 
+-- An option that is said to hold something with a property gives one that has it.
 some_and : {X : Type 0} (P : X → Type 0) (o : Option X) → IsSomeAnd o P → (x : X) × P x
 some_and P None h = absurd h
 some_and P (Some x) h = (x, h)
 
+-- A reply to an act that neither begins nor ends a transaction leaves all snapshots.
 told_plain : (m next : IsolationMachine) (q : ℕ) (what : Act) (told : CoreReply) (r : ℕ) → is_plain what ≡ true
     → IsTold m (asked q what) told next → snapshot_in r next ≡ snapshot_in r m
 told_plain m next q what told r plain h =
@@ -112,21 +121,27 @@ pub record Leaves (q : ℕ) (m next : IsolationMachine) (snapshot : Option ℕ) 
   pub own : snapshot_in q next ≡ snapshot
   pub others : (r : ℕ) → r ≢ q → snapshot_in r next ≡ snapshot_in r m
 
+-- An answer of the machine, with the machine behind it.
 abbrev stepped : Answer → IsolationMachine → Answer × IsolationMachine
 stepped said after = (said, after)
 
+-- Steps that are the same have the same answer.
 said_is : (a b : Answer) (m n : IsolationMachine) → stepped a m ≡ stepped b n → a ≡ b
 said_is a b m n e = ap (λ (p : Answer × IsolationMachine). p.0) e
 
+-- Steps that are the same have the same machine behind them.
 next_is : (a b : Answer) (m n : IsolationMachine) → stepped a m ≡ stepped b n → m ≡ n
 next_is a b m n e = ap (λ (p : Answer × IsolationMachine). p.1) e
 
+-- Begins that are answered alike have the same number.
 same_number_at : (a b : ℕ) → answer.At a ≡ answer.At b → a ≡ b
 same_number_at a b e = cc
 
+-- That a transaction is open is not the answer to a begin that opens one.
 not_within : (number : ℕ) → answer.InTransaction ≡ answer.At number → ⊥
 not_within number e = cc
 
+-- A begin that is answered with a number leaves its session open with that snapshot.
 begin_leaves : (m next : IsolationMachine) (q number : ℕ) → step m (asked q act.Begin) ≡ (answer.At number, next)
     → Leaves q m next (Some number)
 begin_leaves m next q number h = go (transaction_of q m) refl h
@@ -149,6 +164,7 @@ begin_leaves m next q number h = go (transaction_of q m) refl h
               ∙ ap (option_map (λ (t : Transaction). t.snapshot)) (of-append-other r m.open_transactions new (λ e. ne (sym e)));
         }
 
+-- A machine that is without a session's transaction leaves it nothing, and the others theirs.
 without_leaves : (m next : IsolationMachine) (q : ℕ) (t : Transaction) → transaction_of q m ≡ Some t
     → next.open_transactions ≡ (without t.session m).open_transactions → Leaves q m next None
 without_leaves m next q t is e =
@@ -161,12 +177,15 @@ without_leaves m next q t is e =
           ∙ ap (option_map (λ (t : Transaction). t.snapshot)) (of-without r t.session m.open_transactions (λ e. ne (e ∙ same)));
     }
 
+-- That there is no transaction is not the answer that it was committed.
 not_committed : (number : Option ℕ) → answer.NoTransaction ≡ answer.Committed number → ⊥
 not_committed number e = cc
 
+-- That there is no transaction is not the answer that it was aborted.
 not_aborted : answer.NoTransaction ≡ answer.Aborted → ⊥
 not_aborted e = cc
 
+-- A commit that is answered as one leaves its session nothing open, and the others theirs.
 commit_leaves : (m next : IsolationMachine) (q : ℕ) (number : Option ℕ)
     → step m (asked q act.Commit) ≡ (answer.Committed number, next) → Leaves q m next None
 commit_leaves m next q number h = go (transaction_of q m) refl h
@@ -181,6 +200,7 @@ commit_leaves m next q number h = go (transaction_of q m) refl h
     go None is e = absurd (not_committed number (said_is answer.NoTransaction (answer.Committed number) m next e))
     go (Some t) is e = without_leaves m next q t is (ended t t.own e)
 
+-- An abort that is answered as one leaves its session nothing open, and the others theirs.
 abort_leaves : (m next : IsolationMachine) (q : ℕ) → step m (asked q act.Abort) ≡ (answer.Aborted, next)
     → Leaves q m next None
 abort_leaves m next q h = go (transaction_of q m) refl h
@@ -192,14 +212,12 @@ abort_leaves m next q h = go (transaction_of q m) refl h
 
 -- ---- what a session has open by its own events
 
-abbrev numbers : Option OwnTransaction → Option ℕ
-numbers own = option_map (λ (t : OwnTransaction). t.snapshot.number) own
-
 -- one event, to its own session and to the others
 abbrev Keeps : ℕ → CoreEvent → CoreReply → IsolationMachine → IsolationMachine → Type 0
 Keeps q e told m next = (own : Option OwnTransaction) → OpenAs q own (transaction_of q m)
     → OpenAs q (own_behind own e told) (transaction_of q next) × ((r : ℕ) → r ≢ q → snapshot_in r next ≡ snapshot_in r m)
 
+-- An event that leaves what a session has open, and all snapshots, keeps that they agree.
 still : (q : ℕ) (e : CoreEvent) (told : CoreReply) (m next : IsolationMachine)
     → ((own : Option OwnTransaction) → own_behind own e told ≡ own)
     → ((r : ℕ) → snapshot_in r next ≡ snapshot_in r m) → Keeps q e told m next
@@ -209,6 +227,7 @@ still q e told m next same keeps own was = (
   λ r ne. keeps r,
 )
 
+-- An event that leaves what a session has open, and the machine, keeps that they agree.
 aside : (q : ℕ) (e : CoreEvent) (told : CoreReply) (m next : IsolationMachine)
     → ((own : Option OwnTransaction) → own_behind own e told ≡ own) → next ≡ m → Keeps q e told m next
 aside q e told m next same stays = still q e told m next same (λ r. ap (snapshot_in r) stays)
@@ -219,6 +238,7 @@ pub with_own_is : (place : Place) (told : CoreReply) (t : OwnTransaction)
 with_own_is place (reply.Written slot) t = (refl, refl)
 with_own_is place _ t = (refl, refl)
 
+-- An event that may enter a write, and leaves all snapshots, keeps that they agree.
 writes_keep : (q : ℕ) (e : CoreEvent) (told : CoreReply) (place : Place) (m next : IsolationMachine)
     → ((own : Option OwnTransaction) → own_behind own e told ≡ option_map (opened.with_own place told) own)
     → ((r : ℕ) → snapshot_in r next ≡ snapshot_in r m) → Keeps q e told m next
@@ -240,6 +260,7 @@ module _ (shape : Shape) (parts : Parts) (q : ℕ) (m next : IsolationMachine) w
   abbrev told_to : CoreEvent → Bool → CoreReply
   told_to e refused = cond refused reply.Memory (reply_to shape parts e)
 
+  -- A begin of the session, refused or not, keeps that it agrees with the machine.
   begin_keeps : (session : ℕ) (refused : Bool) → session ≡ q
       → IsStep (command_in (event.Begin session)) m (told_to (event.Begin session) refused) next
       → Keeps q (event.Begin session) (told_to (event.Begin session) refused) m next
@@ -255,6 +276,7 @@ module _ (shape : Shape) (parts : Parts) (q : ℕ) (m next : IsolationMachine) w
         λ r ne. leaves.others r (λ e. ne (e ∙ same)),
       )
 
+  -- An event that ends the session's transaction on both sides keeps that they agree.
   ends_keep : (session : ℕ) (e : CoreEvent) (told : CoreReply) → session ≡ q
       → ((own : Option OwnTransaction) → own_behind own e told ≡ None)
       → Leaves session m next None → Keeps q e told m next
@@ -264,6 +286,7 @@ module _ (shape : Shape) (parts : Parts) (q : ℕ) (m next : IsolationMachine) w
     λ r ne. leaves.others r (λ e. ne (e ∙ same)),
   )
 
+  -- A commit of the session, refused or not, keeps that it agrees with the machine.
   commit_keeps : (handed : OwnTransaction) (refused : Bool) → handed.session ≡ q
       → IsStep (command_in (event.Commit handed)) m (told_to (event.Commit handed) refused) next
       → Keeps q (event.Commit handed) (told_to (event.Commit handed) refused) m next
@@ -273,6 +296,7 @@ module _ (shape : Shape) (parts : Parts) (q : ℕ) (m next : IsolationMachine) w
   commit_keeps handed false same h = ends_keep handed.session (event.Commit handed)
       (told_to (event.Commit handed) false) same (λ own. refl) (commit_leaves m next handed.session _ h)
 
+  -- An abort of the session, refused or not, keeps that it agrees with the machine.
   abort_keeps : (handed : OwnTransaction) (refused : Bool) → handed.session ≡ q
       → IsStep (command_in (event.Abort handed)) m (told_to (event.Abort handed) refused) next
       → Keeps q (event.Abort handed) (told_to (event.Abort handed) refused) m next
@@ -344,6 +368,7 @@ module _ (shape : Shape) (parts : Parts) (q : ℕ) (m next : IsolationMachine) w
 
 -- ---- one event more
 
+-- Two numbers are the same or not.
 same_or_not : (a b : ℕ) → (a ≡ b) ⊎ (a ≢ b)
 same_or_not a b = go (a == b) refl
   where

@@ -28,12 +28,15 @@ use Rattle.event_spec.specs.Replay.{after}
 use Rattle.std.specs.List.{flat_map}
 use Rattle.ran_laws.specs.Upkeep.{AreAllReplied, AreReplied, LogsAreReplied, SharesAreReplied, UpkeepIsToldSo}
 
+-- False is not the same as true.
 not_true : false ≡ true → ⊥
 not_true e = cc
 
+-- Nothing is not a line.
 none_some : (line : Said) → None ≡ Some line → ⊥
 none_some line e = cc
 
+-- What two equal options hold is the same line.
 same_line : (a b : Said) → Some a ≡ Some b → a ≡ b
 same_line a b e = cc
 
@@ -51,11 +54,13 @@ line_is true (Some here) line e = go (is_silent here) e
     go true e = absurd (none_some line e)
     go false e = e
 
+-- The line of a reply to a seal, if there is one, is one of upkeep.
 sealed_line : (table block : ℕ) (because : Option SealFault) (last : ℕ) (line : Said)
     → told_by table block (reply_to_seal because last) ≡ Some line → is_of_upkeep line ≡ true
 sealed_line table block None last line e = meant (said.Sealed table block _) line refl e
 sealed_line table block (Some because) last line e = meant (said.NotSealed _) line refl e
 
+-- The line of a reply to an image, if there is one, is one of upkeep.
 imaged_line : (table block : ℕ) (phase : Phase) (body : Body) (line : Said)
     → told_by table block (reply_to_image phase body) ≡ Some line → is_of_upkeep line ≡ true
 imaged_line table block Loose body line e = meant said.NotFrozen line refl e
@@ -72,12 +77,15 @@ replied_line shape parts table block e true told line is granted says =
 replied_line shape parts table block e false told line is granted says =
     granted (sym (ap (told_by table block) is) ∙ says)
 
+-- An empty list does not begin with an event.
 no_first : (e : CoreEvent) (es : List CoreEvent) → [] ≡ e ∷ es → ⊥
 no_first e es h = cc
 
+-- Lists of events that are one begin with the same event.
 heads : (a b : CoreEvent) (xs ys : List CoreEvent) → a ∷ xs ≡ b ∷ ys → a ≡ b
 heads a b xs ys e = cc
 
+-- A list of two events or more is none of one.
 no_more : (a b c : CoreEvent) (xs : List CoreEvent) → a ∷ c ∷ xs ≡ b ∷ [] → ⊥
 no_more a b c xs e = cc
 
@@ -104,12 +112,15 @@ one_line shape table block e (x ∷ y ∷ rest) line events replied granted says
 
 module _ (shape : Shape) (worker : Bool) (session : ℕ) (own : Option OwnTransaction) (made : List Occurrence)
     (told : Option Said) (line : Said) (replied : AreReplied shape made) (tells : told ≡ Some line) where
+  -- Where memory was wanting, the line that is told is one of upkeep.
   cut : told ≡ Some said.Memory → is_of_upkeep line ≡ true
   cut says = meant said.Memory line refl (sym says ∙ tells)
 
+  -- What is meant for one's line is the line that is told.
   says : (meant' : Option Said) → told ≡ line_to worker meant' → meant' ≡ Some line
   says meant' is = line_is worker meant' line (sym is ∙ tells)
 
+  -- The line of each command of upkeep, refused, whole or in part, is one of upkeep.
   told_so : (asked : Command) → is_upkeep asked ≡ true
       → IsCallBy shape worker session own (refusal_of asked own) (record { command = asked; made = made; told = told })
       → is_of_upkeep line ≡ true
@@ -201,6 +212,7 @@ pub rest_replied : (shape : Shape) (xs ys : List Occurrence) → AreReplied shap
 rest_replied shape [] ys replied = replied
 rest_replied shape (x ∷ xs) ys replied = rest_replied shape xs ys replied.1
 
+-- Where the replies of calls in a row are the replay's, so are those of each call.
 calls_replied : (shape : Shape) (calls : List Call) → AreReplied shape (flat_map (λ (call : Call). call.made) calls)
     → AreAllReplied shape calls
 calls_replied shape [] replied = tt

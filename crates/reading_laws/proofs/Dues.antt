@@ -25,15 +25,18 @@ abbrev pub DuesRise : List Due → Type 0
 DuesRise [] = Unit {0}
 DuesRise (due ∷ dues) = (list_all (is_ahead_of due.round due.who) dues ≡ true) × DuesRise dues
 
+-- Where one test passes no less than another, all that pass the one pass it.
 all-weaker : {X : Type 0} (p q : X → Bool) → ((x : X) → p x ≡ true → q x ≡ true) → (xs : List X) → list_all p xs ≡ true → list_all q xs ≡ true
 all-weaker p q so [] h = refl
 all-weaker p q so (x ∷ xs) h =
     let parts = and_parts (p x) (list_all p xs) h in
     and_from (q x) (list_all q xs) (so x parts.0) (all-weaker p q so xs parts.1)
 
+-- Where all of two lists pass a test, all of both in a row do.
 all-append : {X : Type 0} (p : X → Bool) (a b : List X) → list_all p a ≡ true → list_all p b ≡ true → list_all p (a ++ b) ≡ true
 all-append p a b h k = list_all-append p a b ∙ and_from (list_all p a) (list_all p b) h k
 
+-- Dues of two lists rise in a row where each of the first is ahead of the second.
 rise-append : (a b : List Due) → DuesRise a → DuesRise b → list_all (λ d. list_all (is_ahead_of d.round d.who) b) a ≡ true → DuesRise (a ++ b)
 rise-append [] b h k cross = k
 rise-append (d ∷ a) b h k cross =
@@ -42,19 +45,23 @@ rise-append (d ∷ a) b h k cross =
 
 -- ---- to one in a round
 
+-- Everyone is tested as the same as oneself.
 same-itself : (a : Who) → is_same a a ≡ true
 same-itself (Session a) = grind (arith, nat_tests)
 same-itself (Worker a) = grind (arith, nat_tests)
 
+-- What is due is of this round and to this one.
 abbrev is_to : ℕ → Who → Due → Bool
 is_to round who due = eqb due.round round && is_same due.who who
 
+-- All that is due to one in a round is of this round and to this one.
 all-to : (round : ℕ) (who : Who) (commands : List Command) → list_all (is_to round who) (dues_to round who commands) ≡ true
 all-to round who [] = refl
 all-to round who (asked ∷ commands) =
     let equal : eqb round round ≡ true = grind (arith, nat_tests) in
     and_from (eqb round round && is_same who who) (list_all (is_to round who) (dues_to round who commands)) (and_from (eqb round round) (is_same who who) equal (same-itself who)) (all-to round who commands)
 
+-- Those who are tested as the same are the same.
 same-is : (a b : Who) → is_same a b ≡ true → a ≡ b
 same-is (Session a) (Session b) h = let e : a ≡ b = grind (arith, nat_tests) in ap (λ n. Session n) e
 same-is (Session a) (Worker b) h = absurd (let never : ⊥ = cc in never)
@@ -67,12 +74,14 @@ ahead-by round who due h k =
     or_right (nat_lt round due.round) (eqb round due.round && is_up_to who due.who)
     (and_from (eqb round due.round) (is_up_to who due.who) (let e : eqb round due.round ≡ true = grind (arith, nat_tests, h) in e) k)
 
+-- What is due to one in a round is behind or with what is due to that one.
 to-ahead : (round : ℕ) (who : Who) (due : Due) → is_to round who due ≡ true → is_ahead_of round who due ≡ true
 to-ahead round who due h =
     let parts = and_parts (eqb due.round round) (is_same due.who who) h in
     let same : is_up_to who due.who ≡ true = or_right (is_earlier who due.who) (is_same who due.who) (subst (λ (w : Who). is_same who w ≡ true) (sym (same-is due.who who parts.1)) (same-itself who)) in
     ahead-by round who due parts.0 same
 
+-- What is due to one in a round stands in order.
 rise-to : (round : ℕ) (who : Who) (commands : List Command) → DuesRise (dues_to round who commands)
 rise-to round who [] = tt
 rise-to round who (asked ∷ commands) =
@@ -80,14 +89,17 @@ rise-to round who (asked ∷ commands) =
 
 -- ---- to sessions in a round, and to workers
 
+-- It is a session from this number on.
 abbrev from_session : ℕ → Who → Bool
 from_session first (Session n) = nat_le first n
 from_session first (Worker n) = false
 
+-- It is a worker from this number on.
 abbrev from_worker : ℕ → Who → Bool
 from_worker first (Session n) = false
 from_worker first (Worker n) = nat_le first n
 
+-- What is due is of this round and to one of those chosen.
 abbrev is_within_round : (Who → Bool) → ℕ → Due → Bool
 is_within_round chosen round due = eqb due.round round && chosen due.who
 
@@ -96,26 +108,32 @@ session-later : (a : ℕ) (who : Who) → from_session (a + 1) who ≡ true → 
 session-later a (Session n) h = grind (arith, nat_tests, h)
 session-later a (Worker n) h = h
 
+-- A worker from the next number on is one from this number on.
 worker-later : (a : ℕ) (who : Who) → from_worker (a + 1) who ≡ true → from_worker a who ≡ true
 worker-later a (Session n) h = h
 worker-later a (Worker n) h = grind (arith, nat_tests, h)
 
+-- A session is one from its own number on.
 session-own : (a : ℕ) (who : Who) → is_same who (Session a) ≡ true → from_session a who ≡ true
 session-own a (Session n) h = grind (arith, nat_tests, h)
 session-own a (Worker n) h = absurd (let never : ⊥ = cc in never)
 
+-- A worker is one from its own number on.
 worker-own : (a : ℕ) (who : Who) → is_same who (Worker a) ≡ true → from_worker a who ≡ true
 worker-own a (Session n) h = absurd (let never : ⊥ = cc in never)
 worker-own a (Worker n) h = grind (arith, nat_tests, h)
 
+-- A session stands in front of the sessions from the next number on.
 session-behind : (a : ℕ) (who : Who) → from_session (a + 1) who ≡ true → is_up_to (Session a) who ≡ true
 session-behind a (Session n) h = or_left (nat_lt a n) (eqb a n) (grind (arith, nat_tests, h))
 session-behind a (Worker n) h = refl
 
+-- A worker stands in front of the workers from the next number on.
 worker-behind : (a : ℕ) (who : Who) → from_worker (a + 1) who ≡ true → is_up_to (Worker a) who ≡ true
 worker-behind a (Session n) h = absurd (let never : ⊥ = cc in never)
 worker-behind a (Worker n) h = or_left (nat_lt a n) (eqb a n) (grind (arith, nat_tests, h))
 
+-- What is due in a round to some is due to more than these.
 within-weaker : (p q : Who → Bool) → ((who : Who) → p who ≡ true → q who ≡ true) → (round : ℕ) (dues : List Due) → list_all (is_within_round p round) dues ≡ true → list_all (is_within_round q round) dues ≡ true
 within-weaker p q so round dues h =
     all-weaker (is_within_round p round) (is_within_round q round)
@@ -137,6 +155,7 @@ cross-to round who behind so later h (d ∷ dues) k =
     subst (λ (w : Who). list_all (is_ahead_of d.round w) later ≡ true) (sym who_is) (subst (λ (r : ℕ). list_all (is_ahead_of r who) later ≡ true) (sym round_is) ahead) in
     and_from (list_all (is_ahead_of d.round d.who) later) (list_all (λ x. list_all (is_ahead_of x.round x.who) later) dues) mine (cross-to round who behind so later h dues parts.1)
 
+-- What is due to one in a round is due to those among whom that one is.
 to-within : (p : Who → Bool) (who : Who) → ((other : Who) → is_same other who ≡ true → p other ≡ true) → (round : ℕ) (dues : List Due) → list_all (is_to round who) dues ≡ true → list_all (is_within_round p round) dues ≡ true
 to-within p who so round dues h =
     all-weaker (is_to round who) (is_within_round p round) (λ d k. let parts = and_parts (eqb d.round round) (is_same d.who who) k in and_from (eqb d.round round) (p d.who) parts.0 (so d.who parts.1)) dues h
@@ -170,6 +189,7 @@ module _ (round : ℕ) (asked : ℕ → List Command) where
 
 -- ---- round by round
 
+-- Every session stands in front of every worker.
 session-worker : (a b : Who) → from_session 1 a ≡ true → from_worker 1 b ≡ true → is_up_to a b ≡ true
 session-worker (Session a) (Session b) h k = absurd (let never : ⊥ = cc in never)
 session-worker (Session a) (Worker b) h k = refl
@@ -189,6 +209,7 @@ cross-kinds round later h (d ∷ dues) k =
     and_from (list_all (is_ahead_of d.round d.who) later) (list_all (λ x. list_all (is_ahead_of x.round x.who) later) dues)
     (subst (λ (r : ℕ). list_all (is_ahead_of r d.who) later ≡ true) (sym round_is) ahead) (cross-kinds round later h dues parts.1)
 
+-- What is due in a round to some is of that round.
 of-round : (p : Who → Bool) (round : ℕ) (dues : List Due) → list_all (is_within_round p round) dues ≡ true → list_all (λ d. eqb d.round round) dues ≡ true
 of-round p round dues h = all-weaker (is_within_round p round) (λ d. eqb d.round round) (λ d k. (and_parts (eqb d.round round) (p d.who) k).0) dues h
 
@@ -217,12 +238,15 @@ module _ (script : Script) where
       and_from (list_all (is_ahead_of d.round d.who) later) (list_all (λ x. list_all (is_ahead_of x.round x.who) later) dues)
       (subst (λ (r : ℕ). list_all (is_ahead_of r d.who) later ≡ true) (sym round_is) ahead) (cross-rounds round later h dues parts.1)
 
+  -- What is of one round is of that round or a later one.
   round-least : (round : ℕ) (dues : List Due) → list_all (λ d. eqb d.round round) dues ≡ true → list_all (λ d. nat_le round d.round) dues ≡ true
   round-least round dues h = all-weaker (λ d. eqb d.round round) (λ d. nat_le round d.round) (λ d k. grind (arith, nat_tests, k)) dues h
 
+  -- What is of a later round is of this round or a later one.
   rounds-later : (round : ℕ) (dues : List Due) → list_all (λ d. nat_le (round + 1) d.round) dues ≡ true → list_all (λ d. nat_le round d.round) dues ≡ true
   rounds-later round dues h = all-weaker (λ d. nat_le (round + 1) d.round) (λ d. nat_le round d.round) (λ d k. grind (arith, nat_tests, k)) dues h
 
+  -- What is due in rounds from a number on stands in order, none of it of an earlier round.
   rounds-from : (round : ℕ) (rounds : List (List Line)) → DuesRise (flat_map (λ entry. dues_in script entry.0 entry.1) (enumerate_from round rounds))
       × (list_all (λ d. nat_le round d.round) (flat_map (λ entry. dues_in script entry.0 entry.1) (enumerate_from round rounds)) ≡ true)
   rounds-from round [] = (tt, refl)
@@ -245,10 +269,12 @@ module _ (script : Script) where
 abbrev pub is_upkeep_due : Due → Bool
 is_upkeep_due due = not (is_worker due.who) || is_upkeep due.command
 
+-- What is due to a session is a session's.
 to-session : (round s : ℕ) (commands : List Command) → list_all is_upkeep_due (dues_to round (Session s) commands) ≡ true
 to-session round s [] = refl
 to-session round s (asked ∷ commands) = to-session round s commands
 
+-- What is due to a worker is upkeep where its commands are.
 to-worker : (round w : ℕ) (commands : List Command) → list_all is_upkeep commands ≡ true → list_all is_upkeep_due (dues_to round (Worker w) commands) ≡ true
 to-worker round w [] h = refl
 to-worker round w (asked ∷ commands) h =

@@ -30,20 +30,24 @@ use Rattle.reading_laws.proofs.Dues.{is_ahead_of, DuesRise, is_upkeep_due}
 
 -- ---- the ways of a reading
 
+-- The replies that were read, or the line at which the reading fails.
 abbrev Reading : Type 0
 Reading = Result (List Entry) ℕ
 
+-- What one due makes of a reading, by whether its reply is there and may be silent.
 abbrev way : Bool → Option Entry → (Entry → Reading) → ℕ → Reading → Reading
 way silent at next fail skip = elim silent as (λ b. Reading) [
   | true ↦ further (elim at as (λ o. Reading) [ Some entry ↦ next entry | None ↦ Err fail ]) skip
   | false ↦ elim at as (λ o. Reading) [ Some entry ↦ next entry | None ↦ Err fail ]
 ]
 
+-- Where the further of two readings comes to the end, one of them does so.
 further-either : (a b : Reading) (entries : List Entry) → further a b ≡ Ok entries → (a ≡ Ok entries) ⊎ (b ≡ Ok entries)
 further-either (Ok x) b entries h = inl h
 further-either (Err line) (Ok x) entries h = inr h
 further-either (Err line) (Err other) entries h = absurd (let never : ⊥ = cc in never)
 
+-- Where a due's way comes to the end, its reply was taken or it was passed over.
 way-cases : (silent : Bool) (at : Option Entry) (next : Entry → Reading) (fail : ℕ) (skip : Reading) (entries : List Entry) → way silent at next fail skip ≡ Ok entries
     → ((entry : Entry) × (at ≡ Some entry) × (next entry ≡ Ok entries)) ⊎ (skip ≡ Ok entries)
 way-cases true (Some entry) next fail skip entries h = elim (further-either (next entry) skip entries h) [ inl taken ↦ inl (entry, refl, taken) | inr passed ↦ inr passed ]
@@ -51,12 +55,15 @@ way-cases true None next fail skip entries h = elim (further-either (Err fail) s
 way-cases false (Some entry) next fail skip entries h = inl (entry, refl, h)
 way-cases false None next fail skip entries h = absurd (let never : ⊥ = cc in never)
 
+-- A reading that comes to the end with these replies.
 abbrev read : List Entry → Reading
 read entries = Ok entries
 
+-- Readings that come to the end alike have the same replies.
 same-read : (a b : List Entry) → read a ≡ read b → a ≡ b
 same-read a b e = cc
 
+-- Where nothing more is due and the end is come to, the replies are the earlier ones.
 end-chosen : (b : Bool) (earlier entries : List Entry) (line : ℕ) → cond {A = Reading} b (Ok earlier) (Err line) ≡ Ok entries → earlier ≡ entries
 end-chosen true earlier entries line h = same-read earlier entries h
 end-chosen false earlier entries line h = absurd (let never : ⊥ = cc in never)
@@ -67,6 +74,7 @@ found-step : {X Y : Type 0} (p : Y → Bool) (q : X → Bool) (f : X → Y) (x :
 found-step p q f x xs y true h here rest = (x, (let e : f x ≡ y = cc in e), here)
 found-step p q f x xs y false h here rest = rest h
 
+-- What is found among images is the image of one that passes what all do.
 found-mapped : {X Y : Type 0} (p : Y → Bool) (q : X → Bool) (f : X → Y) (xs : List X) (y : Y) → list_all q xs ≡ true → find p (map f xs) ≡ Some y → (x : X) × (f x ≡ y) × (q x ≡ true)
 found-mapped p q f [] y all h = absurd (let never : ⊥ = cc in never)
 found-mapped p q f (x ∷ xs) y all h =
@@ -106,6 +114,7 @@ module _ (tables : List TableDecl) (may : List Entry → Due → Said → Bool)
 abbrev is_with : ℕ → Who → Entry → Bool
 is_with round who y = eqb y.reply.round round && is_same y.reply.who who
 
+-- A reply's index is not above the count of those of its round to the same one.
 abbrev is_counted : List Entry → Entry → Bool
 is_counted earlier x = nat_le x.reply.index (count_by (is_with x.reply.round x.reply.who) earlier)
 
@@ -115,12 +124,14 @@ pub record Ordered (dues : List Due) (earlier : List Entry) : Type 0 where
   pub cross : list_all (λ x. list_all (is_ahead_of x.reply.round x.reply.who) dues) earlier ≡ true
   pub indexes : list_all (is_counted earlier) earlier ≡ true
 
+-- Where one test passes no less than another, all that pass the one pass it.
 all-weaker : {X : Type 0} (p q : X → Bool) → ((x : X) → p x ≡ true → q x ≡ true) → (xs : List X) → list_all p xs ≡ true → list_all q xs ≡ true
 all-weaker p q so [] h = refl
 all-weaker p q so (x ∷ xs) h =
     let parts = and_parts (p x) (list_all p xs) h in
     and_from (q x) (list_all q xs) (so x parts.0) (all-weaker p q so xs parts.1)
 
+-- Where all pass two tests, all pass a third that those who pass both do.
 all-both : {X : Type 0} (p q r : X → Bool) → ((x : X) → p x ≡ true → q x ≡ true → r x ≡ true) → (xs : List X) → list_all p xs ≡ true → list_all q xs ≡ true → list_all r xs ≡ true
 all-both p q r so [] h k = refl
 all-both p q r so (x ∷ xs) h k =
@@ -128,15 +139,18 @@ all-both p q r so (x ∷ xs) h k =
     let others = and_parts (q x) (list_all q xs) k in
     and_from (r x) (list_all r xs) (so x parts.0 others.0) (all-both p q r so xs parts.1 others.1)
 
+-- Where all of a list and one more pass a test, all with that one do.
 all-push : {X : Type 0} (p : X → Bool) (xs : List X) (x : X) → list_all p xs ≡ true → p x ≡ true → list_all p (xs ++ x ∷ []) ≡ true
 all-push p xs x h k = list_all-append p xs (x ∷ []) ∙ and_from (list_all p xs) (p x && true) h (and_from (p x) true k refl)
 
+-- Replies that rise do so with one more that each of them is ahead of.
 rises-push : (xs : List Entry) (e : Entry) → Rises xs → list_all (λ x. is_ahead x e) xs ≡ true → Rises (xs ++ e ∷ [])
 rises-push [] e h k = (refl, tt)
 rises-push (x ∷ xs) e h k =
     let parts = and_parts (is_ahead x e) (list_all (λ y. is_ahead y e) xs) k in
     (all-push (is_ahead x) xs e h.0 parts.0, rises-push xs e h.1 parts.1)
 
+-- The order is kept where what is due next is passed over.
 skip-ordered : (due : Due) (dues : List Due) (earlier : List Entry) → Ordered (due ∷ dues) earlier → Ordered dues earlier
 skip-ordered due dues earlier h = record {
   rises = h.rises;
@@ -146,12 +160,14 @@ skip-ordered due dues earlier h = record {
   indexes = h.indexes;
 }
 
+-- Those who are tested as the same are the same.
 same-is : (a b : Who) → is_same a b ≡ true → a ≡ b
 same-is (Session a) (Session b) h = let e : a ≡ b = grind (arith, nat_tests) in ap (λ n. Session n) e
 same-is (Session a) (Worker b) h = absurd (let never : ⊥ = cc in never)
 same-is (Worker a) (Session b) h = absurd (let never : ⊥ = cc in never)
 same-is (Worker a) (Worker b) h = let e : a ≡ b = grind (arith, nat_tests) in ap (λ n. Worker n) e
 
+-- Everyone is tested as the same as oneself.
 same-itself : (a : Who) → is_same a a ≡ true
 same-itself (Session a) = grind (arith, nat_tests)
 same-itself (Worker a) = grind (arith, nat_tests)
@@ -184,9 +200,11 @@ ahead-by x e earlier ahead counted index = by (or_cases (nat_lt x.reply.round e.
         let parts = and_parts (eqb x.reply.round e.reply.round) (is_up_to x.reply.who e.reply.who) beside in
         with_it parts.0 (or_cases (is_earlier x.reply.who e.reply.who) (is_same x.reply.who e.reply.who) parts.1)
 
+-- With one reply more no fewer are counted.
 count-grows : (p : Entry → Bool) (earlier : List Entry) (e : Entry) → count_by p earlier ≤ count_by p (earlier ++ e ∷ [])
 count-grows p earlier e = let a = count-append p earlier (e ∷ []) in omega (arith, a)
 
+-- An index that the earlier replies count is counted with one reply more.
 still-counted : (earlier : List Entry) (e x : Entry) → is_counted earlier x ≡ true → is_counted (earlier ++ e ∷ []) x ≡ true
 still-counted earlier e x h =
     more x.reply.index (count_by (is_with x.reply.round x.reply.who) earlier) (count_by (is_with x.reply.round x.reply.who) (earlier ++ e ∷ [])) h (count-grows (is_with x.reply.round x.reply.who) earlier e)
@@ -194,6 +212,7 @@ still-counted earlier e x h =
     more : (i m n : ℕ) → nat_le i m ≡ true → m ≤ n → nat_le i n ≡ true
     more i m n h k = grind (arith, nat_tests, h, k)
 
+-- The next reply's own index is counted with that reply.
 own-counted : (earlier : List Entry) (e : Entry) → e.reply.index ≡ 1 + count_by (is_with e.reply.round e.reply.who) earlier → is_counted (earlier ++ e ∷ []) e ≡ true
 own-counted earlier e index =
     let whole = count-append (is_with e.reply.round e.reply.who) earlier (e ∷ []) in
@@ -204,6 +223,7 @@ own-counted earlier e index =
     up-to : (i n : ℕ) → i ≤ n → nat_le i n ≡ true
     up-to i n h = grind (arith, nat_tests, h)
 
+-- The order is kept where what is due next has its reply.
 take-ordered : (tables : List TableDecl) (due : Due) (dues : List Due) (earlier : List Entry) (told : Said) → Ordered (due ∷ dues) earlier → Ordered dues (earlier ++ entry_behind tables earlier due told ∷ [])
 take-ordered tables due dues earlier told h =
     let e = entry_behind tables earlier due told in
@@ -219,6 +239,7 @@ take-ordered tables due dues earlier told h =
       indexes = all-push (is_counted (earlier ++ e ∷ [])) earlier e (all-weaker (is_counted earlier) (is_counted (earlier ++ e ∷ [])) (still-counted earlier e) earlier h.indexes) (own-counted earlier e refl);
     }
 
+-- All pass a test that everything passes.
 all-any : {X : Type 0} (xs : List X) → list_all (λ x. true) xs ≡ true
 all-any [] = refl
 all-any (x ∷ xs) = all-any xs
@@ -236,9 +257,11 @@ read-rise tables dues lines entries rise is =
 abbrev may_open : List Entry → Due → Said → Bool
 may_open earlier due told = is_none (snapshot_in told) || not (is_within due.who earlier || is_upkeep due.command)
 
+-- What is said opens no transaction.
 abbrev opens_none : Said → Bool
 opens_none told = is_none (snapshot_in told)
 
+-- A row that is found, or none, opens no transaction.
 rows-open-none : (f : List Cell → Bool) (o : Option (List Cell)) → list_all opens_none (option_map_or (λ row. if f row then said.Found row ∷ [] else []) o []) ≡ true
 rows-open-none f None = refl
 rows-open-none f (Some row) = by (f row)
@@ -247,6 +270,7 @@ rows-open-none f (Some row) = by (f row)
     by true = refl
     by false = refl
 
+-- The refusal of an export for a key, or none, opens no transaction.
 dirty-open-none : (b : Bool) (key : ℤ) → list_all opens_none (if b then said.Dirty key ∷ [] else []) ≡ true
 dirty-open-none true key = refl
 dirty-open-none false key = refl
@@ -268,6 +292,7 @@ within-none tables words behind (command.Compact table) = refl
 within-none tables words behind (command.Seal table block) = refl
 within-none tables words behind (command.Gather table block) = refl
 
+-- Where all of a list pass a test, all that are kept of it do.
 all-filter : {X : Type 0} (p q : X → Bool) (xs : List X) → list_all p xs ≡ true → list_all p (filter q xs) ≡ true
 all-filter p q [] h = refl
 all-filter p q (x ∷ xs) h =
@@ -278,6 +303,7 @@ all-filter p q (x ∷ xs) h =
     by true here rest = and_from (p x) (list_all p (filter q xs)) here rest
     by false here rest = rest
 
+-- What is listed for what is due opens a transaction only where that may be.
 may-by : (tables : List TableDecl) (earlier : List Entry) (due : Due) (words : List (List ℕ)) (behind : List (List ℕ)) (b : Bool) → (is_within due.who earlier || is_upkeep due.command) ≡ b
     → list_all (may_open earlier due) (if b then replies_within tables words behind due.command else replies_without words due.command) ≡ true
 may-by tables earlier due words behind true is =
@@ -287,12 +313,14 @@ may-by tables earlier due words behind false is =
     all-weaker (λ told. true) (may_open earlier due) (λ told h. or_right (is_none (snapshot_in told)) (not (is_within due.who earlier || is_upkeep due.command)) (ap not is))
     (replies_without words due.command) (all-any (replies_without words due.command))
 
+-- What may stand where a reply is due opens a transaction only where that may be.
 may-allowed : (tables : List TableDecl) (earlier : List Entry) (due : Due) (words : List (List ℕ)) (behind : List (List ℕ)) → list_all (may_open earlier due) (replies_due tables earlier due words behind) ≡ true
 may-allowed tables earlier due words behind =
     all-filter (may_open earlier due) (λ told. not (is_worker due.who && is_silent told))
     (if is_within due.who earlier || is_upkeep due.command then replies_within tables words behind due.command else replies_without words due.command)
     (may-by tables earlier due words behind (is_within due.who earlier || is_upkeep due.command) refl)
 
+-- A list with nothing behind it is itself.
 append-none : {X : Type 0} (xs : List X) → xs ++ [] ≡ xs
 append-none [] = refl
 append-none (x ∷ xs) = ap (λ ys. x ∷ ys) (append-none xs)
@@ -301,14 +329,17 @@ append-none (x ∷ xs) = ap (λ ys. x ∷ ys) (append-none xs)
 abbrev Opens : List Entry → Entry → Type 0
 Opens front entry = is_some (snapshot_in entry.reply.said) ≡ true → (is_within entry.reply.who front ≡ false) × (is_worker entry.reply.who ≡ false)
 
+-- Each of the replies behind a front opens a transaction only where its session is in none.
 abbrev Outside : List Entry → List Entry → Type 0
 Outside front [] = Unit {0}
 Outside front (entry ∷ entries) = Opens front entry × Outside (front ++ entry ∷ []) entries
 
+-- With one reply more that opens only where it may, all behind the front do so.
 outside-push : (front xs : List Entry) (e : Entry) → Outside front xs → Opens (front ++ xs) e → Outside front (xs ++ e ∷ [])
 outside-push front [] e h k = (subst (λ (es : List Entry). Opens es e) (append-none front) k, tt)
 outside-push front (x ∷ xs) e h k = (h.0, outside-push (front ++ x ∷ []) xs e h.1 (subst (λ (es : List Entry). Opens es e) (sym (append_assoc front (x ∷ []) xs)) k))
 
+-- A reply among those behind a front opens a transaction only where it may.
 outside-at : (front ahead : List Entry) (entry : Entry) (rest : List Entry) → Outside front (ahead ++ entry ∷ rest) → Opens (front ++ ahead) entry
 outside-at front [] entry rest h = subst (λ (es : List Entry). Opens es entry) (sym (append-none front)) h.0
 outside-at front (x ∷ ahead) entry rest h = subst (λ (es : List Entry). Opens es entry) (append_assoc front (x ∷ []) ahead) (outside-at (front ++ x ∷ []) ahead entry rest h.1)
@@ -317,9 +348,11 @@ pub record Opening (dues : List Due) (earlier : List Entry) : Type 0 where
   pub outside : Outside [] earlier
   pub upkeep : list_all is_upkeep_due dues ≡ true
 
+-- What is asked of openings is kept where what is due next is passed over.
 skip-opening : (due : Due) (dues : List Due) (earlier : List Entry) → Opening (due ∷ dues) earlier → Opening dues earlier
 skip-opening due dues earlier h = record { outside = h.outside; upkeep = (and_parts (is_upkeep_due due) (list_all is_upkeep_due dues) h.upkeep).1 }
 
+-- What may open a transaction, and does, is to a session that is in none.
 opens-by : (earlier : List Entry) (due : Due) (told : Said) → may_open earlier due told ≡ true → is_upkeep_due due ≡ true → is_some (snapshot_in told) ≡ true → (is_within due.who earlier ≡ false) × (is_worker due.who ≡ false)
 opens-by earlier due told may upkeep some = from (or_cases (is_none (snapshot_in told)) (not (is_within due.who earlier || is_upkeep due.command)) may)
   where
@@ -337,6 +370,7 @@ opens-by earlier due told may upkeep some = from (or_cases (is_none (snapshot_in
     from (inl none) = absurd (none-some (snapshot_in told) none some)
     from (inr apart) = kept (is_within due.who earlier) (is_upkeep due.command) (is_worker due.who) (not-true (is_within due.who earlier || is_upkeep due.command) apart) upkeep
 
+-- What is asked of openings is kept where what is due next has its reply.
 take-opening : (tables : List TableDecl) (due : Due) (dues : List Due) (earlier : List Entry) (told : Said) → may_open earlier due told ≡ true → Opening (due ∷ dues) earlier → Opening dues (earlier ++ entry_behind tables earlier due told ∷ [])
 take-opening tables due dues earlier told may h =
     let parts = and_parts (is_upkeep_due due) (list_all is_upkeep_due dues) h.upkeep in

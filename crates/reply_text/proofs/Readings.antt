@@ -24,6 +24,7 @@ use Rattle.reply_text.proofs.SaidSound.{said_is, row_is, row_words}
 
 -- Rows.
 
+-- Lines that are joined by line feeds, with an empty one behind, are their text.
 joined_lines : (lines : List (List ℕ)) → join_with_byte line_feed (lines ++ [] ∷ []) ≡ lines_text lines
 joined_lines [] = refl
 joined_lines (line ∷ []) = sym (append-nil (line ++ line_feed ∷ []))
@@ -33,6 +34,7 @@ record AreRows (lines : List (List ℕ)) (rows : List (List Cell)) : Type 0 wher
   fit : list_all is_row rows ≡ true
   text : lines ≡ map row_line rows ++ [] ∷ []
 
+-- A line that is read as a row is the row's, and those behind it are the other rows'.
 row_at : (line : List ℕ) (rest : List (List ℕ)) (rows : List (List Cell)) → ((more : List (List Cell)) → rows_in rest ≡ Some more → AreRows rest more)
     → (behind (codes "| ") line >>= row_in >>= λ row. rows_in rest >>= λ more. Some (row ∷ more)) ≡ Some rows → AreRows (line ∷ rest) rows
 row_at line rest rows later e =
@@ -45,6 +47,7 @@ row_at line rest rows later e =
     let text : line ≡ row_line row = behind_is (codes "| ") line cells bar ∙ sym (row_words (codes "|") row cells r) in
     subst (AreRows (line ∷ rest)) same (record { fit = joined r.fits m.fit; text = ap (λ (l : List ℕ). l ∷ rest) text ∙ ap (λ (ls : List (List ℕ)). row_line row ∷ ls) m.text }))))
 
+-- Lines that are read as rows are the lines of these rows.
 rows_are : (lines : List (List ℕ)) (rows : List (List Cell)) → rows_in lines ≡ Some rows → AreRows lines rows
 rows_are [] rows e = absurd cc
 rows_are ([] ∷ []) rows e = let same : [] ≡ rows = cc in subst (AreRows ([] ∷ [])) same (record { fit = refl; text = refl })
@@ -59,6 +62,7 @@ record IsTold (tables : List TableDecl) (told : Said) (words others : List ℕ) 
   text : spaced (said_words tables told) ≡ words
   lines : lines_text (lines_behind told) ≡ others
 
+-- What is read of a scan's words and lines says them, and fits.
 scanned_is : (tables : List TableDecl) (word others words : List ℕ) (told : Said) → words ≡ codes "rows " ++ word → scanned_in word others ≡ Some told → IsTold tables told words others
 scanned_is tables word others words told at e =
     step (u64_in word) _ told e (λ count counted e1.
@@ -73,22 +77,26 @@ scanned_is tables word others words told at e =
       lines = sym (joined_lines (map row_line rows)) ∙ ap (join_with_byte line_feed) (sym r.text) ∙ parts_joined line_feed others;
     })))
 
+-- What is read of words without lines behind them says them, and fits.
 alone_is : (tables : List TableDecl) (words others : List ℕ) (told : Said) (last : Bool) → bytes_eq others [] ≡ last → (if last then said_in tables words else None) ≡ Some told → IsTold tables told words others
 alone_is tables words others told true is e =
     let t = said_is tables words told e in
     record { fits = t.fits; text = t.text; lines = ap lines_text t.alone ∙ sym (eq_of others [] is) }
 alone_is tables words others told false is e = absurd cc
 
+-- What is read of words says them, by whether they begin as a scan's do.
 told_by : (tables : List TableDecl) (words others : List ℕ) (told : Said) (o : Option (List ℕ)) → behind (codes "rows ") words ≡ o
     → elim o [ Some word ↦ scanned_in word others | None ↦ if bytes_eq others [] then said_in tables words else None ] ≡ Some told → IsTold tables told words others
 told_by tables words others told (Some word) at e = scanned_is tables word others words told (behind_is (codes "rows ") words word at) e
 told_by tables words others told None at e = alone_is tables words others told (bytes_eq others []) refl e
 
+-- What is read of words and the lines behind them says them, and fits.
 told_is : (tables : List TableDecl) (words others : List ℕ) (told : Said) → told_in tables words others ≡ Some told → IsTold tables told words others
 told_is tables words others told e = told_by tables words others told (behind (codes "rows ") words) refl e
 
 -- What stands before it.
 
+-- Whom a word names has this word as text, by whether it begins with the mark of a worker.
 who_by : (word : List ℕ) (who : Who) (o : Option (List ℕ)) → behind (codes "w") word ≡ o → elim o [ Some digits ↦ option_map Worker (u32_in digits) | None ↦ option_map Session (u32_in word) ] ≡ Some who → (who_text who ≡ word) × (is_who who ≡ true)
 who_by word who (Some digits) at e = mapped Worker (u32_in digits) who e (λ n read same.
     let u = u32_is digits n read in

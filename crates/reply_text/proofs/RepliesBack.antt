@@ -28,12 +28,14 @@ no_mark (first ∷ rest) begins =
     let other : first == 119 ≡ false = ne_eqb first 119 (λ e. omega (arith, e, same, begins.most)) in
     rw other refl
 
+-- A session or worker is read back from its text.
 who_back : (who : Who) → is_who who ≡ true → who_in (who_text who) ≡ Some who
 who_back (Session n) fits =
     ap (λ (o : Option (List ℕ)). elim o as (λ x. Option Who) [ Some digits ↦ option_map Worker (u32_in digits) | None ↦ option_map Session (u32_in (decimal n)) ]) (no_mark (decimal n) (decimal_begins n (u32_small n fits)))
     ∙ ap (option_map Session) (u32_back n fits)
 who_back (Worker n) fits = ap (option_map Worker) (u32_back n fits)
 
+-- The text of a session or worker has plain bytes alone.
 who_plain : (who : Who) → is_who who ≡ true → list_all is_plain (who_text who) ≡ true
 who_plain (Session n) fits = u32_plain n fits
 who_plain (Worker n) fits = u32_plain n fits
@@ -44,6 +46,7 @@ record AreReply (tables : List TableDecl) (reply : ReplyLine) : Type 0 where
   index : is_u64 reply.index ≡ true
   told : is_said tables reply.said ≡ true
 
+-- A reply over tables has a round, someone, an index and words that fit.
 reply_parts : (tables : List TableDecl) (reply : ReplyLine) → is_reply tables reply ≡ true → AreReply tables reply
 reply_parts tables reply fits =
     let b = both (is_u32 reply.round && is_who reply.who && is_u64 reply.index) (is_said tables reply.said) fits in
@@ -68,6 +71,7 @@ head_back round index who words a b c =
     (gives (cut 32 (decimal index ++ 32 ∷ words)) _ head (decimal index, words) (word_cut (decimal index) words (u64_plain index c))
     (gives (u64_in (decimal index)) _ head index (u64_back index c) refl)))))
 
+-- A head with words that have no line feed has none.
 head_whole : (round index : ℕ) (who : Who) (words : List ℕ) → is_u32 round ≡ true → is_who who ≡ true → is_u64 index ≡ true → is_whole words ≡ true → is_whole (head_text round who index words) ≡ true
 head_whole round index who words a b c whole =
     whole_append (decimal round) (32 ∷ (who_text who ++ 32 ∷ (decimal index ++ 32 ∷ words))) (plain_whole (decimal round) (u32_plain round a))

@@ -25,6 +25,7 @@ pub integer_plain : (z : ℤ) → nat_lt (magnitude z) (2 ^ 64) ≡ true → lis
 integer_plain (pos n) small = signed_plain (pos n) (ltb-true n (2 ^ 64) small)
 integer_plain (negsuc n) small = signed_plain (negsuc n) (ltb-true (n + 1) (2 ^ 64) small)
 
+-- The text of a cell of replies is a word.
 cell_word : (cell : Cell) → is_cell cell ≡ true → IsWord (cell_text cell)
 cell_word Null fits = plain_word (codes "null") refl
 cell_word (Num z) fits = plain_word (signed_decimal z) (integer_plain z fits)
@@ -33,6 +34,7 @@ cell_word (Truth false) fits = plain_word (codes "false") refl
 cell_word (Text text) fits = text_word text
 cell_word (Blob bytes) fits = blob_word bytes
 
+-- The texts of cells of replies are words.
 are_words : (cells : List Cell) → list_all is_cell cells ≡ true → AreWords (cell_words cells)
 are_words [] fit = tt
 are_words (cell ∷ cells) fit = let b = both (is_cell cell) (list_all is_cell cells) fit in (cell_word cell b.0, are_words cells b.1)
@@ -47,10 +49,12 @@ pub row_whole : (front : List ℕ) (row : List Cell) → IsWord front → is_row
 row_whole front [] is fits = absurd cc
 row_whole front (key ∷ cells) is fits = words_whole (front ∷ cell_words (key ∷ cells)) (is, are_words (key ∷ cells) fits)
 
+-- A row is read back from its line.
 line_back : (row : List Cell) → is_row row ≡ true → (behind (codes "| ") (row_line row) >>= row_in) ≡ Some row
 line_back [] fits = absurd cc
 line_back (key ∷ cells) fits = row_back (key ∷ cells) fits
 
+-- Rows are read back from their lines, with an empty one behind.
 rows_back : (rows : List (List Cell)) → list_all is_row rows ≡ true → rows_in (map row_line rows ++ [] ∷ []) ≡ Some rows
 rows_back [] fit = refl
 rows_back (row ∷ rows) fit =
@@ -60,6 +64,7 @@ rows_back (row ∷ rows) fit =
     ∙ gives (behind (codes "| ") (row_line row) >>= row_in) (λ one. rows_in rest >>= λ more. Some (one ∷ more)) (Some (row ∷ rows)) row (line_back row b.0)
     (gives (rows_in rest) (λ more. Some (row ∷ more)) (Some (row ∷ rows)) rows (rows_back rows b.1) refl)
 
+-- The text of rows is parted at line feeds into their lines, with an empty one behind.
 parts_back : (rows : List (List Cell)) → list_all is_row rows ≡ true → parts line_feed (lines_text (map row_line rows)) ≡ map row_line rows ++ [] ∷ []
 parts_back [] fit = refl
 parts_back (row ∷ rows) fit =

@@ -47,6 +47,7 @@ word_cut word rest plain = cut_back 32 word rest (plain_apart word plain)
 
 -- Which of the readers a reply's bytes come to.
 
+-- Where the first of two readings has nothing, the second counts.
 passed_by : (one other : Option Said) → one ≡ None → first_of one other ≡ other
 passed_by one other none = ap (λ (o : Option Said). first_of o other) none
 
@@ -54,29 +55,35 @@ passed_by one other none = ap (λ (o : Option Said). first_of o other) none
 abbrev IsOther : List ℕ → Type 0
 IsOther bytes = (behind (codes "rows ") bytes ≡ None) × (answer_in bytes ≡ None) × (refusal_in bytes ≡ None)
 
+-- Bytes of no scan and no words alone are read as a count, of a place or as a row.
 said_of : (tables : List TableDecl) (bytes : List ℕ) → IsOther bytes → told_in tables bytes [] ≡ first_of (opened_in counts bytes) (first_of (opened_in (places tables) bytes) (found_in bytes))
 said_of tables bytes other =
     ap (λ (o : Option (List ℕ)). elim o as (λ x. Option Said) [ Some word ↦ scanned_in word [] | None ↦ said_in tables bytes ]) other.0
     ∙ passed_by (answer_in bytes) _ other.1 ∙ passed_by (refusal_in bytes) _ other.2
 
+-- What is read as a count is what the bytes say, where they are no others.
 counted : (tables : List TableDecl) (bytes : List ℕ) (told : Said) → IsOther bytes → opened_in counts bytes ≡ Some told → told_in tables bytes [] ≡ Some told
 counted tables bytes told other is = said_of tables bytes other ∙ ap (λ (o : Option Said). first_of o (first_of (opened_in (places tables) bytes) (found_in bytes))) is
 
+-- What is read as of a place is what the bytes say, where they are no count.
 placed : (tables : List TableDecl) (bytes : List ℕ) (told : Said) → IsOther bytes → opened_in counts bytes ≡ None → opened_in (places tables) bytes ≡ Some told → told_in tables bytes [] ≡ Some told
 placed tables bytes told other none is =
     said_of tables bytes other ∙ passed_by (opened_in counts bytes) _ none ∙ ap (λ (o : Option Said). first_of o (found_in bytes)) is
 
 -- Replies of one number.
 
+-- A reply of one number of 64 bits is read back from its words.
 number_back : (tables : List TableDecl) (front : List ℕ) (make : ℕ → Said) (n : ℕ) → is_u64 n ≡ true → IsOther (front ++ decimal n) → opened_in counts (front ++ decimal n) ≡ option_map make (u64_in (decimal n))
     → told_in tables (front ++ decimal n) [] ≡ Some (make n)
 number_back tables front make n fits other opens = counted tables (front ++ decimal n) (make n) other (opens ∙ ap (option_map make) (u64_back n fits))
 
+-- A conflict with a session is read back from its words.
 session_back : (tables : List TableDecl) (n : ℕ) → is_u32 n ≡ true → told_in tables (codes "conflict session " ++ decimal n) [] ≡ Some (said.ConflictSession n)
 session_back tables n fits =
     counted tables (codes "conflict session " ++ decimal n) (said.ConflictSession n) (refl, refl, refl)
     (let opens : opened_in counts (codes "conflict session " ++ decimal n) ≡ option_map said.ConflictSession (u32_in (decimal n)) = refl in opens ∙ ap (option_map said.ConflictSession) (u32_back n fits))
 
+-- The refusal of an export for a key is read back from its words.
 dirty_back : (tables : List TableDecl) (key : ℤ) → is_key_number key ≡ true → told_in tables (codes "dirty " ++ signed_decimal key) [] ≡ Some (said.Dirty key)
 dirty_back tables key fits =
     counted tables (codes "dirty " ++ signed_decimal key) (said.Dirty key) (refl, refl, refl)
@@ -90,6 +97,7 @@ no_dash (first ∷ rest) begins =
     let other : 45 == first ≡ false = ne_eqb 45 first (λ e. omega (arith, e, same, begins.least)) in
     rw other refl
 
+-- A commit with a number is read back from its words.
 committed_back : (tables : List TableDecl) (n : ℕ) → is_u64 n ≡ true → told_in tables (codes "committed " ++ decimal n) [] ≡ Some (said.Committed (Some n))
 committed_back tables n fits =
     number_back tables (codes "committed ") (λ k. said.Committed (Some k)) n fits (refl, no_dash (decimal n) (decimal_begins n (ltb-true n (2 ^ 64) fits)), refl) refl
@@ -101,6 +109,7 @@ record IsNamed (tables : List TableDecl) (place : ℕ) : Type 0 where
   plain : list_all is_plain (name_of_table tables place) ≡ true
   found : table_in tables (name_of_table tables place) ≡ Some place
 
+-- A table's name is plain, and is found at the table's place.
 name_back : (tables : List TableDecl) (place : ℕ) → are_tables tables ≡ true → is_table_place tables place ≡ true → IsNamed tables place
 name_back tables place are is =
     let b = both (list_all is_table tables) (have_own_names tables) are in
@@ -116,6 +125,7 @@ record AreBlock (tables : List TableDecl) (table block number : ℕ) : Type 0 wh
   block_fits : is_u32 block ≡ true
   number_fits : is_u32 number ≡ true
 
+-- The table, block and number of a reply about a block fit where all together do.
 block_parts : (tables : List TableDecl) (table block number : ℕ) → (is_table_place tables table && is_u32 block && is_u32 number) ≡ true → AreBlock tables table block number
 block_parts tables table block number fits =
     let b = both (is_table_place tables table && is_u32 block) (is_u32 number) fits in
@@ -126,6 +136,7 @@ block_parts tables table block number fits =
 abbrev block_text : List TableDecl → ℕ → ℕ → ℕ → List ℕ
 block_text tables table block number = name_of_table tables table ++ 32 ∷ (decimal block ++ 32 ∷ decimal number)
 
+-- A reply about a block is read back from the block's words.
 block_back : (tables : List TableDecl) (make : ℕ → ℕ → ℕ → Said) (table block number : ℕ) → are_tables tables ≡ true → AreBlock tables table block number
     → block_in tables make (block_text tables table block number) ≡ Some (make table block number)
 block_back tables make table block number are parts =
@@ -142,6 +153,7 @@ record AreExport (number rows batches frozen : ℕ) : Type 0 where
   batches_fit : is_u32 batches ≡ true
   frozen_fit : is_u32 frozen ≡ true
 
+-- The four numbers of an export fit where all together do.
 export_parts : (number rows batches frozen : ℕ) → (is_u64 number && is_u64 rows && is_u32 batches && is_u32 frozen) ≡ true → AreExport number rows batches frozen
 export_parts number rows batches frozen fits =
     let b = both (is_u64 number && is_u64 rows && is_u32 batches) (is_u32 frozen) fits in
@@ -153,12 +165,15 @@ export_parts number rows batches frozen fits =
 abbrev frozen_text : ℕ → List ℕ
 frozen_text frozen = codes "frozen " ++ decimal frozen
 
+-- The words of an export from its batches on.
 abbrev batches_text : ℕ → ℕ → List ℕ
 batches_text batches frozen = codes "batches " ++ (decimal batches ++ 32 ∷ frozen_text frozen)
 
+-- The words of an export from its rows on.
 abbrev rows_text : ℕ → ℕ → ℕ → List ℕ
 rows_text rows batches frozen = codes "rows " ++ (decimal rows ++ 32 ∷ batches_text batches frozen)
 
+-- An export is read back from its words.
 export_back : (number rows batches frozen : ℕ) → AreExport number rows batches frozen → exported_in (decimal number ++ 32 ∷ rows_text rows batches frozen) ≡ Some (said.Exported number rows batches frozen)
 export_back number rows batches frozen fits =
     let told : Option Said = Some (said.Exported number rows batches frozen) in
@@ -172,6 +187,7 @@ export_back number rows batches frozen fits =
 
 -- Replies with rows.
 
+-- A row that was found is read back from its words.
 row_said : (tables : List TableDecl) (row : List Cell) → is_row row ≡ true → told_in tables (spaced (codes "row" ∷ cell_words row)) [] ≡ Some (said.Found row)
 row_said tables [] fits = absurd cc
 row_said tables (key ∷ cells) fits =
@@ -179,6 +195,7 @@ row_said tables (key ∷ cells) fits =
     let opens : found_in bytes ≡ option_map said.Found (row_in (spaced (cell_words (key ∷ cells)))) = refl in
     said_of tables bytes (refl, refl, refl) ∙ passed_by (opened_in counts bytes) _ refl ∙ passed_by (opened_in (places tables) bytes) _ refl ∙ opens ∙ ap (option_map said.Found) (row_back (key ∷ cells) fits)
 
+-- A scan's rows are read back from its count and their lines.
 scan_said : (tables : List TableDecl) (rows : List (List Cell)) → (is_u64 (length rows) && list_all is_row rows) ≡ true
     → told_in tables (codes "rows " ++ decimal (length rows)) (lines_text (map row_line rows)) ≡ Some (said.Scanned rows)
 scan_said tables rows fits =
@@ -233,18 +250,21 @@ said_back tables said.Memory are fits = refl
 pub plain_whole : (word : List ℕ) → list_all is_plain word ≡ true → is_whole word ≡ true
 plain_whole word plain = let w = plain_word word plain in w.whole
 
+-- The words of a block have no line feed among them.
 block_whole : (tables : List TableDecl) (table block number : ℕ) → are_tables tables ≡ true → AreBlock tables table block number → is_whole (block_text tables table block number) ≡ true
 block_whole tables table block number are parts =
     let n = name_back tables table are parts.table_fits in
     whole_append (name_of_table tables table) (32 ∷ (decimal block ++ 32 ∷ decimal number)) (plain_whole (name_of_table tables table) n.plain)
     (whole_append (decimal block) (32 ∷ decimal number) (plain_whole (decimal block) (u32_plain block parts.block_fits)) (plain_whole (decimal number) (u32_plain number parts.number_fits)))
 
+-- The words of an export have no line feed among them.
 export_whole : (number rows batches frozen : ℕ) → AreExport number rows batches frozen → is_whole (decimal number ++ 32 ∷ rows_text rows batches frozen) ≡ true
 export_whole number rows batches frozen fits =
     whole_append (decimal number) (32 ∷ rows_text rows batches frozen) (plain_whole (decimal number) (u64_plain number fits.number_fits))
     (whole_append (decimal rows) (32 ∷ batches_text batches frozen) (plain_whole (decimal rows) (u64_plain rows fits.rows_fit))
     (whole_append (decimal batches) (32 ∷ frozen_text frozen) (plain_whole (decimal batches) (u32_plain batches fits.batches_fit)) (plain_whole (decimal frozen) (u32_plain frozen fits.frozen_fit))))
 
+-- The digits of a number of 64 bits have no line feed among them.
 u64_whole : (n : ℕ) → is_u64 n ≡ true → is_whole (decimal n) ≡ true
 u64_whole n fits = plain_whole (decimal n) (u64_plain n fits)
 

@@ -31,10 +31,12 @@ pub record Tells (tables : List TableDecl) (told : Said) (bytes : List ℕ) : Ty
 abbrev Plain : List TableDecl → Said → Type 0
 Plain tables told = (is_said tables told ≡ true) × (said_words tables told ≡ said_words [] told) × (lines_behind told ≡ [])
 
+-- Each of these replies has the same words over any tables.
 abbrev AllPlain : List TableDecl → List Said → Type 0
 AllPlain tables [] = Unit {0}
 AllPlain tables (told ∷ others) = Plain tables told × AllPlain tables others
 
+-- A reply found by its words among those of words alone has this text.
 plain_found : (tables : List TableDecl) (all : List Said) (bytes : List ℕ) (told : Said) → AllPlain tables all → find (λ told. bytes_eq (spaced (said_words [] told)) bytes) all ≡ Some told → Tells tables told bytes
 plain_found tables [] bytes told plain e = absurd cc
 plain_found tables (first ∷ others) bytes told plain e = by (bytes_eq (spaced (said_words [] first)) bytes) refl (plain_found tables others bytes told plain.1) e
@@ -46,21 +48,26 @@ plain_found tables (first ∷ others) bytes told plain e = by (bytes_eq (spaced 
         subst (λ (t : Said). Tells tables t bytes) same first_tells
     by false is later f = later f
 
+-- The answers of words alone have the same words over any tables.
 answers_plain : (tables : List TableDecl) → AllPlain tables answers
 answers_plain tables = ((refl, refl, refl), ((refl, refl, refl), ((refl, refl, refl), ((refl, refl, refl), ((refl, refl, refl), ((refl, refl, refl), ((refl, refl, refl), ((refl, refl, refl), ((refl, refl, refl), ((refl, refl, refl), tt))))))))))
 
+-- The refusals of words alone have the same words over any tables.
 refusals_plain : (tables : List TableDecl) → AllPlain tables refusals
 refusals_plain tables = ((refl, refl, refl), ((refl, refl, refl), ((refl, refl, refl), ((refl, refl, refl), ((refl, refl, refl), ((refl, refl, refl), ((refl, refl, refl), ((refl, refl, refl), tt))))))))
 
 -- Replies that begin with an opening.
 
+-- What is read behind an opening is a reply whose text is the opening and the rest.
 abbrev Sound : List TableDecl → List ℕ × (List ℕ → Option Said) → Type 0
 Sound tables opening = (rest : List ℕ) (told : Said) → opening.1 rest ≡ Some told → Tells tables told (opening.0 ++ rest)
 
+-- What is read behind each of these openings is a reply with its text.
 abbrev AllSound : List TableDecl → Openings → Type 0
 AllSound tables [] = Unit {0}
 AllSound tables (opening ∷ others) = Sound tables opening × AllSound tables others
 
+-- What is read behind one of some sound openings has the bytes as its text.
 opened_is : (tables : List TableDecl) (all : Openings) (bytes : List ℕ) (told : Said) → AllSound tables all → opened_in all bytes ≡ Some told → Tells tables told bytes
 opened_is tables [] bytes told sound e = absurd cc
 opened_is tables (opening ∷ others) bytes told sound e = by (behind opening.0 bytes) refl (opened_is tables others bytes told sound.1) e
@@ -75,17 +82,20 @@ numbered tables front make tells = λ rest told e. mapped make (u64_in rest) tol
     let number = u64_is rest n is in
     subst (λ (t : Said). Tells tables t (front ++ rest)) same (subst (λ (w : List ℕ). Tells tables (make n) (front ++ w)) number.text (tells n number.fits)))
 
+-- A conflict with a session that is read has its text.
 session_sound : (tables : List TableDecl) → Sound tables (codes "conflict session ", λ word. option_map said.ConflictSession (u32_in word))
 session_sound tables = λ rest told e. mapped said.ConflictSession (u32_in rest) told e (λ n is same.
     let number = u32_is rest n is in
     subst (λ (t : Said). Tells tables t (codes "conflict session " ++ rest)) same
     (record { fits = number.fits; text = ap (λ (w : List ℕ). codes "conflict session " ++ w) number.text; alone = refl }))
 
+-- The refusal of an export for a key that is read has its text.
 dirty_sound : (tables : List TableDecl) → Sound tables (codes "dirty ", λ word. option_map said.Dirty (key_in word))
 dirty_sound tables = λ rest told e. mapped said.Dirty (key_in rest) told e (λ key is same.
     let k = key_is rest key is in
     subst (λ (t : Said). Tells tables t (codes "dirty " ++ rest)) same (record { fits = k.1; text = ap (λ (w : List ℕ). codes "dirty " ++ w) k.0; alone = refl }))
 
+-- Each reply of one number that is read has its text.
 counts_sound : (tables : List TableDecl) → AllSound tables counts
 counts_sound tables = (
   numbered tables (codes "at ") said.At (λ n fits. record { fits = fits; text = refl; alone = refl }),
@@ -115,6 +125,7 @@ record Named (tables : List TableDecl) (place : ℕ) (name : List ℕ) : Type 0 
   there : is_table_place tables place ≡ true
   text : name_of_table tables place ≡ name
 
+-- A table that is found by a name is there and has the name.
 table_is : (tables : List TableDecl) (name : List ℕ) (place : ℕ) → table_in tables name ≡ Some place → Named tables place name
 table_is tables name place e =
     let p = position_is (λ (table : TableDecl). bytes_eq table.name name) tables place e in
@@ -123,6 +134,7 @@ table_is tables name place e =
       text = ap (λ (o : Option TableDecl). option_map_or (λ (t : TableDecl). t.name) o []) p.1 ∙ eq_of p.0.name name p.2;
     }
 
+-- A reply about a block that is read has its text.
 block_sound : (tables : List TableDecl) (front : List ℕ) (make : ℕ → ℕ → ℕ → Said)
     → ((table block number : ℕ) → is_said tables (make table block number) ≡ (is_table_place tables table && is_u32 block && is_u32 number))
     → ((table block number : ℕ) → spaced (said_words tables (make table block number)) ≡ front ++ (name_of_table tables table ++ 32 ∷ (decimal block ++ 32 ∷ decimal number)))
@@ -146,6 +158,7 @@ block_sound tables front make fits text alone = λ rest told e.
       alone = alone table place number;
     }))))))
 
+-- An export that is read has its text.
 exported_sound : (tables : List TableDecl) → Sound tables (codes "export ", exported_in)
 exported_sound tables = λ rest told e.
     step (cut 32 rest) _ told e (λ first c1 e1.
@@ -175,6 +188,7 @@ exported_sound tables = λ rest told e.
       alone = refl;
     })))))))))))
 
+-- Each reply about a block or an export that is read has its text.
 places_sound : (tables : List TableDecl) → AllSound tables (places tables)
 places_sound tables = (
   block_sound tables (codes "freezing ") said.Freezing (λ t b n. refl) (λ t b n. refl) (λ t b n. refl),
@@ -195,6 +209,7 @@ pub record IsRowOf (row : List Cell) (bytes : List ℕ) : Type 0 where
   pub others : List (List ℕ)
   pub words : cell_words row ≡ first ∷ others
 
+-- A row whose cells are read of words is a row of the bytes that they make.
 row_by : (words : List (List ℕ)) (row : List Cell) (bytes : List ℕ) → cells_in words ≡ Some row → spaced words ≡ bytes → (words ≡ [] → ⊥) → IsRowOf row bytes
 row_by [] row bytes e text some = absurd (some refl)
 row_by (word ∷ words) [] bytes e text some = absurd (let c = cells_are (word ∷ words) [] e in let f = c.text in cc)
@@ -210,6 +225,7 @@ row_is bytes row e = row_by (words_of bytes) row bytes e (line_joined bytes) (λ
 pub row_words : (front : List ℕ) (row : List Cell) (bytes : List ℕ) → IsRowOf row bytes → spaced (front ∷ cell_words row) ≡ front ++ 32 ∷ bytes
 row_words front row bytes is = ap (λ (ws : List (List ℕ)). spaced (front ∷ ws)) is.words ∙ ap (λ (ws : List (List ℕ)). front ++ 32 ∷ spaced ws) (sym is.words) ∙ ap (λ (w : List ℕ). front ++ 32 ∷ w) is.text
 
+-- A row that is read as found has the bytes as its text.
 found_is : (tables : List TableDecl) (bytes : List ℕ) (told : Said) → found_in bytes ≡ Some told → Tells tables told bytes
 found_is tables bytes told e =
     step (behind (codes "row ") bytes) _ told e (λ cells at e1.
@@ -221,6 +237,7 @@ found_is tables bytes told e =
       alone = refl;
     })))
 
+-- What follows from the find of either reading follows from that of the first that finds.
 one_of : {A P : Type 0} (one other : Option A) (found : A) → first_of one other ≡ Some found → (one ≡ Some found → P) → (other ≡ Some found → P) → P
 one_of (Some value) other found e first second = first e
 one_of None other found e first second = second e

@@ -27,6 +27,7 @@ pub record IsNumber (n : ℕ) (word : List ℕ) (small : Bool) : Type 0 where
   pub text : decimal n ≡ word
   pub fits : small ≡ true
 
+-- A number that is kept for being small was there, and is small.
 small_by : (o : Option ℕ) (n : ℕ) → small_natural o ≡ Some n → (o ≡ Some n) × (is_small n ≡ true)
 small_by None n e = absurd cc
 small_by (Some v) n e = by (is_small v) refl e
@@ -43,6 +44,7 @@ u64_is word n e = let s = small_by (natural_of word) n e in record { text = spel
 pub u64_back : (n : ℕ) → is_u64 n ≡ true → u64_in (decimal n) ≡ Some n
 u64_back n small = rw (natural_back n (ltb-true n (2 ^ 64) small), small) refl
 
+-- A number that is kept for being within a range was there, and is within it.
 within_by : (low high : ℕ) (o : Option ℕ) (n : ℕ) → option_and_then (λ value. if is_within low high value then Some value else None) o ≡ Some n → (o ≡ Some n) × (is_within low high n ≡ true)
 within_by low high None n e = absurd cc
 within_by low high (Some v) n e = by (is_within low high v) refl e
@@ -71,6 +73,7 @@ key_is word key e =
     let w = where_is (is_key_number found) found key f in
     (ap signed_decimal (sym w.1) ∙ spelled_as signed_decimal word (integer_in word) found is, ap is_key_number (sym w.1) ∙ w.0))
 
+-- The magnitude of a key fits 64 bits.
 magnitude_small : (z : ℤ) → is_key_number z ≡ true → nat_lt (magnitude z) (2 ^ 64) ≡ true
 magnitude_small (pos n) is = lt-ltb n (2 ^ 64) (key_small (pos n) is)
 magnitude_small (negsuc n) is = lt-ltb (n + 1) (2 ^ 64) (key_small (negsuc n) is)
@@ -85,6 +88,7 @@ key_back key is = rw (integer_back key (magnitude_small key is), is) refl
 
 -- Cells.
 
+-- An integer that is kept for its small magnitude was there, and has one.
 small_integer_is : (o : Option ℤ) (z : ℤ) → small_integer o ≡ Some z → (o ≡ Some z) × (is_small (magnitude z) ≡ true)
 small_integer_is None z e = absurd cc
 small_integer_is (Some v) z e = by (is_small (magnitude v)) refl e
@@ -98,6 +102,7 @@ pub record Spells (word : List ℕ) (cell : Cell) : Type 0 where
   pub text : cell_text cell ≡ word
   pub fits : is_cell cell ≡ true
 
+-- A truth value that is read has the word as its text.
 truth_is : (word : List ℕ) (truth : Bool) → truth_of word ≡ Some truth → cell_text (Truth truth) ≡ word
 truth_is word truth e = by (bytes_eq word (codes "true")) (bytes_eq word (codes "false")) refl refl e
   where
@@ -106,13 +111,16 @@ truth_is word truth e = by (bytes_eq word (codes "true")) (bytes_eq word (codes 
     by false true y n f = let same : false ≡ truth = cc in ap (λ (t : Bool). cell_text (Truth t)) (sym same) ∙ sym (eq_of word (codes "false") n)
     by false false y n f = absurd cc
 
+-- A text that is read has the word as its quoted form.
 text_is : (word text : List ℕ) → text_of word ≡ Some text → quoted text ≡ word
 text_is word text e = spelled_as quoted word (text_in word) text (text_spelled word ∙ e)
 
+-- What a word marks as bytes are bytes where the word is their mark.
 blob_small : (word : List ℕ) → marked (blob_in word) ≡ word → are_bytes (blob_in word) ≡ true
 blob_small [] e = absurd cc
 blob_small (mark ∷ digits) e = let rest : flat_map hex_digits (bytes_of_digits digits) ≡ digits = cc in digits_small digits rest
 
+-- Bytes that are read are what the word spells.
 blob_is : (word bytes : List ℕ) → blob_of word ≡ Some bytes → Spells word (Blob bytes)
 blob_is word bytes e =
     let s : spelled marked word (blob_in word) ≡ Some bytes = blob_spelled word ∙ e in
@@ -120,12 +128,14 @@ blob_is word bytes e =
     let text : marked bytes ≡ word = spelled_as marked word (blob_in word) bytes s in
     record { text = text; fits = ap are_bytes (sym same) ∙ blob_small word (ap marked same ∙ text) }
 
+-- A number that is read is what the word spells.
 number_is : (word : List ℕ) (cell : Cell) → option_map Num (small_integer (integer_of word)) ≡ Some cell → Spells word cell
 number_is word cell e =
     mapped Num (small_integer (integer_of word)) cell e (λ z is same.
     let s = small_integer_is (integer_of word) z is in
     record { text = ap cell_text (sym same) ∙ spelled_as signed_decimal word (integer_in word) z s.0; fits = ap is_cell (sym same) ∙ s.1 })
 
+-- A value that is read is what the word spells.
 value_is : (word : List ℕ) (cell : Cell) → value_in word ≡ Some cell → Spells word cell
 value_is word cell e = by (truth_of word) (text_of word) (blob_of word) refl refl refl e
   where
@@ -151,15 +161,19 @@ no_word word text first rest begins is high = other_bytes word text (λ e.
     let equal : begins.first ≡ first = cc in
     omega (arith, equal, begins.most, high))
 
+-- A word that is neither of the two truth values is none.
 no_truth : (word : List ℕ) → bytes_eq word (codes "true") ≡ false → bytes_eq word (codes "false") ≡ false → truth_of word ≡ None
 no_truth word a b = ap (λ (y : Bool). if y then Some true else if bytes_eq word (codes "false") then Some false else None) a ∙ ap (λ (y : Bool). if y then Some false else None) b
 
+-- A word that does not begin with a quote is no text.
 no_text : (first : ℕ) (rest : List ℕ) → first == 34 ≡ false → text_of (first ∷ rest) ≡ None
 no_text first rest e = rw e refl
 
+-- A word that does not begin with the mark of bytes is none.
 no_blob : (first : ℕ) (rest : List ℕ) → first == 120 ≡ false → blob_of (first ∷ rest) ≡ None
 no_blob first rest e = rw e refl
 
+-- A word of digits is read as a number.
 digits_value : (word : List ℕ) → Begins word → cell_in word ≡ option_map Num (small_integer (integer_of word))
 digits_value [] begins = absurd (let e = begins.is in cc)
 digits_value (first ∷ rest) begins =
@@ -177,6 +191,7 @@ digits_value (first ∷ rest) begins =
     ∙ ap (λ (t : Option (List ℕ)). value_from None t (blob_of (first ∷ rest)) (option_map Num (small_integer (integer_of (first ∷ rest))))) text
     ∙ ap (λ (b : Option (List ℕ)). value_from None None b (option_map Num (small_integer (integer_of (first ∷ rest))))) blob
 
+-- The spelling of an integer with a small magnitude is read as a number.
 number_back : (z : ℤ) → nat_lt (magnitude z) (2 ^ 64) ≡ true → cell_in (signed_decimal z) ≡ option_map Num (small_integer (integer_of (signed_decimal z)))
 number_back (pos n) small = digits_value (decimal n) (decimal_begins n (ltb-true n (2 ^ 64) small))
 number_back (negsuc n) small = refl

@@ -16,6 +16,7 @@ use Rattle.round_laws.specs.Fronts.{FirstLinesAreSo, FirstLinesAsk, FirstRoundsA
 
 -- ---- first lines
 
+-- Of a list nothing is taken where none are to be.
 nothing_taken : {X : Type 0} (xs : List X) → take 0 xs ≡ []
 nothing_taken [] = refl
 nothing_taken (x ∷ xs) = refl
@@ -38,6 +39,7 @@ one_left line kept lines zero true none first = first ∙ nothing_taken lines
 one_left line kept lines (suc count) true none first = absurd (let no : suc count ≡ 0 = none refl in omega (arith, no))
 one_left line kept lines count false none first = first
 
+-- A session's lines among the first lines are its first so many.
 first_are : (session : ℕ) (counts : ℕ → ℕ) (lines : List Line)
     → lines_of session (first_lines counts lines) ≡ take (counts session) (lines_of session lines)
 first_are session counts [] = nothing (counts session)
@@ -76,6 +78,7 @@ first_lines_are_so counts lines session = (
       ∙ take-append-drop (counts session) (lines_of session lines)),
 )
 
+-- The commands of a session are those of its lines.
 asked_of : (session : ℕ) (lines : List Line)
     → commands_of session lines ≡ map (λ (line : Line). line.command) (lines_of session lines)
 asked_of session [] = refl
@@ -113,6 +116,7 @@ kept_pass test counts (line ∷ lines) all =
     go true passes kept left = and_from (test line) (list_all test (first_lines (one_less line.session counts) lines)) passes kept
     go false passes kept left = left
 
+-- A line counts as one where it passes the test, and else as none.
 abbrev counts_one : (Line → Bool) → Line → ℕ
 counts_one test line = cond (test line) 1 0
 
@@ -139,9 +143,11 @@ kept_few test counts (line ∷ lines) = go (nat_lt 0 (counts line.session))
         let low : count_by test (first_lines counts lines) ≤ count_by test (line ∷ lines) = omega (arith, all, left) in
         low
 
+-- The lines of rounds, one round behind the other.
 abbrev lines_in : List (List Line) → List Line
 lines_in rounds = flat_map (λ (round : List Line). round) rounds
 
+-- The line is an export.
 abbrev is_sent : Line → Bool
 is_sent line = is_export line.command
 
@@ -152,6 +158,7 @@ record IsWorkload (script : Script) (rounds : List (List Line)) : Type 0 where
   lines : list_all (is_line script) (lines_in rounds) ≡ true
   once : count_by is_sent (lines_in rounds) ≤ 1
 
+-- A workload that is valid has what is asked of its head, its rounds and its lines.
 parted : (script : Script) → is_valid script ≡ true → IsWorkload script script.rounds
 parted script valid =
     let head : Bool = has_head script in
@@ -168,6 +175,7 @@ parted script valid =
       once = leb-true (count_by is_sent (all_lines script)) 1 three.1;
     }
 
+-- What is asked of a head and of rounds makes a valid workload.
 joined : (script : Script) (rounds : List (List Line)) → IsWorkload script rounds → is_valid (with_rounds rounds script) ≡ true
 joined script rounds is =
     let head : Bool = has_head script in

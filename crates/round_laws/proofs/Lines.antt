@@ -24,6 +24,7 @@ enumerate_append n (x ∷ xs) ys =
     (let z : (n + 1) + length xs ≡ n + length (x ∷ xs) = omega arith in z))
 
 module _ (tables : List TableDecl) (round : ℕ) (who : Who) (calls : List Call) where
+  -- The lines of one's replies in the round, with their numbers.
   abbrev numbered : List (ℕ × Said) → List ReplyLine
   numbered told = map (λ (entry : ℕ × Said). line_of round who entry.0 entry.1) told
 
@@ -38,6 +39,7 @@ module _ (tables : List TableDecl) (round : ℕ) (who : Who) (calls : List Call)
       (enumerate_from 1 (told_by calls))
       (enumerate_from (1 + length (told_by calls)) more)
 
+  -- With one call more the text of a share is followed by the call's line.
   text_more : (told : Option Said)
       → replies_text tables (numbered (enumerate_from 1 (told_by calls ++ cons_option told [])))
       ≡ replies_text tables (lines_told round who calls) ++ line_behind tables round who calls told

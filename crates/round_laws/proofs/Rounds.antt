@@ -45,15 +45,18 @@ behind_all P [] rest all = all
 behind_all P (x ∷ front) rest all = behind_all P front rest (All-tail P x (front ++ rest) all)
 
 module _ (script : Script) (finished now : List Logged) where
+  -- A share was done in the round, behind the finished ones.
   abbrev Done : Share → Type 0
   Done = IsDone
       script
       (occurrences_in (shape_of script) finished)
       (occurrences_from (shape_of script) (replay (shape_of script) (made_in finished)) now)
 
+  -- A share was brought to the end of the round by who did it.
   abbrev Brought : Share → Type 0
   Brought = Brings script finished (finished ++ now)
 
+  -- Shares that were all brought to the end of the round are all done.
   shares_done : (shares : List Share) → All Brought shares → All Done shares
   shares_done [] brought = All-nil Done
   shares_done (share ∷ shares) brought = All-cons Done share shares
@@ -76,6 +79,7 @@ last_round script front (first ∷ rounds) round are is = (
       (subst (λ (made : List Occurrence). IsRound script made round) (sym (append_assoc front first.made (made_by rounds))) is),
 )
 
+-- The events of rounds with one more are theirs and that one's.
 made_append : (rounds : List RoundRun) (round : RoundRun) → made_by (rounds ++ round ∷ []) ≡ made_by rounds ++ round.made
 made_append [] round = append-nil round.made
 made_append (first ∷ rounds) round =

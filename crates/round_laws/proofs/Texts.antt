@@ -39,9 +39,11 @@ abbrev replies_to : ℕ → Who → List Entry → ℕ
 replies_to number who entries =
     count_by (λ (entry : Entry). entry.reply.round == number && is_same entry.reply.who who) entries
 
+-- A reply counts as one where it is of this round to this one.
 abbrev counts : ℕ → Who → Entry → ℕ
 counts number who entry = cond (entry.reply.round == number && is_same entry.reply.who who) 1 0
 
+-- The replies of a round to one among two lists are those of each.
 replies_append : (number : ℕ) (who : Who) (xs ys : List Entry)
     → replies_to number who (xs ++ ys) ≡ replies_to number who xs + replies_to number who ys
 replies_append number who xs ys = sum_by-append (counts number who) xs ys
@@ -83,17 +85,21 @@ round_uncounted tables earlier number (share ∷ shares) other one apart =
 
 -- ---- the text of calls
 
+-- The text of some replies, one behind the other.
 abbrev text_at : List TableDecl → List Entry → List ℕ
 text_at tables entries = replies_text tables (map (λ (entry : Entry). entry.reply) entries)
 
+-- The text of two lists of replies is that of the first and that of the second.
 text_append : (tables : List TableDecl) (xs ys : List Entry) → text_at tables (xs ++ ys) ≡ text_at tables xs ++ text_at tables ys
 text_append tables xs ys =
     ap (replies_text tables) (map-append (λ (entry : Entry). entry.reply) xs ys)
     ∙ flat_map-append (reply_text tables) (map (λ (entry : Entry). entry.reply) xs) (map (λ (entry : Entry). entry.reply) ys)
 
+-- The lines of one's replies in a round, numbered from an index on.
 abbrev lines_from : ℕ → Who → ℕ → List Said → List ReplyLine
 lines_from round who index told = map (λ (entry : ℕ × Said). line_of round who entry.0 entry.1) (enumerate_from index told)
 
+-- With one reply of the round to one there is one more.
 one_more : (number : ℕ) (who : Who) (earlier : List Entry) (entry : Entry) → entry.reply.round ≡ number → entry.reply.who ≡ who
     → replies_to number who (earlier ++ entry ∷ []) ≡ replies_to number who earlier + 1
 one_more number who earlier entry round whose =
@@ -103,6 +109,7 @@ one_more number who earlier entry round whose =
     sum_by_push (counts number who) earlier entry
     ∙ ap (λ b. replies_to number who earlier + cond b 1 0) both
 
+-- The text of the printed replies of calls is that of what they told, numbered on.
 calls_text : (tables : List TableDecl) (earlier : List Entry) (number : ℕ) (who : Who) (calls : List Call)
     → text_at tables (printed_in (lined tables earlier number who calls))
     ≡ replies_text tables (lines_from number who (1 + replies_to number who earlier) (told_by calls))
@@ -125,6 +132,7 @@ calls_text tables earlier number who (call ∷ calls) = go call.told (λ behind.
 
 -- ---- the text of a round
 
+-- The text of the printed replies of a round's shares is the round's text.
 shares_text : (script : Script) (lines : List Line) (earlier : List Entry) (number a n : ℕ) (shares : List Share)
     → Aligned script lines a n shares
     → ((q : ℕ) → a ≤ q → replies_to number (who_at script q) earlier ≡ 0)
@@ -162,14 +170,17 @@ shares_text script lines earlier number a (suc n) (share ∷ shares) al none =
         apart false e = e
         apart true e = absurd (let same : a ≡ q = same_seat script a q e in omega (arith, same, low))
 
+-- Lists of agendas that are one begin with the same agendas.
 heads : (a b : List Agenda) (xs ys : List (List Agenda)) → a ∷ xs ≡ b ∷ ys → a ≡ b
 heads a b xs ys e = cc
 
+-- Lists of agendas that are one go on alike behind the first.
 tails : (a b : List Agenda) (xs ys : List (List Agenda)) → a ∷ xs ≡ b ∷ ys → xs ≡ ys
 tails a b xs ys e = cc
 
 -- ---- the text of rounds
 
+-- The text of the printed replies of rounds is the text of the rounds.
 all_text : (script : Script) (earlier : List Entry) (number : ℕ) (asked : List (List Line)) (rounds : List RoundRun)
     → map (λ (round : RoundRun). map agenda_of round.shares) rounds ≡ map (agendas_in script) asked
     → ((other : ℕ) (who : Who) → number ≤ other → replies_to other who earlier ≡ 0)
@@ -206,15 +217,18 @@ texts_are_lines script asked rounds e =
 
 -- the rounds of a script do not decide what was done in them
 module _ (script : Script) (asked : List (List Line)) where
+  -- A share that was done is done in a script with other rounds.
   share_done : (front made : List Occurrence) (share : Share) → IsDone script front made share → IsDone (with_rounds asked script) front made share
   share_done front made share done = record { events = done.events; calls = done.calls }
 
+  -- Shares that were done are done in a script with other rounds.
   shares_done : (front made : List Occurrence) (shares : List Share) → All (IsDone script front made) shares → All (IsDone (with_rounds asked script) front made) shares
   shares_done front made [] all = All-nil (IsDone (with_rounds asked script) front made)
   shares_done front made (share ∷ shares) all = All-cons (IsDone (with_rounds asked script) front made) share shares
       (share_done front made share (All-head (IsDone script front made) share shares all))
       (shares_done front made shares (All-tail (IsDone script front made) share shares all))
 
+  -- Rounds that were done are done in a script with other rounds.
   rounds_done : (front : List Occurrence) (rounds : List RoundRun) → AreRounds script front rounds → AreRounds (with_rounds asked script) front rounds
   rounds_done front [] are = tt
   rounds_done front (round ∷ rounds) are = (
@@ -238,6 +252,7 @@ rounds_ran script asked rounds finished ran = record {
 
 -- ---- counts of prunings
 
+-- What was told among two lists was told in one of them.
 among_append : (told : Option Said) (xs ys : List (Option Said)) → Among told (xs ++ ys) → Among told xs ⊎ Among told ys
 among_append told [] ys a = inr a
 among_append told (x ∷ xs) ys (inl e) = inl (inl e)
@@ -247,6 +262,7 @@ among_append told (x ∷ xs) ys (inr a) = go (among_append told xs ys a)
     go (inl a) = inl (inr a)
     go (inr a) = inr a
 
+-- Where the prunings' counts of two lists fit, those of both in a row do.
 fit_append : (xs ys : List (Option Said)) → PruningsFit xs → PruningsFit ys → PruningsFit (xs ++ ys)
 fit_append xs ys first second count a = go (among_append (Some (said.Pruned count)) xs ys a)
   where
@@ -254,17 +270,21 @@ fit_append xs ys first second count a = go (among_append (Some (said.Pruned coun
     go (inl a) = first count a
     go (inr a) = second count a
 
+-- Where each call's count of a pruning fits, those of what calls told do.
 calls_fit : (calls : List Call) → All IsCounted calls → PruningsFit (map (λ (call : Call). call.told) calls)
 calls_fit [] all count a = absurd a
 calls_fit (call ∷ calls) all count (inl e) = All-head IsCounted call calls all count (sym e)
 calls_fit (call ∷ calls) all count (inr a) = calls_fit calls (All-tail IsCounted call calls all) count a
 
+-- Each call of the share has a count that fits, if it is of a pruning.
 abbrev EachCounted : Share → Type 0
 EachCounted share = All IsCounted share.calls
 
+-- What the calls of a share told, call by call.
 abbrev share_told : Share → List (Option Said)
 share_told share = map (λ (call : Call). call.told) share.calls
 
+-- Where each call's count of a pruning fits, those of what shares told do.
 shares_fit : (shares : List Share) → All EachCounted shares → PruningsFit (flat_map share_told shares)
 shares_fit [] all = λ count a. absurd a
 shares_fit (share ∷ shares) all = fit_append (share_told share) (flat_map share_told shares)

@@ -48,9 +48,11 @@ works_go_on shape worker session began ended (call ∷ calls) works =
 
 -- ---- one's own events of a log that goes on
 
+-- One's own events of what a log goes on with.
 abbrev own_since : Shape → ℕ → List Logged → List Logged → List Occurrence
 own_since shape session log more = under session (occurrences_from shape (left_by shape (opening shape) log) more)
 
+-- One's own events of a longer log are those of the log and those since.
 own_append : (shape : Shape) (session : ℕ) (log more : List Logged)
     → own_in shape session (log ++ more) ≡ own_in shape session log ++ own_since shape session log more
 own_append shape session log more =
@@ -60,16 +62,20 @@ own_append shape session log more =
     (occurrences_in shape log)
     (occurrences_from shape (left_by shape (opening shape) log) more)
 
+-- Lists of events that are one go on alike behind the first.
 tails : (a b : Occurrence) (xs ys : List Occurrence) → a ∷ xs ≡ b ∷ ys → xs ≡ ys
 tails a b xs ys e = cc
 
+-- A list that is one with something behind it has nothing behind it.
 no_more : (xs ys : List Occurrence) → xs ++ ys ≡ xs → ys ≡ []
 no_more [] ys e = e
 no_more (x ∷ xs) ys e = no_more xs ys (tails x x (xs ++ ys) xs e)
 
+-- A list that begins with an event is not empty.
 no_first : (x : Occurrence) (xs : List Occurrence) → x ∷ xs ≡ [] → ⊥
 no_first x xs e = cc
 
+-- Where two lists in a row have nothing, the first has nothing.
 none_of_none : (xs ys : List Occurrence) → xs ++ ys ≡ [] → xs ≡ []
 none_of_none [] ys e = refl
 none_of_none (x ∷ xs) ys e = absurd (no_first x (xs ++ ys) e)

@@ -47,6 +47,7 @@ reaches sh log shape lawful = reaches_from sh log (opening sh) shape (sound sh s
 -- ---- replies
 
 module _ (sh : Shape) (s : Parts) (ok : Sound sh s) (m : IsolationMachine) (f : FollowsMachine sh s m) where
+  -- A session with an open snapshot at the desk has a transaction in the machine.
   has_one : (q : ℕ) (snapshot : Snapshot) → HasOpen (desk_at sh s) q snapshot → IsSome (transaction_of q m)
   has_one q snapshot has =
       let old = f.follows.desked.begun q snapshot has.counted has.is_open in
@@ -82,6 +83,7 @@ made_step sh s made m shape ok f lawful memory = go made.refused memory
     go true memory = (m, memory_step sh s ok m f made.event lawful (memory refl), f)
     go false memory = steps sh s made.event shape ok lawful m f
 
+-- From a sound core that follows a machine the machine answers a lawful log.
 answered_from : (sh : Shape) (log : List Made) (s : Parts) (m : IsolationMachine) → IsShape sh → Sound sh s → FollowsMachine sh s m → IsLawfulFrom sh s log
     → IsAnsweredFrom sh s m log
 answered_from sh [] s m shape ok f lawful = tt

@@ -34,19 +34,24 @@ use Rattle.undo_chain.proofs.Order.{IsLawful-nil}
 use Rattle.undo_chain.specs.declared.undo.Undo.{Undo}
 use Rattle.undo_chain.specs.Lawful.{IsStampedUpTo}
 
+-- True is not the same as false.
 true_false : true ≡ false → ⊥
 true_false e = cc
 
+-- Nothing is not the same as something.
 none_some : {X : Type 0} (x : X) → None ≡ Some x → ⊥
 none_some x e = cc
 
+-- A number is tested as the same as itself.
 num_refl : (a : ℕ) → (a == a) ≡ true
 num_refl a = grind (arith, nat_tests)
 
+-- Where each of two holds, both do.
 and_self : (a b : Bool) → a ≡ true → b ≡ true → (a && b) ≡ true
 and_self true b x y = y
 and_self false b x y = cc
 
+-- A name is tested as the same as itself.
 name_self : (n : Name) → same_name n n ≡ true
 name_self (HeadOf t) = num_refl t
 name_self (ShardOf t i) = and_self (t == t) (i == i) (num_refl t) (num_refl i)
@@ -63,23 +68,28 @@ part_there f (n ∷ ns) w a = go (same_name n w) refl a (λ b. part_there f ns w
     go false is (inl e) rest = absurd (true_false (sym (ap (λ x. same_name x w) (sym e) ∙ name_self w) ∙ is))
     go false is (inr b) rest = ap (λ b. cond b (Some (f n)) (part_named ns (map f ns) w)) is ∙ rest b
 
+-- Each element of a list of one element many times is that element.
 replicated : {X : Type 0} (n : ℕ) (x : X) (j : ℕ) → get_or (replicate n x) j x ≡ x
 replicated zero x j = refl
 replicated (suc n) x zero = refl
 replicated (suc n) x (suc j) = replicated n x j
 
+-- A list of so many times one element has so many.
 size : {X : Type 0} (n : ℕ) (x : X) → length (replicate n x) ≡ n
 size zero x = refl
 size (suc n) x = ap suc (size n x)
 
+-- What one element has, all of a list of it many times have.
 all_replicated : {X : Type 0} (P : X → Type 0) (n : ℕ) (x : X) → P x → All P (replicate n x)
 all_replicated P zero x p = All-nil P
 all_replicated P (suc n) x p = All-cons P x (replicate n x) p (all_replicated P n x p)
 
+-- Slots that are all bare are tested as bare.
 all_bare : (n : ℕ) → list_all is_bare (replicate n bare) ≡ true
 all_bare zero = refl
 all_bare (suc n) = all_bare n
 
+-- A bare slot is sound at the first stamp and number.
 sound_bare : IsSoundSlot 0 0 bare
 sound_bare = record {
   lawful = IsLawful-nil;
@@ -88,11 +98,13 @@ sound_bare = record {
   sessions = All-nil IsOfSession;
 }
 
+-- Of an empty history each state is empty.
 empty_at : (state : ℕ) → state_at [] state ≡ []
 empty_at zero = refl
 empty_at (suc n) = refl
 
 module _ (sh : Shape) (shape : IsShape sh) where
+  -- The opening core of the shape.
   abbrev s : Parts
   s = opening sh
 
@@ -104,6 +116,7 @@ module _ (sh : Shape) (shape : IsShape sh) where
       go None is = inr is
       go (Some x) is = inl (part_there (opening_part sh) (names sh) w (named_member (names sh) s w x is))
 
+  -- Each slot of the opening core is bare.
   slots : (t p : ℕ) → slot_at sh s t p ≡ bare
   slots t p = go (part_cases (BodyOf t (block_of p)))
     where
@@ -111,6 +124,7 @@ module _ (sh : Shape) (shape : IsShape sh) where
       go (inl is) = ap (λ o. slot_in (body_from o) (slot_of p)) is ∙ replicated (slots_of sh t) bare (slot_of p)
       go (inr is) = ap (λ o. slot_in (body_from o) (slot_of p)) is
 
+  -- No key of the opening core has a candidate.
   places : (t : ℕ) (key : ℤ) → places_at sh s t key ≡ []
   places t key = go (part_cases (ShardOf t (shard_of key)))
     where
@@ -133,18 +147,15 @@ module _ (sh : Shape) (shape : IsShape sh) where
   pub idle : (q : ℕ) → snapshot_of new_desk q ≡ None
   idle q = replicated sh.passes None (q - 1)
 
+  -- The desk of the opening core has no open snapshot.
   not_open : (q : ℕ) (snapshot : Snapshot) → snapshot_of new_desk q ≡ Some snapshot → ⊥
   not_open q snapshot is = none_some snapshot (sym (idle q) ∙ is)
 
-  nobody : {X : Type 0} (p : ℕ) (ps : List ℕ) → ps ≡ [] → Among p ps → X
-  nobody p ps is a = absurd (subst (Among p) is a)
-
+  -- The slots of an opening core, each of them bare.
   abbrev slot : ℕ → ℕ → Slot
   slot t p = bare
 
-  abbrev place : ℕ → ℤ → List ℕ
-  place t key = []
-
+  -- Bare slots without candidates follow the machine before its first command.
   follows_bare : Follows (λ t p. bare) (λ t key. []) new_desk machine.opening
   follows_bare = record {
     slots = λ t p. sound_bare;
@@ -179,6 +190,7 @@ module _ (sh : Shape) (shape : IsShape sh) where
     };
   }
 
+  -- The slots, candidates and desk of the opening core follow the opening machine.
   follows : Follows (slot_at sh s) (places_at sh s) (desk_at sh s) machine.opening
   follows =
       subst (λ (x : ℕ → ℕ → Slot). Follows x (places_at sh s) (desk_at sh s) machine.opening) (λ i t p. sym (slots t p) i)
@@ -187,12 +199,15 @@ module _ (sh : Shape) (shape : IsShape sh) where
 
   -- ---- heads and bodies
 
+  -- The body of a block in the opening core is untouched.
   body : (t b : ℕ) → HasBlock sh t b → body_at sh s t b ≡ untouched (columns_in sh t) (slots_of sh t)
   body t b has = ap body_from (part_there (opening_part sh) (names sh) (BodyOf t b) (body_named sh t b has))
 
+  -- The head of a table in the opening core is one for its blocks.
   head : (t : ℕ) → HasTable sh t → head_at sh s t ≡ opening_head (blocks_of sh t)
   head t has = ap head_from (part_there (opening_part sh) (names sh) (HeadOf t) (head_named sh t has))
 
+  -- An untouched body holds what is asked of a body.
   body_holds : (t : ℕ) → BodyHolds sh t (untouched (columns_in sh t) (slots_of sh t))
   body_holds t = record {
     columns = refl;
@@ -208,6 +223,7 @@ module _ (sh : Shape) (shape : IsShape sh) where
     last = omega arith;
   }
 
+  -- A head of the opening core holds what is asked of a head.
   head_holds : (t : ℕ) → HasTable sh t → HeadHolds sh s t
   head_holds t has = record {
     block = subst (λ (h : Head). HasBlock sh t h.block) (sym (head t has)) first;
@@ -226,6 +242,7 @@ module _ (sh : Shape) (shape : IsShape sh) where
       empty_body : (b : ℕ) → Among b (below (blocks_of sh t)) → is_empty (body_at sh s t b) ≡ true
       empty_body b a = ap is_empty (body t b (in_block sh t b has a)) ∙ all_bare (slots_of sh t)
 
+  -- Each part of the opening core is of its name's kind.
   kinds_hold : All (λ name. IsOfKind name (part_at sh s name)) (names sh)
   kinds_hold = all_by (λ name. IsOfKind name (part_at sh s name)) (names sh) (λ name a. subst (IsOfKind name) (sym (part_there (opening_part sh) (names sh) name a)) (kind name))
     where

@@ -43,6 +43,7 @@ use Rattle.sound_laws.proofs.Written.{judged_ok}
 use Rattle.undo_chain.specs.declared.chain.Newer.{Newer}
 use Rattle.undo_chain.specs.declared.chain.Newer.TheVariants as newer
 
+-- False is not the same as true.
 false_true : false ≡ true → ⊥
 false_true e = cc
 
@@ -50,9 +51,11 @@ false_true e = cc
 not_accepted : (m next : IsolationMachine) (command : Command) (said : Answer) → step m command ≡ (said, next) → IsAccepted m command → said ≡ answer.Accepted
 not_accepted m next command said is accepted = sym (ap (λ (x : Answer × IsolationMachine). x.0) is) ∙ accepted
 
+-- An answer that is refused for two faults is refused for one.
 err_is : (r : Result ℕ WriteFault) (a b : WriteFault) → r ≡ Err a → r ≡ Err b → a ≡ b
 err_is r a b x y = cc
 
+-- A write whose reply is a refusal for a fault has that fault.
 refused_is : (r : Result ℕ WriteFault) (fault : WriteFault) → reply_to_write r ≡ reply.Refused fault → r ≡ Err fault
 refused_is (Ok p) fault is = cc
 refused_is (Err x) fault is = ap Err (cc)
@@ -66,27 +69,33 @@ judged_err (Some x) place otherwise told is = inl (ap Some (err_is (judged (Some
 judged_err None None otherwise told is = inr (refl, refl, err_is (judged None None otherwise) otherwise told refl is)
 judged_err None (Some p) otherwise told is = cc
 
+-- No conflict and no row that exists is a fault of being full.
 no_full : (n : Newer) (exists : Bool) (inserts : ℕ) → option_or (fault_of n) (cond exists (Some Exists) None) ≡ Some (Full inserts) → ⊥
 no_full (newer.Session w) exists inserts is = cc
 no_full (newer.Number k) exists inserts is = cc
 no_full newer.Nothing true inserts is = cc
 no_full newer.Nothing false inserts is = cc
 
+-- Where neither of two options would do, neither has anything.
 both_none : (a b : Option ℕ) → option_or a b ≡ None → (a ≡ None) × (b ≡ None)
 both_none None b n = (refl, n)
 both_none (Some x) b n = cc
 
 module _ (sh : Shape) (s : Parts) (own : OwnKey) (t : ℕ) (row : Row) (m : IsolationMachine)
     (shape : IsShape sh) (ok : Sound sh s) (lawful : IsLawful sh (event.Insert own t row) s) (f : FollowsMachine sh s m) where
+  -- The command to insert the row, as the machine is asked it.
   abbrev command : Command
   command = command_of own.session (act.Insert t row)
 
+  -- The machine goes with the reply to the insert, and the core behind it follows.
   told : (next : IsolationMachine) × IsTold m command (reply_to_write (insert_judged sh s own t (key_of row))) next × FollowsMachine sh (effect sh s (event.Insert own t row)) next
   told = steps sh s (event.Insert own t row) shape ok lawful m f
 
+  -- The place where the row would go: its own written one or the head's next.
   abbrev goes : Option ℕ
   goes = option_or own.written (next_place (head_at sh s t) (slots_of sh t))
 
+  -- The fault of the insert: a conflict, or that the row exists.
   abbrev fault : Option WriteFault
   fault = option_or (fault_of (newer_by (slot_at sh s t) (places_at sh s t (key_of row)) own)) (cond (is_some (found sh s own t (key_of row))) (Some Exists) None)
 
@@ -110,6 +119,7 @@ module _ (sh : Shape) (s : Parts) (own : OwnKey) (t : ℕ) (row : Row) (m : Isol
       go false y e =
           (grind (arith, nat_tests), none_empty (head_at sh s t).empty (sym (ap (λ y. cond y (Some (place_of (head_at sh s t).block (head_at sh s t).taken)) (first_of_blocks (head_at sh s t).empty)) y) ∙ e))
 
+  -- Where the row has no place to go, the head has no room for it.
   room : goes ≡ None → HasNoRoom sh s own t
   room is =
       let none = both_none own.written (next_place (head_at sh s t) (slots_of sh t)) is in
@@ -201,12 +211,14 @@ full_exactly sh s own t row m inserts shape ok lawful f = (full_from sh s own t 
 
 -- ---- updates and deletes
 
+-- A freezing among a change's faults is neither a conflict nor a missing row.
 no_freezing : (n : Newer) (missing : Bool) (x : Option WriteFault) (b g : ℕ) → option_or (fault_of n) (cond missing (Some Missing) x) ≡ Some (Freezing b g) → x ≡ Some (Freezing b g)
 no_freezing (newer.Session w) missing x b g is = cc
 no_freezing (newer.Number k) missing x b g is = cc
 no_freezing newer.Nothing true x b g is = cc
 no_freezing newer.Nothing false x b g is = is
 
+-- A fault of freezing names the block and the stamp of its seal.
 frozen_by : (block : ℕ) (phase : Phase) (b g : ℕ) → freezing_of block phase ≡ Some (Freezing b g) → (b ≡ block) × (phase ≡ Sealed g)
 frozen_by block Loose b g is = cc
 frozen_by block (Imaged x) b g is = cc
@@ -222,15 +234,19 @@ module _ (sh : Shape) (s : Parts) (own : OwnKey) (t : ℕ) (key : ℤ) (m : Isol
     -- the command that changes the key's row, and what it is answered
     (what : Act) (no_insert : IsInsert what → ⊥)
     (next : IsolationMachine) (told : IsTold m (command_of own.session what) (reply_to_write (change_judged sh s own t key)) next) where
+  -- The command to change the row, as the machine is asked it.
   abbrev change_command : Command
   change_command = command_of own.session what
 
+  -- The current place of the key.
   abbrev here : Option ℕ
   here = current_place (slot_at sh s t) (places_at sh s t key)
 
+  -- The fault of freezing, where the block of the key's row is sealed.
   abbrev frozen : Option WriteFault
   frozen = option_and_then (λ place. freezing_of (block_of place) (body_at sh s t (block_of place)).phase) here
 
+  -- The fault of the change: a conflict, a row that is missing, or freezing.
   abbrev change_fault : Option WriteFault
   change_fault = option_or (fault_of (newer_by (slot_at sh s t) (places_at sh s t key) own)) (cond (is_none (found sh s own t key)) (Some Missing) frozen)
 

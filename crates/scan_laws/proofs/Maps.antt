@@ -18,15 +18,19 @@ use Rattle.isolation_laws.proofs.Rows.{is_place-of, place_cmp-total}
 use Rattle.isolation_spec.specs.Contents.{State, at_place, contents_of, is_place, key_of, place_at, place_cmp, place_of}
 use Rattle.isolation_spec.specs.declared.place.Place.{Place}
 
+-- The comparison of places is a total order.
 o : IsTotalOrder place_cmp
 o = place_cmp-total
 
+-- True is not the same as false.
 true_false : true ≡ false → ⊥
 true_false e = cc
 
+-- Numbers that are tested as the same are the same.
 num : (a b : ℕ) → (a == b) ≡ true → a ≡ b
 num a b e = grind (arith, nat_tests, e)
 
+-- A number is tested as the same as itself.
 same_number : (a : ℕ) → (a == a) ≡ true
 same_number a = grind (arith, nat_tests)
 
@@ -34,11 +38,13 @@ same_number a = grind (arith, nat_tests)
 pub itself : (p : Place) → is_place p p ≡ true
 itself p = ap is_eq (tied_itself o p)
 
+-- An answer that is tested as equal is equal.
 equal_is : (answer : Ordering) → is_eq answer ≡ true → answer ≡ Equal
 equal_is Less is = cc
 equal_is Equal is = refl
 equal_is Greater is = cc
 
+-- Numbers that are tested as different do not compare as equal.
 other_number : (a b : ℕ) → (b == a) ≡ false → is_eq (nat_cmp a b) ≡ false
 other_number a b e = go (nat_lt a b) refl
   where
@@ -46,6 +52,7 @@ other_number a b e = go (nat_lt a b) refl
     go true f = ap is_eq (sym (nat_cmp_is a b Less (grind (arith, nat_tests, f))))
     go false f = ap is_eq (sym (nat_cmp_is a b Greater (grind (arith, nat_tests, e, f))))
 
+-- Where the first of two comparisons is not equal, neither are both in turn.
 then_other : (r s : Ordering) → is_eq r ≡ false → is_eq (ordering_then r s) ≡ false
 then_other Less s e = refl
 then_other Equal s e = absurd (true_false e)
@@ -59,22 +66,27 @@ module _ (table : ℕ) where
       (λ b. cond b (Some e.1) (at_place es (place_at table key)))
       (then_other (nat_cmp table e.0.table) (int_cmp key e.0.key) (other_number table e.0.table other))
 
+  -- An entry adds its row to the contents exactly where it is of the table.
   kept : (e : Place × Row) (es : State) (b : Bool) → (e.0.table == table) ≡ b
       → contents_of table (e ∷ es) ≡ cond b (e.1 ∷ contents_of table es) (contents_of table es)
   kept e es true is = ap (λ b. cons_option (cond b (Some e.1) None) (contents_of table es)) is
   kept e es false is = ap (λ b. cons_option (cond b (Some e.1) None) (contents_of table es)) is
 
+  -- A place of the table is the one of the table and its key.
   own_place : (p : Place) → (p.table == table) ≡ true → place_at table p.key ≡ p
   own_place p is = ap (λ (t : ℕ). place_at t p.key) (sym (num p.table table is))
 
+  -- An entry of the table is found at its own key.
   found : (e : Place × Row) (es : State) → (e.0.table == table) ≡ true → at_place (e ∷ es) (place_at table e.0.key) ≡ Some e.1
   found e es is =
       ap (at_place (e ∷ es)) (own_place e.0 is)
       ∙ ap (λ b. cond b (Some e.1) (at_place es e.0)) (itself e.0)
 
+  -- Nothing is not a row.
   none_some : (v : Row) → None ≡ Some v → ⊥
   none_some v e = cc
 
+  -- What two equal options hold is the same row.
   some_same : (v w : Row) → Some v ≡ Some w → v ≡ w
   some_same v w e = cc
 
@@ -82,6 +94,7 @@ module _ (table : ℕ) where
   abbrev pub Same : State → State → Type 0
   Same xs ys = (key : ℤ) → at_place xs (place_at table key) ≡ at_place ys (place_at table key)
 
+  -- A map without any row of the table has no contents of it.
   none_same : (ys : State) → ((key : ℤ) → None ≡ at_place ys (place_at table key)) → [] ≡ contents_of table ys
   none_same [] same = refl
   none_same (e ∷ ys) same = go (e.0.table == table) refl (λ is. none_same ys (λ key. same key ∙ skip e ys is key))
@@ -90,6 +103,7 @@ module _ (table : ℕ) where
       go true is rest = absurd (none_some e.1 (same e.0.key ∙ found e ys is))
       go false is rest = rest is ∙ sym (kept e ys false is)
 
+  -- A place below the first of a map in order has no entry in it.
   below_all : (d : Place × Row) (e : Place × Row) (ys : State) → place_cmp d.0 e.0 ≡ Less → InOrder (e ∷ ys)
       → (q : Place) → is_place q d.0 ≡ true → at_place (e ∷ ys) q ≡ None
   below_all d e ys less order q is =
@@ -100,9 +114,11 @@ module _ (table : ℕ) where
       flipped : (k q : Place) → is_place q k ≡ true → is_eq (place_cmp k q) ≡ true
       flipped k q e = ap is_eq (tied_back o q k (equal_is (place_cmp q k) e))
 
+  -- The place of the first entry has no entry behind it in a map in order.
   behind_all : (d : Place × Row) (xs : State) → InOrder (d ∷ xs) → (q : Place) → is_place q d.0 ≡ true → at_place xs q ≡ None
   behind_all d xs order q is = none_below xs d.0 q (ap is_eq (tied_back o q d.0 (equal_is (place_cmp q d.0) is))) order.0
 
+  -- At another place than the first entry's is what the rest has there.
   rest_at : (d : Place × Row) (xs : State) (q : Place) → is_place q d.0 ≡ false → at_place (d ∷ xs) q ≡ at_place xs q
   rest_at d xs q is = ap (λ b. cond b (Some d.1) (at_place xs q)) is
 
@@ -203,6 +219,7 @@ module _ (table : ℕ) where
   Fresh [] = Unit {0}
   Fresh (row ∷ rows) = ((other : Row) → Among other rows → key_of row ≡ key_of other → ⊥) × Fresh rows
 
+  -- Rows of different keys have different places.
   key_apart : (row other : Row) → (key_of row ≡ key_of other → ⊥) → is_place (place_of table other) (place_of table row) ≡ false
   key_apart row other ne = is_place-of table (key_of other) row ∙ go (int_eq (key_of row) (key_of other)) refl
     where

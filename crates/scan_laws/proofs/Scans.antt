@@ -26,6 +26,7 @@ use Rattle.snapshot_laws.specs.Laws.{ReadsEachOnce}
 use Rattle.scan_laws.specs.Laws.{IsTheScan, ReadsAreTheScan, all_read}
 use Rattle.scan_laws.proofs.Maps.{Fresh, order_put, put, put_count, put_has, same_contents}
 
+-- Rows of different keys in two lists have different keys in both where none is common.
 fresh_append : (table : ℕ) (xs ys : List Row) → Fresh table xs → Fresh table ys
     → ((x y : Row) → Among x xs → Among y ys → key_of x ≡ key_of y → ⊥) → Fresh table (xs ++ ys)
 fresh_append table [] ys a b apart = b
@@ -38,6 +39,7 @@ fresh_append table (x ∷ xs) ys a b apart = (
     go other same (inl m) = a.0 other m same
     go other same (inr m) = apart x other (inl refl) m same
 
+-- A number of a range is not below the range's first.
 least : (a n k : ℕ) → Among k (range_with_len a n) → a ≤ k
 least a zero k h = absurd h
 least a (suc n) k (inl e) = omega (arith, e)
@@ -57,17 +59,17 @@ within sh t b less = (go (nat_lt t (length sh.tables)) refl, less)
 module _ (sh : Shape) (s : Parts) (own : OwnTransaction) (t : ℕ) (m : IsolationMachine) (open' : Transaction)
     (shape : IsShape sh) (ok : Sound sh s) (owns : OwnsAll sh own s) (f : FollowsMachine sh s m)
     (is_open : transaction_of own.session m ≡ Some open') where
+  -- What is read of the table is each seen row, read once.
   each : ReadsEachOnce sh s own t (seen_rows m open')
   each = reads_hold_each_row sh s own t m open' shape ok owns f is_open
 
+  -- A block has fewer slots than a place has numbers for.
   width : (b : ℕ) → HasBlock sh t b → length (body_at sh s t b).slots < 2 ^ 20
   width b has = let w = (shape.slots t has.0).1 in let count = (ok.bodies t b has).slots in omega (arith, w, count)
 
+  -- A block among those of the table is there.
   has : (b : ℕ) → Among b (below (blocks_of sh t)) → HasBlock sh t b
   has b a = let less = member_below 0 (blocks_of sh t) b a in within sh t b (omega (arith, less))
-
-  abbrev read : ℕ → ℕ → Option Row
-  read b j = row_read sh s own t (place_in b j)
 
   -- the rows of one block, from a slot on
   fresh_block : (b a n : ℕ) → a + n ≤ 2 ^ 20 → Fresh t (filter_map (λ j. row_read sh s own t (place_in b j)) (range_with_len a n))
@@ -96,6 +98,7 @@ module _ (sh : Shape) (s : Parts) (own : OwnTransaction) (t : ℕ) (m : Isolatio
       let w = width b h in
       (k.0, omega (arith, less, w), k.2)
 
+  -- The rows of some blocks from one on have different keys.
   fresh_blocks : (a n : ℕ) → a + n ≤ blocks_of sh t → Fresh t (flat_map (rows_read sh s own t) (range_with_len a n))
   fresh_blocks a zero fits = tt
   fresh_blocks a (suc n) fits =
@@ -118,6 +121,7 @@ module _ (sh : Shape) (s : Parts) (own : OwnTransaction) (t : ℕ) (m : Isolatio
           let at : place_in a here.0 ≡ place_in from.0 there.0 = each.once (place_in a here.0) (place_in from.0 there.0) x y here.2 there.2 same in
           absurd (let never : ⊥ = omega (arith, at, low, small, little) in never)
 
+  -- All rows that are read of the table have different keys.
   fresh : Fresh t (all_read sh s own t)
   fresh = fresh_blocks 0 (blocks_of sh t) (omega arith)
 
@@ -147,12 +151,14 @@ module _ (sh : Shape) (s : Parts) (own : OwnTransaction) (t : ℕ) (m : Isolatio
         at.3,
       )
 
+  -- The rows that the machine's transaction sees stand in order.
   order : InOrder (seen_rows m open')
   order =
       (at-laid_over (state_at m.history open'.snapshot) open'.own (place_at t (Rattle.std.specs.Prelude.pos 0))
       (state-order m.history open'.snapshot f.follows.desked.history_order)
       (f.follows.desked.own_order own.session open' is_open)).1
 
+  -- The rows that are read, put at their keys, are those seen at each key.
   same : (key : ℤ) → at_place (put t [] (all_read sh s own t)) (place_at t key) ≡ at_place (seen_rows m open') (place_at t key)
   same key = put_has t (place_at t key) (at_place (seen_rows m open') (place_at t key)) (all_read sh s own t) [] one (there (at_place (seen_rows m open') (place_at t key)) refl)
     where

@@ -7,6 +7,7 @@ use Rattle.workload_spec.specs.declared.script.Cause.TheVariants as cause
 use Rattle.workload_spec.specs.Grammar.{◌>>=◌, or_cause, rule}
 use Rattle.word_read.specs.Numbers.{is_small, small_natural}
 
+-- A number that is not kept for being small has more than 64 bits.
 large_by : (n : ℕ) (small : Bool) → is_small n ≡ small → small_natural (Some n) ≡ None → 2 ^ 64 ≤ n
 large_by n true e none = absurd (let f = rw e at none in cc)
 large_by n false e none = ltb-false n (2 ^ 64) e

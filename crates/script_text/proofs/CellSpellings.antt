@@ -25,6 +25,7 @@ mapped make text_of word value same = ap (λ (text : List ℕ). if bytes_eq text
     by true = refl
     by false = refl
 
+-- A truth value is spelled by a word as it is read, by which of the two it is.
 truth_by : (yes other : Bool) (word : List ℕ) → bytes_eq word (codes "true") ≡ yes → bytes_eq word (codes "false") ≡ other → spelled cell_text word (Truth (bytes_eq word (codes "true"))) ≡ option_map Truth (truth_of word)
 truth_by true other word y n =
     let same : word ≡ codes "true" = (bytes_eq-Decides word (codes "true")).0 y in
@@ -40,19 +41,24 @@ truth_by false false word y n =
     none true e = absurd (let same = (bytes_eq-Decides (codes "false") word).0 e in let f = (bytes_eq-Decides word (codes "false")).1 (sym same) in cc)
     none false e = refl
 
+-- A truth value is spelled by a word as it is read from it.
 truth_spelled : (word : List ℕ) → spelled cell_text word (Truth (bytes_eq word (codes "true"))) ≡ option_map Truth (truth_of word)
 truth_spelled word = truth_by (bytes_eq word (codes "true")) (bytes_eq word (codes "false")) word refl refl
 
+-- A number of more than 64 bits is above a bound of fewer.
 above : (n most : ℕ) → 2 ^ 64 ≤ n → most < 2 ^ 64 → int_le (pos n) (pos most) ≡ false
 above n most large few = lt-leb n most (omega arith)
 
+-- A negative number of more than 64 bits is below a bound of fewer.
 below : (n most : ℕ) → 2 ^ 64 ≤ n + 1 → most + 1 < 2 ^ 64 → int_le (negsuc most) (negsuc n) ≡ false
 below n most large few = lt-leb n most (omega arith)
 
+-- An integer with a magnitude of more than 64 bits is not between signed bounds of fewer.
 signed_large : (n : ℤ) (low high : ℕ) → low + 1 < 2 ^ 64 → high < 2 ^ 64 → is_small (magnitude n) ≡ false → (int_le (negsuc low) n && int_le n (pos high)) ≡ false
 signed_large (pos n) low high few much large = and_right (int_le (negsuc low) (pos n)) (int_le (pos n) (pos high)) (above n high (ltb-false n (2 ^ 64) large) much)
 signed_large (negsuc n) low high few much large = let f = below n low (ltb-false (n + 1) (2 ^ 64) large) few in rw f refl
 
+-- An integer with a magnitude of more than 64 bits is not between zero and a bound of fewer.
 unsigned_large : (n : ℤ) (high : ℕ) → high < 2 ^ 64 → is_small (magnitude n) ≡ false → (int_le (pos 0) n && int_le n (pos high)) ≡ false
 unsigned_large (pos n) high much large = and_right (int_le (pos 0) (pos n)) (int_le (pos n) (pos high)) (above n high (ltb-false n (2 ^ 64) large) much)
 unsigned_large (negsuc n) high much large = refl
@@ -71,17 +77,21 @@ large_none kind.Bool n large = refl
 large_none kind.Utf8 n large = refl
 large_none kind.Binary n large = refl
 
+-- A number stands in a column just as where it is kept for its small magnitude first.
 number_by : (column : Column) (n : ℤ) (small : Bool) → is_small (magnitude n) ≡ small → standing column (Num n) ≡ option_and_then (standing column) (option_map Num (small_integer (Some n)))
 number_by column n true e = rw e refl
 number_by column n false e = rw (e, large_none column.kind n e) refl
 
+-- A number, if there is one, stands in a column just as where its magnitude is asked first.
 number_of : (column : Column) (o : Option ℤ) → option_and_then (standing column) (option_map Num o) ≡ option_and_then (standing column) (option_map Num (small_integer o))
 number_of column None = refl
 number_of column (Some n) = number_by column n (is_small (magnitude n)) refl
 
+-- What a word spells as a number stands in a column as the small number that it reads as.
 number_case : (column : Column) (word : List ℕ) → option_and_then (standing column) (spelled cell_text word (Num (integer_in word))) ≡ option_and_then (standing column) (option_map Num (small_integer (integer_of word)))
 number_case column word = ap (option_and_then (standing column)) (mapped Num signed_decimal word (integer_in word) (λ n. refl)) ∙ number_of column (integer_of word)
 
+-- What a word spells as a value of a kind stands in a column as what it is read as.
 value_case : (column : Column) (word : List ℕ) (k : Kind) → option_and_then (standing column) (spelled cell_text word (value_in k word)) ≡ option_and_then (standing column) (value_spelled k word)
 value_case column word kind.I8 = number_case column word
 value_case column word kind.I16 = number_case column word

@@ -8,6 +8,7 @@ use Rattle.script_text.specs.Tables.{table_read}
 use Rattle.script_text.specs.Commands.{line_read}
 use Rattle.script_text.specs.Heads.{script_read}
 
+-- Steps of a reading in turn are the same however they are paired.
 flat : {A B C E : Type 0} (r : Result A E) (f : A → Result B E) (g : B → Result C E) → ((r >>= f) >>= g) ≡ (r >>= λ a. f a >>= g)
 flat (Ok a) f g = refl
 flat (Err fault) f g = refl

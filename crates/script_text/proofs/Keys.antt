@@ -8,14 +8,17 @@ use Rattle.workload_spec.specs.Grammar.{◌>>=◌, or_cause, rule, key_in}
 use Rattle.workload_spec.specs.Reading.{integer_of}
 use Rattle.word_read.specs.Numbers.{is_small, small_integer, magnitude}
 
+-- An integer with a magnitude of more than 64 bits is no key.
 large_key : (number : ℤ) → is_small (magnitude number) ≡ false → is_key_number number ≡ false
 large_key (pos number) large = let past : 2 ^ 64 ≤ number = ltb-false number (2 ^ 64) large in lt-leb number (2 ^ 63 - 1) (omega arith)
 large_key (negsuc number) large = let past : 2 ^ 64 ≤ number + 1 = ltb-false (number + 1) (2 ^ 64) large in let f : int_le (negsuc (2 ^ 63 - 1)) (negsuc number) ≡ false = lt-leb number (2 ^ 63 - 1) (omega arith) in rw f refl
 
+-- A key is read as such with its magnitude asked first, by whether that is small.
 key_by : (number : ℤ) (small : Bool) → is_small (magnitude number) ≡ small → (rule cause.Number (is_key_number number) >>= λ fits. Ok number) ≡ (or_cause cause.Number (small_integer (Some number)) >>= λ key. rule cause.Number (is_key_number key) >>= λ fits. Ok key)
 key_by number true e = rw e refl
 key_by number false e = rw (e, large_key number e) refl
 
+-- A key, if there is an integer, is read as such with its magnitude asked first.
 key_of : (o : Option ℤ) → (or_cause cause.Number o >>= λ key. rule cause.Number (is_key_number key) >>= λ fits. Ok key) ≡ (or_cause cause.Number (small_integer o) >>= λ key. rule cause.Number (is_key_number key) >>= λ fits. Ok key)
 key_of None = refl
 key_of (Some number) = key_by number (is_small (magnitude number)) refl

@@ -6,6 +6,7 @@ use Rattle.std.proofs.lemmas.Iterator.Adapters.{position_from-zero}
 use Rattle.std.proofs.lemmas.List.{map_push}
 use Rattle.workload_laws.proofs.Lists.{bytes_eq-sym}
 
+-- A name's place, counted on from a number, is that of the value that has it.
 from_viewed : {X : Type 0} (view : X → List ℕ) (name : List ℕ) (xs : List X) (i : ℕ)
     → position_from (λ own. bytes_eq own name) i (map view xs) ≡ position_from (λ x. bytes_eq name (view x)) i xs
 from_viewed view name [] i = refl

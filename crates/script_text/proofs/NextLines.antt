@@ -5,10 +5,12 @@ use Rattle.workload_spec.specs.declared.script.Cause.{Cause}
 use Rattle.workload_spec.specs.Reading.{onto_first, parted, parts}
 use Rattle.workload_spec.specs.Grammar.{next_line}
 
+-- With a byte in front of the first part there is a part.
 onto_some : (byte : ℕ) (ps : List (List ℕ)) → 0 < length (onto_first byte ps)
 onto_some byte [] = omega arith
 onto_some byte (p ∷ ps) = omega arith
 
+-- With a byte more in front, be it a separator or not, there is a part.
 parted_some : (parts : Bool) (byte : ℕ) (ps : List (List ℕ)) → 0 < length (parted parts byte ps)
 parted_some true byte ps = omega arith
 parted_some false byte ps = onto_some byte ps

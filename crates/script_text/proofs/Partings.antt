@@ -12,9 +12,6 @@ use Rattle.workload_laws.proofs.Lists.{neither, none-behind}
 use Rattle.workload_laws.proofs.Apart.{is_whole, line_first_part}
 use Rattle.workload_laws.proofs.Parts.{parts_joined}
 
-abbrev is_parting : List ℕ → Bool
-is_parting line = bytes_eq line parting
-
 -- the lines before those that are left
 pub record Passed (bytes rest : List ℕ) : Type 0 where
   pub front : List (List ℕ)
@@ -57,6 +54,7 @@ line_passed bytes rest line behind passed is whole other = record {
   none = none-behind (λ (l : List ℕ). bytes_eq l parting) passed.front line passed.none other;
 }
 
+-- The first line that parts is found behind those that do not.
 found_from : (front more : List (List ℕ)) (line : List ℕ) (i : ℕ) → list_any (λ line. bytes_eq line parting) front ≡ false → bytes_eq line parting ≡ true → position_from (λ line. bytes_eq line parting) i (front ++ line ∷ more) ≡ Some (i + length front)
 found_from [] more line i none is = rw is (ap Some (omega arith))
 found_from (first ∷ front) more line i none is =
@@ -64,20 +62,24 @@ found_from (first ∷ front) more line i none is =
     let e : i + 1 + length front ≡ i + length (first ∷ front) = omega arith in
     rw (n.0) (found_from front more line (i + 1) n.1 is ∙ ap Some e)
 
+-- Where no line parts, none is found.
 absent_from : (lines : List (List ℕ)) (i : ℕ) → list_any (λ line. bytes_eq line parting) lines ≡ false → position_from (λ line. bytes_eq line parting) i lines ≡ None
 absent_from [] i none = refl
 absent_from (first ∷ lines) i none =
     let n = neither (bytes_eq first parting) (list_any (λ l. bytes_eq l parting) lines) none in
     rw (n.0) (absent_from lines (i + 1) n.1)
 
+-- The first so many elements of a list are its front of that length.
 take_front : (front : List (List ℕ)) (more : List (List ℕ)) → take (length front) (front ++ more) ≡ front
 take_front [] more = refl
 take_front (first ∷ front) more = ap (λ (others : List (List ℕ)). first ∷ others) (take_front front more)
 
+-- Behind a front and one line are those that follow.
 drop_front : (front : List (List ℕ)) (line : List ℕ) (more : List (List ℕ)) → drop (length front + 1) (front ++ line ∷ more) ≡ more
 drop_front [] line more = refl
 drop_front (first ∷ front) line more = let rest = rw add-one at (drop_front front line more) in rw add-one rest
 
+-- Taken past a front and a line, a list gives both and the first of those behind.
 take_past : (front more : List (List ℕ)) (line : List ℕ) (n : ℕ) → take (length front + suc n) (front ++ line ∷ more) ≡ front ++ line ∷ take n more
 take_past [] more line n = let e : 0 + suc n ≡ suc n = omega arith in rw e refl
 take_past (first ∷ front) more line n = let e : length (first ∷ front) + suc n ≡ suc (length front + suc n) = omega arith in rw e (ap (λ (others : List (List ℕ)). first ∷ others) (take_past front more line n))

@@ -12,6 +12,7 @@ use Rattle.workload_spec.specs.Grammar.{◌>>=◌, or_cause, cells_of}
 pub columns_at : (columns : List Column) (i : ℕ) (column : Column) → i < length columns → column ≡ get_or columns i column → drop i columns ≡ column ∷ drop (i + 1) columns
 columns_at columns i column lt is = rw add-one (drop-cons columns i column lt ∙ ap (λ (c : Column). c ∷ drop (suc i) columns) (sym is))
 
+-- A cell that is read joins those before it before or after the others are read.
 cells_regrouped : (cells : List Cell) (cell : Cell) (behind : Result (List Cell) Cause) → ((behind >>= λ more. Ok (cell ∷ more)) >>= λ more. Ok (cells ++ more)) ≡ (behind >>= λ more. Ok ((cells ++ cell ∷ []) ++ more))
 cells_regrouped cells cell (Ok more) = ap (λ (all : List Cell). Ok all) (sym (append_assoc cells (cell ∷ []) more))
 cells_regrouped cells cell (Err fault) = refl

@@ -17,9 +17,11 @@ use Rattle.workload_laws.proofs.Columns.{columns_are}
 use Rattle.workload_laws.proofs.NarrowTables.{narrow_columns}
 use Rattle.workload_laws.proofs.NarrowScripts.{bounds}
 
+-- A byte within a range below 128 is below 128.
 within_ascii : (low high byte : ℕ) → high < 128 → is_within low high byte ≡ true → byte < 128
 within_ascii low high byte few is = omega (arith, few, leb-true byte high (both (nat_le low byte) (nat_le byte high) is).1)
 
+-- A byte of a name is below 128.
 byte_ascii : (byte : ℕ) → is_name_byte byte ≡ true → byte < 128
 byte_ascii byte is = elim (either (is_lower_case byte || is_digit byte) (byte == underscore) is) [
   | inl letter ↦ elim (either (is_lower_case byte) (is_digit byte) letter) [
@@ -29,6 +31,7 @@ byte_ascii byte is = elim (either (is_lower_case byte || is_digit byte) (byte ==
   | inr e ↦ omega (arith, eqb-true byte 95 e)
 ]
 
+-- The bytes of a name are all below 128.
 bytes_ascii : (bytes : List ℕ) → list_all is_name_byte bytes ≡ true → IsAscii bytes
 bytes_ascii [] all = λ i. omega arith
 bytes_ascii (byte ∷ bytes) all =
@@ -42,6 +45,7 @@ bytes_ascii (byte ∷ bytes) all =
         by zero = small
         by (suc i) = rest i
 
+-- A name has bytes of names alone, and not more than 32 of them.
 name_is : (name : List ℕ) → is_name name ≡ true → (list_all is_name_byte name ≡ true) × (length name ≤ 32)
 name_is [] is = absurd cc
 name_is (first ∷ rest) is =
@@ -57,6 +61,7 @@ all_named (column ∷ columns) all =
     let n = name_is column.name a.0 in
     All-cons IsName column columns (IsUtf8-from_ascii column.name (bytes_ascii column.name n.0), omega (arith, n.1)) (all_named columns a.1)
 
+-- An option that is tested as nothing is nothing.
 none_is : {X : Type 0} (o : Option X) → is_none o ≡ true → o ≡ None
 none_is None e = refl
 none_is (Some x) e = absurd cc

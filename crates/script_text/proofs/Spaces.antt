@@ -32,10 +32,12 @@ rounds_split tables (round ∷ rounds) first others some head rest = rw (head, r
 abbrev pub limits : TableDecl → List (List ℕ)
 limits table = codes "slots" ∷ decimal table.slots ∷ codes "blocks" ∷ decimal table.blocks ∷ []
 
+-- A table's line is its first word, its name, its columns and its limits, with spaces.
 table_is : (table : TableDecl) → table_text table ≡ codes "table" ++ 32 ∷ (table.name ++ (behind_spaces (map column_text table.schema) ++ behind_spaces (limits table)))
 table_is table = ap (λ (text : List ℕ). codes "table" ++ 32 ∷ text) (spaced_first table.name (map column_text table.schema ++ limits table)
     ∙ ap (λ (text : List ℕ). table.name ++ text) (behind_spaces-append (map column_text table.schema) (limits table)))
 
+-- The pieces of a table's line that are put in turn are the line put at once.
 regroup : (out first name columns last end : List ℕ) → ((((out ++ first) ++ 32 ∷ name) ++ columns) ++ last) ++ end ≡ out ++ ((first ++ 32 ∷ (name ++ (columns ++ last))) ++ end)
 regroup out first name columns last end = simp append_assoc
 

@@ -18,6 +18,7 @@ behind_table extent at tables line rest =
     on_line at (rule cause.Table (nat_lt (length tables) extent.tables)) >>= λ room.
     on_line at (table_of extent tables (words_of line)) >>= λ table. tables_from extent (at + 1) (tables ++ table ∷ []) rest
 
+-- A table's line is read as a table where there is room for one, and then those behind.
 table_line : (extent : Extent) (at : ℕ) (tables : List TableDecl) (line : List ℕ) (rest : List (List ℕ)) → 0 < length rest → is_table_line line ≡ true → tables_from extent at tables (line ∷ rest) ≡ behind_table extent at tables line rest
 table_line extent at tables line [] some is = absurd (omega (arith, some))
 table_line extent at tables line (next ∷ rest) some is = chosen (is_table_line line) (behind_table extent at tables line (next ∷ rest)) (Ok (tables, line ∷ next ∷ rest)) is

@@ -14,10 +14,12 @@ use Rattle.workload_spec.specs.Grammar.{◌>>=◌, before_colon, after_colon, ki
 use Rattle.std.proofs.lemmas.Bool.{le-ltb, lt-ltb}
 use Rattle.script_text.proofs.NameLemmas.{any_named}
 
+-- No place is found with one element more in front where neither it nor the others pass.
 none_by : {X : Type 0} (p : X → Bool) (b : Bool) → b ≡ b → (x : X) (xs : List X) (i : ℕ) → is_none (position_from p (i + 1) xs) ≡ not (list_any p xs) → is_none (cond b (Some i) (position_from p (i + 1) xs)) ≡ not (b || list_any p xs)
 none_by p true e x xs i h = refl
 none_by p false e x xs i h = h
 
+-- No place is found among elements exactly where none of them passes.
 none_from : {X : Type 0} (p : X → Bool) (xs : List X) (i : ℕ) → is_none (position_from p i xs) ≡ not (list_any p xs)
 none_from p [] i = refl
 none_from p (x ∷ xs) i = none_by p (p x) refl x xs i (none_from p xs (i + 1))
@@ -41,6 +43,7 @@ pub column_read : (extent : Extent) (columns : List Column) (word : List ℕ) (k
     → kind_of (after_colon word) ≡ Some kind → length columns < extent.columns → column_of extent columns word ≡ Ok (record { name = before_colon word; kind = kind.0; nullable = kind.1 })
 column_read extent columns word kind named own known room = rw (named, taken_name (before_colon word) columns, own, known, lt-ltb (length columns) extent.columns room) refl
 
+-- Where a test holds and a reading gives a value, what follows goes on with it.
 chosen : {A B : Type 0} (b : Bool) (r : Result A Cause) (value : A) (next : A → Result B Cause) (stop : Result B Cause) → b ≡ true → r ≡ Ok value → elim b [ true ↦ r >>= next | false ↦ stop ] ≡ next value
 chosen true r value next stop e f = rw f refl
 chosen false r value next stop e f = absurd cc

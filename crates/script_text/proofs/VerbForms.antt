@@ -10,12 +10,15 @@ use Rattle.script_text.specs.Verbs.{verbs, verb_text, verb_form, takes}
 use Rattle.workload_laws.proofs.Results.{eq_of}
 use Rattle.workload_laws.proofs.Lists.{find_is}
 
+-- A word, the form of its command, and whether it is taken.
 abbrev Entry : Type 0
 Entry = List ℕ × Form × Bool
 
+-- The entry of a verb by its word, its form and whether the commands take it.
 abbrev entry_of : Commands → Verb → Entry
 entry_of taken verb = (verb_text verb, verb_form verb, takes taken verb)
 
+-- Where the verbs give none with one more in front, the entries give none with its own.
 none_by : (taken : Commands) (first : List ℕ) (is rest : Bool) (entry : Entry) (more : Option Entry) (verb : Verb) (others : Option Verb) → cond is (Some verb) others ≡ None → (others ≡ None → more ≡ None) → cond (is && rest) (Some entry) more ≡ None
 none_by taken first true rest entry more verb others e later = absurd cc
 none_by taken first false rest entry more verb others e later = later e
@@ -27,10 +30,7 @@ none_found taken first (verb ∷ all) e =
     none_by taken first (bytes_eq (verb_text verb) first) (takes taken verb) (entry_of taken verb) (find (λ (entry : Entry). bytes_eq entry.0 first && entry.2) (map (entry_of taken) all)) verb (find (λ verb. bytes_eq (verb_text verb) first) all) e
     (none_found taken first all)
 
-chosen : (is : Bool) (form : Form) → (option_map (λ (entry : Entry). entry.1) (cond is (Some (([], form, is))) None)) ≡ (if is then Some form else None)
-chosen true form = refl
-chosen false form = refl
-
+-- A verb's word has the verb's form where the verb is taken.
 form_at : (extent : Extent) (verb : Verb) (taken : Bool) → takes extent.commands verb ≡ taken → form_of extent (verb_text verb) ≡ (if taken then Some (verb_form verb) else None)
 form_at extent verb.Begin true e = rw e refl
 form_at extent verb.Begin false e = rw e refl
@@ -65,6 +65,7 @@ form_at extent verb.Export false e = rw e refl
 abbrev pub form_by : Extent → Option Verb → Option Form
 form_by extent o = option_and_then (λ verb. if takes extent.commands verb then Some (verb_form verb) else None) o
 
+-- The form of a first word is that of the verb that was found for it.
 by_found : (extent : Extent) (first : List ℕ) (o : Option Verb) → find (λ verb. bytes_eq (verb_text verb) first) verbs ≡ o → form_of extent first ≡ form_by extent o
 by_found extent first None e = ap (option_map (λ (entry : Entry). entry.1)) (none_found extent.commands first verbs e)
 by_found extent first (Some verb) e =

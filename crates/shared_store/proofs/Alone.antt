@@ -1,4 +1,5 @@
--- Events that touch the body of a block alone: a pass that holds no part takes it and gives it back.
+-- Events that touch the body of a block alone: a pass that holds no part takes it and gives it
+-- back.
 use Rattle.std.proofs.Common.{◌≡◌, ℕ, false, List, Option, None, Some, set, refl, sym, ap, subst, ◌∙◌, true≢false}
 use Rattle.std.specs.Prelude.{slice_get}
 use Rattle.block_spec.specs.Slots.{Row}

@@ -37,6 +37,7 @@ use Rattle.shared_store.proofs.Sessions.{session_is}
 
 -- ---- rows that are kept
 
+-- What all results that are kept should have, the kept ones have.
 kept_fit : {X : Type 0} (f : X → Option Row) (P : Row → Type 0) (xs : List X) → All (λ x. IfSome (f x) P) xs → All P (filter_map f xs)
 kept_fit f P [] all = All-nil P
 kept_fit f P (x ∷ xs) all = go (f x) (All-head (λ x. IfSome (f x) P) x xs all) (kept_fit f P xs (All-tail (λ x. IfSome (f x) P) x xs all))
@@ -45,6 +46,7 @@ kept_fit f P (x ∷ xs) all = go (f x) (All-head (λ x. IfSome (f x) P) x xs all
     go None fits rest = rest
     go (Some row) fits rest = All-cons P row (filter_map f xs) fits rest
 
+-- No more results are kept than there are elements.
 kept_few : {X : Type 0} (f : X → Option Row) (xs : List X) → length (filter_map f xs) ≤ length xs
 kept_few f [] = omega arith
 kept_few f (x ∷ xs) = go (f x) (kept_few f xs)
@@ -53,10 +55,12 @@ kept_few f (x ∷ xs) = go (f x) (kept_few f xs)
     go None few = omega (arith, few)
     go (Some row) few = omega (arith, few)
 
+-- What every element has, all of a list have.
 all_of : {X : Type 0} (P : X → Type 0) → ((x : X) → P x) → (xs : List X) → All P xs
 all_of P each [] = All-nil P
 all_of P each (x ∷ xs) = All-cons P x xs (each x) (all_of P each xs)
 
+-- What follows from what all of a list have, all of it have.
 all_so : {X : Type 0} (P Q : X → Type 0) → ((x : X) → P x → Q x) → (xs : List X) → All P xs → All Q xs
 all_so P Q each [] all = All-nil Q
 all_so P Q each (x ∷ xs) all = All-cons Q x xs (each x (All-head P x xs all)) (all_so P Q each xs (All-tail P x xs all))
@@ -64,9 +68,11 @@ all_so P Q each (x ∷ xs) all = All-cons Q x xs (each x (All-head P x xs all)) 
 -- ---- a block
 
 module _ (sh : Shape) (s : Parts) (ok : Sound sh s) (own : OwnTransaction) (t b : ℕ) where
+  -- The columns of the table that is read.
   abbrev columns : List Column
   columns = columns_in sh t
 
+  -- The row that is read at a place, if there is one, fits the table's columns.
   row_fits : (place : ℕ) → IfSome (row_read sh s own t place) (Fits columns)
   row_fits place = go
       (seen_in (slot_at sh s t place) own.snapshot.stamp own.session)
@@ -120,6 +126,7 @@ module _ (sh : Shape) (s : Parts) (ok : Sound sh s) (own : OwnTransaction) (t b 
 
 -- ---- the core that a front of a lawful log leaves
 
+-- The core that a front of a lawful log leaves holds, where the core before it does.
 holds_front : (sh : Shape) (s : Parts) (front more : List Made) → CoreHolds sh s → IsLawfulFrom sh s (front ++ more) → CoreHolds sh (fold (after sh) s front)
 holds_front sh s [] more holds lawful = holds
 holds_front sh s (made ∷ front) more holds lawful = holds_front sh (after sh s made) front more (kept made.refused) lawful.2

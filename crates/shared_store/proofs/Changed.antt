@@ -341,6 +341,7 @@ changed_call store old new place write told asked line is m by tells = record {
 -- ---- an update and a delete
 
 module _ (store : StoreView) (s : Session) (own : OwnTransaction) (is : IsSession store s) (some' : own_of s ≡ Some own) where
+  -- The shape of the store's core.
   abbrev st : Shape
   st = shape_in store
 

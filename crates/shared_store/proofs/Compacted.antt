@@ -42,12 +42,15 @@ use Rattle.shared_store.proofs.Swept.{block_more, sweeps_nothing, sweeps_on}
 
 -- ---- a look
 
+-- The reply of a look that saw this.
 abbrev looked_reply : Look → CoreReply
 looked_reply look = reply.Looked look
 
+-- Replies of looks that are one saw the same.
 same_look : (one other : Look) → looked_reply one ≡ looked_reply other → one ≡ other
 same_look one other e = cc
 
+-- The reply of a look is no want of memory.
 never_memory : (look : Look) → looked_reply look ≡ reply.Memory → ⊥
 never_memory look e = cc
 
@@ -88,15 +91,18 @@ moves_tell told count (inr is) moved refused = moved count is
 
 -- ---- events of more than were asked for
 
+-- What is among the first of two lists is among both.
 among_front : {X : Type 0} (x : X) (xs more : List X) → Among x xs → Among x (xs ++ more)
 among_front x [] more is = absurd is
 among_front x (y ∷ ys) more (inl same) = inl same
 among_front x (y ∷ ys) more (inr is) = inr (among_front x ys more is)
 
+-- The last element of a list is among it.
 among_last : {X : Type 0} (xs : List X) (x : X) → Among x (xs ++ x ∷ [])
 among_last [] x = inl refl
 among_last (y ∷ ys) x = inr (among_last ys x)
 
+-- A session that made some of the events made some of these and more.
 went_wider : (store : StoreView) (old new : Session) (events more : List CoreEvent) (made : List Occurrence) → Went store old new events made → Went store old new (events ++ more) made
 went_wider store old new events more made w = record {
   session = w.session;
@@ -117,12 +123,15 @@ went_wider store old new events more made w = record {
     wider k t = record { event = t.event; is_one = among_front t.event events more t.is_one; log = t.log; saw = t.saw; left = t.left; touches = t.touches }
 
 module _ (store : StoreView) (t : ℕ) where
+  -- The shape of the store's core.
   abbrev sh : Shape
   sh = shape_in store
 
+  -- The looks at all blocks of the table.
   abbrev asked : List CoreEvent
   asked = at_blocks sh t (looking t)
 
+  -- The moves that the looks among some events give.
   abbrev moved_by : List Occurrence → List CoreEvent
   moved_by made = moves t (plan_of (looks_in made))
 
@@ -132,9 +141,11 @@ module _ (store : StoreView) (t : ℕ) where
   pub looks_begin : (s : Session) → IsSession store s → Looks store s s t 0 []
   looks_begin s is = sweeps_nothing store asked (HaveLooked []) s is (record { looks_are = refl; unmoved = refl })
 
+  -- The look at each block of the table is among those that are asked.
   is_asked : (k : ℕ) → k < blocks_of sh t → Among {X = CoreEvent} (looking t k) asked
   is_asked k lt = member_map (looking t) (below (blocks_of sh t)) k (below_member 0 (blocks_of sh t) k (omega arith) (omega (arith, lt)))
 
+  -- One look more has seen, behind what was seen before, what it tells.
   look_more : (k : ℕ) (look : Look) (looks : List BlockLook) (session : ℕ) (parts : Parts) (made : List Occurrence) → HaveLooked looks made
       → HaveLooked (looks ++ look_of k look ∷ []) (made ++ occurrence_at session parts (looking t k) (reply.Looked look) ∷ [])
   look_more k look looks session parts made known = record {
@@ -159,6 +170,7 @@ module _ (store : StoreView) (t : ℕ) where
 
   -- ---- no memory
 
+  -- A compaction that was cut short after some looks answers that there was no memory.
   lost : (old new : Session) (k : ℕ) (made : List Occurrence) → IsSession store old → k ≤ blocks_of sh t → Went store old new asked made
       → events_in made ≡ map (looking t) (below k) → is_cut_short made ≡ true → Answers store old new (Compact t) said.Memory
   lost old new k made is le w events cut = went_call store old new (Compact t) (asked ++ moved_by made) made said.Memory is (went_wider store old new asked (moved_by made) made w) refl refl (inr (record {
@@ -275,6 +287,7 @@ blocks_rise n looks is = subst (λ (bs : List ℕ). AllPairs (λ one other. one 
 
 -- ---- what was seen, and the plan of it
 
+-- What all of a list and one more have, all with that one have.
 all_added : {X : Type 0} (P : X → Type 0) (xs : List X) (x : X) → All P xs → P x → All P (xs ++ x ∷ [])
 all_added P [] x all here = All-cons P x [] here all
 all_added P (y ∷ ys) x all here = All-cons P y (ys ++ x ∷ []) (All-head P y ys all) (all_added P ys x (All-tail P y ys all) here)

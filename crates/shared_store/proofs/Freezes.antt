@@ -12,6 +12,7 @@ use Rattle.event_spec.specs.Replies.{CoreReply, reply_to_seal}
 use Rattle.frame_laws.proofs.Looks.{within}
 use Rattle.workload_spec.specs.Valid.{is_block_of}
 
+-- A number that is tested as below another is below it.
 is_below : (a b : ℕ) → nat_lt a b ≡ true → a < b
 is_below a b e = grind (arith, nat_tests)
 

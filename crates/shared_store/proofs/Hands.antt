@@ -18,6 +18,7 @@ use Rattle.key_index.specs.Candidates.{candidates_of}
 use Rattle.shared_store.specs.Store.{HandsView, SeatView, StoreView, shape_in}
 use Rattle.store_laws.specs.Logs.{store_meaning}
 
+-- What each of a pass's hands has, the first has where there is one.
 first_has : {P : Type 0} (holds : List (Option P) → Type 0) (hands : List (List (Option P))) → length hands ≡ 1 → EachHand holds hands → holds (first_of hands)
 first_has holds [] one each = absurd (omega (arith, one))
 first_has holds (hand ∷ hands) one each = each.0
@@ -37,19 +38,24 @@ whole_held (n ∷ ns) [] w = refl
 whole_held (n ∷ ns) (p ∷ s) w = ap (λ x. cond (same_name n w) (Some p) x) (whole_held ns s w)
 
 module _ (sh : Shape) (hand : List (Option CorePart)) (s : Parts) (agrees : Agrees hand s) where
+  -- The part of a name that the hand holds, if it does.
   abbrev inhand : Name → Option CorePart
   inhand = held_named (names sh) hand
 
+  -- The part of a name among all parts.
   abbrev whole : Name → Option CorePart
   whole = held_named (names sh) (all_in s)
 
+  -- A part that an event touches is in a hand with its parts as among all.
   same_part : (e : CoreEvent) (w : Name) → Covers (touching sh e) hand → touched sh inhand e w ≡ true → inhand w ≡ whole w
   same_part e w covers is = look sh e hand s w covers agrees is ∙ sym (whole_held (names sh) s w)
 
+  -- A key's candidates are told by the hand as by all where the hand has the shard.
   same_places : (table : ℕ) (key : ℤ) → inhand (ShardOf table (shard_of key)) ≡ whole (ShardOf table (shard_of key))
       → held_places sh inhand table key ≡ held_places sh whole table key
   same_places table key is = ap (λ x. candidates_of (shard_from x) key) is
 
+  -- An event on a key touches the key's shard.
   shard_touched : (table : ℕ) (key : ℤ) (places : List ℕ) → touched_by_key table key places (ShardOf table (shard_of key)) ≡ true
   shard_touched table key places = or_left
       (same_name (ShardOf table (shard_of key)) (ShardOf table (shard_of key)))
@@ -63,6 +69,7 @@ module _ (sh : Shape) (hand : List (Option CorePart)) (s : Parts) (agrees : Agre
   by_key e table key own n covers is =
       ap (λ places. touched_by_key table key (own ++ places) n) (same_places table key (same_part e (ShardOf table (shard_of key)) covers is))
 
+  -- A hand with all parts of an event tells which names it touches as all parts do.
   same_touched : (e : CoreEvent) (n : Name) → Covers (touching sh e) hand → touched sh inhand e n ≡ touched sh whole e n
   same_touched (event.Begin session) n covers = refl
   same_touched (event.Get own table key) n covers = by_key (event.Get own table key) table key (option_to_list own.written) n covers

@@ -52,6 +52,7 @@ body_here sh hand s t b covers agrees holds has =
     (at_name sh s holds.sound.kinds (BodyOf t b) (body_named sh t b has))
 
 module _ (store : StoreView) (t : SeatView) (hands : HandsView) (table block : ℕ) (may : MayImageHeld store t hands table block) where
+  -- The parts that the pass's log leaves.
   abbrev now : Parts
   now = parts_seen (shape_in store) t.me.0
 

@@ -28,15 +28,14 @@ use Rattle.shared_store.proofs.Made.{one_hand}
 
 -- ---- heads and shards stand before bodies
 
+-- The first body of a table is not in front of the number to count from.
 start_from : (from : ℕ) (tables : List TableDecl) (t start : ℕ) → slice_get (first_bodies from tables) t ≡ Some start → from ≤ start
 start_from from [] t start is = cc
 start_from from (decl ∷ tables) zero start is = let same : from ≡ start = cc in omega (arith, same)
 start_from from (decl ∷ tables) (suc t) start is = let rest = start_from (from + decl.blocks) tables t start is in omega (arith, rest)
 
-some_is : {X : Type 0} (a b : X) → Some a ≡ Some b → a ≡ b
-some_is a b e = cc
-
 module _ (sh : Shape) where
+  -- A body's number is behind those of all heads and shards.
   body_high : (t b j : ℕ) → slice_get (names sh) j ≡ Some (BodyOf t b) → 9 * length sh.tables ≤ j
   body_high t b j at =
       let has = block_of_body sh t b (got_among (names sh) j (BodyOf t b) at) in
@@ -45,6 +44,7 @@ module _ (sh : Shape) where
       let same = named_once sh j (first.0 + b) (BodyOf t b) at (body_at_number sh t b first.0 has first.1) in
       omega (arith, low, same)
 
+  -- A head or a shard has a number in front of those of all bodies.
   low_under : (n : Name) (k : ℕ) → slice_get (names sh) k ≡ Some n → is_low n ≡ true → k < 9 * length sh.tables
   low_under (HeadOf t) k at low =
       let has = table_of_head sh t (got_among (names sh) k (HeadOf t) at) in
@@ -61,6 +61,7 @@ module _ (sh : Shape) where
 
 -- ---- which parts an event on a block touches
 
+-- The last two of three may be swapped in a disjunction.
 or_swap : (a b c : Bool) → ((a || b) || c) ≡ ((a || c) || b)
 or_swap true b c = refl
 or_swap false true true = refl
@@ -68,16 +69,19 @@ or_swap false true false = refl
 or_swap false false true = refl
 or_swap false false false = refl
 
+-- Where one of two holds, the first or the second does.
 or_either : (a b : Bool) → (a || b) ≡ true → (a ≡ true) ⊎ (b ≡ true)
 or_either true b is = inl refl
 or_either false b is = inr is
 
+-- What a pruning touches beside a body is a head or a shard.
 prune_low : (t : ℕ) (name : Name) → beside_prune t name ≡ true → is_low name ≡ true
 prune_low t (HeadOf u) is = refl
 prune_low t (ShardOf u i) is = refl
 prune_low t (BodyOf u b) is = is
 prune_low t TheDesk is = is
 
+-- What an observe touches beside a body is a head.
 observe_low : (t : ℕ) (name : Name) → beside_observe t name ≡ true → is_low name ≡ true
 observe_low t (HeadOf u) is = refl
 observe_low t (ShardOf u i) is = refl
@@ -101,34 +105,41 @@ observe_on_block sh t b = record { touches = λ held name. refl; low = observe_l
 pub part_is_none : (p : CorePart) → Some None ≡ Some (Some p) → ⊥
 part_is_none p e = cc
 
+-- A hand that was emptied holds no part.
 nothing_there : (hand : List (Option CorePart)) (k : ℕ) (p : CorePart) → slice_get (emptied hand) k ≡ Some (Some p) → ⊥
 nothing_there [] k p is = cc
 nothing_there (place ∷ hand) zero p is = part_is_none p is
 nothing_there (place ∷ hand) (suc k) p is = nothing_there hand k p is
 
+-- The first hand of a pass as if at rest holds no part.
 none_in_first : (hands : HandsView) (k : ℕ) → ¬ Holds (first_of (rested_hands hands)) k
 none_in_first [] k held = nothing_there [] k held.0 held.1
 none_in_first (hand ∷ hands) k held = nothing_there hand k held.0 held.1
 
+-- Stages that are all set to zero are zero.
 all_zero : (stages : List ℕ) (k : ℕ) → slice_index (map (λ stage. 0) stages) k ≡ 0
 all_zero [] zero = refl
 all_zero [] (suc k) = refl
 all_zero (s ∷ stages) zero = refl
 all_zero (s ∷ stages) (suc k) = all_zero stages k
 
+-- Hands as if at rest have as many places as they had.
 rested_places : (n : ℕ) (hands : HandsView) → EachHand (λ hand. length hand ≡ n) hands → EachHand (λ hand. length hand ≡ n) (rested_hands hands)
 rested_places n [] each = tt
 rested_places n (hand ∷ hands) each = (length-map hand (λ place. None) ∙ each.0, rested_places n hands each.1)
 
+-- Hands as if at rest hold no part.
 rested_empty : (hands : HandsView) → EachHand (λ hand. (k : ℕ) → ¬ Holds hand k) (rested_hands hands)
 rested_empty [] = tt
 rested_empty (hand ∷ hands) = (λ k held. nothing_there hand k held.0 held.1, rested_empty hands)
 
+-- The spare hands of a pass as if at rest hold no part.
 rested_spares : (hands : HandsView) → EachHand (λ hand. (k : ℕ) → ¬ Holds hand k) (spares_of (rested_hands hands))
 rested_spares [] = tt
 rested_spares (hand ∷ hands) = rested_empty hands
 
 module _ (store : StoreView) (session : ℕ) (seat : SeatView) (hands : HandsView) (own : Option OwnTransaction) (is : IsWithin store session seat hands own) where
+  -- A pass as if it had given all back knows what it must of its log and its hand.
   rested_knows : Knows (store_meaning (shape_in store)) seat.id (rested_seat seat).me (first_of (rested_hands hands))
   rested_knows = let k = is.pass.of.1 in record {
     none_out = k.none_out;

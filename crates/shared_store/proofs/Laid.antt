@@ -21,12 +21,15 @@ pub laid_all : (table : ℕ) (state : State) (rows more : List Row) → laid tab
 laid_all table state [] more = refl
 laid_all table state (first ∷ rows) more = laid_all table (insert_entry place_cmp state (place_of table first) first) rows more
 
+-- Numbers that are tested as the same are the same.
 num_is : (a b : ℕ) → (a == b) ≡ true → a ≡ b
 num_is a b e = grind (arith, nat_tests)
 
+-- The row of an entry where its place is of the table.
 abbrev kept : ℕ → Place × Row → Option Row
 kept table entry = cond (entry.0.table == table) (Some entry.1) None
 
+-- The contents of a table with an entry more are its own and those of the entry.
 contents_more : (table : ℕ) (entries : State) (place : Place) (row : Row)
     → contents_of table (entries ++ (place, row) ∷ []) ≡ contents_of table entries ++ contents_of table ((place, row) ∷ [])
 contents_more table entries place row = filter_map-append (kept table) entries ((place, row) ∷ [])

@@ -33,6 +33,7 @@ use Rattle.shared_store.proofs.Made.{one_hand}
 
 -- ---- few events
 
+-- A call makes so many events at most where its command has no more.
 call_few : (n : ℕ) (shape : Shape) (session : ℕ) (own : Option OwnTransaction) (refusal : Option Said) (call : Call)
     → ((made : List Occurrence) → length (events_of shape own session call.command made) ≤ n)
     → IsCallBy shape false session own refusal call → length call.made ≤ n
@@ -60,6 +61,7 @@ few_made n store old new command told few answers =
     let count = answers.count in
     omega (arith, made, count)
 
+-- What a transaction makes by one event is one at most, whether one is open or not.
 one_event : (o : Option OwnTransaction) (event : OwnTransaction → CoreEvent) → length (by_own o (λ t. event t ∷ [])) ≤ 1
 one_event None event = omega arith
 one_event (Some t) event = omega arith
@@ -92,10 +94,12 @@ module _ (store : StoreView) (session : ℕ) (seat : SeatView) (hands : HandsVie
 
 -- ---- sessions
 
+-- The last session of a row is at its end.
 last_there : (xs : List Session) (s : Session) → slice_get (xs ++ s ∷ []) (length xs) ≡ Some s
 last_there [] s = refl
 last_there (x ∷ xs) s = last_there xs s
 
+-- The last session but one of a row is in front of its end.
 next_there : (xs : List Session) (s t : Session) → slice_get ((xs ++ s ∷ []) ++ t ∷ []) (length xs) ≡ Some s
 next_there [] s t = refl
 next_there (x ∷ xs) s t = next_there xs s t

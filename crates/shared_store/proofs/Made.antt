@@ -97,6 +97,7 @@ replied_of Q shape parts e told m = go (lacks_memory told) refl (subst (λ b. Ma
 -- ---- what a pass knows
 
 module _ (store : StoreView) (session : ℕ) (seat : SeatView) (hands : HandsView) (own : Option OwnTransaction) (is : IsWithin store session seat hands own) where
+  -- A session's pass knows what it must of its log and its hand.
   knows_of : Knows (store_meaning (shape_in store)) seat.id seat.me (first_of hands)
   knows_of = is.pass.of.1
 

@@ -10,14 +10,17 @@ use Rattle.isolation_spec.specs.Contents.{PlaceMap, at_place, is_place, place_cm
 use Rattle.isolation_spec.specs.declared.place.Place.{Place}
 use Rattle.shared_store.specs.Writing.{roomed}
 
+-- An answer that is its own reverse is equal.
 self_equal : (r : Ordering) → r ≡ ordering_reverse r → r ≡ Equal
 self_equal Less h = absurd (let never : ⊥ = cc in never)
 self_equal Equal h = refl
 self_equal Greater h = absurd (let never : ⊥ = cc in never)
 
+-- A place compares as equal to itself.
 same : (p : Place) → place_cmp p p ≡ Equal
 same p = self_equal (place_cmp p p) (place_cmp-total.antisymm p p)
 
+-- A place is tested as the same as itself.
 itself : (p : Place) → is_place p p ≡ true
 itself p = ap is_eq (same p)
 
@@ -62,6 +65,7 @@ laid_there (e ∷ m) p one = go (place_cmp p e.0) refl (laid_there m p one)
     go Equal is rest = ap (λ r. cond (is_eq r) (Some one) (at_place m p)) is
     go Greater is rest = ap (λ r. cond (is_eq r) (Some e.1) (at_place (insert_entry place_cmp m p one) p)) is ∙ rest
 
+-- A number is not nothing.
 some_none : (x : ℕ) → Some x ≡ None → ⊥
 some_none x h = cc
 

@@ -21,6 +21,7 @@ use Rattle.shared_store.specs.declared.session.Session.{Session}
 use Rattle.shared_store.proofs.Scanned.{plain_granted, went_call}
 use Rattle.shared_store.proofs.Swept.{block_among, sweeps_block}
 
+-- One observe more adds to the count of blocks that turned cooling whether its block did.
 turned_more : (t b more : ℕ) (turned : Bool) → more ≡ cond turned 1 0
     → (session sum : ℕ) (parts : Parts) (made : List Occurrence) → HaveTurned sum made
     → HaveTurned (sum + more) (made ++ occurrence_at session parts (observing t b) (reply.Turned turned) ∷ [])

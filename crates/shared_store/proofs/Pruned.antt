@@ -1,4 +1,5 @@
--- A pruning: the stamp that its `oldest` replies lasts, and prunes by it are made one after another.
+-- A pruning: the stamp that its `oldest` replies lasts, and prunes by it are made one after
+-- another.
 use Rattle.std.proofs.Common.{◌≡◌, ℕ, ◌+◌, false, List, [], ◌∷◌, ◌++◌, Some, map, refl, sym, ap, subst, ◌∙◌, append-nil, arith}
 use mathlib.Core.Logic.{inl, inr}
 use Rattle.std.specs.Prelude.{filter_map, flat_map, fold, sum_by}
@@ -38,9 +39,11 @@ parts_added sh log entry =
     ap (fold (after sh) (opening sh)) (map-append (λ (e : Logged). e.made) log (entry ∷ []))
     ∙ fold-append (after sh) (opening sh) (made_in log) (entry.made ∷ [])
 
+-- The reply that the oldest stamp is this.
 abbrev oldest_reply : ℕ → CoreReply
 oldest_reply stamp = reply.Oldest stamp
 
+-- Replies of an oldest stamp that are one have the same stamp.
 same_stamp : (m n : ℕ) → oldest_reply m ≡ oldest_reply n → m ≡ n
 same_stamp m n e = cc
 
@@ -66,6 +69,7 @@ oldest_known store old new oldest asks = subst (IsOldest (shape_in store) oldest
 -- ---- the events
 
 module _ (store : StoreView) (oldest : ℕ) where
+  -- The events of a pruning by the stamp.
   abbrev asked : List CoreEvent
   asked = asked_by (shape_in store) oldest
 
@@ -77,6 +81,7 @@ module _ (store : StoreView) (oldest : ℕ) where
       (λ parts made none'. subst (λ (xs : List Occurrence). HaveDropped oldest 0 (xs ++ occurrence_at old.session parts event.Oldest (reply.Oldest oldest) ∷ [])) (sym none')
       (record { stamps = refl; counted = refl }))
 
+  -- One prune more adds what it dropped to what was dropped before.
   dropped_more : (t b more session sum : ℕ) (parts : Parts) (made : List Occurrence) → HaveDropped oldest sum made
       → HaveDropped oldest (sum + more) (made ++ occurrence_at session parts (pruning oldest t b) (reply.Dropped more) ∷ [])
   dropped_more t b more session sum parts made known = record {

@@ -36,14 +36,17 @@ use Rattle.shared_store.proofs.Sessions.{session_is}
 
 -- ---- the sessions 1 to n
 
+-- The greatest of some sessions and one more is the greater of theirs and it.
 greatest_end : (qs : List ℕ) (q : ℕ) → greatest (qs ++ q ∷ []) ≡ max (greatest qs) q
 greatest_end [] q = omega arith
 greatest_end (r ∷ rs) q = let h = greatest_end rs q in omega (arith, h)
 
+-- The greatest of the sessions up to a number is that number.
 greatest_to : (n : ℕ) → greatest (sessions_to n) ≡ n
 greatest_to zero = refl
 greatest_to (suc n) = let h = greatest_to n in let e = greatest_end (sessions_to n) (suc n) in omega (arith, h, e)
 
+-- Sessions without a last one that is none of the others are the others.
 without_end : (qs : List ℕ) (q : ℕ) → has q qs ≡ false → without q (qs ++ q ∷ []) ≡ qs
 without_end [] q none' = ap (λ b. cond b [] (q ∷ [])) (eq-eqb q q refl)
 without_end (r ∷ rs) q none' = go (q == r) refl (λ away. without_end rs q away)
@@ -59,6 +62,7 @@ without_to : (n : ℕ) → without (greatest (sessions_to (suc n))) (sessions_to
 without_to n = ap (λ q. without q (sessions_to (suc n))) (greatest_to (suc n))
     ∙ without_end (sessions_to n) (suc n) (not_true (has (suc n) (sessions_to n)) (λ h. let b = below_to n (suc n) h in absurd (omega (arith, b))))
 
+-- The sessions up to a number have each from one up to it.
 has_to : (n q : ℕ) → 1 ≤ q → q ≤ n → has q (sessions_to n) ≡ true
 has_to zero q some below = absurd (omega (arith, some, below))
 has_to (suc n) q some below = by_cases q (suc n) (has q (sessions_to (suc n)) ≡ true)

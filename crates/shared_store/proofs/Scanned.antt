@@ -37,6 +37,7 @@ use Rattle.shared_store.proofs.Laid.{laid_all}
 
 -- ---- parts that were taken
 
+-- A part that is in two lists in a row is in one of them.
 has_either : (k : ℕ) (xs ys : List ℕ) → has k (xs ++ ys) ≡ true → (has k xs ≡ true) ⊎ (has k ys ≡ true)
 has_either k [] ys is = inr is
 has_either k (x ∷ xs) ys is = go (Rattle.std.specs.Prelude.nat_eq k x) is (has_either k xs ys)
@@ -70,6 +71,7 @@ took_more sh events e old mid new taken between later one on more first then = r
 
 -- ---- events one after another
 
+-- The last of events with one more behind them is that one.
 last_added : (o : Option Occurrence) (xs : List Occurrence) (x : Occurrence) → last_or o (xs ++ x ∷ []) ≡ Some x
 last_added o [] x = refl
 last_added o (y ∷ ys) x = last_added (Some y) ys x
@@ -218,6 +220,7 @@ rest_of n k le =
     let r = below_rest k (n - k) in
     (r.0, ap below (omega (arith, le)) ∙ r.1)
 
+-- The image of an element is among the images.
 member_map : {X Y : Type 0} (f : X → Y) (xs ys : List X) (x : X) → Among (f x) (map f (xs ++ x ∷ ys))
 member_map f [] ys x = inl refl
 member_map f (z ∷ zs) ys x = inr (member_map f zs ys x)
@@ -256,6 +259,7 @@ module _ (store : StoreView) (own : OwnTransaction) (t : ℕ) where
       ∙ ap (λ es. es ++ event.Read own t k ∷ []) s.events
       ∙ sym (ap (map (event.Read own t)) (below_more k) ∙ map-append (event.Read own t) (below k) (k ∷ []))
 
+  -- The rows told by replies with one more are theirs and that one's.
   flat_more : (replies : List CoreReply) (told : CoreReply) → flat_map rows_told (replies ++ told ∷ []) ≡ flat_map rows_told replies ++ rows_told told
   flat_more [] told = append-nil (rows_told told)
   flat_more (x ∷ xs) told = ap (λ rs. rows_told x ++ rs) (flat_more xs told) ∙ sym (append_assoc (rows_told x) (flat_map rows_told xs) (rows_told told))

@@ -25,6 +25,7 @@ is_meaning store is =
     ap (λ (s : Parts). core_meaning store.core.shape s store.passes 0) is.opening.parts_are
     ∙ ap (λ n. core_meaning store.core.shape (opening store.core.shape) n 0) is.passes
 
+-- Entries named up to a number stand in the log under sessions from 1 up to it.
 each_named : (n : ℕ) (log : List (Entry CoreEvent)) → NamedTo n log → All (IsNamed n) (log_of log)
 each_named n [] named = All-nil (IsNamed n)
 each_named n (e ∷ log) named = All-cons (IsNamed n) (logged_of e) (log_of log) (named.0, named.1) (each_named n log named.2)

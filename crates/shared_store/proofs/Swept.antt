@@ -22,6 +22,7 @@ use Rattle.shared_store.proofs.Sessions.{session_is}
 
 -- ---- the events of blocks
 
+-- What is made of a list with one more is that of the list and of the one.
 flat_added : {X Y : Type 0} (f : X → List Y) (xs : List X) (x : X) → flat_map f (xs ++ x ∷ []) ≡ flat_map f xs ++ f x
 flat_added f [] x = append-nil (f x)
 flat_added f (y ∷ ys) x = ap (λ zs. f y ++ zs) (flat_added f ys x) ∙ sym (append_assoc (f y) (flat_map f ys) (f x))
@@ -43,6 +44,7 @@ module _ (sh : Shape) (event : ℕ → ℕ → CoreEvent) where
   abbrev pub at_tables : ℕ → List CoreEvent
   at_tables n = flat_map (λ table. at_blocks sh table (event table)) (below n)
 
+  -- The events of one table more stand behind those of the tables before it.
   table_more : (t : ℕ) → at_tables t ++ at_blocks sh t (event t) ≡ at_tables (t + 1)
   table_more t = sym (ap (flat_map (λ table. at_blocks sh table (event table))) (below_more t) ∙ flat_added (λ table. at_blocks sh table (event table)) (below t) t)
 

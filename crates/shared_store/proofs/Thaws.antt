@@ -109,9 +109,11 @@ module _ (sh : Shape) (s : Parts) (t b : ℕ) where
   abbrev pub behind : Parts
   behind = effect sh s (event.Thaw t b)
 
+  -- What a thaw of the block changes.
   abbrev thaw : Changes
   thaw = record nothing { body = at_both t b thawed }
 
+  -- A thaw leaves a shard as it is, if there is one.
   shard_stays : (u i : ℕ) (o : Option CorePart) → option_map (changed thaw (ShardOf u i)) o ≡ o
   shard_stays u i None = refl
   shard_stays u i (Some (part.Head x)) = refl
@@ -123,9 +125,11 @@ module _ (sh : Shape) (s : Parts) (t b : ℕ) where
   pub shard_same : (u i : ℕ) → part_at sh behind (ShardOf u i) ≡ part_at sh s (ShardOf u i)
   shard_same u i = named_changed thaw (names sh) s (ShardOf u i) ∙ shard_stays u i (part_at sh s (ShardOf u i))
 
+  -- A thaw leaves the candidates of each key.
   places_same : (u : ℕ) (key : ℤ) → places_at sh behind u key ≡ places_at sh s u key
   places_same u key = ap (λ o. candidates_of (shard_from o) key) (shard_same u (shard_of key))
 
+  -- A thaw leaves the slots of a body, if there is one.
   slots_stay : (u x j : ℕ) (o : Option CorePart) → slot_in (body_from (option_map (changed thaw (BodyOf u x)) o)) j ≡ slot_in (body_from o) j
   slots_stay u x j None = refl
   slots_stay u x j (Some (part.Head y)) = refl
@@ -137,11 +141,13 @@ module _ (sh : Shape) (s : Parts) (t b : ℕ) where
       go true = refl
       go false = refl
 
+  -- A thaw leaves each slot.
   slot_same : (u p : ℕ) → slot_at sh behind u p ≡ slot_at sh s u p
   slot_same u p =
       ap (λ o. slot_in (body_from o) (slot_of p)) (named_changed thaw (names sh) s (BodyOf u (block_of p)))
       ∙ slots_stay u (block_of p) (slot_of p) (part_at sh s (BodyOf u (block_of p)))
 
+  -- The thawed body, if there is one, is not imaged.
   loose_there : (o : Option CorePart) → is_imaged (body_from (option_map (changed thaw (BodyOf t b)) o)).phase ≡ false
   loose_there None = refl
   loose_there (Some (part.Head y)) = refl
@@ -149,9 +155,11 @@ module _ (sh : Shape) (s : Parts) (t b : ℕ) where
   loose_there (Some (part.Desk y)) = refl
   loose_there (Some (part.Body y)) = ap (λ z. is_imaged (cond z (thawed y) y).phase) (name_self (BodyOf t b))
 
+  -- Behind the thaw the block's body is not imaged.
   loose : is_imaged (body_at sh behind t b).phase ≡ false
   loose = ap (λ o. is_imaged (body_from o).phase) (named_changed thaw (names sh) s (BodyOf t b)) ∙ loose_there (part_at sh s (BodyOf t b))
 
+  -- A thaw leaves the current place of each key of the table.
   current_stays : (key : ℤ) → current_place (slot_at sh behind t) (places_at sh behind t key) ≡ current_place (slot_at sh s t) (places_at sh s t key)
   current_stays key =
       let slots : slot_at sh behind t ≡ slot_at sh s t = λ i p. slot_same t p i in

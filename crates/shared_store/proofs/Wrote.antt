@@ -51,6 +51,7 @@ writes_reply told judged (inl is) = subst IsWriteReply (sym is) tt
 writes_reply told (Ok slot) (inr is) = subst IsWriteReply (sym is) tt
 writes_reply told (Err fault) (inr is) = subst IsWriteReply (sym is) tt
 
+-- A write settled among those kept is what the reply makes of the open transaction.
 own_settled : (session : ℕ) (writes : PlaceMap ℕ) (snapshot : Snapshot) (place : Place) (told : CoreReply)
     → opened_at session (settled writes place told) snapshot ≡ with_own place told (opened_at session writes snapshot)
 own_settled session writes snapshot place (reply.Begun begun) = refl

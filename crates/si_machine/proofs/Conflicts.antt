@@ -20,11 +20,13 @@ use Rattle.si_machine.proofs.Parts.{find-map}
 abbrev pub kept_rival : ℕ → Place → List OpenTransaction → Option OpenTransaction
 kept_rival session place ts = find (λ t. not (eqb t.session session) && writes_place place t.own.entries) ts
 
+-- A conflict told by the machine's transaction is one told by the kept one's session.
 session-by : (o : Option OpenTransaction) → option_map (λ (rival : Transaction). answer.ConflictSession rival.session) (option_map transaction_in o)
     ≡ option_map answer.ConflictSession (option_map (λ (t : OpenTransaction). t.session) o)
 session-by None = refl
 session-by (Some t) = refl
 
+-- The conflict with the machine's rival for a place is that with the kept one's session.
 rival-is : (ledger : Ledger) (session : ℕ) (place : Place)
     → option_map (λ (rival : Transaction). answer.ConflictSession rival.session) (rival_of (machine_in ledger) session place)
     ≡ option_map answer.ConflictSession (option_map (λ (t : OpenTransaction). t.session) (kept_rival session place ledger.transactions.items))

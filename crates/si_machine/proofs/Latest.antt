@@ -18,6 +18,7 @@ abbrev pub left_by : Place → ℕ → History → Option (List Cell) → Option
 left_by q at history before None = before
 left_by q at history before (Some number) = unwrap_or (at_place (get_or history (number - at) []) q) None
 
+-- What a commit leaves at a place is what it wrote there, or else what was there.
 here : (q : Place) (at : ℕ) (writes : WriteSet) (later : History) (before : Option (List Cell)) (change : Option (Option (List Cell))) → at_place writes q ≡ change
     → unwrap_or change before ≡ left_by q at (writes ∷ later) before (cond (is_some change) (Some at) None)
 here q at writes later before None is = refl
@@ -25,10 +26,12 @@ here q at writes later before (Some row) is =
     let first : at - at ≡ 0 = omega arith in
     sym (ap (λ (i : ℕ). unwrap_or (at_place (get_or (writes ∷ later) i []) q) None) first ∙ ap (λ (o : Option (Option (List Cell))). unwrap_or o None) is)
 
+-- The commit of a number is one place less behind without the first.
 one-behind : (at number : ℕ) (writes : WriteSet) (later : History) → at + 1 ≤ number → get_or (writes ∷ later) (number - at) [] ≡ get_or later (number - (at + 1)) []
 one-behind at number writes later above =
     let e : number - at ≡ suc (number - (at + 1)) = omega arith in ap (λ (i : ℕ). get_or (writes ∷ later) i []) e
 
+-- With one commit more in front, what a place has is still what its last writer left.
 latest-step : (q : Place) (at : ℕ) (writes : WriteSet) (later : History) (acc : State) (o : Option ℕ) → last_writer q (at + 1) later ≡ o
     → at_place (fold laid_over (laid_over acc writes) later) q ≡ left_by q (at + 1) later (unwrap_or (at_place writes q) (at_place acc q)) o
     → at_place (fold laid_over (laid_over acc writes) later) q ≡ left_by q at (writes ∷ later) (at_place acc q) (option_or o (cond (writes_place q writes) (Some at) None))
@@ -48,11 +51,13 @@ at-fold q at (writes ∷ later) acc h k =
 
 -- ---- the last of the numbers
 
+-- With a number in front or not, the last of the numbers is still that of the last writer.
 last-step : (q : Place) (at : ℕ) (later : History) (o : Option ℕ) (b : Bool) → ((o : Option ℕ) → last_or o (numbers_from q (at + 1) later) ≡ option_or (last_writer q (at + 1) later) o)
     → last_or o (if b then at ∷ numbers_from q (at + 1) later else numbers_from q (at + 1) later) ≡ option_or (option_or (last_writer q (at + 1) later) (cond b (Some at) None)) o
 last-step q at later o true rest = rest (Some at) ∙ sym (over (last_writer q (at + 1) later) at o)
 last-step q at later o false rest = rest o ∙ sym (ap (λ (l : Option ℕ). option_or l o) (nothing-more (last_writer q (at + 1) later)))
 
+-- The last of a place's numbers, or else one before them, is that of the last writer.
 last-onto : (q : Place) (at : ℕ) (history : History) (o : Option ℕ) → last_or o (numbers_from q at history) ≡ option_or (last_writer q at history) o
 last-onto q at [] o = refl
 last-onto q at (writes ∷ later) o = last-step q at later o (writes_place q writes) (last-onto q (at + 1) later)
@@ -64,18 +69,22 @@ last-numbers q at history = last-onto q at history None ∙ nothing-more (last_w
 -- ---- the numbers up to a bound
 
 module _ (bound : ℕ) where
+  -- The number is not above the bound.
   abbrev is_up_to : ℕ → Bool
   is_up_to number = nat_le number bound
 
+  -- With a number above the bound in front or not, no number is up to the bound.
   none-step : (at : ℕ) (later : List ℕ) (b : Bool) → bound < at → filter is_up_to later ≡ [] → filter is_up_to (if b then at ∷ later else later) ≡ []
   none-step at later true above rest = let past : nat_le at bound ≡ false = grind (arith, nat_tests, above) in rw past rest
   none-step at later false above rest = rest
 
+  -- Where the first number is above the bound, none of a place's numbers is up to it.
   none-up-to : (q : Place) (at : ℕ) (history : History) → bound < at → filter is_up_to (numbers_from q at history) ≡ []
   none-up-to q at [] above = refl
   none-up-to q at (writes ∷ later) above =
       none-step at (numbers_from q (at + 1) later) (writes_place q writes) above (none-up-to q (at + 1) later (omega (arith, above)))
 
+  -- A number up to the bound, in front or not, is kept in front of those that are.
   up-to-step : (at left : ℕ) (all some : List ℕ) (b : Bool) → bound + 1 ≡ at + suc left → filter is_up_to all ≡ some
       → filter is_up_to (if b then at ∷ all else all) ≡ (if b then at ∷ some else some)
   up-to-step at left all some true is rest =
@@ -98,6 +107,7 @@ abbrev pub from_on : ℕ → Option ℕ → Option ℕ
 from_on low None = None
 from_on low (Some number) = if nat_le low number then Some number else None
 
+-- The number of a place's last writer is not below the first number.
 all-from : (q : Place) (at : ℕ) (history : History) (o : Option ℕ) → last_writer q at history ≡ o → o ≡ from_on at o
 all-from q at history None is = refl
 all-from q at history (Some number) is =
@@ -106,6 +116,7 @@ all-from q at history (Some number) is =
     let test : nat_le at number ≡ true = grind (arith, nat_tests, above) in
     rw test refl
 
+-- A number below the bound in front is none from the bound on.
 from-step : (at low : ℕ) (o : Option ℕ) (b : Bool) → at < low → from_on low o ≡ from_on low (option_or o (cond b (Some at) None))
 from-step at low (Some number) b less = refl
 from-step at low None true less = let past : nat_le low at ≡ false = grind (arith, nat_tests, less) in rw past refl
@@ -124,17 +135,20 @@ last-behind q at (suc n) (writes ∷ later) =
 
 -- ---- the numbers rise
 
+-- With a number in front or not, none of the numbers is below it.
 low-step : (at : ℕ) (later : List ℕ) (b : Bool) (j d : ℕ) → ((j : ℕ) → j < length later → at + 1 ≤ get_or later j d)
     → j < length (if b then at ∷ later else later) → at ≤ get_or (if b then at ∷ later else later) j d
 low-step at later true zero d rest h = omega arith
 low-step at later true (suc j) d rest h = let within : j < length later = omega (arith, h) in omega (arith, rest j within)
 low-step at later false j d rest h = omega (arith, rest j h)
 
+-- None of a place's numbers is below the first number.
 numbers-low : (q : Place) (at : ℕ) (history : History) (j d : ℕ) → j < length (numbers_from q at history) → at ≤ get_or (numbers_from q at history) j d
 numbers-low q at [] j d within = absurd (omega (arith, within))
 numbers-low q at (writes ∷ later) j d within =
     low-step at (numbers_from q (at + 1) later) (writes_place q writes) j d (λ j h. numbers-low q (at + 1) later j d h) within
 
+-- With a number in front or not, the numbers do not fall.
 rise-step : (at : ℕ) (later : List ℕ) (b : Bool) (i j d : ℕ) → ((j : ℕ) → j < length later → at + 1 ≤ get_or later j d)
     → ((i j : ℕ) → i ≤ j → j < length later → get_or later i d ≤ get_or later j d)
     → i ≤ j → j < length (if b then at ∷ later else later) → get_or (if b then at ∷ later else later) i d ≤ get_or (if b then at ∷ later else later) j d

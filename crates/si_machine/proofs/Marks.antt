@@ -22,13 +22,16 @@ use Rattle.si_machine.proofs.Scanned.{unlike}
 abbrev pub is_among : Place → List Place → Bool
 is_among place places = list_any (is_place place) places
 
+-- Two places are tested as one whichever comes first.
 symmetric : (a b : Place) → is_place a b ≡ is_place b a
 symmetric = (eq_by_cmp_equiv place_cmp-total).symm
 
+-- Where neither of two holds, their disjunction does not.
 either-false : (a b : Bool) → a ≡ false → b ≡ false → (a || b) ≡ false
 either-false true b h k = h
 either-false false b h k = k
 
+-- A place that is below all of some places is none of them.
 none-above : (place : Place) (places : List Place) → AllByRecursion (λ other. place_cmp place other ≡ Less) places → is_among place places ≡ false
 none-above place [] h = refl
 none-above place (other ∷ places) h =
@@ -39,6 +42,7 @@ pub record Wrote (before now : Writers) (place : Place) (was numbers : Vec ℕ G
   pub found : at_place before.places.entries place ≡ Some was
   pub after : (other : Place) → at_place now.places.entries other ≡ cond (is_place place other) (Some numbers) (at_place before.places.entries other)
 
+-- Numbers set for a place that had some leave whether each place has any.
 has-by : (was numbers : Vec ℕ Global) (b : Bool) (old : Option (Vec ℕ Global)) → (b ≡ true → old ≡ Some was) → is_some (cond b (Some numbers) old) ≡ is_some old
 has-by was numbers true old same = sym (ap is_some (same refl))
 has-by was numbers false old same = refl
@@ -50,6 +54,7 @@ has-same before now place was numbers wrote other =
     ∙ has-by was numbers (is_place place other) (at_place before.places.entries other)
     (λ is. ap (at_place before.places.entries) (sym (same-place place other is)) ∙ wrote.found)
 
+-- Numbers set for a place to what they were leave those of each place.
 items-by : (was numbers : Vec ℕ Global) (b : Bool) (old : Option (Vec ℕ Global)) → numbers.items ≡ was.items → (b ≡ true → old ≡ Some was)
     → option_map_or (λ (ns : Vec ℕ Global). ns.items) (cond b (Some numbers) old) [] ≡ option_map_or (λ (ns : Vec ℕ Global). ns.items) old []
 items-by was numbers true old items same = items ∙ sym (ap (λ (o : Option (Vec ℕ Global)). option_map_or (λ (ns : Vec ℕ Global). ns.items) o []) (same refl))
@@ -67,11 +72,13 @@ numbers-same before now place was numbers wrote items other =
 abbrev pub roomy : Option (Vec ℕ Global) → Type 0
 roomy o = IsSomeAnd o (λ numbers. vec_len numbers < vec_capacity numbers)
 
+-- With room made at one place, a place has room if it is that one or had it.
 room-by : (was numbers : Vec ℕ Global) (b : Bool) (old : Option (Vec ℕ Global)) → (b ≡ true → vec_len numbers < vec_capacity numbers) → (b ≡ false → roomy old) → roomy (cond b (Some numbers) old)
 room-by was numbers true old here there = here refl
 room-by was numbers false old here there = there refl
 
--- Room that is made at one place more: what had room has it, and what is left to be given room is the same.
+-- Room that is made at one place more: what had room has it, and what is left to be given room is
+-- the same.
 pub room-made : (before now : Writers) (place : Place) (was numbers : Vec ℕ Global) → Wrote before now place was numbers → vec_len numbers < vec_capacity numbers
     → (wanted : Place → Bool) (rest : List Place)
     → ((other : Place) → wanted other ≡ true → is_among other (place ∷ rest) ≡ false → HasRoom before other)
@@ -103,6 +110,7 @@ room-left before now place was numbers wrote rest sorted had other among = by (i
         absurd (let never : ⊥ = cc in never)
     by false is = subst roomy (sym (wrote.after other ∙ ap (λ (b : Bool). cond b (Some numbers) (at_place before.places.entries other)) is)) earlier
 
+-- A number put behind those of one place more is one of those that were to come.
 marked-by : (was numbers : Vec ℕ Global) (number : ℕ) (more a b : Bool) (old : Option (Vec ℕ Global)) → numbers.items ≡ was.items ++ number ∷ [] → a ≡ b
     → (b ≡ true → old ≡ Some was) → (b ≡ true → more ≡ false)
     → option_map_or (λ (ns : Vec ℕ Global). ns.items) (cond b (Some numbers) old) [] ++ (if more then number ∷ [] else [])
@@ -128,12 +136,14 @@ among-written place writes places is = is_some-lookup (is_place place) writes �
 
 -- ---- a place that is added, without numbers
 
+-- An option that is tested as nothing is nothing.
 none-there : {X : Type 0} (o : Option X) → is_some o ≡ false → o ≡ None
 none-there None h = refl
 none-there (Some x) h = let never : ⊥ = cc in absurd never
 
 module _ (before now : Writers) (place : Place) (fresh : Vec ℕ Global) (empty : fresh.items ≡ []) (missed : is_some (at_place before.places.entries place) ≡ false)
     (after : (other : Place) → at_place now.places.entries other ≡ cond (is_place place other) (Some fresh) (at_place before.places.entries other)) where
+  -- Numbers set to none at a place without any leave those of each place.
   added-by : (b : Bool) (old : Option (Vec ℕ Global)) → (b ≡ true → old ≡ None)
       → option_map_or (λ (ns : Vec ℕ Global). ns.items) (cond b (Some fresh) old) [] ≡ option_map_or (λ (ns : Vec ℕ Global). ns.items) old []
   added-by true old none = empty ∙ sym (ap (λ (o : Option (Vec ℕ Global)). option_map_or (λ (ns : Vec ℕ Global). ns.items) o []) (none refl))
@@ -146,6 +156,7 @@ module _ (before now : Writers) (place : Place) (fresh : Vec ℕ Global) (empty 
       ∙ added-by (is_place place other) (at_place before.places.entries other)
       (λ is. ap (at_place before.places.entries) (sym (same-place place other is)) ∙ none-there (at_place before.places.entries place) missed)
 
+  -- A place that was there is there with another one set.
   stays-by : (b : Bool) (old : Option (Vec ℕ Global)) → is_some old ≡ true → is_some (cond b (Some fresh) old) ≡ true
   stays-by true old h = refl
   stays-by false old h = h
@@ -154,6 +165,7 @@ module _ (before now : Writers) (place : Place) (fresh : Vec ℕ Global) (empty 
   pub added-stays : (other : Place) → has_place before other ≡ true → has_place now other ≡ true
   added-stays other h = ap is_some (after other) ∙ stays-by (is_place place other) (at_place before.places.entries other) h
 
+  -- A place that is there with one set is that one or was there.
   only-by : (other : Place) (b : Bool) → is_place place other ≡ b → is_some (cond b (Some fresh) (at_place before.places.entries other)) ≡ true → (other ≡ place) ⊎ (has_place before other ≡ true)
   only-by other true is h = inl (sym (same-place place other is))
   only-by other false is h = inr h

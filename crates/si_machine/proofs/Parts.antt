@@ -1,10 +1,12 @@
--- Parts of lists: the front up to a partition point, the last element, and what a map of lists has at one index.
+-- Parts of lists: the front up to a partition point, the last element, and what a map of lists has
+-- at one index.
 use Rattle.std.proofs.Common.{◌≡◌, ℕ, ◌+◌, ◌-◌, ◌<◌, ◌≤◌, zero, suc, Bool, true, false, cond, not, List, [], ◌∷◌, ◌++◌, length, map, take, get_or, nat_lt, Option, None, Some, refl, ap, ◌∙◌, subst, arith}
 use Rattle.std.specs.List.{filter, last_or, slice_get, find, position, position_or_len}
 use Rattle.std.proofs.lemmas.Bool.Decides.{nat_tests}
 use Rattle.std.specs.Prelude.{option_map, Result, Ok, Err, OnErr}
 use Rattle.std.proofs.Math.ListN.{set}
 
+-- Where no element passes, none is kept.
 filter-none : {X : Type 0} (p : X → Bool) (xs : List X) (d : X) → ((k : ℕ) → k < length xs → p (get_or xs k d) ≡ false) → filter p xs ≡ []
 filter-none p [] d h = refl
 filter-none p (x ∷ xs) d h =
@@ -22,6 +24,7 @@ filter-take p (x ∷ xs) (suc i) d within pass fail =
     (filter-take p xs i d (omega (arith, within)) (λ k below. pass (suc k) (omega (arith, below)))
     (λ k from below. fail (suc k) (omega (arith, from)) (omega (arith, below)))))
 
+-- The element at the last index of a list with a first one is its last.
 last-onto : {X : Type 0} (x : X) (xs : List X) → slice_get (x ∷ xs) (length xs) ≡ last_or (Some x) xs
 last-onto x [] = refl
 last-onto x (y ∷ ys) = last-onto y ys
@@ -45,6 +48,7 @@ set-map f [] i x = refl
 set-map f (y ∷ xs) zero x = refl
 set-map f (y ∷ xs) (suc i) x = ap (λ (ys : List _). f y ∷ ys) (set-map f xs i x)
 
+-- The image of a choice is the choice of the images.
 chosen-map : {X Y : Type 0} (f : X → Y) (b : Bool) (x : X) (later : Option X) → cond b (Some (f x)) (option_map f later) ≡ option_map f (cond b (Some x) later)
 chosen-map f true x later = refl
 chosen-map f false x later = refl
@@ -61,6 +65,7 @@ pub record Found {X : Type 0} (p : X → Bool) (xs : List X) (at : ℕ) : Type 0
   pub found : find p xs ≡ Some element
   pub there : (d : X) → get_or xs at d ≡ element
 
+-- The position found with one element more in front has the element that is found.
 found-first : {X : Type 0} (p : X → Bool) (b : Bool) (x : X) (xs : List X) → p x ≡ b → (position_or_len p xs < length xs → Found p xs (position_or_len p xs))
     → cond (not b) (1 + position_or_len p xs) 0 < suc (length xs) → Found p (x ∷ xs) (cond (not b) (1 + position_or_len p xs) 0)
 found-first p true x xs is rest h = record { inside = omega arith; element = x; found = ap (λ (b : Bool). cond b (Some x) (find p xs)) is; there = λ d. refl }
@@ -74,19 +79,23 @@ found-first p false x xs is rest h =
       there = λ d. ap (λ (i : ℕ). get_or (x ∷ xs) i d) next ∙ later.there d;
     }
 
+-- A position within a list has the element that is found.
 found-within : {X : Type 0} (p : X → Bool) (xs : List X) → position_or_len p xs < length xs → Found p xs (position_or_len p xs)
 found-within p [] h = absurd (omega (arith, h))
 found-within p (x ∷ xs) h = found-first p (p x) x xs refl (found-within p xs) h
 
+-- Where no position is within a list with one more in front, none is found.
 missed-first : {X : Type 0} (p : X → Bool) (b : Bool) (x : X) (xs : List X) → p x ≡ b → (length xs ≤ position_or_len p xs → find p xs ≡ None)
     → suc (length xs) ≤ cond (not b) (1 + position_or_len p xs) 0 → cond b (Some x) (find p xs) ≡ None
 missed-first p true x xs is rest h = absurd (omega (arith, h))
 missed-first p false x xs is rest h = rest (omega (arith, h))
 
+-- Where the position is past the end, no element is found.
 missed-past : {X : Type 0} (p : X → Bool) (xs : List X) → length xs ≤ position_or_len p xs → find p xs ≡ None
 missed-past p [] h = refl
 missed-past p (x ∷ xs) h = missed-first p (p x) x xs refl (missed-past p xs) h
 
+-- A position that is told, by whether it is within, has the element that is found.
 found-by : {X : Type 0} (p : X → Bool) (xs : List X) (at : ℕ) (b : Bool) → nat_lt (position_or_len p xs) (length xs) ≡ b → cond b (Some (position_or_len p xs)) None ≡ Some at → Found p xs at
 found-by p xs at true is h =
     let e : position_or_len p xs ≡ at = cc in
@@ -98,6 +107,7 @@ found-by p xs at false is h = absurd (let never : ⊥ = cc in never)
 pub found-at : {X : Type 0} (p : X → Bool) (xs : List X) (at : ℕ) → position p xs ≡ Some at → Found p xs at
 found-at p xs at h = found-by p xs at (nat_lt (position_or_len p xs) (length xs)) refl (h)
 
+-- Where no position is told, by whether it is within, no element is found.
 missed-by : {X : Type 0} (p : X → Bool) (xs : List X) (b : Bool) → nat_lt (position_or_len p xs) (length xs) ≡ b → cond b (Some (position_or_len p xs)) None ≡ None → find p xs ≡ None
 missed-by p xs true is h = absurd (let never : ⊥ = cc in never)
 missed-by p xs false is h = missed-past p xs (grind (arith, nat_tests, is))

@@ -1,4 +1,5 @@
--- A table's places are those from its least key to its greatest, and each place with a row that is seen is kept.
+-- A table's places are those from its least key to its greatest, and each place with a row that is
+-- seen is kept.
 use Rattle.std.proofs.Common.{◌≡◌, ◌∙◌, ◌<◌, ℕ, nat_le, ℤ, pos, negsuc, ◌-◌, ◌^◌, Bool, true, false, cond, not, ◌&&◌, List, [], ◌∷◌, length, Option, None, Some, refl, sym, ap, arith}
 use Rattle.std.specs.Prelude.{◌==◌, eqb, int_lt, int_le, is_some, unwrap_or, take}
 use Rattle.std.specs.BTreeMap.Range.{range_contains}
@@ -28,13 +29,16 @@ use Rattle.si_machine.proofs.Rising.{itself, rises-fold, rises-laid, rises-sorte
 use Rattle.si_machine.proofs.Scanned.{merged, still}
 use Rattle.si_machine.proofs.Steps.{kept-at, newest-is, seen-is, state-missed}
 
+-- Where there is nothing at a place, it has no numbers.
 no-numbers-by : {V : Type 0} (items : V → List ℕ) (o : Option V) → is_some o ≡ false → option_map_or items o [] ≡ []
 no-numbers-by items None h = refl
 no-numbers-by items (Some numbers) h = absurd (let never : ⊥ = cc in never)
 
+-- A place that was not written has no numbers.
 no-numbers : (writers : Writers) (place : Place) → has_place writers place ≡ false → numbers_at writers place ≡ []
 no-numbers writers place h = no-numbers-by (λ numbers. numbers.items) (at_place writers.places.entries place) h
 
+-- Of an option that is not there the default is taken.
 unwritten-by : {X : Type 0} (o : Option X) (d : X) → (is_some o ≡ true → ⊥) → unwrap_or o d ≡ d
 unwritten-by None d h = refl
 unwritten-by (Some x) d h = absurd (h refl)
@@ -52,10 +56,12 @@ nothing-seen ledger t place h rises known missed =
     (λ written. let e : true ≡ false = sym (known place written) ∙ missed in let never : ⊥ = cc in never)
     ∙ state-missed place t.snapshot machine.history h.rise (sym none)
 
+-- Where something is there only if a test holds, and it is there, the test holds.
 covered-by : (b : Bool) (o : Option (List Cell)) → (b ≡ false → o ≡ None) → is_some o ≡ true → b ≡ true
 covered-by true o h some = refl
 covered-by false o h some = let e : false ≡ true = sym (ap is_some (h refl)) ∙ some in absurd (let never : ⊥ = cc in never)
 
+-- Where each of two holds, both do.
 both : (a b : Bool) → a ≡ true → b ≡ true → (a && b) ≡ true
 both true b h k = k
 both false b h k = h
@@ -70,19 +76,23 @@ least_key = negsuc (2 ^ 63 - 1)
 abbrev pub greatest_key : ℤ
 greatest_key = pos (2 ^ 63 - 1)
 
+-- A key that is not above another has the other not below it.
 not-under : (a b : ℤ) → int_le a b ≡ true → not (int_lt b a) ≡ true
 not-under a b h = grind (arith, ints)
 
+-- A comparison that is not found greater is less or equal.
 first-not-above : (a b : Bool) → not b ≡ true → is_le (cond a Less (cond b Greater Equal)) ≡ true
 first-not-above true b h = refl
 first-not-above false true h = absurd (let never : ⊥ = cc in never)
 first-not-above false false h = refl
 
+-- A comparison that is not found less is not less.
 last-not-below : (a b : Bool) → not a ≡ true → not (is_lt (cond a Less (cond b Greater Equal))) ≡ true
 last-not-below true b h = absurd (let never : ⊥ = cc in never)
 last-not-below false true h = refl
 last-not-below false false h = refl
 
+-- A place of another table is not in the table's range.
 apart-by : (table : ℕ) (q : Place) (o : Ordering) → nat_cmp table q.table ≡ o → (nat_cmp table q.table ≡ Equal → ⊥)
     → (is_le (ordering_then o (int_cmp least_key q.key)) && not (is_lt (ordering_then o (int_cmp greatest_key q.key)))) ≡ false
 apart-by table q Less is apart = refl
@@ -108,6 +118,7 @@ module _ {X : Type 0} (table : ℕ) where
   abbrev pub in_range : Place × X → Bool
   in_range entry = range_contains place_cmp (Included (place_at table least_key)) (Included (place_at table greatest_key)) entry.0
 
+  -- An entry more is kept in the range where it is one of the table.
   one-in-range : (entry : Place × X) (kept others : List (Place × X)) → in_range entry ≡ (entry.0.table == table) → kept ≡ others
       → cond (in_range entry) (entry ∷ kept) kept ≡ cond (entry.0.table == table) (entry ∷ others) others
   one-in-range entry kept others same rest = ap (λ (b : Bool). cond b (entry ∷ kept) kept) same ∙ ap (λ (es : List (Place × X)). cond (entry.0.table == table) (entry ∷ es) es) rest

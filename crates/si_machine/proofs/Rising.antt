@@ -18,6 +18,7 @@ use Rattle.isolation_laws.proofs.Rows.{place_cmp-total}
 use Rattle.timeline_laws.proofs.Placed.{one-place}
 use Rattle.si_machine.specs.Kept.{Below, Rises, AllRise}
 
+-- An answer that is tested as equal is equal.
 is-equal : (answer : Ordering) → is_eq answer ≡ true → answer ≡ Equal
 is-equal Less h = absurd (let never : ⊥ = cc in never)
 is-equal Equal h = refl
@@ -41,6 +42,7 @@ module _ {X : Type 0} where
   below-less low high [] less h = tt
   below-less low high (entry ∷ entries) less h = (place_cmp-total.trans low high entry.0 less h.0, below-less low high entries less h.1)
 
+  -- A place below some entries and below one more is below all with that one.
   below-insert : (low place : Place) (x : X) (entries : PlaceMap X) → place_cmp low place ≡ Less → Below low entries → Below low (insert_entry place_cmp entries place x)
   below-insert low place x [] less h = (less, tt)
   below-insert low place x (entry ∷ entries) less h = by (below-insert low place x entries less h.1) (place_cmp place entry.0)
@@ -60,6 +62,7 @@ module _ {X : Type 0} where
       by again Equal is = h
       by again Greater is = (below-insert entry.0 place x entries (turned place entry.0 is) h.0, again)
 
+  -- A place below some entries is below those that are left without one.
   below-remove : (low : Place) (test : Place → Bool) (entries : PlaceMap X) → Below low entries → Below low (remove_entry test entries)
   below-remove low test [] h = tt
   below-remove low test (entry ∷ entries) h = by (below-remove low test entries h.1) (test entry.0)
@@ -68,6 +71,7 @@ module _ {X : Type 0} where
       by again true = h.1
       by again false = (h.0, again)
 
+  -- Without an entry the places of the others rise.
   rises-remove : (test : Place → Bool) (entries : PlaceMap X) → Rises entries → Rises (remove_entry test entries)
   rises-remove test [] h = tt
   rises-remove test (entry ∷ entries) h = by (rises-remove test entries h.1) (test entry.0)
@@ -81,6 +85,7 @@ module _ {X : Type 0} where
   at-below place [] h = refl
   at-below place (entry ∷ entries) h = ap (λ (o : Ordering). cond (is_eq o) (Some entry.1) (at_place entries place)) h.0 ∙ at-below place entries h.1
 
+  -- What is found without a place's entry, with one entry more in front.
   gone : (p q : Place) (entry : Place × X) (entries : PlaceMap X) (a b c : Bool) → is_place p entry.0 ≡ a → is_place q entry.0 ≡ b → is_place q p ≡ c → Below entry.0 entries
       → at_place (remove_entry (is_place p) entries) q ≡ cond c None (at_place entries q)
       → at_place (cond a entries (entry ∷ remove_entry (is_place p) entries)) q ≡ cond c None (cond b (Some entry.1) (at_place entries q))
@@ -104,6 +109,7 @@ module _ {X : Type 0} where
   gone p q entry entries false false c is_a is_b is_c below rest =
       ap (λ (b : Bool). cond b (Some entry.1) (at_place (remove_entry (is_place p) entries) q)) is_b ∙ rest
 
+  -- Without a place's entry nothing is found there, and elsewhere what was.
   at-remove : (p q : Place) (entries : PlaceMap X) → Rises entries → at_place (remove_entry (is_place p) entries) q ≡ cond (is_place q p) None (at_place entries q)
   at-remove p q [] h = none (is_place q p)
     where
@@ -113,6 +119,7 @@ module _ {X : Type 0} where
   at-remove p q (entry ∷ entries) h =
       gone p q entry entries (is_place p entry.0) (is_place q entry.0) (is_place q p) refl refl refl h.0 (at-remove p q entries h.1)
 
+  -- A place that is below all places of the entries is below the entries.
   below-sorted : (place : Place) (entries : PlaceMap X) → AllByRecursion (λ other. place_cmp place other ≡ Less) (keys_of entries) → Below place entries
   below-sorted place [] h = tt
   below-sorted place (entry ∷ entries) h = (h.0, below-sorted place entries h.1)
@@ -125,10 +132,12 @@ module _ {X : Type 0} where
 
 -- ---- states
 
+-- With a write the places of rows rise.
 rises-with : (rows : State) (place : Place) (change : Option (List Cell)) → Rises rows → Rises (with_write rows place change)
 rises-with rows place None h = rises-remove (is_place place) rows h
 rises-with rows place (Some row) h = rises-insert place row rows h
 
+-- With a write its change is found at its place, and elsewhere what was.
 at-with : (rows : State) (place : Place) (change : Option (List Cell)) (q : Place) → Rises rows → at_place (with_write rows place change) q ≡ cond (is_place q place) change (at_place rows q)
 at-with rows place None q h = at-remove place q rows h
 at-with rows place (Some row) q h = lookup-insert_entry place_cmp-total rows place row q
@@ -138,6 +147,7 @@ pub rises-laid : (rows : State) (writes : WriteSet) → Rises rows → Rises (la
 rises-laid rows [] h = h
 rises-laid rows (write ∷ writes) h = rises-laid (with_write rows write.0 write.1) writes (rises-with rows write.0 write.1 h)
 
+-- What a first write leaves counts where none of those behind it wrote the place.
 laid-step : (q : Place) (write : Place × Option (List Cell)) (writes : WriteSet) (before : Option (List Cell)) (b : Bool) → is_place q write.0 ≡ b → Below write.0 writes
     → unwrap_or (at_place writes q) (cond b write.1 before) ≡ unwrap_or (cond b (Some write.1) (at_place writes q)) before
 laid-step q write writes before true is below =

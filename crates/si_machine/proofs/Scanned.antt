@@ -37,6 +37,7 @@ module _ {X : Type 0} where
   still true x later h = refl
   still false x later h = h
 
+  -- A place with something among entries above another place is above it, with one more in front.
   among-by : (place : Place) (entry : Place × X) (entries : PlaceMap X) (low : Place) (b : Bool) → is_place place entry.0 ≡ b → place_cmp low entry.0 ≡ Less
       → (is_some (at_place entries place) ≡ true → place_cmp low place ≡ Less) → is_some (cond b (Some entry.1) (at_place entries place)) ≡ true → place_cmp low place ≡ Less
   among-by place entry entries low true is below rest h = ap (place_cmp low) (same-place place entry.0 is) ∙ below
@@ -48,29 +49,35 @@ module _ {X : Type 0} where
   among place (entry ∷ entries) low below h =
       among-by place entry entries low (is_place place entry.0) refl below.0 (among place entries low below.1) h
 
+-- A choice between nothing and nothing adds nothing to the rows.
 one-none : (b : Bool) (rows : List (List Cell)) → cons_option (cond {A = Option (List Cell)} b None None) rows ≡ rows
 one-none true rows = refl
 one-none false rows = refl
 
+-- At another place than the first row's is what the rest has there.
 both : (seen : State) (row : Place × List Cell) (q : Place) → is_place q row.0 ≡ false → at_place (row ∷ seen) q ≡ at_place seen q
 both seen row q apart = ap (λ (b : Bool). cond b (Some row.1) (at_place seen q)) apart
 
+-- Rows of which none is at any place are none.
 none-left : (seen : State) → ((place : Place) → is_some (at_place seen place) ≡ true → ⊥) → seen ≡ []
 none-left [] none = refl
 none-left (row ∷ seen) none = absurd (none row.0 (ap (λ (b : Bool). is_some (cond b (Some row.1) (at_place seen row.0))) (itself row.0)))
 
 module _ {X : Type 0} (table : ℕ) where
+  -- One entry more adds the row at its place where it is of the table and has one.
   one-more : (seen : State) (entry : Place × X) (entries : PlaceMap X) (b : Bool) (found : Option (List Cell)) → at_place seen entry.0 ≡ found
       → filter_map (λ e. at_place seen e.0) (cond b (entry ∷ filter (λ e. e.0.table == table) entries) (filter (λ e. e.0.table == table) entries))
       ≡ cons_option (cond b found None) (found_in table seen entries)
   one-more seen entry entries true found is = ap (λ (o : Option (List Cell)). cons_option o (found_in table seen entries)) is
   one-more seen entry entries false found is = refl
 
+  -- Without rows nothing is found at the places of the entries.
   nothing-found : (entries : PlaceMap X) → found_in table [] entries ≡ []
   nothing-found [] = refl
   nothing-found (entry ∷ entries) =
       one-more [] entry entries (entry.0.table == table) None refl ∙ one-none (entry.0.table == table) (found_in table [] entries) ∙ nothing-found entries
 
+  -- A row below all entries is found at none of their places.
   skipped : (row : Place × List Cell) (seen : State) (entries : PlaceMap X) → Below row.0 entries → found_in table (row ∷ seen) entries ≡ found_in table seen entries
   skipped row seen [] below = refl
   skipped row seen (entry ∷ entries) below =
@@ -83,15 +90,18 @@ module _ {X : Type 0} (table : ℕ) where
   abbrev pub Covers : State → PlaceMap X → Type 0
   Covers seen entries = (place : Place) → is_some (at_place seen place) ≡ true → is_some (at_place entries place) ≡ true
 
+  -- Without a first row and a first entry of one place, the entries still have each row's.
   covers-both : (row : Place × List Cell) (seen : State) (entry : Place × X) (entries : PlaceMap X) → row.0 ≡ entry.0 → Below row.0 seen → Covers (row ∷ seen) (entry ∷ entries) → Covers seen entries
   covers-both row seen entry entries same below covers q h =
       let apart : is_place q row.0 ≡ false = unlike row.0 q (among q seen row.0 below h) in
       either (is_place q entry.0) entry.1 (at_place entries q) (covers q (ap is_some (both seen row q apart) ∙ h)) (ap (is_place q) (sym same) ∙ apart)
 
+  -- Without a first entry below all rows, the entries still have each row's place.
   covers-rest : (seen : State) (entry : Place × X) (entries : PlaceMap X) → Below entry.0 seen → Covers seen (entry ∷ entries) → Covers seen entries
   covers-rest seen entry entries below covers q h =
       either (is_place q entry.0) entry.1 (at_place entries q) (covers q h) (unlike entry.0 q (among q seen entry.0 below h))
 
+  -- With a first row and a first entry what is found is the contents, be their places one or not.
   merged-by : (row : Place × List Cell) (seen : State) (entry : Place × X) (entries : PlaceMap X) (b : Bool) → is_place row.0 entry.0 ≡ b
       → Rises (row ∷ seen) → Rises (entry ∷ entries) → Covers (row ∷ seen) (entry ∷ entries)
       → ((seen : State) → Rises seen → Covers seen entries → found_in table seen entries ≡ contents_of table seen)

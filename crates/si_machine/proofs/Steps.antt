@@ -33,20 +33,24 @@ open-at writers [] i d within h = absurd (omega (arith, within))
 open-at writers (t ∷ ts) zero d within h = (h.0, h.1)
 open-at writers (t ∷ ts) (suc i) d within h = open-at writers ts i d (omega (arith, within)) h.2
 
+-- With a transaction more that wrote nothing, the open ones are as they should be.
 open-push : (writers : Writers) (ts : List Transaction) (session snapshot : ℕ) → AreOpen writers ts → AreOpen writers (ts ++ record { session = session; snapshot = snapshot; own = [] } ∷ [])
 open-push writers [] session snapshot h = (tt, (λ place h. let never : ⊥ = cc in absurd never), tt)
 open-push writers (t ∷ ts) session snapshot h = (h.0, h.1, open-push writers ts session snapshot h.2)
 
+-- With one that is as it should be, kept or not, the open transactions are so.
 open-kept : (writers : Writers) (t : Transaction) (ts : List Transaction) (b : Bool) → Rises t.own → ((place : Place) → writes_place place t.own ≡ true → has_place writers place ≡ true)
     → AreOpen writers ts → AreOpen writers (cond b (t ∷ ts) ts)
 open-kept writers t ts true rises there h = (rises, there, h)
 open-kept writers t ts false rises there h = h
 
+-- Of open transactions those that are kept are as they should be.
 open-filter : (writers : Writers) (p : Transaction → Bool) (ts : List Transaction) → AreOpen writers ts → AreOpen writers (filter p ts)
 open-filter writers p [] h = tt
 open-filter writers p (t ∷ ts) h = open-kept writers t (filter p ts) (p t) h.0 h.1 (open-filter writers p ts h.2)
 
 module _ (before now : Writers) (stays : (place : Place) → has_place before place ≡ true → has_place now place ≡ true) where
+  -- Open transactions are as they should be where all written places are still there.
   open-stays : (ts : List Transaction) → AreOpen before ts → AreOpen now ts
   open-stays [] h = tt
   open-stays (t ∷ ts) h = (h.0, (λ place w. stays place (h.1 place w)), open-stays ts h.2)
@@ -90,10 +94,12 @@ belongs-without session machine writers h = record {
   opened = open-filter writers (λ t. not (eqb t.session session)) machine.open_transactions h.opened;
 }
 
+-- A place that was added for a key, or was there, has a key.
 key-of : (before : Writers) (place q : Place) → is_key place ≡ true → ((q : Place) → has_place before q ≡ true → is_key q ≡ true) → (q ≡ place) ⊎ (has_place before q ≡ true) → is_key q ≡ true
 key-of before place q key keys (inl is) = ap is_key is ∙ key
 key-of before place q key keys (inr had) = keys q had
 
+-- A write that is entered or not leaves whose the transaction is.
 session-kept : (session : ℕ) (place : Place) (change : Option (List Cell)) (t : Transaction) (b : Bool) → (cond b (entered place change t) t).session ≡ t.session
 session-kept session place change t true = refl
 session-kept session place change t false = refl
@@ -133,6 +139,7 @@ module _ (machine : IsolationMachine) (before now : Writers) (h : Belongs machin
     opened = open-stays before now stays machine.open_transactions h.opened;
   }
 
+-- A number put in front of two lists in a row, or not, is put in front of the first.
 one-longer : (at : ℕ) (later more : List ℕ) (b : Bool) → (if b then at ∷ (later ++ more) else later ++ more) ≡ (if b then at ∷ later else later) ++ more
 one-longer at later more true = refl
 one-longer at later more false = refl
@@ -147,6 +154,7 @@ numbers-more q at (writes ∷ later) own =
     (numbers-more q (at + 1) later own ∙ ap (λ (n : ℕ). numbers_from q (at + 1) later ++ (if writes_place q own then n ∷ [] else [])) same)
     ∙ one-longer at (numbers_from q (at + 1) later) (if writes_place q own then (at + suc (length later)) ∷ [] else []) (writes_place q writes)
 
+-- With a commit more whose places rise, the places of all commits do.
 rise-push : (history : History) (own : WriteSet) → AllRise history → Rises own → AllRise (history ++ own ∷ [])
 rise-push [] own h rises = (rises, tt)
 rise-push (writes ∷ history) own h rises = (h.0, rise-push history own h.1 rises)
@@ -183,6 +191,7 @@ newest-is machine writers place n h =
 pub state-is : (place : Place) (n : ℕ) (history : History) → AllRise history → at_place (state_at history n) place ≡ left_by place 1 (take n history) None (last_writer place 1 (take n history))
 state-is place n history h = at-fold place 1 (take n history) [] tt (rise-take n history h)
 
+-- An index within the first so many is below that number.
 length-front : (n : ℕ) (history : History) (i : ℕ) → i < length (take n history) → i < n
 length-front zero history i h = absurd (omega (arith, h))
 length-front (suc n) [] i h = absurd (omega (arith, h))
@@ -230,11 +239,13 @@ state-kept ledger place n number h is =
     state-found place n number (machine_in ledger).history h.rise is
     ∙ ap (λ (w : WriteSet). unwrap_or (at_place w place) None) (got-map (λ writes. writes.entries) ledger.commits.items (number - 1) [])
 
+-- Within a list the element at an index is there.
 got-within : {X : Type 0} (xs : List X) (i : ℕ) (x : X) → i < length xs → slice_get xs i ≡ Some (get_or xs i x)
 got-within [] i x within = absurd (omega (arith, within))
 got-within (y ∷ xs) zero x within = refl
 got-within (y ∷ xs) (suc i) x within = got-within xs i x (omega (arith, within))
 
+-- Past the end of a list nothing is there.
 got-past : {X : Type 0} (xs : List X) (i : ℕ) → length xs ≤ i → slice_get xs i ≡ None
 got-past [] i past = refl
 got-past (y ∷ xs) zero past = absurd (omega (arith, past))
@@ -263,6 +274,7 @@ machine_with machine session snapshot own = record machine {
   open_transactions = machine.open_transactions ++ record { session = session; snapshot = snapshot; own = own } ∷ [];
 }
 
+-- An index within the kept transactions is within those of the machine.
 within-kept : (ledger : Ledger) (i : ℕ) → i < length ledger.transactions.items → i < length (map transaction_in ledger.transactions.items)
 within-kept ledger i within = omega (arith, length-kept transaction_in ledger.transactions.items, within)
 

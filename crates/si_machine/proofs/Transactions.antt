@@ -1,4 +1,5 @@
--- The open transactions: the one at an index is the one of its session, and a change or an end of it is the machine's.
+-- The open transactions: the one at an index is the one of its session, and a change or an end of
+-- it is the machine's.
 use Rattle.std.proofs.Common.{◌≡◌, ℕ, ◌<◌, zero, suc, Bool, true, false, cond, not, eqb, List, [], ◌∷◌, length, map, get_or, Option, None, Some, refl, sym, ap, ◌∙◌, arith}
 use Rattle.std.specs.Prelude.{remove}
 use Rattle.std.specs.List.{filter}
@@ -6,6 +7,7 @@ use Rattle.std.proofs.Math.ListN.{set}
 use Rattle.isolation_spec.specs.Machine.{Transaction}
 use Rattle.timeline_laws.proofs.Machine.{at_session, Apart, eqb-itself, eqb-turned}
 
+-- Where nothing is found with one in front, that one is not it, nor any behind.
 missed : (b : Bool) (t : Transaction) (later : Option Transaction) → cond b (Some t) later ≡ None → (b ≡ false) × (later ≡ None)
 missed true t later h = absurd (let never : ⊥ = cc in never)
 missed false t later h = (refl, h)
@@ -17,6 +19,7 @@ other-at session (t ∷ ts) zero d none within = (missed (eqb t.session session)
 other-at session (t ∷ ts) (suc i) d none within =
     other-at session ts i d (missed (eqb t.session session) t (at_session session ts) none).1 (omega (arith, within))
 
+-- Where none of the transactions is the session's, a change of it changes none.
 map-none : (session : ℕ) (f : Transaction → Transaction) (ts : List Transaction) → at_session session ts ≡ None → map (λ t. cond (eqb t.session session) (f t) t) ts ≡ ts
 map-none session f [] none = refl
 map-none session f (t ∷ ts) none =
@@ -34,6 +37,7 @@ set-changed f (t ∷ ts) (suc i) d apart within =
     ap (λ (us : List Transaction). t ∷ us) (set-changed f ts i d apart.1 inside)
     ∙ ap (λ (b : Bool). cond b (f t) t ∷ map (λ u. cond (eqb u.session (get_or ts i d).session) (f u) u) ts) (sym other)
 
+-- Where none of the transactions is the session's, all are left without it.
 keep-none : (session : ℕ) (ts : List Transaction) → at_session session ts ≡ None → filter (λ t. not (eqb t.session session)) ts ≡ ts
 keep-none session [] none = refl
 keep-none session (t ∷ ts) none =

@@ -37,6 +37,7 @@ stamp_of_own q S N e own = ap (λ b. cond b (Some S) e.stamp) own
 pub number_of_own : (q S N : ℕ) (e : Undo Before) → is_own e q ≡ true → (stamped q S N e).number ≡ N
 number_of_own q S N e own = ap (λ b. cond b N e.number) own
 
+-- A commit leaves entries of which none is its session's own.
 all_stamped_none : (q S N : ℕ) (es : List (Undo Before)) → All (λ undo. is_own undo q ≡ false) es → map (stamped q S N) es ≡ es
 all_stamped_none q S N [] all = refl
 all_stamped_none q S N (e ∷ es) all =
@@ -48,7 +49,8 @@ pub committed_other : (q S N : ℕ) (slot : Slot) → IsLawful slot.entries → 
 committed_other q S N slot lawful ne =
     ap (λ es. record slot { entries = es }) (all_stamped_none q S N slot.entries (none_own slot.entries q lawful ne))
 
--- after its commit the writer's row is what every snapshot from its stamp on sees, and the slot has no writer
+-- after its commit the writer's row is what every snapshot from its stamp on sees, and the slot has
+-- no writer
 pub committed_writer : (q S N : ℕ) (slot : Slot) → IsLawful slot.entries → writer_of slot.entries ≡ Some q → writer_of (map (stamped q S N) slot.entries) ≡ None
 committed_writer q S N slot lawful w = go slot.entries lawful w
   where
@@ -57,6 +59,7 @@ committed_writer q S N slot lawful w = go slot.entries lawful w
     go (e ∷ es) lawful w =
         ap (λ o. cond (is_none o) (Some (stamped q S N e).session) None) (stamp_of_own q S N e (writer_is_own e es q lawful w))
 
+-- Where the second of two holds, one of them does.
 or_true : (own by : Bool) → by ≡ true → own || by ≡ true
 or_true true by is = refl
 or_true false by is = is
@@ -77,12 +80,14 @@ seen_after_commit q S N slot s lawful w later = go slot.entries lawful w
 
 -- ---- a roll-back
 
+-- Where all entries pass, all are kept.
 filter_all : (p : Undo Before → Bool) (es : List (Undo Before)) → All (λ e. p e ≡ true) es → filter p es ≡ es
 filter_all p [] all = refl
 filter_all p (e ∷ es) all =
     ap (λ b. cond b (e ∷ filter p es) (filter p es)) (All-head (λ e. p e ≡ true) e es all)
     ∙ ap (λ xs. e ∷ xs) (filter_all p es (All-tail (λ e. p e ≡ true) e es all))
 
+-- Where no entry passes, none is kept.
 filter_nothing : (p : Undo Before → Bool) (es : List (Undo Before)) → All (λ e. p e ≡ false) es → filter p es ≡ []
 filter_nothing p [] all = refl
 filter_nothing p (e ∷ es) all =
@@ -120,6 +125,7 @@ rest_own q e es own = ap (λ b. cond (not b) (e ∷ rest_of q es) (rest_of q es)
 pub row_own : (q : ℕ) (row : Option Row) (e : Undo Before) (es : List (Undo Before)) → is_own e q ≡ true → row_of q row (e ∷ es) ≡ row_of q (laid_back row e.before) es
 row_own q row e es own = ap (λ b. fold laid_back row (map (λ undo. undo.before) (cond b (e ∷ filter (λ undo. is_own undo q) es) (filter (λ undo. is_own undo q) es)))) own
 
+-- An entry of a session's own is not in the view of nobody.
 own_not_nobody : (e : Undo Before) (q s : ℕ) → 1 ≤ q → is_own e q ≡ true → is_in_view e s 0 ≡ false
 own_not_nobody e q s pass own = go e.stamp (is_move e.kind) e.session pass own
   where

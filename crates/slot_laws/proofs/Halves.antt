@@ -15,6 +15,7 @@ use Rattle.slot_laws.specs.Laws.{plain}
 use Rattle.event_spec.specs.SlotSound.{IsSoundSlot, IsOfSession}
 use Rattle.undo_chain.specs.declared.undo.UndoKind.TheVariants as kind
 
+-- A stamp above a snapshot's is not seen by the snapshot.
 not_yet : (S s : ℕ) → s < S → is_at_most (Some S) s ≡ false
 not_yet S s lt = grind (arith, nat_tests)
 
@@ -46,6 +47,7 @@ out_gone S s q row le = ap (λ images. fold laid_back None images) (images_at_vi
 pub in_there : (S s q : ℕ) (row : Row) → S ≤ s → seen (moved_in S row bare) s q ≡ Some row
 in_there S s q row le = ap (λ images. fold laid_back (Some row) images) (images_at_view (in_entry S) [] s q (at_stamp S s le))
 
+-- A single entry that has a stamp is a lawful chain.
 one_entry : (e : Undo Before) (stamp : ℕ) → e.stamp ≡ Some stamp → IsLawful (e ∷ [])
 one_entry e stamp is = IsLawful-cons e [] (subst (λ (o : Option ℕ). IfNone o (is_move e.kind ≡ false)) (sym is) tt) (All-nil (MayStandAbove e)) IsLawful-nil
 

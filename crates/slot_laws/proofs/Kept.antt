@@ -129,6 +129,7 @@ numbers_settled (e ∷ es) limit s up le =
     go (Some x) true u = grind (arith, nat_tests)
     go (Some x) false u = grind (arith, nat_tests)
 
+-- A session's own entry that is not committed is no commit above a stamp.
 own_no_number : (e : Undo Before) (q s : ℕ) → is_own e q ≡ true → is_commit_above e s ≡ false
 own_no_number e q s own = go e.stamp (is_move e.kind) (e.session == q) own
   where
@@ -154,10 +155,12 @@ numbers_rolled q s (e ∷ es) = go (is_own e q) refl (numbers_rolled q s es)
         ∙ ap (λ ns. cond (is_commit_above e s) (e.number ∷ ns) ns) rest
         ∙ sym (numbers_step e es s (is_commit_above e s) refl)
 
+-- A number among some is among them with one more in front or not.
 among_more : (k n : ℕ) (b : Bool) (ns : List ℕ) → Among k ns → Among k (cond b (n ∷ ns) ns)
 among_more k n true ns a = inr a
 among_more k n false ns a = a
 
+-- A number among some with one more in front or not is that one or among the others.
 among_back : (k n : ℕ) (b : Bool) (ns : List ℕ) → Among k (cond b (n ∷ ns) ns) → ((b ≡ true) × (k ≡ n)) ⊎ Among k ns
 among_back k n true ns (inl e) = inl (refl, e)
 among_back k n true ns (inr a) = inr a
@@ -167,9 +170,11 @@ among_back k n false ns a = inr a
 among_cons : (k s : ℕ) (e : Undo Before) (es : List (Undo Before)) → Among k (numbers_above (e ∷ es) s) → ((is_commit_above e s ≡ true) × (k ≡ e.number)) ⊎ Among k (numbers_above es s)
 among_cons k s e es a = among_back k e.number (is_commit_above e s) (numbers_above es s) (subst (Among k) (numbers_step e es s (is_commit_above e s) refl) a)
 
+-- The number of a newest entry that is a commit above the snapshot is among those above.
 among_top : (s : ℕ) (e : Undo Before) (es : List (Undo Before)) → is_commit_above e s ≡ true → Among e.number (numbers_above (e ∷ es) s)
 among_top s e es is = subst (Among e.number) (sym (numbers_step e es s true is)) (inl refl)
 
+-- A number above a snapshot is so with one entry more on top.
 among_rest : (k s : ℕ) (e : Undo Before) (es : List (Undo Before)) → Among k (numbers_above es s) → Among k (numbers_above (e ∷ es) s)
 among_rest k s e es a = subst (Among k) (sym (numbers_step e es s (is_commit_above e s) refl)) (among_more k e.number (is_commit_above e s) (numbers_above es s) a)
 

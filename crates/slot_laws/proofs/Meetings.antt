@@ -7,11 +7,13 @@ use Rattle.undo_chain.specs.Conflict.{other_writer, numbers_above, largest, conf
 use Rattle.block_spec.specs.Slots.{Slot}
 use Rattle.event_spec.specs.Judged.{first_at}
 
+-- The greater of two numbers, of which either may be missing.
 abbrev greater : Option ℕ → Option ℕ → Option ℕ
 greater None b = b
 greater (Some a) None = Some a
 greater (Some a) (Some b) = Some (max a b)
 
+-- The greatest of a number and others is the greater of it and theirs.
 fold_max : (x y : ℕ) (ys : List ℕ) → fold max (max x y) ys ≡ max x (fold max y ys)
 fold_max x y [] = refl
 fold_max x y (z ∷ ys) = ap (λ w. fold max w ys) (assoc x y z) ∙ fold_max x (max y z) ys
@@ -19,6 +21,7 @@ fold_max x y (z ∷ ys) = ap (λ w. fold max w ys) (assoc x y z) ∙ fold_max x 
     assoc : (a b c : ℕ) → max (max a b) c ≡ max a (max b c)
     assoc a b c = omega arith
 
+-- The largest of two lists of numbers is the greater of the largest of each.
 largest_append : (xs ys : List ℕ) → largest (xs ++ ys) ≡ greater (largest xs) (largest ys)
 largest_append [] ys = refl
 largest_append (x ∷ xs) ys = go xs x ys
@@ -28,6 +31,7 @@ largest_append (x ∷ xs) ys = go xs x ys
     go [] x (y ∷ ys) = ap Some (fold_max x y ys)
     go (z ∷ xs) x ys = go xs (max x z) ys
 
+-- A conflict by what two parts have is theirs combined.
 both : (a c : Option ℕ) (b d : Option ℕ) → conflict_by (option_or a c) (greater b d) ≡ combined (conflict_by a b) (conflict_by c d)
 both (Some w) c b d = refl
 both None (Some w) None d = refl

@@ -33,6 +33,7 @@ pub others_commit : OthersCommit
 others_commit slot q me s stamp number ne below =
     visible_row-same laid_back slot.row (map (stamped q stamp number) slot.entries) slot.entries s me (images_after_commit q stamp number slot.entries s me ne below)
 
+-- The roll-back of another session changes nothing that a session sees of a slot.
 rolled : (q me s : ℕ) (row : Option Row) (es : List (Undo Before)) → me ≢ q → IsLawful es
     → seen (rolled_back q (record { row = row; entries = es })) s me ≡ seen (record { row = row; entries = es }) s me
 rolled q me s row [] ne lawful = refl

@@ -1,4 +1,5 @@
--- The attributes in which two rows differ: put into the old row they give the new one, and the old ones give it back.
+-- The attributes in which two rows differ: put into the old row they give the new one, and the old
+-- ones give it back.
 use Rattle.std.proofs.Common.{[], ◌≡◌, ℕ, suc, ◌+◌, ℤ, Bool, true, false, cond, List, ◌∷◌, ◌++◌, length, refl, sym, ap, ◌∙◌, arith, int_eq}
 use Rattle.std.specs.Prelude.{slice_set, slice_index_or}
 use Rattle.std.specs.Str.{bytes_eq}
@@ -14,9 +15,11 @@ use Rattle.event_spec.specs.Judged.{same_cell, same_truth, differences}
 int_eq_is : (m n : ℤ) → int_eq m n ≡ true → m ≡ n
 int_eq_is m n e = (Decides-int_eq m n).0 e
 
+-- Bytes that are tested as the same are the same.
 bytes_is : (s t : List ℕ) → bytes_eq s t ≡ true → s ≡ t
 bytes_is s t e = (bytes_eq-Decides s t).0 e
 
+-- Truth values that are tested as the same are the same.
 truth_is : (a b : Bool) → same_truth a b ≡ true → a ≡ b
 truth_is true true e = refl
 truth_is true false e = cc
@@ -55,6 +58,7 @@ cell_is (Blob s) (Blob t) e = ap Blob (bytes_is s t e)
 abbrev assigned : ℕ → Cell → Assignment
 assigned column cell = record { column = column; cell = cell }
 
+-- A cell at the end of a front is the first behind it.
 push_front : (front : Row) (x : Cell) (xs : Row) → (front ++ x ∷ []) ++ xs ≡ front ++ x ∷ xs
 push_front front x xs = append_assoc front (x ∷ []) xs
 

@@ -34,6 +34,7 @@ writer_top e es q w = go (is_none e.stamp) refl w
 pub writer_is_own : (e : Undo Before) (es : List (Undo Before)) (q : ℕ) → IsLawful (e ∷ es) → writer_of (e ∷ es) ≡ Some q → is_own e q ≡ true
 writer_is_own e es q lawful w = own_top e e.stamp (is_move e.kind) q (IsLawful-head e es lawful) (writer_top e es q w).0 (writer_top e es q w).1
 
+-- Where the first of two holds, one of them does.
 own_from : (own by : Bool) → own ≡ true → own || by ≡ true
 own_from true by is = refl
 own_from false by is = cc
@@ -99,10 +100,12 @@ stamped_in_view : (stamp : Option ℕ) (limit s : ℕ) → IfSome stamp (λ x. x
 stamped_in_view None limit s up le n = cc
 stamped_in_view (Some x) limit s up le n = grind (arith, nat_tests)
 
+-- Where the second of two holds, one of them does.
 or_true : (own by : Bool) → by ≡ true → own || by ≡ true
 or_true true by is = refl
 or_true false by is = is
 
+-- Without a writer the newest entry has a stamp.
 no_writer_top : (e : Undo Before) (es : List (Undo Before)) → writer_of (e ∷ es) ≡ None → is_none e.stamp ≡ false
 no_writer_top e es w = go (is_none e.stamp) refl w
   where

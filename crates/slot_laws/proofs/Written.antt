@@ -17,6 +17,7 @@ use Rattle.block_spec.specs.declared.change.Change.TheVariants as change
 abbrev entry : ℕ → Change → Slot → Undo Before
 entry q change slot = record { session = q; stamp = None; number = 0; kind = kind_of change; before = image_before slot.row change }
 
+-- The kind of a write is none of a move.
 write_kind : (change : Change) → is_move (kind_of change) ≡ false
 write_kind (Put row) = refl
 write_kind (change.Patch patch) = refl

@@ -12,20 +12,24 @@ use Rattle.event_spec.specs.Judged.{differences, same_cell}
 use Rattle.slot_laws.proofs.Patches.{cell_is}
 use Rattle.slot_writes.specs.Patches.{difference_at}
 
+-- An assignment at the end of a patch is the first of those behind it.
 append_one : (xs : Patch) (y : Assignment) (ys : Patch) → (xs ++ y ∷ []) ++ ys ≡ xs ++ y ∷ ys
 append_one [] y ys = refl
 append_one (x ∷ xs) y ys = ap (λ zs. x ∷ zs) (append_one xs y ys)
 
+-- A patch with nothing behind it is itself.
 append_none : (xs : Patch) → xs ++ [] ≡ xs
 append_none [] = refl
 append_none (x ∷ xs) = ap (λ zs. x ∷ zs) (append_none xs)
 
+-- Where no cell is at an index, none is left from there on.
 none_got : (xs : List Cell) (i : ℕ) → slice_get xs i ≡ None → drop i xs ≡ []
 none_got [] zero e = refl
 none_got [] (suc i) e = refl
 none_got (y ∷ xs) zero e = cc
 none_got (y ∷ xs) (suc i) e = none_got xs i e
 
+-- From an index on the cells are the one there and those behind it.
 one_got : (xs : List Cell) (i : ℕ) (x : Cell) → slice_get xs i ≡ Some x → drop i xs ≡ x ∷ drop (i + 1) xs
 one_got [] zero x e = cc
 one_got [] (suc i) x e = cc
@@ -35,6 +39,7 @@ one_got (y ∷ xs) zero x e = ap (λ z. z ∷ xs) (some_is y x e)
     some_is a b e = ap (λ o. unwrap_or o a) e
 one_got (y ∷ xs) (suc i) x e = one_got xs i x e ∙ ap (λ k. x ∷ drop k (y ∷ xs)) (let e : suc (i + 1) ≡ suc i + 1 = omega arith in e)
 
+-- Where no cell is left from an index on, none is left from the next.
 none_beyond : (xs : List Cell) (i : ℕ) → drop i xs ≡ [] → drop (i + 1) xs ≡ []
 none_beyond [] zero e = refl
 none_beyond [] (suc i) e = ap (λ k. drop k []) (let e : suc i + 1 ≡ suc (i + 1) = omega arith in e)
@@ -120,6 +125,7 @@ pub none_differs : (row : Option (List Cell)) (new : List Cell) (has : Bool) →
 none_differs None new has tells none = refl
 none_differs (Some r) new has tells none = let there : has ≡ true = tells.1 refl in cc
 
+-- A row without cells differs in none.
 none_left : (at : ℕ) (xs : List Cell) → differences at xs [] ≡ []
 none_left at [] = refl
 none_left at (x ∷ xs) = refl

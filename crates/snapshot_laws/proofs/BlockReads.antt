@@ -46,10 +46,12 @@ kept_row elsewhere (Some x) row is = go (elsewhere x) refl is
         same : (a b : Row) → Some a ≡ Some b → a ≡ b
         same a b e = cc
 
+-- A row that is there and is not written elsewhere is read.
 row_kept : (elsewhere : Row → Bool) (o : Option Row) (row : Row) → o ≡ Some row → elsewhere row ≡ false → option_and_then (λ row. cond (elsewhere row) None (Some row)) o ≡ Some row
 row_kept elsewhere o row is not_there =
     ap (option_and_then (λ row. cond (elsewhere row) None (Some row))) is ∙ ap (λ b. cond b None (Some row)) not_there
 
+-- Numbers that are not tested as different are the same.
 num : (a b : ℕ) → not (a == b) ≡ false → a ≡ b
 num a b e = go (a == b) refl e
   where
@@ -57,6 +59,7 @@ num a b e = go (a == b) refl e
     go true i e = grind (arith, nat_tests)
     go false i e = cc
 
+-- A number is not tested as different from itself.
 num_refl : (a : ℕ) → not (a == a) ≡ false
 num_refl a = ap not (same a)
   where
@@ -65,24 +68,23 @@ num_refl a = ap not (same a)
 
 module _ (sh : Shape) (s : Parts) (own : OwnTransaction) (t : ℕ) (m : IsolationMachine) (open' : Transaction)
     (shape : IsShape sh) (ok : Sound sh s) (owns : OwnsAll sh own s) (f : FollowsMachine sh s m) (is_open : transaction_of own.session m ≡ Some open') where
-  abbrev q : ℕ
-  q = own.session
-
+  -- The stamp of the snapshot by which the session reads.
   abbrev stamp : ℕ
   stamp = own.snapshot.stamp
 
+  -- The session has its snapshot open at the desk.
   has : HasOpen (desk_at sh s) own.session own.snapshot
   has = all_open sh s ok own owns
 
-  abbrev written : ℤ → Option ℕ
-  written key = at_place own.writes (place_at t key)
-
+  -- The slots of each key that the session owns are those of its writes.
   slots : (key : ℤ) → OwnSlot (slot_at sh s) (places_at sh s) own.session t key (at_place own.writes (place_at t key))
   slots key = all_slots sh s ok own owns t key
 
+  -- The session's transaction of the machine, as the core that follows it has it.
   abbrev the : Transaction
   the = sessions.tr (slot_at sh s) (places_at sh s) (desk_at sh s) m f.follows own.session own.snapshot has
 
+  -- The transaction that the core has of the session is the machine's open one.
   the_is : the ≡ open'
   the_is = some_is the open' (sym (sessions.mine (slot_at sh s) (places_at sh s) (desk_at sh s) m f.follows own.session own.snapshot has) ∙ is_open)
 
@@ -93,6 +95,7 @@ module _ (sh : Shape) (s : Parts) (own : OwnTransaction) (t : ℕ) (m : Isolatio
       ∙ sessions.at_seen (slot_at sh s) (places_at sh s) (desk_at sh s) m f.follows own.session own.snapshot has (place_at t key)
       ∙ ap (λ n. over (at_place the.own (place_at t key)) (at_place (state_at m.history n) (place_at t key))) (sessions.at_number (slot_at sh s) (places_at sh s) (desk_at sh s) m f.follows own.session own.snapshot has)
 
+  -- The session wrote a row's key, but at another place than this.
   abbrev elsewhere : ℕ → Row → Bool
   elsewhere p row = is_elsewhere (at_place own.writes (place_at t (key_of row))) p
 
@@ -108,6 +111,7 @@ module _ (sh : Shape) (s : Parts) (own : OwnTransaction) (t : ℕ) (m : Isolatio
       → seen (slot_at sh s t p) own.snapshot.stamp own.session ≡ seen (slot_at sh s t p) own.snapshot.stamp 0
   view key p none a = same_view (slot_at sh s) (places_at sh s) (desk_at sh s) m f.follows own.session own.snapshot has t key (at_place own.writes (place_at t key)) (slots key) p none a
 
+  -- At a key that the session did not write its transaction has no write.
   no_own : (key : ℤ) → at_place own.writes (place_at t key) ≡ None → at_place the.own (place_at t key) ≡ None
   no_own key none = none_own (slot_at sh s) (places_at sh s) (desk_at sh s) m f.follows own.session own.snapshot has t key (at_place own.writes (place_at t key)) (slots key) none
 
@@ -120,6 +124,7 @@ module _ (sh : Shape) (s : Parts) (own : OwnTransaction) (t : ℕ) (m : Isolatio
         sessions.wrote_here (slot_at sh s) (places_at sh s) (desk_at sh s) m f.follows own.session own.snapshot has t w key here.0 here.1,
       )
 
+  -- A row that is read is the one that is seen at its key.
   no_other : (p : ℕ) (row : Row) → row_read sh s own t p ≡ Some row → at_place (seen_rows m open') (place_of t row) ≡ Some row
   no_other p row is = go (option_cases (at_place own.writes (place_at t (key_of row))))
     where
@@ -136,12 +141,14 @@ module _ (sh : Shape) (s : Parts) (own : OwnTransaction) (t : ℕ) (m : Isolatio
           sees (key_of row) ∙ ap (λ o. over o (at_place (state_at m.history own.snapshot.number) (place_at t (key_of row)))) mine.1
           ∙ sym mine.0 ∙ ap (λ p. seen (slot_at sh s t p) own.snapshot.stamp own.session) same ∙ both.0
 
+  -- A place at which a row is shown is one of the table.
   place_there : (p : ℕ) (row : Row) → seen (slot_at sh s t p) own.snapshot.stamp own.session ≡ Some row → HasPlace sh t p
   place_there p row is =
       let there = filled_there sh s ok t p (shown_filled (slot_at sh s t p) own.snapshot.stamp own.session (ap is_some is)) in
       let less = there.1 in let size = (ok.bodies t (block_of p) there.0).slots in
       (there.0, omega (arith, less, size))
 
+  -- A row that is seen at a key is read at some place.
   all : (key : ℤ) (row : Row) → at_place (seen_rows m open') (place_at t key) ≡ Some row
       → (p : ℕ) × HasPlace sh t p × (row_read sh s own t p ≡ Some row) × (key_of row ≡ key)
   all key row is = go (option_cases (at_place own.writes (place_at t key)))
@@ -170,6 +177,7 @@ module _ (sh : Shape) (s : Parts) (own : OwnTransaction) (t : ℕ) (m : Isolatio
             key_is,
           )
 
+  -- Rows that are read with the same key are read at the same place.
   once : (one other : ℕ) (row another : Row) → row_read sh s own t one ≡ Some row → row_read sh s own t other ≡ Some another → key_of row ≡ key_of another → one ≡ other
   once one other row another a b key_is = go (option_cases (at_place own.writes (place_at t (key_of row))))
     where
@@ -191,6 +199,7 @@ module _ (sh : Shape) (s : Parts) (own : OwnTransaction) (t : ℕ) (m : Isolatio
 
   -- ---- a shared image
 
+  -- Of a slot without entries its row is seen.
   quiet_seen : (slot : Slot) → has_none slot.entries ≡ true → seen slot own.snapshot.stamp own.session ≡ slot.row
   quiet_seen slot none = go slot.entries refl none
     where
@@ -215,6 +224,7 @@ module _ (sh : Shape) (s : Parts) (own : OwnTransaction) (t : ℕ) (m : Isolatio
           row_current : (slot : Slot) (row : Row) → slot.row ≡ Some row → is_current slot ≡ true
           row_current slot row is = ap (λ (o : Option Row). is_some o || is_some (writer_of slot.entries)) is
 
+  -- At a slot without entries its row is read.
   quiet_read : (p : ℕ) → has_none (slot_at sh s t p).entries ≡ true → row_read sh s own t p ≡ (slot_at sh s t p).row
   quiet_read p none = go (slot_at sh s t p).row refl
     where
@@ -225,6 +235,7 @@ module _ (sh : Shape) (s : Parts) (own : OwnTransaction) (t : ℕ) (m : Isolatio
           row_kept (λ row. is_elsewhere (at_place own.writes (place_at t (key_of row))) p) (seen (slot_at sh s t p) own.snapshot.stamp own.session) row (quiet_seen (slot_at sh s t p) none ∙ is)
           (not_elsewhere p row none is) ∙ sym is
 
+  -- Reads of one slot after another that give their rows give the rows of all.
   each_slot : (read : ℕ → Option Row) (list : List Slot) (a : ℕ) → ((j : ℕ) → j < length list → read (a + j) ≡ (get_or list j bare).row)
       → filter_map read (range_with_len a (length list)) ≡ filter_map (λ (slot : Slot). slot.row) list
   each_slot read [] a same = refl
@@ -238,6 +249,7 @@ module _ (sh : Shape) (s : Parts) (own : OwnTransaction) (t : ℕ) (m : Isolatio
       next : (a j : ℕ) → (a + 1) + j ≡ a + suc j
       next a j = omega arith
 
+  -- Of an imaged block the rows of its body are read.
   shared : (b : ℕ) → HasBlock sh t b → is_imaged (body_at sh s t b).phase ≡ true → rows_read sh s own t b ≡ rows_of (body_at sh s t b)
   shared b hb imaged = each_slot (λ j. row_read sh s own t (place_in b j)) (body_at sh s t b).slots 0 at
     where

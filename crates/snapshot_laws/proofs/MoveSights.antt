@@ -41,6 +41,7 @@ moved_seen before after moved t source target row is stamp q less u p = go (plac
     go (inr n) (inr n') = ap (λ (x : Slot). seen x stamp q) (is.others u p n n')
 
 module _ (sh : Shape) (t moved : ℕ) (row : MovePair → Row) (m : IsolationMachine) (has : HasTable sh t) (stamp q : ℕ) (less : stamp < moved) where
+  -- The first pair of a move leaves what is seen of each slot where those behind it do.
   first_seen : (s : Parts) → (f : FollowsMachine sh s m) → Wide sh s t
       → (g : DeskState → DeskState) → g (desk_at sh s) ≡ record (desk_at sh s) { newest = moved }
       → (desk_at sh s).newest ≤ moved
@@ -65,6 +66,7 @@ module _ (sh : Shape) (t moved : ℕ) (row : MovePair → Row) (m : IsolationMac
       ∙ moved_seen (slot_at sh s) (slot_at sh (each_changed (coming t moved (row first) first) (names sh) (each_changed (leaving t moved (row first) g first) (names sh) s)))
       moved t first.source first.target (row first) (pair_slots sh s m f t moved has wide g is newest later (row first) first one far.0) stamp q less u p
 
+  -- The pairs of a move, one behind the other, leave what is seen of each slot.
   rest_seen : (pairs : List MovePair) (s : Parts) → FollowsMachine sh s m → Wide sh s t → (desk_at sh s).newest ≡ moved
       → ((session : ℕ) (snapshot : Snapshot) → HasOpen (desk_at sh s) session snapshot → snapshot.stamp < moved)
       → ((pair : MovePair) → Among pair pairs → IsReady sh s t (row pair) pair) → Apart pairs

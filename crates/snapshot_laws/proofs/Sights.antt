@@ -34,7 +34,6 @@ use Rattle.event_spec.specs.Sound.{IsShape, Sound}
 use Rattle.follow_laws.proofs.Writes.{apart as places_apart}
 use Rattle.follow_laws.specs.Owned.{HasOpen}
 use Rattle.isolation_spec.specs.Contents.{key_of}
-use Rattle.isolation_spec.specs.Machine.{IsolationMachine}
 use Rattle.slot_laws.proofs.Kept.{writer_filled}
 use Rattle.slot_laws.proofs.Others.{a_pruning, others_commit, others_roll_back, others_write}
 use Rattle.slot_laws.proofs.Patches.{patched_new, patched_old}
@@ -44,6 +43,7 @@ use Rattle.snapshot_laws.specs.Laws.{SeenStays}
 use Rattle.sound_laws.proofs.Written.{change_goes, judged_ok}
 use Rattle.txn_desk.specs.declared.Snapshot.{Snapshot}
 
+-- A row that is put into a slot can be laid back.
 put_undone : (slot : Slot) (row : Row) → IsUndone slot (change.Put row)
 put_undone slot row = go slot.row
   where
@@ -51,6 +51,7 @@ put_undone slot row = go slot.row
     go None = refl
     go (Some old) = refl
 
+-- The deletion of a slot's row can be laid back.
 gone_undone : (slot : Slot) → IsUndone slot change.Gone
 gone_undone slot = go slot.row
   where
@@ -58,29 +59,22 @@ gone_undone slot = go slot.row
     go None = refl
     go (Some old) = refl
 
+-- A patch of a slot's row to one of the same length can be laid back.
 patch_undone : (slot : Slot) (old new : Row) → slot.row ≡ Some old → length old ≡ length new → IsUndone slot (change.Patch (differences 0 old new))
 patch_undone slot old new is same =
     subst (λ (o : Option Row). laid_back (row_after o (change.Patch (differences 0 old new))) (image_before o (change.Patch (differences 0 old new))) ≡ o) (sym is)
     (ap Some (ap (λ row. patched row (columns_before old (differences 0 old new))) (patched_new old new same) ∙ patched_old old new same))
 
-some_same : (a b : ℕ) → Some a ≡ Some b → a ≡ b
-some_same a b e = cc
-
 module _ (sh : Shape) (s : Parts) (shape : IsShape sh) (ok : Sound sh s) (q : ℕ) (snapshot : Snapshot) (has : HasOpen (desk_at sh s) q snapshot) where
-  abbrev m : IsolationMachine
-  m = ok.follows.0
-
+  -- The core in front of the event follows its machine.
   abbrev f : FollowsMachine sh s ok.follows.0
   f = follows_machine sh s ok
-
-  -- the session sees the same of each slot
-  abbrev Same : Parts → Type 0
-  Same after = (t p : ℕ) → seen (slot_at sh after t p) snapshot.stamp q ≡ seen (slot_at sh s t p) snapshot.stamp q
 
   -- the snapshot is not above the newest stamp
   low : snapshot.stamp ≤ (desk_at sh s).newest
   low = (ok.follows.1.desked.bounds q snapshot has.counted has.is_open).0
 
+  -- Over parts that are the same the session sees the same of each slot.
   still : (after : Parts) → after ≡ s → (t p : ℕ) → seen (slot_at sh after t p) snapshot.stamp q ≡ seen (slot_at sh s t p) snapshot.stamp q
   still after same t p = ap (λ parts. seen (slot_at sh parts t p) snapshot.stamp q) same
 
@@ -105,6 +99,7 @@ module _ (sh : Shape) (s : Parts) (shape : IsShape sh) (ok : Sound sh s) (q : �
 
   -- ---- writes
 
+  -- A write of another session at one place leaves what the session sees of each slot.
   written_seen : (c : Changes) (t p r : ℕ) (new : Change) (body : Body) → part_named (names sh) s (BodyOf t (block_of p)) ≡ Some (part.Body body) → slot_of p < length body.slots
       → ((u b : ℕ) (x : Body) → c.body u b x ≡ at_both t (block_of p) (with_slot (slot_of p) (written r new)) u b x)
       → IsUndone (slot_at sh s t p) new → q ≢ r
@@ -148,6 +143,7 @@ module _ (sh : Shape) (s : Parts) (shape : IsShape sh) (ok : Sound sh s) (q : �
           subst (λ r. seen (slot_at sh (each_changed (after_insert sh s own t row r) (names sh) s) u x) snapshot.stamp q ≡ seen (slot_at sh s u x) snapshot.stamp q) (sym is)
           (written_seen (after_insert sh s own t row (Ok p)) t p own.session (change.Put row) here.0 here.1 here.2 (λ u b x. refl) (put_undone (slot_at sh s t p) row) ne u x)
 
+  -- Another's update or delete leaves what the session sees of each slot.
   change_seen : (own : OwnKey) (t : ℕ) (key : ℤ) (choice : Row → Change) → IsThawed sh t key s → q ≢ own.session
       → ((p : ℕ) (old : Row) → (slot_at sh s t p).row ≡ Some old → IsUndone (slot_at sh s t p) (choice old))
       → (u x : ℕ) → seen (slot_at sh (each_changed (after_change sh s own t choice (change_judged sh s own t key)) (names sh) s) u x) snapshot.stamp q ≡ seen (slot_at sh s u x) snapshot.stamp q
@@ -166,6 +162,7 @@ module _ (sh : Shape) (s : Parts) (shape : IsShape sh) (ok : Sound sh s) (q : �
 
   -- ---- ends and pruning
 
+  -- Another's commit leaves what the session sees of each slot.
   commit_seen : (own : OwnTransaction) → q ≢ own.session → (t p : ℕ) → seen (slot_at sh (effect sh s (event.Commit own)) t p) snapshot.stamp q ≡ seen (slot_at sh s t p) snapshot.stamp q
   commit_seen own ne = by_body (after_commit sh s own) (λ t b j. at t b j (is_some_write own.writes))
     where
@@ -177,6 +174,7 @@ module _ (sh : Shape) (s : Parts) (shape : IsShape sh) (ok : Sound sh s) (q : �
           ∙ others_commit (slot_in (body_at sh s t b) j) own.session q snapshot.stamp ((desk_at sh s).newest + 1) ((desk_at sh s).commits + 1) ne (let le = low in omega (arith, le))
       at t b j false = refl
 
+  -- Another's abort leaves what the session sees of each slot.
   abort_seen : (own : OwnTransaction) → q ≢ own.session → (t p : ℕ) → seen (slot_at sh (effect sh s (event.Abort own)) t p) snapshot.stamp q ≡ seen (slot_at sh s t p) snapshot.stamp q
   abort_seen own ne t p = go (body_cases sh s (changes_of sh s (event.Abort own)) t (block_of p) (f.kinds (BodyOf t (block_of p))))
     where
@@ -188,6 +186,7 @@ module _ (sh : Shape) (s : Parts) (shape : IsShape sh) (ok : Sound sh s) (q : �
           ∙ others_roll_back (slot_at sh s t p) own.session q snapshot.stamp ne (ok.follows.1.slots t p).lawful
       go (inr e) = ap (λ x. seen (slot_in x (slot_of p)) snapshot.stamp q) e.0 ∙ ap (λ x. seen (slot_in x (slot_of p)) snapshot.stamp q) (sym e.1)
 
+  -- A lawful pruning leaves what the session sees of each slot.
   prune_seen : (t b oldest : ℕ) → IsLawful sh (event.Prune t b oldest) s → (u p : ℕ) → seen (slot_at sh (effect sh s (event.Prune t b oldest)) u p) snapshot.stamp q ≡ seen (slot_at sh s u p) snapshot.stamp q
   prune_seen t b oldest lawful u p = go (body_cases sh s (changes_of sh s (event.Prune t b oldest)) u (block_of p) (f.kinds (BodyOf u (block_of p))))
     where
@@ -203,10 +202,12 @@ module _ (sh : Shape) (s : Parts) (shape : IsShape sh) (ok : Sound sh s) (q : �
           ∙ a_pruning (slot_at sh s u p) oldest q snapshot.stamp old (ok.follows.1.slots u p).lawful)
       go (inr e) = ap (λ x. seen (slot_in x (slot_of p)) snapshot.stamp q) e.0 ∙ ap (λ x. seen (slot_in x (slot_of p)) snapshot.stamp q) (sym e.1)
 
+  -- A change of a body that leaves its slots leaves what the session sees of each.
   phase_seen : (t b : ℕ) (g : Body → Body) → ((x : Body) (j : ℕ) → slot_in (g x) j ≡ slot_in x j)
       → (u p : ℕ) → seen (slot_at sh (each_changed (record nothing { body = at_both t b g }) (names sh) s) u p) snapshot.stamp q ≡ seen (slot_at sh s u p) snapshot.stamp q
   phase_seen t b g same = by_body (record nothing { body = at_both t b g }) (λ u x j. at_one t b g u x (body_at sh s u x) j (ap (λ (y : Slot). seen y snapshot.stamp q) (same (body_at sh s u x) j)))
 
+  -- A seal leaves what the session sees of each slot.
   seal_seen : (t b : ℕ) → (u p : ℕ) → seen (slot_at sh (effect sh s (event.Seal t b)) u p) snapshot.stamp q ≡ seen (slot_at sh s u p) snapshot.stamp q
   seal_seen t b u p = go (is_none (seal_fault (is_head sh s t b) (body_at sh s t b)))
     where
@@ -214,9 +215,7 @@ module _ (sh : Shape) (s : Parts) (shape : IsShape sh) (ok : Sound sh s) (q : �
       go true = phase_seen t b sealed (λ x j. refl) u p
       go false = still (each_changed nothing (names sh) s) (all_stay (names sh) s) u p
 
-  abbrev Stays : CoreEvent → Type 0
-  Stays e = (t p : ℕ) → seen (slot_at sh (effect sh s e) t p) snapshot.stamp q ≡ seen (slot_at sh s t p) snapshot.stamp q
-
+  -- Where nothing changes, the session sees the same of each slot.
   same_parts : (t p : ℕ) → seen (slot_at sh (each_changed nothing (names sh) s) t p) snapshot.stamp q ≡ seen (slot_at sh s t p) snapshot.stamp q
   same_parts = still (each_changed nothing (names sh) s) (all_stay (names sh) s)
 
@@ -224,6 +223,7 @@ module _ (sh : Shape) (s : Parts) (shape : IsShape sh) (ok : Sound sh s) (q : �
   other : (r : ℕ) → (Some r ≢ Some q) → q ≢ r
   other r ne e = ne (ap Some (sym e))
 
+  -- A lawful event of none or of another session leaves what the session sees of each slot.
   event_seen : (e : CoreEvent) → IsLawful sh e s → session_of e ≢ Some q → (t p : ℕ) → seen (slot_at sh (effect sh s e) t p) snapshot.stamp q ≡ seen (slot_at sh s t p) snapshot.stamp q
   event_seen (event.Begin r) lawful ne = by_body (changes_of sh s (event.Begin r)) (λ t b j. refl)
   event_seen (event.Get own t key) lawful ne = same_parts

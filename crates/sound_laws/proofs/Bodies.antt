@@ -34,6 +34,7 @@ bare_row x e r = go x.row e r
     go None e r = cc
     go (Some row) e r = cc
 
+-- Slots that are all bare have no row in any of them.
 row_not_bare : (slots : List Slot) → list_all is_bare slots ≡ true → list_any (λ slot. is_some slot.row) slots ≡ true → ⊥
 row_not_bare [] e r = cc
 row_not_bare (x ∷ slots) e r = go (is_some x.row) refl r (row_not_bare slots (and_parts (is_bare x) (list_all is_bare slots) e).1)
@@ -86,11 +87,13 @@ module _ (f : Slot → Slot) where
   map_row same (x ∷ slots) =
       ap (λ o. is_some o || list_any (λ slot. is_some slot.row) (map f slots)) (same x) ∙ ap (λ b. is_some x.row || b) (map_row same slots)
 
+  -- A change that leaves the rows leaves whether no slot has one.
   map_none : ((x : Slot) → (f x).row ≡ x.row) → (slots : List Slot) → list_all (λ slot. is_none slot.row) (map f slots) ≡ list_all (λ slot. is_none slot.row) slots
   map_none same [] = refl
   map_none same (x ∷ slots) =
       ap (λ o. is_none o && list_all (λ slot. is_none slot.row) (map f slots)) (same x) ∙ ap (λ b. is_none x.row && b) (map_none same slots)
 
+  -- A change that leaves the rows leaves whether they stand in front.
   map_front : ((x : Slot) → (f x).row ≡ x.row) → (slots : List Slot) → is_front (map f slots) ≡ is_front slots
   map_front same [] = refl
   map_front same (x ∷ slots) =

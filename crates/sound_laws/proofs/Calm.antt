@@ -22,12 +22,15 @@ use Rattle.sound_laws.specs.Shaped.{Shaped}
 use Rattle.undo_chain.specs.declared.undo.Undo.{Undo}
 use Rattle.undo_chain.specs.Stamped.{stamped}
 
+-- Numbers that are tested as the same are the same.
 num : (a b : ℕ) → (a == b) ≡ true → a ≡ b
 num a b e = grind (arith, nat_tests)
 
+-- Numbers that are not tested as the same differ.
 num_not : (a b : ℕ) → (a == b) ≡ false → a ≢ b
 num_not a b ne e = absurd (grind (arith, nat_tests))
 
+-- Two numbers are the same or not.
 same_or : (a b : ℕ) → (a ≡ b) ⊎ (a ≢ b)
 same_or a b = Rattle.follow_laws.proofs.Desks.same_number a b
 

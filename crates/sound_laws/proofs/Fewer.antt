@@ -71,6 +71,7 @@ slots_lawful sh s shape ok t b has j less =
     subst (λ x. IsSoundSlot (desk_at sh s).newest (desk_at sh s).commits (slot_in (body_at sh s t x) j)) (block_is b j small)
     (subst (λ i. IsSoundSlot (desk_at sh s).newest (desk_at sh s).commits (slot_in (body_at sh s t (block_of (place_of b j))) i)) (slot_is b j small) here)
 
+-- A bare slot is sound at any stamp and number.
 sound_bare : (newest commits : ℕ) → IsSoundSlot newest commits bare
 sound_bare newest commits = record {
   lawful = IsLawful-nil;
@@ -135,6 +136,7 @@ rolled_holds sh t q body old lawful = go (is_written_by q body) refl
 
 -- ---- a pruning of a body
 
+-- A pruning of no entries leaves none.
 no_entry : (oldest : ℕ) (es : List (Undo Before)) → has_none es ≡ true → has_none (filter (λ undo. not (is_stamped_by undo oldest)) es) ≡ true
 no_entry oldest [] is = refl
 no_entry oldest (e ∷ es) is = cc

@@ -83,6 +83,7 @@ cell_fits k (c ∷ columns) (x ∷ cells) (suc j) same fit less =
         let e : (k + 1) + j ≡ k + suc j = omega arith in
         subst (λ n. IsSomeAnd (slice_get columns j) (λ column. cell_fault n column (get_or cells j Null) ≡ None)) e (step rest)
 
+-- Each cell of a row that fits has no fault in its column.
 fits_cells : (columns : List Column) (cells : Row) → Fits columns cells → (i : ℕ) → i < length cells → IsSomeAnd (slice_get columns i) (λ column. cell_fault i column (get_or cells i Null) ≡ None)
 fits_cells columns cells fit i less = go (length cells == length columns) refl fit
   where
@@ -93,11 +94,13 @@ fits_cells columns cells fit i less = go (length cells == length columns) refl f
         let e : 0 + i ≡ i = omega arith in
         subst (λ n. IsSomeAnd (slice_get columns i) (λ column. cell_fault n column (get_or cells i Null) ≡ None)) e (cell_fits 0 columns cells i same f less)
 
+-- The column of an assignment is from one column on and below another.
 abbrev BothIn : ℕ → ℕ → Assignment → Type 0
 BothIn low high assignment = (low ≤ assignment.column) × (assignment.column < high)
 
 -- the columns in which two rows differ rise
 module _ (old : Row) where
+  -- The columns in which two rows differ are from the first on and below the end.
   differ_in : (at : ℕ) (xs ys : Row) (high : ℕ) → at + length xs ≤ high → All (BothIn at high) (map (standing old) (differences at xs ys))
   differ_in at [] ys high le = All-nil (BothIn at high)
   differ_in at (x ∷ xs) [] high le = All-nil (BothIn at high)
@@ -113,6 +116,7 @@ module _ (old : Row) where
           All-cons (BothIn at high) (standing old (record { column = at; cell = y })) (map (standing old) (differences (at + 1) xs ys)) (omega arith, omega (arith, le))
           (All-weaker (BothIn (at + 1) high) (BothIn at high) more (map (standing old) (differences (at + 1) xs ys)) rest)
 
+  -- No two of the differences of two rows are in the same column.
   differ_apart : (at : ℕ) (xs ys : Row) → AllPairs (λ one other. one.column ≢ other.column) (map (standing old) (differences at xs ys))
   differ_apart at [] ys = λ i j d less inside. absurd (omega (arith, inside))
   differ_apart at (x ∷ xs) [] = λ i j d less inside. absurd (omega (arith, inside))
@@ -129,6 +133,7 @@ module _ (old : Row) where
           (All-weaker (BothIn (at + 1) (at + 1 + length xs)) (λ a. at ≢ a.column) above (map (standing old) (differences (at + 1) xs ys)) (differ_in (at + 1) xs ys (at + 1 + length xs) (omega arith)))
           rest
 
+-- The old row's cells in the columns of a patch fit where each of its cells does.
 standing_cells : (old : Row) (columns : List Column) (patch : List Assignment) (high : ℕ) → All (BothIn 0 high) (map (standing old) patch)
     → ((i : ℕ) → i < high → IsSomeAnd (slice_get columns i) (λ column. cell_fault i column (get_or old i Null) ≡ None))
     → All (AssignmentFits columns) (map (standing old) patch)

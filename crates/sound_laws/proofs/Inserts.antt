@@ -23,12 +23,15 @@ use Rattle.sound_laws.proofs.Held.{SlotFits, slot_holds}
 use Rattle.sound_laws.proofs.Kept.{HeadAfter, NoHeadAfter, calm_head, calm_same, filter_same, IsCalm}
 use Rattle.sound_laws.specs.Shaped.{Shaped}
 
+-- Numbers that are tested as the same are the same.
 num : (a b : ℕ) → (a == b) ≡ true → a ≡ b
 num a b e = grind (arith, nat_tests)
 
+-- A number is tested as the same as itself.
 num_refl : (a : ℕ) → (a == a) ≡ true
 num_refl a = grind (arith, nat_tests)
 
+-- Numbers that differ are not tested as the same.
 num_ne : (a b : ℕ) → a ≢ b → (a == b) ≡ false
 num_ne a b ne = grind (arith, nat_tests)
 
@@ -79,15 +82,19 @@ module _ (sh : Shape) (s : Parts) (ok : Shaped sh s) (shape : IsShape sh) (t : �
     (bodies : (u b : ℕ) (x : Body) → c.body u b x ≡ at_both t (block_of p) (with_slot (slot_of p) g) u b x)
     (fills : is_bare (g (slot_at sh s t p)) ≡ false)
     (fit : SlotFits sh t (g (slot_at sh s t p))) where
+  -- The head of the table in front of the insert.
   abbrev old : Head
   old = head_at sh s t
 
+  -- How many slots a block of the table has.
   abbrev S : ℕ
   S = slots_of sh t
 
+  -- The body of the block to which the insert goes.
   abbrev this : Body
   this = body_at sh s t (block_of p)
 
+  -- That body with the slot written.
   abbrev new : Body
   new = with_slot (slot_of p) g this
 
@@ -96,18 +103,21 @@ module _ (sh : Shape) (s : Parts) (ok : Shaped sh s) (shape : IsShape sh) (t : �
     pub block : block_of p ≡ b
     pub slot : slot_of p ≡ j
 
+  -- The place of a block and one of its slots has these as its block and slot.
   at : (b j : ℕ) → j < S → place_of b j ≡ p → At b j
   at b j less is =
       let w = (shape.slots t has).1 in
       let small : j < 2 ^ 20 = omega (arith, w, less) in
       record { block = ap block_of (sym is) ∙ block_is b j small; slot = ap slot_of (sym is) ∙ slot_is b j small }
 
+  -- The body of the written block is what the write makes of it.
   body_here : (b : ℕ) → block_of p ≡ b → c.body t b (body_at sh s t b) ≡ with_slot (slot_of p) g (body_at sh s t b)
   body_here b is =
       bodies t b (body_at sh s t b)
       ∙ ap (λ y. cond (y && (b == block_of p)) (with_slot (slot_of p) g (body_at sh s t b)) (body_at sh s t b)) (num_refl t)
       ∙ ap (λ y. cond y (with_slot (slot_of p) g (body_at sh s t b)) (body_at sh s t b)) (ap (λ x. b == x) is ∙ num_refl b)
 
+  -- Every other body is left as it is.
   body_else : (u b : ℕ) → ((u ≡ t) → (b ≡ block_of p) → ⊥) → c.body u b (body_at sh s u b) ≡ body_at sh s u b
   body_else u b no' = bodies u b (body_at sh s u b) ∙ go (u == t) (b == block_of p) refl refl
     where
@@ -139,6 +149,7 @@ module _ (sh : Shape) (s : Parts) (ok : Shaped sh s) (shape : IsShape sh) (t : �
     pub inside : slot_of p < length this.slots
     pub loose : is_loose this.phase ≡ true
 
+  -- A slot of a loose block of the table is one to which an insert may go.
   spot_in : (b j : ℕ) → HasBlock sh t b → j < S → is_loose (body_at sh s t b).phase ≡ true → At b j → Spot
   spot_in b j hb less loose is =
       let jp = is.slot in
@@ -149,9 +160,11 @@ module _ (sh : Shape) (s : Parts) (ok : Shaped sh s) (shape : IsShape sh) (t : �
         loose = ap (λ b. is_loose (body_at sh s t b).phase) is.block ∙ loose;
       }
 
+  -- An insert goes to the head's next slot or to the first of the least empty block.
   abbrev Way : Type 0
   Way = ((old.taken < S) × (place_of old.block old.taken ≡ p)) ⊎ ((S ≤ old.taken) × (rest : List ℕ) × (b : ℕ) × (old.empty ≡ b ∷ rest) × (place_of b 0 ≡ p))
 
+  -- The insert goes to the head's next slot, or the block is full and the least empty one follows.
   way : Way
   way = go (nat_lt old.taken S) refl
     where
@@ -163,6 +176,7 @@ module _ (sh : Shape) (s : Parts) (ok : Shaped sh s) (shape : IsShape sh) (t : �
       go true y = inl (grind (arith, nat_tests), some_is (place_of old.block old.taken) p (sym (ap (λ y. cond y (Some (place_of old.block old.taken)) (first_of_blocks old.empty)) y) ∙ goes))
       go false y = moved (grind (arith, nat_tests)) old.empty refl (sym (ap (λ y. cond y (Some (place_of old.block old.taken)) (first_of_blocks old.empty)) y) ∙ goes)
 
+  -- A block of the table has a slot at least.
   some_slot : 0 < S
   some_slot = let one = (shape.slots t has).0 in omega (arith, one)
 
@@ -174,6 +188,7 @@ module _ (sh : Shape) (s : Parts) (ok : Shaped sh s) (shape : IsShape sh) (t : �
       go (inl x) = spot_in old.block old.taken (ok.heads t has).block x.0 (ok.heads t has).loose (at old.block old.taken x.0 x.1)
       go (inr x) = let e = first_empty x.1 x.2 x.3 in spot_in x.2 0 e.0 some_slot (empty_loose x.2 e.0 e.1) (at x.2 0 some_slot x.4)
 
+  -- The written body is not empty.
   new_filled : is_empty new ≡ false
   new_filled = slot_filled (slot_of p) g this spot.inside fills
 
@@ -181,18 +196,22 @@ module _ (sh : Shape) (s : Parts) (ok : Shaped sh s) (shape : IsShape sh) (t : �
   filled_at : (b : ℕ) → block_of p ≡ b → is_empty (c.body t b (body_at sh s t b)) ≡ false
   filled_at b is = ap is_empty (body_here b is) ∙ ap (λ b. is_empty (with_slot (slot_of p) g (body_at sh s t b))) (sym is) ∙ new_filled
 
+  -- Another slot of the written block that was bare is bare after the insert.
   bare_from : (b j : ℕ) → block_of p ≡ b → j ≢ slot_of p → is_bare (slot_in (body_at sh s t b) j) ≡ true → is_bare (slot_in (c.body t b (body_at sh s t b)) j) ≡ true
   bare_from b j is ne before =
       ap (λ x. is_bare (slot_in x j)) (body_here b is)
       ∙ ap is_bare (get_or-set_other (body_at sh s t b).slots (slot_of p) j (g (slot_in (body_at sh s t b) (slot_of p))) bare ne) ∙ before
 
+  -- The written block is loose after the insert.
   loose_at : (b : ℕ) → block_of p ≡ b → is_loose (c.body t b (body_at sh s t b)).phase ≡ true
   loose_at b is = ap (λ (x : Body). is_loose x.phase) (body_here b is) ∙ ap (λ b. is_loose (body_at sh s t b).phase) (sym is) ∙ spot.loose
 
+  -- A conjunction whose second is false is false.
   and_false : (x : Bool) → (x && false) ≡ false
   and_false true = refl
   and_false false = refl
 
+  -- A conjunction whose second is true is its first.
   and_true : (x : Bool) → (x && true) ≡ x
   and_true true = refl
   and_true false = refl
@@ -300,6 +319,7 @@ module _ (sh : Shape) (s : Parts) (ok : Shaped sh s) (shape : IsShape sh) (t : �
           inr (ap (λ y. (cond y (record old { taken = old.taken + 1; inserts = old.inserts + 1 }) (moved_on old.empty old)).block) more
           ∙ ap (λ blocks. (moved_on blocks old).block) x.3 ∙ sym (at x.2 0 some_slot x.4).block)
 
+  -- The table's head after the insert is the one with the slot taken.
   head_here : c.head t old ≡ taken_by S old
   head_here = heads t old ∙ ap (λ y. cond y (taken_by S old) old) (num_refl t)
 

@@ -14,6 +14,7 @@ use Rattle.sound_laws.specs.Laws.{Keeps}
 use Rattle.sound_laws.specs.Shaped.{Shaped}
 
 module _ (sh : Shape) (s : Parts) (shape : IsShape sh) (ok : Sound sh s) where
+  -- A lawful event, whichever it is, keeps what holds of heads and bodies.
   keeps_shaped : (e : CoreEvent) → IsLawful sh e s → Shaped sh (effect sh s e)
   keeps_shaped (event.Begin q) lawful = desk_keeps sh s (shaped sh s ok) (opened q) (λ desk. length-set desk.open_snapshots (q - 1) (Some (record { stamp = desk.newest; number = desk.commits })))
   keeps_shaped (event.Get own t key) lawful = nothing_keeps sh s (shaped sh s ok)

@@ -1,9 +1,8 @@
 -- Each lawful event keeps what holds of heads and bodies.
-use Rattle.std.proofs.Common.{◌≡◌, ◌⊎◌, ℕ, ◌+◌, ◌-◌, ℤ, Bool, true, false, cond, ◌&&◌, ◌==◌, List, [], Option, None, Some, is_none, is_some, length, unwrap_or, refl, sym, ap, ◌∙◌, subst, arith}
+use Rattle.std.proofs.Common.{◌≡◌, ◌⊎◌, ℕ, ◌+◌, ◌-◌, ℤ, Bool, true, false, cond, ◌&&◌, ◌==◌, List, [], Option, None, Some, is_none, is_some, length, unwrap_or, refl, sym, ap, ◌∙◌, subst}
 use mathlib.Core.Logic.{inl, inr}
 use Rattle.std.specs.Prelude.{Result, Ok, Err}
 use Rattle.std.specs.Option.{option_or}
-use Rattle.std.proofs.lemmas.Bool.Decides.{nat_tests}
 use Rattle.std.proofs.lemmas.List.{length-set}
 use Rattle.block_layout.specs.Place.{block_of, slot_of}
 use Rattle.block_spec.specs.declared.phase.SealFault.{SealFault}
@@ -39,9 +38,7 @@ use Rattle.sound_laws.specs.Shaped.{Shaped}
 use Rattle.event_laws.proofs.Fitting.{versions_fit}
 use Rattle.txn_desk.specs.Desk.{DeskState}
 
-num_refl : (a : ℕ) → (a == a) ≡ true
-num_refl a = grind (arith, nat_tests)
-
+-- A slot that was written is not bare.
 written_filled : (q : ℕ) (new : Change) (slot : Slot) → is_bare (written q new slot) ≡ false
 written_filled q new slot = go (is_none (row_after slot.row new))
   where
@@ -75,6 +72,7 @@ module _ (sh : Shape) (s : Parts) (ok : Shaped sh s) where
 -- ---- writes
 
 module _ (sh : Shape) (s : Parts) (shape : IsShape sh) (ok : Sound sh s) where
+  -- The sound core in front of the event has heads and bodies as they should be.
   abbrev k : Shaped sh s
   k = shaped sh s ok
 

@@ -22,6 +22,7 @@ filter_same p q (x ∷ xs) same =
     ap (λ b. cond b (x ∷ filter p xs) (filter p xs)) (same x (inl refl))
     ∙ ap (λ ys. cond (q x) (x ∷ ys) ys) (filter_same p q xs (λ y a. same y (inr a)))
 
+-- A part is of its name's kind after the changes.
 kind_after : (c : Changes) (name : Name) (o : Option CorePart) → IsOfKind name o → IsOfKind name (option_map (changed c name) o)
 kind_after c (HeadOf t) None k = absurd k
 kind_after c (HeadOf t) (Some (part.Head x)) k = tt
@@ -76,6 +77,7 @@ module _ (sh : Shape) (s : Parts) (ok : Shaped sh s) (c : Changes) where
     pub anew : is_empty (c.body t h.block (body_at sh s t h.block)) ≡ true → h.taken ≡ 0
     pub empty : h.empty ≡ filter (λ b. is_empty (c.body t b (body_at sh s t b)) && not (b == h.block)) (below (blocks_of sh t))
 
+  -- What holds of a head after the changes is what is asked of heads in the parts.
   head_holds : (t : ℕ) → HasTable sh t → (h : Head) → head_at sh after t ≡ h → HeadAfter t h → HeadHolds sh after t
   head_holds t has h is new = record {
     block = subst (λ (h : Head). HasBlock sh t h.block) (sym is) new.block;

@@ -40,6 +40,7 @@ pub record IsOpen (sh : Shape) (s : Parts) (t b : ℕ) : Type 0 where
   pub other : b ≢ (head_at sh s t).block
   pub filled : is_empty (body_at sh s t b) ≡ false
 
+-- A change of one slot leaves the phase of each body.
 phase_at : (t b j : ℕ) (g : Slot → Slot) (u x : ℕ) (y : Body) → (at_both t b (with_slot j g) u x y).phase ≡ y.phase
 phase_at t b j g u x y = go ((u == t) && (x == b))
   where
@@ -62,6 +63,7 @@ open_after sh s ok c t b j g heads bodies calm x old = record {
     now : body_at sh (each_changed c (names sh) s) t x ≡ at_both t b (with_slot j g) t x (body_at sh s t x)
     now = body_after sh s ok c t x old.has ∙ bodies t x (body_at sh s t x)
 
+-- A slot from which a row that fits moves out has versions that fit.
 out_fits : (sh : Shape) (t stamp : ℕ) (row : Row) (slot : Slot) → slot ≡ plain row → SlotFits sh t slot → SlotFits sh t (moved_out stamp row slot)
 out_fits sh t stamp row slot is fit =
     let here : Fits (columns_in sh t) row = subst (SlotFits sh t) is fit in
@@ -70,6 +72,7 @@ out_fits sh t stamp row slot is fit =
 in_fits : (sh : Shape) (t stamp : ℕ) (row : Row) (slot : Slot) → slot ≡ bare → Fits (columns_in sh t) row → SlotFits sh t (moved_in stamp row slot)
 in_fits sh t stamp row slot is fit = subst (λ slot. SlotFits sh t (moved_in stamp row slot)) (sym is) (fit, tt, tt)
 
+-- Each slot of a block of the table has versions that fit.
 slot_fit : (sh : Shape) (s : Parts) (ok : Shaped sh s) (t b j : ℕ) → HasBlock sh t b → SlotFits sh t (slot_in (body_at sh s t b) j)
 slot_fit sh s ok t b j has = index_all (SlotFits sh t) (body_at sh s t b).slots bare j tt (ok.bodies t b has).versions
 
@@ -82,31 +85,39 @@ module _ (sh : Shape) (s : Parts) (ok : Shaped sh s) (m : IsolationMachine) (f :
     (later : (session : ℕ) (snapshot : Snapshot) → HasOpen (desk_at sh s) session snapshot → snapshot.stamp < stamp)
     (row : Row) (pair : MovePair) (ready' : IsReady sh s t row pair) (two : pair.source ≢ pair.target)
     (source : IsOpen sh s t (block_of pair.source)) (target : IsOpen sh s t (block_of pair.target)) where
+  -- The changes by which the row leaves its slot.
   abbrev first : Changes
   first = leaving t stamp row g pair
 
+  -- The changes by which the row comes to its new slot.
   abbrev second : Changes
   second = coming t stamp row pair
 
+  -- The parts behind the first half of the move.
   abbrev half : Parts
   half = each_changed first (names sh) s
 
+  -- The parts behind both halves of the move.
   abbrev both : Parts
   both = each_changed second (names sh) half
 
   inside_at : (p : ℕ) → HasPlace sh t p → slot_of p < length (body_at sh s t (block_of p)).slots
   inside_at p place = let less = place.1 in let same = (ok.bodies t (block_of p) place.0).slots in omega (arith, less, same)
 
+  -- The slot from which the row moves has versions that fit.
   fit : SlotFits sh t (slot_at sh s t pair.source)
   fit = slot_fit sh s ok t (block_of pair.source) (slot_of pair.source) source.has
 
+  -- The body that the row leaves is changed so that the heads are left.
   left_calm : IsCalm sh s ok first t (block_of pair.source) (with_slot (slot_of pair.source) (moved_out stamp row) (body_at sh s t (block_of pair.source)))
   left_calm = change_calm sh s ok first t (block_of pair.source) source.has (slot_of pair.source) (moved_out stamp row)
       (inside_at pair.source ready'.source_place) source.loose (ap is_bare ready'.full) refl (out_fits sh t stamp row (slot_at sh s t pair.source) ready'.full fit)
 
+  -- Behind the first half heads and bodies are as they should be.
   half_shaped : Shaped sh half
   half_shaped = one_keeps sh s ok first t (block_of pair.source) (with_slot (slot_of pair.source) (moved_out stamp row)) (λ u h. refl) (λ u x y. refl) size left_calm
 
+  -- Behind the first half blocks that may give and take rows may so still.
   half_open : (x : ℕ) → IsOpen sh s t x → IsOpen sh half t x
   half_open = open_after sh s ok first t (block_of pair.source) (slot_of pair.source) (moved_out stamp row) (λ u h. refl) (λ u x y. refl) left_calm
 
@@ -119,6 +130,7 @@ module _ (sh : Shape) (s : Parts) (ok : Shaped sh s) (m : IsolationMachine) (f :
   inside_half : slot_of pair.target < length (body_at sh half t (block_of pair.target)).slots
   inside_half = let less = ready'.target_place.1 in let same = (half_shaped.bodies t (block_of pair.target) target.has).slots in omega (arith, less, same)
 
+  -- The body to which the row comes is changed so that the heads are left.
   come_calm : IsCalm sh half half_shaped second t (block_of pair.target) (with_slot (slot_of pair.target) (moved_in stamp row) (body_at sh half t (block_of pair.target)))
   come_calm =
       let open' = half_open (block_of pair.target) target in
@@ -135,6 +147,7 @@ module _ (sh : Shape) (s : Parts) (ok : Shaped sh s) (m : IsolationMachine) (f :
 
 -- ---- all pairs
 
+-- A move without a pair left keeps what holds of heads and bodies.
 moving_none : (sh : Shape) (s : Parts) (ok : Shaped sh s) (t stamp : ℕ) (row : MovePair → Row) → Shaped sh (each_changed (moving t stamp row (λ desk. desk) []) (names sh) s)
 moving_none sh s ok t stamp row = calm_keeps sh s ok (moving t stamp row (λ desk. desk) []) (λ u h. refl)
     (λ u b has. subst (IsCalm sh s ok (moving t stamp row (λ desk. desk) []) u b) (same (u == t) (body_at sh s u b)) (calm_same sh s ok (moving t stamp row (λ desk. desk) []) u b has))
@@ -151,6 +164,7 @@ pub record MayMove (sh : Shape) (s : Parts) (t : ℕ) (row : Row) (pair : MovePa
   pub target : IsOpen sh s t (block_of pair.target)
 
 module _ (sh : Shape) (t stamp : ℕ) (row : MovePair → Row) (m : IsolationMachine) (has : HasTable sh t) where
+  -- The first pair of a move keeps heads and bodies where those behind it do.
   first_keeps : (s : Parts) → Shaped sh s → FollowsMachine sh s m → Wide sh s t
       → (g : DeskState → DeskState) → g (desk_at sh s) ≡ record (desk_at sh s) { newest = stamp }
       → ((desk : DeskState) → length (g desk).open_snapshots ≡ length desk.open_snapshots)
@@ -178,6 +192,7 @@ module _ (sh : Shape) (t stamp : ℕ) (row : MovePair → Row) (m : IsolationMac
         target = pair_open sh s ok m f t stamp has wide g is size newest later (row first) first one.ready far.0 one.source one.target (block_of pair.target) old.target;
       }))
 
+  -- The pairs of a move, one behind the other, keep what holds of heads and bodies.
   rest_keeps : (pairs : List MovePair) (s : Parts) → Shaped sh s → FollowsMachine sh s m → Wide sh s t
       → (desk_at sh s).newest ≡ stamp
       → ((session : ℕ) (snapshot : Snapshot) → HasOpen (desk_at sh s) session snapshot → snapshot.stamp < stamp)
@@ -201,9 +216,11 @@ module _ (sh : Shape) (t stamp : ℕ) (row : MovePair → Row) (m : IsolationMac
 -- ---- the event
 
 module _ (sh : Shape) (s : Parts) (ok : Sound sh s) where
+  -- The machine that the core in front of the move follows.
   abbrev m : IsolationMachine
   m = ok.follows.0
 
+  -- A block that may give and take rows is loose, not the head and not empty.
   open_block : (t b : ℕ) → HasBlock sh t b → may_move sh s t b ≡ true → IsOpen sh s t b
   open_block t b has may =
       let x = body_at sh s t b in

@@ -65,6 +65,7 @@ judged_ok (Some fault) place otherwise p is = cc
 judged_ok None None otherwise p is = cc
 judged_ok None (Some x) otherwise p is = (refl, ap Some (cc))
 
+-- What the first answer over some places is, one of them answers.
 first_some : (answer : ℕ → Option ℕ) (places : List ℕ) (x : ℕ) → first_at answer places ≡ Some x → (p : ℕ) × Among p places × (answer p ≡ Some x)
 first_some answer [] x is = cc
 first_some answer (p ∷ places) x is = go (answer p) refl is (first_some answer places x)

@@ -22,15 +22,18 @@ use Rattle.store_export.specs.declared.sent.Sent.{Sent}
 
 -- ---- a read, and its message
 
+-- A statement that holds anyway holds of what a result gives.
 if_ok : {T E : Type 0} (P : Type 0) (r : Result T E) → P → IfOk r (λ done. P)
 if_ok P (Ok done) p = p
 if_ok P (Err fault) p = tt
 
+-- Where no block was frozen, steps within all slots are within the bound.
 full_steps : (spent steps slots none' : ℕ) → none' ≡ 0 → steps ≤ spent + slots → steps ≤ spent + slots * (1 - none')
 full_steps spent steps slots none' is few =
     let one : slots * (1 - 0) ≡ slots = omega arith in
     subst (λ n. steps ≤ spent + slots * (1 - n)) (sym is) (omega (arith, few, one))
 
+-- Who takes no step more stays within any bound of steps more.
 no_steps : (spent steps more : ℕ) → steps ≤ spent + 0 → steps ≤ spent + more
 no_steps spent steps more few = omega (arith, few)
 

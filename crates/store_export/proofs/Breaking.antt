@@ -23,10 +23,12 @@ groups_more made o =
     ∙ ap (filter is_some_row) (map-append rows_told (replies_in made) (o.reply ∷ []))
     ∙ filter-append is_some_row (map rows_told (replies_in made)) (rows_told o.reply ∷ [])
 
+-- One read's group gives the message of its rows, or none if it has none.
 one_message : (columns : List Column) (rows : List Row) → flat_map (batch_message columns) (filter is_some_row (rows ∷ [])) ≡ group_message columns rows
 one_message columns [] = refl
 one_message columns (row ∷ rows) = append-nil (batch_message columns (row ∷ rows))
 
+-- One more read puts the message of its rows behind those sent before.
 messages_more : (columns : List Column) (made : List Occurrence) (o : Occurrence)
     → messages_of columns (groups_told (made ++ o ∷ [])) ≡ messages_of columns (groups_told made) ++ group_message columns (rows_told o.reply)
 messages_more columns made o =

@@ -45,38 +45,48 @@ use Rattle.store_export.proofs.Breaking.{HasBroken, HasSent, breaks_before, brea
 
 -- ---- what replies count
 
+-- How many rows some replies told together.
 abbrev rows_all : List CoreReply → ℕ
 rows_all replies = length (flat_map rows_told replies)
 
+-- Whether a reply told a row at all.
 abbrev with_row : CoreReply → Bool
 with_row told = is_some_row (rows_told told)
 
+-- A count over two lists of replies is the sum of both counts.
 count_more : (p : CoreReply → Bool) (xs ys : List CoreReply) → count_by p (xs ++ ys) ≡ count_by p xs + count_by p ys
 count_more p xs ys = sum_by-append (λ told. cond {A = ℕ} (p told) 1 0) xs ys
 
+-- A count over one reply is one at most.
 count_one : (p : CoreReply → Bool) (told : CoreReply) → count_by p (told ∷ []) ≤ 1
 count_one p told = count_by-le-length p (told ∷ [])
 
+-- One more reply adds its rows to those that the others told.
 rows_more : (xs : List CoreReply) (told : CoreReply) → rows_all (xs ++ told ∷ []) ≡ rows_all xs + rows_all (told ∷ [])
 rows_more xs told =
     ap (λ (rows : List Row). length rows) (flat_map-append rows_told xs (told ∷ [])) ∙ length-append (flat_map rows_told xs) (flat_map rows_told (told ∷ []))
 
+-- One reply alone counts as many rows as it told.
 rows_one : (told : CoreReply) → rows_all (told ∷ []) ≡ length (rows_told told)
 rows_one told = ap (λ (rows : List Row). length rows) (append-nil (rows_told told))
 
 -- ---- steps
 
+-- A number is at most itself and another together.
 le_more : (a b : ℕ) → a ≤ a + b
 le_more a b = omega arith
 
+-- A product is no less where its second factor is no less.
 times_most : (a b c : ℕ) → b ≤ c → a * b ≤ a * c
 times_most a b c le =
     let apart : c ≡ b + (c - b) = omega (arith, le) in
     subst (λ n. a * b ≤ n) (sym (ap (λ n. a * n) apart ∙ mul-add a b (c - b))) (le_more (a * b) (a * (c - b)))
 
+-- Steps within one bound and then within another are within both together.
 sum_steps : (spent a b steps later : ℕ) → steps ≤ spent + a → later ≤ steps + b → later ≤ spent + (a + b)
 sum_steps spent a b steps later first then = omega (arith, first, then)
 
+-- Steps within a bound are within any that is no less.
 sum_most : (spent a b later : ℕ) → later ≤ spent + a → a ≤ b → later ≤ spent + b
 sum_most spent a b later first then = omega (arith, first, then)
 
@@ -95,6 +105,7 @@ steps_rest slots spent later k blocks frozen le first =
 
 -- ---- a sink that fails
 
+-- A count that rose from one moment rose from another with the same count.
 rose_since : (before between now : ℕ) → between ≡ before → Rose between now → Rose before now
 rose_since before between now same rose = subst (λ n. Rose n now) same rose
 
@@ -133,12 +144,15 @@ pub record Sending
   pub steps_few : steps ≤ spent + slots_of (shape_in store) table * (count - sent.frozen)
 
 module _ (store : StoreView) (own : OwnTransaction) (t : ℕ) where
+  -- The shape of the parts of the store.
   abbrev sh : Shape
   sh = shape_in store
 
+  -- The columns of the table that is exported.
   abbrev columns : List Column
   columns = columns_in sh t
 
+  -- The reads that an export asks for, one for each block of the table.
   abbrev asked : List CoreEvent
   asked = at_blocks sh t (event.Read own t)
 
@@ -417,6 +431,7 @@ refused store old t key before spent is written = record {
 
 -- ---- what the transaction wrote
 
+-- Two options with a value are equal only where their values are.
 some_is : {X : Type 0} (a b : X) → Some a ≡ Some b → a ≡ b
 some_is a b h = cc
 

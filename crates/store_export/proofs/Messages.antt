@@ -25,6 +25,7 @@ retold T S written faults old new piece (Memory refused) told = told
 
 -- ---- images
 
+-- Where each of the first slots holds a row, they have as many rows as slots.
 first_rows : (n : ℕ) (slots : List (Option Row)) → ((slot : ℕ) → slot < n → IsSome (get_or slots slot None))
     → length (flat_map (λ slot. option_to_list slot) (take n slots)) ≡ n
 first_rows zero slots held = refl

@@ -29,9 +29,11 @@ use Rattle.store_laws.specs.Own.{KnowsOwn, MakesOne, entry_of, occurrence_at, pa
 use Rattle.store_laws.proofs.Entries.{log_append, own_grows, own_stays, replay_same}
 use Rattle.store_laws.proofs.Knowing.{opened_moves}
 
+-- An option without a value is not one that has a value.
 none_some : {A : Type 0} (a : A) → None ≡ Some a → ⊥
 none_some a e = cc
 
+-- An option that has a value is not one without a value.
 some_none : {A : Type 0} (a : A) → Some a ≡ None → ⊥
 some_none a e = cc
 
@@ -54,6 +56,7 @@ unnamed_keeps own' (event.Seal table block) told none' = refl
 unnamed_keeps own' (event.Image table block image) told none' = refl
 unnamed_keeps own' (event.Thaw table block) told none' = refl
 
+-- A change that leaves each open transaction as it is leaves what is open.
 written_none : (own' : Option OwnTransaction) (f : OwnTransaction → OwnTransaction) → ((t : OwnTransaction) → f t ≡ t) → Rattle.std.proofs.Common.option_map f own' ≡ own'
 written_none None f same = refl
 written_none (Some t) f same = ap Some (same t)

@@ -29,6 +29,7 @@ use Rattle.txn_desk.specs.Desk.{DeskState}
 abbrev IsOneMore : DeskState → DeskState → Type 0
 IsOneMore before after' = after'.newest ≤ before.newest + 1
 
+-- A desk that stays as it is takes one stamp at most.
 same_more : (x y : DeskState) → y ≡ x → IsOneMore x y
 same_more x y same = subst (IsOneMore x) (sym same) (omega arith)
 
@@ -37,10 +38,12 @@ module _ (sh : Shape) (s : Parts) where
   insert_desk own u row (Err fault) x = refl
   insert_desk own u row (Ok p) x = refl
 
+  -- An update or a delete leaves the desk as it is.
   change_desk : (own : OwnKey) (u : ℕ) (choice : Row → Change) (r : Result ℕ WriteFault) (x : DeskState) → (after_change sh s own u choice r).desk x ≡ x
   change_desk own u choice (Err fault) x = refl
   change_desk own u choice (Ok p) x = refl
 
+  -- A seal leaves the desk as it is.
   seal_desk : (u c : ℕ) (x : DeskState) → (changes_of sh s (event.Seal u c)).desk x ≡ x
   seal_desk u c x = go (is_none (seal_fault (is_head sh s u c) (body_at sh s u c)))
     where
@@ -48,14 +51,17 @@ module _ (sh : Shape) (s : Parts) where
       go true = refl
       go false = refl
 
+  -- A move takes one stamp at most.
   move_more : (u : ℕ) (pairs : List MovePair) (x : DeskState) → IsOneMore x ((after_move sh s u pairs).desk x)
   move_more u [] x = omega arith
   move_more u (first ∷ rest) x = omega arith
 
+  -- A commit, of writes or of none, takes one stamp at most.
   commit_more : (wrote : Bool) (q : ℕ) (x : DeskState) → IsOneMore x (closed q (cond wrote (numbered x) x))
   commit_more true q x = omega arith
   commit_more false q x = omega arith
 
+  -- Any event takes one stamp at most.
   event_more : (e : CoreEvent) → IsOneMore (desk_at sh s) ((changes_of sh s e).desk (desk_at sh s))
   event_more (event.Begin q) = omega arith
   event_more (event.Get own u key) = omega arith
@@ -74,6 +80,7 @@ module _ (sh : Shape) (s : Parts) where
   event_more (event.Image u c image) = omega arith
   event_more (event.Thaw u c) = omega arith
 
+  -- An event that was made, or was refused memory, takes one stamp at most.
   made_more : (made : Made) → CoreHolds sh s → IsOneMore (desk_at sh s) (desk_at sh (after sh s made))
   made_more made holds = go made.refused
     where
@@ -84,6 +91,7 @@ module _ (sh : Shape) (s : Parts) where
       go true = omega arith
       go false = subst (IsOneMore (desk_at sh s)) (sym now) (event_more made.event)
 
+-- From sound parts on, a lawful log takes at most as many stamps as it has events.
 stamps_from : (sh : Shape) (s : Parts) (log : List Made) → CoreHolds sh s → IsLawfulFrom sh s log
     → (desk_at sh (fold (after sh) s log)).newest ≤ (desk_at sh s).newest + length log
 stamps_from sh s [] holds lawful = omega arith

@@ -32,21 +32,22 @@ one_more n agendas new are none = record {
         let same : length agendas ≡ k = grind (arith, nat_tests, e, within, are.size) in
         ap (λ (a : Agenda). a.commands.items) (get_or_push agendas new d k same) ∙ none
 
+-- One more line adds its command to a session's where it is the session's line.
 commands_push : (session : ℕ) (lines : List Line) (line : Line)
     → commands_of session (lines ++ line ∷ []) ≡ commands_of session lines ++ cons_option (cond (line.session == session) (Some line.command) None) []
 commands_push session lines line = filter_map-append (λ (line : Line). cond (line.session == session) (Some line.command) None) lines (line ∷ [])
 
+-- An agenda that was put at a place is read there.
 set_own : (agendas : List Agenda) (new : Agenda) (at k : ℕ) (d : Agenda) → k ≡ at → k < length agendas → get_or (slice_set agendas at new) k d ≡ new
 set_own agendas new at k d same within = grind (arith, elements)
 
+-- Putting an agenda at one place leaves those at all others.
 set_other : (agendas : List Agenda) (new : Agenda) (at k : ℕ) (d : Agenda) → (k ≡ at → ⊥) → get_or (slice_set agendas at new) k d ≡ get_or agendas k d
 set_other agendas new at k d other = grind (arith, elements)
 
+-- Putting an agenda at a place keeps how many there are.
 set_length : (agendas : List Agenda) (new : Agenda) (at : ℕ) → length (slice_set agendas at new) ≡ length agendas
 set_length agendas new at = grind (arith, elements)
-
-any_default : (agendas : List Agenda) (k : ℕ) (d e : Agenda) → k < length agendas → get_or agendas k d ≡ get_or agendas k e
-any_default agendas k d e within = grind (arith, elements)
 
 -- a line's command is put behind the agenda of its session
 pub line_more : (n : ℕ) (lines : List Line) (line : Line) (agendas : List Agenda) (new x : Agenda)

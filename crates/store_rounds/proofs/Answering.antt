@@ -30,6 +30,7 @@ use Rattle.store_rounds.specs.Answered.{Answered, most_events}
 
 -- ---- refused without a transaction
 
+-- A command that is refused without a transaction is told that it has none.
 refusal_is : (command : Command) → is_some (refusal_of command None) ≡ true → refusal_of command None ≡ Some said.NoTransaction
 refusal_is command.Begin some = absurd (true≢false (sym some))
 refusal_is (command.Get table key) some = refl
@@ -46,6 +47,7 @@ refusal_is (command.Seal table block) some = absurd (true≢false (sym some))
 refusal_is (command.Gather table block) some = absurd (true≢false (sym some))
 refusal_is (command.Export table) some = refl
 
+-- An option that is tested to have no value is none.
 none_open : {X : Type 0} (o : Option X) → is_some o ≡ false → o ≡ None
 none_open None none = refl
 none_open (Some x) none = absurd (true≢false none)
@@ -71,6 +73,7 @@ refused store s command is needs closed =
 
 -- ---- tables
 
+-- A place at which a table is found is below the number of tables.
 table_there : (tables : List TableDecl) (table : ℕ) → is_some (slice_get tables table) ≡ true → table < length tables
 table_there [] table is = absurd (true≢false (sym is))
 table_there (t ∷ tables) zero is = omega arith
@@ -86,18 +89,21 @@ table_named tables table is = table_there tables table is
 
 -- ---- by few events
 
+-- Where each table has at most 1024 blocks, the table at a place has no more.
 blocks_few : (tables : List TableDecl) (table : ℕ) → All (λ (t : TableDecl). t.blocks ≤ 2 ^ 10) tables
     → unwrap_or (option_map (λ (t : TableDecl). t.blocks) (slice_get tables table)) 0 ≤ 2 ^ 10
 blocks_few [] table all = omega arith
 blocks_few (t ∷ tables) zero all = All-head (λ (t : TableDecl). t.blocks ≤ 2 ^ 10) t tables all
 blocks_few (t ∷ tables) (suc table) all = blocks_few tables table (All-tail (λ (t : TableDecl). t.blocks ≤ 2 ^ 10) t tables all)
 
+-- One read for each block of a table with at most 1024 blocks makes no more events.
 reads_few : (shape : Shape) (table : ℕ) (read : ℕ → CoreEvent) → blocks_of shape table ≤ 2 ^ 10 → length (at_blocks shape table read) ≤ 2 ^ 10
 reads_few shape table read few =
     let each = length-map (below (blocks_of shape table)) read in
     let all = length-range_with_len 0 (blocks_of shape table) in
     omega (arith, each, all, few)
 
+-- A thaw of one block at most, and a write, are few events.
 thaw_and_write : (table : ℕ) (block : Option ℕ) (e : CoreEvent) → length (map (event.Thaw table) (option_to_list block) ++ e ∷ []) ≤ most_events
 thaw_and_write table None e = omega arith
 thaw_and_write table (Some block) e = omega arith
@@ -129,6 +135,7 @@ events_few shape own session (command.Gather table block) made few other = absur
 events_few shape None session (command.Export table) made few other = omega arith
 events_few shape (Some t) session (command.Export table) made few other = let reads = reads_few shape table (event.Read t table) (few table) in omega (arith, reads)
 
+-- A call of a command that is no upkeep makes few events.
 made_few : (shape : Shape) (worker : Bool) (session : ℕ) (own : Option OwnTransaction) (refusal : Option Said) (call : Call)
     → ((table : ℕ) → blocks_of shape table ≤ 2 ^ 10) → is_upkeep call.command ≡ false
     → IsCallBy shape worker session own refusal call → length call.made ≤ most_events

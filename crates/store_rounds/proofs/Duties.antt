@@ -108,12 +108,15 @@ commands_have P session (line ∷ lines) each =
 
 -- ---- at most one exports
 
+-- How many of the lines ask for an export.
 abbrev exports_in : List Line → ℕ
 exports_in lines = count_by (λ (line : Line). is_export line.command) lines
 
+-- One for a line that asks for an export, and zero for any other.
 abbrev export_count : Line → ℕ
 export_count line = cond (is_export line.command) 1 0
 
+-- One line more in front adds its own export, if it asks for one.
 exports_more : (line : Line) (lines : List Line) → exports_in (line ∷ lines) ≡ export_count line + exports_in lines
 exports_more line lines = let more = sum_by-append export_count (line ∷ []) lines in omega (arith, more)
 
@@ -163,6 +166,7 @@ two_counted s t (line ∷ lines) other one more =
 
 -- ---- the duties of a crew may be done
 
+-- A new duty may be served by a session that may do its task.
 new_may : (store : StoreView) (session : Session) (round : ℕ) (to_do : Task) (duty : Duty) → IsNew round to_do duty → IsSession store session
     → MayDo store session (Some to_do) → MayServe store duty session
 new_may store session round to_do duty new is may = record {
@@ -172,6 +176,7 @@ new_may store session round to_do duty new is may = record {
 }
 
 module _ (crew : Crew) (round : ℕ) (lines : List Line) (duties : List Duty) (are : AreDuties crew round lines duties) where
+  -- There are as many duties of sessions as the crew has sessions.
   own_size : length are.own ≡ crew.sessions
   own_size = are.sessions.size ∙ are.asked.size
 

@@ -10,6 +10,7 @@ use Rattle.store_rounds.specs.declared.fault.RunFault.TheVariants as fault
 
 module _ (Goes Other : List (List Line) → List ℕ → Type 0) (told : (asked : List (List Line)) (text : List ℕ) → Goes asked text → Other asked text)
     (script : Script) (before now : Option (List ℕ)) where
+  -- A run that stopped at a round, told without the store.
   abbrev to_told : (lines : List Line) → GoesTo Goes script lines before now → GoesTo Other script lines before now
   to_told lines to = record {
     whole = to.whole;
@@ -26,6 +27,7 @@ module _ (Goes Other : List (List Line) → List ℕ → Type 0) (told : (asked 
     printed = to.printed;
   }
 
+  -- A run that does not come to its last round, told without the store.
   part_told : (failed : RunFault) → GoesPart Goes script failed before now → GoesPart Other script failed before now
   part_told fault.Out goes = record {
     whole = goes.whole;

@@ -116,9 +116,11 @@ counts_kept count r memory = subst (λ b. CountsCut b count count) (sym (never_c
 -- ---- places
 
 module _ {X : Type 0} where
+  -- What was put at the first place is read there.
   set_first : (xs : List X) (new : X) (k : ℕ) (d : X) → k ≡ 0 → 0 < length xs → get_or (slice_set xs 0 new) k d ≡ new
   set_first xs new k d here some = grind (arith, elements)
 
+  -- Putting an element at the first place keeps how many there are.
   set_size : (xs : List X) (new : X) → length (slice_set xs 0 new) ≡ length xs
   set_size xs new = grind (arith, elements)
 

@@ -43,12 +43,14 @@ none_at f (x ∷ xs) none (suc k) d within = none_at f xs (neither (f x) (list_a
 
 -- ---- upkeep exports nothing
 
+-- Among commands that are all upkeep there is no export.
 upkeep_exports_none : (commands : List Command) → list_all is_upkeep commands ≡ true → list_any is_export commands ≡ false
 upkeep_exports_none [] all = refl
 upkeep_exports_none (asked ∷ commands) all =
     let parts = and_parts (is_upkeep asked) (list_all is_upkeep commands) all in
     ap (λ b. b || list_any is_export commands) (upkeep_no_export asked parts.0) ∙ upkeep_exports_none commands parts.1
 
+-- Where each element gives only upkeep, so do all of them together.
 all_flat : {X : Type 0} (f : X → List Command) → ((x : X) → list_all is_upkeep (f x) ≡ true) → (xs : List X) → list_all is_upkeep (flat_map f xs) ≡ true
 all_flat f each [] = refl
 all_flat f each (x ∷ xs) =
@@ -89,6 +91,7 @@ quiet_sends tables (call ∷ calls) none =
       quiet_sends tables calls parts.1,
     )
 
+-- The calls of so many, none of which asks for an export, send nothing.
 row_sends : (tables : List TableDecl) (calls : ℕ → List Call) (a n : ℕ)
     → ((k : ℕ) → a ≤ k → k < a + n → list_any is_export (asked_in (calls k)) ≡ false)
     → CallsSend tables (flat_map calls (range_with_len a n)) []

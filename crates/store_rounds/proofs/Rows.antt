@@ -11,6 +11,7 @@ use Rattle.store_rounds.specs.Row.{AreSessions, LookOn, LooksOn, Meet, Met, SeeB
 
 -- ---- looking on
 
+-- Each log goes on from itself, by no entries.
 saw_all : (log : List Logged) → GoesOn log log
 saw_all log = ([], sym (append-nil log))
 
@@ -53,6 +54,7 @@ data Place (second k : ℕ) : Type 0 where
   own : k ≡ second → Place second k
   behind : second < k → Place second k
 
+-- Each place is in front of two neighbours, one of them, or behind both.
 place : (second k : ℕ) → Place second k
 place second k = go (nat_lt (k + 1) second) (nat_lt k second) (nat_lt second k) refl refl refl
   where
@@ -66,31 +68,40 @@ place second k = go (nat_lt (k + 1) second) (nat_lt k second) (nat_lt second k) 
 moved : (store : StoreView) (o p n m : Session) → o ≡ p → n ≡ m → LooksOn store p m → LooksOn store o n
 moved store o p n m e f looks = subst (λ q. LooksOn store q n) (sym e) (subst (λ q. LooksOn store p q) (sym f) looks)
 
+-- What one session saw of another holds of equal sessions, too.
 saw_same : (o p n m : Session) → o ≡ p → n ≡ m → GoesOn (seen p) (seen m) → GoesOn (seen o) (seen n)
 saw_same o p n m e f saw = subst (λ q. GoesOn (seen q) (seen n)) (sym e) (subst (λ q. GoesOn (seen p) (seen q)) (sym f) saw)
 
 module _ (front back : List Session) (second : ℕ) (a b x y : Session) (size : length front ≡ second) (low : 1 ≤ second) (high : 0 < length back) where
+  -- The row with its two neighbours as they are once they met.
   abbrev met_row : List Session
   met_row = slice_set front (second - 1) a ++ slice_set back 0 b
 
+  -- The row is as long as before the two neighbours met.
   met_size : length met_row ≡ length (front ++ back)
   met_size = grind (arith, elements)
 
+  -- In front of the two neighbours the row is as it was.
   read_before : (k : ℕ) (d : Session) → k + 1 < second → get_or met_row k d ≡ get_or (front ++ back) k d
   read_before k d here = grind (arith, elements)
 
+  -- At the first neighbour's place stands what it is now.
   read_first : (k : ℕ) (d : Session) → k + 1 ≡ second → get_or met_row k d ≡ a
   read_first k d here = grind (arith, elements)
 
+  -- At the second neighbour's place stands what it is now.
   read_own : (k : ℕ) (d : Session) → k ≡ second → get_or met_row k d ≡ b
   read_own k d here = grind (arith, elements)
 
+  -- Behind the two neighbours the row is as it was.
   read_behind : (k : ℕ) (d : Session) → second < k → k < length (front ++ back) → get_or met_row k d ≡ get_or (front ++ back) k d
   read_behind k d here within = grind (arith, elements)
 
+  -- The first neighbour was the last of those in front of the second.
   old_first : (k : ℕ) (d : Session) → k + 1 ≡ second → get_or (front ++ back) k d ≡ get_or front (second - 1) x
   old_first k d here = grind (arith, elements)
 
+  -- The second neighbour was the first of those from itself on.
   old_own : (k : ℕ) (d : Session) → k ≡ second → get_or (front ++ back) k d ≡ get_or back 0 y
   old_own k d here = grind (arith, elements)
 
@@ -196,9 +207,11 @@ back_goes_on store old now new second low high back meet = record {
 pub back_ends : (store : StoreView) (old now : List Session) → Back store old now 0 → SeeBack store old now
 back_ends store old now back = record { look_on = back.look_on; saw = λ k d within. back.saw k d (omega arith) within }
 
+-- Within a row, what is read at a place depends on no default.
 same_read : (xs : List Session) (k : ℕ) (e f : Session) → k < length xs → get_or xs k e ≡ get_or xs k f
 same_read xs k e f within = grind (arith, elements)
 
+-- A row of which the last saw all, and all saw what it had seen, met.
 met_at : (store : StoreView) (old now new : List Session) (d : Session) → AreSessions store old → 0 < length old
     → ShowAlong store old now → SeeBack store now new → Met store old new
 met_at store old now new d are some along back =

@@ -46,12 +46,14 @@ use Rattle.store_rounds.proofs.Went.{went_so_far}
 
 -- ---- what is printed
 
+-- Taking beyond a text takes all of it, and then from what follows.
 take_behind : (x y : List ℕ) (count : ℕ) → take (length x + count) (x ++ y) ≡ x ++ take count y
 take_behind [] y count = ap (λ n. take n y) (let e : 0 + count ≡ count = omega arith in e)
 take_behind (first ∷ x) y count =
     ap (λ n. take n (first ∷ (x ++ y))) (let e : suc (length x) + count ≡ suc (length x + count) = omega arith in e)
     ∙ ap (λ (text : List ℕ). first ∷ text) (take_behind x y count)
 
+-- A text, and then the front of another, print a front of both.
 prints_front : (a b c : Option (List ℕ)) (x y : List ℕ) → Appends a b x → AppendsFront b c y → AppendsFront a c (x ++ y)
 prints_front a b c x y first front = (
   length x + front.0,
@@ -61,12 +63,15 @@ prints_front a b c x y first front = (
 
 -- ---- lines
 
+-- The lines of some rounds, one round behind the other.
 abbrev lines_in : List (List Line) → List Line
 lines_in rounds = flat_map (λ (round : List Line). round) rounds
 
+-- The lines of all rounds are those in front, a round's own, and those behind.
 parted_lines : (asked rest : List (List Line)) (lines : List Line) → lines_in (asked ++ lines ∷ rest) ≡ lines_in asked ++ (lines ++ lines_in rest)
 parted_lines asked rest lines = flat_map-append (λ (round : List Line). round) asked (lines ∷ rest)
 
+-- All lines are as many as those in front, a round's own, and those behind.
 count_lines : (asked rest : List (List Line)) (lines : List Line)
     → length (lines_in (asked ++ lines ∷ rest)) ≡ length (lines_in asked) + (length lines + length (lines_in rest))
 count_lines asked rest lines =
@@ -77,8 +82,8 @@ count_lines asked rest lines =
 
 -- ---- a run so far
 
--- In rounds of these lines a session makes the events of its commands at most, and a worker those of
--- its turns.
+-- In rounds of these lines a session makes the events of its commands at most, and a worker those
+-- of its turns.
 abbrev most_so_far : List (List Line) → ℕ
 most_so_far asked = most_events * length (lines_in asked) + most_of_turn * 100 * length asked
 
@@ -97,10 +102,12 @@ pub record Running (script : Script) (store : StoreView) (row : List Session) (a
   pub count : number ≡ length rounds
   pub asked_count : number ≡ length asked
 
+-- At each place of a new row stands a new session, numbered from one on.
 new_at : (store : StoreView) (count : ℕ) (row : List Session) (k : ℕ) (d : Session) → IsNewRow store count row → k < length row
     → IsNewSession store (k + 1) (get_or row k d)
 new_at store count row k d new within = new.each k (get_or row k d) (grind (arith, elements))
 
+-- A new row stands behind no rounds, with an empty log.
 new_row_stands : (store : StoreView) (count : ℕ) (row : List Session) → IsNewRow store count row → Standing store [] row
 new_row_stands store count row new = record {
   sessions = λ k d within. (new_at store count row k d new within).session;
@@ -134,6 +141,7 @@ pub calls_in_shares : (who : ℕ → Who) (calls : ℕ → List Call) (numbers :
 calls_in_shares who calls [] = refl
 calls_in_shares who calls (n ∷ numbers) = ap (λ (cs : List Call). calls n ++ cs) (calls_in_shares who calls numbers)
 
+-- The calls in the shares of a crew are the calls of the crew.
 calls_in_crew : (crew : Crew) (calls : Who → List Call) → flat_map (λ (share : Share). share.calls) (crew_shares crew calls) ≡ crew_calls crew calls
 calls_in_crew crew calls =
     let workers : List Share = shares_of TheWorker crew.workers (λ n. calls (TheWorker n)) in
@@ -212,6 +220,7 @@ module _ (script : Script) (store : StoreView) (old new : List Session) (asked :
       (is ∙ ap (λ (shape : Shape). round_text shape.tables (number + 1) shares) running.is.shape)
       ∙ sym text_further
 
+  -- The calls of all rounds are those so far, and then this round's.
   calls_further : calls_in both ≡ calls_in running.rounds ++ crew_calls (crew_of script) done.calls
   calls_further =
       flat_map-append (λ (round : RoundRun). flat_map (λ (share : Share). share.calls) round.shares) running.rounds (round ∷ [])
@@ -224,6 +233,7 @@ module _ (script : Script) (store : StoreView) (old new : List Session) (asked :
       (calls_sent script.tables (calls_in running.rounds) (crew_calls (crew_of script) done.calls) exported exported_now exported_later running.sent
       (subst (λ (shape : Shape). SentBy shape.tables (crew_calls (crew_of script) done.calls) exported_now exported_later) running.is.shape done.sent))
 
+  -- With this round too, each of the row made few enough events.
   few_further : (k : ℕ) (d : Session) → k < length new → events_made (get_or new k d) ≤ most_so_far (asked ++ lines ∷ [])
   few_further k d within = go (place script.sessions script.workers k (omega (arith, within, done.ran.size, running.is.size)))
     where
@@ -254,6 +264,7 @@ module _ (script : Script) (store : StoreView) (old new : List Session) (asked :
 module _ (script : Script) (store : StoreView) (old new : List Session) (asked : List (List Line)) (before now exported exported_now exported_later : Option (List ℕ)) (number : ℕ) (lines : List Line) (text : List ℕ)
     (running : Running script store old asked before now exported exported_now number)
     (did : RanRound store (number + 1) (crew_of script) old new lines text exported_now exported_later) where
+  -- The round that ran, told without its text.
   abbrev done : RoundDone script store old new lines exported_now exported_later
   done = record { calls = did.calls; ran = did.ran; asked = did.asked; turned = did.turned; sent = did.sent }
 
@@ -335,6 +346,7 @@ round_valid script asked rest lines split valid =
 
 -- so its session is one of the script's, and its command names what the tables have
 module _ (script : Script) where
+  -- The session of each valid line is one of the script's.
   each_within : (lines : List Line) → list_all (is_line script) lines ≡ true → list_all (λ (line : Line). is_within 1 script.sessions line.session) lines ≡ true
   each_within [] all = refl
   each_within (line ∷ lines) all =
@@ -343,6 +355,7 @@ module _ (script : Script) where
       (and_parts (is_within 1 script.sessions line.session) (is_command script.tables line.command) parts.0).0
       (each_within lines parts.1)
 
+  -- The command of each valid line may be asked of the script's tables.
   each_served : (lines : List Line) → list_all (is_line script) lines ≡ true → All (λ (line : Line). IsServed script.tables line.command) lines
   each_served [] all = All-nil (λ (line : Line). IsServed script.tables line.command)
   each_served (line ∷ lines) all =

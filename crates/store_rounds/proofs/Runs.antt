@@ -37,6 +37,7 @@ all_on_range P f a zero each = All-nil P
 all_on_range P f a (suc n) each = All-cons P (f a) (map f (range_with_len (a + 1) n)) (each a (omega arith) (omega arith))
     (all_on_range P f (a + 1) n (λ k low high. each k (omega (arith, low)) (omega (arith, high))))
 
+-- Mapping a list twice is mapping it once by both.
 map_of_map : {X Y Z : Type 0} (f : Y → Z) (g : X → Y) (xs : List X) → map f (map g xs) ≡ map (λ x. f (g x)) xs
 map_of_map f g [] = refl
 map_of_map f g (x ∷ xs) = ap (λ zs. f (g x) ∷ zs) (map_of_map f g xs)
@@ -76,6 +77,7 @@ asked_on_range who count calls commands asked =
     (λ k low high. subst (λ n. agenda_of (share_of (who n) (calls n)) ≡ agenda n) (let e : (k - 1) + 1 ≡ k = omega (arith, low) in e)
     (ap (λ (cs : List Command). record { who = who (k - 1 + 1); commands = cs }) (asked (k - 1) (omega (arith, low, high)))))
 
+-- What was carried out in a round is what its lines ask of each.
 agendas_are : (script : Script) (calls : Who → List Call) (lines : List Line) → AskedAll script.sessions lines (λ n. calls (TheSession n))
     → AllTurned script.tables (crew_of script) calls
     → map agenda_of (crew_shares (crew_of script) calls) ≡ agendas_in script lines
@@ -118,6 +120,7 @@ on_range P f count each = all_on_range P f 1 count
 
 module _ (script : Script) (store : StoreView) (finished : List Logged) (old new : List Session) (is : IsRowOf script store old) (stands : Standing store finished old)
     (calls : Who → List Call) (ran : RowRan store (crew_of script) old new calls) where
+  -- Each session brings its share of the round, and stands behind it.
   session_ends : (k : ℕ) (d : Session) → k < script.sessions
       → Ends script finished ran.met (seen (get_or new k d)) (share_of (TheSession (k + 1)) (calls (TheSession (k + 1))))
   session_ends k d within =
@@ -125,6 +128,7 @@ module _ (script : Script) (store : StoreView) (finished : List Logged) (old new
       one_ends script store finished ran.met (get_or old k d) (get_or new k d) (TheSession (k + 1)) (most_events * length (calls (TheSession (k + 1)))) (calls (TheSession (k + 1)))
       is.shape (stands.numbers k d inside) (stands.behind k d inside) (ran.sessions k d within)
 
+  -- Each worker brings its share of the round, and stands behind it.
   worker_ends : (k : ℕ) (d : Session) → k < script.workers
       → Ends script finished ran.met (seen (get_or new (script.sessions + k) d)) (share_of (TheWorker (k + 1)) (calls (TheWorker (k + 1))))
   worker_ends k d within =
@@ -177,6 +181,7 @@ module _ (script : Script) (store : StoreView) (finished : List Logged) (old new
   pub gone_on : (d : Session) → 0 < script.sessions → GoesOn finished ran.met
   gone_on d some = (session_ends 0 d some).goes_on
 
+  -- Each of the crew brings its share of the round.
   brought : (d : Session) → All (Brings script finished ran.met) (crew_shares (crew_of script) calls)
   brought d = All-append (Brings script finished ran.met)
       (shares_of TheSession script.sessions (λ n. calls (TheSession n))) (shares_of TheWorker script.workers (λ n. calls (TheWorker n)))

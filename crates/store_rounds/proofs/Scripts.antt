@@ -21,6 +21,7 @@ parts_of_four a b c d all =
     let second = and_parts a b third.0 in
     (second.0, second.1, third.1, last.1)
 
+-- The parts of a conjunction of seven that holds.
 parts_of_seven : (a b c d e f g : Bool) → (a && b && c && d && e && f && g) ≡ true
     → (a ≡ true) × (b ≡ true) × (c ≡ true) × (d ≡ true) × (e ≡ true) × (f ≡ true) × (g ≡ true)
 parts_of_seven a b c d e f g all =
@@ -48,10 +49,12 @@ record Declared (table : TableDecl) : Type 0 where
   some_blocks : 1 ≤ table.blocks
   few_blocks : table.blocks ≤ 2 ^ 10
 
+-- An option that is tested to be none is none.
 none_is : {X : Type 0} (o : Option X) → is_none o ≡ true → o ≡ None
 none_is None none = refl
 none_is (Some x) none = absurd cc
 
+-- A valid table has a schema, and slots and blocks within their bounds.
 declared : (table : TableDecl) → is_table table ≡ true → Declared table
 declared table valid =
     let parts = parts_of_four (is_name table.name) (are_columns table.schema) (are_slots table.schema table.slots) (are_blocks table.blocks) valid in
@@ -89,6 +92,7 @@ record Parts (script : Script) : Type 0 where
   lines : list_all (is_line script) (all_lines script) ≡ true
   few_exports : count_by (λ (line : Line). is_export line.command) (all_lines script) ≤ 1
 
+-- What a valid script keeps, rule by rule.
 parts_of : (script : Script) → is_valid script ≡ true → Parts script
 parts_of script valid =
     let whole = parts_of_four (has_head script) (nat_lt 0 (length script.rounds)) (list_all (is_line script) (all_lines script))

@@ -104,6 +104,7 @@ export_refused store s table exported is answers = record {
   by_call = record { by_line = refl; quiet = λ no. refl };
 }
 
+-- What an export tells is no count of a pruning.
 no_count : (told : Result Summary ExportFault) → Counts (exported_told told)
 no_count (Ok summary) count e = absurd (let never : ⊥ = cc e in never)
 no_count (Err (fault.Dirty key)) count e = absurd (let never : ⊥ = cc e in never)

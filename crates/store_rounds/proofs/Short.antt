@@ -41,6 +41,7 @@ behind first tables sessions workers go rest =
     let parted = length-append tables (sessions ∷ workers ∷ go ∷ rest) in
     omega (arith, parted)
 
+-- The lines of the rounds are fewer than those of the whole script.
 behind_head : (script : Script) → length (round_lines script.tables script.rounds) + 1 ≤ length (script_lines script)
 behind_head script =
     behind (spaced (codes "store" ∷ decimal script.version ∷ [])) (map table_text script.tables)

@@ -39,11 +39,13 @@ use Rattle.store_rounds.proofs.Went.{explained_so_far, went, went_so_far}
 abbrev counts_of : (ℕ → List Call) → ℕ → ℕ
 counts_of calls session = length (asked_in (calls session))
 
+-- Taking as many as the first part has gives the first part.
 taken_all : (xs ys : List Command) → take (length xs) (xs ++ ys) ≡ xs
 taken_all [] [] = refl
 taken_all [] (y ∷ ys) = refl
 taken_all (x ∷ xs) ys = ap (λ (zs : List Command). x ∷ zs) (taken_all xs ys)
 
+-- Each session carried out the commands of the lines that were carried out.
 asked_first : (sessions : ℕ) (lines : List Line) (calls : ℕ → List Call) → AskedUpToExport sessions lines calls
     → (k : ℕ) → k < sessions → asked_in (calls (k + 1)) ≡ commands_of (k + 1) (first_lines (counts_of calls) lines)
 asked_first sessions lines calls some k within = go (some k within)
@@ -121,6 +123,7 @@ foreign sessions session (line ∷ lines) all other =
 
 -- ---- what each was told
 
+-- A mapped range is what is in front of a place, that place, and what is behind.
 map_split : {X : Type 0} (f : ℕ → X) (a m n : ℕ) → map f (range_with_len a (m + suc n)) ≡ map f (range_with_len a m) ++ f (m + a) ∷ map f (range_with_len (m + a + 1) n)
 map_split f a zero n =
     ap (λ k. map f (range_with_len a k)) (let e : 0 + suc n ≡ suc n = omega arith in e)
@@ -130,6 +133,7 @@ map_split f a (suc m) n =
     ∙ ap (λ xs. f a ∷ xs) (map_split f (a + 1) m n)
     ∙ ap (λ k. f a ∷ (map f (range_with_len (a + 1) m) ++ f k ∷ map f (range_with_len (k + 1) n))) (let e : m + (a + 1) ≡ suc m + a = omega arith in e)
 
+-- Among the crew's shares is that of the session whose calls end at an export.
 told_memory : (script : Script) (calls : Who → List Call) (one : OneEndsAtExport script.sessions (λ n. calls (TheSession n)))
     → ToldMemory (crew_shares (crew_of script) calls) (one.place + 1)
 told_memory script calls one =

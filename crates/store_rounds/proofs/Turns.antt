@@ -52,6 +52,7 @@ turn_begins store round session text exported value is = record {
 -- one call more
 module _ (store : StoreView) (old now new : Session) (calls : List Call) (command : Command) (told : Said) (exported exported_now exported_later : Option (List ℕ))
     (answered : Answered store now new command told exported_now exported_later) where
+  -- The call of the command that was answered.
   abbrev call : Call
   call = record { command = command; made = answered.answers.made; told = Some told }
 
@@ -79,12 +80,15 @@ module _ {T : Type 0} (store : StoreView) (round : ℕ) (old now new : Session) 
     (exported exported_now exported_later : Option (List ℕ)) (index : ℕ) (command : Command) (told : Said)
     (turn : Turn {T = T} store round old now commands before after shown exported exported_now index)
     (answered : Answered store now new command told exported_now exported_later) (few : MakesAtMost most_events now new) where
+  -- The call that is one more behind those of the turn.
   abbrev last_call : Call
   last_call = record { command = command; made = answered.answers.made; told = Some told }
 
+  -- The next line's number is one more than the lines that were told.
   next_index : index + 1 ≡ 1 + length (told_by turn.calls)
   next_index = omega (arith, turn.told)
 
+  -- The text with the lines of the calls, and then the last one's, has all lines.
   text_more : after ≡ before ++ share_text (shape_in store).tables round (share_of (TheSession old.session) turn.calls)
       → later ≡ after ++ reply_text (shape_in store).tables (line_of round (TheSession new.session) (index + 1) told)
       → later ≡ before ++ share_text (shape_in store).tables round (share_of (TheSession old.session) (turn.calls ++ last_call ∷ []))
@@ -96,6 +100,7 @@ module _ {T : Type 0} (store : StoreView) (round : ℕ) (old now new : Session) 
       ∙ append_assoc before (share_text (shape_in store).tables round (share_of (TheSession old.session) turn.calls)) (line_behind (shape_in store).tables round (TheSession old.session) turn.calls (Some told))
       ∙ ap (λ (text : List ℕ). before ++ text) (sym (shares_grow (shape_in store).tables round (TheSession old.session) turn.calls last_call))
 
+  -- Unless a line was lost, the text has the lines of all calls and the last.
   text_in : (r s : Result T RunFault)
       → OnOk r (after ≡ before ++ share_text (shape_in store).tables round (share_of (TheSession old.session) turn.calls))
       → OnOk s (OnOk r (later ≡ after ++ reply_text (shape_in store).tables (line_of round (TheSession new.session) (index + 1) told)))

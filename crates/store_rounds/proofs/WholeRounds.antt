@@ -56,6 +56,7 @@ whole_text : {T : Type 0} (r : Result T RunFault) (P : Type 0) → is_whole_end 
 whole_text (Ok value) P whole text = text
 whole_text (Err failed) P whole text = absurd (true≢false (sym whole))
 
+-- Where the negation of a test is false, the test is true.
 not_false : (b : Bool) → not b ≡ false → b ≡ true
 not_false true e = refl
 not_false false e = absurd (let never : ⊥ = cc e in never)
@@ -63,6 +64,7 @@ not_false false e = absurd (let never : ⊥ = cc e in never)
 module _ (store : StoreView) (crew : Crew) (round : ℕ) (lines : List Line) (old ended new : List Session) (before after : List Duty) (exported exported_now : Option (List ℕ))
     (size : length old ≡ crew.sessions + crew.workers) (some : 0 < crew.sessions) (numbers : AreNumbered old)
     (are : AreDuties crew round lines before) (served : RowServed store old ended before after exported exported_now) where
+  -- The tables that the store was built of.
   abbrev tables : List TableDecl
   tables = (shape_in store).tables
 
@@ -71,6 +73,7 @@ module _ (store : StoreView) (crew : Crew) (round : ℕ) (lines : List Line) (ol
   by_who (TheSession n) = served.calls n
   by_who (TheWorker n) = served.calls (crew.sessions + n)
 
+  -- One of the duties, of which there is at least one.
   some_duty : Duty
   some_duty = any_of before 0 (let size = duties_size crew round lines before are in omega (arith, size, some))
 
@@ -99,6 +102,7 @@ module _ (store : StoreView) (crew : Crew) (round : ℕ) (lines : List Line) (ol
       no_text [] none = refl
       no_text (x ∷ text) none = absurd (omega (arith, none))
 
+  -- Each session carried out its commands of the round, unless it stopped at an export.
   session_did : (k : ℕ) (d : Session) (e : Duty) → k < crew.sessions → SessionDid k d e
   session_did k d e within =
       let asked = of_session_at crew round lines before are k some_duty within in
@@ -113,6 +117,7 @@ module _ (store : StoreView) (crew : Crew) (round : ℕ) (lines : List Line) (ol
             asked.new (numbers k d inside) (served.each k d some_duty inside));
       }
 
+  -- Each worker carried out the commands of its turns of the round.
   worker_did : (n : ℕ) (d : Session) (e : Duty) → n < crew.workers
       → CarriedOut store true (TheWorker (n + 1)) round (most_of_turn * crew.turns) (get_or old (crew.sessions + n) d) (get_or ended (crew.sessions + n) d)
       (turns_in tables crew.turns) [] (get_or after (crew.sessions + n) e).lines.text.items (get_or after (crew.sessions + n) e).ended (served.calls (crew.sessions + n + 1))
@@ -141,6 +146,7 @@ module _ (store : StoreView) (crew : Crew) (round : ℕ) (lines : List Line) (ol
           let none = (none_of_both is_export (asked_in calls) did.rest (ap (list_any is_export) (sym did.asked) ∙ asks_none tables (Some (task.Turns (n + 1) crew.turns)) refl)).0 in
           absurd (true≢false (sym (ends_exports calls (did.last is)) ∙ none))
 
+  -- The calls of each worker are those of its turns.
   turned : AllTurned tables crew by_who
   turned n within =
       let d : Session = any_of old 0 (omega (arith, size, some)) in
@@ -151,6 +157,7 @@ module _ (store : StoreView) (crew : Crew) (round : ℕ) (lines : List Line) (ol
       ∙ ap (λ (cs : List Command). asked_in calls ++ cs) (sym (did.whole (worker_whole n d some_duty within)))
       ∙ sym did.asked
 
+  -- Each session carried out all its commands, or stopped at an export among them.
   asked_up_to : AskedUpToExport crew.sessions lines (λ n. by_who (TheSession n))
   asked_up_to k within =
       let d : Session = any_of old 0 (omega (arith, size, some)) in
@@ -165,6 +172,7 @@ module _ (store : StoreView) (crew : Crew) (round : ℕ) (lines : List Line) (ol
           ∙ sym did.did.asked ∙ did.same)
       go did true is = inr (record { rest = did.did.rest; asked = sym did.same ∙ did.did.asked; last = did.did.last is })
 
+  -- Where no duty was cut off, each session carried out all its commands.
   asked_all : list_any is_cut after ≡ false → AskedAll crew.sessions lines (λ n. by_who (TheSession n))
   asked_all none k within =
       let d : Session = any_of old 0 (omega (arith, size, some)) in
@@ -175,6 +183,7 @@ module _ (store : StoreView) (crew : Crew) (round : ℕ) (lines : List Line) (ol
       (sym (did.did.whole (none_at is_cut after none k some_duty (omega (arith, within, served.duties, sizes)))))
       ∙ sym did.did.asked ∙ did.same
 
+  -- Where a duty was cut off, the calls of one session end at an export.
   one_ends : list_any is_cut after ≡ true → OneEndsAtExport crew.sessions (λ n. by_who (TheSession n))
   one_ends some_cut =
       let at' = some_place is_cut after some_cut in

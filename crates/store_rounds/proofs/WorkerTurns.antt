@@ -56,6 +56,7 @@ works_join shape worker session began seen new calls (call ∷ more) works rest 
 
 -- the lines of one who was told more
 module _ (tables : List TableDecl) (round : ℕ) (who : Who) (calls more : List Call) where
+  -- The lines of more calls stand behind those of the first ones.
   lines_more : share_text tables round (share_of who (calls ++ more))
       ≡ share_text tables round (share_of who calls)
       ++ replies_text tables (lines_behind round who (length (told_by calls)) (told_by more))
@@ -117,11 +118,13 @@ abbrev for_table : ℕ × TableDecl → List Command
 for_table entry = command.Compact entry.0
     ∷ flat_map (λ block. command.Seal entry.0 block ∷ command.Gather entry.0 block ∷ []) (range_with_len 0 entry.1.blocks)
 
+-- A turn has at most 2049 commands for a table of at most 1024 blocks.
 table_short : (entry : ℕ × TableDecl) → entry.1.blocks ≤ 2 ^ 10 → length (for_table entry) ≤ 2049
 table_short entry few =
     let blocks = flat_few (λ block. command.Seal entry.0 block ∷ command.Gather entry.0 block ∷ []) 2 (λ block. omega arith) 0 entry.1.blocks in
     omega (arith, blocks, few)
 
+-- A turn has at most 2049 commands for each table of at most 1024 blocks.
 tables_short : (n : ℕ) (tables : List TableDecl) → All (λ (table : TableDecl). table.blocks ≤ 2 ^ 10) tables
     → length (flat_map for_table (enumerate_from n tables)) ≤ 2049 * length tables
 tables_short n [] few = omega arith
@@ -131,6 +134,7 @@ tables_short n (table ∷ tables) few =
     let both = length-append (for_table (n, table)) (flat_map for_table (enumerate_from (n + 1) tables)) in
     omega (arith, rest, first, both)
 
+-- A turn over at most sixteen such tables has at most 65536 commands.
 turn_short : (tables : List TableDecl) → All (λ (table : TableDecl). table.blocks ≤ 2 ^ 10) tables → length tables ≤ 16 → length (turn_of tables) ≤ 2 ^ 16
 turn_short tables few many =
     let all = tables_short 0 tables few in
@@ -182,6 +186,7 @@ turns_more tables made =
 module _ {E : Type 0} (store : StoreView) (round worker : ℕ) (old now new : Session) (before after later : List ℕ)
     (shown shown_now : Result ℕ RunFault) (told : Result (GlobalVec Said) E) (made : ℕ)
     (turning : Turning store round worker old now before after shown made) (turn : MadeTurn store now new told) where
+  -- A turn more is carried out by no more events than one turn more may make.
   worked_more : Worked store true (most_of_turn * (made + 1)) old new (turning.calls ++ turn.calls)
   worked_more = record {
     is_session = turn.is_session;
@@ -192,6 +197,7 @@ module _ {E : Type 0} (store : StoreView) (round worker : ℕ) (old now new : Se
     few = let first = turning.worked.few in let next = turn.few in omega (arith, first, next);
   }
 
+  -- The commands that were asked are those of one turn more.
   asked_more : asked_in (turning.calls ++ turn.calls) ≡ turns_in (shape_in store).tables (made + 1)
   asked_more =
       map-append (λ (call : Call). call.command) turning.calls turn.calls
@@ -228,11 +234,13 @@ module _ {E : Type 0} (store : StoreView) (round worker : ℕ) (old now new : Se
         ∙ append_assoc before first next
         ∙ ap (λ (text : List ℕ). before ++ text) (sym (lines_more tables round (TheWorker worker) turning.calls turn.calls))
 
+  -- Where the lines of the turn were put, as many are counted as were told.
   counted_in : (r : Result ℕ RunFault) → IfOk r (λ count. PutTurn (shape_in store).tables round worker shown told after later count)
       → IfOk r (λ count. count ≡ length (told_by (turning.calls ++ turn.calls)))
   counted_in (Ok count) put = counted_more count put
   counted_in (Err failed) put = tt
 
+  -- Where the lines of the turn were put, the text has the lines of all turns.
   text_in : (r : Result ℕ RunFault) → IfOk r (λ count. PutTurn (shape_in store).tables round worker shown told after later count)
       → OnOk r (later ≡ before ++ share_text (shape_in store).tables round (share_of (TheWorker worker) (turning.calls ++ turn.calls)))
   text_in (Ok count) put = text_more count put

@@ -27,6 +27,7 @@ use Rattle.workload_spec.specs.declared.reply.Said.{Said}
 
 -- ---- what it names
 
+-- A place at which a table is found is below the number of tables.
 table_there : (tables : List TableDecl) (table : ℕ) → is_some (slice_get tables table) ≡ true → table < length tables
 table_there [] table is = absurd (true≢false (sym is))
 table_there (t ∷ tables) zero is = omega arith

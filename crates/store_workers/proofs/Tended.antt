@@ -73,6 +73,7 @@ called_earlier shape worker session old mid behind call more same called = recor
   is_call = subst (λ (made : List Occurrence). IsCall shape worker session made call) same called.is_call;
 }
 
+-- Calls that go on from where others ended are carried out behind those.
 works_on : (shape : Shape) (worker : Bool) (session : ℕ) (old mid new : List Logged) (xs ys : List Call)
     → Works shape worker session old xs mid → Works shape worker session mid ys new → Works shape worker session old (xs ++ ys) new
 works_on shape worker session old mid new [] [] a b = (further old mid new a.0 b.0, b.1 ∙ a.1)
@@ -83,6 +84,7 @@ works_on shape worker session old mid new (x ∷ xs) ys a b =
 
 -- ---- lines one behind the other
 
+-- What is told in two steps is told in one, the second's lines behind the first's.
 told_on : (before between now : Lines) (xs ys : List Said) → Tells before between xs → Tells between now ys → Tells before now (xs ++ ys)
 told_on before between now xs ys a b kept =
     let second = b kept in
@@ -199,6 +201,7 @@ block_more table block =
     flat_map_more (asked_of_block table) (command.Compact table ∷ []) (range_with_len 0 block) block
     ∙ ap (λ (blocks : List ℕ). command.Compact table ∷ flat_map (asked_of_block table) blocks) (sym (below_more block))
 
+-- What is asked of a table that is given with its number.
 abbrev asked_of_entry : ℕ × TableDecl → List Command
 asked_of_entry entry = asked_of_table entry.0 entry.1.blocks
 

@@ -19,6 +19,7 @@ use Rattle.stream_laws.proofs.Buffers.{HasBuffers, buffers-there}
 use Rattle.stream_laws.proofs.Rows.{buffers_from, each-row, has-whole, length-buffers, length-nodes, rows-read}
 use Rattle.stream_laws.proofs.BodySizes.{body-short, nodes-fit, places-fit}
 
+-- At most two buffers stand behind the validity of a column.
 few-data : (values : Values) → data_count values ≤ 2
 few-data (signed width) = omega arith
 few-data (unsigned width) = omega arith
@@ -26,6 +27,7 @@ few-data truths = omega arith
 few-data texts = omega arith
 few-data blobs = omega arith
 
+-- There is one place for each buffer.
 length-buffer_places : (from : ℕ) (buffers : List (List ℕ))
     → length (buffer_places from buffers) ≡ length buffers
 length-buffer_places from [] = refl

@@ -14,6 +14,7 @@ use Rattle.arrow_spec.specs.Arrays.{null_count, validity, truth_of}
 use Rattle.arrow_spec.specs.Bytes.{bitmap, byte_of_bits}
 use Rattle.stream_spec.specs.Columns.{bit_of, bitmap_length, is_valid, null_count_of}
 
+-- So many chunks of bits make as many bytes.
 length-chunks : (count : ℕ) (bits : List Bool)
     → length (map byte_of_bits (first_chunks 8 count bits)) ≡ count
 length-chunks zero bits = refl
@@ -23,6 +24,7 @@ length-chunks (suc count) bits = ap suc (length-chunks count (drop 8 bits))
 pub length-bitmap : (bits : List Bool) → length (bitmap bits) ≡ bitmap_length (length bits)
 length-bitmap bits = length-chunks (bitmap_length (length bits)) bits
 
+-- A bit's number is tested to be one just where the bit is set.
 is_one : (bit : Bool) → ((if bit then 1 else 0) == 1) ≡ bit
 is_one true = refl
 is_one false = refl
@@ -43,6 +45,7 @@ truth-back cells i inside =
 abbrev digit : Bool → ℕ
 digit bit = if bit then 1 else 0
 
+-- A bit whose number is zero is not set.
 as_number : (bit : Bool) → digit bit ≡ 0 → bit ≡ false
 as_number true is = absurd (omega (arith, is))
 as_number false is = refl
@@ -100,6 +103,7 @@ count-places test k (cell ∷ cells) same =
     ∙ ap (λ (n : ℕ). (if is_null cell then 1 else 0) + n) rest
     ∙ sym (sum_by-cons (λ (c : Cell). if is_null c then 1 else 0) cell cells)
 
+-- Negating a bit twice gives the bit.
 not_not : (bit : Bool) → not (not bit) ≡ bit
 not_not true = refl
 not_not false = refl

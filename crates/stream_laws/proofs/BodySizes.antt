@@ -25,6 +25,7 @@ use Rattle.stream_laws.proofs.Buffers.{HasBuffers, length-numbers}
 use Rattle.stream_laws.proofs.Cells.{Few, length-offsets, values-few}
 use Rattle.stream_laws.proofs.Rows.{AllFrom, buffers_from, column-slots, nodes_from}
 
+-- A number of any width has at most sixteen bytes.
 byte_len_small : (width : Width) → byte_len width ≤ 16
 byte_len_small w8 = omega arith
 byte_len_small w16 = omega arith
@@ -36,10 +37,12 @@ byte_len_small w128 = omega arith
 padded-short : (buffer : List ℕ) → length (padded buffer) ≤ length buffer + 7
 padded-short buffer = omega (arith, length-padded buffer)
 
+-- One buffer alone takes at most seven bytes more than it may have.
 one-short : (most : ℕ) (buffer : List ℕ) → length buffer ≤ most
     → length (flat_map padded (buffer ∷ [])) ≤ most + 7
 one-short most buffer short = omega (arith, length-append (padded buffer) [], padded-short buffer)
 
+-- The numbers of at most 2^15 cells take at most 2^19 bytes.
 numbers-short : (width : Width) (cells : List Cell) → length cells ≤ 2 ^ 15
     → length (flat_map (λ cell. number_bytes width (number_of cell)) cells) ≤ 2 ^ 19
 numbers-short width cells few =
@@ -47,10 +50,12 @@ numbers-short width cells few =
     mul-le-mul_left (length cells) (byte_len_small width) in
     omega (arith, length-numbers width cells, product)
 
+-- The validity of at most 2^15 cells has at most 2^13 bytes.
 validity-short : (cells : List Cell) → length cells ≤ 2 ^ 15 → length (validity cells) ≤ 2 ^ 13
 validity-short cells few =
     elim (validity-long cells) [ inl none ↦ omega arith | inr all ↦ omega arith ]
 
+-- Offsets and values of at most 2^15 cells take at most 2^31 + 2^20 bytes with padding.
 variable-short : (cells : List Cell) → length cells ≤ 2 ^ 15 → Few cells
     → length (flat_map padded (flat_map (to_le_bytes w32) (offsets 0 cells) ∷ flat_map value_of
     cells ∷ [])) ≤ 2 ^ 31 + 2 ^ 20

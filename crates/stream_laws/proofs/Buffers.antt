@@ -103,6 +103,7 @@ AreLong needs [] = Unit {0}
 AreLong [] (buffer ∷ buffers) = Unit {0}
 AreLong (need ∷ needs) (buffer ∷ buffers) = (need ≤ length buffer) × AreLong needs buffers
 
+-- Buffers that lie in the body and are long enough pass the reader's test.
 buffers-are : (body : List ℕ) (from rows : ℕ) (needs : List ℕ) (buffers : List (List ℕ))
     → HasBuffers body from buffers → AreLong needs buffers
     → are_buffers body rows needs (places from buffers) ≡ true
@@ -155,6 +156,7 @@ data-long blobs cells = (
   (omega arith, tt),
 )
 
+-- The validity of a column passes the reader's test where it lies in the body.
 validity-is : (body : List ℕ) (from : ℕ) (cells : List Cell) → Has body from (validity cells)
     → is_validity body (length cells) (buffer_of (pos from, pos (length (validity cells)))) ≡ true
 validity-is body from cells has =

@@ -42,6 +42,7 @@ AllSlots values cells = (i : ℕ) → i < length cells → IsSlot values (get_or
 
 -- ---- numbers
 
+-- Half the range of a width is one power of two, by its bytes and by its bits.
 half : (width : Width) → 2 ^ (8 * byte_len width - 1) ≡ 2 ^ hbits width
 half w8 = refl
 half w16 = refl
@@ -49,6 +50,7 @@ half w32 = refl
 half w64 = refl
 half w128 = refl
 
+-- The range of a width is the same power, by its bits and by its bytes.
 whole : (width : Width) → 2 ^ (8 * byte_len width) ≡ 256 ^ byte_len width
 whole w8 = refl
 whole w16 = refl
@@ -56,6 +58,7 @@ whole w32 = refl
 whole w64 = refl
 whole w128 = refl
 
+-- Half the range of a width is more than zero.
 half_some : (width : Width) → 0 < 2 ^ hbits width
 half_some w8 = lit< tt
 half_some w16 = lit< tt
@@ -63,6 +66,7 @@ half_some w32 = lit< tt
 half_some w64 = lit< tt
 half_some w128 = lit< tt
 
+-- The range of a width is more than zero.
 whole_some : (width : Width) → 0 < 256 ^ byte_len width
 whole_some w8 = lit< tt
 whole_some w16 = lit< tt
@@ -70,6 +74,7 @@ whole_some w32 = lit< tt
 whole_some w64 = lit< tt
 whole_some w128 = lit< tt
 
+-- A number that is a signed value of a width fits the width.
 signed-fits : (width : Width) (number : ℤ) → is_integer_in (signed width) number ≡ true
     → SFits width number
 signed-fits width (pos n) test =
@@ -85,12 +90,15 @@ signed-fits width (negsuc n) test =
     record { sfits = omega (arith, half width, half_some width, low) }
 
 module _ (width : Width) (cells : List Cell) (i : ℕ) (inside : i < length cells) where
+  -- The bytes of a cell's number in this width.
   abbrev bytes_of_cell : Cell → List ℕ
   bytes_of_cell cell = number_bytes width (number_of cell)
 
+  -- The bytes of the numbers of all cells, one behind the other.
   abbrev buffer : List ℕ
   buffer = flat_map bytes_of_cell cells
 
+  -- The number of a cell stands in the buffer at the cell's place.
   number-there : (cell : Cell) → get_or cells i Null ≡ cell
       → Has buffer (i * byte_len width) (bytes_of_cell cell)
   number-there cell is =
@@ -101,6 +109,7 @@ module _ (width : Width) (cells : List Cell) (i : ℕ) (inside : i < length cell
       (omega arith) in
       subst Q is (subst P even (piece-there bytes_of_cell cells i Null inside))
 
+  -- A number with a sign is read back from its cell's place.
   signed-back : (number : ℤ) → get_or cells i Null ≡ Num number
       → is_integer_in (signed width) number ≡ true
       → cast_signed width (number_from buffer (i * byte_len width) (byte_len width)) ≡ number
@@ -108,6 +117,7 @@ module _ (width : Width) (cells : List Cell) (i : ℕ) (inside : i < length cell
       has-signed buffer (i * byte_len width) width number (signed-fits width number test)
       (number-there (Num number) is)
 
+  -- A number without a sign is read back from its cell's place.
   unsigned-back : (number : ℤ) → get_or cells i Null ≡ Num number
       → is_integer_in (unsigned width) number ≡ true
       → pos (number_from buffer (i * byte_len width) (byte_len width)) ≡ number
@@ -142,12 +152,15 @@ abbrev pub Few : List Cell → Type 0
 Few cells = length (flat_map bytes_of_value cells) < 2 ^ 31
 
 module _ (cells : List Cell) (few : Few cells) where
+  -- The bytes of the offsets, four for each.
   abbrev ends : List ℕ
   ends = flat_map (to_le_bytes w32) (offsets 0 cells)
 
+  -- The bytes of all values, one behind the other.
   abbrev values_bytes : List ℕ
   values_bytes = flat_map bytes_of_value cells
 
+  -- Where the value of a cell begins among the bytes of the values.
   abbrev begin : ℕ → ℕ
   begin i = begins bytes_of_value cells i
 
@@ -179,6 +192,7 @@ module _ (cells : List Cell) (few : Few cells) where
       rw (low, high, long) (has-taken values_bytes (begin i) piece
       (piece-there bytes_of_value cells i Null inside))
 
+  -- No offset of a stretch is above the one behind it.
   all-rise : (k n : ℕ) → k + n ≤ length cells
       → list_all (λ i. int_le (offset_of ends i) (offset_of ends (i + 1))) (range_with_len k n)
       ≡ true
@@ -225,6 +239,7 @@ length-value (Truth truth) = refl
 length-value (Text text) = refl
 length-value (Blob bytes) = refl
 
+-- A null is of no bytes.
 null-length : (cell : Cell) → is_null cell ≡ true → byte_length cell ≡ 0
 null-length Null is = refl
 null-length (Num number) is = absurd (cc)
@@ -232,6 +247,7 @@ null-length (Truth truth) is = absurd (cc)
 null-length (Text text) is = absurd (cc)
 null-length (Blob bytes) is = absurd (cc)
 
+-- What a slot may hold has at most as many bytes as a value may have.
 slot-short : (values : Values) (cell : Cell) → IsSlot values cell
     → length (bytes_of_value cell) ≤ most_bytes
 slot-short values cell (null is) = omega (arith, length-value cell, null-length cell is)
@@ -267,6 +283,7 @@ slot-value blobs cells i (Blob bytes) few inside is test =
     ap Blob (value-back cells few i inside ∙ ap bytes_of_value is)
 slot-value values cells i cell few inside is test = absurd (cc)
 
+-- A cell that is tested to be null is null.
 null-is : (cell : Cell) → is_null cell ≡ true → cell ≡ Null
 null-is Null is = refl
 null-is (Num number) is = absurd (cc)
@@ -306,6 +323,7 @@ offsets-are truths cells few = refl
 offsets-are texts cells few = offsets-lawful cells few
 offsets-are blobs cells few = offsets-lawful cells few
 
+-- What a slot may hold is in UTF-8 where it is a text.
 slot-text : (values : Values) (cell : Cell) → IsSlot values cell → is_text cell ≡ true
 slot-text values Null slot = refl
 slot-text values (Num number) slot = refl

@@ -12,9 +12,11 @@ use Rattle.stream_laws.proofs.Pieces.{Has, length-number}
 -- ---- a piece written over bytes
 
 module _ (body : List ℕ) (at : ℕ) (piece : List ℕ) (inside : at + length piece ≤ length body) where
+  -- As many bytes stand in front of the piece as its place tells.
   before_len : length (take at body) ≡ at
   before_len = length-take-le at body (omega arith)
 
+  -- The bytes in front and the piece end where the piece does.
   front_len : length (take at body ++ piece) ≡ at + length piece
   front_len = length-append (take at body) piece ∙ ap (λ (n : ℕ). n + length piece) before_len
 
@@ -83,6 +85,7 @@ Off i (number at width value ∷ fields) = ((i < at) ⊎ (at + byte_len width �
 Off i (reference at object ∷ fields) = ((i < at) ⊎ (at + 4 ≤ i)) × Off i fields
 Off i (absent ∷ fields) = Off i fields
 
+-- A byte of one field is none of a field that does not overlap it.
 off_one : (at size place more i : ℕ) → (nat_le (at + size) place || nat_le (place + more) at) ≡ true
     → at ≤ i → i < at + size → (i < place) ⊎ (place + more ≤ i)
 off_one at size place more i test low high =
@@ -91,6 +94,7 @@ off_one at size place more i test low high =
       | inr h ↦ let f : place + more ≤ at = leb-true (place + more) at h in inr (omega arith)
     ]
 
+-- A byte of a stretch that no field overlaps is none of the fields'.
 off-apart : (at size i : ℕ) (fields : List Field) → apart at size fields ≡ true → at ≤ i
     → i < at + size → Off i fields
 off-apart at size i [] test low high = tt
@@ -124,6 +128,7 @@ first-of at width size fields test =
     let inner = and_parts (nat_le (at + width) size) (apart at width fields) outer.0 in
     record { ends = leb-true (at + width) size inner.0; alone = inner.1; rest = outer.1 }
 
+-- A byte from the size on is none of the fields'.
 off-behind : (size i : ℕ) (fields : List Field) → are_apart size fields ≡ true → size ≤ i
     → Off i fields
 off-behind size i [] test past = tt
@@ -147,6 +152,7 @@ referred place body at object =
     overwritten body at (to_le_bytes w32 ((object (place + length body)).place - (place + at)))
     ++ (object (place + length body)).bytes
 
+-- A number that ends by the size lies within the bytes.
 piece_inside : (body : List ℕ) (at size : ℕ) (width : Width) (value : ℕ)
     → at + byte_len width ≤ size → size ≤ length body
     → at + length (to_le_bytes width value) ≤ length body
@@ -160,6 +166,7 @@ length-numbered body at size width value ends room =
     length-overwritten body at (to_le_bytes width value)
     (piece_inside body at size width value ends room)
 
+-- A number that is laid over bytes keeps those before and behind it.
 numbered-apart : (body : List ℕ) (at size i : ℕ) (width : Width) (value : ℕ)
     → at + byte_len width ≤ size → size ≤ length body
     → (i < at) ⊎ (at + byte_len width ≤ i)
@@ -170,6 +177,7 @@ numbered-apart body at size i width value ends room off =
     (piece_inside body at size width value ends room) i
     (subst P (sym (length-number width value)) off)
 
+-- A number that is laid over bytes stands at its place.
 numbered-piece : (body : List ℕ) (at size i : ℕ) (width : Width) (value : ℕ)
     → at + byte_len width ≤ size → size ≤ length body
     → i < length (to_le_bytes width value)

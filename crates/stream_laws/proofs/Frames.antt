@@ -81,6 +81,7 @@ padded-message header body_length =
     message-there (padded bytes) header body_length
     (has-between [] bytes (replicate (next_multiple_of (length bytes) 8 - length bytes) 0))
 
+-- Each kind of head is its own kind.
 same-kind : (due : HeadKind) → is_of_kind due due ≡ true
 same-kind kind.Schema = refl
 same-kind kind.Batch = refl

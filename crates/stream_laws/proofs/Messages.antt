@@ -23,9 +23,11 @@ table-behind end size fields = omega arith
 
 module _ (bytes : List ℕ) (end size : ℕ) (fields : List Field)
     (laid : IsTableAt bytes end size fields) where
+  -- Where the table of these fields stands.
   abbrev place : ℕ
   place = (table size fields end).place
 
+  -- Where a field stands by its index, if it is there.
   abbrev entry : ℕ → Option ℕ
   entry index = entry_place place (get_or (map place_of fields) index 0)
 
@@ -95,6 +97,7 @@ message_fields header body_length =
     number 16 w16 4 ∷ number 18 w8 (header_number header) ∷ reference 4
     (header_table header) ∷ number 8 w64 body_length ∷ []
 
+-- The number of a header fits one byte.
 header_small : (header : Header) → header_number header < 256 ^ byte_len w8
 header_small (schema columns) = lit< tt
 header_small (record_batch rows nodes buffers) = lit< tt
@@ -133,6 +136,7 @@ pub header-there : (bytes : List ℕ) (header : Header) (body_length : ℕ)
 header-there bytes header body_length has =
     (message-fields-there bytes header body_length has).laid.1.1.1
 
+-- A message's table reads as its version, its head's number and place, and its body's length.
 message-read : (bytes : List ℕ) (header : Header) (body_length : ℕ)
     → HasMessage bytes header body_length
     → 28 ≤ (header_laid header).place → (header_laid header).place < 2 ^ 32 → body_length < 2 ^ 64

@@ -43,6 +43,7 @@ value-in kind (Truth truth) = refl
 value-in kind (Text text) = refl
 value-in kind (Blob bytes) = refl
 
+-- A cell in which no fault is found is one that a slot may hold.
 slot-by : (values : Values) (cell : Cell) (empty nullable right long : Bool) (at : ℕ)
     → is_null cell ≡ empty → is_value_in values cell ≡ right
     → nat_lt most_bytes (byte_length cell) ≡ long
@@ -61,6 +62,7 @@ SlotsFrom k [] row = Unit {0}
 SlotsFrom k (column ∷ columns) row =
     IsSlot (values_of column.kind) (get_or row k Null) × SlotsFrom (k + 1) columns row
 
+-- A row without a fault from a column on has a lawful slot for each from there.
 slots-from : (k at : ℕ) (columns : List Column) (row : List Cell) → length row ≡ k + length columns
     → first_fault at columns (drop k row) ≡ None → SlotsFrom k columns row
 slots-from k at [] row long none = tt
@@ -76,6 +78,7 @@ slots-from k at (column ∷ columns) row long none =
       slots-from (k + 1) (at + 1) columns row (omega arith) both.1,
     )
 
+-- Where no fault is found, the test passes and the rest has no fault.
 passed : (test : Bool) (rest : Option RowFault) → (if test then rest else Some Arity) ≡ None
     → (test ≡ true) × (rest ≡ None)
 passed true rest is = (refl, is)
@@ -133,6 +136,7 @@ column-slots k column columns rows all = λ i inside.
     let P : Cell → Type 0 = λ cell. IsSlot (values_of column.kind) cell in
     subst P (sym (get_or-map row rows i [] Null (omega arith))) (all i (omega arith)).0
 
+-- The columns of a body are read back as the cells of the rows.
 columns-read : (body : List ℕ) (from k : ℕ) (columns : List Column) (rows : List (List Cell))
     → length rows ≤ 2 ^ 15 → AllFrom k columns rows
     → HasBuffers body from (buffers_from k columns rows)
@@ -190,6 +194,7 @@ row-back k i (column ∷ columns) rows inside long =
     drop_more row k Null (omega arith) in
     rw (first, rest) (sym parts)
 
+-- The rows are read back slot by slot from the cells of their columns.
 rows-back : (columns : List Column) (rows : List (List Cell))
     → ((i : ℕ) → i < length rows → length (get_or rows i []) ≡ length columns)
     → map (row_at (cells_from 0 columns rows)) (range_with_len 0 (length rows)) ≡ rows
@@ -199,6 +204,7 @@ rows-back columns rows long =
 
 -- ---- counts
 
+-- There is one array for each column.
 length-arrays : (k : ℕ) (columns : List Column) (rows : List (List Cell))
     → length (arrays_from k columns rows) ≡ length columns
 length-arrays k [] rows = refl

@@ -36,6 +36,7 @@ int_of truths = record { bits = 0; is_signed = false }
 int_of texts = record { bits = 0; is_signed = false }
 int_of blobs = record { bits = 0; is_signed = false }
 
+-- How many bits a width has fits a number of four bytes.
 width_small : (width : Width) → 8 * byte_len width < 256 ^ byte_len w32
 width_small w8 = lit< tt
 width_small w16 = lit< tt
@@ -97,12 +98,14 @@ record Stands (bytes : List ℕ) (end place : ℕ) : Type 0 where
   behind : end ≤ place
   inside : place + 4 ≤ length bytes
 
+-- A table without fields stands behind the end where it is laid, within the bytes.
 empty-stands : (bytes : List ℕ) (end : ℕ) → Has bytes end (empty_table end).bytes
     → Stands bytes end (empty_table end).place
 empty-stands bytes end has =
     let there = table-there bytes end 4 [] (record { apart = refl; fit = refl }) has in
     record { behind = table-behind end 4 []; inside = omega (arith, there.inside) }
 
+-- The table of a type stands behind the end where it is laid, within the bytes.
 type-stands : (bytes : List ℕ) (end : ℕ) (values : Values)
     → Has bytes end (type_table_in values end).bytes
     → Stands bytes end (type_table_in values end).place
@@ -122,6 +125,7 @@ type-stands bytes end truths has = empty-stands bytes end has
 type-stands bytes end texts has = empty-stands bytes end has
 type-stands bytes end blobs has = empty-stands bytes end has
 
+-- The number of a type fits one byte.
 type_number_small : (values : Values) → type_number_in values < 256 ^ byte_len w8
 type_number_small (signed width) = lit< tt
 type_number_small (unsigned width) = lit< tt
@@ -129,6 +133,7 @@ type_number_small truths = lit< tt
 type_number_small texts = lit< tt
 type_number_small blobs = lit< tt
 
+-- Each kind is found by its type's number, width and sign.
 kind-read : (kind : Kind) → kind_of_type (type_number kind) (int_of (values_of kind)) ≡ Some kind
 kind-read kinds.I8 = refl
 kind-read kinds.I16 = refl
@@ -155,10 +160,12 @@ column_fields column =
     ∷ reference 12 (vector_of_tables [])
     ∷ []
 
+-- A truth value as a number fits one byte.
 bool_small : (truth : Bool) → from_bool truth < 256 ^ byte_len w8
 bool_small true = lit< tt
 bool_small false = lit< tt
 
+-- A truth value is read back from its number.
 bool_back : (truth : Bool) → not (from_bool truth == 0) ≡ truth
 bool_back true = refl
 bool_back false = refl

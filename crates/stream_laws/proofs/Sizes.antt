@@ -28,6 +28,7 @@ LeadTo most (reference at object ∷ fields) =
     (one : ℕ) × (AddsAtMost object one × (one ≤ most) × LeadTo (most - one) fields)
 LeadTo most (absent ∷ fields) = LeadTo most fields
 
+-- Laying the fields adds at most the bytes that their references lead to.
 laid-short : (place size most : ℕ) (body : List ℕ) (fields : List Field)
     → are_apart size fields ≡ true → size ≤ length body → LeadTo most fields
     → length (with_fields place body fields) ≤ length body + most
@@ -81,6 +82,7 @@ table-short size most fields is leads end =
     laid-short place size most (replicate size 0) all is.apart (omega arith) leads in
     omega arith
 
+-- A vector adds at most eleven bytes to those of its elements.
 vector-short : (count : ℕ) (elements : List ℕ)
     → AddsAtMost (vector count elements) (11 + length elements)
 vector-short count elements end =
@@ -93,12 +95,14 @@ vector-short count elements end =
     let four : length word ≡ 4 = length-number w32 count in
     omega arith
 
+-- A string adds at most twelve bytes to those of its text.
 string-short : (text : List ℕ) → AddsAtMost (string text) (12 + length text)
 string-short text end =
     let one : length (text ++ 0 ∷ []) ≡ length text + 1 = length-append text (0 ∷ []) in
     let all = vector-short (length text) (text ++ 0 ∷ []) end in
     omega arith
 
+-- A vector of tables adds at most eleven bytes, four for each table, and the tables.
 tables-short : (most : ℕ) (tables : List Object) → LeadTo most (references 4 tables)
     → AddsAtMost (vector_of_tables tables) (11 + 4 * length tables + most)
 tables-short most tables leads end =
@@ -115,6 +119,7 @@ tables-short most tables leads end =
     leads in
     omega arith
 
+-- The table of a type adds at most 31 bytes.
 type-short : (values : Values) → AddsAtMost (type_table_in values) 31
 type-short (signed width) end =
     table-short 9 0 (int_fields (8 * byte_len width) 1) (record { apart = refl; fit = refl }) tt end
@@ -131,6 +136,7 @@ type-short blobs end =
 abbrev most_of_field : ℕ
 most_of_field = 65637
 
+-- The field of a column with a short enough name adds at most so many bytes.
 field-short : (column : Column) → length column.name ≤ most_bytes
     → AddsAtMost (field_table column) most_of_field
 field-short column short end =
@@ -153,6 +159,7 @@ field-short column short end =
       ),
     ) end
 
+-- The references to the fields of columns lead to at most so many bytes for each.
 fields-lead : (from : ℕ) (columns : List Column) → All IsName columns
     → LeadTo (most_of_field * length columns) (references from (map field_table columns))
 fields-lead from [] named = tt

@@ -58,6 +58,7 @@ word-read bytes place (word ∷ words) (suc i) inside small has =
     ∙ word-read bytes (place + 2) words i (omega arith) small
     (has-right bytes place (to_le_bytes w16 word) (flat_map (to_le_bytes w16) words) has)
 
+-- Each word of a list takes two bytes.
 length-words : (words : List ℕ) → length (flat_map (to_le_bytes w16) words) ≡ 2 * length words
 length-words [] = refl
 length-words (word ∷ words) = omega (arith, length-words words)
@@ -67,6 +68,7 @@ abbrev pub are_words : List ℕ → Bool
 are_words [] = true
 are_words (word ∷ words) = nat_lt word (2 ^ 16) && are_words words
 
+-- Where all words pass the test, each fits sixteen bits.
 word-fits : (words : List ℕ) (i : ℕ) → are_words words ≡ true → get_or words i 0 < 2 ^ 16
 word-fits [] i test = lit< tt
 word-fits (word ∷ words) zero test =
@@ -76,6 +78,7 @@ word-fits (word ∷ words) (suc i) test =
 
 -- A vtable with its table: the words of the vtable, and the distance of the table.
 pub record HasVtable (bytes : List ℕ) (vtable place size : ℕ) (fields : List Field) : Type 0 where
+  -- The words of the vtable: its own size, the table's, and the fields' places.
   pub words : Has bytes vtable (vtable_of size fields)
   pub back : Has bytes place (to_le_bytes w32 (place - vtable))
   pub before : vtable ≤ place
@@ -87,13 +90,16 @@ module _ (bytes : List ℕ) (vtable place size : ℕ) (fields : List Field)
   abbrev words : List ℕ
   words = (4 + 2 * length fields) ∷ size ∷ map place_of fields
 
+  -- The vtable has two words, and one more for each field.
   count : length words ≡ 2 + length fields
   count = let long : length (map place_of fields)
       ≡ length fields = length-map fields place_of in omega arith
 
+  -- The vtable ends within the bytes.
   reach : vtable + (4 + 2 * length fields) ≤ length bytes
   reach = omega (arith, has.words.within, length-words words, count)
 
+  -- The vtable is found from the place of its table.
   vtable-found : vtable_place bytes place ≡ Some vtable
   vtable-found =
       let far : ℕ = place - vtable in
@@ -109,12 +115,14 @@ module _ (bytes : List ℕ) (vtable place size : ℕ) (fields : List Field)
       ∙ ap (λ (b : Bool). if b then Some (place - far) else None) behind
       ∙ ap (λ (n : ℕ). Some n) here
 
+  -- The first word of the vtable reads as the vtable's size.
   size-read : number_from bytes vtable 2 ≡ 4 + 2 * length fields
   size-read =
       let here : vtable ≡ vtable + 2 * 0 = omega arith in
       ap (λ (n : ℕ). number_from bytes n 2) here
       ∙ word-read bytes vtable words 0 (omega (arith, count)) (word-fits words 0 has.fit) has.words
 
+  -- An entry of the vtable reads as its field's place, or zero if there is none.
   entry-read : (index : ℕ) → entry_from bytes vtable index ≡ get_or (map place_of fields) index 0
   entry-read index =
       ap (λ (n : ℕ). if nat_le (6 + 2 * index) n then number_from bytes (vtable + 4 + 2 * index) 2
@@ -302,6 +310,7 @@ apart-references at size from (object ∷ tables) before =
     (or_left (nat_le (at + size) from) (nat_le (from + 4) at) (le-leb (at + size) from before))
     (apart-references at size (from + 4) tables (omega arith))
 
+-- References one behind the other that end by the size do not overlap.
 are_apart-references : (from size : ℕ) (tables : List Object) → from + 4 * length tables ≤ size
     → are_apart size (references from tables) ≡ true
 are_apart-references from size [] room = refl

@@ -14,9 +14,11 @@ use Rattle.stream_text.specs.Shown.{all_rows, front_lines, last_line, schema_lin
 use Rattle.workload_spec.specs.ReplyText.{row_line}
 use Rattle.workload_spec.specs.Words.{lines_text}
 
+-- A line that is ended by a line feed.
 abbrev ended : List ℕ → List ℕ
 ended line = line ++ 10 ∷ []
 
+-- The text of more lines stands behind that of the first ones.
 lines-append : (lines more : List (List ℕ)) → lines_text (lines ++ more) ≡ lines_text lines ++ lines_text more
 lines-append lines more = flat_map-append ended lines more
 
@@ -27,6 +29,7 @@ lines_are_long (line ∷ lines) =
     let rest = lines_are_long lines in
     omega (arith, rest, length-append (ended line) (lines_text lines), length-append line (10 ∷ []))
 
+-- A mapped list is as long as the list.
 length-map : {A B : Type 0} (f : A → B) (xs : List A) → length (map f xs) ≡ length xs
 length-map f [] = refl
 length-map f (x ∷ xs) = ap suc (length-map f xs)

@@ -1,4 +1,5 @@
--- What a reply leaves of what others have open, and whether a session is in a transaction, by the lines and by the machine.
+-- What a reply leaves of what others have open, and whether a session is in a transaction, by the
+-- lines and by the machine.
 use Rattle.std.proofs.Common.{◌≡◌, ℕ, Bool, true, false, cond, eqb, List, [], ◌∷◌, ◌++◌, map, length, Option, None, Some, refl, sym, ap, ◌∙◌, append-nil, ◌⊎◌, inl, inr}
 use Rattle.std.specs.Prelude.{option_map, is_some, fold}
 use Rattle.std.specs.Option.{option_or}
@@ -25,10 +26,12 @@ use Rattle.timeline_laws.proofs.Steps.{Change, quiet, opens, writes, ends, commi
 
 -- ---- another's reply leaves what a session or worker has open
 
+-- What is open, or else nothing, is what is open.
 or-kept : (old : Option Transaction) → option_or old None ≡ old
 or-kept None = refl
 or-kept (Some t) = refl
 
+-- A write of one session leaves the transaction that is found for another.
 entering-other : (writer session : ℕ) (place : Place) (change : Option (List Cell)) (found : Option Transaction) (ts : List Transaction) → find (λ t. eqb t.session session) ts ≡ found
     → eqb writer session ≡ false → option_map (entering writer place change) found ≡ found
 entering-other writer session place change None ts at apart = refl
@@ -37,9 +40,11 @@ entering-other writer session place change (Some t) ts at apart =
     let f : eqb t.session writer ≡ false = ap (λ (s : ℕ). eqb s writer) e ∙ eqb-turned session writer ∙ apart in
     rw f refl
 
+-- Two sessions that are one have one number.
 session-is : (a b : ℕ) → Session a ≡ Session b → a ≡ b
 session-is a b h = cc
 
+-- A reply of another session leaves what a session has open.
 stays : (session other : ℕ) (asked : Command) (told : Said) (machine after : IsolationMachine) → eqb session other ≡ false → Change (Session session) asked told machine after
     → transaction_of other after ≡ transaction_of other machine
 stays session other asked told machine after apart (quiet q) = ap (transaction_of other) q.same
@@ -78,20 +83,24 @@ others-open (Worker a) (Session b) asked told machine after apart h = ap (transa
 
 -- ---- in a transaction or not
 
+-- A reply that neither opens nor ends a transaction leaves whether one is open.
 quiet-within : (w : Bool) (told : Said) → snapshot_in told ≡ None → is_end told ≡ false → within_behind w told ≡ w
 quiet-within w (said.At n) h k = absurd (let never : ⊥ = cc in never)
 quiet-within w (said.Committed n) h k = absurd (let never : ⊥ = cc in never)
 quiet-within w said.Aborted h k = absurd (let never : ⊥ = cc in never)
 quiet-within w _ h k = refl
 
+-- Changing what is open keeps whether anything is open.
 still-some : (f : Transaction → Transaction) (o : Option Transaction) → is_some (option_map f o) ≡ is_some o
 still-some f None = refl
 still-some f (Some t) = refl
 
+-- Behind an abort or a commit of nothing, its session is in no transaction.
 ended-within : (w : Bool) (told : Said) (own : WriteSet) → (told ≡ said.Aborted) ⊎ ((told ≡ said.Committed None) × (own ≡ [])) → within_behind w told ≡ false
 ended-within w told own (inl is) = ap (within_behind w) is
 ended-within w told own (inr is) = ap (within_behind w) is.0
 
+-- The transaction that a session has open behind its begin.
 abbrev new_open : ℕ → IsolationMachine → Transaction
 new_open session machine = record { session = session; snapshot = length machine.history; own = [] }
 
@@ -119,6 +128,7 @@ own-state who asked told machine after w is (commits x) =
     ∙ sym (ap (λ (v : Who). is_some (open_of v after)) x.who_is ∙ ap (λ (m : IsolationMachine). is_some (transaction_of x.session m)) x.is
     ∙ ap is_some (at-ended x.session x.session machine) ∙ ap (λ (b : Bool). is_some (cond b None (transaction_of x.session machine))) (eqb-itself x.session))
 
+-- One more reply changes whether one is in a transaction only if it is one's own.
 within-push : (who : Who) (front : List Entry) (entry : Entry) (b : Bool) → is_same entry.reply.who who ≡ b
     → is_within who (front ++ entry ∷ []) ≡ cond b (within_behind (is_within who front) entry.reply.said) (is_within who front)
 within-push who front entry true is =

@@ -26,6 +26,7 @@ pub find-kept : (test choice : Span → Bool) (ts : List Span) → EachSpan (λ 
 find-kept test choice [] h = refl
 find-kept test choice (t ∷ ts) h = find-kept-step (choice t) (test t) t (filter choice ts) ts test refl h.0 (find-kept test choice ts h.1)
 
+-- Where the first reply or one behind it is the reply, it is to the same one.
 any-of-step : (b : Bool) (entry : Entry) (who : Who) (other : Entry) (entries : List Entry) → is_reply entry other ≡ b → (is_reply entry other ≡ true → other ≡ entry) → is_same other.reply.who who ≡ true
     → (list_any (is_reply entry) entries ≡ true → is_same entry.reply.who who ≡ true) → (b || list_any (is_reply entry) entries) ≡ true → is_same entry.reply.who who ≡ true
 any-of-step true entry who other entries is only of rest h = subst (λ (o : Entry). is_same o.reply.who who ≡ true) (only is) of
@@ -37,6 +38,7 @@ any-of : (entry : Entry) (who : Who) (entries : List Entry) → Each (λ other. 
 any-of entry who [] only of h = absurd (let never : ⊥ = cc in never)
 any-of entry who (other ∷ entries) only of h = any-of-step (is_reply entry other) entry who other entries refl only.0 of.0 (any-of entry who entries only.1 of.1) h
 
+-- Cutting behind a reply, if it is an end, keeps what holds of each.
 cut-each : (P : Entry → Type 0) (ends : Bool) (entry : Entry) (others : List Entry) → P entry → Each P others → Each P (cond ends (entry ∷ []) (entry ∷ others))
 cut-each P true entry others h k = (h, tt)
 cut-each P false entry others h k = (h, k)
@@ -46,9 +48,11 @@ pub Each-up_to_end : (P : Entry → Type 0) (entries : List Entry) → Each P en
 Each-up_to_end P [] h = h
 Each-up_to_end P (entry ∷ entries) h = cut-each P (is_end entry.reply.said) entry (up_to_end entries) h.0 (Each-up_to_end P entries h.1)
 
+-- Two that are one session or worker are so the other way round.
 same-turned : (a b : Who) → is_same a b ≡ true → is_same b a ≡ true
 same-turned a b h = subst (λ (w : Who). is_same w a ≡ true) (same-is a b h) (same-itself a)
 
+-- Where the transaction that a reply opens has the reply, both are to the same one.
 from-whom : (entry o : Entry) (behind : List Entry) → Only (o ∷ behind) entry → (snapshot : ℕ)
     → list_any (is_reply entry) (span_from o behind snapshot).replies ≡ true → is_same o.reply.who entry.reply.who ≡ true
 from-whom entry o behind only snapshot h =
@@ -57,6 +61,7 @@ from-whom entry o behind only snapshot h =
     let passes = Each-up_to_end (λ other. is_same other.reply.who o.reply.who ≡ true) its (same-itself o.reply.who, thread-of o.reply.who behind) in
     same-turned entry.reply.who o.reply.who (any-of entry o.reply.who (up_to_end its) among passes h)
 
+-- One more reply in front keeps that transactions with the reply are its session's or worker's.
 from-holds-step : (entry o : Entry) (entries : List Entry) → Only (o ∷ entries) entry → (shown : Option ℕ)
     → EachSpan (λ t. list_any (is_reply entry) t.replies ≡ true → is_same t.who entry.reply.who ≡ true) (transactions_of entries)
     → EachSpan (λ t. list_any (is_reply entry) t.replies ≡ true → is_same t.who entry.reply.who ≡ true) (cons_option (option_map (span_from o entries) shown) (transactions_of entries))
@@ -84,6 +89,7 @@ find-past : (test : Span → Bool) (made : ℕ → Span) (shown : Option ℕ) (o
 find-past test made None others fails = refl
 find-past test made (Some snapshot) others fails = rw (fails snapshot) refl
 
+-- Where none of the replies is the reply, no transaction opened among them has it.
 none-opened : (who : Who) (entry : Entry) (rest : List Entry) → Each (λ other. is_reply entry other ≡ false) rest → find (λ t. list_any (is_reply entry) t.replies) (spans who rest) ≡ None
 none-opened who entry [] h = refl
 none-opened who entry (other ∷ rest) h =
@@ -91,10 +97,12 @@ none-opened who entry (other ∷ rest) h =
     (λ snapshot. any-none (is_reply entry) (up_to_end (other ∷ rest)) (Each-up_to_end (λ o. is_reply entry o ≡ false) (other ∷ rest) h))
     ∙ none-opened who entry rest h.1
 
+-- A reply is among those from it on, cut behind it or not.
 cut-has : (entry : Entry) (ends : Bool) (others : List Entry) → list_any (is_reply entry) (cond ends (entry ∷ []) (entry ∷ others)) ≡ true
 cut-has entry true others = rw (itself entry) refl
 cut-has entry false others = rw (itself entry) refl
 
+-- Where the second part holds, so does the disjunction.
 or-true : (a b : Bool) → b ≡ true → (a || b) ≡ true
 or-true true b h = refl
 or-true false b h = h
@@ -105,6 +113,7 @@ has-itself entry replies rest =
     list_any-append (is_reply entry) replies (up_to_end (entry ∷ rest))
     ∙ or-true (list_any (is_reply entry) replies) (list_any (is_reply entry) (up_to_end (entry ∷ rest))) (cut-has entry (is_end entry.reply.said) (up_to_end rest))
 
+-- Where the first list has none, what is found is found in the second.
 find-behind : (test : Span → Bool) (a b : List Span) → find test a ≡ None → find test (a ++ b) ≡ find test b
 find-behind test a b none = find-append test a b ∙ ap (λ (o : Option Span). option_or o (find test b)) none
 
@@ -116,6 +125,7 @@ pub record At (printed timeline front : List Entry) (entry : Entry) (rest : List
   pub only : Only printed entry
 
 module _ (printed timeline front : List Entry) (entry : Entry) (rest : List Entry) (at : At printed timeline front entry rest) where
+  -- The session or worker that the reply is to.
   abbrev its : Who
   its = entry.reply.who
 
@@ -135,6 +145,7 @@ module _ (printed timeline front : List Entry) (entry : Entry) (rest : List Entr
   pub timeline-only : Only (front ++ entry ∷ rest) entry
   timeline-only = subst (λ (es : List Entry). Only es entry) at.whole (Each-printed (λ other. is_reply entry other ≡ true → other ≡ entry) timeline printed (λ who. sym (at.threads who)) at.only)
 
+  -- Whether a transaction has the reply among its own.
   abbrev holds : Span → Bool
   holds t = list_any (is_reply entry) t.replies
 
@@ -144,9 +155,11 @@ module _ (printed timeline front : List Entry) (entry : Entry) (rest : List Entr
       find-kept holds (λ t. is_same t.who its) (transactions_of printed) (from-holds entry printed at.only)
       ∙ ap (find holds) (spans-is its printed ∙ ap (spans its) own-thread)
 
+  -- Of its session's or worker's replies in front, none is the reply.
   misses-front : Each (λ other. is_reply entry other ≡ false) (thread its front)
   misses-front = Each-filter (λ other. is_reply entry other ≡ false) (λ other. is_same other.reply.who its) front (none-in_front front entry rest its-order timeline-only)
 
+  -- Of its session's or worker's replies behind, none is the reply.
   misses-rest : Each (λ other. is_reply entry other ≡ false) (thread its rest)
   misses-rest = Each-filter (λ other. is_reply entry other ≡ false) (λ other. is_same other.reply.who its) rest (none-behind front entry rest its-order timeline-only)
 

@@ -36,7 +36,7 @@ use Rattle.timeline_laws.proofs.Ranges.{range-push, range-append, all-below, all
 use Rattle.timeline_laws.proofs.Order.{before-each, shown-each, shown-filter, shows_only}
 use Rattle.timeline_laws.proofs.Unique.{Only}
 use Rattle.timeline_laws.proofs.Sums.{sum-before, sum-not_after, sum-at-most, counted, summed}
-use Rattle.timeline_laws.proofs.Walk.{Within}
+use Rattle.timeline_laws.proofs.Walk.{Within, shown-more}
 use Rattle.timeline_laws.proofs.Committed.{committed-in_front}
 use Rattle.timeline_laws.proofs.Cuts.{Cut}
 use Rattle.timeline_laws.proofs.Histories.{run, last, shown-length}
@@ -44,36 +44,35 @@ use Rattle.timeline_laws.proofs.Views.{belongs, by-transaction, before-is, bound
 
 -- ---- the stamps of a block
 
--- the stamps of the seals of a block go up by one from 1, and its seals are its gatherings, or one more
+-- the stamps of the seals of a block go up by one from 1, and its seals are its gatherings, or one
+-- more
 pub record Stamped (entries : List Entry) (table block : ℕ) : Type 0 where
   pub stamps : shown_in (stamp_in table block) entries ≡ range_with_len 1 (seals_in table block entries)
   pub low : freezes_in table block entries ≤ seals_in table block entries
   pub high : seals_in table block entries ≤ freezes_in table block entries + 1
-
-shown-push : (shown : Said → Option ℕ) (front : List Entry) (entry : Entry) → shown_in shown (front ++ entry ∷ []) ≡ shown_in shown front ++ cons_option (shown entry.reply.said) []
-shown-push shown front entry = filter_map-append (λ other. shown other.reply.said) front (entry ∷ [])
 
 -- a reply that is no seal and no gathering of the block
 stamped-still : (front : List Entry) (entry : Entry) (table block : ℕ) → Stamped front table block → stamp_in table block entry.reply.said ≡ None → rows_in table block entry.reply.said ≡ None
     → Stamped (front ++ entry ∷ []) table block
 stamped-still front entry table block h seal freeze =
     let seals : shown_in (stamp_in table block) (front ++ entry ∷ []) ≡ shown_in (stamp_in table block) front =
-    shown-push (stamp_in table block) front entry ∙ ap (λ (o : Option ℕ). shown_in (stamp_in table block) front ++ cons_option o []) seal ∙ append-nil (shown_in (stamp_in table block) front) in
+    shown-more (stamp_in table block) front entry ∙ ap (λ (o : Option ℕ). shown_in (stamp_in table block) front ++ cons_option o []) seal ∙ append-nil (shown_in (stamp_in table block) front) in
     let freezes : shown_in (rows_in table block) (front ++ entry ∷ []) ≡ shown_in (rows_in table block) front =
-    shown-push (rows_in table block) front entry ∙ ap (λ (o : Option ℕ). shown_in (rows_in table block) front ++ cons_option o []) freeze ∙ append-nil (shown_in (rows_in table block) front) in
+    shown-more (rows_in table block) front entry ∙ ap (λ (o : Option ℕ). shown_in (rows_in table block) front ++ cons_option o []) freeze ∙ append-nil (shown_in (rows_in table block) front) in
     record {
       stamps = seals ∙ h.stamps ∙ ap (λ (xs : List ℕ). range_with_len 1 (length xs)) (sym seals);
       low = let l : freezes_in table block front ≤ seals_in table block front = h.low in omega (arith, l, ap length seals, ap length freezes);
       high = let l : seals_in table block front ≤ freezes_in table block front + 1 = h.high in omega (arith, l, ap length seals, ap length freezes);
     }
 
+-- A seal with the next stamp keeps the stamps of its block in order.
 stamped-sealed : (front : List Entry) (entry : Entry) (table block stamp : ℕ) → Stamped front table block → stamp_in table block entry.reply.said ≡ Some stamp → rows_in table block entry.reply.said ≡ None
     → seals_in table block front ≡ freezes_in table block front → stamp ≡ seals_in table block front + 1 → Stamped (front ++ entry ∷ []) table block
 stamped-sealed front entry table block stamp h seal freeze same next =
     let seals : shown_in (stamp_in table block) (front ++ entry ∷ []) ≡ shown_in (stamp_in table block) front ++ stamp ∷ [] =
-    shown-push (stamp_in table block) front entry ∙ ap (λ (o : Option ℕ). shown_in (stamp_in table block) front ++ cons_option o []) seal in
+    shown-more (stamp_in table block) front entry ∙ ap (λ (o : Option ℕ). shown_in (stamp_in table block) front ++ cons_option o []) seal in
     let freezes : shown_in (rows_in table block) (front ++ entry ∷ []) ≡ shown_in (rows_in table block) front =
-    shown-push (rows_in table block) front entry ∙ ap (λ (o : Option ℕ). shown_in (rows_in table block) front ++ cons_option o []) freeze ∙ append-nil (shown_in (rows_in table block) front) in
+    shown-more (rows_in table block) front entry ∙ ap (λ (o : Option ℕ). shown_in (rows_in table block) front ++ cons_option o []) freeze ∙ append-nil (shown_in (rows_in table block) front) in
     let longer : seals_in table block (front ++ entry ∷ []) ≡ seals_in table block front + 1 = ap length seals ∙ length_push (shown_in (stamp_in table block) front) stamp in
     record {
       stamps = seals ∙ ap (λ (n : ℕ). shown_in (stamp_in table block) front ++ n ∷ []) next ∙ ap (λ (xs : List ℕ). xs ++ (seals_in table block front + 1) ∷ []) h.stamps
@@ -82,13 +81,14 @@ stamped-sealed front entry table block stamp h seal freeze same next =
       high = omega (arith, longer, same, ap length freezes);
     }
 
+-- A gathering of a sealed block keeps the stamps of the block in order.
 stamped-frozen : (front : List Entry) (entry : Entry) (table block rows : ℕ) → Stamped front table block → stamp_in table block entry.reply.said ≡ None → rows_in table block entry.reply.said ≡ Some rows
     → seals_in table block front ≡ freezes_in table block front + 1 → Stamped (front ++ entry ∷ []) table block
 stamped-frozen front entry table block rows h seal freeze more =
     let seals : shown_in (stamp_in table block) (front ++ entry ∷ []) ≡ shown_in (stamp_in table block) front =
-    shown-push (stamp_in table block) front entry ∙ ap (λ (o : Option ℕ). shown_in (stamp_in table block) front ++ cons_option o []) seal ∙ append-nil (shown_in (stamp_in table block) front) in
+    shown-more (stamp_in table block) front entry ∙ ap (λ (o : Option ℕ). shown_in (stamp_in table block) front ++ cons_option o []) seal ∙ append-nil (shown_in (stamp_in table block) front) in
     let freezes : shown_in (rows_in table block) (front ++ entry ∷ []) ≡ shown_in (rows_in table block) front ++ rows ∷ [] =
-    shown-push (rows_in table block) front entry ∙ ap (λ (o : Option ℕ). shown_in (rows_in table block) front ++ cons_option o []) freeze in
+    shown-more (rows_in table block) front entry ∙ ap (λ (o : Option ℕ). shown_in (rows_in table block) front ++ cons_option o []) freeze in
     let longer : freezes_in table block (front ++ entry ∷ []) ≡ freezes_in table block front + 1 = ap length freezes ∙ length_push (shown_in (rows_in table block) front) rows in
     record {
       stamps = seals ∙ h.stamps ∙ ap (λ (xs : List ℕ). range_with_len 1 (length xs)) (sym seals);
@@ -98,6 +98,7 @@ stamped-frozen front entry table block rows h seal freeze more =
 
 -- the block of a reply, against one
 module _ (tables : List TableDecl) (front : List Entry) (entry : Entry) (table block : ℕ) (h : Stamped front table block) where
+  -- A seal, of this block or of another, keeps this block's stamps in order.
   sealed-by : (t b g : ℕ) (x y : Bool) → eqb t table ≡ x → eqb b block ≡ y → entry.reply.said ≡ said.Sealed t b g
       → seals_in t b front ≡ freezes_in t b front → g ≡ seals_in t b front + 1 → Stamped (front ++ entry ∷ []) table block
   sealed-by t b g true true is_t is_b is same next =
@@ -109,6 +110,7 @@ module _ (tables : List TableDecl) (front : List Entry) (entry : Entry) (table b
   sealed-by t b g true false is_t is_b is same next = stamped-still front entry table block h (ap (stamp_in table block) is ∙ (rw (is_t, is_b) refl)) (ap (rows_in table block) is)
   sealed-by t b g false y is_t is_b is same next = stamped-still front entry table block h (ap (stamp_in table block) is ∙ (rw is_t refl)) (ap (rows_in table block) is)
 
+  -- A gathering, of this block or of another, keeps this block's stamps in order.
   frozen-by : (t b r : ℕ) (x y : Bool) → eqb t table ≡ x → eqb b block ≡ y → entry.reply.said ≡ said.Frozen t b r
       → seals_in t b front ≡ freezes_in t b front + 1 → Stamped (front ++ entry ∷ []) table block
   frozen-by t b r true true is_t is_b is more =
@@ -119,6 +121,7 @@ module _ (tables : List TableDecl) (front : List Entry) (entry : Entry) (table b
   frozen-by t b r true false is_t is_b is more = stamped-still front entry table block h (ap (stamp_in table block) is) (ap (rows_in table block) is ∙ (rw (is_t, is_b) refl))
   frozen-by t b r false y is_t is_b is more = stamped-still front entry table block h (ap (stamp_in table block) is) (ap (rows_in table block) is ∙ (rw is_t refl))
 
+  -- One more reply of a timeline keeps the stamps of each block in order.
   stamped-step : (told : Said) → entry.reply.said ≡ told → Counts tables front entry.command told → Stamped (front ++ entry ∷ []) table block
   stamped-step (said.Sealed t b g) is counts = sealed-by t b g (eqb t table) (eqb b block) refl refl is counts.0 counts.1
   stamped-step (said.Frozen t b r) is counts = frozen-by t b r (eqb t table) (eqb b block) refl refl is counts.0
@@ -132,13 +135,16 @@ stamped-from tables front machine (entry ∷ rest) h runs table block =
     subst (λ (es : List Entry). Stamped es table block) (append_assoc front (entry ∷ []) rest)
     (stamped-from tables (front ++ entry ∷ []) runs.0 rest (λ t b. stamped-step tables front entry t b (h t b) entry.reply.said refl runs.2) runs.3 table block)
 
+-- Where replies come about one behind the other, so do the first of them.
 runs-front : (tables : List TableDecl) (past : List Entry) (machine : IsolationMachine) (front rest : List Entry) → Runs tables past machine (front ++ rest) → Runs tables past machine front
 runs-front tables past machine [] rest h = tt
 runs-front tables past machine (entry ∷ front) rest h = (h.0, h.1, h.2, runs-front tables (past ++ entry ∷ []) h.0 front rest h.3)
 
+-- Before any reply the stamps of each block are in order.
 stamped-nothing : (table block : ℕ) → Stamped [] table block
 stamped-nothing table block = record { stamps = refl; low = omega arith; high = omega arith }
 
+-- Where a number is above zero, so is each that is no less, told by two tests.
 one-by : (m n : ℕ) → m ≤ n → (b c : Bool) → nat_lt 0 m ≡ b → nat_lt 0 n ≡ c → cond b 1 0 ≤ cond c 1 0
 one-by m n h true true is is_n = omega arith
 one-by m n h true false is is_n =
@@ -147,9 +153,11 @@ one-by m n h true false is is_n =
     absurd (omega (arith, more, none, h))
 one-by m n h false c is is_n = omega arith
 
+-- What counts one if a number is above zero counts no less for a greater number.
 one-more : (m n : ℕ) → m ≤ n → (b : Bool) → nat_lt 0 m ≡ b → cond (nat_lt 0 m) 1 0 ≤ cond (nat_lt 0 n) 1 0
 one-more m n h b is = one-by m n h (nat_lt 0 m) (nat_lt 0 n) refl refl
 
+-- A number stands once in lesser numbers and a range that begins with it.
 count-parts : (g a n : ℕ) (below : List ℕ) → a ≡ g → list_all (λ x. nat_lt x g) below ≡ true
     → sum_by (λ x. cond (eqb x g) 1 0) below + sum_by (λ x. cond (eqb x g) 1 0) (range_with_len a (1 + n)) ≡ 1
 count-parts g a n below is low =
@@ -172,6 +180,7 @@ count-range g n least most =
 
 module _ (tables : List TableDecl) (printed timeline : List Entry) (t : Timeline tables printed timeline) (entry : Entry) (only : Only printed entry)
     (cut : Cut tables timeline (last tables printed timeline t) entry) where
+  -- The run that is read from the printed replies.
   abbrev the_run : Run
   the_run = run tables printed timeline t
 
@@ -179,6 +188,7 @@ module _ (tables : List TableDecl) (printed timeline : List Entry) (t : Timeline
   less-before : (f : Entry → ℕ) → sum_by f (before printed entry) ≤ sum_by f cut.front
   less-before f = sum-before printed timeline cut.front entry cut.rest (same-of tables printed timeline t) cut.whole t.order f
 
+  -- A sum over the replies in front is at most that over those not after.
   more-not_after : (f : Entry → ℕ) → sum_by f cut.front ≤ sum_by f (not_after printed entry)
   more-not_after f = sum-not_after printed timeline cut.front entry cut.rest (same-of tables printed timeline t) cut.whole t.order f
 
@@ -186,12 +196,15 @@ module _ (tables : List TableDecl) (printed timeline : List Entry) (t : Timeline
   fewer-shown : (shown : Said → Option ℕ) → length (shown_in shown (before printed entry)) ≤ length (shown_in shown cut.front)
   fewer-shown shown = omega (arith, shown-length shown (before printed entry), shown-length shown cut.front, less-before (λ other. cond (is_some (shown other.reply.said)) 1 0))
 
+  -- The replies in front show at most as many numbers as those not after.
   more-shown : (shown : Said → Option ℕ) → length (shown_in shown cut.front) ≤ length (shown_in shown (not_after printed entry))
   more-shown shown = omega (arith, shown-length shown cut.front, shown-length shown (not_after printed entry), more-not_after (λ other. cond (is_some (shown other.reply.said)) 1 0))
 
+  -- In front of the reply the stamps of each block are in order.
   front-stamped : (table block : ℕ) → Stamped cut.front table block
   front-stamped table block = stamped-from tables [] opening cut.front stamped-nothing (runs-front tables [] opening cut.front (entry ∷ cut.rest) (subst (Runs tables [] opening) cut.whole t.runs)) table block
 
+  -- In the whole timeline the stamps of each block are in order.
   whole-stamped : (table block : ℕ) → Stamped timeline table block
   whole-stamped table block = stamped-from tables [] opening timeline stamped-nothing t.runs table block
 
@@ -201,15 +214,18 @@ module _ (tables : List TableDecl) (printed timeline : List Entry) (t : Timeline
       let f : Entry → ℕ = λ other. option_map_or (λ n. cond (eqb n stamp) 1 0) (stamp_in table block other.reply.said) 0 in
       counted (λ n. eqb n stamp) (stamp_in table block) printed ∙ sum_by-IsPermutation f timeline printed (same-of tables printed timeline t) ∙ sym (counted (λ n. eqb n stamp) (stamp_in table block) timeline)
 
+  -- Each stamp up to the number of a block's seals is printed once.
   once : (table block stamp : ℕ) → 1 ≤ stamp → stamp ≤ seals_in table block timeline → stamp_count table block stamp printed ≡ 1
   once table block stamp least most =
       printed-stamps table block stamp ∙ ap (count_by (λ n. eqb n stamp)) (whole-stamped table block).stamps ∙ count-range stamp (seals_in table block timeline) least most
 
+  -- As many seals of a block are printed as are in the timeline.
   seals-printed : (table block : ℕ) → seals_in table block printed ≡ seals_in table block timeline
   seals-printed table block =
       let f : Entry → ℕ = λ other. cond (is_some (stamp_in table block other.reply.said)) 1 0 in
       shown-length (stamp_in table block) printed ∙ sum_by-IsPermutation f timeline printed (same-of tables printed timeline t) ∙ sym (shown-length (stamp_in table block) timeline)
 
+  -- The seals of a block are those in front and those from the reply on.
   seals-more : (table block : ℕ) → seals_in table block timeline ≡ seals_in table block cut.front + (length (shown_in (stamp_in table block) (entry ∷ cut.rest)))
   seals-more table block =
       ap (seals_in table block) cut.whole ∙ ap length (filter_map-append (λ other. stamp_in table block other.reply.said) cut.front (entry ∷ cut.rest))
@@ -217,6 +233,7 @@ module _ (tables : List TableDecl) (printed timeline : List Entry) (t : Timeline
 
   -- ---- freezing
 
+  -- Where the block's last seal is not gathered yet, the rule of freezing holds.
   freezing-at : (table block stamp : ℕ) → seals_in table block cut.front ≡ stamp → freezes_in table block cut.front + 1 ≡ stamp → freezing_reply_holds the_run entry (said.Freezing table block stamp) ≡ true
   freezing-at table block stamp seals freezes =
       let least : 1 ≤ stamp = omega (arith, freezes) in
@@ -236,6 +253,7 @@ module _ (tables : List TableDecl) (printed timeline : List Entry) (t : Timeline
       all-three (eqb (stamp_count table block stamp printed) 1) (eqb (stamp_count table block stamp (not_after printed entry)) 1) (nat_lt (freezes_in table block (before printed entry)) stamp)
       (same_number (stamp_count table block stamp printed) 1 in_all) (same_number (stamp_count table block stamp (not_after printed entry)) 1 not_later) less
 
+  -- The rule of freezing holds of whatever the reply tells at its place.
   freezing-by : (told : Said) → Counts tables cut.front entry.command told → freezing_reply_holds the_run entry told ≡ true
   freezing-by (said.Freezing table block stamp) counts = freezing-at table block stamp counts.0 counts.1
   freezing-by _ counts = refl
@@ -246,6 +264,7 @@ module _ (tables : List TableDecl) (printed timeline : List Entry) (t : Timeline
 
   -- ---- full tables
 
+  -- Where a table is found full, enough accepted inserts are not after the reply.
   full-of : (asked : Command) → FindsFull tables cut.front asked
       → option_map_or (λ table. nat_le (capacity_at tables table) (inserts_in table (not_after printed entry))) (inserted_table asked) true ≡ true
   full-of (command.Insert table row) counts =
@@ -256,6 +275,7 @@ module _ (tables : List TableDecl) (printed timeline : List Entry) (t : Timeline
       at_most (capacity_at tables table) (sum_by f (not_after printed entry)) all
   full-of _ counts = refl
 
+  -- The rule of full tables holds of whatever the reply tells at its place.
   full-by : (told : Said) → Counts tables cut.front entry.command told → full_reply_holds the_run entry told ≡ true
   full-by said.Full counts = full-of entry.command counts
   full-by _ counts = refl
@@ -266,6 +286,7 @@ module _ (tables : List TableDecl) (printed timeline : List Entry) (t : Timeline
 
   -- ---- exports
 
+  -- No more blocks of a table are frozen in front than not after the reply.
   frozen-more : (table : ℕ) → frozen_blocks tables table cut.front ≤ frozen_blocks tables table (not_after printed entry)
   frozen-more table =
       sum_by-le-sum_by (λ block. cond (nat_lt 0 (freezes_in table block cut.front)) 1 0) (λ block. cond (nat_lt 0 (freezes_in table block (not_after printed entry))) 1 0) (range_with_len 0 (blocks_at tables table))
@@ -325,6 +346,7 @@ module _ (tables : List TableDecl) (printed timeline : List Entry) (t : Timeline
 
   -- ---- upkeep
 
+  -- A seal with the next stamp of an unsealed block keeps the rule of seals.
   seal-at : (table block stamp : ℕ) → entry.reply.said ≡ said.Sealed table block stamp → seals_in table block cut.front ≡ freezes_in table block cut.front → stamp ≡ seals_in table block cut.front + 1
       → seal_holds the_run entry table block stamp ≡ true
   seal-at table block stamp is same next =
@@ -340,6 +362,7 @@ module _ (tables : List TableDecl) (printed timeline : List Entry) (t : Timeline
       (shown-filter (λ n. nat_lt n stamp) (stamp_in table block) (λ other. is_before other entry) printed
       (before-each printed timeline cut.front entry cut.rest t.threads cut.whole t.order (λ other. shows_only (λ n. nat_lt n stamp) (stamp_in table block) other ≡ true) (shown-each (λ n. nat_lt n stamp) (stamp_in table block) cut.front low)))
 
+  -- A gathering of a sealed block, with rows within its slots, keeps its rule.
   freeze-at : (table block rows : ℕ) → seals_in table block cut.front ≡ freezes_in table block cut.front + 1 → 1 ≤ rows → rows ≤ slots_at tables table → freeze_holds the_run entry table block rows ≡ true
   freeze-at table block rows more least most =
       let a : freezes_in table block (before printed entry) ≤ freezes_in table block cut.front = fewer-shown (rows_in table block) in
@@ -348,6 +371,7 @@ module _ (tables : List TableDecl) (printed timeline : List Entry) (t : Timeline
       (at_most 1 rows least) (at_most rows (slots_at tables table) most)
       (at_most (1 + freezes_in table block (before printed entry)) (seals_in table block (not_after printed entry)) (omega (arith, a, b, more)))
 
+  -- Of a block found unsealed, no more seals are before than gatherings not after.
   idle-of : (asked : Command) → FindsUnsealed cut.front asked
       → option_map_or (λ block. nat_le (seals_in block.0 block.1 (before printed entry)) (freezes_in block.0 block.1 (not_after printed entry))) (gathered_block asked) true ≡ true
   idle-of (command.Gather table block) same =
@@ -357,6 +381,7 @@ module _ (tables : List TableDecl) (printed timeline : List Entry) (t : Timeline
       at_most (seals_in table block (before printed entry)) (freezes_in table block (not_after printed entry)) (omega (arith, a, b, e))
   idle-of _ same = refl
 
+  -- A pruning within the writes and moves in front keeps its rule.
   prune-at : (count : ℕ) → count + sum (shown_in pruned_in cut.front) ≤ writes_committed_in cut.front + 2 * sum (shown_in moved_in cut.front)
       → writes_committed_in cut.front ≤ writes_committed_in (not_after printed entry) → prune_holds the_run entry count ≡ true
   prune-at count h committed =
@@ -365,6 +390,7 @@ module _ (tables : List TableDecl) (printed timeline : List Entry) (t : Timeline
       let all : count + sum (shown_in pruned_in (before printed entry)) ≤ writes_committed_in (not_after printed entry) + 2 * sum (shown_in moved_in (not_after printed entry)) = omega (arith, a, b, h, committed) in
       at_most (count + sum (shown_in pruned_in (before printed entry))) (writes_committed_in (not_after printed entry) + 2 * sum (shown_in moved_in (not_after printed entry))) all
 
+  -- The rules of upkeep hold of whatever the reply tells at its place.
   upkeep-by : writes_committed_in cut.front ≤ writes_committed_in (not_after printed entry)
       → (told : Said) → entry.reply.said ≡ told → Counts tables cut.front entry.command told → upkeep_reply_holds the_run entry told ≡ true
   upkeep-by committed (said.Sealed table block stamp) is counts = seal-at table block stamp is counts.0 counts.1

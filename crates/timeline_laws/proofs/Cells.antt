@@ -26,6 +26,7 @@ arity_none : (b : Bool) (rest : Option RowFault) → is_none (if b then rest els
 arity_none true rest h = (refl, h)
 arity_none false rest h = absurd cc
 
+-- A cell that fits its column has only bytes.
 bytes_of : (column : Column) (cell : Cell) → is_none (cell_fault 0 column cell) ≡ true → has_only_bytes cell ≡ true
 bytes_of column Null fit = refl
 bytes_of column (Num z) fit = refl
@@ -33,6 +34,7 @@ bytes_of column (Truth truth) fit = refl
 bytes_of column (Text text) fit = refl
 bytes_of column (Blob bytes) fit = (and_parts (is_binary_kind column.kind) (are_bytes bytes) (value_of_fit column (Blob bytes) refl fit)).1
 
+-- Cells that each fit their columns have only bytes.
 all_bytes : (columns : List Column) (cells : List Cell) (at : ℕ) → length cells ≡ length columns → is_none (first_fault at columns cells) ≡ true → list_all has_only_bytes cells ≡ true
 all_bytes columns [] at many fit = refl
 all_bytes [] (cell ∷ cells) at many fit = absurd (omega (arith, many))
@@ -45,6 +47,7 @@ pub record ReadsBack (columns : List Column) (row : List Cell) : Type 0 where
   pub words : AreWords (cell_words row)
   pub back : row_of columns (cell_words row) ≡ Some row
 
+-- A choice whose test holds gives what is chosen.
 chosen : (b : Bool) (o : Option (List Cell)) → b ≡ true → (if b then o else None) ≡ o
 chosen true o h = refl
 chosen false o h = absurd cc

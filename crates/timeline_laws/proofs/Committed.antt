@@ -1,4 +1,5 @@
--- The accepted writes of the transactions that committed in front of a reply are among those of all transactions.
+-- The accepted writes of the transactions that committed in front of a reply are among those of all
+-- transactions.
 use Rattle.std.proofs.Common.{◌≡◌, ℕ, ◌≤◌, zero, suc, Bool, true, false, cond, not, List, [], ◌∷◌, ◌++◌, length, Option, None, Some, refl, sym, ap, ◌∙◌, arith, append-nil}
 use Rattle.std.specs.List.{filter, find, sum_by}
 use Rattle.std.proofs.lemmas.List.Sums.{sum_by-cons, sum_by-append}
@@ -19,10 +20,12 @@ use Rattle.timeline_laws.proofs.Belongs.{its-thread}
 use Rattle.timeline_laws.proofs.Walk.{Stands}
 use Rattle.timeline_laws.proofs.Cuts.{Cut}
 use Rattle.timeline_laws.proofs.Histories.{last, at-cut}
+use Rattle.timeline_laws.proofs.Chosen.{filter-each}
 use Rattle.timeline_laws.proofs.Views.{front-follows}
 
 -- ---- a sum session by session
 
+-- One more transaction keeps that a wider test in front changes nothing for a narrower one.
 both-kept-step : (p q : Span → Bool) (a b : Bool) (t : Span) (kept all : List Span) → p t ≡ a → q t ≡ b → (a ≡ true → b ≡ true) → filter p kept ≡ filter p all
     → filter p (cond b (t ∷ kept) kept) ≡ cond a (t ∷ filter p all) (filter p all)
 both-kept-step p q true true t kept all is_p is_q h rest = rw is_p (ap (λ ts. t ∷ ts) rest)
@@ -35,27 +38,33 @@ both-kept : (p q : Span → Bool) → ((t : Span) → p t ≡ true → q t ≡ t
 both-kept p q h [] = refl
 both-kept p q h (t ∷ ts) = both-kept-step p q (p t) (q t) t (filter q ts) ts refl refl (h t) (both-kept p q h ts)
 
+-- One more transaction keeps that two tests that exclude each other leave none.
 none-kept-step : (p q : Span → Bool) (a b : Bool) (t : Span) (kept : List Span) → p t ≡ a → q t ≡ b → (a ≡ true → b ≡ false) → filter p kept ≡ [] → filter p (cond b (t ∷ kept) kept) ≡ []
 none-kept-step p q true true t kept is_p is_q h rest = absurd (let e : true ≡ false = h refl in let never : ⊥ = cc in never)
 none-kept-step p q true false t kept is_p is_q h rest = rest
 none-kept-step p q false true t kept is_p is_q h rest = rw is_p rest
 none-kept-step p q false false t kept is_p is_q h rest = rest
 
+-- Two tests that exclude each other leave no transaction.
 none-kept : (p q : Span → Bool) → ((t : Span) → p t ≡ true → q t ≡ false) → (ts : List Span) → filter p (filter q ts) ≡ []
 none-kept p q h [] = refl
 none-kept p q h (t ∷ ts) = none-kept-step p q (p t) (q t) t (filter q ts) refl refl (h t) (none-kept p q h ts)
 
+-- One more transaction, kept or not, makes those kept one more at most.
 shorter-step : (b : Bool) (t : Span) (kept : List Span) (n : ℕ) → length kept ≤ n → length (cond b (t ∷ kept) kept) ≤ suc n
 shorter-step true t kept n h = let e : length (t ∷ kept) ≡ suc (length kept) = refl in omega (arith, e, h)
 shorter-step false t kept n h = omega (arith, h)
 
+-- No more transactions are kept than there are.
 shorter : (p : Span → Bool) (ts : List Span) → length (filter p ts) ≤ length ts
 shorter p [] = omega arith
 shorter p (t ∷ ts) = let e : length (t ∷ ts) ≡ suc (length ts) = refl in let h : length (filter p (t ∷ ts)) ≤ suc (length ts) = shorter-step (p t) t (filter p ts) (length ts) (shorter p ts) in h
 
+-- Whether a transaction is this session's or worker's.
 abbrev of_who : Who → Span → Bool
 of_who who t = is_same t.who who
 
+-- Whether a transaction is that of another session or worker.
 abbrev of_others : Who → Span → Bool
 of_others who t = not (is_same t.who who)
 
@@ -63,9 +72,11 @@ of_others who t = not (is_same t.who who)
 kept-other : (w who : Who) → is_same who w ≡ false → (t : Span) → of_who who t ≡ true → of_others w t ≡ true
 kept-other w who apart t h = ap not (ap (λ (v : Who). is_same v w) (same-is t.who who h) ∙ apart)
 
+-- A transaction of the one left out is none of the others'.
 kept-not : (w who : Who) → is_same who w ≡ true → (t : Span) → of_who who t ≡ true → of_others w t ≡ false
 kept-not w who same t h = ap not (ap (λ (v : Who). is_same v w) (same-is t.who who h) ∙ same)
 
+-- A sum over one's transactions at most another is so once someone's are left out.
 others-by : (f g : Span → ℕ) (w who : Who) (a b : List Span) → sum_by f (filter (of_who who) a) ≤ sum_by g (filter (of_who who) b) → (same : Bool) → is_same who w ≡ same
     → sum_by f (filter (of_who who) (filter (of_others w) a)) ≤ sum_by g (filter (of_who who) (filter (of_others w) b))
 others-by f g w who a b h true same =
@@ -76,6 +87,7 @@ others-by f g w who a b h false same =
     let k = ap (sum_by g) (both-kept (of_who who) (of_others w) (kept-other w who same) b) in
     omega (arith, e, k, h)
 
+-- A list no longer than the rest behind a first one needs one step less.
 fewer : (a b : List Span) (t : Span) (rest : List Span) (fuel : ℕ) → a ≡ b → length b ≤ length rest → length (t ∷ rest) ≤ suc fuel → length a ≤ fuel
 fewer a b t rest fuel is h short = let e : length (t ∷ rest) ≡ suc (length rest) = refl in omega (arith, ap length is, h, e, short)
 
@@ -98,6 +110,7 @@ by-who f g (suc fuel) (t ∷ a) b short h =
 open-none : (t : Span) → find (λ e. is_end e.reply.said) t.replies ≡ None → writes_committed t ≡ 0
 open-none t none = rw none refl
 
+-- One more reply keeps that two tests may be taken either way round.
 filters-turned-step : (p q : Entry → Bool) (a b : Bool) (entry : Entry) (entries : List Entry) → p entry ≡ a → q entry ≡ b → filter p (filter q entries) ≡ filter q (filter p entries)
     → filter p (cond b (entry ∷ filter q entries) (filter q entries)) ≡ filter q (cond a (entry ∷ filter p entries) (filter p entries))
 filters-turned-step p q true true entry entries is_p is_q rest = rw (is_p, is_q) (ap (λ es. entry ∷ es) rest)
@@ -110,15 +123,13 @@ filters-turned : (p q : Entry → Bool) (entries : List Entry) → filter p (fil
 filters-turned p q [] = refl
 filters-turned p q (entry ∷ entries) = filters-turned-step p q (p entry) (q entry) entry entries refl refl (filters-turned p q entries)
 
-all-kept : (p : Entry → Bool) (entries : List Entry) → Each (λ entry. p entry ≡ true) entries → filter p entries ≡ entries
-all-kept p [] h = refl
-all-kept p (entry ∷ entries) h = rw h.0 (ap (λ es. entry ∷ es) (all-kept p entries h.1))
-
 module _ (tables : List TableDecl) (printed timeline : List Entry) (t : Timeline tables printed timeline) (entry : Entry) (only : Only printed entry)
     (cut : Cut tables timeline (last tables printed timeline t) entry) where
+  -- Whether another reply is not after the reply.
   abbrev kept : Entry → Bool
   kept other = is_not_after other entry
 
+  -- Of each one's replies in front, none is after the reply.
   not-after-it : (who : Who) → Each (λ e. kept e ≡ true) (thread who cut.front)
   not-after-it who =
       Each-filter (λ e. kept e ≡ true) (λ e. is_same e.reply.who who) cut.front
@@ -131,8 +142,9 @@ module _ (tables : List TableDecl) (printed timeline : List Entry) (t : Timeline
       filters-turned (λ other. is_same other.reply.who who) kept printed
       ∙ ap (filter kept) (its-thread printed timeline cut.front entry cut.rest here who)
       ∙ filter-append kept (thread who cut.front) (thread who (entry ∷ cut.rest))
-      ∙ ap (λ (es : List Entry). es ++ filter kept (thread who (entry ∷ cut.rest))) (all-kept kept (thread who cut.front) (not-after-it who))
+      ∙ ap (λ (es : List Entry). es ++ filter kept (thread who (entry ∷ cut.rest))) (filter-each kept (thread who cut.front) (not-after-it who))
 
+  -- Later replies do not lessen the writes that one committed in front.
   going-none : (who : Who) (found : Option Transaction) (later : List Entry) → Stands who (thread who cut.front) found
       → sum_by writes_committed (spans who (thread who cut.front ++ [])) ≤ sum_by writes_committed (spans who (thread who cut.front ++ later))
   going-none who None later past =
@@ -151,6 +163,7 @@ module _ (tables : List TableDecl) (printed timeline : List Entry) (t : Timeline
       ∙ sum_by-append writes_committed past.done (span who o.snapshot (within.replies ++ up_to_end later) ∷ spans who later) in
       omega (arith, a, b, goes, one, none)
 
+  -- One's writes committed in front are at most those committed not after the reply.
   front-less : (who : Who) → sum_by writes_committed (filter (of_who who) (transactions_of cut.front)) ≤ sum_by writes_committed (filter (of_who who) (transactions_of (not_after printed entry)))
   front-less who =
       let a = ap (sum_by writes_committed) (spans-is who cut.front ∙ ap (spans who) (sym (append-nil (thread who cut.front)))) in
@@ -158,6 +171,7 @@ module _ (tables : List TableDecl) (printed timeline : List Entry) (t : Timeline
       let less = going-none who (open_of who cut.machine) (filter kept (thread who (entry ∷ cut.rest))) (cut.shown.stands who) in
       omega (arith, a, b, less)
 
-  -- The writes of the transactions that committed in front are among those of what is not after the reply.
+  -- The writes of the transactions that committed in front are among those of what is not after the
+  -- reply.
   pub committed-in_front : writes_committed_in cut.front ≤ writes_committed_in (not_after printed entry)
   committed-in_front = by-who writes_committed writes_committed (length (transactions_of cut.front)) (transactions_of cut.front) (transactions_of (not_after printed entry)) (omega arith) front-less

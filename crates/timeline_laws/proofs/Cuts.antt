@@ -1,4 +1,5 @@
--- Each reply of a timeline stands at a place in it, between two machines; the history that is shown is that of the last.
+-- Each reply of a timeline stands at a place in it, between two machines; the history that is shown
+-- is that of the last.
 use Rattle.std.proofs.Common.{◌≡◌, ℕ, ◌+◌, List, [], ◌∷◌, ◌++◌, length, refl, sym, ap, ◌∙◌, subst, arith, append_assoc, append-nil, length-append}
 use Rattle.std.specs.List.{range_with_len}
 use Rattle.std.proofs.lemmas.List.{append_cancel_left}
@@ -123,6 +124,7 @@ module _ (tables : List TableDecl) (timeline : List Entry) (last : IsolationMach
             (ap (shown_in commit_in) (sym moved) ∙ whole_shown.commits_are ∙ ap (range_with_len 1) longer);
       }
 
+  -- Each reply behind a front has its place in the timeline.
   cuts-from : (front : List Entry) (machine : IsolationMachine) (rest : List Entry) → timeline ≡ front ++ rest → Shown front machine
       → (runs : Runs tables front machine rest) → last_of tables front machine rest runs ≡ last → Each (Cut tables timeline last) rest
   cuts-from front machine [] whole shown runs is = tt

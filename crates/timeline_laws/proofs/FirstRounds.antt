@@ -85,6 +85,7 @@ rounds-due-first script count = (
 other-line : (x : ℕ) (line : Line) (more : List Command) → (line.session == x) ≡ false → cons_option (cond (line.session == x) (Some line.command) None) more ≡ more
 other-line x line more h = ap (λ (b : Bool). cons_option (cond b (Some line.command) None) more) h
 
+-- A line of the session puts its command in front of those behind.
 own-line : (x : ℕ) (line : Line) (more : List Command) → (line.session == x) ≡ true → cons_option (cond (line.session == x) (Some line.command) None) more ≡ line.command ∷ more
 own-line x line more h = ap (λ (b : Bool). cons_option (cond b (Some line.command) None) more) h
 
@@ -107,9 +108,11 @@ above-step x line kept less false true apart from h k = other-line x line (comma
 above-step x line kept less false false apart from h k = h
 
 module _ (session : ℕ) where
+  -- A line of this session or a higher one is of no lower session.
   not-x : (x : ℕ) (line : Line) → x < session → nat_lt line.session session ≡ false → (line.session == x) ≡ false
   not-x x line low h = grind (arith, nat_tests, low, h)
 
+  -- The first lines have all commands of a lower session.
   first-below : (x count : ℕ) (lines : List Line) → x < session → commands_of x (lines_up_to session count lines) ≡ commands_of x lines
   first-below x count [] low = refl
   first-below x zero (line ∷ lines) low =
@@ -118,6 +121,7 @@ module _ (session : ℕ) where
       below-step x line lines (lines_up_to session (suc count) lines) (lines_up_to session count lines) (nat_lt line.session session) (line.session == session) (λ h k. not-x x line low h)
       (first-below x (suc count) lines low) (first-below x count lines low)
 
+  -- The first lines have no command of a higher session.
   first-above : (x count : ℕ) (lines : List Line) → session < x → commands_of x (lines_up_to session count lines) ≡ []
   first-above x count [] high = refl
   first-above x zero (line ∷ lines) high =
@@ -127,10 +131,12 @@ module _ (session : ℕ) where
       above-step x line (lines_up_to session (suc count) lines) (lines_up_to session count lines) (nat_lt line.session session) (line.session == session)
       (λ h. grind (arith, nat_tests, high, h)) (λ h. grind (arith, nat_tests, high, h)) (first-above x (suc count) lines high) (first-above x count lines high)
 
+  -- A line that is kept for a lower session adds no command of this session.
   own-none : (line : Line) (lines kept : List Line) (below : Bool) → nat_lt line.session session ≡ below → commands_of session kept ≡ [] → commands_of session (cond below (line ∷ kept) kept) ≡ []
   own-none line lines kept true is h = other-line session line (commands_of session kept) (grind (arith, nat_tests, is)) ∙ h
   own-none line lines kept false is h = h
 
+  -- One more line keeps that the first lines have so many of the session's commands.
   own-some : (count : ℕ) (line : Line) (lines kept less : List Line) (below own : Bool) → nat_lt line.session session ≡ below → (line.session == session) ≡ own
       → commands_of session kept ≡ take (suc count) (commands_of session lines) → commands_of session less ≡ take count (commands_of session lines)
       → commands_of session (first_by below own line kept less) ≡ take (suc count) (commands_of session (line ∷ lines))
@@ -142,6 +148,7 @@ module _ (session : ℕ) where
   own-some count line lines kept less false false is is_own h k =
       h ∙ ap (take (suc count)) (sym (other-line session line (commands_of session lines) is_own))
 
+  -- The first lines have so many of the session's own commands.
   first-own : (count : ℕ) (lines : List Line) → commands_of session (lines_up_to session count lines) ≡ take count (commands_of session lines)
   first-own zero [] = refl
   first-own (suc count) [] = refl
@@ -245,6 +252,7 @@ record Checked (script : Script) (rounds : List (List Line)) : Type 0 where
   lines : list_all (is_line script) (flat_map (λ round. round) rounds) ≡ true
   exports : count_by (λ line. is_export line.command) (flat_map (λ round. round) rounds) ≤ 1
 
+-- A valid script is valid with other rounds that are checked and at least one.
 valid-by : (script : Script) (rounds : List (List Line)) → is_valid script ≡ true → 0 < length rounds → Checked script rounds → is_valid (record script { rounds = rounds }) ≡ true
 valid-by script rounds valid some checked =
     let outer = and_parts (has_head script && nat_lt 0 (length script.rounds) && list_all (is_line script) (all_lines script)) (nat_le (count_by (λ line. is_export line.command) (all_lines script)) 1) valid in
@@ -252,6 +260,7 @@ valid-by script rounds valid some checked =
     let head = (and_parts (has_head script) (nat_lt 0 (length script.rounds)) second.0).0 in
     and_from _ _ (and_from _ _ (and_from _ _ head (lt-ltb 0 (length rounds) some)) checked.lines) (le-leb (count_by (λ line. is_export line.command) (flat_map (λ round. round) rounds)) 1 checked.exports)
 
+-- The rounds of a valid script are checked.
 script-checked : (script : Script) → is_valid script ≡ true → Checked script script.rounds
 script-checked script valid =
     let outer = and_parts (has_head script && nat_lt 0 (length script.rounds) && list_all (is_line script) (all_lines script)) (nat_le (count_by (λ line. is_export line.command) (all_lines script)) 1) valid in
@@ -260,10 +269,12 @@ script-checked script valid =
       exports = leb-true (count_by (λ line. is_export line.command) (all_lines script)) 1 outer.1;
     }
 
+-- The lines of rounds in two parts are those of both parts.
 lines-append : (a b : List (List Line)) → flat_map (λ round. round) (a ++ b) ≡ flat_map (λ round. round) a ++ flat_map (λ round. round) b
 lines-append [] b = refl
 lines-append (round ∷ a) b = ap (λ (lines : List Line). round ++ lines) (lines-append a b) ∙ sym (append_assoc round (flat_map (λ round. round) a) (flat_map (λ round. round) b))
 
+-- The first ones of checked rounds are checked.
 checked-first : (script : Script) (a b : List (List Line)) → Checked script (a ++ b) → Checked script a
 checked-first script a b h =
     let first = flat_map (λ (round : List Line). round) a in
@@ -275,11 +286,13 @@ checked-first script a b h =
       exports = omega (arith, few, counted);
     }
 
+-- A test that the line and all kept lines pass, they pass together.
 kept-lines : (test : Line → Bool) (line : Line) (kept less : List Line) (below own : Bool) → test line ≡ true → list_all test kept ≡ true → list_all test less ≡ true → list_all test (first_by below own line kept less) ≡ true
 kept-lines test line kept less true own is h k = and_from (test line) (list_all test kept) is h
 kept-lines test line kept less false true is h k = and_from (test line) (list_all test less) is k
 kept-lines test line kept less false false is h k = h
 
+-- A test that all lines pass is passed by their first lines.
 all-kept : (test : Line → Bool) (session count : ℕ) (lines : List Line) → list_all test lines ≡ true → list_all test (lines_up_to session count lines) ≡ true
 all-kept test session count [] h = refl
 all-kept test session zero (line ∷ lines) h =
@@ -291,11 +304,13 @@ all-kept test session (suc count) (line ∷ lines) h =
     kept-lines test line (lines_up_to session (suc count) lines) (lines_up_to session count lines) (nat_lt line.session session) (line.session == session) parts.0
     (all-kept test session (suc count) lines parts.1) (all-kept test session count lines parts.1)
 
+-- One more line keeps that a sum over the first lines is at most that over all.
 counted-lines : (f : Line → ℕ) (line : Line) (lines kept less : List Line) (below own : Bool) → sum_by f kept ≤ sum_by f lines → sum_by f less ≤ sum_by f lines → sum_by f (first_by below own line kept less) ≤ sum_by f (line ∷ lines)
 counted-lines f line lines kept less true own h k = omega (arith, h, sum_by-cons f line kept, sum_by-cons f line lines)
 counted-lines f line lines kept less false true h k = omega (arith, k, sum_by-cons f line less, sum_by-cons f line lines)
 counted-lines f line lines kept less false false h k = omega (arith, h, sum_by-cons f line lines)
 
+-- A sum over the first lines is at most that over all lines.
 count-kept : (f : Line → ℕ) (session count : ℕ) (lines : List Line) → sum_by f (lines_up_to session count lines) ≤ sum_by f lines
 count-kept f session count [] = omega arith
 count-kept f session zero (line ∷ lines) =
@@ -321,17 +336,20 @@ checked-last script a lines kept h all fewer =
       exports = omega (arith, few, old, new, fewer);
     }
 
+-- The lines of the last of checked rounds are valid.
 last-lines : (script : Script) (a : List (List Line)) (lines : List Line) → Checked script (a ++ lines ∷ []) → list_all (is_line script) lines ≡ true
 last-lines script a lines h =
     (and_parts (list_all (is_line script) (flat_map (λ (round : List Line). round) a)) (list_all (is_line script) lines)
     (sym (list_all-append (is_line script) (flat_map (λ (round : List Line). round) a) lines)
     ∙ ap (list_all (is_line script)) (sym (lines-append a (lines ∷ []) ∙ ap (λ (ls : List Line). flat_map (λ (round : List Line). round) a ++ ls) (append-nil lines))) ∙ h.lines)).1
 
+-- Taking at least one of a list that has one leaves one.
 some-rounds : {X : Type 0} (n : ℕ) (xs : List X) → 0 < n → 0 < length xs → 0 < length (take n xs)
 some-rounds zero xs h k = absurd (omega (arith, h))
 some-rounds (suc n) [] h k = absurd (omega (arith, k))
 some-rounds (suc n) (x ∷ xs) h k = omega arith
 
+-- A valid script has at least one round.
 valid-some : (script : Script) → is_valid script ≡ true → 0 < length script.rounds
 valid-some script valid =
     let outer = and_parts (has_head script && nat_lt 0 (length script.rounds) && list_all (is_line script) (all_lines script)) (nat_le (count_by (λ line. is_export line.command) (all_lines script)) 1) valid in

@@ -1,4 +1,5 @@
--- The commit numbers and the history that printed replies show are those of the timeline's last machine.
+-- The commit numbers and the history that printed replies show are those of the timeline's last
+-- machine.
 use Rattle.std.proofs.Common.{◌≡◌, ℕ, ◌+◌, Bool, true, false, cond, eqb, nat_lt, List, [], ◌∷◌, ◌++◌, map, length, Option, None, Some, refl, sym, ap, ◌∙◌, subst, arith, append_assoc, append-nil}
 use Rattle.std.specs.Prelude.{option_and_then, is_some}
 use Rattle.std.specs.Option.{option_map_or}
@@ -52,6 +53,7 @@ pub find-each : (P : Entry → Type 0) (p : Entry → Bool) (entries : List Entr
 find-each P p [] x h e = absurd (let never : ⊥ = cc in never)
 find-each P p (entry ∷ entries) x h e = find-each-step P (p entry) entry x (find p entries) h.0 (find-each P p entries x h.1) e
 
+-- Where none is found, the first fails and none is found behind it.
 find-fails-step : (b : Bool) (entry : Entry) (later : Option Entry) → cond b (Some entry) later ≡ None → (b ≡ false) × (later ≡ None)
 find-fails-step true entry later e = absurd (let never : ⊥ = cc in never)
 find-fails-step false entry later e = (refl, e)
@@ -61,6 +63,7 @@ pub find-fails : (p : Entry → Bool) (entries : List Entry) → find p entries 
 find-fails p [] e = tt
 find-fails p (entry ∷ entries) e = let parts = find-fails-step (p entry) entry (find p entries) e in (parts.0, find-fails p entries parts.1)
 
+-- What is found first or behind passes, where what is found behind does.
 find-passes-step : (p : Entry → Bool) (b : Bool) (entry x : Entry) (later : Option Entry) → p entry ≡ b → (later ≡ Some x → p x ≡ true) → cond b (Some entry) later ≡ Some x → p x ≡ true
 find-passes-step p true entry x later is rest e = let f : entry ≡ x = cc in subst (λ (y : Entry). p y ≡ true) f is
 find-passes-step p false entry x later is rest e = rest e
@@ -75,6 +78,7 @@ not-below : (k : ℕ) (o : Option ℕ) → option_map_or (λ c. nat_lt c k) o tr
 not-below k None h = refl
 not-below k (Some c) h = let less : nat_lt c k ≡ true = h in let e : eqb c k ≡ false = grind (arith, nat_tests) in e
 
+-- A shown number that is above this one is not this one.
 not-above : (k : ℕ) (o : Option ℕ) → option_map_or (λ c. nat_lt k c) o true ≡ true → option_map_or (λ c. eqb c k) o false ≡ false
 not-above k None h = refl
 not-above k (Some c) h = let less : nat_lt k c ≡ true = h in let e : eqb c k ≡ false = grind (arith, nat_tests) in e
@@ -89,6 +93,7 @@ pub above-other : (k : ℕ) (entries : List Entry) → list_all (λ c. nat_lt k 
 above-other k entries h =
     Each-weaker (λ entry. shows_only (λ c. nat_lt k c) commit_in entry ≡ true) (λ entry. commits_as k entry ≡ false) (λ entry. not-above k (commit_in entry.reply.said)) entries (shown-each (λ c. nat_lt k c) commit_in entries h)
 
+-- A reply that commits as a number and does not is any reply.
 only-this : (k : ℕ) (entry other : Entry) → commits_as k other ≡ false → commits_as k other ≡ true → other ≡ entry
 only-this k entry other h e = absurd (let f : false ≡ true = sym h ∙ e in let never : ⊥ = cc in never)
 
@@ -132,10 +137,12 @@ module _ (tables : List TableDecl) (printed timeline : List Entry) (t : Timeline
         Each-weaker (λ other. commits_as k other ≡ false) (λ other. commits_as k other ≡ true → other ≡ entry) (only-this k entry) cut.rest (above-other k cut.rest high),
       ))
 
+  -- A reply that tells a commit with a number commits as that number.
   its-number : (entry : Entry) (count : ℕ) → entry.reply.said ≡ said.Committed (Some (count + 1)) → commits_as (count + 1) entry ≡ true
   its-number entry count is =
       ap (λ (s : Said). option_map_or (λ shown. eqb shown (count + 1)) (commit_in s) false) is ∙ (let e : eqb (count + 1) (count + 1) ≡ true = grind (arith, nat_tests) in e)
 
+  -- Whatever line is found for the commit's number, it is the reply.
   line-found : (entry : Entry) (cut : Cut tables timeline last entry) (c : Commits entry.reply.who entry.reply.said cut.machine cut.after) (found : Option Entry)
       → commit_line printed (length cut.machine.history + 1) ≡ found → commit_line printed (length cut.machine.history + 1) ≡ Some entry
   line-found entry cut c None is =
@@ -159,6 +166,7 @@ module _ (tables : List TableDecl) (printed timeline : List Entry) (t : Timeline
       → Stands who past (open_of who machine) → Within who past open_one
   within-own who session machine past open_one is at h = subst (Stands who past) (ap (λ (w : Who). open_of w machine) is ∙ at) h
 
+  -- Up to an end that writes nothing, a transaction writes what it wrote before.
   writes-ended : (replies : List Entry) (entry : Entry) (rest : List Entry) → is_end entry.reply.said ≡ true → accepted_write entry ≡ None → writes_in (replies ++ up_to_end (entry ∷ rest)) ≡ writes_in replies
   writes-ended replies entry rest ended none =
       ap (λ (b : Bool). writes_in (replies ++ cond b (entry ∷ []) (entry ∷ up_to_end rest))) ended ∙ (rw (filter_map-append accepted_write replies (entry ∷ []), none, append-nil (filter_map accepted_write replies)) refl)
@@ -178,6 +186,7 @@ module _ (tables : List TableDecl) (printed timeline : List Entry) (t : Timeline
   abbrev shows_all : History → Type 0
   shows_all history = map (committed_writes printed (transactions_of printed)) (range_with_len 1 (length history)) ≡ history
 
+  -- One more reply keeps that the write sets shown are the machine's history.
   shows-step : (entry : Entry) → Only printed entry → (cut : Cut tables timeline last entry) → shows_all cut.machine.history
       → Change entry.reply.who entry.command entry.reply.said cut.machine cut.after → shows_all cut.after.history
   shows-step entry only cut h (quiet q) = subst shows_all (ap (λ (m : IsolationMachine). m.history) (sym q.same)) h
@@ -192,6 +201,7 @@ module _ (tables : List TableDecl) (printed timeline : List Entry) (t : Timeline
       ∙ ap (λ (xs : History). xs ++ committed_writes printed (transactions_of printed) (length cut.machine.history + 1) ∷ []) h
       ∙ ap (λ (own : WriteSet). cut.machine.history ++ own ∷ []) (committed-shown entry only cut c))
 
+  -- Behind a front whose history is shown, the last machine's history is shown.
   history-from : (front : List Entry) (machine : IsolationMachine) (rest : List Entry) → timeline ≡ front ++ rest → Shown front machine
       → (runs : Runs tables front machine rest) → last_of tables front machine rest runs ≡ last → Each (Only printed) rest → shows_all machine.history → shows_all last.history
   history-from front machine [] whole shown runs is only h = subst shows_all (ap (λ (m : IsolationMachine). m.history) is) h

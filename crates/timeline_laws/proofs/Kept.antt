@@ -1,4 +1,5 @@
--- The machine keeps rows of their tables where commands write such rows, and so finds and lists such rows.
+-- The machine keeps rows of their tables where commands write such rows, and so finds and lists
+-- such rows.
 use Rattle.std.proofs.Common.{◌≡◌, ℕ, Bool, true, false, cond, List, [], ◌∷◌, ◌++◌, Option, None, Some, ℤ, refl, sym, ap, ◌∙◌, subst}
 use Rattle.std.specs.Prelude.{◌==◌, slice_get, filter, map, find}
 use Rattle.std.specs.Cmp.{int_eq_equiv}
@@ -44,10 +45,12 @@ module _ (tables : List TableDecl) where
     pub history : AllWritten tables machine.history
     pub own : EachOwn machine.open_transactions
 
+  -- Two lists of transactions whose writes fit make one such list.
   own-append : (a b : List Transaction) → EachOwn a → EachOwn b → EachOwn (a ++ b)
   own-append [] b h k = k
   own-append (t ∷ a) b h k = (h.0, own-append a b h.1 k)
 
+  -- Of transactions whose writes fit, the writes of those that are kept fit.
   own-filter : (p : Transaction → Bool) (ts : List Transaction) → EachOwn ts → EachOwn (filter p ts)
   own-filter p [] h = tt
   own-filter p (t ∷ ts) h = by (own-filter p ts h.1) (p t)
@@ -56,6 +59,7 @@ module _ (tables : List TableDecl) where
       by again true = (h.0, again)
       by again false = again
 
+  -- Entering a write that fits into a session's transaction keeps that all writes fit.
   own-entered : (session : ℕ) (place : Place) (change : Option (List Cell)) → MayBeWritten tables place change → (ts : List Transaction) → EachOwn ts
       → EachOwn (map (λ t. cond (t.session == session) (entered place change t) t) ts)
   own-entered session place change may [] h = tt
@@ -65,6 +69,7 @@ module _ (tables : List TableDecl) where
       by true = insert-written tables place change t.own may h.0
       by false = h.0
 
+  -- A transaction that is found among those whose writes fit has such writes.
   own-found : (p : Transaction → Bool) (ts : List Transaction) (t : Transaction) → EachOwn ts → find p ts ≡ Some t → Written tables t.own
   own-found p [] t h is = absurd (let never : ⊥ = cc in never)
   own-found p (first ∷ ts) t h is = by (own-found p ts t h.1) (p first) is
@@ -75,16 +80,20 @@ module _ (tables : List TableDecl) where
 
   -- ---- what commands write
 
+  -- A row that fits the table that is found fits its columns.
   table-fits : (table : ℕ) (row : List Cell) (found : Option TableDecl) → option_map_or (λ t. fits t.schema row) found false ≡ true → fits (option_map_or (λ decl. decl.schema) found []) row ≡ true
   table-fits table row None h = absurd (let never : ⊥ = cc in never)
   table-fits table row (Some decl) h = h
 
+  -- A row that fits its table may be written at its place.
   row-may : (table : ℕ) (row : List Cell) → fits_table tables table row ≡ true → MayBeWritten tables (place_of table row) (Some row)
   row-may table row h = record { fit = table-fits table row (slice_get tables table) h; key = refl }
 
+  -- A write at a place, as one that a command makes.
   abbrev written : Place → Option (List Cell) → Option (Place × Option (List Cell))
   written place change = Some (place, change)
 
+  -- Of two equal writes, one may be written where the other may.
   chosen-write : (place : Place) (change : Option (List Cell)) (own_place : Place) (own_change : Option (List Cell)) → written own_place own_change ≡ written place change → MayBeWritten tables own_place own_change
       → MayBeWritten tables place change
   chosen-write place change own_place own_change is may =
@@ -92,12 +101,14 @@ module _ (tables : List TableDecl) where
       let row : own_change ≡ change = ap (λ (w : Option (Place × Option (List Cell))). option_map_or (λ x. x.1) w own_change) is in
       subst (λ (p : Place). MayBeWritten tables p change) at (subst (MayBeWritten tables own_place) row may)
 
+  -- What a valid command writes may be written at its place.
   may-write : (asked : Command) (place : Place) (change : Option (List Cell)) → is_command tables asked ≡ true → write_of asked ≡ written place change → MayBeWritten tables place change
   may-write (command.Insert table row) place change valid is = chosen-write place change (place_of table row) (Some row) is (row-may table row valid)
   may-write (command.Update table row) place change valid is = chosen-write place change (place_of table row) (Some row) is (row-may table row valid)
   may-write (command.Delete table key) place change valid is = chosen-write place change (place_at table key) None is tt
   may-write _ place change valid is = absurd (let never : ⊥ = cc in never)
 
+  -- A reply to a valid command keeps that the machine's writes fit their tables.
   kept-change : (who : Who) (asked : Command) (told : Said) (machine after : IsolationMachine) → is_command tables asked ≡ true → Kept machine → Change who asked told machine after → Kept after
   kept-change who asked told machine after valid k (quiet q) = subst Kept (sym q.same) k
   kept-change who asked told machine after valid k (opens o) = subst Kept (sym o.is) (record { history = k.history; own = own-append machine.open_transactions _ k.own (tt, tt) })
@@ -110,10 +121,12 @@ module _ (tables : List TableDecl) where
 
   -- ---- what commands find
 
+  -- The rows that an open transaction sees stand at their places.
   seen-placed : (machine : IsolationMachine) (session : ℕ) (t : Transaction) → Kept machine → transaction_of session machine ≡ Some t → Placed tables (seen_rows machine t)
   seen-placed machine session t k at =
       laid-placed tables (state_at machine.history t.snapshot) t.own (own-found (λ u. u.session == session) machine.open_transactions t k.own at) (state-placed tables machine.history t.snapshot k.history)
 
+  -- What is found at a key among placed rows fits the table and has the key.
   got-fits : (table : ℕ) (key : ℤ) (rows : State) → Placed tables rows → (found : Option (List Cell)) → at_place rows (place_at table key) ≡ found → GotFits (columns_at tables table) key (said_of (answer.Found found))
   got-fits table key rows h None is = tt
   got-fits table key rows h (Some row) is =
@@ -131,16 +144,19 @@ module _ (tables : List TableDecl) where
   outcome-fits asked act machine session own told after is fit f g m Full tells allows = subst (RowsFit tables asked) (sym tells) g
   outcome-fits asked act machine session own told after is fit f g m Memory tells allows = subst (RowsFit tables asked) (sym tells) m
 
+  -- The machine's answer to a get fits the table and the key.
   get-fits : (machine : IsolationMachine) (session table : ℕ) (key : ℤ) → Kept machine → (found : Option Transaction) → transaction_of session machine ≡ found
       → RowsFit tables (command.Get table key) (said_of (step_of machine (asks session (act.Get table key)) found).0)
   get-fits machine session table key k None at = tt
   get-fits machine session table key k (Some t) at = got-fits table key (seen_rows machine t) (seen-placed machine session t k at) (at_place (seen_rows machine t) (place_at table key)) refl
 
+  -- The machine's answer to a scan has rows that fit the table.
   scan-fits : (machine : IsolationMachine) (session table : ℕ) → Kept machine → (found : Option Transaction) → transaction_of session machine ≡ found
       → RowsFit tables (command.Scan table) (said_of (step_of machine (asks session (act.Scan table)) found).0)
   scan-fits machine session table k None at = tt
   scan-fits machine session table k (Some t) at = contents-rise tables table (seen_rows machine t) (seen-placed machine session t k at)
 
+  -- A reply that comes about tells rows that fit what its command asks.
   takes-fits : (front : List Entry) (machine : IsolationMachine) (entry : Entry) (after : IsolationMachine) (who : Who) (asked : Command) → entry.command ≡ asked → Kept machine
       → TakesAs tables front machine entry after (request_of who asked) → RowsFit tables asked entry.reply.said
   takes-fits front machine entry after (Session session) (command.Get table key) is k h =
@@ -159,6 +175,7 @@ module _ (tables : List TableDecl) where
 
   -- ---- along a timeline
 
+  -- Replies that come about one behind the other tell rows that fit their commands.
   rows-fit : (front : List Entry) (machine : IsolationMachine) (rest : List Entry) → Shown front machine → Kept machine → Each (λ entry. is_command tables entry.command ≡ true) rest
       → Runs tables front machine rest → Each (λ entry. RowsFit tables entry.command entry.reply.said) rest
   rows-fit front machine [] shown k valid runs = tt

@@ -48,6 +48,7 @@ lines-of (line ∷ lines) rest h =
 pub lines-alone : (lines : List (List ℕ)) → AreUnbroken lines → lines_of (lines_text lines) ≡ ended lines
 lines-alone lines h = ap lines_of (sym (append-nil (lines_text lines))) ∙ lines-of lines [] h ∙ append-nil (ended lines)
 
+-- Lines with more lines behind them start with themselves.
 starts-itself : (lines rest : List (List ℕ)) → starts_with bytes_eq (lines ++ rest) lines ≡ true
 starts-itself [] rest = refl
 starts-itself (line ∷ lines) rest = rw ((bytes_eq-Decides line line).1 refl) (starts-itself lines rest)
@@ -100,6 +101,7 @@ words-in-line tables reply h =
 abbrev pub front_of : ℕ → Who → ℕ → List ℕ
 front_of round who index = decimal round ++ 32 ∷ (who_text who ++ 32 ∷ (decimal index ++ 32 ∷ []))
 
+-- Three words before a text stand in front of it, and the line's end behind it.
 parted : (a b c words : List ℕ) → (a ++ 32 ∷ (b ++ 32 ∷ (c ++ 32 ∷ words))) ++ 10 ∷ [] ≡ (a ++ 32 ∷ (b ++ 32 ∷ (c ++ 32 ∷ []))) ++ (words ++ 10 ∷ [])
 parted a b c words = simp append_assoc
 
@@ -111,11 +113,13 @@ line-is tables reply h =
     ∙ parted (decimal reply.round) (who_text reply.who) (decimal reply.index) (spaced (h.first ∷ h.others))
     ∙ ap (λ (words : List (List ℕ)). front_of reply.round reply.who reply.index ++ (spaced words ++ 10 ∷ [])) (sym h.words)
 
+-- A conjunction whose last part holds is its first part.
 only : (b : Bool) → (b && true) ≡ b
 only true = refl
 only false = refl
 
--- a reply of one line, with the place of another, is found at the front of that one's lines where they say the same
+-- a reply of one line, with the place of another, is found at the front of that one's lines where
+-- they say the same
 other-begins : (tables : List TableDecl) (number : ℕ) (asked : Command) (round index : ℕ) (who : Who) (other told : Said) (behind : List (List ℕ)) → IsSaid tables other → lines_behind other ≡ [] → IsSaid tables told
     → begins_with tables ((first_line tables (record { round = round; who = who; index = index; said = told }) ++ 10 ∷ []) ∷ behind)
     (record { number = number; command = asked; reply = record { round = round; who = who; index = index; said = other } })
@@ -131,11 +135,13 @@ other-begins tables number asked round index who other told behind is_other one 
     ∙ ap (bytes_eq (front_of round who index ++ tail_of tables other)) (line-is tables (record { round = round; who = who; index = index; said = told }) is_told)
     ∙ equal_front (front_of round who index) (tail_of tables other) (tail_of tables told)
 
--- The first of these that may be said which is told: each before it is a line of its own, and another one.
+-- The first of these that may be said which is told: each before it is a line of its own, and
+-- another one.
 abbrev pub Picks : List TableDecl → Said → List Said → Type 0
 Picks tables told [] = ⊥
 Picks tables told (other ∷ others) = (other ≡ told) ⊎ (IsSaid tables other × (lines_behind other ≡ []) × (bytes_eq (tail_of tables other) (tail_of tables told) ≡ false) × Picks tables told others)
 
+-- A reply stands at the front of its own lines, whatever follows.
 own-begins : (tables : List TableDecl) (entry : Entry) (rest : List (List ℕ)) → IsSaid tables entry.reply.said
     → begins_with tables (ended (reply_lines tables entry.reply) ++ rest) entry ≡ true
 own-begins tables entry rest h =
@@ -143,12 +149,15 @@ own-begins tables entry rest h =
     ∙ starts-itself (ended (reply_lines tables entry.reply)) rest
 
 module _ (tables : List TableDecl) (earlier : List Entry) (due : Due) (told : Said) (rest : List (List ℕ)) (h : IsSaid tables told) where
+  -- The reply that tells this where it is due.
   abbrev the_entry : Entry
   the_entry = entry_behind tables earlier due told
 
+  -- The lines of the reply, and those that follow.
   abbrev the_lines : List (List ℕ)
   the_lines = ended (reply_lines tables (the_entry).reply) ++ rest
 
+  -- The reply that is picked is the one found at the front of its lines.
   picked : (others : List Said) → Picks tables told others → find (begins_with tables the_lines) (map (entry_behind tables earlier due) others) ≡ Some the_entry
   picked [] picks = absurd picks
   picked (other ∷ others) picks = elim picks [
@@ -174,6 +183,7 @@ pub record IsRead (tables : List TableDecl) (within : Bool) (asked : Command) (t
 abbrev pub is_said : Due → Said → Bool
 is_said due told = not (is_worker due.who && is_silent told)
 
+-- One more that is told otherwise, kept or not, leaves what is picked.
 picks-step : (tables : List TableDecl) (keep : Said → Bool) (told other : Said) (kept : List Said) (b : Bool) → IsSaid tables other → lines_behind other ≡ [] → bytes_eq (tail_of tables other) (tail_of tables told) ≡ false
     → Picks tables told kept → Picks tables told (cond b (other ∷ kept) kept)
 picks-step tables keep told other kept true said one apart h = inr (said, one, apart, h)

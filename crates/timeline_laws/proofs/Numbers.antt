@@ -38,12 +38,13 @@ use Rattle.timeline_laws.proofs.Spans.{span}
 use Rattle.timeline_laws.proofs.Unique.{Only}
 use Rattle.timeline_laws.proofs.Belongs.{found-open}
 use Rattle.timeline_laws.proofs.Steps.{Change, quiet, opens, writes, ends, commits, Ends, Commits}
-use Rattle.timeline_laws.proofs.Walk.{Within}
+use Rattle.timeline_laws.proofs.Walk.{Within, ended-unopened}
 use Rattle.timeline_laws.proofs.Cuts.{Cut}
 use Rattle.timeline_laws.proofs.Histories.{run, last, at-cut, commits-counted, within-own, below-other, above-other}
 
 -- ---- what a transaction with an empty write set wrote
 
+-- A write set with one more write is not empty.
 put-there : (own : WriteSet) (place : Place) (change : Option (List Cell)) → insert_entry place_cmp own place change ≡ [] → ⊥
 put-there own place change h =
     let e : cond (is_eq (place_cmp place place)) (Some change) (lookup (is_at (place_cmp place)) own) ≡ None =
@@ -52,35 +53,43 @@ put-there own place change h =
     sym (ap (λ (o : Ordering). cond (is_eq o) (Some change) (lookup (is_at (place_cmp place)) own)) (tied_itself place_cmp-total place)) ∙ e in
     (let never : ⊥ = cc in never)
 
+-- A write set with one more write entered.
 abbrev with_written : WriteSet → Place × Option (List Cell) → WriteSet
 with_written own write = insert_entry place_cmp own write.0 write.1
 
+-- A write set that is empty behind some writes was empty before them.
 from-none : (own : WriteSet) (all : List (Place × Option (List Cell))) → fold with_written own all ≡ [] → own ≡ []
 from-none own [] h = h
 from-none own (write ∷ later) h = absurd (put-there own write.0 write.1 (from-none (with_written own write) later h))
 
+-- Where writes leave an empty write set, there are none.
 none-written : (all : List (Place × Option (List Cell))) → fold with_written [] all ≡ [] → all ≡ []
 none-written [] h = refl
 none-written (write ∷ later) h = absurd (put-there [] write.0 write.1 (from-none (with_written [] write) later h))
 
+-- Where one or none before others gives nothing, there is none, and no others.
 nothing-step : (o : Option (Place × Option (List Cell))) (others : List (Place × Option (List Cell))) → cons_option o others ≡ [] → (is_some o ≡ false) × (others ≡ [])
 nothing-step None others h = (refl, h)
 nothing-step (Some x) others h = absurd (let never : ⊥ = cc in never)
 
+-- Where the list of accepted writes is empty, no reply is an accepted write.
 nothing-any : (entries : List Entry) → filter_map accepted_write entries ≡ [] → list_any (λ entry. is_some (accepted_write entry)) entries ≡ false
 nothing-any [] h = refl
 nothing-any (entry ∷ entries) h =
     let parts = nothing-step (accepted_write entry) (filter_map accepted_write entries) h in
     rw (parts.0) (nothing-any entries parts.1)
 
+-- Where neither one nor any other is there, the list of them is empty.
 unwritten-step : (o : Option (Place × Option (List Cell))) (rest : Bool) (others : List (Place × Option (List Cell))) → (is_some o || rest) ≡ false → (rest ≡ false → others ≡ []) → cons_option o others ≡ []
 unwritten-step None rest others h k = k h
 unwritten-step (Some x) rest others h k = absurd (let never : ⊥ = cc in never)
 
+-- Where no reply is an accepted write, the list of accepted writes is empty.
 unwritten : (entries : List Entry) → list_any (λ entry. is_some (accepted_write entry)) entries ≡ false → filter_map accepted_write entries ≡ []
 unwritten [] h = refl
 unwritten (entry ∷ entries) h = unwritten-step (accepted_write entry) (list_any (λ other. is_some (accepted_write other)) entries) (filter_map accepted_write entries) h (unwritten entries)
 
+-- Replies whose write set is not empty have an accepted write among them.
 wrote-by : (entries : List Entry) (b : Bool) → list_any (λ entry. is_some (accepted_write entry)) entries ≡ b → (first : Place × Option (List Cell)) (rest : WriteSet) → writes_in entries ≡ first ∷ rest
     → list_any (λ entry. is_some (accepted_write entry)) entries ≡ true
 wrote-by entries true is first rest h = is
@@ -105,9 +114,11 @@ count-one p front entry rest h here k =
 
 module _ (tables : List TableDecl) (printed timeline : List Entry) (t : Timeline tables printed timeline) (entry : Entry) (only : Only printed entry)
     (cut : Cut tables timeline (last tables printed timeline t) entry) where
+  -- The run that is read from the printed replies.
   abbrev the_run : Run
   the_run = run tables printed timeline t
 
+  -- The session or worker that the reply is to.
   abbrev its : Who
   its = entry.reply.who
 
@@ -133,22 +144,26 @@ module _ (tables : List TableDecl) (printed timeline : List Entry) (t : Timeline
             ∙ (rw none (or-false (list_any (λ other. is_some (accepted_write other)) ended.0.replies))),
       )
 
+  -- A reply that ends no transaction keeps the rule of commit numbers.
   unended-holds : (told : Said) → is_end told ≡ false → commit_holds the_run entry told ≡ true
   unended-holds (said.Committed number) h = absurd (let never : ⊥ = cc in never)
   unended-holds _ h = refl
 
+  -- An abort or a commit of nothing keeps the rule of commit numbers.
   empty-holds : (e : Ends its entry.reply.said cut.machine cut.after) → (entry.reply.said ≡ said.Aborted) ⊎ ((entry.reply.said ≡ said.Committed None) × (e.t.own ≡ [])) → commit_holds the_run entry entry.reply.said ≡ true
   empty-holds e (inl is) = ap (commit_holds the_run entry) is
   empty-holds e (inr is) =
       let written = written-is e.session e.t e.who_is e.at (ap is_end is.0) (rw is.0 refl) in
       ap (commit_holds the_run entry) is.0 ∙ ap not (written.2 ∙ nothing-any written.0 (none-written (filter_map accepted_write written.0) (written.1 ∙ is.1)))
 
+  -- Commits before the reply have numbers below each that is above those in front.
   commits-before : (k : ℕ) → length cut.machine.history < k → list_all (λ earlier. nat_lt earlier k) (shown_in commit_in (before printed entry)) ≡ true
   commits-before k low =
       let here : list_all (λ x. nat_lt x k) (shown_in commit_in cut.front) ≡ true = rw cut.shown.commits_are (all-below k 1 (length cut.machine.history) (omega (arith, low))) in
       shown-filter (λ x. nat_lt x k) commit_in (λ other. is_before other entry) printed
       (before-each printed timeline cut.front entry cut.rest t.threads cut.whole t.order (λ other. shows_only (λ x. nat_lt x k) commit_in other ≡ true) (shown-each (λ x. nat_lt x k) commit_in cut.front here))
 
+  -- A commit of some writes keeps the rule of commit numbers.
   full-holds : (c : Commits its entry.reply.said cut.machine cut.after) → commit_holds the_run entry entry.reply.said ≡ true
   full-holds c =
       let k = length cut.machine.history + 1 in
@@ -176,14 +191,12 @@ module _ (tables : List TableDecl) (printed timeline : List Entry) (t : Timeline
   commit-numbers (ends e) = empty-holds e e.said_is
   commit-numbers (commits c) = full-holds c
 
+  -- A reply that shows no snapshot keeps the rule of snapshot numbers.
   unopened-holds : (told : Said) → snapshot_in told ≡ None → snapshot_holds the_run entry told ≡ true
   unopened-holds (said.At number) h = absurd (let never : ⊥ = cc in never)
   unopened-holds _ h = refl
 
-  end-unopened : (told : Said) (own : WriteSet) → (told ≡ said.Aborted) ⊎ ((told ≡ said.Committed None) × (own ≡ [])) → snapshot_in told ≡ None
-  end-unopened told own (inl is) = ap snapshot_in is
-  end-unopened told own (inr is) = ap snapshot_in is.0
-
+  -- A snapshot of as many commits as there are keeps the rule of snapshot numbers.
   opening-holds : (number : ℕ) → number ≡ length cut.machine.history → cut.after.history ≡ cut.machine.history → snapshot_holds the_run entry (said.At number) ≡ true
   opening-holds number is same =
       let all : length (last tables printed timeline t).history ≡ length cut.machine.history + length cut.grows.more = ap length cut.grows.is ∙ length-append cut.machine.history cut.grows.more in
@@ -203,5 +216,5 @@ module _ (tables : List TableDecl) (printed timeline : List Entry) (t : Timeline
   snapshot-numbers (opens o) =
       ap (snapshot_holds the_run entry) o.said_is ∙ opening-holds (length cut.machine.history) refl (ap (λ (m : IsolationMachine). m.history) o.is)
   snapshot-numbers (writes w) = ap (snapshot_holds the_run entry) w.said_is
-  snapshot-numbers (ends e) = unopened-holds entry.reply.said (end-unopened entry.reply.said e.t.own e.said_is)
+  snapshot-numbers (ends e) = unopened-holds entry.reply.said (ended-unopened entry.reply.said e.t.own e.said_is)
   snapshot-numbers (commits c) = ap (snapshot_holds the_run entry) c.said_is

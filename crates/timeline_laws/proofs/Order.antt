@@ -1,5 +1,5 @@
--- The order of a timeline against that of the lines: what is before a reply came about in front of it, and what came
--- about in front of it is not after it.
+-- The order of a timeline against that of the lines: what is before a reply came about in front of
+-- it, and what came about in front of it is not after it.
 use Rattle.std.proofs.Common.{◌≡◌, ℕ, Bool, true, false, cond, ◌&&◌, eqb, nat_lt, List, [], ◌∷◌, ◌++◌, Option, None, Some, refl, sym, ap, ◌∙◌, subst, arith}
 use Rattle.std.specs.List.{filter, list_all, cons_option}
 use Rattle.std.specs.Option.{option_map_or}
@@ -55,10 +55,12 @@ head-kept : (P : Entry → Type 0) (kept : Bool) (entry : Entry) (entries : List
 head-kept P true entry entries is h = h.0
 head-kept P false entry entries is h = absurd (let never : ⊥ = cc in never)
 
+-- What holds of each, the first kept or not, holds of each behind it.
 tail-kept : (P : Entry → Type 0) (kept : Bool) (entry : Entry) (entries : List Entry) → Each P (cond kept (entry ∷ entries) entries) → Each P entries
 tail-kept P true entry entries h = h.1
 tail-kept P false entry entries h = h
 
+-- What holds of the first and of the others holds with it kept or not.
 put-kept : (P : Entry → Type 0) (kept : Bool) (entry : Entry) (entries : List Entry) → P entry → Each P entries → Each P (cond kept (entry ∷ entries) entries)
 put-kept P true entry entries h k = (h, k)
 put-kept P false entry entries h k = k
@@ -103,10 +105,12 @@ before-itself entry =
     let index : nat_lt entry.reply.index entry.reply.index ≡ false = grind (arith, nat_tests) in
     rw (round, index) (and-false (eqb entry.reply.round entry.reply.round && is_same entry.reply.who entry.reply.who))
 
+-- From a test that fails and passes anything follows.
 false-true : {P : Type 0} (b : Bool) → b ≡ false → b ≡ true → P
 false-true b h k = absurd (let never : ⊥ = cc in never)
 
--- A fact of the replies in front holds of those before the reply; one of those behind holds of those after it.
+-- A fact of the replies in front holds of those before the reply; one of those behind holds of
+-- those after it.
 module _ (printed timeline front : List Entry) (entry : Entry) (rest : List Entry) (threads : (who : Who) → thread who printed ≡ thread who timeline)
     (whole : timeline ≡ front ++ entry ∷ rest) (order : InOrder timeline) where
   in_order : InOrder (front ++ entry ∷ rest)
@@ -154,10 +158,12 @@ each-all p (entry ∷ entries) h = both (p entry) (list_all p entries) h.0 (each
 abbrev pub shows_only : (ℕ → Bool) → (Said → Option ℕ) → Entry → Bool
 shows_only p shown entry = option_map_or p (shown entry.reply.said) true
 
+-- Where all that are shown pass, the first one does, if it is there, and the others.
 shown-head : (p : ℕ → Bool) (o : Option ℕ) (others : List ℕ) → list_all p (cons_option o others) ≡ true → (option_map_or p o true ≡ true) × (list_all p others ≡ true)
 shown-head p None others h = (refl, h)
 shown-head p (Some n) others h = (both-left (p n) (list_all p others) h, both-right (p n) (list_all p others) h)
 
+-- One or none that passes, in front of others that pass, passes with them.
 shown-put : (p : ℕ → Bool) (o : Option ℕ) (others : List ℕ) → option_map_or p o true ≡ true → list_all p others ≡ true → list_all p (cons_option o others) ≡ true
 shown-put p None others h k = k
 shown-put p (Some n) others h k = both (p n) (list_all p others) h k
@@ -169,6 +175,7 @@ shown-each p shown (entry ∷ entries) h =
     let parts = shown-head p (shown entry.reply.said) (shown_in shown entries) h in
     (parts.0, shown-each p shown entries parts.1)
 
+-- One more reply whose number passes where it is chosen keeps that all pass.
 shown-filter-step : (p : ℕ → Bool) (shown : Said → Option ℕ) (choice : Bool) (entry : Entry) (entries : List Entry) → (choice ≡ true → shows_only p shown entry ≡ true)
     → list_all p (shown_in shown entries) ≡ true → list_all p (shown_in shown (cond choice (entry ∷ entries) entries)) ≡ true
 shown-filter-step p shown true entry entries h k = shown-put p (shown entry.reply.said) (shown_in shown entries) (h refl) k

@@ -7,7 +7,7 @@ use Rattle.std.specs.FinMap.{nat_cmp-IsAntisymmetric, int_cmp-IsAntisymmetric}
 use Rattle.std.specs.Map.{remove_entry}
 use Rattle.std.specs.List.{cons_option}
 use Rattle.std.specs.Option.{option_map_or}
-use Rattle.std.specs.Ordering.{int_cmp, nat_cmp, is_eq, match_ordering, ordering_then, ordering_reverse}
+use Rattle.std.specs.Ordering.{int_cmp, nat_cmp, match_ordering, ordering_then, ordering_reverse}
 use Rattle.std.specs.declared.cmp.Ordering.{Ordering}
 use Rattle.std.specs.declared.cmp.Ordering.TheVariants.{Less, Equal, Greater}
 use Rattle.std.proofs.lemmas.Bool.{eqb-true}
@@ -18,10 +18,12 @@ use Rattle.isolation_spec.specs.Contents.{place_cmp, is_place, at_place, State, 
 use Rattle.isolation_spec.specs.declared.place.Place.{Place}
 use Rattle.isolation_laws.proofs.Rows.{place_cmp-total}
 use Rattle.outcome_spec.specs.Tables.{columns_at}
+use Rattle.timeline_laws.proofs.Writers.{is-equal}
 use Rattle.timeline_laws.proofs.Stated.{RowsRise}
 
 -- ---- places
 
+-- Where two comparisons one behind the other give equal, each of them does.
 then-equal : (a b : Ordering) → ordering_then a b ≡ Equal → (a ≡ Equal) × (b ≡ Equal)
 then-equal Less b h = absurd (let never : ⊥ = cc in never)
 then-equal Equal b h = (refl, h)
@@ -34,11 +36,6 @@ one-place a b h =
     let table : a.table ≡ b.table = nat_cmp-IsAntisymmetric a.table b.table parts.0 in
     let key : a.key ≡ b.key = int_cmp-IsAntisymmetric a.key b.key parts.1 in
     ap (λ (t : ℕ). record a { table = t }) table ∙ ap (λ (k : ℤ). record b { key = k }) key
-
-is-equal : (answer : Ordering) → is_eq answer ≡ true → answer ≡ Equal
-is-equal Less h = absurd (let never : ⊥ = cc in never)
-is-equal Equal h = refl
-is-equal Greater h = absurd (let never : ⊥ = cc in never)
 
 int-less : (a b : Bool) → cond a Less (cond b Greater Equal) ≡ Less → a ≡ true
 int-less true b h = refl
@@ -70,6 +67,7 @@ module _ (tables : List TableDecl) where
   Placed [] = Unit {0}
   Placed (entry ∷ entries) = IsAt entry.0 entry.1 × Above entry.0 entries × Placed entries
 
+  -- A place below one that is below the entries is below them, too.
   above-less : (low high : Place) (entries : State) → place_cmp low high ≡ Less → Above high entries → Above low entries
   above-less low high [] less h = tt
   above-less low high (entry ∷ entries) less h = (place_cmp-total.trans low high entry.0 less h.0, above-less low high entries less h.1)
@@ -83,6 +81,7 @@ module _ (tables : List TableDecl) where
       by again Equal = h
       by again Greater = (h.0, again)
 
+  -- Where one place is greater than another, the other is less.
   turned : (a b : Place) → place_cmp a b ≡ Greater → place_cmp b a ≡ Less
   turned a b h = place_cmp-total.antisymm b a ∙ ap ordering_reverse h
 
@@ -95,6 +94,7 @@ module _ (tables : List TableDecl) where
       by again Equal is = (subst (λ (p : Place). IsAt p row) (one-place place entry.0 is) at, h.1, h.2)
       by again Greater is = (h.0, insert-above entry.0 place row entries (turned place entry.0 is) h.1, again)
 
+  -- A place below the entries is below those left without one.
   remove-above : (low : Place) (test : Place → Bool) (entries : State) → Above low entries → Above low (remove_entry test entries)
   remove-above low test [] h = tt
   remove-above low test (entry ∷ entries) h = by (remove-above low test entries h.1) (test entry.0)
@@ -103,6 +103,7 @@ module _ (tables : List TableDecl) where
       by again true = h.1
       by again false = (h.0, again)
 
+  -- Placed rows are placed still without one of them.
   remove-placed : (test : Place → Bool) (entries : State) → Placed entries → Placed (remove_entry test entries)
   remove-placed test [] h = tt
   remove-placed test (entry ∷ entries) h = by (remove-placed test entries h.2) (test entry.0)
@@ -121,6 +122,7 @@ module _ (tables : List TableDecl) where
   Written [] = Unit {0}
   Written (write ∷ writes) = MayBeWritten write.0 write.1 × Written writes
 
+  -- A write that may stand at its place leaves placed rows placed.
   with-placed : (rows : State) (place : Place) (change : Option (List Cell)) → MayBeWritten place change → Placed rows → Placed (with_write rows place change)
   with-placed rows place None may h = remove-placed (is_place place) rows h
   with-placed rows place (Some row) may h = insert-placed place row rows may h
@@ -140,11 +142,13 @@ module _ (tables : List TableDecl) where
   all-append [] b h k = k
   all-append (writes ∷ a) b h k = (h.0, all-append a b h.1 k)
 
+  -- Where all write sets of a history may stand, the first ones may.
   all-first : (n : ℕ) (history : History) → AllWritten history → AllWritten (take n history)
   all-first zero history h = tt
   all-first (suc n) [] h = tt
   all-first (suc n) (writes ∷ history) h = (h.0, all-first n history h.1)
 
+  -- Placed rows with a history of such writes laid over them are placed.
   laid-all : (rows : State) (history : History) → Placed rows → AllWritten history → Placed (fold laid_over rows history)
   laid-all rows [] h k = h
   laid-all rows (writes ∷ history) h k = laid-all (laid_over rows writes) history (laid-placed rows writes k.0 h) k.1
@@ -165,6 +169,7 @@ module _ (tables : List TableDecl) where
 
   -- ---- what is found and listed
 
+  -- A row found at the first entry or behind it may stand at its place.
   found-step : (place : Place) (entry : Place × List Cell) (later : Option (List Cell)) (row : List Cell) (b : Bool) → is_place place entry.0 ≡ b → IsAt entry.0 entry.1
       → (later ≡ Some row → IsAt place row) → cond b (Some entry.1) later ≡ Some row → IsAt place row
   found-step place entry later row true is at rest h =
@@ -183,20 +188,24 @@ module _ (tables : List TableDecl) where
   AboveAll table None rows = Unit {0}
   AboveAll table (Some place) rows = (place.table ≡ table) × Above place rows
 
+  -- The key of the place below, if there is one.
   abbrev key_below : Option Place → Option ℤ
   key_below None = None
   key_below (Some place) = Some place.key
 
+  -- Rows above a place are above it still without the first.
   above-rest : (table : ℕ) (below : Option Place) (entry : Place × List Cell) (rows : State) → AboveAll table below (entry ∷ rows) → AboveAll table below rows
   above-rest table None entry rows h = tt
   above-rest table (Some place) entry rows h = (h.0, h.1.1)
 
+  -- The key of the first row is above that of the place below.
   above-key : (table : ℕ) (below : Option Place) (entry : Place × List Cell) (rows : State) → entry.0.table ≡ table → key_of entry.1 ≡ entry.0.key → AboveAll table below (entry ∷ rows)
       → option_map_or (λ key. int_lt key (key_of entry.1)) (key_below below) true ≡ true
   above-key table None entry rows is key h = refl
   above-key table (Some place) entry rows is key h =
       ap (int_lt place.key) key ∙ key-less place entry.0 (h.0 ∙ sym is) h.1.0
 
+  -- One more row, of the table or not, keeps that the table's rows rise.
   contents-step : (table : ℕ) (below : Option Place) (entry : Place × List Cell) (rows : State) (b : Bool) → (entry.0.table == table) ≡ b → Placed (entry ∷ rows) → AboveAll table below (entry ∷ rows)
       → ((low : Option Place) → AboveAll table low rows → RowsRise (columns_at tables table) (key_below low) (contents_of table rows))
       → RowsRise (columns_at tables table) (key_below below) (cons_option (cond b (Some entry.1) None) (contents_of table rows))
@@ -208,6 +217,7 @@ module _ (tables : List TableDecl) where
       )
   contents-step table below entry rows false is h above rest = rest below (above-rest table below entry rows above)
 
+  -- The rows of a table rise above the key of a place below all of them.
   contents-above : (table : ℕ) (rows : State) → Placed rows → (below : Option Place) → AboveAll table below rows → RowsRise (columns_at tables table) (key_below below) (contents_of table rows)
   contents-above table [] h below above = tt
   contents-above table (entry ∷ rows) h below above = contents-step table below entry rows (entry.0.table == table) refl h above (contents-above table rows h.2)

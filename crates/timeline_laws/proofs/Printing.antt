@@ -1,6 +1,6 @@
 -- Printed replies are numbered, and may have come about in the order of their lines.
 use Rattle.timeline_laws.specs.Laws.{PrintedAreInOrder, PrintedInTurn}
-use Rattle.std.proofs.Common.{◌≡◌, ℕ, ◌+◌, ◌<◌, ◌≤◌, Bool, true, false, cond, ◌&&◌, ◌||◌, eqb, nat_lt, List, [], ◌∷◌, ◌++◌, Option, None, Some, refl, sym, ap, ◌∙◌, subst, arith}
+use Rattle.std.proofs.Common.{◌≡◌, ℕ, ◌+◌, ◌<◌, ◌≤◌, Bool, true, false, cond, ◌&&◌, eqb, nat_lt, List, [], ◌∷◌, ◌++◌, Option, None, Some, refl, sym, ap, ◌∙◌, subst, arith}
 use Rattle.std.specs.List.{flat_map, count_by, sum_by, range_with_len, enumerate_from}
 use Rattle.std.proofs.lemmas.Bool.Decides.{nat_tests}
 use Rattle.std.proofs.lemmas.Bool.{eqb-true}
@@ -16,7 +16,7 @@ use Rattle.outcome_spec.specs.Entries.{Entry, is_same, is_before}
 use Rattle.outcome_spec.specs.Forms.{Due, commands_of, dues_to, dues_in, dues_of, turn_of, entry_behind}
 use Rattle.timeline_spec.specs.Timeline.{Each, Follows, InOrder}
 use Rattle.timeline_spec.specs.Printed.{printed_from}
-use Rattle.timeline_laws.proofs.Tests.{and-false}
+use Rattle.timeline_laws.proofs.Tests.{and-false, or-last}
 use Rattle.timeline_laws.proofs.Order.{same-is, same-itself}
 
 -- ---- the rounds of what is due
@@ -31,24 +31,29 @@ abbrev AllIn : ℕ → List Due → Type 0
 AllIn round [] = Unit {0}
 AllIn round (due ∷ dues) = (due.round ≡ round) × AllIn round dues
 
+-- Two lists of what is due in one round make one such list.
 all-append : (round : ℕ) (a b : List Due) → AllIn round a → AllIn round b → AllIn round (a ++ b)
 all-append round [] b h k = k
 all-append round (due ∷ a) b h k = (h.0, all-append round a b h.1 k)
 
+-- Rounds that go up from a round go up from each lower one.
 rises-more : (low round : ℕ) (dues : List Due) → low ≤ round → Rises round dues → Rises low dues
 rises-more low round [] h k = tt
 rises-more low round (due ∷ dues) h k = let e : round ≤ due.round = k.0 in (omega (arith, h, e), k.1)
 
+-- What is due in one round, and then from that round on, goes up.
 rises-all : (low round : ℕ) (a b : List Due) → low ≤ round → AllIn round a → Rises round b → Rises low (a ++ b)
 rises-all low round [] b h k r = rises-more low round b h r
 rises-all low round (due ∷ a) b h k r =
     let e : due.round ≡ round = k.0 in
     (omega (arith, h, e), rises-all due.round round a b (omega (arith, e)) k.1 r)
 
+-- What is due to one in a round is of that round.
 to-all : (round : ℕ) (who : Who) (commands : List Command) → AllIn round (dues_to round who commands)
 to-all round who [] = tt
 to-all round who (asked ∷ commands) = (refl, to-all round who commands)
 
+-- Where each part is due in one round, so are all parts together.
 flat-all : (round : ℕ) (f : ℕ → List Due) → ((x : ℕ) → AllIn round (f x)) → (xs : List ℕ) → AllIn round (flat_map f xs)
 flat-all round f h [] = tt
 flat-all round f h (x ∷ xs) = all-append round (f x) (flat_map f xs) (h x) (flat-all round f h xs)
@@ -62,6 +67,7 @@ in-all script round lines =
     (flat-all round (λ worker. dues_to round (Worker worker) (flat_map (λ turn. turn_of script.tables) (range_with_len 1 script.turns)))
     (λ worker. to-all round (Worker worker) (flat_map (λ turn. turn_of script.tables) (range_with_len 1 script.turns))) (range_with_len 1 script.workers))
 
+-- What is due in rounds one behind the other goes up.
 rounds-rise : (script : Script) (low round : ℕ) (rounds : List (List Line)) → low ≤ round → Rises low (flat_map (λ entry. dues_in script entry.0 entry.1) (enumerate_from round rounds))
 rounds-rise script low round [] h = tt
 rounds-rise script low round (lines ∷ rounds) h =
@@ -70,13 +76,10 @@ rounds-rise script low round (lines ∷ rounds) h =
 
 -- ---- the replies so far
 
+-- Where the middle part fails, so does the conjunction.
 middle-none : (a b : Bool) → (a && false && b) ≡ false
 middle-none true b = refl
 middle-none false b = refl
-
-or-last : (a : Bool) → (a || true) ≡ true
-or-last true = refl
-or-last false = refl
 
 -- the replies of the same round and session or worker
 abbrev with_it : Entry → Entry → Bool
@@ -87,6 +90,7 @@ record Counted (tables : List TableDecl) (whole : List Entry) (round : ℕ) (ent
   index : entry.reply.index ≤ count_by (with_it entry) whole
   low : entry.reply.round ≤ round
 
+-- A reply that is counted is so with one more reply, and for a later round.
 counted-more : (tables : List TableDecl) (whole : List Entry) (round next : ℕ) (last entry : Entry) → round ≤ next → Counted tables whole round entry → Counted tables (whole ++ last ∷ []) next entry
 counted-more tables whole round next last entry up h =
     let a : entry.reply.index ≤ count_by (with_it entry) whole = h.index in
@@ -96,13 +100,16 @@ counted-more tables whole round next last entry up h =
       low = omega (arith, c, up);
     }
 
+-- A reply that is counted for a round is counted for a later one.
 counted-on : (tables : List TableDecl) (whole : List Entry) (round next : ℕ) (entry : Entry) → round ≤ next → Counted tables whole round entry → Counted tables whole next entry
 counted-on tables whole round next entry up h = let c : entry.reply.round ≤ round = h.low in record { index = h.index; low = omega (arith, c, up) }
 
 module _ (tables : List TableDecl) (earlier : List Entry) (due : Due) (told : Said) where
+  -- The reply that tells this where it is due.
   abbrev new : Entry
   new = entry_behind tables earlier due told
 
+  -- The new reply is counted among those so far and itself.
   new-counted : Counted tables (earlier ++ new ∷ []) due.round new
   new-counted =
       let here : with_it new new ≡ true = let e : eqb due.round due.round ≡ true = grind (arith, nat_tests) in rw (e, same-itself due.who) refl in
@@ -126,6 +133,7 @@ module _ (tables : List TableDecl) (earlier : List Entry) (due : Due) (told : Sa
   index-less e h true false is_a is_b both_true = absurd (let never : ⊥ = cc in never)
   index-less e h false b is_a is_b both_true = absurd (let never : ⊥ = cc in never)
 
+  -- A reply that is not to the one due is not so the other way round.
   turned-back : (e : Entry) (b : Bool) → is_same due.who e.reply.who ≡ b → is_same e.reply.who due.who ≡ false → is_same due.who e.reply.who ≡ false
   turned-back e true h k =
       let f : is_same e.reply.who due.who ≡ true = subst (λ (w : Who). is_same w due.who ≡ true) (same-is due.who e.reply.who h) (same-itself due.who) in
@@ -133,6 +141,7 @@ module _ (tables : List TableDecl) (earlier : List Entry) (due : Due) (told : Sa
       absurd (let impossible : ⊥ = cc in impossible)
   turned-back e false h k = h
 
+  -- Where the one due is whom a reply is to, it is so the other way round.
   turned-who : (e : Entry) → is_same due.who e.reply.who ≡ true → is_same e.reply.who due.who ≡ true
   turned-who e h = subst (λ (w : Who). is_same w due.who ≡ true) (same-is due.who e.reply.who h) (same-itself due.who)
 
@@ -163,6 +172,7 @@ module _ (tables : List TableDecl) (earlier : List Entry) (due : Due) (told : Sa
       let round : nat_lt e.reply.round due.round ≡ true = grind (arith, nat_tests, is_a, low) in
       rw round refl
 
+  -- The new reply may come about behind each of those so far.
   new-follows : (e : Entry) → Counted tables earlier due.round e → Follows e new
   new-follows e h = record {
     not_before = not-before-by e h (eqb e.reply.round due.round) (is_same e.reply.who due.who) refl refl;
@@ -171,6 +181,7 @@ module _ (tables : List TableDecl) (earlier : List Entry) (due : Due) (told : Sa
 
 -- ---- all replies
 
+-- All replies printed behind one that is counted may come about behind it.
 all-follow : (tables : List TableDecl) (earlier : List Entry) (dues : List Due) (told : List (Option Said)) (low : ℕ) (e : Entry) → Rises low dues → Counted tables earlier low e
     → Each (Follows e) (printed_from tables earlier dues told)
 all-follow tables earlier [] told low e rise h = tt
@@ -181,6 +192,7 @@ all-follow tables earlier (due ∷ dues) (Some said ∷ told) low e rise h =
     let rest = all-follow tables (earlier ++ entry_behind tables earlier due said ∷ []) dues told due.round e rise.1 (counted-more tables earlier due.round due.round (entry_behind tables earlier due said) e (omega arith) here) in
     (new-follows tables earlier due said e here, rest)
 
+-- Replies to what is due in rounds that go up are in order.
 all-in-order : (tables : List TableDecl) (earlier : List Entry) (dues : List Due) (told : List (Option Said)) (low : ℕ) → Rises low dues
     → InOrder (printed_from tables earlier dues told)
 all-in-order tables earlier [] told low rise = tt

@@ -39,6 +39,7 @@ abbrev pub ArePlain : List (List ℕ) → Type 0
 ArePlain [] = Unit {0}
 ArePlain (word ∷ words) = (list_all is_plain word ≡ true) × ArePlain words
 
+-- Where each word is of plain bytes, they are all words.
 plain-words : (words : List (List ℕ)) → ArePlain words → AreWords words
 plain-words [] h = tt
 plain-words (word ∷ words) h = (a-word word h.0, plain-words words h.1)
@@ -57,27 +58,34 @@ abbrev pub NamesPlain : List TableDecl → Type 0
 NamesPlain tables = (table : ℕ) → list_all is_plain (name_of_table tables table) ≡ true
 
 module _ (tables : List TableDecl) (names : NamesPlain tables) where
+  -- The line that shows a snapshot is of words.
   at-said : (n : ℕ) → IsSaid tables (said.At n)
   at-said n = plainly tables (said.At n) (codes "at") (decimal n ∷ []) refl (refl, (plain_decimal n, tt)) refl
 
   in-said : IsSaid tables said.InTransaction
   in-said = plainly tables said.InTransaction (codes "in") (codes "transaction" ∷ []) refl (refl, (refl, tt)) refl
 
+  -- The line that tells of no transaction is of words.
   no-said : IsSaid tables said.NoTransaction
   no-said = plainly tables said.NoTransaction (codes "no") (codes "transaction" ∷ []) refl (refl, (refl, tt)) refl
 
+  -- The line of a get that found no row is of words.
   absent-said : IsSaid tables said.Absent
   absent-said = plainly tables said.Absent (codes "none") [] refl (refl, tt) refl
 
+  -- The line of an accepted write is of words.
   ok-said : IsSaid tables said.Accepted
   ok-said = plainly tables said.Accepted (codes "ok") [] refl (refl, tt) refl
 
+  -- The line of a row that exists already is of words.
   exists-said : IsSaid tables said.Exists
   exists-said = plainly tables said.Exists (codes "exists") [] refl (refl, tt) refl
 
+  -- The line of a row that is missing is of words.
   missing-said : IsSaid tables said.Missing
   missing-said = plainly tables said.Missing (codes "missing") [] refl (refl, tt) refl
 
+  -- The line of a full table is of words.
   full-said : IsSaid tables said.Full
   full-said = plainly tables said.Full (codes "full") [] refl (refl, tt) refl
 
@@ -85,21 +93,27 @@ module _ (tables : List TableDecl) (names : NamesPlain tables) where
   pub memory-said : IsSaid tables said.Memory
   memory-said = plainly tables said.Memory (codes "memory") [] refl (refl, tt) refl
 
+  -- The line of an abort is of words.
   aborted-said : IsSaid tables said.Aborted
   aborted-said = plainly tables said.Aborted (codes "aborted") [] refl (refl, tt) refl
 
+  -- The line of a conflict with a session is of words.
   session-said : (n : ℕ) → IsSaid tables (said.ConflictSession n)
   session-said n = plainly tables (said.ConflictSession n) (codes "conflict") (codes "session" ∷ decimal n ∷ []) refl (refl, (refl, (plain_decimal n, tt))) refl
 
+  -- The line of a conflict with a commit is of words.
   commit-said : (n : ℕ) → IsSaid tables (said.ConflictCommit n)
   commit-said n = plainly tables (said.ConflictCommit n) (codes "conflict") ((codes "#" ++ decimal n) ∷ []) refl (refl, (plain_decimal n, tt)) refl
 
+  -- The line of a freezing block is of words.
   freezing-said : (t b g : ℕ) → IsSaid tables (said.Freezing t b g)
   freezing-said t b g = plainly tables (said.Freezing t b g) (codes "freezing") (name_of_table tables t ∷ decimal b ∷ decimal g ∷ []) refl (refl, (names t, (plain_decimal b, (plain_decimal g, tt)))) refl
 
+  -- The line of a commit of nothing is of words.
   nothing-said : IsSaid tables (said.Committed None)
   nothing-said = plainly tables (said.Committed None) (codes "committed") (codes "-" ∷ []) refl (refl, (refl, tt)) refl
 
+  -- The line of a commit with a number is of words.
   committed-said : (n : ℕ) → IsSaid tables (said.Committed (Some n))
   committed-said n = plainly tables (said.Committed (Some n)) (codes "committed") (decimal n ∷ []) refl (refl, (plain_decimal n, tt)) refl
 
@@ -123,32 +137,39 @@ module _ (tables : List TableDecl) (names : NamesPlain tables) where
   pub frozen-said : (t b r : ℕ) → IsSaid tables (said.Frozen t b r)
   frozen-said t b r = plainly tables (said.Frozen t b r) (codes "frozen") (name_of_table tables t ∷ decimal b ∷ decimal r ∷ []) refl (refl, (names t, (plain_decimal b, (plain_decimal r, tt)))) refl
 
+  -- The line of a gathering that freezes nothing is of words.
   idle-said : IsSaid tables said.NotFrozen
   idle-said = plainly tables said.NotFrozen (codes "not") (codes "frozen" ∷ []) refl (refl, (refl, tt)) refl
 
+  -- The line of an export that was sent is of words.
   export-said : (n r b f : ℕ) → IsSaid tables (said.Exported n r b f)
   export-said n r b f =
       plainly tables (said.Exported n r b f) (codes "export") (decimal n ∷ codes "rows" ∷ decimal r ∷ codes "batches" ∷ decimal b ∷ codes "frozen" ∷ decimal f ∷ []) refl
       (refl, (plain_decimal n, (refl, (plain_decimal r, (refl, (plain_decimal b, (refl, (plain_decimal f, tt)))))))) refl
 
+  -- The line of an export refused for an own write is of words.
   dirty-said : (key : ℤ) → IsSaid tables (said.Dirty key)
   dirty-said key = plainly tables (said.Dirty key) (codes "dirty") (signed_decimal key ∷ []) refl (refl, (plain_signed key, tt)) refl
 
   -- ---- a transaction's begin and end
 
+  -- A reply to a begin is read back where no transaction is open.
   begin-read : (told : Said) → IsBeginReply told → IsRead tables false command.Begin told
   begin-read (said.At n) small = record { is_said = at-said n; picks = λ rest. inl (ap said.At (u64_read n small)) }
   begin-read _ h = absurd h
 
+  -- A reply that there is no transaction is read back where it alone is due.
   without-read : (asked : Command) (told : Said) → ((words behind : List (List ℕ)) → replies_at false tables words behind asked ≡ said.NoTransaction ∷ []) → told ≡ said.NoTransaction → IsRead tables false asked told
   without-read asked told only is = subst (IsRead tables false asked) (sym is) (record {
     is_said = no-said;
     picks = λ rest. subst (Picks tables said.NoTransaction) (sym (only (said_words tables said.NoTransaction) rest)) (inl refl);
   })
 
+  -- The line of a commit with a number is not that of one of nothing.
   no-dash : (word : List ℕ) → Begins word → bytes_eq (codes "committed -\n") (codes "committed " ++ (word ++ 10 ∷ [])) ≡ false
   no-dash word first = let other : (45 == first.first) ≡ false = ne_eqb 45 first.first (λ e. omega (arith, e, first.least)) in rw first.is (rw other refl)
 
+  -- A reply to a commit is read back in a transaction.
   commit-read : (told : Said) → IsCommitReply told → IsRead tables true command.Commit told
   unfolding tail_of
   commit-read (said.Committed None) h = record { is_said = nothing-said; picks = λ rest. inl refl }
@@ -176,12 +197,14 @@ module _ (tables : List TableDecl) (names : NamesPlain tables) where
   }
   insert-read table row _ h = absurd h
 
+  -- The block and the stamp of a freezing block are read back from its words.
   freezing-is : (table of b g : ℕ) → (of ≡ table) × (b < 2 ^ 32) × (g < 2 ^ 32) → said.Freezing table (u32_at (said_words tables (said.Freezing of b g)) 2) (u32_at (said_words tables (said.Freezing of b g)) 3) ≡ said.Freezing of b g
   freezing-is table of b g h =
       let block : u32_at (said_words tables (said.Freezing of b g)) 2 ≡ b = u32_read b h.1 in
       let stamp : u32_at (said_words tables (said.Freezing of b g)) 3 ≡ g = u32_read g h.2 in
       ap (λ (x : ℕ). said.Freezing table x (u32_at (said_words tables (said.Freezing of b g)) 3)) block ∙ ap (said.Freezing table b) stamp ∙ ap (λ (t : ℕ). said.Freezing t b g) (sym h.0)
 
+  -- What is told of an update or a delete is of words, and is picked.
   change-picks : (table : ℕ) (told : Said) → IsChangeReply table told → IsSaid tables told × Picks tables told (change_replies table (said_words tables told))
   unfolding tail_of
   change-picks table said.Accepted h = (ok-said, inl refl)
@@ -197,23 +220,28 @@ module _ (tables : List TableDecl) (names : NamesPlain tables) where
 
   -- ---- reads
 
+  -- The line of a row that is found is of words where its cells are.
   found-said : (row : List Cell) → AreWords (cell_words row) → IsSaid tables (said.Found row)
   found-said row h = record { first = codes "row"; others = cell_words row; words = refl; read = (a-word (codes "row") refl, h); behind = tt }
 
+  -- The line of no row is not that of a row.
   none-other : (row : List Cell) → bytes_eq (tail_of tables said.Absent) (tail_of tables (said.Found row)) ≡ false
   unfolding tail_of
   none-other [] = refl
   none-other (cell ∷ row) = refl
 
+  -- The line of refused memory is not that of a row.
   memory-other : (row : List Cell) → bytes_eq (tail_of tables said.Memory) (tail_of tables (said.Found row)) ≡ false
   unfolding tail_of
   memory-other [] = refl
   memory-other (cell ∷ row) = refl
 
+  -- A row that is read and has the key is the one that may be told.
   row-by : (columns : List Column) (key : ℤ) (words : List (List ℕ)) (row : List Cell) → row_of columns words ≡ Some row → int_eq (key_of row) key ≡ true
       → option_map_or (λ r. cond (int_eq (key_of r) key) (said.Found r ∷ []) []) (row_of columns words) [] ≡ said.Found row ∷ []
   row-by columns key words row e g = rw (e, g) refl
 
+  -- A reply to a get is read back in a transaction.
   get-read : (table : ℕ) (key : ℤ) (told : Said) → IsGetReply told → GotFits (columns_at tables table) key told → IsRead tables true (command.Get table key) told
   unfolding tail_of
   get-read table key (said.Found row) h fit =
@@ -228,9 +256,11 @@ module _ (tables : List TableDecl) (names : NamesPlain tables) where
   get-read table key said.Memory h fit = record { is_said = memory-said; picks = λ rest. inr (absent-said, refl, refl, inl refl) }
   get-read table key _ h fit = absurd h
 
+  -- The line of a row whose cells are words has no line end in it.
   row-line-whole : (row : List Cell) → AreWords (cell_words row) → is_whole (row_line row) ≡ true
   row-line-whole row h = words_whole (codes "|" ∷ cell_words row) (a-word (codes "|") refl, h)
 
+  -- The lines of rows that rise have no line end in them.
   lines-whole : (columns : List Column) (key : Option ℤ) (rows : List (List Cell)) → RowsRise columns key rows → AreUnbroken (map row_line rows)
   lines-whole columns key [] h = tt
   lines-whole columns key (row ∷ rows) h = (row-line-whole row (row_back columns row h.0).words, lines-whole columns (Some (key_of row)) rows h.2)
@@ -245,11 +275,13 @@ module _ (tables : List TableDecl) (names : NamesPlain tables) where
       ∙ ap (option_and_then (λ r. cond (bytes_eq (row_line r ++ 10 ∷ []) (row_line row ++ 10 ∷ [])) (Some r) None)) read.back
       ∙ ap (λ (b : Bool). cond b (Some row) None) same
 
+  -- A row that is read from its line, and is above, goes before the others.
   above-step : (columns : List Column) (key : Option ℤ) (row : List Cell) (line : List ℕ) (lines : List (List ℕ)) (more : List (List Cell)) → row_at columns line ≡ Some row
       → option_map_or (λ below. int_lt below (key_of row)) key true ≡ true → rows_above columns (Some (key_of row)) lines ≡ more → rows_above columns key (line ∷ lines) ≡ row ∷ more
   above-step columns key row line lines more is rises rest =
       row-chosen (row_at columns line) row (λ r. option_map_or (λ below. int_lt below (key_of r)) key true) (λ r. rows_above columns (Some (key_of r)) lines) more is rises rest
 
+  -- Rows that rise are read back from their lines, whatever follows.
   rows-back : (columns : List Column) (key : Option ℤ) (rows : List (List Cell)) (rest : List (List ℕ)) → RowsRise columns key rows
       → rows_above columns key (take (length rows) (ended (map row_line rows) ++ rest)) ≡ rows
   rows-back columns key [] rest h = refl
@@ -257,6 +289,7 @@ module _ (tables : List TableDecl) (names : NamesPlain tables) where
       above-step columns key row (row_line row ++ 10 ∷ []) (take (length rows) (ended (map row_line rows) ++ rest)) rows (line-back columns row h.0) h.1
       (rows-back columns (Some (key_of row)) rows rest h.2)
 
+  -- A reply to a scan is read back in a transaction.
   scan-read : (table : ℕ) (told : Said) → IsScanReply told → ScannedFits (columns_at tables table) told → IsRead tables true (command.Scan table) told
   unfolding tail_of
   scan-read table (said.Scanned rows) h fit =
@@ -283,41 +316,52 @@ module _ (tables : List TableDecl) (names : NamesPlain tables) where
 
   -- ---- upkeep
 
+  -- A reply to an observe is read back.
   observe-read : (told : Said) (within : Bool) → IsObserveReply told → IsRead tables true command.Observe told
   observe-read (said.Cooling n) within small = record { is_said = cooling-said n; picks = λ rest. inl (ap said.Cooling (u64_read n small)) }
   observe-read _ within h = absurd h
 
+  -- A reply to a pruning is read back.
   prune-read : (told : Said) → IsPruneReply told → IsRead tables true command.Prune told
   prune-read (said.Pruned n) small = record { is_said = pruned-said n; picks = λ rest. inl (ap said.Pruned (u64_read n small)) }
   prune-read _ h = absurd h
 
+  -- A reply to a compaction is read back.
   compact-read : (table : ℕ) (told : Said) → IsCompactReply told → IsRead tables true (command.Compact table) told
   unfolding tail_of
   compact-read table (said.Moved n) small = record { is_said = moved-said n; picks = λ rest. inl (ap said.Moved (u64_read n small)) }
   compact-read table said.Memory h = record { is_said = memory-said; picks = λ rest. inr (moved-said (u64_at (said_words tables said.Memory) 1), refl, refl, inl refl) }
   compact-read table _ h = absurd h
 
+  -- The line of a block not sealed for its phase is of words.
   phase-said : IsSaid tables (said.NotSealed Phase)
   phase-said = plainly tables (said.NotSealed Phase) (codes "not") (codes "sealed" ∷ codes "phase" ∷ []) refl (refl, (refl, (refl, tt))) refl
 
+  -- The line of a block not sealed as the head is of words.
   head-said : IsSaid tables (said.NotSealed Head)
   head-said = plainly tables (said.NotSealed Head) (codes "not") (codes "sealed" ∷ codes "head" ∷ []) refl (refl, (refl, (refl, tt))) refl
 
+  -- The line of a block not sealed as it is empty is of words.
   empty-said : IsSaid tables (said.NotSealed Empty)
   empty-said = plainly tables (said.NotSealed Empty) (codes "not") (codes "sealed" ∷ codes "empty" ∷ []) refl (refl, (refl, (refl, tt))) refl
 
+  -- The line of a block not sealed for its gaps is of words.
   gaps-said : IsSaid tables (said.NotSealed Gaps)
   gaps-said = plainly tables (said.NotSealed Gaps) (codes "not") (codes "sealed" ∷ codes "gaps" ∷ []) refl (refl, (refl, (refl, tt))) refl
 
+  -- The line of a block not sealed for its versions is of words.
   versions-said : IsSaid tables (said.NotSealed Versions)
   versions-said = plainly tables (said.NotSealed Versions) (codes "not") (codes "sealed" ∷ codes "versions" ∷ []) refl (refl, (refl, (refl, tt))) refl
 
+  -- The line of a block not sealed as it is hot is of words.
   hot-said : IsSaid tables (said.NotSealed Hot)
   hot-said = plainly tables (said.NotSealed Hot) (codes "not") (codes "sealed" ∷ codes "hot" ∷ []) refl (refl, (refl, (refl, tt))) refl
 
+  -- The line of a block not sealed as the last is of words.
   last-said : IsSaid tables (said.NotSealed Last)
   last-said = plainly tables (said.NotSealed Last) (codes "not") (codes "sealed" ∷ codes "last" ∷ []) refl (refl, (refl, (refl, tt))) refl
 
+  -- A reply to a seal is read back.
   seal-read : (table block : ℕ) (told : Said) → IsSealReply table block told → IsRead tables true (command.Seal table block) told
   unfolding tail_of
   seal-read table block (said.Sealed of at g) h = record {
@@ -333,6 +377,7 @@ module _ (tables : List TableDecl) (names : NamesPlain tables) where
   seal-read table block (said.NotSealed Last) h = record { is_said = last-said; picks = λ rest. inr (sealed-said table block (u32_at (said_words tables (said.NotSealed Last)) 3), refl, refl, inr (phase-said, refl, refl, inr (head-said, refl, refl, inr (empty-said, refl, refl, inr (gaps-said, refl, refl, inr (versions-said, refl, refl, inr (hot-said, refl, refl, inl refl))))))) }
   seal-read table block _ h = absurd h
 
+  -- A reply to a gathering is read back.
   gather-read : (table block : ℕ) (told : Said) → IsGatherReply table block told → IsRead tables true (command.Gather table block) told
   unfolding tail_of
   gather-read table block (said.Frozen of at r) h = record {
@@ -345,9 +390,11 @@ module _ (tables : List TableDecl) (names : NamesPlain tables) where
 
   -- ---- exports
 
+  -- A key that is read back as itself is what an export may be refused for.
   dirty-by : (key back : ℤ) → back ≡ key → is_integer_of kind.I64 key ≡ true → dirty_replies back ≡ said.Dirty key ∷ []
   dirty-by key back e small = subst (λ (k : ℤ). dirty_replies k ≡ said.Dirty key ∷ []) (sym e) (rw small refl)
 
+  -- A reply to an export is read back in a transaction.
   export-read : (table : ℕ) (told : Said) → IsExportReply told → IsRead tables true (command.Export table) told
   unfolding tail_of
   export-read table (said.Exported n r b f) h =
@@ -367,12 +414,14 @@ module _ (tables : List TableDecl) (names : NamesPlain tables) where
 
   -- ---- each reply
 
+  -- What upkeep tells is read back without a transaction as in one.
   again : (asked : Command) (told : Said) → is_upkeep asked ≡ true → IsRead tables true asked told → IsRead tables false asked told
   again asked told up h = record {
     is_said = h.is_said;
     picks = λ rest. subst (λ (b : Bool). Picks tables told (cond b (replies_within tables (said_words tables told) (ended (lines_behind told) ++ rest) asked) (replies_without (said_words tables told) asked))) (sym up) (h.picks rest);
   }
 
+  -- Each reply that may stand in a transaction is read back.
   within-read : (asked : Command) (told : Said) → IsReplyWithin asked told → RowsFit tables asked told → IsRead tables true asked told
   within-read command.Begin told is fit = subst (IsRead tables true command.Begin) (sym is) (record { is_said = in-said; picks = λ rest. inl refl })
   within-read (command.Get table key) told h fit = get-read table key told h fit

@@ -1,10 +1,10 @@
 -- Conflicts of a timeline: those that are named are there, and none is passed over.
-use Rattle.std.proofs.Common.{◌≡◌, ℕ, ◌+◌, ◌-◌, ◌<◌, ◌≤◌, zero, suc, Bool, true, false, cond, ◌&&◌, ◌||◌, not, eqb, nat_le, nat_lt, List, [], ◌∷◌, ◌++◌, length, drop, get_or, Option, None, Some, refl, sym, ap, ◌∙◌, subst, arith, append-nil, length-append, ◌⊎◌, inl, inr}
-use Rattle.std.specs.Prelude.{option_map, option_and_then, fold}
+use Rattle.std.proofs.Common.{◌≡◌, ℕ, ◌+◌, ◌-◌, ◌<◌, ◌≤◌, Bool, true, false, cond, ◌&&◌, ◌||◌, not, eqb, nat_le, nat_lt, List, [], ◌∷◌, ◌++◌, length, drop, get_or, Option, None, Some, refl, sym, ap, ◌∙◌, subst, arith, append-nil, length-append, ◌⊎◌, inl, inr}
+use Rattle.std.specs.Prelude.{option_map, option_and_then}
 use Rattle.std.specs.Option.{option_or, option_map_or}
 use Rattle.std.specs.BTreeMap.{insert_entry}
 use Rattle.std.specs.Cmp.{eq_by_cmp_equiv}
-use Rattle.std.specs.List.{filter, filter_map, find, list_all, list_any, cons_option, range_with_len}
+use Rattle.std.specs.List.{filter, find, list_all, list_any, cons_option, range_with_len}
 use Rattle.std.proofs.lemmas.Bool.Decides.{nat_tests}
 use Rattle.std.proofs.lemmas.Bool.{and_parts, eqb-true, leb-true}
 use Rattle.std.proofs.lemmas.List.{get_or-drop, get_or_append_left, length_push, length-drop}
@@ -22,13 +22,13 @@ use Rattle.workload_spec.specs.declared.reply.Who.TheVariants.{Session, Worker}
 use Rattle.workload_spec.specs.declared.reply.Said.{Said}
 use Rattle.workload_spec.specs.declared.reply.Said.TheVariants as said
 use Rattle.outcome_spec.specs.Entries.{Entry, is_same, is_before, is_not_after, before, not_after, shown_in, snapshot_in, commit_in, is_end, is_accepted}
-use Rattle.outcome_spec.specs.Runs.{Span, Run, up_to_end, ending_of, accepted_write, writes_in, write_of, commit_line, commits_as}
+use Rattle.outcome_spec.specs.Runs.{Span, Run, up_to_end, ending_of, write_of, commit_line, commits_as}
 use Rattle.outcome_spec.specs.Answers.{is_acceptable}
 use Rattle.outcome_spec.specs.Conflicts.{is_committed_before, is_committed_not_after, has_write, names_commit, names_session, passes_no_commit, passes_no_session, is_clear, is_first_updater, conflict_holds, conflicts_hold}
 use Rattle.outcome_spec.proofs.Conditions.{both}
 use Rattle.timeline_spec.specs.Timeline.{open_of, Each, Follows, Timeline, Runs, request_of, TakesAs}
 use Rattle.outcome_spec.specs.Entries.{thread}
-use Rattle.timeline_laws.proofs.Tests.{or-holds, or-left, or-right, all-three, all-four}
+use Rattle.timeline_laws.proofs.Tests.{or-holds, all-three, all-four}
 use Rattle.timeline_laws.proofs.Ranges.{all-below, all-above}
 use Rattle.timeline_laws.proofs.Order.{Each-first, Each-second, Each-weaker, Each-filter, Each-timeline, before-each, after-each, before-itself, same-is, same-itself}
 use Rattle.timeline_laws.proofs.Spans.{span, spans, EachSpan, Ended, spans-is}
@@ -43,181 +43,9 @@ use Rattle.timeline_laws.proofs.Agrees.{others-open}
 use Rattle.timeline_laws.proofs.Cuts.{Cut, Grows, last_of, change-of, all-grow}
 use Rattle.timeline_laws.proofs.Histories.{run, last, at-cut, history-shown, find-each, find-fails, find-passes, below-other, above-other}
 use Rattle.timeline_laws.proofs.Views.{belongs, by-transaction, front-follows, rest-follows}
+use Rattle.timeline_laws.proofs.Chosen.{filter-all, range-any, writes_it, has-writes, no-write-filter, kept-pass, filter-each, or-first, any-kept, none-any, none-spans, found-end, some-end, unshown, range-has}
 
--- ---- numbers that pass a test
-
-filter-all-step : (p : ℕ → Bool) (b : Bool) (x : ℕ) (kept : List ℕ) → (b ≡ true → p x ≡ true) → list_all p kept ≡ true → list_all p (cond b (x ∷ kept) kept) ≡ true
-filter-all-step p true x kept h k = both (p x) (list_all p kept) (h refl) k
-filter-all-step p false x kept h k = k
-
--- all that a test keeps pass one that it implies
-pub filter-all : (p q : ℕ → Bool) → ((x : ℕ) → q x ≡ true → p x ≡ true) → (xs : List ℕ) → list_all p (filter q xs) ≡ true
-filter-all p q h [] = refl
-filter-all p q h (x ∷ xs) = filter-all-step p (q x) x (filter q xs) (h x) (filter-all p q h xs)
-
--- a number of a range that passes stands among those that do
-filter-any-here : (k : ℕ) (b : Bool) (kept : List ℕ) → b ≡ true → list_any (λ x. eqb x k) (cond b (k ∷ kept) kept) ≡ true
-filter-any-here k true kept h = let e : eqb k k ≡ true = grind (arith, nat_tests) in rw e refl
-filter-any-here k false kept h = absurd (let never : ⊥ = cc in never)
-
-filter-any-later : (k x : ℕ) (b : Bool) (kept : List ℕ) → list_any (λ y. eqb y k) kept ≡ true → list_any (λ y. eqb y k) (cond b (x ∷ kept) kept) ≡ true
-filter-any-later k x true kept h = or-holds (eqb x k) (list_any (λ y. eqb y k) kept) h
-filter-any-later k x false kept h = h
-
-further : (a k : ℕ) → a ≤ k → eqb a k ≡ false → a + 1 ≤ k
-further a k low apart = grind (arith, nat_tests, low)
-
-range-any-at : (q : ℕ → Bool) (k a : ℕ) (rest : List ℕ) → q k ≡ true → (b : Bool) → eqb a k ≡ b → (b ≡ false → list_any (λ x. eqb x k) (filter q rest) ≡ true)
-    → list_any (λ x. eqb x k) (cond (q a) (a ∷ filter q rest) (filter q rest)) ≡ true
-range-any-at q k a rest h true is more =
-    let e : a ≡ k = eqb-true a k is in
-    subst (λ (x : ℕ). list_any (λ y. eqb y k) (cond (q x) (x ∷ filter q rest) (filter q rest)) ≡ true) (sym e) (filter-any-here k (q k) (filter q rest) h)
-range-any-at q k a rest h false is more = filter-any-later k a (q a) (filter q rest) (more refl)
-
--- a number of a range that passes is among those of it that pass
-pub range-any : (q : ℕ → Bool) (k a n : ℕ) → a ≤ k → k < a + n → q k ≡ true → list_any (λ x. eqb x k) (filter q (range_with_len a n)) ≡ true
-range-any q k a zero low high h = absurd (omega (arith, low, high))
-range-any q k a (suc n) low high h =
-    range-any-at q k a (range_with_len (a + 1) n) h (eqb a k) refl (λ (is : eqb a k ≡ false). range-any q k (a + 1) n (further a k low is) (omega (arith, high)) h)
-
--- ---- what a write set of replies has
-
--- an accepted write of the place
-abbrev writes_it : Place → Entry → Bool
-writes_it place entry = option_map_or (λ write. is_place write.0 place) (accepted_write entry) false
-
-turned : (a b c : Bool) → (cond a true b || c) ≡ (b || (a || c))
-turned true true c = refl
-turned true false c = refl
-turned false b c = refl
-
-unlikely : (b : Bool) → b ≡ (b || false)
-unlikely true = refl
-unlikely false = refl
-
-written-step : (place : Place) (own : WriteSet) (o : Option (Place × Option (List Cell))) (others : List (Place × Option (List Cell)))
-    → ((start : WriteSet) → writes_place place (fold (λ all write. insert_entry place_cmp all write.0 write.1) start others) ≡ (writes_place place start || list_any (λ write. is_place write.0 place) others))
-    → writes_place place (fold (λ all write. insert_entry place_cmp all write.0 write.1) own (cons_option o others))
-    ≡ (writes_place place own || (option_map_or (λ write. is_place write.0 place) o false || list_any (λ write. is_place write.0 place) others))
-written-step place own None others h = h own
-written-step place own (Some write) others h =
-    h (insert_entry place_cmp own write.0 write.1)
-    ∙ ap (λ (b : Bool). b || list_any (λ w. is_place w.0 place) others) (writes-more own write.0 write.1 place ∙ ap (λ (b : Bool). cond b true (writes_place place own)) ((eq_by_cmp_equiv place_cmp-total).symm place write.0))
-    ∙ turned (is_place write.0 place) (writes_place place own) (list_any (λ w. is_place w.0 place) others)
-
-written : (place : Place) (own : WriteSet) (writes_all : List (Place × Option (List Cell)))
-    → writes_place place (fold (λ all write. insert_entry place_cmp all write.0 write.1) own writes_all) ≡ (writes_place place own || list_any (λ write. is_place write.0 place) writes_all)
-written place own [] = unlikely (writes_place place own)
-written place own (write ∷ all) = written-step place own (Some write) all (λ start. written place start all)
-
-has-step : (o : Option (Place × Option (List Cell))) (place : Place) (others : List (Place × Option (List Cell))) (rest : Bool) → list_any (λ write. is_place write.0 place) others ≡ rest
-    → list_any (λ write. is_place write.0 place) (cons_option o others) ≡ (option_map_or (λ write. is_place write.0 place) o false || rest)
-has-step None place others rest h = h
-has-step (Some write) place others rest h = ap (λ (b : Bool). is_place write.0 place || b) h
-
-has-any : (place : Place) (entries : List Entry) → list_any (λ write. is_place write.0 place) (filter_map accepted_write entries) ≡ has_write place entries
-has-any place [] = refl
-has-any place (entry ∷ entries) = has-step (accepted_write entry) place (filter_map accepted_write entries) (has_write place entries) (has-any place entries)
-
--- The write set of replies has a place where one of them is an accepted write of it.
-pub has-writes : (place : Place) (entries : List Entry) → writes_place place (writes_in entries) ≡ has_write place entries
-has-writes place entries = written place [] (filter_map accepted_write entries) ∙ has-any place entries
-
--- a write among some of the replies is one among all
-some-write-step : (place : Place) (p : Entry → Bool) (b : Bool) (entry : Entry) (kept entries : List Entry) → (has_write place entries ≡ false → has_write place kept ≡ false)
-    → (writes_it place entry || has_write place entries) ≡ false → has_write place (cond b (entry ∷ kept) kept) ≡ false
-some-write-step place p true entry kept entries rest h = rw (or-left (writes_it place entry) (has_write place entries) h) (rest (or-right (writes_it place entry) (has_write place entries) h))
-some-write-step place p false entry kept entries rest h = rest (or-right (writes_it place entry) (has_write place entries) h)
-
--- where no reply writes a place, none of some of them does
-pub no-write-filter : (place : Place) (p : Entry → Bool) (entries : List Entry) → has_write place entries ≡ false → has_write place (filter p entries) ≡ false
-no-write-filter place p [] h = refl
-no-write-filter place p (entry ∷ entries) h = some-write-step place p (p entry) entry (filter p entries) entries (no-write-filter place p entries) h
-
--- ---- tests of the transactions, session by session
-
-kept-pass-step : (b : Bool) (who : Who) (t : Span) (kept : List Span) → is_same t.who who ≡ b → EachSpan (λ u. u.who ≡ who) kept → EachSpan (λ u. u.who ≡ who) (cond b (t ∷ kept) kept)
-kept-pass-step true who t kept is h = (same-is t.who who is, h)
-kept-pass-step false who t kept is h = h
-
-kept-pass : (who : Who) (ts : List Span) → EachSpan (λ u. u.who ≡ who) (filter (λ t. is_same t.who who) ts)
-kept-pass who [] = tt
-kept-pass who (t ∷ ts) = kept-pass-step (is_same t.who who) who t (filter (λ u. is_same u.who who) ts) refl (kept-pass who ts)
-
-filter-each : (p : Entry → Bool) (entries : List Entry) → Each (λ entry. p entry ≡ true) entries → filter p entries ≡ entries
-filter-each p [] h = refl
-filter-each p (entry ∷ entries) h = rw h.0 (ap (λ es. entry ∷ es) (filter-each p entries h.1))
-
-or-first : (a b : Bool) → a ≡ true → (a || b) ≡ true
-or-first true b h = refl
-or-first false b h = absurd (let never : ⊥ = cc in never)
-
--- some transaction passes where one of those that pass another test does
-any-kept-step : (a b : Bool) (rest : Bool) (t : Span) (kept : List Span) (test : Span → Bool) → test t ≡ b → list_any test (cond a (t ∷ kept) kept) ≡ true → (list_any test kept ≡ true → rest ≡ true) → (b || rest) ≡ true
-any-kept-step a true rest t kept test is h more = refl
-any-kept-step true false rest t kept test is h more = more (sym (ap (λ (b : Bool). b || list_any test kept) is) ∙ h)
-any-kept-step false false rest t kept test is h more = more h
-
--- a transaction that passes among those that are kept passes among all
-pub any-kept : (test choice : Span → Bool) (ts : List Span) → list_any test (filter choice ts) ≡ true → list_any test ts ≡ true
-any-kept test choice [] h = h
-any-kept test choice (t ∷ ts) h = any-kept-step (choice t) (test t) (list_any test ts) t (filter choice ts) test refl h (any-kept test choice ts)
-
-none-kept-step : (a b : Bool) (t : Span) (kept : List Span) (test : Span → Bool) → list_any test (cond a (t ∷ kept) kept) ≡ false → a ≡ true → (test t ≡ false) × (list_any test kept ≡ false)
-none-kept-step true b t kept test h is = (or-left (test t) (list_any test kept) h, or-right (test t) (list_any test kept) h)
-none-kept-step false b t kept test h is = absurd (let never : ⊥ = cc in never)
-
-none-tail-step : (a : Bool) (t : Span) (kept : List Span) (test : Span → Bool) → list_any test (cond a (t ∷ kept) kept) ≡ false → list_any test kept ≡ false
-none-tail-step true t kept test h = or-right (test t) (list_any test kept) h
-none-tail-step false t kept test h = h
-
--- no transaction passes where none of any session or worker does
-pub none-any : (test : Span → Bool) (ts : List Span) → ((who : Who) → list_any test (filter (λ t. is_same t.who who) ts) ≡ false) → list_any test ts ≡ false
-none-any test [] h = refl
-none-any test (t ∷ ts) h =
-    let first = none-kept-step (is_same t.who t.who) true t (filter (λ u. is_same u.who t.who) ts) test (h t.who) (same-itself t.who) in
-    rw first.0 (none-any test ts (λ who. none-tail-step (is_same t.who who) t (filter (λ u. is_same u.who who) ts) test (h who)))
-
-none-spans : (test : Span → Bool) (ts : List Span) → EachSpan (λ t. test t ≡ false) ts → list_any test ts ≡ false
-none-spans test [] h = refl
-none-spans test (t ∷ ts) h = rw h.0 (none-spans test ts h.1)
-
--- of one that ended, the end is not after the reply; of one that goes on, it is not before it
-found-end-step : (test : Entry → Bool) (b : Bool) (entry : Entry) (found : Option Entry) (others : Bool) → test entry ≡ false → (others ≡ true → option_map_or test found true ≡ false) → (b || others) ≡ true
-    → option_map_or test (cond b (Some entry) found) true ≡ false
-found-end-step test true entry found others h rest k = h
-found-end-step test false entry found others h rest k = rest k
-
-some-end-step : (test : Entry → Bool) (b : Bool) (entry : Entry) (found : Option Entry) → test entry ≡ true → option_map_or test found true ≡ true → option_map_or test (cond b (Some entry) found) true ≡ true
-some-end-step test true entry found h k = h
-some-end-step test false entry found h k = k
-
-found-end : (test : Entry → Bool) (entries : List Entry) → Each (λ entry. test entry ≡ false) entries → list_any (λ entry. is_end entry.reply.said) entries ≡ true
-    → option_map_or test (find (λ entry. is_end entry.reply.said) entries) true ≡ false
-found-end test [] h k = absurd (let never : ⊥ = cc in never)
-found-end test (entry ∷ entries) h k = found-end-step test (is_end entry.reply.said) entry (find (λ e. is_end e.reply.said) entries) (list_any (λ e. is_end e.reply.said) entries) h.0 (found-end test entries h.1) k
-
-some-end : (test : Entry → Bool) (entries : List Entry) → Each (λ entry. test entry ≡ true) entries → option_map_or test (find (λ entry. is_end entry.reply.said) entries) true ≡ true
-some-end test [] h = refl
-some-end test (entry ∷ entries) h = some-end-step test (is_end entry.reply.said) entry (find (λ e. is_end e.reply.said) entries) h.0 (some-end test entries h.1)
-
--- ---- the numbers of the commits
-
-unshown-step : (k : ℕ) (o : Option ℕ) (others : List ℕ) → option_map_or (λ c. eqb c k) o false ≡ false → list_any (λ x. eqb x k) others ≡ false → list_any (λ x. eqb x k) (cons_option o others) ≡ false
-unshown-step k None others h rest = rest
-unshown-step k (Some c) others h rest = rw h rest
-
-unshown : (k : ℕ) (entries : List Entry) → Each (λ entry. commits_as k entry ≡ false) entries → list_any (λ x. eqb x k) (shown_in commit_in entries) ≡ false
-unshown k [] h = refl
-unshown k (entry ∷ entries) h = unshown-step k (commit_in entry.reply.said) (shown_in commit_in entries) h.0 (unshown k entries h.1)
-
-all-kept : (xs : List ℕ) → filter (λ x. true) xs ≡ xs
-all-kept [] = refl
-all-kept (x ∷ xs) = ap (λ (ys : List ℕ). x ∷ ys) (all-kept xs)
-
-range-has : (k a n : ℕ) → a ≤ k → k < a + n → list_any (λ x. eqb x k) (range_with_len a n) ≡ true
-range-has k a n low high = ap (list_any (λ x. eqb x k)) (sym (all-kept (range_with_len a n))) ∙ range-any (λ x. true) k a n low high refl
-
+-- A reply does not make the history shorter.
 grown : {who : Who} {asked : Command} {told : Said} {machine after : IsolationMachine} → Change who asked told machine after → length machine.history ≤ length after.history
 grown (quiet q) = omega (arith, ap (λ (m : IsolationMachine). length m.history) q.same)
 grown (opens o) = omega (arith, ap (λ (m : IsolationMachine). length m.history) o.is)
@@ -227,9 +55,11 @@ grown {machine = machine} (commits c) = omega (arith, ap (λ (m : IsolationMachi
 
 module _ (tables : List TableDecl) (printed timeline : List Entry) (t : Timeline tables printed timeline) (entry : Entry) (only : Only printed entry)
     (cut : Cut tables timeline (last tables printed timeline t) entry) where
+  -- The run that is read from the printed replies.
   abbrev the_run : Run
   the_run = run tables printed timeline t
 
+  -- The history that the machine has in front of the reply.
   abbrev so_far : History
   so_far = cut.machine.history
 
@@ -243,6 +73,7 @@ module _ (tables : List TableDecl) (printed timeline : List Entry) (t : Timeline
       let never : true ≡ false = sym (find-passes (commits_as k) printed line is) ∙ other in
       absurd (let impossible : ⊥ = cc in impossible)
 
+  -- No line that is found for a commit above those in front is before the reply.
   line-not : (k : ℕ) → length so_far < k → (found : Option Entry) → commit_line printed k ≡ found → option_map_or (λ line. is_before line entry) found false ≡ false
   line-not k high None is = refl
   line-not k high (Some line) is = line-by k high line is (is_before line entry) refl
@@ -263,6 +94,7 @@ module _ (tables : List TableDecl) (printed timeline : List Entry) (t : Timeline
       let never : true ≡ false = sym (find-passes (commits_as k) printed line is) ∙ other in
       absurd (let impossible : ⊥ = cc in impossible)
 
+  -- The line of a commit in front is found, and is not after the reply.
   not-after-found : (k : ℕ) → 1 ≤ k → k ≤ length so_far → (found : Option Entry) → commit_line printed k ≡ found → option_map_or (λ line. is_not_after line entry) found false ≡ true
   not-after-found k least low None is =
       let none = Each-timeline (λ other. commits_as k other ≡ false) printed timeline t.threads (find-fails (commits_as k) printed is) in
@@ -297,6 +129,7 @@ module _ (tables : List TableDecl) (printed timeline : List Entry) (t : Timeline
       ∙ ap (writes_place place) (sym (get_or-drop n so_far (k - 1 - n) []))
       ∙ last-none place (n + 1) (drop n so_far) none (k - 1 - n)
 
+  -- Where none in front has the place, a commit that has it is not before the reply.
   none-by : (n : ℕ) (place : Place) (k : ℕ) → n ≤ length so_far → last_writer place (n + 1) (drop n so_far) ≡ None → n < k → writes_place place (write_set_at (the_run).history k) ≡ true
       → (b : Bool) → nat_le k (length so_far) ≡ b → not (is_committed_before the_run entry k) ≡ true
   none-by n place k bound none low has true is =
@@ -306,6 +139,7 @@ module _ (tables : List TableDecl) (printed timeline : List Entry) (t : Timeline
       absurd (let impossible : ⊥ = cc in impossible)
   none-by n place k bound none low has false is = ap not (not-before k (let e : length so_far < k = grind (arith, nat_tests, is) in e))
 
+  -- Where none in front has the place, no later commit of it is before the reply.
   none-later : (n : ℕ) (place : Place) → n ≤ length so_far → last_writer place (n + 1) (drop n so_far) ≡ None → (k : ℕ) → is_later n place k ≡ true → not (is_committed_before the_run entry k) ≡ true
   none-later n place bound none k h =
       let parts = and_parts (nat_lt n k) (writes_place place (write_set_at (the_run).history k)) h in
@@ -362,6 +196,7 @@ module _ (tables : List TableDecl) (printed timeline : List Entry) (t : Timeline
   abbrev rest_of : Who → List Entry
   rest_of who = thread who (entry ∷ cut.rest)
 
+  -- One's transactions in the run are those of one's replies in front and from there on.
   spans-of : (who : Who) → filter (λ u. is_same u.who who) (the_run).transactions ≡ spans who (thread who cut.front ++ rest_of who)
   spans-of who =
       spans-is who printed
@@ -371,31 +206,38 @@ module _ (tables : List TableDecl) (printed timeline : List Entry) (t : Timeline
   front-not-after : Each (λ other. is_before entry other ≡ false) cut.front
   front-not-after = Each-weaker (λ earlier. Follows earlier entry) (λ other. is_before entry other ≡ false) (λ other follows. follows.not_before) cut.front (front-follows tables printed timeline t entry only cut)
 
+  -- The reply and those behind it are not before it.
   rest-not-before : Each (λ other. is_before other entry ≡ false) (entry ∷ cut.rest)
   rest-not-before =
       (before-itself entry, Each-weaker (Follows entry) (λ other. is_before other entry ≡ false) (λ other follows. follows.not_before) cut.rest (rest-follows tables printed timeline t entry only cut))
 
-  -- whether another session's transaction has a write of the place before the reply and its end after it
+  -- whether another session's transaction has a write of the place before the reply and its end
+  -- after it
   abbrev ends_later : Span → Bool
   ends_later u = option_map_or (λ ending. is_before entry ending) (ending_of u) true
 
+  -- Whether another's transaction wrote the place before the reply, and ends after it.
   abbrev passed_over : Who → Place → Span → Bool
   passed_over who place u = not (is_same u.who who) && has_write place (before u.replies entry) && ends_later u
 
+  -- Where the last of three parts fails, so does the conjunction.
   last-false : (a b : Bool) (c : Bool) → c ≡ false → (a && b && c) ≡ false
   last-false true true c h = h
   last-false true false c h = refl
   last-false false b c h = refl
 
+  -- Where the middle of three parts fails, so does the conjunction.
   middle-false : (a b : Bool) (c : Bool) → b ≡ false → (a && b && c) ≡ false
   middle-false true true c h = absurd (let never : ⊥ = cc in never)
   middle-false true false c h = refl
   middle-false false b c h = refl
 
+  -- Where the first of three parts fails, so does the conjunction.
   first-false : (a b : Bool) (c : Bool) → a ≡ false → (a && b && c) ≡ false
   first-false true b c h = absurd (let never : ⊥ = cc in never)
   first-false false b c h = refl
 
+  -- Of transactions that ended in front, none is passed over.
   done-passed : (who its : Who) (place : Place) (ts : List Span) → EachSpan (Ended who (thread who cut.front)) ts → EachSpan (λ u. passed_over its place u ≡ false) ts
   done-passed who its place [] h = tt
   done-passed who its place (u ∷ ts) h =
@@ -410,6 +252,7 @@ module _ (tables : List TableDecl) (printed timeline : List Entry) (t : Timeline
   before-none [] h = refl
   before-none (other ∷ entries) h = rw h.0 (before-none entries h.1)
 
+  -- One more transaction opened from the reply on keeps that none is passed over.
   opened-put : (who its : Who) (place : Place) (entries : List Entry) → Each (λ other. is_before other entry ≡ false) entries → (shown : Option ℕ) (others : List Span)
       → EachSpan (λ u. passed_over its place u ≡ false) others → EachSpan (λ u. passed_over its place u ≡ false) (cons_option (option_map (λ snapshot. span who snapshot (up_to_end entries)) shown) others)
   opened-put who its place entries h None others k = k
@@ -419,16 +262,19 @@ module _ (tables : List TableDecl) (printed timeline : List Entry) (t : Timeline
     k,
   )
 
+  -- Of transactions opened from the reply on, none is passed over.
   opened-passed : (who its : Who) (place : Place) (entries : List Entry) → Each (λ other. is_before other entry ≡ false) entries → EachSpan (λ u. passed_over its place u ≡ false) (spans who entries)
   opened-passed who its place [] h = tt
   opened-passed who its place (other ∷ entries) h =
       opened-put who its place (other ∷ entries) h (snapshot_in other.reply.said) (spans who entries) (opened-passed who its place entries h.1)
 
+  -- Of one's own transactions, none is passed over.
   own-fails : (who : Who) (place : Place) (ts : List Span) → EachSpan (λ u. u.who ≡ who) ts → EachSpan (λ u. passed_over who place u ≡ false) ts
   own-fails who place [] h = tt
   own-fails who place (u ∷ ts) h =
       (first-false (not (is_same u.who who)) (has_write place (before u.replies entry)) (ends_later u) (ap not (ap (λ (w : Who). is_same w who) h.0 ∙ same-itself who)), own-fails who place ts h.1)
 
+  -- Of one's replies from the reply on, none is before it.
   rest-of-not : (who : Who) → Each (λ other. is_before other entry ≡ false) (rest_of who)
   rest-of-not who = Each-filter (λ other. is_before other entry ≡ false) (λ other. is_same other.reply.who who) (entry ∷ cut.rest) rest-not-before
 
@@ -442,6 +288,7 @@ module _ (tables : List TableDecl) (printed timeline : List Entry) (t : Timeline
       ∙ append-nil (before replies entry))
       ∙ no-write-filter place (λ other. is_before other entry) replies lacks)
 
+  -- Where a place is free, what another has open does not have it.
   free-of : (who : Who) (s : ℕ) (place : Place) → Free s place cut.machine.open_transactions → is_same who (Session s) ≡ false → (o : Transaction) → open_of who cut.machine ≡ Some o → writes_place place o.own ≡ false
   free-of (Session session) s place untouched apart o at = untouched session o at apart
   free-of (Worker worker) s place untouched apart o at = absurd (let never : ⊥ = cc in never)
@@ -462,6 +309,7 @@ module _ (tables : List TableDecl) (printed timeline : List Entry) (t : Timeline
       ∙ (rw (none-spans (passed_over (Session s) place) past.done (done-passed who (Session s) place past.done past.ended), open-passed who (Session s) place o.snapshot within.replies lacks)
       (none-spans (passed_over (Session s) place) (spans who (rest_of who)) (opened-passed who (Session s) place (rest_of who) (rest-of-not who))))
 
+  -- Where a place is free, no transaction of anyone is passed over.
   each-passed : (s : ℕ) (place : Place) → Free s place cut.machine.open_transactions → (who : Who) (b : Bool) → is_same who (Session s) ≡ b
       → list_any (passed_over (Session s) place) (filter (λ u. is_same u.who who) (the_run).transactions) ≡ false
   each-passed s place untouched who true is =
@@ -483,6 +331,7 @@ module _ (tables : List TableDecl) (printed timeline : List Entry) (t : Timeline
       && has_write place (not_after u.replies entry)
       && option_map_or (λ ending. not (is_before ending entry)) (ending_of u) true
 
+  -- A rival's open transaction is one that the reply may name.
   rival-named : (r : Transaction) (s : ℕ) (place : Place) → transaction_of r.session cut.machine ≡ Some r → eqb r.session s ≡ false → writes_place place r.own ≡ true
       → (within : Within (Session r.session) (thread (Session r.session) cut.front) r)
       → named r.session (Session s) place (span (Session r.session) r.snapshot (within.replies ++ up_to_end (rest_of (Session r.session)))) ≡ true
@@ -521,14 +370,17 @@ module _ (tables : List TableDecl) (printed timeline : List Entry) (t : Timeline
 
 -- ---- the first updater
 
+-- What holds is still so if it is chosen or not.
 has-still : (b c : Bool) → c ≡ true → cond b true c ≡ true
 has-still true c h = refl
 has-still false c h = h
 
+-- The history behind some replies goes on from the one before them.
 grows-of : (tables : List TableDecl) (front : List Entry) (machine : IsolationMachine) (rest : List Entry) {end : IsolationMachine} → Shown front machine → (runs : Runs tables front machine rest)
     → last_of tables front machine rest runs ≡ end → Grows machine.history end.history
 grows-of tables front machine rest shown runs is = subst (λ (m : IsolationMachine). Grows machine.history m.history) is (all-grow tables front machine rest shown runs)
 
+-- Where there is no last writer behind a snapshot, no commit there has the place.
 lacks-in : (history : History) (n : ℕ) (place : Place) (k : ℕ) → last_writer place (n + 1) (drop n history) ≡ None → n < k → writes_place place (get_or history (k - 1) []) ≡ false
 lacks-in history n place k none low =
     let e : n + (k - 1 - n) ≡ k - 1 = omega (arith, low) in
@@ -537,9 +389,11 @@ lacks-in history n place k none low =
     ∙ last-none place (n + 1) (drop n history) none (k - 1 - n)
 
 module _ (tables : List TableDecl) (printed timeline : List Entry) (t : Timeline tables printed timeline) (u : Span) (place : Place) where
+  -- The run that is read from all printed replies.
   abbrev run_of_all : Run
   run_of_all = run tables printed timeline t
 
+  -- Whether a commit is behind the snapshot and has the place.
   abbrev behind_snapshot : ℕ → Bool
   behind_snapshot k = nat_lt u.snapshot k && writes_place place (write_set_at (run_of_all).history k)
 
@@ -547,6 +401,7 @@ module _ (tables : List TableDecl) (printed timeline : List Entry) (t : Timeline
   abbrev commits_first : Option Entry → Type 0
   commits_first found = option_map_or (λ number. list_all (nat_le number) (later_writers (run_of_all).history u.snapshot place)) (option_and_then (λ ending. commit_in ending.reply.said) found) true ≡ true
 
+  -- A commit of the place behind the snapshot is above those of this history.
   above-all : (history : History) → Grows history (last tables printed timeline t).history → last_writer place (u.snapshot + 1) (drop u.snapshot history) ≡ None
       → (k : ℕ) → behind_snapshot k ≡ true → (b : Bool) → nat_le (length history + 1) k ≡ b → nat_le (length history + 1) k ≡ true
   above-all history grows none k h true is = is
@@ -559,6 +414,7 @@ module _ (tables : List TableDecl) (printed timeline : List Entry) (t : Timeline
       let never : true ≡ false = sym parts.1 ∙ ap (writes_place place) same ∙ lacks-in history u.snapshot place k none low in
       absurd (let impossible : ⊥ = cc in impossible)
 
+  -- The number behind this history is at most that of each later writer.
   first-number : (history : History) → Grows history (last tables printed timeline t).history → last_writer place (u.snapshot + 1) (drop u.snapshot history) ≡ None
       → list_all (nat_le (length history + 1)) (later_writers (run_of_all).history u.snapshot place) ≡ true
   first-number history grows none =
@@ -641,40 +497,50 @@ module _ (tables : List TableDecl) (printed timeline : List Entry) (t : Timeline
 
 -- ---- the rules of a conflict
 
+-- Cutting behind a reply, if it is an end, leaves which end is found.
 find-cut-step : (b : Bool) (entry : Entry) (others : List Entry) (found : Option Entry) → is_end entry.reply.said ≡ b → find (λ e. is_end e.reply.said) others ≡ found
     → find (λ e. is_end e.reply.said) (cond b (entry ∷ []) (entry ∷ others)) ≡ cond b (Some entry) found
 find-cut-step true entry others found is h = rw is refl
 find-cut-step false entry others found is h = rw is h
 
+-- The end that is found among replies is found among those up to it.
 find-cut : (entries : List Entry) → find (λ e. is_end e.reply.said) (up_to_end entries) ≡ find (λ e. is_end e.reply.said) entries
 find-cut [] = refl
 find-cut (entry ∷ entries) = find-cut-step (is_end entry.reply.said) entry (up_to_end entries) (find (λ e. is_end e.reply.said) entries) refl (find-cut entries)
 
+-- A write that is there is not none.
 nothing-written : (write : Place × Option (List Cell)) → Some write ≡ None → ⊥
 nothing-written write h = (let never : ⊥ = cc in never)
 
+-- An accepted write is neither an abort nor a commit of nothing.
 ended-not : (told : Said) (own : WriteSet) → told ≡ said.Accepted → (told ≡ said.Aborted) ⊎ ((told ≡ said.Committed None) × (own ≡ [])) → ⊥
 ended-not told own is (inl h) = let e : said.Accepted ≡ said.Aborted = sym is ∙ h in (let never : ⊥ = cc in never)
 ended-not told own is (inr h) = let e : said.Accepted ≡ said.Committed None = sym is ∙ h.0 in (let never : ⊥ = cc in never)
 
+-- Each place is the same as itself.
 itself-place : (place : Place) → is_place place place ≡ true
 itself-place place = (eq_by_cmp_equiv place_cmp-total).refl place
 
 module _ (tables : List TableDecl) (printed timeline : List Entry) (t : Timeline tables printed timeline) (entry : Entry) (only : Only printed entry)
     (cut : Cut tables timeline (last tables printed timeline t) entry) (s : ℕ) (o : Transaction) (who_is : entry.reply.who ≡ Session s) (at : transaction_of s cut.machine ≡ Some o)
     (within : Within entry.reply.who (thread entry.reply.who cut.front) o) (place : Place) (change : Option (List Cell)) (wrote : write_of entry.command ≡ Some (place, change)) where
+  -- The run of all printed replies, in which the write is answered.
   abbrev all_run : Run
   all_run = run tables printed timeline t
 
+  -- The transaction that the reply belongs to.
   abbrev its_own : Span
   its_own = belongs tables printed timeline t entry only cut o within
 
+  -- The open transaction is that of the session.
   session_is : o.session ≡ s
   session_is = its-session s (cut.machine).open_transactions o at
 
+  -- The snapshot of the open transaction is not above the commits in front.
   low : o.snapshot ≤ length (cut.machine).history
   low = cut.shown.sane.bound s o at
 
+  -- A place that is clear is free of other sessions' open transactions.
   free : Clear cut.machine o place → Free s place (cut.machine).open_transactions
   free clear = subst (λ (x : ℕ). Free x place (cut.machine).open_transactions) session_is (free-none o.session place (cut.machine).open_transactions clear.rival)
 
@@ -695,6 +561,7 @@ module _ (tables : List TableDecl) (printed timeline : List Entry) (t : Timeline
   still-has is (ends x) = absurd (ended-not entry.reply.said x.t.own is x.said_is)
   still-has is (commits c) = absurd (let e : said.Accepted ≡ said.Committed (Some (length (cut.machine).history + 1)) = sym is ∙ c.said_is in let never : ⊥ = cc in never)
 
+  -- The transaction of an accepted write is the first updater of the place.
   first-updater : entry.reply.said ≡ said.Accepted → is_first_updater all_run its_own place ≡ true
   first-updater is =
       let behind = thread entry.reply.who cut.rest in
@@ -730,6 +597,7 @@ module _ (tables : List TableDecl) (printed timeline : List Entry) (t : Timeline
   conflict-by acceptable (limited clear can (inr is)) = ap (conflict_holds all_run its_own place entry) is.3 ∙ clear-holds clear
   conflict-by acceptable (memory is) = ap (conflict_holds all_run its_own place entry) is
 
+-- Whether what the reply to a write tells of conflicts holds.
 abbrev conflict_test : Run → Entry → Span → Bool
 conflict_test all entry u = option_map_or (λ write. conflict_holds all u write.0 entry entry.reply.said) (write_of entry.command) true
 

@@ -1,4 +1,5 @@
--- What is due in a script: sessions' commands of its tables, and turns of its workers; and the law of a run.
+-- What is due in a script: sessions' commands of its tables, and turns of its workers; and the law
+-- of a run.
 use Rattle.std.proofs.Common.{◌≡◌, ℕ, ◌+◌, ◌≤◌, Bool, true, false, cond, ◌&&◌, ◌||◌, inl, inr, nat_le, nat_lt, eqb, zero, suc, List, [], ◌∷◌, ◌++◌, length, Option, Some, None, Ok, refl, sym, ap, ◌∙◌, subst, arith, append-nil, append_assoc}
 use Rattle.std.specs.Prelude.{◌==◌, slice_get, is_some}
 use Rattle.std.specs.List.{list_all, flat_map, cons_option, count_by, range_with_len, enumerate_from}
@@ -45,20 +46,24 @@ in-pieces-append [] b = refl
 in-pieces-append (inl due ∷ a) b = ap (λ (dues : List Due). due ∷ dues) (in-pieces-append a b)
 in-pieces-append (inr steps ∷ a) b = ap (λ (dues : List Due). steps ++ dues) (in-pieces-append a b) ∙ sym (append_assoc steps (dues_in_pieces a) (dues_in_pieces b))
 
+-- Pieces without steps in front, and more such, have no steps in front.
 begins-append : (a b : Pieces) → BeginsFixed a → BeginsFixed b → BeginsFixed (a ++ b)
 begins-append [] b h k = k
 begins-append (inl due ∷ a) b h k = tt
 begins-append (inr steps ∷ a) b h k = h
 
+-- Formed pieces, and more that have no steps in front, are formed together.
 formed-append : (tables : List TableDecl) (a b : Pieces) → AreFormed tables a → AreFormed tables b → BeginsFixed b → AreFormed tables (a ++ b)
 formed-append tables [] b h k begins = k
 formed-append tables (inl due ∷ a) b h k begins = (h.0, formed-append tables a b h.1 k begins)
 formed-append tables (inr steps ∷ a) b h k begins = (h.0, begins-append a b h.1 begins, formed-append tables a b h.2 k begins)
 
 module _ (tables : List TableDecl) where
+  -- Where nothing is due, it is in pieces.
   laid-none : Laid tables []
   laid-none = record { pieces = []; is = refl; formed = tt; begins = tt }
 
+  -- What is due in pieces, and then in more pieces, is in pieces.
   laid-append : (a b : List Due) → Laid tables a → Laid tables b → Laid tables (a ++ b)
   laid-append a b h k = record {
     pieces = h.pieces ++ k.pieces;
@@ -67,10 +72,12 @@ module _ (tables : List TableDecl) where
     begins = begins-append h.pieces k.pieces h.begins k.begins;
   }
 
+  -- Where each part is due in pieces, so are all parts together.
   laid-flat : {X : Type 0} (f : X → List Due) → ((x : X) → Laid tables (f x)) → (xs : List X) → Laid tables (flat_map f xs)
   laid-flat f h [] = laid-none
   laid-flat f h (x ∷ xs) = laid-append (f x) (flat_map f xs) (h x) (laid-flat f h xs)
 
+  -- What is due of a session is in pieces.
   laid-session : (round session : ℕ) (commands : List Command) → Laid tables (dues_to round (Session session) commands)
   laid-session round session [] = laid-none
   laid-session round session (asked ∷ commands) =
@@ -84,29 +91,35 @@ module _ (tables : List TableDecl) where
 
   -- ---- a worker's turn
 
+  -- Each of the commands is a step of a turn.
   abbrev EachStep : List Command → Type 0
   EachStep [] = Unit {0}
   EachStep (asked ∷ commands) = IsStep tables asked × EachStep commands
 
+  -- Two lists of steps of a turn make one such list.
   each-append : (a b : List Command) → EachStep a → EachStep b → EachStep (a ++ b)
   each-append [] b h k = k
   each-append (asked ∷ a) b h k = (h.0, each-append a b h.1 k)
 
+  -- The seals and gatherings of a table's blocks are steps of a turn.
   block-steps : (table first count : ℕ) → is_table_place tables table ≡ true → first + count ≤ 1024
       → EachStep (flat_map (λ block. command.Seal table block ∷ command.Gather table block ∷ []) (range_with_len first count))
   block-steps table first zero place few = tt
   block-steps table first (suc count) place few =
       ((place, omega (arith, few)), ((place, omega (arith, few)), block-steps table (first + 1) count place (omega (arith, few))))
 
+  -- The table behind others stands at the place that they count.
   place-at : (front rest : List TableDecl) (table : TableDecl) → slice_get (front ++ table ∷ rest) (length front) ≡ Some table
   place-at [] rest table = refl
   place-at (other ∷ front) rest table = place-at front rest table
 
+  -- A valid table has at most 1024 blocks.
   table-blocks : (table : TableDecl) → is_table table ≡ true → table.blocks ≤ 1024
   table-blocks table is =
       let parts = and_parts (is_name table.name && are_columns table.schema && are_slots table.schema table.slots) (are_blocks table.blocks) is in
       leb-true table.blocks 1024 (and_parts (nat_le 1 table.blocks) (nat_le table.blocks 1024) parts.1).1
 
+  -- What a turn asks of valid tables are steps of a turn.
   table-steps : (front rest : List TableDecl) → tables ≡ front ++ rest → list_all is_table rest ≡ true
       → EachStep (flat_map (λ entry. command.Compact entry.0 ∷ flat_map (λ block. command.Seal entry.0 block ∷ command.Gather entry.0 block ∷ []) (range_with_len 0 entry.1.blocks))
       (enumerate_from (length front) rest))
@@ -121,10 +134,12 @@ module _ (tables : List TableDecl) where
       (subst (λ (n : ℕ). EachStep (flat_map (λ entry. command.Compact entry.0 ∷ flat_map (λ block. command.Seal entry.0 block ∷ command.Gather entry.0 block ∷ []) (range_with_len 0 entry.1.blocks)) (enumerate_from n rest)))
       (length_push front table) later)
 
+  -- Steps that are asked of a worker are due as steps of its turn.
   all-steps : (round worker : ℕ) (commands : List Command) → EachStep commands → AllSteps tables round worker (dues_to round (Worker worker) commands)
   all-steps round worker [] h = tt
   all-steps round worker (asked ∷ commands) h = (refl, refl, h.0, all-steps round worker commands h.1)
 
+  -- What is due of a worker's turn is in pieces.
   laid-turn : (round worker : ℕ) → list_all is_table tables ≡ true → Laid tables (dues_to round (Worker worker) (turn_of tables))
   laid-turn round worker valid =
       let commands = flat_map (λ (entry : ℕ × TableDecl). command.Compact entry.0 ∷ flat_map (λ block. command.Seal entry.0 block ∷ command.Gather entry.0 block ∷ []) (range_with_len 0 entry.1.blocks)) (enumerate_from 0 tables) in
@@ -138,6 +153,7 @@ module _ (tables : List TableDecl) where
         begins = tt;
       }
 
+  -- What is due of all turns of a worker is in pieces.
   laid-turns : (round worker : ℕ) → list_all is_table tables ≡ true → (turns : List ℕ) → Laid tables (dues_to round (Worker worker) (flat_map (λ turn. turn_of tables) turns))
   laid-turns round worker valid [] = laid-none
   laid-turns round worker valid (turn ∷ turns) =
@@ -158,26 +174,32 @@ script-laid script valid =
 -- ---- whose each due is
 
 module _ (tables : List TableDecl) where
+  -- Two lists of what sessions and workers are to do make one such list.
   due-append : (a b : List Due) → EachDue tables a → EachDue tables b → EachDue tables (a ++ b)
   due-append [] b h k = k
   due-append (due ∷ a) b h k = (h.0, due-append a b h.1 k)
 
+  -- Where each part is what sessions and workers are to do, so are all together.
   due-flat : {X : Type 0} (f : X → List Due) → ((x : X) → EachDue tables (f x)) → (xs : List X) → EachDue tables (flat_map f xs)
   due-flat f h [] = tt
   due-flat f h (x ∷ xs) = due-append (f x) (flat_map f xs) (h x) (due-flat f h xs)
 
+  -- Each of the commands is one of upkeep.
   abbrev EachUpkeep : List Command → Type 0
   EachUpkeep [] = Unit {0}
   EachUpkeep (asked ∷ commands) = (is_upkeep asked ≡ true) × EachUpkeep commands
 
+  -- Two lists of upkeep make one such list.
   upkeep-append : (a b : List Command) → EachUpkeep a → EachUpkeep b → EachUpkeep (a ++ b)
   upkeep-append [] b h k = k
   upkeep-append (asked ∷ a) b h k = (h.0, upkeep-append a b h.1 k)
 
+  -- Where each part is upkeep, so are all parts together.
   upkeep-flat : {X : Type 0} (f : X → List Command) → ((x : X) → EachUpkeep (f x)) → (xs : List X) → EachUpkeep (flat_map f xs)
   upkeep-flat f h [] = tt
   upkeep-flat f h (x ∷ xs) = upkeep-append (f x) (flat_map f xs) (h x) (upkeep-flat f h xs)
 
+  -- Each command of a turn is one of upkeep.
   turn-upkeep : (of : List TableDecl) → EachUpkeep (turn_of of)
   turn-upkeep of = (refl, (refl, upkeep-flat table_commands table_upkeep (enumerate_from 0 of)))
     where
@@ -193,22 +215,27 @@ module _ (tables : List TableDecl) where
       table_upkeep : (entry : ℕ × TableDecl) → EachUpkeep (table_commands entry)
       table_upkeep entry = (refl, upkeep-flat (block_commands entry.0) (block_upkeep entry.0) (range_with_len 0 entry.1.blocks))
 
+  -- Upkeep that is asked of a worker is due of it.
   due-worker : (round worker : ℕ) (commands : List Command) → EachUpkeep commands → EachDue tables (dues_to round (Worker worker) commands)
   due-worker round worker [] h = tt
   due-worker round worker (asked ∷ commands) h = (inr (worker, refl, h.0), due-worker round worker commands h.1)
 
+  -- Each of the commands is valid with the tables.
   abbrev EachValid : List Command → Type 0
   EachValid [] = Unit {0}
   EachValid (asked ∷ commands) = (is_command tables asked ≡ true) × EachValid commands
 
+  -- Valid commands that are asked of a session are due of it.
   due-session : (round session : ℕ) (commands : List Command) → EachValid commands → EachDue tables (dues_to round (Session session) commands)
   due-session round session [] h = tt
   due-session round session (asked ∷ commands) h = (inl (session, refl, h.0), due-session round session commands h.1)
 
+  -- One more valid command, kept or not, leaves all commands valid.
   kept-command : (b : Bool) (asked : Command) (commands : List Command) → is_command tables asked ≡ true → EachValid commands → EachValid (cons_option (cond b (Some asked) None) commands)
   kept-command true asked commands h k = (h, k)
   kept-command false asked commands h k = k
 
+-- The commands of a session in valid lines are valid.
 commands-valid : (script : Script) (session : ℕ) (lines : List Line) → list_all (is_line script) lines ≡ true → EachValid script.tables (commands_of session lines)
 commands-valid script session [] h = tt
 commands-valid script session (line ∷ lines) h =
@@ -216,6 +243,7 @@ commands-valid script session (line ∷ lines) h =
     kept-command script.tables (line.session == session) line.command (commands_of session lines)
     (and_parts (is_within 1 script.sessions line.session) (is_command script.tables line.command) parts.0).1 (commands-valid script session lines parts.1)
 
+-- What is due in rounds of valid lines is a session's or a worker's.
 rounds-due : (script : Script) (round : ℕ) (rounds : List (List Line)) → list_all (is_line script) (flat_map (λ lines. lines) rounds) ≡ true
     → EachDue script.tables (flat_map (λ entry. dues_in script entry.0 entry.1) (enumerate_from round rounds))
 rounds-due script round [] h = tt
@@ -230,24 +258,29 @@ rounds-due script round (lines ∷ rounds) h =
 
 -- ---- names
 
+-- A byte that is a lower-case letter, a digit or an underscore is plain.
 name-byte-by : (byte : ℕ) (lower digit under : Bool) → (nat_le 97 byte && nat_le byte 122) ≡ lower → (nat_le 48 byte && nat_le byte 57) ≡ digit → eqb byte 95 ≡ under → (lower || digit || under) ≡ true → is_plain byte ≡ true
 name-byte-by byte true digit under l d u h = let parts = and_parts (nat_le 97 byte) (nat_le byte 122) l in lt-ltb 34 byte (let e : 97 ≤ byte = leb-true 97 byte parts.0 in omega (arith, e))
 name-byte-by byte false true under l d u h = let parts = and_parts (nat_le 48 byte) (nat_le byte 57) d in lt-ltb 34 byte (let e : 48 ≤ byte = leb-true 48 byte parts.0 in omega (arith, e))
 name-byte-by byte false false true l d u h = let e : nat_lt 34 byte ≡ true = grind (arith, nat_tests, u) in e
 name-byte-by byte false false false l d u h = absurd (let never : ⊥ = cc in never)
 
+-- A byte that a name may have is plain.
 name-byte : (byte : ℕ) → is_name_byte byte ≡ true → is_plain byte ≡ true
 name-byte byte h = name-byte-by byte (nat_le 97 byte && nat_le byte 122) (nat_le 48 byte && nat_le byte 57) (eqb byte 95) refl refl refl h
 
+-- A lower-case letter is a plain byte.
 lower-byte : (byte : ℕ) → is_lower_case byte ≡ true → is_plain byte ≡ true
 lower-byte byte h = let parts = and_parts (nat_le 97 byte) (nat_le byte 122) h in lt-ltb 34 byte (let e : 97 ≤ byte = leb-true 97 byte parts.0 in omega (arith, e))
 
+-- A word of bytes that a name may have is plain.
 name-rest : (word : List ℕ) → list_all is_name_byte word ≡ true → list_all is_plain word ≡ true
 name-rest [] h = refl
 name-rest (byte ∷ word) h =
     let parts = and_parts (is_name_byte byte) (list_all is_name_byte word) h in
     and_from (is_plain byte) (list_all is_plain word) (name-byte byte parts.0) (name-rest word parts.1)
 
+-- A name is a word of plain bytes.
 name-plain : (word : List ℕ) → is_name word ≡ true → list_all is_plain word ≡ true
 name-plain [] h = refl
 name-plain (first ∷ rest) h =
@@ -255,6 +288,7 @@ name-plain (first ∷ rest) h =
     let inner = and_parts (is_lower_case first) (list_all is_name_byte rest) parts.0 in
     and_from (is_plain first) (list_all is_plain rest) (lower-byte first inner.0) (name-rest rest inner.1)
 
+-- The names of valid tables are of plain bytes.
 names-plain : (tables : List TableDecl) → list_all is_table tables ≡ true → NamesPlain tables
 names-plain [] h table = refl
 names-plain (decl ∷ tables) h zero =
@@ -264,6 +298,7 @@ names-plain (decl ∷ tables) h zero =
     name-plain decl.name (and_parts (is_name decl.name) (are_columns decl.schema) third.0).0
 names-plain (decl ∷ tables) h (suc table) = names-plain tables (and_parts (is_table decl) (list_all is_table tables) h).1 table
 
+-- No two of valid tables with names of their own have one name.
 names-apart : (tables : List TableDecl) → list_all is_table tables ≡ true → have_own_names tables ≡ true → Named tables
 names-apart tables all own a b at_a at_b same =
     let first = place_stands tables a all own at_a in
@@ -279,6 +314,7 @@ pub record IsSound (script : Script) : Type 0 where
   pub names : have_own_names script.tables ≡ true
   pub lines : list_all (is_line script) (all_lines script) ≡ true
 
+-- A valid script has valid tables with names of their own, and valid lines.
 script-sound : (script : Script) → is_valid script ≡ true → IsSound script
 script-sound script h =
     let a = and_parts (has_head script && nat_lt 0 (length script.rounds) && list_all (is_line script) (all_lines script)) (nat_le (count_by (λ line. is_export line.command) (all_lines script)) 1) h in
@@ -298,6 +334,7 @@ script-sound script h =
 
 -- ---- the law of a run
 
+-- The text of the printed replies is read as these replies.
 abbrev IsReadBack : Script → List Due → List (Option Said) → Type 0
 IsReadBack script dues told = reading script.tables dues [] (lines_from script.tables (printed_from script.tables [] dues told)) ≡ Ok ([] ++ printed_from script.tables [] dues told)
 

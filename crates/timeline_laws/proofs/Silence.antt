@@ -1,4 +1,5 @@
--- The text of printed replies is read as these replies, also where steps of a worker's turn leave no line.
+-- The text of printed replies is read as these replies, also where steps of a worker's turn leave
+-- no line.
 use Rattle.std.proofs.Common.{◌≡◌, ℕ, ◌+◌, ◌⊎◌, inl, inr, Bool, true, false, cond, ◌&&◌, not, List, [], ◌∷◌, ◌++◌, drop, Option, None, Some, Ok, Err, refl, sym, ap, ◌∙◌, subst, append-nil, append_assoc}
 use Rattle.std.specs.Prelude.{Result}
 use Rattle.std.specs.List.{list_all}
@@ -25,26 +26,31 @@ use Rattle.timeline_laws.proofs.Turns.{IsStep, StepSaid, BeginSaid, Named, step-
 abbrev Reading : Type 0
 Reading = Result (List Entry) ℕ
 
+-- How a due is read: its reply is taken, or it is passed over if silent.
 abbrev way : Bool → Option Entry → (Entry → Reading) → ℕ → Reading → Reading
 way silent at next fail skip = elim silent as (λ b. Reading) [
   | true ↦ further (elim at as (λ o. Reading) [ Some entry ↦ next entry | None ↦ Err fail ]) skip
   | false ↦ elim at as (λ o. Reading) [ Some entry ↦ next entry | None ↦ Err fail ]
 ]
 
+-- The further of two readings that comes to the end is one of the two.
 further-either : (a b : Reading) (entries : List Entry) → further a b ≡ Ok entries → (a ≡ Ok entries) ⊎ (b ≡ Ok entries)
 further-either (Ok x) b entries h = inl h
 further-either (Err line) (Ok x) entries h = inr h
 further-either (Err line) (Err other) entries h = absurd (let never : ⊥ = cc in never)
 
+-- The further of a reading and one that comes to the end comes to the end.
 further-some : (a : Reading) (entries : List Entry) → (found : List Entry) × (further a (Ok entries) ≡ Ok found)
 further-some (Ok x) entries = (x, refl)
 further-some (Err line) entries = (entries, refl)
 
+-- A due whose reply is found, and is read on to the end, is so read.
 way-taken : (silent : Bool) (at : Option Entry) (next : Entry → Reading) (fail : ℕ) (skip : Reading) (entry : Entry) (entries : List Entry) → at ≡ Some entry → next entry ≡ Ok entries
     → way silent at next fail skip ≡ Ok entries
 way-taken true at next fail skip entry entries is h = rw (is, h) refl
 way-taken false at next fail skip entry entries is h = rw (is, h) refl
 
+-- A silent due that is passed over to the end is read to the end.
 way-passed : (silent : Bool) (at : Option Entry) (next : Entry → Reading) (fail : ℕ) (skip : Reading) (entries : List Entry) → silent ≡ true → skip ≡ Ok entries
     → (found : List Entry) × (way silent at next fail skip ≡ Ok found)
 way-passed true at next fail skip entries is h =
@@ -52,6 +58,7 @@ way-passed true at next fail skip entries is h =
     (some.0, ap (further (elim at as (λ o. Reading) [ Some entry ↦ next entry | None ↦ Err fail ])) h ∙ some.1)
 way-passed false at next fail skip entries is h = absurd (let never : ⊥ = cc in never)
 
+-- A due that is read to the end was taken, or was silent and passed over.
 way-cases : (silent : Bool) (at : Option Entry) (next : Entry → Reading) (fail : ℕ) (skip : Reading) (entries : List Entry) → way silent at next fail skip ≡ Ok entries
     → ((entry : Entry) × (at ≡ Some entry) × (next entry ≡ Ok entries)) ⊎ ((silent ≡ true) × (skip ≡ Ok entries))
 way-cases true (Some entry) next fail skip entries h = elim (further-either (next entry) skip entries h) [ inl taken ↦ inl (entry, refl, taken) | inr passed ↦ inr (refl, passed) ]
@@ -59,12 +66,15 @@ way-cases true None next fail skip entries h = elim (further-either (Err fail) s
 way-cases false (Some entry) next fail skip entries h = inl (entry, refl, h)
 way-cases false None next fail skip entries h = absurd (let never : ⊥ = cc in never)
 
+-- A reading that comes to the end with these replies.
 abbrev finished : List Entry → Reading
 finished entries = Ok entries
 
+-- Two readings that come to the end are equal only with equal replies.
 same-ok : (a b : List Entry) → finished a ≡ finished b → a ≡ b
 same-ok a b e = cc
 
+-- A reading that ends by a test, and comes to the end, gives the replies so far.
 end-chosen : (b : Bool) (earlier entries : List Entry) (line : ℕ) → cond {A = Reading} b (Ok earlier) (Err line) ≡ Ok entries → entries ≡ earlier
 end-chosen true earlier entries line h = sym (same-ok earlier entries h)
 end-chosen false earlier entries line h = absurd (let never : ⊥ = cc in never)
@@ -100,6 +110,7 @@ AreFormed tables [] = Unit {0}
 AreFormed tables (inl due ∷ pieces) = IsFixed due × AreFormed tables pieces
 AreFormed tables (inr steps ∷ pieces) = ((round : ℕ) × (worker : ℕ) × AllSteps tables round worker steps) × BeginsFixed pieces × AreFormed tables pieces
 
+-- What is due with a line of its own may not be silent.
 fixed-speaks : (due : Due) → IsFixed due → may_be_silent due ≡ true → ⊥
 fixed-speaks due (inl h) silent =
     let never : true ≡ false = sym silent ∙ ap (λ (w : Who). is_worker w && is_seal_or_gather due.command) h.1 in
@@ -116,9 +127,11 @@ module _ (tables : List TableDecl) (names : NamesPlain tables) (named : Named ta
   abbrev lines_due : List Entry → List Due → List (Option Said) → List (List ℕ)
   lines_due earlier dues answers = lines_from tables (printed_from tables earlier dues answers)
 
+  -- The lines of the replies to what is due are read as these replies.
   abbrev IsReadAs : List Entry → List Due → List (Option Said) → Type 0
   IsReadAs earlier dues answers = reading tables dues earlier (lines_due earlier dues answers) ≡ Ok (earlier ++ printed_from tables earlier dues answers)
 
+  -- A due that is read took the reply at the front, or was passed over.
   read-cases : (due : Due) (dues : List Due) (earlier : List Entry) (line : List ℕ) (behind : List (List ℕ)) (entries : List Entry) → reading tables (due ∷ dues) earlier (line ∷ behind) ≡ Ok entries
       → ((entry : Entry) × (reply_at tables earlier due line behind ≡ Some entry) × (reading tables dues (earlier ++ entry ∷ []) (drop (line_count tables entry) (line ∷ behind)) ≡ Ok entries))
       ⊎ ((may_be_silent due ≡ true) × (reading tables dues earlier (line ∷ behind) ≡ Ok entries))
@@ -126,6 +139,7 @@ module _ (tables : List TableDecl) (names : NamesPlain tables) (named : Named ta
       way-cases (may_be_silent due) (reply_at tables earlier due line behind) (λ entry. reading tables dues (earlier ++ entry ∷ []) (drop (line_count tables entry) (line ∷ behind)))
       (next_line tables earlier + lines_begun tables earlier due line behind) (reading tables dues earlier (line ∷ behind)) entries h
 
+  -- Where no lines are left, only the replies so far are read.
   end-read : (dues : List Due) (earlier entries : List Entry) → reading tables dues earlier [] ≡ Ok entries → entries ≡ earlier
   end-read [] earlier entries h = sym (same-ok earlier entries h)
   end-read (due ∷ dues) earlier entries h = end-chosen (list_all may_be_silent (due ∷ dues)) earlier entries (next_line tables earlier) h
@@ -155,22 +169,26 @@ module _ (tables : List TableDecl) (names : NamesPlain tables) (named : Named ta
 
   -- ---- steps
 
+  -- Each step of a turn is one of upkeep.
   step-upkeep : (asked : Command) → IsStep tables asked → is_upkeep asked ≡ true
   step-upkeep (command.Compact table) is = refl
   step-upkeep (command.Seal table block) is = refl
   step-upkeep (command.Gather table block) is = refl
   step-upkeep _ is = absurd is
 
+  -- A reply to upkeep is one that may stand in a transaction.
   upkeep-within : (within : Bool) (asked : Command) (told : Said) → is_upkeep asked ≡ true → IsReply within asked told → IsReplyWithin asked told
   upkeep-within true asked told up h = h
   upkeep-within false asked told up h = subst (λ (b : Bool). elim b as (λ x. Type 0) [ true ↦ IsReplyWithin asked told | false ↦ IsReplyWithout asked told ]) up h
 
+  -- What a worker's line says is not silent.
   not-silent : (due : Due) (worker : ℕ) (told : Said) (silent : Bool) → due.who ≡ Worker worker → is_silent told ≡ silent → is_said due told ≡ true → is_silent told ≡ false
   not-silent due worker told true is silent kept =
       let never : false ≡ true = sym (ap (λ (w : Who). not (is_worker w && is_silent told)) is ∙ ap not silent) ∙ kept in
       absurd (let impossible : ⊥ = cc in impossible)
   not-silent due worker told false is silent kept = silent
 
+  -- What answers a worker's step in a line is what a step may say.
   answered-step : (due : Due) (worker : ℕ) (earlier : List Entry) (told : Said) → due.who ≡ Worker worker → IsStep tables due.command → is_said due told ≡ true → IsReply (is_within due.who earlier) due.command told → StepSaid tables told
   answered-step due worker earlier told is step kept h =
       step-said tables due.command step told (upkeep-within (is_within due.who earlier) due.command told (step-upkeep due.command step) h) (not-silent due worker told (is_silent told) is refl kept)
@@ -179,9 +197,11 @@ module _ (tables : List TableDecl) (names : NamesPlain tables) (named : Named ta
   abbrev made : List Entry → ℕ → Who → Command → Said → Entry
   made earlier round who asked told = entry_behind tables earlier (record { round = round; who = who; command = asked }) told
 
+  -- A worker's reply shows the first command of a turn.
   shown-first : (due : Due) (worker : ℕ) → due.who ≡ Worker worker → command_shown due ≡ command.Observe
   shown-first due worker is = ap (λ (w : Who). cond (is_worker w) command.Observe due.command) is
 
+  -- Two steps of one worker and round that tell the same have one reply.
   same-entry : (earlier : List Entry) (a b : Due) (round worker : ℕ) (told other : Said) → a.round ≡ round → b.round ≡ round → a.who ≡ Worker worker → b.who ≡ Worker worker → told ≡ other
       → entry_behind tables earlier a told ≡ entry_behind tables earlier b other
   same-entry earlier a b round worker told other round_a round_b who_a who_b same = to-first a round_a who_a told ∙ ap (made earlier round (Worker worker) command.Observe) same ∙ sym (to-first b round_b who_b other)
@@ -200,7 +220,8 @@ module _ (tables : List TableDecl) (names : NamesPlain tables) (named : Named ta
     abbrev tail : List Due
     tail = dues_in_pieces pieces
 
-    -- the reading of these steps before the tail, of the lines of other steps of the turn, gives those
+    -- the reading of these steps before the tail, of the lines of other steps of the turn, gives
+    -- those
     abbrev Agrees : List Due → Type 0
     Agrees steps = (earlier : List Entry) (others : List Due) → AllSteps tables round worker others → (answers : List (Option Said)) → AreReplies tables earlier (others ++ tail) answers
         → (entries : List Entry) → reading tables (steps ++ tail) earlier (lines_due earlier (others ++ tail) answers) ≡ Ok entries → entries ≡ earlier ++ printed_from tables earlier (others ++ tail) answers
@@ -330,18 +351,22 @@ module _ (tables : List TableDecl) (names : NamesPlain tables) (named : Named ta
 
   -- ---- all that is due
 
+  -- What answers an observe is what begins a turn.
   begin-observe : (told : Said) → IsObserveReply told → BeginSaid told
   begin-observe (said.Cooling n) h = tt
   begin-observe _ h = absurd h
 
+  -- What answers a pruning is what begins a turn.
   begin-prune : (told : Said) → IsPruneReply told → BeginSaid told
   begin-prune (said.Pruned n) h = tt
   begin-prune _ h = absurd h
 
+  -- What answers either command that begins a turn is what begins one.
   begins-turn : (asked : Command) (told : Said) (within : Bool) → (asked ≡ command.Observe) ⊎ (asked ≡ command.Prune) → IsReply within asked told → BeginSaid told
   begins-turn asked told within (inl is) h = begin-observe told (upkeep-within within command.Observe told refl (subst (λ (c : Command). IsReply within c told) is h))
   begins-turn asked told within (inr is) h = begin-prune told (upkeep-within within command.Prune told refl (subst (λ (c : Command). IsReply within c told) is h))
 
+  -- The first reply to pieces without steps in front, if any, is no step's.
   tail-lines : (ps : Pieces) (f : AreFormed tables ps) (b : BeginsFixed ps) (earlier : List Entry) (answers : List (Option Said)) → AreReplies tables earlier (dues_in_pieces ps) answers
       → (printed_from tables earlier (dues_in_pieces ps) answers ≡ [])
       ⊎ ((head : Due) × (told : Said) × (others : List Entry) × (printed_from tables earlier (dues_in_pieces ps) answers ≡ entry_behind tables earlier head told ∷ others) × IsSaid tables told

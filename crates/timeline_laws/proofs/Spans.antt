@@ -1,5 +1,6 @@
--- The transactions of one session or worker, read along its replies, and that those of an output are these.
-use Rattle.std.proofs.Common.{◌≡◌, ℕ, Bool, true, false, cond, ◌||◌, List, [], ◌∷◌, ◌++◌, Option, None, Some, refl, sym, ap, ◌∙◌, append_assoc, append-nil}
+-- The transactions of one session or worker, read along its replies, and that those of an output
+-- are these.
+use Rattle.std.proofs.Common.{◌≡◌, ℕ, Bool, true, false, cond, List, [], ◌∷◌, ◌++◌, Option, None, Some, refl, sym, ap, ◌∙◌, append_assoc, append-nil}
 use Rattle.std.specs.Prelude.{option_map}
 use Rattle.std.specs.List.{filter, list_any, cons_option}
 use Rattle.std.proofs.lemmas.List.Folds.{list_any-append}
@@ -8,6 +9,7 @@ use Rattle.outcome_spec.specs.Entries.{Entry, is_same, snapshot_in, is_end}
 use Rattle.outcome_spec.specs.Runs.{Span, up_to_end, span_from, transactions_of}
 use Rattle.timeline_spec.specs.Timeline.{Each, Follows, InOrder}
 use Rattle.outcome_spec.specs.Entries.{thread}
+use Rattle.timeline_laws.proofs.Tests.{or-last}
 use Rattle.timeline_laws.proofs.Order.{Each-filter, same-is}
 
 -- the transaction of a session
@@ -46,10 +48,6 @@ pub record Ended (who : Who) (front : List Entry) (t : Span) : Type 0 where
 abbrev pub going_on : Who → Option (ℕ × List Entry) → List Entry → Option Span
 going_on who on later = option_map (λ o. span who o.0 (o.1 ++ up_to_end later)) on
 
-true-last : (b : Bool) → (b || true) ≡ true
-true-last true = refl
-true-last false = refl
-
 -- the transactions that ended among these replies, and the one that is open behind them
 pub record Past (who : Who) (front : List Entry) (on : Option (ℕ × List Entry)) : Type 0 where
   pub done : List Span
@@ -60,6 +58,7 @@ pub record Past (who : Who) (front : List Entry) (on : Option (ℕ × List Entry
 pub past-nil : (who : Who) → Past who [] None
 past-nil who = record { done = []; parts = λ later. refl; ended = tt }
 
+-- A transaction that ended among replies ended among them and one more.
 ended-more : (who : Who) (front : List Entry) (last : Entry) (t : Span) → Ended who front t → Ended who (front ++ last ∷ []) t
 ended-more who front last t h = record {
   ahead = h.ahead;
@@ -69,6 +68,7 @@ ended-more who front last t h = record {
   of = h.of;
 }
 
+-- Transactions that all ended among replies ended among them and one more.
 still-ended : (who : Who) (front : List Entry) (last : Entry) (ts : List Span) → EachSpan (Ended who front) ts → EachSpan (Ended who (front ++ last ∷ [])) ts
 still-ended who front last ts h = EachSpan-weaker (Ended who front) (Ended who (front ++ last ∷ [])) (ended-more who front last) ts h
 
@@ -109,7 +109,7 @@ past-ends who front last snapshot replies ahead past at none ends = record {
       ahead = ahead;
       behind = [];
       stands = ap (λ es. es ++ last ∷ []) at ∙ append_assoc ahead replies (last ∷ []) ∙ ap (λ es. ahead ++ es) (sym (append-nil (replies ++ last ∷ [])));
-      ends = rw (list_any-append (λ entry. is_end entry.reply.said) replies (last ∷ []), ends) (true-last (list_any (λ entry. is_end entry.reply.said) replies));
+      ends = rw (list_any-append (λ entry. is_end entry.reply.said) replies (last ∷ []), ends) (or-last (list_any (λ entry. is_end entry.reply.said) replies));
       of = refl;
     },
     tt,
@@ -141,6 +141,7 @@ thread-of who (entry ∷ entries) = kept-of who (is_same entry.reply.who who) en
 opened : (who : Who) (entry : Entry) (entries : List Entry) (snapshot : ℕ) → entry.reply.who ≡ who → span_from entry entries snapshot ≡ span who snapshot (up_to_end (entry ∷ thread who entries))
 opened who entry entries snapshot is = ap (λ (w : Who). span w snapshot (up_to_end (entry ∷ thread w entries))) is
 
+-- One more reply keeps that one's transactions are those of one's replies.
 spans-step : (who : Who) (entry : Entry) (entries : List Entry) (shown : Option ℕ) (kept : Bool) → snapshot_in entry.reply.said ≡ shown → is_same entry.reply.who who ≡ kept
     → filter (λ t. is_same t.who who) (transactions_of entries) ≡ spans who (thread who entries)
     → filter (λ t. is_same t.who who) (transactions_of (entry ∷ entries)) ≡ spans who (thread who (entry ∷ entries))

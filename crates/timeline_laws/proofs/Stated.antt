@@ -1,4 +1,5 @@
--- Replies in the states of their sessions, with rows of their tables: what the lines must say to be read back.
+-- Replies in the states of their sessions, with rows of their tables: what the lines must say to be
+-- read back.
 use Rattle.std.proofs.Common.{◌≡◌, Bool, true, false, ◌||◌, List, [], ◌∷◌, ◌++◌, Option, None, Some, ℤ}
 use Rattle.std.specs.Prelude.{int_lt}
 use Rattle.std.specs.Option.{option_map_or}
@@ -44,7 +45,8 @@ RowsFit tables _ told = Unit {0}
 abbrev pub IsReply : Bool → Command → Said → Type 0
 IsReply within asked told = elim (within || is_upkeep asked) [ true ↦ IsReplyWithin asked told | false ↦ IsReplyWithout asked told ]
 
--- Each due is answered by a reply that may stand there behind those before it, or in silence where that may be.
+-- Each due is answered by a reply that may stand there behind those before it, or in silence where
+-- that may be.
 abbrev pub AreReplies : List TableDecl → List Entry → List Due → List (Option Said) → Type 0
 AreReplies tables earlier [] [] = Unit {0}
 AreReplies tables earlier [] (told ∷ answers) = ⊥

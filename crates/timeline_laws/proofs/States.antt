@@ -27,7 +27,7 @@ use Rattle.timeline_spec.specs.Printed.{printed_from, printed_of}
 use Rattle.timeline_spec.specs.Forms.{IsBeginReply, IsReplyWithin, IsReplyWithout, MayStand, AllMayStand}
 use Rattle.timeline_laws.proofs.Stated.{AreReplies, IsReply, RowsFit}
 use Rattle.timeline_laws.proofs.Kept.{printed-rows-fit}
-use Rattle.timeline_laws.proofs.Turns.{or-last}
+use Rattle.timeline_laws.proofs.Tests.{or-last}
 use Rattle.workload_spec.specs.Valid.{is_command}
 use Rattle.workload_spec.specs.declared.script.Script.{Script}
 use Rattle.timeline_laws.proofs.Order.{Each-filter, same-itself}
@@ -47,6 +47,7 @@ outside (said.At number) = true
 outside said.NoTransaction = true
 outside _ = false
 
+-- Where the machine's answer is not told without a transaction, no outcome is.
 outcome-outside : (machine : IsolationMachine) (session : ℕ) (act : Act) (own : Answer) (told : Said) (after : IsolationMachine)
     → (step machine (asks session act)).0 ≡ own → outside (said_of own) ≡ false → (outcome : Outcome) → Tells outcome told → Allows machine (asks session act) outcome after → outside told ≡ false
 outcome-outside machine session act own told after is free (Answered a) tells allows =
@@ -55,24 +56,29 @@ outcome-outside machine session act own told after is free Freezing tells allows
 outcome-outside machine session act own told after is free Full tells allows = ap outside tells
 outcome-outside machine session act own told after is free Memory tells allows = ap outside tells
 
+-- What a get finds is not told without a transaction.
 got-inside : (o : Option (List Cell)) → outside (said_of (answer.Found o)) ≡ false
 got-inside None = refl
 got-inside (Some row) = refl
 
+-- The answer to a commit is not told without a transaction.
 commit-inside : (machine : IsolationMachine) (o : Transaction) (own : WriteSet) → outside (said_of (commit machine o own).0) ≡ false
 commit-inside machine o [] = refl
 commit-inside machine o (first ∷ rest) = refl
 
+-- What upkeep tells is no reply of one without a transaction.
 upkeep-inside : (told : Said) → is_of_upkeep told ≡ true → outside told ≡ false
 upkeep-inside (said.At n) h = absurd (let never : ⊥ = cc in never)
 upkeep-inside said.NoTransaction h = absurd (let never : ⊥ = cc in never)
 upkeep-inside _ h = refl
 
+-- What an export in a transaction tells is not told without one.
 export-inside : (tables : List TableDecl) (front : List Entry) (machine : IsolationMachine) (o : Transaction) (table : ℕ) (told : Said) → ExportsWithin tables front machine o table told → outside told ≡ false
 export-inside tables front machine o table (said.At n) h = absurd h
 export-inside tables front machine o table said.NoTransaction h = absurd h
 export-inside tables front machine o table _ h = refl
 
+-- What a verdict on a write tells is not told without a transaction.
 verdict-inside : (machine : IsolationMachine) (o : Transaction) (place : Place) (acceptable : Bool) (told : Said) → Verdict machine o place acceptable told → outside told ≡ false
 verdict-inside machine o place acceptable told (accepted clear can is) = ap outside is
 verdict-inside machine o place acceptable told (rival r found is) = ap outside is
@@ -83,6 +89,7 @@ verdict-inside machine o place acceptable told (limited clear can (inl is)) = ap
 verdict-inside machine o place acceptable told (limited clear can (inr is)) = ap outside is.3
 verdict-inside machine o place acceptable told (memory is) = ap outside is
 
+-- One who has a transaction open is not told what is told without one.
 takes-inside : (tables : List TableDecl) (front : List Entry) (machine : IsolationMachine) (entry : Entry) (after : IsolationMachine) (who : Who) (asked : Command) (o : Transaction)
     → entry.command ≡ asked → entry.reply.who ≡ who → open_of who machine ≡ Some o → TakesAs tables front machine entry after (request_of who asked) → outside entry.reply.said ≡ false
 takes-inside tables front machine entry after (Worker worker) asked o is is_who at h = absurd (let never : ⊥ = cc in never)
@@ -115,6 +122,7 @@ takes-inside tables front machine entry after (Session session) asked o is is_wh
     let aside : Aside tables front machine entry.reply.who asked entry.reply.said = subst (λ (c : Command). Aside tables front machine entry.reply.who c entry.reply.said) is h.0 in
     upkeep-inside entry.reply.said aside.1
 
+-- Where an option is none, it has no value.
 nothing-open : (o : Option Transaction) → o ≡ None → IsSome o → ⊥
 nothing-open None h k = (let never : ⊥ = cc in never)
 nothing-open (Some t) h k = (let never : ⊥ = cc in never)
@@ -128,9 +136,11 @@ outcome-none machine session act own told after none is apart Freezing tells all
 outcome-none machine session act own told after none is apart Full tells allows = absurd (apart (sym is ∙ allows.1))
 outcome-none machine session act own told after none is apart Memory tells allows = absurd (nothing-open (transaction_of session machine) none allows.1)
 
+-- The answer that there is no transaction accepts no write.
 not-accepted : answer.NoTransaction ≡ answer.Accepted → ⊥
 not-accepted h = (let never : ⊥ = cc in never)
 
+-- The answer that shows a snapshot accepts no write.
 not-begun : (n : ℕ) → answer.At n ≡ answer.Accepted → ⊥
 not-begun n h = (let never : ⊥ = cc in never)
 
@@ -138,6 +148,7 @@ not-begun n h = (let never : ⊥ = cc in never)
 abbrev ToldOutside : Command → Said → Type 0
 ToldOutside asked told = (told ≡ said.NoTransaction) ⊎ ((asked ≡ command.Begin) × ((n : ℕ) × (told ≡ said.At n)))
 
+-- One without a transaction who asks no upkeep is told so, or begins one.
 takes-outside : (tables : List TableDecl) (front : List Entry) (machine : IsolationMachine) (entry : Entry) (after : IsolationMachine) (who : Who) (asked : Command)
     → entry.command ≡ asked → entry.reply.who ≡ who → open_of who machine ≡ None → is_upkeep asked ≡ false → TakesAs tables front machine entry after (request_of who asked) → ToldOutside asked entry.reply.said
 takes-outside tables front machine entry after (Session session) command.Begin is is_who none no_upkeep h =
@@ -169,10 +180,12 @@ takes-outside tables front machine entry after (Worker worker) asked is is_who n
 
 -- ---- the reply may stand in its state
 
+-- Each reply to a begin is told without a transaction.
 begin-outside : (told : Said) → IsBeginReply told → outside told ≡ true
 begin-outside (said.At n) h = refl
 begin-outside _ h = absurd h
 
+-- Each reply that may stand without a transaction is told without one.
 without-outside : (asked : Command) (told : Said) → IsReplyWithout asked told → outside told ≡ true
 without-outside command.Begin told h = begin-outside told h
 without-outside command.Observe told h = absurd h
@@ -182,6 +195,7 @@ without-outside (command.Seal table block) told h = absurd h
 without-outside (command.Gather table block) told h = absurd h
 without-outside asked told h = ap outside h
 
+-- In a transaction, a command that is no upkeep is not told that there is none.
 within-not : (asked : Command) → is_upkeep asked ≡ false → IsReplyWithin asked said.NoTransaction → ⊥
 within-not command.Begin up h = (let never : ⊥ = cc in never)
 within-not command.Abort up h = (let never : ⊥ = cc in never)
@@ -192,6 +206,7 @@ within-not (command.Seal table block) up h = (let never : ⊥ = cc in never)
 within-not (command.Gather table block) up h = (let never : ⊥ = cc in never)
 within-not asked up h = h
 
+-- What is told without a transaction may not stand in one, where no upkeep is asked.
 outside-not : (asked : Command) (told : Said) → is_upkeep asked ≡ false → ToldOutside asked told → IsReplyWithin asked told → ⊥
 outside-not asked told up (inl is) h = within-not asked up (subst (IsReplyWithin asked) is h)
 outside-not asked told up (inr is) h =
@@ -209,22 +224,26 @@ upkeep-stands (command.Seal table block) told up (inr h) = absurd h
 upkeep-stands (command.Gather table block) told up (inr h) = absurd h
 upkeep-stands asked told up (inr h) = absurd (let never : ⊥ = cc in never)
 
+-- What may answer upkeep may stand in a transaction and without one.
 upkeep-reply : (within : Bool) (asked : Command) (told : Said) → is_upkeep asked ≡ true → MayStand asked told → IsReply within asked told
 upkeep-reply within asked told up h =
     subst (λ (b : Bool). elim (within || b) as (λ x. Type 0) [ true ↦ IsReplyWithin asked told | false ↦ IsReplyWithout asked told ]) (sym up)
     (subst (λ (b : Bool). elim b as (λ x. Type 0) [ true ↦ IsReplyWithin asked told | false ↦ IsReplyWithout asked told ]) (sym (or-last within)) (upkeep-stands asked told up h))
 
 module _ (tables : List TableDecl) (front : List Entry) (machine : IsolationMachine) (entry : Entry) (after : IsolationMachine) (takes : Takes tables front machine entry after) where
+  -- Where one has a transaction open, the reply may stand in one.
   stand-inside : (o : Transaction) → open_of entry.reply.who machine ≡ Some o → MayStand entry.command entry.reply.said → IsReplyWithin entry.command entry.reply.said
   stand-inside o at (inl h) = h
   stand-inside o at (inr h) =
       let never : true ≡ false = sym (without-outside entry.command entry.reply.said h) ∙ takes-inside tables front machine entry after entry.reply.who entry.command o refl refl at takes in
       absurd (let impossible : ⊥ = cc in impossible)
 
+  -- Where one has none open and asks no upkeep, the reply may stand without one.
   stand-outside : is_upkeep entry.command ≡ false → open_of entry.reply.who machine ≡ None → MayStand entry.command entry.reply.said → IsReplyWithout entry.command entry.reply.said
   stand-outside up none (inr h) = h
   stand-outside up none (inl h) = absurd (outside-not entry.command entry.reply.said up (takes-outside tables front machine entry after entry.reply.who entry.command refl refl none up takes) h)
 
+  -- The reply may stand in the state that the machine has, by each case.
   stand-by : (within up : Bool) (found : Option Transaction) → open_of entry.reply.who machine ≡ found → within ≡ is_some found → is_upkeep entry.command ≡ up → MayStand entry.command entry.reply.said
       → elim (within || up) as (λ b. Type 0) [ true ↦ IsReplyWithin entry.command entry.reply.said | false ↦ IsReplyWithout entry.command entry.reply.said ]
   stand-by true up None at is is_up h = absurd (let never : ⊥ = cc in never)
@@ -233,6 +252,7 @@ module _ (tables : List TableDecl) (front : List Entry) (machine : IsolationMach
   stand-by false false None at is is_up h = stand-outside is_up at h
   stand-by false false (Some o) at is is_up h = absurd (let never : ⊥ = cc in never)
 
+  -- The reply may stand in the state that the machine has.
   stands-so : (within : Bool) → within ≡ is_some (open_of entry.reply.who machine) → MayStand entry.command entry.reply.said → IsReply within entry.command entry.reply.said
   stands-so within is h = stand-by within (is_upkeep entry.command) (open_of entry.reply.who machine) refl is refl h
 
@@ -265,6 +285,7 @@ EachDue tables (due ∷ dues) = IsDue tables due × EachDue tables dues
 
 -- A reply stands in the state that its place in the timeline has.
 module _ (tables : List TableDecl) (printed timeline : List Entry) (t : Timeline tables printed timeline) (order : InOrder printed) where
+  -- The lines in front say that one is in a transaction where the machine does.
   within-is : (earlier : List Entry) (entry : Entry) (behind : List Entry) → printed ≡ earlier ++ entry ∷ behind → Only printed entry → (cut : Cut tables timeline (last tables printed timeline t) entry)
       → is_within entry.reply.who earlier ≡ is_some (open_of entry.reply.who cut.machine)
   within-is earlier entry behind whole only cut =
@@ -299,6 +320,7 @@ module _ (tables : List TableDecl) (printed timeline : List Entry) (t : Timeline
       upkeep-fits (command.Scan table) up = absurd (let never : ⊥ = cc in never)
       upkeep-fits _ up = tt
 
+  -- Replies from one on, each at its place, answer what is due in their states.
   all-from : (earlier : List Entry) (dues : List Due) (answers : List (Option Said)) → EachDue tables dues → printed ≡ earlier ++ printed_from tables earlier dues answers → AllMayStand dues answers
       → Each (λ entry. Only printed entry × Cut tables timeline (last tables printed timeline t) entry) (printed_from tables earlier dues answers)
       → Each (λ entry. RowsFit tables entry.command entry.reply.said) (printed_from tables earlier dues answers) → AreReplies tables earlier dues answers
@@ -317,13 +339,15 @@ shown-valid : (tables : List TableDecl) (due : Due) → IsDue tables due → is_
 shown-valid tables due (inl session) = ap (λ (w : Who). is_command tables (cond (is_worker w) command.Observe due.command)) session.1 ∙ session.2
 shown-valid tables due (inr worker) = ap (λ (w : Who). is_command tables (cond (is_worker w) command.Observe due.command)) worker.1
 
+-- The commands of printed replies to what is due are of the tables.
 all-valid : (tables : List TableDecl) (earlier : List Entry) (dues : List Due) (answers : List (Option Said)) → EachDue tables dues → Each (λ entry. is_command tables entry.command ≡ true) (printed_from tables earlier dues answers)
 all-valid tables earlier [] answers each = tt
 all-valid tables earlier (due ∷ dues) [] each = tt
 all-valid tables earlier (due ∷ dues) (None ∷ answers) each = all-valid tables earlier dues answers each.1
 all-valid tables earlier (due ∷ dues) (Some told ∷ answers) each = (shown-valid tables due each.0, all-valid tables (earlier ++ entry_behind tables earlier due told ∷ []) dues answers each.1)
 
--- Replies of a timeline stand in the right states, in whatever order they came about, with rows of their tables.
+-- Replies of a timeline stand in the right states, in whatever order they came about, with rows of
+-- their tables.
 pub timeline-replies : (script : Script) (told : List (Option Said)) (timeline : List Entry) → EachDue script.tables (dues_of script) → AllMayStand (dues_of script) told
     → Timeline script.tables (printed_of script told) timeline → AreReplies script.tables [] (dues_of script) told
 timeline-replies script told timeline each h t =

@@ -107,9 +107,11 @@ pub data Verdict (machine : IsolationMachine) (t : Transaction) (place : Place) 
   memory : told ≡ said.Memory → Verdict machine t place acceptable told
 
 module _ (machine : IsolationMachine) (t : Transaction) (place : Place) where
+  -- Another session's open transaction with the place, if there is one.
   abbrev the_rival : Option Transaction
   the_rival = rival_of machine t.session place
 
+  -- The last commit behind the snapshot that has the place, if there is one.
   abbrev the_last : Option ℕ
   the_last = last_writer place (t.snapshot + 1) (drop t.snapshot machine.history)
 
@@ -117,6 +119,7 @@ module _ (machine : IsolationMachine) (t : Transaction) (place : Place) where
   abbrev refusal_by : Option Transaction → Option ℕ → Option Answer → Option Answer
   refusal_by r k own = option_or (option_or (option_map (λ rival. answer.ConflictSession rival.session) r) (option_map (λ number. answer.ConflictCommit number) k)) own
 
+  -- A write answered by conflicts first, and then by an existing row, has its verdict.
   verdict-exists : (acceptable test : Bool) (r : Option Transaction) (k : Option ℕ) → the_rival ≡ r → the_last ≡ k → (test ≡ true → acceptable ≡ false) → (test ≡ false → acceptable ≡ true)
       → Verdict machine t place acceptable (said_of (unwrap_or (refusal_by r k (cond test (Some answer.Exists) None)) answer.Accepted))
   verdict-exists acceptable test (Some r) k is_r is_k h g = rival r is_r refl
@@ -124,6 +127,7 @@ module _ (machine : IsolationMachine) (t : Transaction) (place : Place) where
   verdict-exists acceptable true None None is_r is_k h g = refused (record { rival = is_r; last = is_k }) (h refl) (inl refl)
   verdict-exists acceptable false None None is_r is_k h g = accepted (record { rival = is_r; last = is_k }) (g refl) refl
 
+  -- A write answered by conflicts first, and then by a missing row, has its verdict.
   verdict-missing : (acceptable test : Bool) (r : Option Transaction) (k : Option ℕ) → the_rival ≡ r → the_last ≡ k → (test ≡ true → acceptable ≡ false) → (test ≡ false → acceptable ≡ true)
       → Verdict machine t place acceptable (said_of (unwrap_or (refusal_by r k (cond test (Some answer.Missing) None)) answer.Accepted))
   verdict-missing acceptable test (Some r) k is_r is_k h g = rival r is_r refl
@@ -131,18 +135,22 @@ module _ (machine : IsolationMachine) (t : Transaction) (place : Place) where
   verdict-missing acceptable true None None is_r is_k h g = refused (record { rival = is_r; last = is_k }) (h refl) (inr refl)
   verdict-missing acceptable false None None is_r is_k h g = accepted (record { rival = is_r; last = is_k }) (g refl) refl
 
+-- What has a value is not tested to be none.
 none-there : (o : Option (List Cell)) → is_some o ≡ true → is_none o ≡ false
 none-there None h = absurd (let never : ⊥ = cc in never)
 none-there (Some x) h = refl
 
+-- What has no value is tested to be none.
 there-not : (o : Option (List Cell)) → is_some o ≡ false → is_none o ≡ true
 there-not None h = refl
 there-not (Some x) h = absurd (let never : ⊥ = cc in never)
 
+-- What is tested to be none has no value.
 none-some : (o : Option (List Cell)) → is_none o ≡ true → is_some o ≡ false
 none-some None h = refl
 none-some (Some x) h = absurd (let never : ⊥ = cc in never)
 
+-- What is not tested to be none has a value.
 some-none : (o : Option (List Cell)) → is_none o ≡ false → is_some o ≡ true
 some-none None h = absurd (let never : ⊥ = cc in never)
 some-none (Some x) h = refl
@@ -155,6 +163,7 @@ insert-verdict machine t table row =
     verdict-exists machine t (place_of table row) (is_none there) (is_some there) (rival_of machine t.session (place_of table row))
     (last_or None (later_writers machine.history t.snapshot (place_of table row))) refl (sym (last-later machine.history t.snapshot (place_of table row))) (none-there there) (there-not there)
 
+-- The machine's own answer to an update or a delete is a verdict.
 change-verdict : (machine : IsolationMachine) (t : Transaction) (place : Place)
     → Verdict machine t place (is_some (at_place (seen_rows machine t) place)) (said_of (unwrap_or (refusal_of_change machine t place) answer.Accepted))
 change-verdict machine t place =
@@ -179,6 +188,7 @@ clear-accepted machine t place acceptable (memory is) = absurd (let never : ⊥ 
 abbrev pub asks : ℕ → Act → Request
 asks session act = record { session = session; act = act }
 
+-- Where the machine's answer to a write is a verdict, each outcome is one.
 outcome-verdict : (machine : IsolationMachine) (session : ℕ) (act : Act) (t : Transaction) (place : Place) (acceptable : Bool) (own : Answer) (told : Said) (after : IsolationMachine)
     → (step machine (asks session act)).0 ≡ own → Verdict machine t place acceptable (said_of own)
     → (outcome : Outcome) → Tells outcome told → Allows machine (asks session act) outcome after → Verdict machine t place acceptable told
@@ -225,6 +235,7 @@ takes-verdict tables front machine session t _ told after entry place change is_
 
 -- a reply that changes nothing
 module _ (asked : Command) (machine : IsolationMachine) where
+  -- A reply that neither opens, ends, commits nor writes changes nothing.
   quietly : (told : Said) → snapshot_in told ≡ None → is_end told ≡ false → commit_in told ≡ None → accepts asked told ≡ None → shows_at_most (length machine.history) told ≡ true → Quiet asked told machine machine
   quietly told a b c d e = record { opens = a; on = b; commit = c; writes = d; shown = e; same = refl }
 
@@ -239,9 +250,11 @@ module _ (asked : Command) (machine : IsolationMachine) where
       quietly (said.ConflictCommit k) refl refl refl refl (let e : nat_le k (length machine.history) ≡ true = grind (arith, nat_tests, low) in e)
 
 module _ (asked : Command) (machine : IsolationMachine) (sane : Sane machine) (session : ℕ) (t : Transaction) (at : transaction_of session machine ≡ Some t) where
+  -- The transaction that is found for the session is the session's.
   its : t.session ≡ session
   its = its-session session machine.open_transactions t at
 
+  -- A write is refused and changes nothing, or is accepted and entered.
   write-cases : (place : Place) (change : Option (List Cell)) (test : Bool) (own : Answer) (r : Option Transaction) (k : Option ℕ)
       → write_of asked ≡ Some (place, change) → Quiet asked (said_of own) machine machine
       → rival_of machine t.session place ≡ r → last_writer place (t.snapshot + 1) (drop t.snapshot machine.history) ≡ k
@@ -263,19 +276,23 @@ module _ (asked : Command) (machine : IsolationMachine) (sane : Sane machine) (s
     is = ap (λ (s : ℕ). with_own s place change machine) its;
   })
 
+  -- A commit ends a transaction that wrote nothing, or commits what it wrote.
   commit-cases : (own : WriteSet) → t.own ≡ own → Change (Session session) asked (said_of (commit machine t own).0) machine (commit machine t own).1
   commit-cases [] is = ends (record { session = session; t = t; who_is = refl; at = at; said_is = inr (refl, is); is = ap (λ (s : ℕ). without s machine) its })
   commit-cases (first ∷ rest) is = commits (record { session = session; t = t; who_is = refl; at = at; said_is = refl; wrote = (first, rest, is); is = ap (λ (s : ℕ). committed s t.own machine) its })
 
+-- The answer to a get leaves the machine as it is.
 got-quiet : (asked : Command) (machine : IsolationMachine) (o : Option (List Cell)) → Quiet asked (said_of (answer.Found o)) machine machine
 got-quiet asked machine None = quietly asked machine said.Absent refl refl refl refl refl
 got-quiet asked machine (Some row) = quietly asked machine (said.Found row) refl refl refl refl refl
 
 -- the change of the machine's own step
 module _ (machine : IsolationMachine) (sane : Sane machine) (session : ℕ) where
+  -- The machine's own step is such a change as its answer tells.
   abbrev Stepped : Command → Act → Option Transaction → Type 0
   Stepped asked act found = Change (Session session) asked (said_of (step_of machine (asks session act) found).0) machine (step_of machine (asks session act) found).1
 
+  -- A session that is told that it has no transaction changes nothing.
   untold : (asked : Command) → Change (Session session) asked said.NoTransaction machine machine
   untold asked = quiet (quietly asked machine said.NoTransaction refl refl refl refl refl)
 
@@ -286,6 +303,7 @@ module _ (machine : IsolationMachine) (sane : Sane machine) (session : ℕ) wher
       (rival_of machine t.session (place_of table row)) (last_or None (later_writers machine.history t.snapshot (place_of table row))) refl
       (quietly (command.Insert table row) machine said.Exists refl refl refl refl refl) refl (sym (last-later machine.history t.snapshot (place_of table row)))
 
+  -- The machine's own step of an update is such a change.
   update-stepped : (table : ℕ) (row : List Cell) (found : Option Transaction) → transaction_of session machine ≡ found → Stepped (command.Update table row) (act.Update table row) found
   update-stepped table row None at = untold (command.Update table row)
   update-stepped table row (Some t) at =
@@ -293,6 +311,7 @@ module _ (machine : IsolationMachine) (sane : Sane machine) (session : ℕ) wher
       (rival_of machine t.session (place_of table row)) (last_or None (later_writers machine.history t.snapshot (place_of table row))) refl
       (quietly (command.Update table row) machine said.Missing refl refl refl refl refl) refl (sym (last-later machine.history t.snapshot (place_of table row)))
 
+  -- The machine's own step of a delete is such a change.
   delete-stepped : (table : ℕ) (key : ℤ) (found : Option Transaction) → transaction_of session machine ≡ found → Stepped (command.Delete table key) (act.Delete table key) found
   delete-stepped table key None at = untold (command.Delete table key)
   delete-stepped table key (Some t) at =
@@ -300,22 +319,27 @@ module _ (machine : IsolationMachine) (sane : Sane machine) (session : ℕ) wher
       (rival_of machine t.session (place_at table key)) (last_or None (later_writers machine.history t.snapshot (place_at table key))) refl
       (quietly (command.Delete table key) machine said.Missing refl refl refl refl refl) refl (sym (last-later machine.history t.snapshot (place_at table key)))
 
+  -- The machine's own step of a begin is such a change.
   begin-stepped : (found : Option Transaction) → transaction_of session machine ≡ found → Stepped command.Begin act.Begin found
   begin-stepped None at = opens (record { asked_is = refl; session = session; who_is = refl; none = at; said_is = refl; is = refl })
   begin-stepped (Some t) at = quiet (quietly command.Begin machine said.InTransaction refl refl refl refl refl)
 
+  -- The machine's own step of a commit is such a change.
   commit-stepped : (found : Option Transaction) → transaction_of session machine ≡ found → Stepped command.Commit act.Commit found
   commit-stepped None at = untold command.Commit
   commit-stepped (Some t) at = commit-cases command.Commit machine sane session t at t.own refl
 
+  -- The machine's own step of an abort is such a change.
   abort-stepped : (found : Option Transaction) → transaction_of session machine ≡ found → Stepped command.Abort act.Abort found
   abort-stepped None at = untold command.Abort
   abort-stepped (Some t) at = ends (record { session = session; t = t; who_is = refl; at = at; said_is = inl refl; is = ap (λ (s : ℕ). without s machine) (its-session session machine.open_transactions t at) })
 
+  -- The machine's own step of a get is such a change.
   get-stepped : (table : ℕ) (key : ℤ) (found : Option Transaction) → Stepped (command.Get table key) (act.Get table key) found
   get-stepped table key None = untold (command.Get table key)
   get-stepped table key (Some t) = quiet (got-quiet (command.Get table key) machine (at_place (seen_rows machine t) (place_at table key)))
 
+  -- The machine's own step of a scan is such a change.
   scan-stepped : (table : ℕ) (found : Option Transaction) → Stepped (command.Scan table) (act.Scan table) found
   scan-stepped table None = untold (command.Scan table)
   scan-stepped table (Some t) = quiet (quietly (command.Scan table) machine (said.Scanned (contents_of table (seen_rows machine t))) refl refl refl refl refl)
@@ -339,6 +363,7 @@ module _ (machine : IsolationMachine) (sane : Sane machine) (session : ℕ) wher
 -- ---- commands that ask nothing of snapshot isolation
 
 module _ (tables : List TableDecl) (front : List Entry) (machine : IsolationMachine) (sane : Sane machine) where
+  -- What upkeep tells leaves the machine as it is.
   upkeep-quiet : (asked : Command) (told : Said) → is_of_upkeep told ≡ true → Quiet asked told machine machine
   upkeep-quiet asked (said.Cooling count) h = quietly asked machine (said.Cooling count) refl refl refl refl refl
   upkeep-quiet asked (said.Pruned count) h = quietly asked machine (said.Pruned count) refl refl refl refl refl
@@ -350,6 +375,7 @@ module _ (tables : List TableDecl) (front : List Entry) (machine : IsolationMach
   upkeep-quiet asked said.Memory h = quietly asked machine said.Memory refl refl refl refl refl
   upkeep-quiet asked _ h = absurd (let never : ⊥ = cc in never)
 
+  -- What an export in a transaction tells leaves the machine as it is.
   export-within : (asked : Command) (t : Transaction) (table : ℕ) (told : Said) → t.snapshot ≤ length machine.history → ExportsWithin tables front machine t table told → Quiet asked told machine machine
   export-within asked t table (said.Exported number rows batches frozen) bound h =
       let low : number ≤ length machine.history = omega (arith, h.snapshot, bound) in
@@ -358,15 +384,18 @@ module _ (tables : List TableDecl) (front : List Entry) (machine : IsolationMach
   export-within asked t table said.Memory bound h = quietly asked machine said.Memory refl refl refl refl refl
   export-within asked t table _ bound h = absurd h
 
+  -- What an export tells, in a transaction or not, leaves the machine as it is.
   export-quiet : (asked : Command) (who : Who) (table : ℕ) (told : Said) (found : Option Transaction) → open_of who machine ≡ found → ExportsBy tables front machine found table told → Quiet asked told machine machine
   export-quiet asked who table told None at h = subst (λ (s : Said). Quiet asked s machine machine) (sym h) (quietly asked machine said.NoTransaction refl refl refl refl refl)
   export-quiet asked (Session session) table told (Some t) at h = export-within asked t table told (sane.bound session t at) h
   export-quiet asked (Worker worker) table told (Some t) at h = absurd (let never : ⊥ = cc in never)
 
+  -- What is told to a command that asks nothing of the machine changes nothing.
   aside-quiet : (who : Who) (asked : Command) (told : Said) → Aside tables front machine who asked told → Quiet asked told machine machine
   aside-quiet who (command.Export table) told h = export-quiet (command.Export table) who table told (open_of who machine) refl h
   aside-quiet who asked told h = upkeep-quiet asked told h.1
 
+  -- A reply to a command that asks nothing of the machine is a change by nothing.
   aside-change : (who : Who) (asked : Command) (told : Said) (after : IsolationMachine) → Aside tables front machine who asked told × (after ≡ machine) → Change who asked told machine after
   aside-change who asked told after h = subst (λ (m : IsolationMachine). Change who asked told machine m) (sym h.1) (quiet (aside-quiet who asked told h.0))
 

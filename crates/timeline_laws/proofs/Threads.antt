@@ -10,6 +10,7 @@ use Rattle.timeline_spec.specs.Timeline.{Timeline}
 use Rattle.outcome_spec.specs.Entries.{thread}
 use Rattle.timeline_laws.proofs.Order.{same-is, same-itself}
 
+-- The replies that are not to this session or worker.
 abbrev others : Who → List Entry → List Entry
 others who entries = filter (λ entry. not (is_same entry.reply.who who)) entries
 
@@ -21,20 +22,24 @@ kept-step p q true false entry kept all is_p is_q h rest = absurd (let e : false
 kept-step p q false true entry kept all is_p is_q h rest = rw is_p rest
 kept-step p q false false entry kept all is_p is_q h rest = rest
 
+-- A wider test in front changes nothing for a narrower one.
 kept : (p q : Entry → Bool) → ((entry : Entry) → p entry ≡ true → q entry ≡ true) → (entries : List Entry) → filter p (filter q entries) ≡ filter p entries
 kept p q h [] = refl
 kept p q h (entry ∷ entries) = kept-step p q (p entry) (q entry) entry (filter q entries) entries refl refl (h entry) (kept p q h entries)
 
+-- One more reply keeps that two tests that exclude each other leave none.
 none-step : (p q : Entry → Bool) (a b : Bool) (entry : Entry) (rest : List Entry) → p entry ≡ a → q entry ≡ b → (a ≡ true → b ≡ false) → filter p rest ≡ [] → filter p (cond b (entry ∷ rest) rest) ≡ []
 none-step p q true true entry rest is_p is_q h none = absurd (let e : true ≡ false = h refl in let never : ⊥ = cc in never)
 none-step p q true false entry rest is_p is_q h none = none
 none-step p q false true entry rest is_p is_q h none = rw is_p none
 none-step p q false false entry rest is_p is_q h none = none
 
+-- Two tests that exclude each other leave no reply.
 none : (p q : Entry → Bool) → ((entry : Entry) → p entry ≡ true → q entry ≡ false) → (entries : List Entry) → filter p (filter q entries) ≡ []
 none p q h [] = refl
 none p q h (entry ∷ entries) = none-step p q (p entry) (q entry) entry (filter q entries) refl refl (h entry) (none p q h entries)
 
+-- Two lists with one thread in common have it without another's replies, too.
 other-threads : (w who : Who) (a b : List Entry) → thread who a ≡ thread who b → (same : Bool) → is_same who w ≡ same → thread who (others w a) ≡ thread who (others w b)
 other-threads w who a b h true same =
     let apart : (entry : Entry) → is_same entry.reply.who who ≡ true → not (is_same entry.reply.who w) ≡ false = λ entry is. ap not (ap (λ (v : Who). is_same v w) (same-is entry.reply.who who is) ∙ same) in
@@ -43,10 +48,12 @@ other-threads w who a b h false same =
     let stays : (entry : Entry) → is_same entry.reply.who who ≡ true → not (is_same entry.reply.who w) ≡ true = λ entry is. ap not (ap (λ (v : Who). is_same v w) (same-is entry.reply.who who is) ∙ same) in
     kept (λ entry. is_same entry.reply.who who) (λ entry. not (is_same entry.reply.who w)) stays a ∙ h ∙ sym (kept (λ entry. is_same entry.reply.who who) (λ entry. not (is_same entry.reply.who w)) stays b)
 
+-- One more reply, kept or not, makes those kept one more at most.
 shorter-step : (b : Bool) (entry : Entry) (rest : List Entry) (n : ℕ) → length rest ≤ n → length (cond b (entry ∷ rest) rest) ≤ suc n
 shorter-step true entry rest n h = let e : length (entry ∷ rest) ≡ suc (length rest) = refl in omega (arith, e, h)
 shorter-step false entry rest n h = omega (arith, h)
 
+-- No more replies are kept than there are.
 shorter : (p : Entry → Bool) (entries : List Entry) → length (filter p entries) ≤ length entries
 shorter p [] = omega arith
 shorter p (entry ∷ entries) =
@@ -54,12 +61,14 @@ shorter p (entry ∷ entries) =
     let h : length (filter p (entry ∷ entries)) ≤ suc (length entries) = shorter-step (p entry) entry (filter p entries) (length entries) (shorter p entries) in
     omega (arith, e, h)
 
+-- Replies of which every thread is empty are none.
 nothing : (b : List Entry) → ((who : Who) → [] ≡ thread who b) → [] ≡ b
 nothing [] h = refl
 nothing (entry ∷ b) h =
     let e : [] ≡ entry ∷ thread entry.reply.who b = h entry.reply.who ∙ ap (λ (s : Bool). cond s (entry ∷ thread entry.reply.who b) (thread entry.reply.who b)) (same-itself entry.reply.who) in
     absurd (let never : ⊥ = cc in never)
 
+-- Two lists of replies with the same threads have the same replies.
 permuted : (fuel : ℕ) (a b : List Entry) → length a ≤ fuel → ((who : Who) → thread who a ≡ thread who b) → IsPermutation a b
 permuted fuel [] b short h = subst (IsPermutation []) (nothing b h) (IsPermutation-refl [])
 permuted zero (entry ∷ a) b short h = absurd (let e : length (entry ∷ a) ≡ suc (length a) = refl in omega (arith, e, short))

@@ -1,4 +1,5 @@
--- The lines of a worker's turn: what its steps say, and that no other line is taken for one of these.
+-- The lines of a worker's turn: what its steps say, and that no other line is taken for one of
+-- these.
 use Rattle.std.proofs.Common.{◌≡◌, ℕ, ◌^◌, ◌<◌, ◌⊎◌, inl, inr, Bool, true, false, cond, ◌&&◌, ◌||◌, not, List, [], ◌∷◌, ◌++◌, map, Option, Some, refl, sym, ap, ◌∙◌, subst, arith, append_assoc}
 use Rattle.std.specs.Prelude.{bytes_eq, codes, decimal, find, drop, slice_index_or}
 use Rattle.std.specs.List.{filter, list_all, starts_with}
@@ -23,6 +24,7 @@ use Rattle.outcome_spec.specs.Lines.{lines_of}
 use Rattle.outcome_spec.specs.Reading.{words_in}
 use Rattle.outcome_spec.specs.Forms.{Due, begins_with, entry_behind, is_silent, is_upkeep, is_worker, is_within, replies_due, replies_within, replies_without, reply_at}
 use Rattle.timeline_spec.specs.Forms.{IsReplyWithin}
+use Rattle.timeline_laws.proofs.Tests.{or-last}
 use Rattle.timeline_laws.proofs.ReadLines.{words_of_line, BeginsLine, text-begins}
 use Rattle.timeline_laws.proofs.ReadNumbers.{is_digit_byte, digits_decimal, decimal_apart, plain_decimal, u32_small, u64_small}
 use Rattle.timeline_laws.proofs.Lines.{ended, lines-alone, reply-unbroken, first_line, IsSaid, is_said, all-words, said-words, a-word}
@@ -55,11 +57,6 @@ BeginSaid _ = ⊥
 abbrev pub Named : List TableDecl → Type 0
 Named tables = (a b : ℕ) → is_table_place tables a ≡ true → is_table_place tables b ≡ true → name_of_table tables a ≡ name_of_table tables b → a ≡ b
 
--- one of two holds where the second is true
-pub or-last : (b : Bool) → (b || true) ≡ true
-or-last true = refl
-or-last false = refl
-
 -- what an answered step says
 pub step-said : (tables : List TableDecl) (asked : Command) → IsStep tables asked → (told : Said) → IsReplyWithin asked told → is_silent told ≡ false → StepSaid tables told
 step-said tables (command.Compact table) is (said.Moved n) h speaks = h
@@ -82,6 +79,7 @@ step-said tables _ is told h speaks = absurd is
 abbrev is_word_first : List ℕ → List (List ℕ) → Bool
 is_word_first word words = bytes_eq (slice_index_or words 0 []) word
 
+-- Words that pass a test are not words that fail it.
 differ : (test : List (List ℕ) → Bool) (a b : List (List ℕ)) → a ≡ b → test a ≡ true → test b ≡ false → ⊥
 differ test a b same is is_not =
     let never : true ≡ false = sym is ∙ ap test same ∙ is_not in
@@ -173,6 +171,7 @@ behind-number (byte ∷ a) (other ∷ b) h k x y e =
 abbrev pub words_of_reply : List TableDecl → ReplyLine → List (List ℕ)
 words_of_reply tables reply = decimal reply.round ∷ who_text reply.who ∷ decimal reply.index ∷ said_words tables reply.said
 
+-- The words of a reply are read from its first line.
 reply-words : (tables : List TableDecl) (reply : ReplyLine) → IsSaid tables reply.said → words_in (first_line tables reply ++ 10 ∷ []) ≡ words_of_reply tables reply
 reply-words tables reply h =
     words_of_line (decimal reply.round) (who_text reply.who ∷ decimal reply.index ∷ said_words tables reply.said)
@@ -196,10 +195,12 @@ abbrev pub EachSaid : (Said → Type 0) → List Said → Type 0
 EachSaid Q [] = Unit {0}
 EachSaid Q (told ∷ saids) = Q told × EachSaid Q saids
 
+-- One more that is fit where it is kept leaves all that are kept fit.
 kept-step : (Q : Said → Type 0) (b : Bool) (told : Said) (kept : List Said) → (b ≡ true → Q told) → EachSaid Q kept → EachSaid Q (cond b (told ∷ kept) kept)
 kept-step Q true told kept h rest = (h refl, rest)
 kept-step Q false told kept h rest = rest
 
+-- What holds of each that is kept holds of all that are kept.
 each-kept : (Q : Said → Type 0) (keep : Said → Bool) (saids : List Said) → EachSaid (λ told. keep told ≡ true → Q told) saids → EachSaid Q (filter keep saids)
 each-kept Q keep [] h = tt
 each-kept Q keep (told ∷ saids) h = kept-step Q (keep told) told (filter keep saids) h.0 (each-kept Q keep saids h.1)
@@ -211,6 +212,7 @@ pub record Found (Q : Said → Type 0) (made : Said → Entry) (test : Entry →
   pub passes : test (made told) ≡ true
   pub of : Q told
 
+-- What is found first or behind is made of one of those that may be said.
 found-step : (Q : Said → Type 0) (made : Said → Entry) (test : Entry → Bool) (entry : Entry) (told : Said) (later : Option Entry) (b : Bool) → test (made told) ≡ b → Q told
     → (later ≡ Some entry → Found Q made test entry) → cond b (Some (made told)) later ≡ Some entry → Found Q made test entry
 found-step Q made test entry told later true is of rest h = record { told = told; is = let e : made told ≡ entry = cc in e; passes = is; of = of }
@@ -229,11 +231,13 @@ module _ (tables : List TableDecl) (earlier : List Entry) (due : Due) (worker : 
       let never : false ≡ true = sym (ap (λ (w : Who). not (is_worker w && is_silent told)) is_who ∙ ap not silent) ∙ kept in
       (let impossible : ⊥ = cc in impossible)
 
+  -- What is due to upkeep is what may be told in a transaction, without what is silent.
   upkeep-due : (words behind : List (List ℕ)) → is_upkeep due.command ≡ true → replies_due tables earlier due words behind ≡ filter (is_said due) (replies_within tables words behind due.command)
   upkeep-due words behind up =
       ap (λ (b : Bool). filter (is_said due) (cond (is_within due.who earlier || b) (replies_within tables words behind due.command) (replies_without words due.command))) up
       ∙ ap (λ (b : Bool). filter (is_said due) (cond b (replies_within tables words behind due.command) (replies_without words due.command))) (or-last (is_within due.who earlier))
 
+  -- What a line may say of a step is what a step may say.
   step-within : (words behind : List (List ℕ)) (asked : Command) → IsStep tables asked → EachSaid (λ told. is_said due told ≡ true → StepSaid tables told) (replies_within tables words behind asked)
   step-within words behind (command.Compact table) is = (λ kept. u64_small words 1, (λ kept. tt, tt))
   step-within words behind (command.Seal table block) is = (
@@ -258,6 +262,7 @@ module _ (tables : List TableDecl) (earlier : List Entry) (due : Due) (worker : 
   )
   step-within words behind _ is = absurd is
 
+  -- Each step of a turn is one of upkeep.
   step-upkeep : (asked : Command) → IsStep tables asked → is_upkeep asked ≡ true
   step-upkeep (command.Compact table) is = refl
   step-upkeep (command.Seal table block) is = refl
@@ -273,10 +278,12 @@ module _ (tables : List TableDecl) (earlier : List Entry) (due : Due) (worker : 
       (subst (EachSaid (StepSaid tables)) (sym (upkeep-due words behind (step-upkeep due.command is)))
       (each-kept (StepSaid tables) (is_said due) (replies_within tables words behind due.command) (step-within words behind due.command is))) at
 
+  -- What a line may say of what begins a turn is what begins one.
   begin-within : (words behind : List (List ℕ)) (asked : Command) → (asked ≡ command.Observe) ⊎ (asked ≡ command.Prune) → EachSaid (λ told. is_said due told ≡ true → BeginSaid told) (replies_within tables words behind asked)
   begin-within words behind asked (inl is) = subst (λ (c : Command). EachSaid (λ told. is_said due told ≡ true → BeginSaid told) (replies_within tables words behind c)) (sym is) (λ kept. tt, tt)
   begin-within words behind asked (inr is) = subst (λ (c : Command). EachSaid (λ told. is_said due told ≡ true → BeginSaid told) (replies_within tables words behind c)) (sym is) (λ kept. tt, tt)
 
+  -- Both commands that begin a turn are ones of upkeep.
   begin-upkeep : (asked : Command) → (asked ≡ command.Observe) ⊎ (asked ≡ command.Prune) → is_upkeep asked ≡ true
   begin-upkeep asked (inl is) = ap is_upkeep is
   begin-upkeep asked (inr is) = ap is_upkeep is
@@ -326,6 +333,7 @@ module _ (tables : List TableDecl) (names : NamesPlain tables) where
       let lasts : (decimal a.index ∷ said_words tables a.said) ≡ decimal b.index ∷ said_words tables b.said = cc in
       (who, (let e : said_words tables a.said ≡ said_words tables b.said = cc in e))
 
+  -- A session and a worker are not written alike.
   who-differs : (session worker : ℕ) (a b : Who) → a ≡ Session session → b ≡ Worker worker → who_text a ≡ who_text b → ⊥
   who-differs session worker a b is_a is_b e = who-apart session worker (decimal worker) (sym (ap who_text is_a) ∙ e ∙ ap who_text is_b)
 
@@ -357,9 +365,11 @@ module _ (tables : List TableDecl) (names : NamesPlain tables) where
       let parts = same-parts entry.reply reply (same-words tables entry reply behind (step-is-said entry.reply.said h) (step-is-said reply.said k) begins) in
       said-apart tables named entry.reply.said reply.said h k parts.1
 
+  -- A plain word has no line end in it.
   whole-digits : (word : List ℕ) → list_all is_plain word ≡ true → is_whole word ≡ true
   whole-digits word plain = (a-word word plain).whole
 
+  -- A text that begins with two plain words has a first line that begins so.
   begins-so : (a b more : List ℕ) → list_all is_plain a ≡ true → list_all is_plain b ≡ true → BeginsLine (a ++ 32 ∷ (b ++ 32 ∷ [])) (lines_of (a ++ 32 ∷ (b ++ 32 ∷ more)))
   begins-so [] b more h k =
       subst (λ (text : List ℕ). BeginsLine (32 ∷ (b ++ 32 ∷ [])) (lines_of (32 ∷ text))) (append_assoc b (32 ∷ []) more)
@@ -369,6 +379,7 @@ module _ (tables : List TableDecl) (names : NamesPlain tables) where
       let same : (a ++ 32 ∷ (b ++ 32 ∷ [])) ++ more ≡ a ++ 32 ∷ (b ++ 32 ∷ more) = simp append_assoc in
       subst (λ (text : List ℕ). BeginsLine (x ∷ a ++ 32 ∷ (b ++ 32 ∷ [])) (lines_of (x ∷ text))) same (text-begins x (a ++ 32 ∷ (b ++ 32 ∷ [])) more front)
 
+  -- Where lines start with others, the first of each are equal.
   first-equal : (line own : List ℕ) (behind others : List (List ℕ)) → starts_with bytes_eq (line ∷ behind) (own ∷ others) ≡ true → own ≡ line
   first-equal line own behind others h = (bytes_eq-Decides own line).0 (and_parts (bytes_eq own line) (starts_with bytes_eq behind others) h).0
 

@@ -30,6 +30,7 @@ not-before-same a b h =
     let index : nat_lt a.reply.index b.reply.index ≡ false = grind (arith, nat_tests, same.2) in
     rw (round, index) (and-false (eqb a.reply.round b.reply.round && is_same a.reply.who b.reply.who))
 
+-- Two replies that are one are so the other way round.
 turned : (a b : Entry) → is_reply a b ≡ true → is_reply b a ≡ true
 turned a b h =
     let same = same-parts a b h in
@@ -46,10 +47,12 @@ apart-behind earlier later follows h =
     let is_not : is_before earlier later ≡ false = not-before-same earlier later h in
     absurd (let f : true ≡ false = sym (follows.in_turn who) ∙ is_not in let never : ⊥ = cc in never)
 
+-- Of two replies in order, the earlier is taken for the later only where they are equal.
 apart-ahead : (earlier later : Entry) → Follows earlier later → is_reply later earlier ≡ true → earlier ≡ later
 apart-ahead earlier later follows h = sym (apart-behind earlier later follows (turned later earlier h))
 
--- each reply behind these, which all follow those, is the only one of its round, session or worker, and index
+-- each reply behind these, which all follow those, is the only one of its round, session or worker,
+-- and index
 unique-from : (front rest : List Entry) → InOrder (front ++ rest) → Each (Only (front ++ rest)) rest
 unique-from front [] order = tt
 unique-from front (entry ∷ rest) order = (
@@ -77,6 +80,7 @@ earlier-by entry other follows only true is =
     absurd (let impossible : ⊥ = cc in impossible)
 earlier-by entry other follows only false is = is
 
+-- A reply that may come about behind another is not that one.
 later-by : (entry other : Entry) → Follows entry other → (is_reply entry other ≡ true → other ≡ entry) → (b : Bool) → is_reply entry other ≡ b → is_reply entry other ≡ false
 later-by entry other follows only true is =
     let e : other ≡ entry = only is in
@@ -86,10 +90,12 @@ later-by entry other follows only true is =
     absurd (let impossible : ⊥ = cc in impossible)
 later-by entry other follows only false is = is
 
+-- Of the replies that one follows, none is that one.
 none-earlier : (front : List Entry) (entry : Entry) → Each (λ earlier. Follows earlier entry) front → Only front entry → Each (λ other. is_reply entry other ≡ false) front
 none-earlier [] entry h only = tt
 none-earlier (other ∷ front) entry h only = (earlier-by entry other h.0 only.0 (is_reply entry other) refl, none-earlier front entry h.1 only.1)
 
+-- Of the replies that follow one, none is that one.
 none-later : (entry : Entry) (rest : List Entry) → Each (Follows entry) rest → Only rest entry → Each (λ other. is_reply entry other ≡ false) rest
 none-later entry [] h only = tt
 none-later entry (other ∷ rest) h only = (later-by entry other h.0 only.0 (is_reply entry other) refl, none-later entry rest h.1 only.1)

@@ -1,5 +1,6 @@
--- What a reply in a transaction sees is what the machine's transaction sees: reads, and writes by the rows.
-use Rattle.std.proofs.Common.{◌≡◌, ℕ, ◌≤◌, Bool, true, false, cond, not, List, [], ◌∷◌, ◌++◌, length, take, Option, None, Some, refl, sym, ap, ◌∙◌, subst, append-nil, ◌⊎◌, inl, inr, ℤ}
+-- What a reply in a transaction sees is what the machine's transaction sees: reads, and writes by
+-- the rows.
+use Rattle.std.proofs.Common.{◌≡◌, ℕ, ◌≤◌, Bool, true, false, cond, not, List, [], ◌∷◌, ◌++◌, length, take, Option, None, Some, refl, sym, ap, ◌∙◌, subst, append-nil, inl, inr, ℤ}
 use Rattle.std.specs.Prelude.{is_none, fold, bytes_eq}
 use Rattle.std.specs.Option.{option_map_or}
 use Rattle.std.specs.Cmp.{int_eq_equiv}
@@ -38,15 +39,18 @@ use Rattle.timeline_laws.proofs.Unique.{Only}
 use Rattle.timeline_laws.proofs.Belongs.{found-open, found-none, its-order, Each-up_to_end}
 use Rattle.timeline_laws.proofs.Machine.{Sane}
 use Rattle.timeline_laws.proofs.Steps.{Change, quiet, opens, writes, ends, commits, Verdict, accepted, rival, later, refused, limited, memory, takes-verdict, asks}
-use Rattle.timeline_laws.proofs.Walk.{Within, Stands}
+use Rattle.timeline_laws.proofs.Walk.{Within, Stands, ended-unopened}
 use Rattle.timeline_laws.proofs.Cuts.{Cut}
 use Rattle.timeline_laws.proofs.Histories.{run, last, at-cut, history-shown}
+use Rattle.timeline_laws.proofs.Chosen.{filter-each}
 
 -- ---- rows and cells are themselves
 
+-- Any bytes are equal to themselves.
 bytes-itself : (bytes : List ℕ) → bytes_eq bytes bytes ≡ true
 bytes-itself bytes = (bytes_eq-Decides bytes bytes).1 refl
 
+-- Each cell is the same as itself.
 cell-itself : (cell : Cell) → is_cell cell cell ≡ true
 cell-itself Null = refl
 cell-itself (Num n) = int_eq_equiv.refl n
@@ -67,14 +71,12 @@ rows-themselves (row ∷ rows) = both (is_row row row) (pointwise is_row rows ro
 
 -- ---- what is before a reply in its transaction
 
+-- A test that each reply fails keeps none.
 filter-none : (p : Entry → Bool) (entries : List Entry) → Each (λ entry. p entry ≡ false) entries → filter p entries ≡ []
 filter-none p [] h = refl
 filter-none p (entry ∷ entries) h = rw h.0 (filter-none p entries h.1)
 
-filter-each : (p : Entry → Bool) (entries : List Entry) → Each (λ entry. p entry ≡ true) entries → filter p entries ≡ entries
-filter-each p [] h = refl
-filter-each p (entry ∷ entries) h = rw h.0 (ap (λ es. entry ∷ es) (filter-each p entries h.1))
-
+-- One's own replies in front of a reply that follows them are before it.
 front-before : (entry : Entry) (front : List Entry) → Each (λ other. is_same other.reply.who entry.reply.who ≡ true) front → Each (λ earlier. Follows earlier entry) front
     → Each (λ other. is_before other entry ≡ true) front
 front-before entry [] of h = tt
@@ -82,15 +84,18 @@ front-before entry (other ∷ front) of h =
     let same : is_same entry.reply.who other.reply.who ≡ true = subst (λ (w : Who). is_same entry.reply.who w ≡ true) (sym (same-is other.reply.who entry.reply.who of.0)) (same-itself entry.reply.who) in
     (h.0.in_turn same, front-before entry front of.1 h.1)
 
+-- The snapshot of what one has open is not above the commits.
 bound-of : (machine : IsolationMachine) → Sane machine → (who : Who) (o : Transaction) → open_of who machine ≡ Some o → o.snapshot ≤ length machine.history
 bound-of machine sane (Session session) o at = sane.bound session o at
 bound-of machine sane (Worker worker) o at = absurd (let never : ⊥ = cc in never)
 
+-- One more reply, kept if it is one's own, leaves all kept ones one's own.
 own-kept : (who : Who) (kept : Bool) (entry : Entry) (entries : List Entry) → is_same entry.reply.who who ≡ kept → Each (λ other. is_same other.reply.who who ≡ true) entries
     → Each (λ other. is_same other.reply.who who ≡ true) (cond kept (entry ∷ entries) entries)
 own-kept who true entry entries is h = (is, h)
 own-kept who false entry entries is h = h
 
+-- Each reply of one's thread is one's own.
 own-of : (who : Who) (entries : List Entry) → Each (λ entry. is_same entry.reply.who who ≡ true) (thread who entries)
 own-of who [] = tt
 own-of who (entry ∷ entries) = own-kept who (is_same entry.reply.who who) entry (thread who entries) refl (own-of who entries)
@@ -128,12 +133,14 @@ module _ (tables : List TableDecl) (printed timeline : List Entry) (t : Timeline
       (subst (Each (λ other. is_before other entry ≡ true)) within.split
       (front-before entry (thread its cut.front) (own-of its cut.front) (Each-filter (λ earlier. Follows earlier entry) (λ other. is_same other.reply.who its) cut.front front-follows)))
 
+  -- Of the replies behind up to the first end, none is before the reply.
   behind-not : Each (λ other. is_before other entry ≡ false) (up_to_end behind_it)
   behind-not =
       Each-up_to_end (λ other. is_before other entry ≡ false) behind_it
       (Each-filter (λ other. is_before other entry ≡ false) (λ other. is_same other.reply.who its) cut.rest
       (Each-weaker (Follows entry) (λ other. is_before other entry ≡ false) (λ other follows. follows.not_before) cut.rest rest-follows))
 
+  -- From the reply on, whether it is an end or not, none is before it.
   none-or : (b : Bool) → filter (λ other. is_before other entry) (cond b (entry ∷ []) (entry ∷ up_to_end behind_it)) ≡ []
   none-or true = rw (before-itself entry) refl
   none-or false = rw (before-itself entry) (filter-none (λ other. is_before other entry) (up_to_end behind_it) behind-not)
@@ -185,6 +192,7 @@ got-holds : (seen : State) (table : ℕ) (key : ℤ) (found : Option (List Cell)
 got-holds seen table key None is = ap is_none is
 got-holds seen table key (Some row) is = ap (λ (o : Option (List Cell)). option_map_or (is_row row) o false) is ∙ row-itself row
 
+-- Where the machine's answer to a read holds, and each refusal, so does each outcome.
 outcome-read : (machine : IsolationMachine) (session : ℕ) (asked : Command) (act : Act) (seen : State) (own : Answer) (told : Said) (after : IsolationMachine)
     → (step machine (asks session act)).0 ≡ own → read_holds seen asked (said_of own) ≡ true → read_holds seen asked said.Memory ≡ true
     → (outcome : Outcome) → Tells outcome told → Allows machine (asks session act) outcome after
@@ -203,6 +211,7 @@ other-read seen asked said.Absent got scanned = ap (λ (f : Option Place). optio
 other-read seen asked (said.Scanned rows) got scanned = ap (λ (f : Option ℕ). option_map_or (λ table. pointwise is_row rows (contents_of table seen)) f true) scanned
 other-read seen asked _ got scanned = refl
 
+-- A reply in a transaction shows what its transaction sees.
 takes-read : (tables : List TableDecl) (front : List Entry) (machine : IsolationMachine) (entry : Entry) (after : IsolationMachine) (who : Who) (asked : Command) (o : Transaction)
     → entry.command ≡ asked → open_of who machine ≡ Some o → TakesAs tables front machine entry after (request_of who asked) → read_holds (seen_rows machine o) asked entry.reply.said ≡ true
 takes-read tables front machine entry after (Worker worker) asked o is at h = absurd (let never : ⊥ = cc in never)
@@ -224,11 +233,13 @@ refuses said.Exists = true
 refuses said.Missing = true
 refuses _ = false
 
+-- A reply that refuses no write holds where the write is acceptable.
 unrefused : (told : Said) → refuses told ≡ false → write_holds true told ≡ true
 unrefused said.Exists h = absurd (let never : ⊥ = cc in never)
 unrefused said.Missing h = absurd (let never : ⊥ = cc in never)
 unrefused _ h = refl
 
+-- What a verdict on a write tells of the rows holds.
 verdict-write : (machine : IsolationMachine) (o : Transaction) (place : Place) (acceptable : Bool) (told : Said) → Verdict machine o place acceptable told → write_holds acceptable told ≡ true
 verdict-write machine o place acceptable told (accepted clear can is) = ap (write_holds acceptable) is ∙ can
 verdict-write machine o place acceptable told (rival r found is) = ap (write_holds acceptable) is
@@ -239,6 +250,7 @@ verdict-write machine o place acceptable told (limited clear can (inl is)) = ap 
 verdict-write machine o place acceptable told (limited clear can (inr is)) = ap (write_holds acceptable) is.3 ∙ can
 verdict-write machine o place acceptable told (memory is) = ap (write_holds acceptable) is
 
+-- Where the machine's answer refuses no write by the rows, no outcome does.
 outcome-unrefused : (machine : IsolationMachine) (session : ℕ) (act : Act) (own : Answer) (told : Said) (after : IsolationMachine)
     → (step machine (asks session act)).0 ≡ own → refuses (said_of own) ≡ false → (outcome : Outcome) → Tells outcome told → Allows machine (asks session act) outcome after → refuses told ≡ false
 outcome-unrefused machine session act own told after is free (Answered a) tells allows =
@@ -247,25 +259,30 @@ outcome-unrefused machine session act own told after is free Freezing tells allo
 outcome-unrefused machine session act own told after is free Full tells allows = ap refuses tells
 outcome-unrefused machine session act own told after is free Memory tells allows = ap refuses tells
 
+-- The answer to a get refuses no write by the rows.
 got-unrefused : (o : Option (List Cell)) → refuses (said_of (answer.Found o)) ≡ false
 got-unrefused None = refl
 got-unrefused (Some row) = refl
 
+-- The answer to a commit refuses no write by the rows.
 commit-unrefused : (machine : IsolationMachine) (o : Transaction) (own : WriteSet) → refuses (said_of (commit machine o own).0) ≡ false
 commit-unrefused machine o [] = refl
 commit-unrefused machine o (first ∷ rest) = refl
 
+-- What upkeep tells refuses no write by the rows.
 upkeep-unrefused : (told : Said) → is_of_upkeep told ≡ true → refuses told ≡ false
 upkeep-unrefused said.Exists h = absurd (let never : ⊥ = cc in never)
 upkeep-unrefused said.Missing h = absurd (let never : ⊥ = cc in never)
 upkeep-unrefused _ h = refl
 
+-- What an export tells refuses no write by the rows.
 export-unrefused : (tables : List TableDecl) (front : List Entry) (machine : IsolationMachine) (found : Option Transaction) (table : ℕ) (told : Said) → ExportsBy tables front machine found table told → refuses told ≡ false
 export-unrefused tables front machine None table told h = ap refuses h
 export-unrefused tables front machine (Some o) table said.Exists h = absurd h
 export-unrefused tables front machine (Some o) table said.Missing h = absurd h
 export-unrefused tables front machine (Some o) table _ h = refl
 
+-- A reply in a transaction tells of a write what the rows seen say.
 takes-write : (tables : List TableDecl) (front : List Entry) (machine : IsolationMachine) (entry : Entry) (after : IsolationMachine) (who : Who) (asked : Command) (o : Transaction)
     → entry.command ≡ asked → open_of who machine ≡ Some o → TakesAs tables front machine entry after (request_of who asked) → write_holds (is_acceptable (seen_rows machine o) asked) entry.reply.said ≡ true
 takes-write tables front machine entry after (Worker worker) asked o is at h = absurd (let never : ⊥ = cc in never)
@@ -317,17 +334,14 @@ pub at-any : (test : Span → Bool) (found : Option Span) → ((u : Span) → te
 at-any test None h = refl
 at-any test (Some u) h = h u
 
--- what opens no transaction shows no snapshot
-pub ended-unopened : (told : Said) (own : WriteSet) → (told ≡ said.Aborted) ⊎ ((told ≡ said.Committed None) × (own ≡ [])) → snapshot_in told ≡ None
-ended-unopened told own (inl is) = ap snapshot_in is
-ended-unopened told own (inr is) = ap snapshot_in is.0
-
 module _ (tables : List TableDecl) (printed timeline : List Entry) (t : Timeline tables printed timeline) (entry : Entry) (only : Only printed entry)
     (cut : Cut tables timeline (last tables printed timeline t) entry) where
+  -- The run that is read from the printed replies.
   abbrev run_here : Run
   run_here = run tables printed timeline t
 
-  -- A condition on the transaction of a reply: it holds where a transaction is open in front, and where the reply opens one.
+  -- A condition on the transaction of a reply: it holds where a transaction is open in front, and
+  -- where the reply opens one.
   pub by-transaction : (test : Span → Bool)
       → ((o : Transaction) (at : open_of entry.reply.who cut.machine ≡ Some o) (within : Within entry.reply.who (thread entry.reply.who cut.front) o) → test (belongs tables printed timeline t entry only cut o within) ≡ true)
       → ((u : Span) → entry.command ≡ command.Begin → entry.reply.said ≡ said.At (length cut.machine.history) → test u ≡ true)

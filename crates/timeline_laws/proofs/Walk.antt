@@ -48,19 +48,23 @@ Stands who past (Some t) = Within who past t
 
 -- ---- a session's own reply
 
+-- Where no reply is an end, one more that is none leaves it so.
 find-more : (front : List Entry) (entry : Entry) → find (λ other. is_end other.reply.said) front ≡ None → is_end entry.reply.said ≡ false
     → find (λ other. is_end other.reply.said) (front ++ entry ∷ []) ≡ None
 find-more front entry none on = find-append (λ other. is_end other.reply.said) front (entry ∷ []) ∙ (rw (none, on) refl)
 
+-- One more reply that is no accepted write adds nothing to the write set.
 writes-more : (front : List Entry) (entry : Entry) → accepted_write entry ≡ None → writes_in (front ++ entry ∷ []) ≡ writes_in front
 writes-more front entry none = rw (filter_map-append accepted_write front (entry ∷ []), none, append-nil (filter_map accepted_write front)) refl
 
+-- One more reply that is an accepted write enters it into the write set.
 write-more : (front : List Entry) (entry : Entry) (place : Place) (row : Option (List Cell)) → accepted_write entry ≡ Some (place, row)
     → writes_in (front ++ entry ∷ []) ≡ insert_entry place_cmp (writes_in front) place row
 write-more front entry place row some =
     rw (filter_map-append accepted_write front (entry ∷ []), some)
     (fold_push (λ writes (write : Place × Option (List Cell)). insert_entry place_cmp writes write.0 write.1) [] (filter_map accepted_write front) (place, row))
 
+-- A reply that neither opens, ends nor writes leaves what is open.
 stands-quiet : (who : Who) (past : List Entry) (entry : Entry) (found : Option Transaction) → Stands who past found
     → snapshot_in entry.reply.said ≡ None → is_end entry.reply.said ≡ false → accepted_write entry ≡ None → Stands who (past ++ entry ∷ []) found
 stands-quiet who past entry None h a b c = past-idle who past entry h a
@@ -73,6 +77,7 @@ stands-quiet who past entry (Some t) h a b c = record {
   writes_are = writes-more h.replies entry c ∙ h.writes_are;
 }
 
+-- A begin where nothing is open opens a transaction that wrote nothing.
 stands-begin : (who : Who) (past : List Entry) (entry : Entry) (session count : ℕ) → Past who past None → entry.reply.said ≡ said.At count
     → Within who (past ++ entry ∷ []) (record { session = session; snapshot = count; own = [] })
 stands-begin who past entry session count h is = record {
@@ -84,6 +89,7 @@ stands-begin who past entry session count h is = record {
   writes_are = rw is refl;
 }
 
+-- An accepted write is entered into the transaction that is open.
 stands-write : (who : Who) (past : List Entry) (entry : Entry) (t : Transaction) (place : Place) (change : Option (List Cell)) → Within who past t → entry.reply.said ≡ said.Accepted
     → accepted_write entry ≡ Some (place, change) → Within who (past ++ entry ∷ []) (record t { own = insert_entry place_cmp t.own place change })
 stands-write who past entry t place change h is wrote = record {
@@ -95,15 +101,23 @@ stands-write who past entry t place change h is wrote = record {
   writes_are = write-more h.replies entry place change wrote ∙ ap (λ (own : WriteSet). insert_entry place_cmp own place change) h.writes_are;
 }
 
+-- An end of the transaction that was open leaves none open.
 stands-end : (who : Who) (past : List Entry) (entry : Entry) (t : Transaction) → Within who past t → snapshot_in entry.reply.said ≡ None → is_end entry.reply.said ≡ true
     → Past who (past ++ entry ∷ []) None
 stands-end who past entry t h a b = past-ends who past entry t.snapshot h.replies h.ahead h.spanned h.split a b
 
+-- An abort or a commit of nothing shows no snapshot.
+pub ended-unopened : (told : Said) (own : WriteSet) → (told ≡ said.Aborted) ⊎ ((told ≡ said.Committed None) × (own ≡ [])) → snapshot_in told ≡ None
+ended-unopened told own (inl is) = ap snapshot_in is
+ended-unopened told own (inr is) = ap snapshot_in is.0
+
 -- what a session or worker has open behind its own reply
 module _ (who : Who) (past : List Entry) (machine after : IsolationMachine) (entry : Entry) (is_who : entry.reply.who ≡ who) where
+  -- Behind one's own quiet reply, one's replies have open what the machine has.
   own-quiet : Quiet entry.command entry.reply.said machine after → Stands who past (open_of who machine) → Stands who (past ++ entry ∷ []) (open_of who after)
   own-quiet q h = subst (λ (m : IsolationMachine). Stands who (past ++ entry ∷ []) (open_of who m)) (sym q.same) (stands-quiet who past entry (open_of who machine) h q.opens q.on q.writes)
 
+  -- Behind one's own begin, one's replies have open what the machine has.
   own-opens : (session : ℕ) → who ≡ Session session → transaction_of session machine ≡ None → entry.reply.said ≡ said.At (length machine.history) → after ≡ begun session machine
       → Stands who past (open_of who machine) → Stands who (past ++ entry ∷ []) (open_of who after)
   own-opens session is none said_is is_after h =
@@ -114,6 +128,7 @@ module _ (who : Who) (past : List Entry) (machine after : IsolationMachine) (ent
       ∙ ap (λ (b : Bool). cond b (Some (record { session = session; snapshot = length machine.history; own = [] })) None) (eqb-itself session) in
       subst (Stands who (past ++ entry ∷ [])) (sym now) (stands-begin who past entry session (length machine.history) (subst (Stands who past) before h) said_is)
 
+  -- Behind one's own write, one's replies have open what the machine has.
   own-writes : (session : ℕ) (t : Transaction) (place : Place) (change : Option (List Cell)) → who ≡ Session session → transaction_of session machine ≡ Some t → entry.reply.said ≡ said.Accepted
       → accepted_write entry ≡ Some (place, change) → after ≡ with_own session place change machine
       → Stands who past (open_of who machine) → Stands who (past ++ entry ∷ []) (open_of who after)
@@ -126,6 +141,7 @@ module _ (who : Who) (past : List Entry) (machine after : IsolationMachine) (ent
       ∙ ap (λ (b : Bool). Some (cond b (record t { own = insert_entry place_cmp t.own place change }) t)) (ap (λ (s : ℕ). eqb s session) its ∙ eqb-itself session) in
       subst (Stands who (past ++ entry ∷ [])) (sym now) (stands-write who past entry t place change (subst (Stands who past) before h) said_is wrote)
 
+  -- Behind one's own end, one's replies have open what the machine has.
   own-ends : (session : ℕ) (t : Transaction) → who ≡ Session session → transaction_of session machine ≡ Some t → snapshot_in entry.reply.said ≡ None → is_end entry.reply.said ≡ true
       → transaction_of session after ≡ None → Stands who past (open_of who machine) → Stands who (past ++ entry ∷ []) (open_of who after)
   own-ends session t is at a b none h =
@@ -133,16 +149,15 @@ module _ (who : Who) (past : List Entry) (machine after : IsolationMachine) (ent
       let now : open_of who after ≡ None = ap (λ (w : Who). open_of w after) is ∙ none in
       subst (Stands who (past ++ entry ∷ [])) (sym now) (stands-end who past entry t (subst (Stands who past) before h) a b)
 
+  -- The one whose own reply this is, is the session that it is to.
   its-session-is : (session : ℕ) → entry.reply.who ≡ Session session → who ≡ Session session
   its-session-is session h = sym is_who ∙ h
 
+  -- Behind the end of its transaction a session has none open.
   none-after : (session : ℕ) → transaction_of session (without session machine) ≡ None
   none-after session = at-ended session session machine ∙ ap (λ (b : Bool). cond b None (transaction_of session machine)) (eqb-itself session)
 
-  end-opens : (told : Said) (own : WriteSet) → (told ≡ said.Aborted) ⊎ ((told ≡ said.Committed None) × (own ≡ [])) → snapshot_in told ≡ None
-  end-opens told own (inl is) = ap snapshot_in is
-  end-opens told own (inr is) = ap snapshot_in is.0
-
+  -- An abort or a commit of nothing is an end.
   end-ends : (told : Said) (own : WriteSet) → (told ≡ said.Aborted) ⊎ ((told ≡ said.Committed None) × (own ≡ [])) → is_end told ≡ true
   end-ends told own (inl is) = ap is_end is
   end-ends told own (inr is) = ap is_end is.0
@@ -153,7 +168,7 @@ module _ (who : Who) (past : List Entry) (machine after : IsolationMachine) (ent
   own-stands (opens o) h = own-opens o.session (its-session-is o.session o.who_is) o.none o.said_is o.is h
   own-stands (writes w) h = own-writes w.session w.t w.place w.change (its-session-is w.session w.who_is) w.at w.said_is (rw (w.said_is) w.write) w.is h
   own-stands (ends e) h =
-      own-ends e.session e.t (its-session-is e.session e.who_is) e.at (end-opens entry.reply.said e.t.own e.said_is) (end-ends entry.reply.said e.t.own e.said_is) (ap (transaction_of e.session) e.is ∙ none-after e.session) h
+      own-ends e.session e.t (its-session-is e.session e.who_is) e.at (ended-unopened entry.reply.said e.t.own e.said_is) (end-ends entry.reply.said e.t.own e.said_is) (ap (transaction_of e.session) e.is ∙ none-after e.session) h
   own-stands (commits c) h =
       own-ends c.session c.t (its-session-is c.session c.who_is) c.at (ap snapshot_in c.said_is) (ap is_end c.said_is) (ap (transaction_of c.session) c.is ∙ none-after c.session) h
 
@@ -161,6 +176,7 @@ module _ (who : Who) (past : List Entry) (machine after : IsolationMachine) (ent
 thread-more : (who : Who) (front : List Entry) (entry : Entry) (b : Bool) → is_same entry.reply.who who ≡ b → thread who (front ++ entry ∷ []) ≡ thread who front ++ cond b (entry ∷ []) []
 thread-more who front entry b is = filter-append (λ other. is_same other.reply.who who) front (entry ∷ []) ∙ ap (λ (c : Bool). thread who front ++ cond c (entry ∷ []) []) is
 
+-- One more reply, one's own or not, leaves open what the machine has.
 stands-by : (front : List Entry) (machine after : IsolationMachine) (entry : Entry) (who : Who) (b : Bool) → is_same entry.reply.who who ≡ b
     → Change entry.reply.who entry.command entry.reply.said machine after → Stands who (thread who front) (open_of who machine) → Stands who (thread who (front ++ entry ∷ [])) (open_of who after)
 stands-by front machine after entry who true is change h =
@@ -170,10 +186,12 @@ stands-by front machine after entry who false is change h =
     subst (λ (es : List Entry). Stands who es (open_of who after)) (sym (thread-more who front entry false is ∙ append-nil (thread who front)))
     (subst (Stands who (thread who front)) (sym (others-open entry.reply.who who entry.command entry.reply.said machine after is change)) h)
 
+-- Before any reply nobody has a transaction open.
 nobody : (who : Who) → Stands who [] (open_of who opening)
 nobody (Session session) = past-nil (Session session)
 nobody (Worker worker) = past-nil (Worker worker)
 
+-- Before any reply the lines and the machine say that nobody is in a transaction.
 nobody-within : (who : Who) → is_within who [] ≡ is_some (open_of who opening)
 nobody-within (Session session) = refl
 nobody-within (Worker worker) = refl
@@ -190,20 +208,24 @@ pub record Shown (front : List Entry) (machine : IsolationMachine) : Type 0 wher
 pub shown-opening : Shown [] opening
 shown-opening = record { sane = sane-opening; commits_are = refl; numbers = refl; stands = nobody; agrees = nobody-within }
 
-shown-more : (shown : Said → Option ℕ) (front : List Entry) (entry : Entry)
+-- One more reply puts its number behind those shown before, if it shows one.
+pub shown-more : (shown : Said → Option ℕ) (front : List Entry) (entry : Entry)
     → shown_in shown (front ++ entry ∷ []) ≡ shown_in shown front ++ cons_option (shown entry.reply.said) []
 shown-more shown front entry = filter_map-append (λ other. shown other.reply.said) front (entry ∷ [])
 
+-- A number that is at most a count, or none, is so as a list.
 one-number : (count : ℕ) (o : Option ℕ) → option_map_or (λ shown. nat_le shown count) o true ≡ true → list_all (λ shown. nat_le shown count) (cons_option o []) ≡ true
 one-number count None h = refl
 one-number count (Some n) h = rw h refl
 
+-- One more reply whose number is at most a count leaves all numbers so.
 numbers-more : (count : ℕ) (front : List Entry) (entry : Entry) → list_all (λ shown. nat_le shown count) (shown_in number_shown front) ≡ true
     → shows_at_most count entry.reply.said ≡ true → list_all (λ shown. nat_le shown count) (shown_in number_shown (front ++ entry ∷ [])) ≡ true
 numbers-more count front entry h k =
     rw (shown-more number_shown front entry)
     (list_all-append (λ shown. nat_le shown count) (shown_in number_shown front) (cons_option (number_shown entry.reply.said) []) ∙ (rw (h, one-number count (number_shown entry.reply.said) k) refl))
 
+-- Numbers that are at most one number are at most the next one.
 all-more : (n : ℕ) (xs : List ℕ) → list_all (λ x. nat_le x n) xs ≡ true → list_all (λ x. nat_le x (n + 1)) xs ≡ true
 all-more n [] h = refl
 all-more n (x ∷ xs) h =
@@ -213,9 +235,11 @@ all-more n (x ∷ xs) h =
     both (nat_le x (n + 1)) (list_all (λ y. nat_le y (n + 1)) xs) more (all-more n xs parts.1)
 
 module _ (front : List Entry) (machine after : IsolationMachine) (entry : Entry) (h : Shown front machine) where
+  -- Behind one more reply, everyone's replies have open what the machine has.
   all-stand : Change entry.reply.who entry.command entry.reply.said machine after → (who : Who) → Stands who (thread who (front ++ entry ∷ [])) (open_of who after)
   all-stand change who = stands-by front machine after entry who (is_same entry.reply.who who) refl change (h.stands who)
 
+  -- Behind one more reply, the lines say who is in a transaction as the machine does.
   all-agree : Change entry.reply.who entry.command entry.reply.said machine after → Agree (front ++ entry ∷ []) after
   all-agree change who = agree-by front machine after entry h.agrees change who (is_same entry.reply.who who) refl
 
@@ -232,9 +256,11 @@ module _ (front : List Entry) (machine after : IsolationMachine) (entry : Entry)
     stands = stand;
   }
 
+  -- Each number is tested to be at most itself.
   itself-most : (n : ℕ) → nat_le n n ≡ true
   itself-most n = grind (arith, nat_tests)
 
+  -- An abort or a commit of nothing shows no commit, and no number above the commits.
   end-shows : (told : Said) (own : WriteSet) → (told ≡ said.Aborted) ⊎ ((told ≡ said.Committed None) × (own ≡ [])) → (commit_in told ≡ None) × (shows_at_most (length machine.history) told ≡ true)
   end-shows told own (inl is) = (ap commit_in is, ap (shows_at_most (length machine.history)) is)
   end-shows told own (inr is) = (ap commit_in is.0, ap (shows_at_most (length machine.history)) is.0)

@@ -1,4 +1,5 @@
--- The events of a command: those that are quiet, and the one behind them that is not, if there is one.
+-- The events of a command: those that are quiet, and the one behind them that is not, if there is
+-- one.
 use Rattle.std.proofs.Common.{◌≡◌, ◌⊎◌, ℕ, Bool, true, List, [], ◌∷◌, ◌++◌, map, Option, None, Some, refl, sym, ap, ◌∙◌, append-nil}
 use mathlib.Core.Logic.{inl, inr}
 use Rattle.std.specs.Prelude.{option_and_then, option_map, option_to_list}
@@ -105,18 +106,22 @@ loud_of shape own session (command.Seal table block) made = Some (event.Seal tab
 loud_of shape own session (command.Gather table block) made = Some (event.Image table block (image_of shape table block made))
 loud_of shape own session (command.Export table) made = None
 
+-- Events of the open transaction, with none behind them, are these events.
 by_none : (own : Option OwnTransaction) (f : OwnTransaction → List CoreEvent) → by_own own f ≡ by_own own f ++ []
 by_none own f = sym (append-nil (by_own own f))
 
+-- An event of the open transaction is there where one is open.
 by_one : (own : Option OwnTransaction) (f : OwnTransaction → CoreEvent) → by_own own (λ t. f t ∷ []) ≡ option_to_list (option_map f own)
 by_one None f = refl
 by_one (Some t) f = refl
 
+-- Events of the open transaction and one behind them are told in two parts.
 by_two : (own : Option OwnTransaction) (g : List CoreEvent) (f : OwnTransaction → CoreEvent)
     → by_own own (λ t. g ++ f t ∷ []) ≡ by_own own (λ t. g) ++ option_to_list (option_map f own)
 by_two None g f = refl
 by_two (Some t) g f = refl
 
+-- The moves of a plan are its one move, if it has one.
 moves_are : (table : ℕ) (pairs : List MovePair) → moves table pairs ≡ option_to_list (move_of table pairs)
 moves_are table [] = refl
 moves_are table (pair ∷ pairs) = refl
@@ -142,11 +147,13 @@ split_events shape own session (command.Seal table block) made = refl
 split_events shape own session (command.Gather table block) made = refl
 split_events shape own session (command.Export table) made = by_none own (λ t. at_blocks shape table (event.Read t table))
 
+-- A get of the open transaction is quiet.
 quiet_get : (own : Option OwnTransaction) (table : ℕ) (key : Rattle.std.specs.Prelude.ℤ)
     → list_all is_quiet (by_own own (λ t. event.Get (own_key table key t) table key ∷ [])) ≡ true
 quiet_get None table key = refl
 quiet_get (Some t) table key = refl
 
+-- The thaw of a block, if there is one, is quiet.
 quiet_thaws : (own : Option OwnTransaction) (table : ℕ) (block : Option ℕ)
     → list_all is_quiet (by_own own (λ t. map (event.Thaw table) (option_to_list block))) ≡ true
 quiet_thaws None table block = refl

@@ -30,13 +30,16 @@ use Rattle.ran_laws.specs.Upkeep.{AreReplied, IsReplied}
 use Rattle.told_laws.specs.Laws.{CallsGoOnQuietly, LastEventsAreTold, RefusalsArePlain, TellsAt, TellsQuietly, is_plain, is_quiet}
 use Rattle.told_laws.proofs.Splits.{alone, are_quiet, heads, loud_of, move_of, none_behind, none_some, passes_at, placed, quiet_of, split_events, tails}
 
+-- What is false is not true.
 not_true : false ≡ true → ⊥
 not_true e = cc
 
+-- The events of more occurrences stand behind those of the first ones.
 events_append : (xs ys : List Occurrence) → events_in (xs ++ ys) ≡ events_in xs ++ events_in ys
 events_append [] ys = refl
 events_append (x ∷ xs) ys = ap (λ es. x.event ∷ es) (events_append xs ys)
 
+-- The replies of more occurrences stand behind those of the first ones.
 replies_append : (xs ys : List Occurrence) → replies_in (xs ++ ys) ≡ replies_in xs ++ replies_in ys
 replies_append [] ys = refl
 replies_append (x ∷ xs) ys = ap (λ es. x.reply ∷ es) (replies_append xs ys)
@@ -77,6 +80,7 @@ pub not_silent : (worker : Bool) (line : Said) → is_silent line ≡ false → 
 not_silent false line e = refl
 not_silent true line e = ap (λ b. cond b None (Some line)) e
 
+-- At a quiet event a call tells what it tells quietly.
 quiet_tells : (worker : Bool) (made : List Occurrence) (e : CoreEvent) (told : CoreReply) (asked : Command) (line : Option Said)
     → is_quiet e ≡ true → TellsQuietly asked made line → TellsAt worker made e told asked line
 quiet_tells worker made (event.Begin session) told asked line q h = absurd (not_true q)
@@ -141,23 +145,29 @@ get_plain worker shape parts own table key false = go (Rattle.event_spec.specs.E
     go None = (said.Absent, not_silent worker said.Absent refl, refl)
     go (Some row) = (said.Found row, not_silent worker (said.Found row) refl, refl)
 
+-- Nothing that is told is not a line.
 none_is : (line : Said) → None ≡ Some line → ⊥
 none_is line e = cc
 
+-- Two lines that are told alike are one.
 same_line : (a b : Said) → Some a ≡ Some b → a ≡ b
 same_line a b e = cc
 
+-- A line that is told as a plain one is plain.
 plain_as : (here line : Said) → is_plain here ≡ true → Some here ≡ Some line → is_plain line ≡ true
 plain_as here line is e = ap is_plain (sym (same_line here line e)) ∙ is
 
+-- The refusal of a command that needs a transaction is plain.
 needs : (own : Option OwnTransaction) (line : Said) → cond (is_none own) (Some said.NoTransaction) None ≡ Some line → is_plain line ≡ true
 needs None line e = plain_as said.NoTransaction line refl e
 needs (Some t) line e = absurd (none_is line e)
 
+-- The refusal of a begin in a transaction is plain.
 begins : (own : Option OwnTransaction) (line : Said) → cond (is_none own) None (Some said.InTransaction) ≡ Some line → is_plain line ≡ true
 begins None line e = absurd (none_is line e)
 begins (Some t) line e = plain_as said.InTransaction line refl e
 
+-- The refusal of an export for an own write is plain.
 exports : (table : ℕ) (own : Option OwnTransaction) (line : Said) → Rattle.run_spec.specs.Told.unless_clean table own ≡ Some line → is_plain line ≡ true
 exports table None line e = plain_as said.NoTransaction line refl e
 exports table (Some t) line e = go (least_written table t) e
@@ -166,6 +176,7 @@ exports table (Some t) line e = go (least_written table t) e
     go None e = absurd (none_is line e)
     go (Some key) e = plain_as (said.Dirty key) line refl e
 
+-- Each refusal of a command is a plain line.
 refusal_plain : (asked : Command) (own : Option OwnTransaction) (line : Said) → refusal_of asked own ≡ Some line → is_plain line ≡ true
 refusal_plain command.Begin own line e = begins own line e
 refusal_plain (command.Get table key) own line e = needs own line e
@@ -182,12 +193,15 @@ refusal_plain (command.Seal table block) own line e = absurd (none_is line e)
 refusal_plain (command.Gather table block) own line e = absurd (none_is line e)
 refusal_plain (command.Export table) own line e = exports table own line e
 
+-- A refusal that is there is not none.
 no_refusal : (line : Said) → Some line ≡ None → ⊥
 no_refusal line e = cc
 
+-- No event is not an event that is there.
 loud_none : (e : CoreEvent) → None ≡ Some e → ⊥
 loud_none e h = cc
 
+-- Two events that are found alike are one.
 loud_same : (a b : CoreEvent) → Some a ≡ Some b → a ≡ b
 loud_same a b e = cc
 
@@ -195,6 +209,7 @@ loud_same a b e = cc
 
 module _ (shape : Shape) (worker : Bool) (session : ℕ) (call : Call) (done : List Occurrence) (made : Occurrence)
     (replied : AreReplied shape call.made) (all : call.made ≡ done ++ made ∷ []) where
+  -- The last reply of the call is the last event's.
   last_reply : last_or None (replies_in call.made) ≡ Some made.reply
   last_reply = ap (last_or None) (ap replies_in all ∙ replies_append done (made ∷ [])) ∙ at None (replies_in done)
     where
@@ -202,12 +217,15 @@ module _ (shape : Shape) (worker : Bool) (session : ℕ) (call : Call) (done : L
       at o [] = refl
       at o (y ∷ ys) = at (Some y) ys
 
+  -- What the call's last reply says is what the last event's says.
   told_last : (table block : ℕ) → last_told table block (replies_in call.made) ≡ told_by table block made.reply
   told_last table block = ap (option_and_then (told_by table block)) last_reply
 
+  -- The last event has the reply that is due to it.
   here : IsReplied shape made
   here = (rest_replied shape done (made ∷ []) (subst (AreReplied shape) all replied)).0
 
+  -- The events before the last have the replies that are due to them.
   done_replied : AreReplied shape done
   done_replied = front_replied shape done (made ∷ []) (subst (AreReplied shape) all replied)
 
@@ -254,6 +272,7 @@ module _ (shape : Shape) (worker : Bool) (session : ℕ) (call : Call) (done : L
       (loud_same (event.Image table block (Rattle.run_spec.specs.Asked.image_of shape table block call.made)) e is) (refl, line ∙ ap (line_to worker) (told_last table block))
   at_loud (command.Export table) own e line is sum = absurd (loud_none e is)
 
+  -- A call that tells a plain line tells quietly.
   said_plain : (line : Said) → is_silent line ≡ false → is_plain line ≡ true → call.told ≡ line_to worker (Some line) → (asked : Command) → TellsQuietly asked call.made call.told
   said_plain line loud plain tells asked = (line, tells ∙ not_silent worker line loud, inl plain)
 
@@ -300,6 +319,7 @@ module _ (shape : Shape) (worker : Bool) (session : ℕ) (call : Call) (done : L
   at_quiet (command.Export table) None free line es is sum = absurd (no_refusal said.NoTransaction free)
   at_quiet (command.Export table) (Some t) free line es is sum = said_plain (Rattle.run_spec.specs.Told.summary_of t (replies_in call.made)) refl refl line (command.Export table)
 
+  -- A whole call tells its line at its last event.
   whole : (own : Option OwnTransaction) → refusal_of call.command own ≡ None → IsWhole shape worker session own call
       → TellsAt worker call.made made.event made.reply call.command call.told
   whole own free w = go (loud_of shape own session call.command call.made) refl
@@ -339,23 +359,28 @@ module _ (shape : Shape) (worker : Bool) (session : ℕ) (call : Call) (done : L
 
   -- ---- a call cut short
 
+  -- The last event of a call cut short was refused memory, or ends no call.
   cut_last : (xs : List Occurrence) → is_cut_short (xs ++ made ∷ []) ≡ true → (is_refused made || not (is_final made.event)) ≡ true
   cut_last [] e = e
   cut_last (x ∷ []) e = and_second (not (is_refused x || is_final x.event)) (is_cut_short (made ∷ [])) e
   cut_last (x ∷ y ∷ xs) e = cut_last (y ∷ xs) (and_second (not (is_refused x || is_final x.event)) (is_cut_short (y ∷ xs ++ made ∷ [])) e)
 
+  -- A reply that is tested to be want of memory is that.
   memory_is : (told : CoreReply) → is_memory told ≡ true → told ≡ reply.Memory
   memory_is reply.Memory e = refl
   memory_is _ e = absurd (not_true e)
 
+  -- Where the second part fails, a disjunction that holds does so by its first.
   or_final : (a b : Bool) → b ≡ true → (a || not b) ≡ true → a ≡ true
   or_final true b e h = refl
   or_final false true e h = absurd (not_true h)
   or_final false false e h = absurd (not_true e)
 
+  -- Want of memory is told by the call as its last reply says it.
   of_memory : (table block : ℕ) → call.told ≡ Some said.Memory → made.reply ≡ reply.Memory → call.told ≡ line_to worker (told_by table block made.reply)
   of_memory table block tells is = tells ∙ sym (not_silent worker said.Memory refl) ∙ ap (λ r. line_to worker (told_by table block r)) (sym is)
 
+  -- A call cut short tells want of memory at the event behind the quiet ones.
   at_cut : (asked : Command) (own : Option OwnTransaction) (e : CoreEvent) → may_lack_memory asked ≡ true → call.told ≡ Some said.Memory
       → (is_final e ≡ true → made.reply ≡ reply.Memory)
       → loud_of shape own session asked call.made ≡ Some e
@@ -398,6 +423,7 @@ module _ (shape : Shape) (worker : Bool) (session : ℕ) (call : Call) (done : L
       (refl, of_memory table block line (refused (ap is_final (sym same))))
   at_cut (command.Export table) own e may line refused is = absurd (loud_none e is)
 
+  -- A call cut short tells its line at its last event.
   part : (own : Option OwnTransaction) → IsPart shape session own call → TellsAt worker call.made made.event made.reply call.command call.told
   part own p = go (placed shape own session call.command call.made (events_in done) made.event p.missed
       (p.events ∙ ap (λ es. es ++ p.missed) (events_at call done made [] all) ∙ append_assoc (events_in done) (made.event ∷ []) p.missed))
@@ -420,12 +446,15 @@ last_events_are_told shape worker session front call done made is replied all = 
 
 -- ---- no event
 
+-- A line is told that is plain, or says that nothing moved.
 abbrev Plainly : Option Said → Type 0
 Plainly told = (line : Said) × (told ≡ Some line) × ((is_plain line ≡ true) ⊎ (line ≡ said.Moved 0))
 
+-- An empty list of events has no first one.
 no_event : (e : CoreEvent) (es : List CoreEvent) → [] ≡ e ∷ es → ⊥
 no_event e es h = cc
 
+-- A call without an event that is not refused tells plainly.
 none_told : (shape : Shape) (worker : Bool) (session : ℕ) (asked : Command) (own : Option OwnTransaction) (told : Option Said)
     → refusal_of asked own ≡ None → [] ≡ events_of shape own session asked [] → told ≡ line_to worker (line_of own asked []) → Plainly told
 none_told shape worker session command.Begin own told free es line = absurd (no_event (event.Begin session) [] es)

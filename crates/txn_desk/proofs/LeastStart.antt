@@ -33,7 +33,8 @@ fold_above low a (Some s ∷ os) first rest =
     let here : low ≤ s.stamp = All-head (BeganFrom low) (Some s) os rest in
     fold_above low (min a s.stamp) os (omega arith) (All-tail (BeganFrom low) (Some s) os rest)
 
--- where no transaction began after the newest stamp, the oldest stamp is above no start and not above the newest
+-- where no transaction began after the newest stamp, the oldest stamp is above no start and not
+-- above the newest
 pub least_below : (newest : ℕ) (os : List (Option Snapshot)) →
     All (λ o. IfSome o (λ snapshot. snapshot.stamp ≤ newest)) os →
     (least_or (open_starts os) newest ≤ newest) × All (BeganFrom (least_or (open_starts os) newest)) os
@@ -78,7 +79,8 @@ least_at_begin newest os i s begun is idle =
     let down : n ≤ m = least_above n newest os new_below.0 all_back in
     le_antisymm down up
 
--- where no transaction began after the newest stamp, the oldest stamp is the least of it and the starts
+-- where no transaction began after the newest stamp, the oldest stamp is the least of it and the
+-- starts
 pub fold-least : (newest : ℕ) (os : List (Option Snapshot)) →
     All (λ o. IfSome o (λ snapshot. snapshot.stamp ≤ newest)) os →
     fold min newest (open_starts os) ≡ least_or (open_starts os) newest

@@ -1,4 +1,5 @@
--- A commit that goes from the last element of a list towards its front, as far as the session's own entries reach.
+-- A commit that goes from the last element of a list towards its front, as far as the session's own
+-- entries reach.
 use Rattle.std.proofs.Common.{◌≡◌, ℕ, ◌-◌, ◌<◌, ◌≤◌, true, false, List, [], ◌∷◌, ◌++◌, map, reverse, take, drop, set, get_or, length, zero, suc, Some, refl, sym, ◌∙◌, ap, subst, arith}
 use Rattle.std.specs.Prelude.{All}
 use mathlib.Core.List.{reverse-cons}
@@ -44,6 +45,7 @@ stamped_none session stamp number (e ∷ es) all =
     stamped_none session stamp number es (All-tail (λ undo. is_own undo session ≡ false) e es all) in
     cc
 
+-- Taking one more takes the element behind those taken.
 last_taken : {X : Type 0} (xs : List X) (k : ℕ) (x : X) → k < length xs → x ≡ get_or xs k x →
     take (suc k) xs ≡ take k xs ++ x ∷ []
 last_taken [] k x within at = absurd (omega arith)
@@ -84,6 +86,7 @@ before_changed [] back k d within = absurd (omega arith)
 before_changed (z ∷ zs) back zero d within = refl
 before_changed (z ∷ zs) back (suc k) d within = before_changed zs back k d (omega arith)
 
+-- What is read twice at one place is the same.
 read_twice : {X : Type 0} (xs : List X) (k : ℕ) (x y : X) → k < length xs → x ≡ get_or xs k x → y ≡ get_or xs k y → y ≡ x
 read_twice [] k x y within first second = absurd (omega arith)
 read_twice (z ∷ zs) zero x y within first second = second ∙ sym first
@@ -93,6 +96,7 @@ read_twice (z ∷ zs) (suc k) x y within first second = read_twice zs k x y (ome
 abbrev pub committed_from : {D : Type 0} → ℕ → ℕ → ℕ → List (Undo D) → ℕ → List (Undo D)
 committed_from session stamp number xs from = take from xs ++ map (stamped session stamp number) (drop from xs)
 
+-- The entry before those that are committed is as it was.
 at_place : {D : Type 0} (session stamp number : ℕ) (xs items : List (Undo D)) (k : ℕ) (x : Undo D) → k < length xs →
     items ≡ committed_from session stamp number xs (suc k) → x ≡ get_or items k x → x ≡ get_or xs k x
 at_place session stamp number xs items k x within is at =

@@ -22,6 +22,7 @@ reverse-push xs x = reverse-append xs (x ∷ [])
 pub reverse-last : {X : Type 0} (es xs : List X) (x : X) → es ≡ xs ++ x ∷ [] → reverse es ≡ x ∷ reverse xs
 reverse-last es xs x is = ap reverse is ∙ reverse-push xs x
 
+-- An element that is kept stands last the other way round.
 reverse-kept : {X : Type 0} (b : Bool) (x : X) (xs : List X) →
     reverse xs ++ cond b (x ∷ []) [] ≡ reverse (cond b (x ∷ xs) xs)
 reverse-kept true x xs = sym (reverse-cons x xs)
@@ -52,10 +53,12 @@ popped_views es rest None is = tt
 popped_views es rest (Some u) is =
     λ stamp session out. rw (reverse-last es rest u is) (images_passed u (reverse rest) stamp session out)
 
+-- The last element stands at the place that those before it count.
 slice_get_last : {X : Type 0} (xs : List X) (x : X) → slice_get (xs ++ x ∷ []) (length xs) ≡ Some x
 slice_get_last [] x = refl
 slice_get_last (y ∷ xs) x = slice_get_last xs x
 
+-- What is read at the last place comes first the other way round.
 last_by : {X : Type 0} (xs : List X) (x : X) → Some x ≡ slice_get xs (length xs - 1) → (ys : List X) → reverse xs ≡ ys →
     (rest : List X) × (reverse xs ≡ x ∷ rest)
 last_by xs x is [] turned =
@@ -96,6 +99,7 @@ popped_own session es rest newest (Some u) is last mine =
     me
     (own_out_of_view u.stamp (is_move u.kind) u.session session stamp me other (ap (λ (e : Undo _). is_own e session) (sym same) ∙ mine)))
 
+-- One element more is one more that passes or one more that is kept.
 kept_count : (b : Bool) (n kept : ℕ) (X : Type 0) (x : X) (xs : List X) → length xs ≡ kept →
     cond b 1 0 + n + length (cond (not b) (x ∷ xs) xs) ≡ n + kept + 1
 kept_count true n kept X x xs is = omega arith

@@ -12,6 +12,7 @@ abbrev pub largest_with : Option ℕ → List ℕ → Option ℕ
 largest_with None xs = largest xs
 largest_with (Some m) xs = Some (fold max m xs)
 
+-- Mapping a list with one more in front, if it is chosen, maps that too.
 map_cond : {X Y : Type 0} (f : X → Y) (b : Bool) (x : X) (xs : List X) →
     map f (cond b (x ∷ xs) xs) ≡ cond b (f x ∷ map f xs) (map f xs)
 map_cond f true x xs = refl
@@ -23,6 +24,7 @@ pub numbers_above-cons : {D : Type 0} (u : Undo D) (es : List (Undo D)) (stamp :
 numbers_above-cons u es stamp =
     map_cond (λ undo. undo.number) (is_commit_above u stamp) u (filter (λ undo. is_commit_above undo stamp) es)
 
+-- An entry that is stamped by a stamp is no commit above it.
 not_above : (some by move : Bool) → by ≡ true → some && not by && not move ≡ false
 not_above true by move is = rw is refl
 not_above false by move is = refl

@@ -10,19 +10,23 @@ use Rattle.undo_chain.specs.Lawful.{IsLawful, IsWriteOrStamped, MayStandAbove, N
 use Rattle.undo_chain.specs.Stamped.{stamped}
 use Rattle.undo_chain.proofs.Pairs.{writes_after, above_after, above_trans, own_below, no_other_below, stamped_below}
 
+-- Where each fails a test, none passes it.
 none_by : {X : Type 0} (p : X → Bool) (xs : List X) → All (λ x. p x ≡ false) xs → list_any p xs ≡ false
 none_by p [] all = refl
 none_by p (x ∷ xs) all =
     rw (All-head (λ y. p y ≡ false) x xs all) (none_by p xs (All-tail (λ y. p y ≡ false) x xs all))
 
+-- Where each fails a test, none is found.
 find_none : {X : Type 0} (p : X → Bool) (xs : List X) → All (λ x. p x ≡ false) xs → find p xs ≡ None
 find_none p [] all = refl
 find_none p (x ∷ xs) all =
     rw (All-head (λ y. p y ≡ false) x xs all) (find_none p xs (All-tail (λ y. p y ≡ false) x xs all))
 
+-- Where all pairs stand in a relation, the first does with each behind it.
 AllPairs-head : {X : Type 0} (R : X → X → Type 0) (x : X) (xs : List X) → AllPairs R (x ∷ xs) → All (R x) xs
 AllPairs-head R x xs pairs = λ k d within. pairs zero (suc k) d (omega arith) (omega arith)
 
+-- Where all pairs stand in a relation, so do those behind the first.
 AllPairs-tail : {X : Type 0} (R : X → X → Type 0) (x : X) (xs : List X) → AllPairs R (x ∷ xs) → AllPairs R xs
 AllPairs-tail R x xs pairs = λ i j d before within. pairs (suc i) (suc j) d (omega arith) (omega arith)
 

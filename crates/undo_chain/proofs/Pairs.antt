@@ -92,6 +92,7 @@ stamp_out_of_view : (es session commit stamp me : ℕ) → me ≢ session → st
     es == session ≡ true → nat_le commit stamp ≡ (es == me) || false
 stamp_out_of_view es session commit stamp me other above same = grind (arith, nat_tests)
 
+-- An open write, committed above a reader's snapshot or not, is in view as before.
 view_by : (b : Bool) (es session commit stamp me : ℕ) → me ≢ session → stamp < commit → es == session ≡ b →
     own (if b then Some commit else None) false es me || is_at_most (if b then Some commit else None) stamp
     ≡ (es == me) || false

@@ -1,4 +1,5 @@
--- What the images that a reader lays back make of a row, whatever a row is: for layers that lay real images back on real rows.
+-- What the images that a reader lays back make of a row, whatever a row is: for layers that lay
+-- real images back on real rows.
 use Rattle.std.proofs.Common.{◌≡◌, ℕ, List, ◌∷◌, ◌∙◌, ap}
 use Rattle.std.specs.Prelude.{fold}
 use Rattle.undo_chain.specs.declared.undo.Undo.{Undo}
@@ -10,7 +11,8 @@ pub visible_row-same : {Row D : Type 0} (lay_back : Row → D → Row) (row : Ro
     visible_row lay_back row new stamp session ≡ visible_row lay_back row old stamp session
 visible_row-same lay_back row new old stamp session same = ap (λ (images : List _). fold lay_back row images) same
 
--- where a reader lays one image back before the same ones, and this undoes the change of the row, it sees the same
+-- where a reader lays one image back before the same ones, and this undoes the change of the row,
+-- it sees the same
 pub visible_row-change : {Row D : Type 0} (lay_back : Row → D → Row) (row changed : Row) (before : D) (new old : List (Undo D))
     (stamp session : ℕ) → images_laid_back new stamp session ≡ before ∷ images_laid_back old stamp session →
     lay_back changed before ≡ row →

@@ -12,6 +12,7 @@ use Rattle.undo_chain.specs.Stamped.{stamped}
 use Rattle.undo_chain.proofs.Pairs.{stamped_later, view_after}
 use Rattle.undo_chain.proofs.Order.{IsLawful-tail, all_stamped}
 
+-- Mapping a list that is kept or dropped maps it where it is kept.
 map_cond : {X Y : Type 0} (f : X → Y) (b : Bool) (x : X) (xs : List X) →
     map f (cond (not b) (x ∷ xs) []) ≡ cond b [] (f x ∷ map f xs)
 map_cond f true x xs = refl
@@ -67,7 +68,8 @@ in_view_from : (own : Bool) (by : Bool) → by ≡ true → own || by ≡ true
 in_view_from true passed seen = refl
 in_view_from false passed seen = seen
 
--- a reader at a limit or later lays back the same where the entries stamped by the limit are dropped
+-- a reader at a limit or later lays back the same where the entries stamped by the limit are
+-- dropped
 pub images_after_prune : {D : Type 0} (limit : ℕ) (es : List (Undo D)) (stamp me : ℕ) → IsLawful es → limit ≤ stamp →
     images_laid_back (filter (λ undo. not (is_stamped_by undo limit)) es) stamp me ≡ images_laid_back es stamp me
 images_after_prune limit [] stamp me lawful later = refl

@@ -19,6 +19,7 @@ use Rattle.word_read.specs.Numbers.{are_digits, is_small, small_natural, small_i
 abbrev pub step : ℕ → ℕ → ℕ
 step value digit = value * 10 + digit_value digit
 
+-- Words of digits, with the value of each, are a model of numerals.
 own : IsNumeralModel (λ ds. are_digits ds ≡ true) (λ ds. value_of_digits ds)
 own = numerals_by_fold _ (search rules) (λ n ds. fold (λ value digit. value * 10 + digit_value digit) n ds) (search rules)
 
@@ -33,29 +34,35 @@ unpadded_above [] lt = absurd (omega (arith, lt))
 unpadded_above (c ∷ []) lt = refl
 unpadded_above (c ∷ d ∷ ds) lt = elim (eqb_tells c 48) [ inl e ↦ absurd (omega (arith, lt, e.1)) | inr e ↦ rw e.0 refl ]
 
+-- Unpadded digits that begin with a zero are that zero alone.
 unpadded_zero : (ds : List ℕ) → is_unpadded ds ≡ true → get_or ds 0 0 ≡ 48 → length ds ≡ 1
 unpadded_zero [] u z = absurd cc
 unpadded_zero (c ∷ []) u z = refl
 unpadded_zero (c ∷ d ∷ ds) u z = absurd (let e = eq-eqb c 48 z in let f = rw e at u in cc)
 
+-- Unpadded digits are at least one.
 unpadded_some : (ds : List ℕ) → is_unpadded ds ≡ true → 0 < length ds
 unpadded_some [] u = absurd cc
 unpadded_some (c ∷ ds) u = omega arith
 
+-- The decimal spelling of a number is unpadded.
 unpadded-decimal : (v : ℕ) → v < 2 ^ 64 → is_unpadded (decimal v) ≡ true
 unpadded-decimal v small = elim (cases_lt 0 v) [
   | inl lt ↦ unpadded_above (decimal v) (first_decimal v lt small)
   | inr le ↦ let z : v ≡ 0 = omega arith in rw (z, decimal_digit 0 (omega arith)) refl
 ]
 
+-- Both parts of a conjunction that holds.
 both : {s t : Bool} → (s && t) ≡ true → (s ≡ true) × (t ≡ true)
 both {s = true} {t = true} e = (refl, refl)
 both {s = true} {t = false} e = absurd cc
 both {s = false} {t = t} e = absurd cc
 
+-- Two tests that pass each pass together.
 joined : {s t : Bool} → s ≡ true → t ≡ true → (s && t) ≡ true
 joined p q = rw (p, q) refl
 
+-- Two tests of which each passes where the other does are one.
 same : (s t : Bool) → (s ≡ true → t ≡ true) → (t ≡ true → s ≡ true) → s ≡ t
 same true t to back = sym (to refl)
 same false true to back = back refl
@@ -66,12 +73,14 @@ pub refused : (b : Bool) (o : Option ℕ) → cond (b && false) o None ≡ None
 refused true o = refl
 refused false o = refl
 
+-- For a small value two tests may be made one after the other.
 sorted : (d u : Bool) (v : ℕ) → is_small v ≡ true → small_natural (cond (d && u) (Some v) None) ≡ cond u (cond (d && true) (Some v) None) None
 sorted true true v s = rw s refl
 sorted true false v s = refl
 sorted false true v s = refl
 sorted false false v s = refl
 
+-- A value that is not small is found neither way.
 dropped : (b d u : Bool) (v : ℕ) → is_small v ≡ false → small_natural (cond b (Some v) None) ≡ cond u (cond (d && false) (Some v) None) None
 dropped true true true v s = rw s refl
 dropped true true false v s = rw s refl
@@ -90,6 +99,7 @@ is_spelling word small = same (bytes_eq (decimal (value_of_digits word)) word) (
     (λ e. let parts = both e in
     (bytes_eq-Decides (decimal (value_of_digits word)) word).1 (decimal-digits_value own word parts.0 (unpadded_some word parts.1) (unpadded_zero word parts.1) (ltb-true _ _ small)))
 
+-- Whether its value is small or not, a word spells a number by its digits.
 judged : (word : List ℕ) (small : Bool) → is_small (value_of_digits word) ≡ small → small_natural (natural_of word) ≡ (if is_unpadded word then (if are_digits word && is_small (value_of_digits word) then Some (value_of_digits word) else None) else None)
 judged word true small = rw (is_spelling word small, small) (sorted (are_digits word) (is_unpadded word) (value_of_digits word) small)
 judged word false small = rw small (dropped (bytes_eq (decimal (value_of_digits word)) word) (are_digits word) (is_unpadded word) (value_of_digits word) small)
@@ -128,13 +138,16 @@ digit_is b low high =
     let g : ltb b 58 ≡ true = lt-ltb b 58 (omega arith) in
     rw (f, g) refl
 
+-- A value that is not small is within no bounds that are.
 above : (low high value : ℕ) → high < 2 ^ 64 → is_small value ≡ false → is_within low high value ≡ false
 above low high value fits large = let past : 2 ^ 64 ≤ value = ltb-false value (2 ^ 64) large in let f : leb value high ≡ false = lt-leb value high (omega arith) in rw f (and-false (leb low value))
 
+-- A value within small bounds is found among the small ones, as it is small.
 within_by : (low high value : ℕ) (small : Bool) → is_small value ≡ small → high < 2 ^ 64 → (if is_within low high value then Some value else None) ≡ option_and_then (λ value. if is_within low high value then Some value else None) (small_natural (Some value))
 within_by low high value true e fits = rw e refl
 within_by low high value false e fits = rw (e, above low high value fits e) refl
 
+-- What is found within small bounds is found so among the small numbers.
 within_of : (low high : ℕ) (o : Option ℕ) → high < 2 ^ 64 → option_and_then (λ value. if is_within low high value then Some value else None) o ≡ option_and_then (λ value. if is_within low high value then Some value else None) (small_natural o)
 within_of low high None fits = refl
 within_of low high (Some value) fits = within_by low high value (is_small value) refl fits
@@ -143,11 +156,13 @@ within_of low high (Some value) fits = within_by low high value (is_small value)
 pub within_small : (low high : ℕ) (word : List ℕ) → high < 2 ^ 64 → natural_within low high word ≡ option_and_then (λ value. if is_within low high value then Some value else None) (small_natural (natural_of word))
 within_small low high word fits = within_of low high (natural_of word) fits
 
+-- Where a number is not found as a small one, neither is its negative.
 negative_by : (b small : Bool) (k : ℕ) → is_small (k + 1) ≡ small → small_natural (cond b (Some (suc k)) None) ≡ None → small_integer (cond b (Some (negsuc k)) None) ≡ None
 negative_by true true k e none = let f : is_small (suc k) ≡ true = rw add-one at e in let g = rw f at none in absurd cc
 negative_by true false k e none = rw e refl
 negative_by false small k e none = refl
 
+-- Behind a minus, digits that spell no small number spell no small integer.
 negative_spelled : (digits : List ℕ) (v : ℕ) → small_natural (cond (bytes_eq (decimal v) digits) (Some v) None) ≡ None
     → small_integer (cond (bytes_eq (signed_decimal (neg_ℤ (pos v))) (45 ∷ digits)) (Some (neg_ℤ (pos v))) None) ≡ None
 negative_spelled digits zero none = rw (decimal_digit 0 (omega arith)) refl

@@ -8,6 +8,7 @@ use Rattle.workload_spec.specs.Words.{line_feed}
 use Rattle.workload_spec.specs.Reading.{parted, parts}
 use Rattle.word_read.specs.Cursor.{line_end}
 
+-- Bytes that are one part are so with one byte more that is no line feed.
 whole_by : (c : Bool) (b : ℕ) (bs : List ℕ) (n m : ℕ) (next : List (List ℕ)) → cond c 0 (n + 1) ≡ suc m → (n ≡ m → next ≡ bs ∷ []) → parted c b next ≡ (b ∷ bs) ∷ []
 whole_by true b bs n m next e h = absurd cc
 whole_by false b bs n m next e h = rw (h (omega (arith, e))) refl
@@ -17,6 +18,7 @@ pub whole : (bytes : List ℕ) → line_end bytes ≡ length bytes → parts lin
 whole [] e = refl
 whole (b ∷ bs) e = whole_by (b == line_feed) b bs (line_end bs) (length bs) (parts line_feed bs) e (whole bs)
 
+-- The first part and the others are told with one byte more in front.
 cut_by : (c : Bool) (b : ℕ) (bs : List ℕ) (n m : ℕ) (next : List (List ℕ)) → cond c 0 (n + 1) < suc m → next ≡ parts line_feed bs → (n < m → next ≡ take n bs ∷ parts line_feed (drop 1 (drop n bs)))
     → parted c b next ≡ take (cond c 0 (n + 1)) (b ∷ bs) ∷ parts line_feed (drop 1 (drop (cond c 0 (n + 1)) (b ∷ bs)))
 cut_by true b bs n m next lt same h = ap (λ (ps : List (List ℕ)). [] ∷ ps) same
@@ -27,6 +29,7 @@ pub cut : (bytes : List ℕ) → line_end bytes < length bytes → parts line_fe
 cut [] lt = absurd (omega (arith, lt))
 cut (b ∷ bs) lt = cut_by (b == line_feed) b bs (line_end bs) (length bs) (parts line_feed bs) lt refl (cut bs)
 
+-- A line, its line feed and the rest are told with one byte more in front.
 ends_by : (c : Bool) (b : ℕ) (bs : List ℕ) (n m : ℕ) → b == line_feed ≡ c → cond c 0 (n + 1) < suc m → (n < m → bs ≡ take n bs ++ line_feed ∷ drop 1 (drop n bs))
     → b ∷ bs ≡ take (cond c 0 (n + 1)) (b ∷ bs) ++ line_feed ∷ drop 1 (drop (cond c 0 (n + 1)) (b ∷ bs))
 ends_by true b bs n m is lt h = ap (λ (x : ℕ). x ∷ bs) (eqb-true b line_feed is)
@@ -52,6 +55,7 @@ without (b ∷ bs) = without_by (b == line_feed) b bs (line_end bs) refl (withou
 abbrev pub Feeds : List ℕ → ℕ → Type 0
 Feeds = Passes (is_byte line_feed)
 
+-- A byte that is no line feed moves the end of the line by one.
 behind_by : (c : Bool) (b n k : ℕ) → b == line_feed ≡ c → ¬ (b == line_feed ≡ true) → k ≡ n → suc k ≡ cond c 0 (n + 1)
 behind_by true b n k is other same = absurd (other is)
 behind_by false b n k is other same = rw (add-one, same) refl

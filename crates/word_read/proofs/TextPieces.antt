@@ -9,17 +9,21 @@ use Rattle.workload_spec.specs.Reading.{Itself, Escape, FirstDigit}
 use Rattle.word_read.specs.Spellings.{is_hex, is_plain, closed, text_from, pairs_of}
 use Rattle.workload_laws.proofs.Lists.{both, neither, not_true}
 
+-- No text, where none can be read.
 abbrev text_none : Option (List ℕ)
 text_none = None
 
+-- A byte and a front that are put before a text are put there at once.
 map_twice : (a : ℕ) (front : List ℕ) (o : Option (List ℕ)) → option_map (λ text. a ∷ text) (option_map (λ text. front ++ text) o) ≡ option_map (λ text. (a ∷ front) ++ text) o
 map_twice a front None = refl
 map_twice a front (Some text) = refl
 
+-- Putting nothing before a text leaves it as it is.
 map_nothing : (o : Option (List ℕ)) → o ≡ option_map (λ text. [] ++ text) o
 map_nothing None = refl
 map_nothing (Some text) = refl
 
+-- A byte that stands for itself comes first in the text.
 plain_first : (byte : ℕ) (bytes : List ℕ) → is_plain byte ≡ true → text_from Itself (byte ∷ bytes) ≡ option_map (λ text. byte ∷ text) (text_from Itself bytes)
 plain_first byte bytes is =
     let n = neither (byte == quote || byte == backslash) (is_control byte) (not_true (byte == quote || byte == backslash || is_control byte) is) in
@@ -55,6 +59,7 @@ no_digits (high ∷ low ∷ rest) many is = by (is_hex high) (is_hex low) is
     by true false e = refl
     by false l e = refl
 
+-- A choice between no text and no text is no text.
 either_none : (b : Bool) → (if b then text_none else text_none) ≡ text_none
 either_none true = refl
 either_none false = refl
@@ -87,6 +92,7 @@ one_more [] few some = absurd (some refl)
 one_more (byte ∷ []) few some = refl
 one_more (byte ∷ next ∷ rest) few some = absurd (omega (arith, few))
 
+-- Two pieces that are put before a text are put there at once.
 piece_by : (old plain : List ℕ) (o : Option (List ℕ)) → option_map (λ more. old ++ more) (option_map (λ text. plain ++ text) o) ≡ option_map (λ more. (old ++ plain) ++ more) o
 piece_by old plain None = refl
 piece_by old plain (Some text) = ap Some (sym (append_assoc old plain text))
@@ -101,12 +107,14 @@ pub byte_more : (old : List ℕ) (byte : ℕ) (o : Option (List ℕ)) → option
 byte_more old byte None = refl
 byte_more old byte (Some text) = ap Some (sym (append_assoc old (byte ∷ []) text))
 
+-- A byte that does not stand for itself, escapes nothing and closes nothing gives no text.
 stopped_by : (q k c : Bool) (byte : ℕ) (rest : List ℕ) → not (q || k || c) ≡ false → k ≡ false → (q ≡ true → closed rest ≡ None) → (if q then closed rest else if k then text_from Escape rest else if c then None else option_map (λ text. byte ∷ text) (text_from Itself rest)) ≡ None
 stopped_by true k c byte rest stops none unclosed = unclosed refl
 stopped_by false true c byte rest stops none unclosed = absurd cc
 stopped_by false false true byte rest stops none unclosed = refl
 stopped_by false false false byte rest stops none unclosed = absurd cc
 
+-- A quote that is not the last byte closes no text.
 open_rest : (byte : ℕ) (rest : List ℕ) → bytes_eq (byte ∷ rest) (34 ∷ []) ≡ false → byte == 34 ≡ true → closed rest ≡ None
 open_rest byte [] unclosed is = absurd (let e = eqb-true byte 34 is in let f = rw e at unclosed in cc)
 open_rest byte (next ∷ rest) unclosed is = refl

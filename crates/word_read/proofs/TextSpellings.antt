@@ -30,6 +30,7 @@ spelled_by {X} text_of value word x is back =
 
 -- Hexadecimal digits.
 
+-- The value of a decimal digit is how far it is from the zero.
 digit_by : (c : ℕ) → 48 ≤ c → c ≤ 57 → digit_value c ≡ c - 48
 digit_by c low high =
     let f : nat_lt c 48 ≡ false = le-ltb c 48 low in
@@ -74,10 +75,12 @@ hex_is c is = elim (either (is_within 48 57 c) (is_within 97 102 c) is) [
       }
 ]
 
+-- Where the first part holds, so does the disjunction.
 or_left : (s t : Bool) → s ≡ true → (s || t) ≡ true
 or_left true t e = refl
 or_left false t e = absurd cc
 
+-- Where the second part holds, so does the disjunction.
 or_right : (s t : Bool) → t ≡ true → (s || t) ≡ true
 or_right true t e = refl
 or_right false t e = e
@@ -113,6 +116,7 @@ value_back byte small =
 
 -- Bytes.
 
+-- A pair of digits before others spells its byte before those of the others.
 pairs_by : (hex : Bool) (high low value : ℕ) (rest bytes : List ℕ) (more : Option (List ℕ)) → ((is : hex ≡ true) → hex_digits value ≡ high ∷ low ∷ []) → ((bs : List ℕ) → more ≡ Some bs → flat_map hex_digits bs ≡ rest)
     → (if hex then option_map (λ bs. value ∷ bs) more else None) ≡ Some bytes → flat_map hex_digits bytes ≡ high ∷ low ∷ rest
 pairs_by true high low value rest bytes (Some bs) digits later e =
@@ -123,6 +127,7 @@ pairs_by true high low value rest bytes (Some bs) digits later e =
 pairs_by true high low value rest bytes None digits later e = absurd cc
 pairs_by false high low value rest bytes more digits later e = absurd cc
 
+-- Bytes that are read from pairs of digits are spelled by these.
 pairs_sound : (digits bytes : List ℕ) → pairs_of digits ≡ Some bytes → flat_map hex_digits bytes ≡ digits
 pairs_sound [] bytes e = let same : [] ≡ bytes = cc in subst (λ (bs : List ℕ). flat_map hex_digits bs ≡ []) same refl
 pairs_sound (digit ∷ []) bytes e = absurd cc
@@ -130,6 +135,7 @@ pairs_sound (high ∷ low ∷ rest) bytes e =
     pairs_by (is_hex high && is_hex low) high low (digit_value high * 16 + digit_value low) rest bytes (pairs_of rest)
     (λ is. let b = both (is_hex high) (is_hex low) is in pair_of high low b.0 b.1) (λ bs f. pairs_sound rest bs f) e
 
+-- Bytes are read back from the pairs of their digits.
 pairs_complete : (bytes : List ℕ) → list_all (λ byte. nat_lt byte 256) bytes ≡ true → pairs_of (flat_map hex_digits bytes) ≡ Some bytes
 pairs_complete [] all = refl
 pairs_complete (byte ∷ bytes) all =
@@ -138,6 +144,7 @@ pairs_complete (byte ∷ bytes) all =
     let l : is_hex (digit_char (byte % 16)) ≡ true = digit_hex (byte % 16) (omega arith) in
     rw (h, l, pairs_complete bytes a.1, value_back byte (ltb-true byte 256 a.0)) refl
 
+-- The value of a pair stands before what is read of the others.
 pairs_value_by : (hex : Bool) (value : ℕ) (bytes read : List ℕ) (more : Option (List ℕ)) → ((bs : List ℕ) → more ≡ Some bs → read ≡ bs) → (if hex then option_map (λ bs. value ∷ bs) more else None) ≡ Some bytes → value ∷ read ≡ bytes
 pairs_value_by true value bytes read (Some bs) later e = let same : value ∷ bs ≡ bytes = cc in ap (λ (r : List ℕ). value ∷ r) (later bs refl) ∙ same
 pairs_value_by true value bytes read None later e = absurd cc
@@ -155,9 +162,11 @@ pairs_value (high ∷ low ∷ rest) bytes e = pairs_value_by (is_hex high && is_
 abbrev pub closing : List ℕ → List ℕ
 closing text = flat_map escaped text ++ quote ∷ []
 
+-- A control byte is below 128.
 control_small : (byte : ℕ) → is_control byte ≡ true → byte < 128
 control_small byte is = elim (either (nat_lt byte 0x20) (byte == 0x7f) is) [ inl e ↦ omega (arith, ltb-true byte 32 e) | inr e ↦ omega (arith, eqb-true byte 127 e) ]
 
+-- A control byte is neither a quote nor a backslash.
 control_apart : (byte : ℕ) → is_control byte ≡ true → (byte == quote || byte == backslash) ≡ false
 control_apart byte is = elim (either (nat_lt byte 0x20) (byte == 0x7f) is) [
   | inl e ↦ let lt = ltb-true byte 32 e in
@@ -177,18 +186,21 @@ data Place : Type 0 where
   AtFirst : Place
   AtSecond : ℕ → Place
 
+-- What a reader that stands at the place reads next.
 abbrev spelling_at : Place → Spelling
 spelling_at Outside = Itself
 spelling_at AtEscape = Escape
 spelling_at AtFirst = FirstDigit
 spelling_at (AtSecond digit) = SecondDigit (digit_value digit)
 
+-- The bytes of the escape in which the place stands, up to it.
 abbrev before : Place → List ℕ
 before Outside = []
 before AtEscape = 92 ∷ []
 before AtFirst = 92 ∷ 120 ∷ []
 before (AtSecond digit) = 92 ∷ 120 ∷ digit ∷ []
 
+-- The digit before the place, if there is one, is hexadecimal.
 abbrev Holds : Place → Type 0
 Holds Outside = Unit {0}
 Holds AtEscape = Unit {0}
@@ -199,6 +211,7 @@ Holds (AtSecond digit) = is_hex digit ≡ true
 abbrev Sound : Place → List ℕ → Type 0
 Sound place bytes = Holds place → (text : List ℕ) → text_from (spelling_at place) bytes ≡ Some text → closing text ≡ before place ++ bytes
 
+-- A quote behind which a text is closed is the spelling of the text.
 closed_is : (byte : ℕ) (bytes text : List ℕ) → byte ≡ 34 → closed bytes ≡ Some text → closing text ≡ byte ∷ bytes
 closed_is byte [] text is e = let same : [] ≡ text = cc in subst (λ (t : List ℕ). closing t ≡ byte ∷ []) same (ap (λ (b : ℕ). b ∷ []) (sym is))
 closed_is byte (next ∷ bytes) text is e = absurd cc
@@ -211,6 +224,7 @@ grown byte spelling word text (Some t) is later e =
     subst (λ (all : List ℕ). closing all ≡ spelling ++ word) same
     (append_assoc (escaped byte) (flat_map escaped t) (quote ∷ []) ∙ ap (λ (s : List ℕ). s ++ closing t) is ∙ ap (λ (w : List ℕ). spelling ++ w) (later t refl))
 
+-- Outside an escape, a byte and the rest are read only as a spelling.
 outside_by : (is_quote is_mark control : Bool) (byte : ℕ) (bytes text : List ℕ) → byte == quote ≡ is_quote → byte == backslash ≡ is_mark → is_control byte ≡ control → Sound AtEscape bytes → Sound Outside bytes
     → (if is_quote then closed bytes else if is_mark then text_from Escape bytes else if control then None else option_map (λ t. byte ∷ t) (text_from Itself bytes)) ≡ Some text → closing text ≡ byte ∷ bytes
 outside_by true is_mark control byte bytes text q k c escape itself e = closed_is byte bytes text (eqb-true byte 34 q) e
@@ -218,16 +232,19 @@ outside_by false true control byte bytes text q k c escape itself e = escape tt 
 outside_by false false true byte bytes text q k c escape itself e = absurd cc
 outside_by false false false byte bytes text q k c escape itself e = grown byte (byte ∷ []) bytes text (text_from Itself bytes) (rw (q, k, c) refl) (itself tt) e
 
+-- Behind a backslash, a byte and the rest are read only as a spelling.
 escape_by : (marked hex : Bool) (byte : ℕ) (bytes text : List ℕ) → (byte == quote || byte == backslash) ≡ marked → byte == hex_mark ≡ hex → Sound AtFirst bytes → Sound Outside bytes
     → (if marked then option_map (λ t. byte ∷ t) (text_from Itself bytes) else if hex then text_from FirstDigit bytes else None) ≡ Some text → closing text ≡ 92 ∷ byte ∷ bytes
 escape_by true hex byte bytes text m h first itself e = grown byte (92 ∷ byte ∷ []) bytes text (text_from Itself bytes) (rw m refl) (itself tt) e
 escape_by false true byte bytes text m h first itself e = first tt text e ∙ ap (λ (b : ℕ). 92 ∷ b ∷ bytes) (sym (eqb-true byte 120 h))
 escape_by false false byte bytes text m h first itself e = absurd cc
 
+-- At the first digit of an escape, a byte is read only as a spelling.
 first_by : (hex : Bool) (byte : ℕ) (bytes text : List ℕ) → is_hex byte ≡ hex → Sound (AtSecond byte) bytes → (if hex then text_from (SecondDigit (digit_value byte)) bytes else None) ≡ Some text → closing text ≡ 92 ∷ 120 ∷ byte ∷ bytes
 first_by true byte bytes text is second e = second is text e
 first_by false byte bytes text is second e = absurd cc
 
+-- At the second digit of an escape, a byte is read only as a spelling.
 second_by : (passes : Bool) (digit byte : ℕ) (bytes text : List ℕ) → is_hex digit ≡ true → (is_hex byte && is_control (digit_value digit * 16 + digit_value byte)) ≡ passes → Sound Outside bytes
     → (if passes then option_map (λ t. (digit_value digit * 16 + digit_value byte) ∷ t) (text_from Itself bytes) else None) ≡ Some text → closing text ≡ 92 ∷ 120 ∷ digit ∷ byte ∷ bytes
 second_by true digit byte bytes text is passes itself e =
@@ -237,6 +254,7 @@ second_by true digit byte bytes text is passes itself e =
     grown (digit_value digit * 16 + digit_value byte) (92 ∷ 120 ∷ digit ∷ byte ∷ []) bytes text (text_from Itself bytes) spelling (itself tt) e
 second_by false digit byte bytes text is passes itself e = absurd cc
 
+-- From each place on, bytes are read as a text only where they spell it.
 text_sound : (bytes : List ℕ) (place : Place) → Sound place bytes
 text_sound [] place = λ holds text e. absurd (let none : text_from (spelling_at place) [] ≡ Some text = e in cc)
 text_sound (byte ∷ bytes) Outside = λ holds text e.
@@ -247,6 +265,7 @@ text_sound (byte ∷ bytes) AtFirst = λ holds text e. first_by (is_hex byte) by
 text_sound (byte ∷ bytes) (AtSecond digit) = λ holds text e.
     second_by (is_hex byte && is_control (digit_value digit * 16 + digit_value byte)) digit byte bytes text holds refl (text_sound bytes Outside) e
 
+-- A text that is read back is so with one byte more in front.
 text_complete_by : (marked control : Bool) (byte : ℕ) (text : List ℕ) → (byte == quote || byte == backslash) ≡ marked → is_control byte ≡ control → text_from Itself (closing text) ≡ Some text → text_from Itself (closing (byte ∷ text)) ≡ Some (byte ∷ text)
 text_complete_by true control byte text m c later = rw (m, later, m) refl
 text_complete_by false true byte text m c later =
@@ -259,6 +278,7 @@ text_complete_by false false byte text m c later =
     let n = neither (byte == quote) (byte == backslash) m in
     rw (m, c, n.0, n.1, c, later) refl
 
+-- A text is read back from its spelling behind the opening quote.
 text_complete : (text : List ℕ) → text_from Itself (closing text) ≡ Some text
 text_complete [] = refl
 text_complete (byte ∷ text) = text_complete_by (byte == quote || byte == backslash) (is_control byte) byte text refl refl (text_complete text)

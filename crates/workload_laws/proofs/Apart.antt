@@ -13,6 +13,7 @@ abbrev pub Stays : Position → List ℕ → Type 0
 Stays position [] = is_outside position ≡ true
 Stays position (byte ∷ bytes) = ((byte == space && is_outside position) ≡ false) × Stays (position_after position byte) bytes
 
+-- A space at a position outside of a text ends the word there.
 ends : (position : Position) (rest : List ℕ) → is_outside position ≡ true → words_from position (space ∷ rest) ≡ [] ∷ words_of rest
 ends AtStart rest e = refl
 ends WithinText rest e = absurd cc
@@ -67,6 +68,7 @@ words_append (word ∷ words) more are also = (are.0, words_append words more ar
 abbrev pub is_plain : ℕ → Bool
 is_plain byte = nat_lt 34 byte
 
+-- Plain bytes stay within a word that has begun.
 plain_within : (word : List ℕ) → list_all is_plain word ≡ true → Stays WithinWord word
 plain_within [] all = refl
 plain_within (byte ∷ bytes) all =
@@ -83,6 +85,7 @@ plain_stays (byte ∷ bytes) all =
     let m : byte == 34 ≡ false = ne_eqb byte 34 (λ e. omega (arith, e, ltb-true 34 byte b.0)) in
     rw (n, m) (refl, plain_within bytes b.1)
 
+-- Plain bytes have no line feed among them.
 plain_whole : (word : List ℕ) → list_all is_plain word ≡ true → is_whole word ≡ true
 plain_whole [] all = refl
 plain_whole (byte ∷ bytes) all =

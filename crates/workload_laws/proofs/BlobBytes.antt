@@ -19,6 +19,7 @@ use Rattle.workload_laws.proofs.Lists.{joined}
 pair_small : (high low value : ℕ) → value ≡ high * 16 + low → value / 16 % 16 ≡ high → value % 16 ≡ low → value < 256
 pair_small high low value e h l = omega arith
 
+-- Two digits that spell their value again have a value below 256.
 byte_small : (high low : ℕ) → digit_char ((digit_value high * 16 + digit_value low) / 16 % 16) ≡ high → digit_char ((digit_value high * 16 + digit_value low) % 16) ≡ low → digit_value high * 16 + digit_value low < 256
 byte_small high low h l =
     let value : ℕ = digit_value high * 16 + digit_value low in
@@ -37,10 +38,12 @@ digits_small (high ∷ low ∷ rest) e =
     let r : flat_map hex_digits (bytes_of_digits rest) ≡ rest = cc in
     joined (lt-ltb value 256 (byte_small high low h l)) (digits_small rest r)
 
+-- Bytes that spell the word from which they are read are below 256.
 blob_small : (word : List ℕ) → cell_text (value_in kind.Binary word) ≡ word → has_only_bytes (value_in kind.Binary word) ≡ true
 blob_small [] e = refl
 blob_small (mark ∷ digits) e = let r : flat_map hex_digits (bytes_of_digits digits) ≡ digits = cc in digits_small digits r
 
+-- A value that spells the word from which it is read has only bytes.
 value_bytes : (k : Kind) (word : List ℕ) → cell_text (value_in k word) ≡ word → has_only_bytes (value_in k word) ≡ true
 value_bytes kind.Binary word e = blob_small word e
 value_bytes kind.I8 word e = refl
@@ -54,6 +57,7 @@ value_bytes kind.U64 word e = refl
 value_bytes kind.Bool word e = refl
 value_bytes kind.Utf8 word e = refl
 
+-- A null or a value that spells the word from which it is read has only bytes.
 cell_by : (b : Bool) (k : Kind) (word : List ℕ) → cell_text (if b then Null else value_in k word) ≡ word → has_only_bytes (if b then Null else value_in k word) ≡ true
 cell_by true k word e = refl
 cell_by false k word e = value_bytes k word e

@@ -24,6 +24,7 @@ use Rattle.workload_laws.proofs.BlobBytes.{cell_bytes}
 use Rattle.workload_laws.proofs.Results.{step, some_of, spelled_as}
 use Rattle.workload_laws.proofs.Lists.{both, joined}
 
+-- A cell that is read behind a test for faults is itself, without a fault.
 kept_by : (fault : Option RowFault) (cell read : Cell) → option_map_or (λ f. None) fault (Some cell) ≡ Some read → (cell ≡ read) × (is_none fault ≡ true)
 kept_by None cell read e = (cc, refl)
 kept_by (Some f) cell read e = absurd cc
@@ -34,6 +35,7 @@ pub record ReadsCell (column : Column) (word : List ℕ) (cell : Cell) : Type 0 
   pub fits : is_none (cell_fault 0 column cell) ≡ true
   pub bytes : has_only_bytes cell ≡ true
 
+-- A cell that its word spells, and that is read where it fits, is its word and fits.
 fitting : (column : Column) (word : List ℕ) (o : Option Cell) (read : Cell) → ((cell : Cell) → o ≡ Some cell → (cell_text cell ≡ word) × (has_only_bytes cell ≡ true))
     → option_and_then (λ cell. option_map_or (λ fault. None) (cell_fault 0 column cell) (Some cell)) o ≡ Some read → ReadsCell column word read
 fitting column word None read is e = absurd cc
@@ -58,6 +60,7 @@ fault_by false nullable false false at = refl
 pub fault_at : (column : Column) (cell : Cell) (at : ℕ) → is_none (cell_fault at column cell) ≡ is_none (cell_fault 0 column cell)
 fault_at column cell at = fault_by (is_null cell) column.nullable (not (is_value_of column.kind cell)) (nat_lt most_bytes (byte_length cell)) at
 
+-- Where neither the first cell nor the rest has a fault, there is none.
 first_none : (b : Bool) (here rest : Option RowFault) → is_none here ≡ b → b ≡ true → is_none rest ≡ true → is_none (if b then rest else here) ≡ true
 first_none true here rest e f later = later
 first_none false here rest e f later = absurd cc
@@ -101,12 +104,14 @@ i64_is kind.Bool e = absurd cc
 i64_is kind.Utf8 e = absurd cc
 i64_is kind.Binary e = absurd cc
 
+-- A number that a key may be fits the column of the key.
 key_fits : (column : Column) (key : ℤ) → is_key column ≡ true → is_key_number key ≡ true → is_none (cell_fault 0 column (Num key)) ≡ true
 key_fits column key is number =
     let k : column.kind ≡ kind.I64 = i64_is column.kind (both _ (is_i64 column.kind) (both _ (not column.nullable) is).0).1 in
     let v : is_integer_of column.kind key ≡ true = rw k number in
     rw v refl
 
+-- Where there are as many cells as columns and no fault, the row has none.
 row_by : (b : Bool) (fault : Option RowFault) → b ≡ true → is_none fault ≡ true → is_none (if b then fault else Some Arity) ≡ true
 row_by true fault e f = f
 row_by false fault e f = absurd cc

@@ -27,14 +27,17 @@ use Rattle.workload_laws.proofs.Apart.{IsWord, AreWords, plain_word}
 use Rattle.workload_laws.proofs.Numbers.{magnitude, integer_back, signed_plain, other_bytes, spelled_back, decimal_begins}
 use Rattle.workload_laws.proofs.TextsBack.{text_back, text_word, bytes_back, blob_word}
 
+-- An integer within bounds of 63 bits and a sign has a magnitude below 2^64.
 signed_small : (low high : ℕ) (z : ℤ) → low < 2 ^ 63 → high < 2 ^ 63 → is_between (negsuc low) (pos high) z ≡ true → magnitude z < 2 ^ 64
 signed_small low high (pos n) l h e = omega (arith, leb-true n high (both (int_le (negsuc low) (pos n)) (nat_le n high) e).1, h)
 signed_small low high (negsuc n) l h e = omega (arith, leb-true n low (both (nat_le n low) (int_le (negsuc n) (pos high)) e).0, l)
 
+-- An integer from zero to a bound below 2^64 has a magnitude below 2^64.
 unsigned_small : (high : ℕ) (z : ℤ) → high < 2 ^ 64 → is_between (pos 0) (pos high) z ≡ true → magnitude z < 2 ^ 64
 unsigned_small high (pos n) h e = omega (arith, leb-true n high (both (int_le (pos 0) (pos n)) (nat_le n high) e).1, h)
 unsigned_small high (negsuc n) h e = absurd cc
 
+-- An integer that a kind takes has a magnitude below 2^64.
 small_of : (k : Kind) (z : ℤ) → is_integer_of k z ≡ true → magnitude z < 2 ^ 64
 small_of kind.I8 z e = signed_small (2 ^ 7 - 1) (2 ^ 7 - 1) z (omega arith) (omega arith) e
 small_of kind.I16 z e = signed_small (2 ^ 15 - 1) (2 ^ 15 - 1) z (omega arith) (omega arith) e
@@ -48,6 +51,7 @@ small_of kind.Bool z e = absurd cc
 small_of kind.Utf8 z e = absurd cc
 small_of kind.Binary z e = absurd cc
 
+-- For a kind that takes an integer, the value of a word is its integer.
 number_in : (k : Kind) (z : ℤ) (word : List ℕ) → is_integer_of k z ≡ true → value_in k word ≡ Num (integer_in word)
 number_in kind.I8 z word e = refl
 number_in kind.I16 z word e = refl
@@ -61,6 +65,7 @@ number_in kind.Bool z word e = absurd cc
 number_in kind.Utf8 z word e = absurd cc
 number_in kind.Binary z word e = absurd cc
 
+-- For truths, the value of a word is whether it says true.
 truth_in : (k : Kind) (word : List ℕ) → is_bool_kind k ≡ true → value_in k word ≡ Truth (bytes_eq word (codes "true"))
 truth_in kind.Bool word e = refl
 truth_in kind.I8 word e = absurd cc
@@ -74,6 +79,7 @@ truth_in kind.U64 word e = absurd cc
 truth_in kind.Utf8 word e = absurd cc
 truth_in kind.Binary word e = absurd cc
 
+-- For texts, the value of a word is its text.
 a_text_in : (k : Kind) (word : List ℕ) → is_utf8_kind k ≡ true → value_in k word ≡ Text (text_in word)
 a_text_in kind.Utf8 word e = refl
 a_text_in kind.I8 word e = absurd cc
@@ -87,6 +93,7 @@ a_text_in kind.U64 word e = absurd cc
 a_text_in kind.Bool word e = absurd cc
 a_text_in kind.Binary word e = absurd cc
 
+-- For bytes, the value of a word is its bytes.
 a_blob_in : (k : Kind) (word : List ℕ) → is_binary_kind k ≡ true → value_in k word ≡ Blob (blob_in word)
 a_blob_in kind.Binary word e = refl
 a_blob_in kind.I8 word e = absurd cc
@@ -117,10 +124,12 @@ value_back k (Truth false) is bytes = (refl, truth_in k (codes "false") is)
 value_back k (Text text) is bytes = (refl, a_text_in k (quoted text) (both (is_utf8_kind k) (is_utf8 text) is).0 ∙ ap Text (text_back text))
 value_back k (Blob bytes) is all = (refl, a_blob_in k (cell_text (Blob bytes)) (both (is_binary_kind k) (are_bytes bytes) is).0 ∙ ap Blob (bytes_back bytes all))
 
+-- An option that is tested to be none is none.
 none_is : {X : Type 0} (o : Option X) → is_none o ≡ true → o ≡ None
 none_is None e = refl
 none_is (Some x) e = absurd cc
 
+-- A cell that is no null and has no fault is a value.
 value_by : (nullable value long : Bool) → is_none (if false then (if nullable then None else Some (NullAt 0)) else if not value then Some (RangeAt 0) else if long then Some (LongAt 0) else None) ≡ true → value ≡ true
 value_by nullable true long e = refl
 value_by nullable false long e = absurd cc
@@ -131,14 +140,17 @@ value_of_fit column cell some fit =
     value_by column.nullable (is_value_of column.kind cell) (nat_lt most_bytes (byte_length cell))
     (subst (λ (b : Bool). is_none (if b then (if column.nullable then None else Some (NullAt 0)) else if not (is_value_of column.kind cell) then Some (RangeAt 0) else if nat_lt most_bytes (byte_length cell) then Some (LongAt 0) else None) ≡ true) some fit)
 
+-- A cell that fits its column is kept behind the test for faults.
 kept : (column : Column) (cell : Cell) → is_none (cell_fault 0 column cell) ≡ true → option_map_or (λ f. None) (cell_fault 0 column cell) (Some cell) ≡ Some cell
 kept column cell fit = ap (λ (fault : Option RowFault). option_map_or (λ f. None) fault (Some cell)) (none_is (cell_fault 0 column cell) fit)
 
+-- A cell that is found for the word that it spells, and fits, is read.
 found_back : (column : Column) (word : List ℕ) (cell : Cell) → cell_in column word ≡ cell → cell_text cell ≡ word → is_none (cell_fault 0 column cell) ≡ true → cell_of column word ≡ Some cell
 found_back column word cell found text fit =
     ap (option_and_then (λ (c : Cell). option_map_or (λ f. None) (cell_fault 0 column c) (Some c))) (spelled_back cell_text word (cell_in column word) cell found text)
     ∙ kept column cell fit
 
+-- A cell that is no null and fits its column is found for its spelling.
 value_found : (column : Column) (cell : Cell) → is_null cell ≡ false → is_none (cell_fault 0 column cell) ≡ true → has_only_bytes cell ≡ true → cell_in column (cell_text cell) ≡ cell
 value_found column cell some fit bytes =
     let v = value_back column.kind cell (value_of_fit column cell some fit) bytes in

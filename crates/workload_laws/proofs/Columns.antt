@@ -36,14 +36,17 @@ colon_parts (byte ∷ bytes) e = colon_by (byte == 58) byte bytes (prefix_len (�
 pub mark : Bool → List ℕ
 mark nullable = if nullable then codes "?" else []
 
+-- A kind that is read without a mark is its word.
 kind_plain : (word : List ℕ) (o : Option Kind) (kind : Kind × Bool) → ((k : Kind) → o ≡ Some k → kind_text k ≡ word) → option_map (λ k. (k, false)) o ≡ Some kind → kind_text kind.0 ++ (if kind.1 then codes "?" else []) ≡ word
 kind_plain word None kind is e = absurd cc
 kind_plain word (Some k) kind is e = let same : (k, false) ≡ kind = cc in subst (λ (p : Kind × Bool). kind_text p.0 ++ (if p.1 then codes "?" else []) ≡ word) same (append-nil (kind_text k) ∙ is k refl)
 
+-- A kind that is read with its mark for nulls is its word.
 kind_marked : (word : List ℕ) (o : Option Kind) (kind : Kind × Bool) → ((k : Kind) → o ≡ Some k → kind_text k ++ codes "?" ≡ word) → option_map (λ k. (k, true)) o ≡ Some kind → kind_text kind.0 ++ (if kind.1 then codes "?" else []) ≡ word
 kind_marked word None kind is e = absurd cc
 kind_marked word (Some k) kind is e = let same : (k, true) ≡ kind = cc in subst (λ (p : Kind × Bool). kind_text p.0 ++ (if p.1 then codes "?" else []) ≡ word) same (is k refl)
 
+-- A kind that is read one way or the other is its word.
 kind_by : (word : List ℕ) (o p : Option (Kind × Bool)) (kind : Kind × Bool) → option_or o p ≡ Some kind
     → (o ≡ Some kind → kind_text kind.0 ++ (if kind.1 then codes "?" else []) ≡ word) → (p ≡ Some kind → kind_text kind.0 ++ (if kind.1 then codes "?" else []) ≡ word)
     → kind_text kind.0 ++ (if kind.1 then codes "?" else []) ≡ word
@@ -56,6 +59,7 @@ kind_is word kind e = kind_by word (option_map (λ k. (k, false)) (find (λ k. b
     (kind_plain word (find (λ k. bytes_eq (kind_text k) word) kinds) kind (λ k is. eq_of (kind_text k) word (find_is (λ k. bytes_eq (kind_text k) word) kinds k is)))
     (kind_marked word (find (λ k. bytes_eq (kind_text k ++ codes "?") word) kinds) kind (λ k is. eq_of (kind_text k ++ codes "?") word (find_is (λ k. bytes_eq (kind_text k ++ codes "?") word) kinds k is)))
 
+-- A name, a colon and a kind with its mark are joined to the word.
 column_joined : (name after kind end word : List ℕ) → kind ++ end ≡ after → name ++ 58 ∷ after ≡ word → ((name ++ 58 ∷ []) ++ kind) ++ end ≡ word
 column_joined name after kind end word behind whole = append_assoc (name ++ 58 ∷ []) kind end ∙ append_assoc name (58 ∷ []) (kind ++ end) ∙ ap (λ (text : List ℕ). name ++ 58 ∷ text) behind ∙ whole
 
@@ -87,6 +91,7 @@ twins_by : (o : Option ℕ) (rest : Option (ℕ × ℕ)) (at : ℕ) (b : Bool) �
 twins_by None rest at b none later = later
 twins_by (Some k) rest at b none later = absurd cc
 
+-- Where no twins are found, the first column has no twin, and the others have none.
 own_by : (o : Option ℕ) (rest : Option (ℕ × ℕ)) (at : ℕ) → is_none (if is_some o then option_map (λ after. (at, at + 1 + after)) o else rest) ≡ true → (is_none o ≡ true) × (is_none rest ≡ true)
 own_by None rest at e = (refl, e)
 own_by (Some k) rest at e = absurd cc
@@ -107,10 +112,12 @@ twins_from (column ∷ columns) at e =
     let parts = both _ (own_names (λ (column : Column). column.name) columns) e in
     twins_by (place_of_name column.name columns) (first_twins (at + 1) columns) at true (none_position (λ (other : Column). bytes_eq other.name column.name) columns (not_true _ parts.0)) (twins_from columns (at + 1) parts.1)
 
+-- Columns that begin with the key do so with one more behind them.
 begins_behind : (columns : List Column) (column : Column) → begins_with_key columns ≡ true → begins_with_key (columns ++ column ∷ []) ≡ true
 begins_behind [] column e = absurd cc
 begins_behind (first ∷ columns) column e = e
 
+-- Where there is room for one more column, there are few enough with it.
 few_behind : (columns : List Column) (column : Column) → nat_lt (length columns) most_columns ≡ true → nat_le (length (columns ++ column ∷ [])) most_columns ≡ true
 few_behind columns column room = le-leb _ _ (omega (arith, ltb-true (length columns) 32 room, length-append columns (column ∷ [])))
 
@@ -131,9 +138,11 @@ pub record ReadsAll (columns : List Column) (words : List (List ℕ)) (read : Li
   pub text : words ≡ map column_text more ++ read.1
   pub are : are_columns columns ≡ true → are_columns read.0 ≡ true
 
+-- Where no more columns are read, those so far and all words are left.
 columns_done : (words : List (List ℕ)) (columns : List Column) (read : List Column × List (List ℕ)) → (columns, words) ≡ read → ReadsAll columns words read
 columns_done words columns read e = subst (λ (r : List Column × List (List ℕ)). ReadsAll columns words r) e (record { more = []; behind = sym (append-nil columns); text = refl; are = λ a. a })
 
+-- A word with a colon is one column more, and one without ends the columns.
 columns_by : (word : List ℕ) (words : List (List ℕ)) (columns : List Column) (read : List Column × List (List ℕ)) (b : Bool) → has_colon word ≡ b
     → ((others : List Column) → columns_from whole others words ≡ Ok read → ReadsAll others words read)
     → elim b as (λ c. Result (List Column × List (List ℕ)) Cause) [ true ↦ column_of whole columns word >>= (λ column. columns_from whole (columns ++ column ∷ []) words) | false ↦ Ok (columns, word ∷ words) ] ≡ Ok read → ReadsAll columns (word ∷ words) read

@@ -23,6 +23,7 @@ use Rattle.workload_laws.proofs.Apart.{is_plain}
 abbrev pub NoColon : ℕ → Type 0
 NoColon byte = (is_plain byte ≡ true) × (not (byte == 58) ≡ true)
 
+-- A byte within bounds above the quote, without the colon, is plain and no colon.
 within_no_colon : (low high byte : ℕ) → 34 < low → (58 < low) ⊎ (high < 58) → is_within low high byte ≡ true → NoColon byte
 within_no_colon low high byte above beside within =
     let w = both (nat_le low byte) (nat_le byte high) within in
@@ -31,6 +32,7 @@ within_no_colon low high byte above beside within =
     let n : byte == 58 ≡ false = ne_eqb byte 58 (λ e. elim beside [ inl b ↦ omega (arith, b, l, e) | inr b ↦ omega (arith, b, h, e) ]) in
     (lt-ltb 34 byte (omega (arith, l, above)), ap not n)
 
+-- A byte that a name may have is plain, and no colon.
 name_byte : (byte : ℕ) → is_name_byte byte ≡ true → NoColon byte
 name_byte byte is = elim (either (is_lower_case byte || is_digit byte) (byte == underscore) is) [
   | inl letter ↦ elim (either (is_lower_case byte) (is_digit byte) letter) [
@@ -45,6 +47,7 @@ pub record NameBytes (name : List ℕ) : Type 0 where
   pub plain : list_all is_plain name ≡ true
   pub no_colon : list_all (λ byte. not (byte == 58)) name ≡ true
 
+-- Bytes that a name may have are all plain, and none is a colon.
 rest_bytes : (name : List ℕ) → list_all is_name_byte name ≡ true → NameBytes name
 rest_bytes [] all = record { plain = refl; no_colon = refl }
 rest_bytes (byte ∷ bytes) all =
@@ -70,6 +73,7 @@ before_back (byte ∷ bytes) after none =
     let one : 1 + prefix_len (λ b. not (b == 58)) (bytes ++ 58 ∷ after) ≡ suc (prefix_len (λ b. not (b == 58)) (bytes ++ 58 ∷ after)) = omega arith in
     rw (n.0, one) (ap (λ (bs : List ℕ). byte ∷ bs) (before_back bytes after n.1))
 
+-- Behind a name and a colon stands what follows them.
 drop_name : (name after : List ℕ) → drop (length name + 1) (name ++ colon ∷ after) ≡ after
 drop_name [] after = refl
 drop_name (byte ∷ bytes) after = let rest = rw add-one at (drop_name bytes after) in rw add-one rest
@@ -148,9 +152,11 @@ may_follow columns column more are =
       room = lt-ltb (length columns) 32 (omega (arith, leb-true (length (columns ++ column ∷ more)) 32 c.1, length-append columns (column ∷ more)));
     }
 
+-- A word without a colon ends the columns, and is left.
 columns_none : (columns : List Column) (word : List ℕ) (words : List (List ℕ)) → has_colon word ≡ false → columns_from whole columns (word ∷ words) ≡ Ok (columns, word ∷ words)
 columns_none columns word words none = passed (has_colon word) (column_of whole columns word >>= (λ column. columns_from whole (columns ++ column ∷ []) words)) (Ok (columns, word ∷ words)) none
 
+-- A word that is read as a column puts it behind the others.
 columns_next : (columns : List Column) (word : List ℕ) (column : Column) (words : List (List ℕ)) → has_colon word ≡ true → column_of whole columns word ≡ Ok column → columns_from whole columns (word ∷ words) ≡ columns_from whole (columns ++ column ∷ []) words
 columns_next columns word column words has read =
     chosen (has_colon word) (column_of whole columns word >>= (λ made. columns_from whole (columns ++ made ∷ []) words)) (Ok (columns, word ∷ words)) has

@@ -42,6 +42,7 @@ table_is tables name place e =
 pub name_is : (tables : List TableDecl) (name : List ℕ) (place : ℕ) → Names tables name place → name_of_table tables place ≡ name
 name_is tables name place names = ap (λ (o : Option TableDecl). option_map_or (λ table. table.name) o []) names.at ∙ names.named
 
+-- The place at which a name's table stands is one of the tables'.
 place_is : (tables : List TableDecl) (name : List ℕ) (place : ℕ) → Names tables name place → is_table_place tables place ≡ true
 place_is tables name place names = ap is_some names.at
 
@@ -65,12 +66,14 @@ pub record ReadsCommand (tables : List TableDecl) (name : List ℕ) (words : Lis
 abbrev pub FormReads : List TableDecl → List ℕ × Form × Bool → Type 0
 FormReads tables entry = (words : List (List ℕ)) (command : Command) → formed tables entry.1 words ≡ Ok command → ReadsCommand tables entry.0 words command
 
+-- What is read by a form of a word alone is its command.
 alone : (tables : List TableDecl) (name : List ℕ) (made : Command) → command_words tables made ≡ name ∷ [] → is_command tables made ≡ true → list_all has_only_bytes (written_row made) ≡ true → FormReads tables (name, Alone made, true)
 alone tables name made text is bytes words command e =
     step (no_word cause.Command words) _ command e (λ u end e1.
     let same : made ≡ command = cc in
     subst (ReadsCommand tables name words) same (record { text = rw (no_word_is cause.Command words u end) text; is = is; bytes = bytes }))
 
+-- What is read by a form with a table is its command.
 of_table : (tables : List TableDecl) (name : List ℕ) (make : ℕ → Command) → ((place : ℕ) → command_words tables (make place) ≡ name ∷ name_of_table tables place ∷ [])
     → ((place : ℕ) → is_command tables (make place) ≡ is_table_place tables place) → ((place : ℕ) → list_all has_only_bytes (written_row (make place)) ≡ true) → FormReads tables (name, OfTable make, true)
 of_table tables name make text is bytes words command e =
@@ -85,6 +88,7 @@ of_table tables name make text is bytes words command e =
       bytes = bytes place;
     }))))
 
+-- What is read by a form with a table and a key is its command.
 of_key : (tables : List TableDecl) (name : List ℕ) (make : ℕ → ℤ → Command) → ((place : ℕ) (key : ℤ) → command_words tables (make place key) ≡ name ∷ name_of_table tables place ∷ signed_decimal key ∷ [])
     → ((place : ℕ) (key : ℤ) → is_command tables (make place key) ≡ (is_table_place tables place && is_key_number key)) → ((place : ℕ) (key : ℤ) → list_all has_only_bytes (written_row (make place key)) ≡ true) → FormReads tables (name, OfKey make, true)
 of_key tables name make text is bytes words command e =
@@ -102,6 +106,7 @@ of_key tables name make text is bytes words command e =
       bytes = bytes place key;
     }))))))
 
+-- What is read by a form with a table and a block is its command.
 of_block : (tables : List TableDecl) (name : List ℕ) (make : ℕ → ℕ → Command) → ((place block : ℕ) → command_words tables (make place block) ≡ name ∷ name_of_table tables place ∷ decimal block ∷ [])
     → ((place block : ℕ) → is_command tables (make place block) ≡ is_block_of tables place block) → ((place block : ℕ) → list_all has_only_bytes (written_row (make place block)) ≡ true) → FormReads tables (name, OfBlock make, true)
 of_block tables name make text is bytes words command e =
@@ -140,6 +145,7 @@ record ReadsRow (schema : List Column) (key : ℤ) (cells : List Cell) (words : 
   pub fit : fits schema (Num key ∷ cells) ≡ true
   pub bytes : list_all has_only_bytes cells ≡ true
 
+-- A key and the cells that are read behind it are a row that fits.
 row_is : (schema : List Column) (key : ℤ) (cells : List Cell) (words : List (List ℕ)) → begins_with_key schema ≡ true → length schema == length words + 1 ≡ true → is_key_number key ≡ true
     → cells_of (drop 1 schema) words ≡ Ok cells → ReadsRow schema key cells words
 row_is [] key cells words begins many number e = absurd cc
@@ -148,6 +154,7 @@ row_is (column ∷ columns) key cells words begins many number e =
     let all = cells_are columns words cells length_is e in
     record { text = all.text; fit = row_fits (column ∷ columns) words key cells begins number all; bytes = all.bytes }
 
+-- A key and the cells that are read for a table are a row of this table.
 row_at : (tables : List TableDecl) (table : TableDecl) (place : ℕ) (key : ℤ) (cells : List Cell) (words : List (List ℕ)) → list_all is_table tables ≡ true → slice_get tables place ≡ Some table
     → length (schema_at tables place) == length words + 1 ≡ true → is_key_number key ≡ true → cells_of (drop 1 (schema_at tables place)) words ≡ Ok cells → (cell_words cells ≡ words) × (fits_table tables place (Num key ∷ cells) ≡ true) × (list_all has_only_bytes cells ≡ true)
 row_at tables table place key cells words all at many number e =
@@ -157,6 +164,7 @@ row_at tables table place key cells words all at many number e =
     (subst (λ (columns : List Column). cells_of (drop 1 columns) words ≡ Ok cells) schema e) in
     (row.text, ap (λ (o : Option TableDecl). option_map_or (λ t. fits t.schema (Num key ∷ cells)) o false) at ∙ row.fit, row.bytes)
 
+-- What is read by a form with a table and a row is its command.
 of_row : (tables : List TableDecl) → list_all is_table tables ≡ true → (name : List ℕ) (make : ℕ → List Cell → Command) → ((place : ℕ) (row : List Cell) → command_words tables (make place row) ≡ name ∷ name_of_table tables place ∷ cell_words row)
     → ((place : ℕ) (row : List Cell) → is_command tables (make place row) ≡ fits_table tables place row) → ((place : ℕ) (row : List Cell) → written_row (make place row) ≡ row) → FormReads tables (name, OfRow make, true)
 of_row tables all name make text is written words command e =
@@ -181,6 +189,7 @@ abbrev pub Each : {X : Type 0} → (X → Type 0) → List X → Type 0
 Each P [] = Unit {0}
 Each P (x ∷ xs) = P x × Each P xs
 
+-- What holds of the first, and of what is found behind, holds of what is found.
 each_by : {X : Type 0} (P : X → Type 0) (y x : X) (rest : Option X) (b : Bool) → P y → (rest ≡ Some x → P x) → cond b (Some y) rest ≡ Some x → P x
 each_by P y x rest true this later e = let same : y ≡ x = cc in subst P same this
 each_by P y x rest false this later e = later e
@@ -190,6 +199,7 @@ pub each_found : {X : Type 0} (P : X → Type 0) (p : X → Bool) (xs : List X) 
 each_found P p [] x each e = absurd cc
 each_found P p (y ∷ ys) x each e = each_by P y x (find p ys) (p y) each.0 (each_found P p ys x each.1) e
 
+-- What is read by each form of the whole format is its command.
 each_form : (tables : List TableDecl) → list_all is_table tables ≡ true → Each (FormReads tables) (forms whole.commands)
 each_form tables all = (
   alone tables (codes "begin") command.Begin refl refl refl,
@@ -235,6 +245,7 @@ each_form tables all = (
   ),
 )
 
+-- A form that is found for a word is that of an entry that is found.
 form_by : (o : Option (List ℕ × Form × Bool)) (form : Form) → option_map (λ entry. entry.1) o ≡ Some form → (entry : List ℕ × Form × Bool) × (o ≡ Some entry) × (entry.1 ≡ form)
 form_by None form e = absurd cc
 form_by (Some entry) form e = (entry, refl, cc)

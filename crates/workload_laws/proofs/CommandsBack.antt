@@ -39,6 +39,7 @@ use Rattle.workload_laws.proofs.Numbers.{same_bytes, other_bytes, natural_back, 
 use Rattle.workload_laws.proofs.CellsBack.{CellsBack, cells_back, value_of_fit, first_fits}
 use Rattle.workload_laws.proofs.TablesBack.{table_parts, within_high, name_word, number_word}
 
+-- Where none of a list passes, the one at a place fails.
 none_at : {X : Type 0} (p : X → Bool) (xs : List X) (k : ℕ) (x : X) → slice_get xs k ≡ Some x → list_any p xs ≡ false → p x ≡ false
 none_at p [] k x e none = absurd cc
 none_at p (y ∷ ys) zero x e none = let same : y ≡ x = cc in ap p (sym same) ∙ (neither (p y) (list_any p ys) none).0
@@ -83,6 +84,7 @@ stands tables place table all own at =
       word = subst IsWord (sym name) (name_word table.name (table_parts table is).named);
     }
 
+-- An option that is tested to have a value has one.
 some_is : {X : Type 0} (o : Option X) → is_some o ≡ true → (x : X) × (o ≡ Some x)
 some_is None e = absurd cc
 some_is (Some x) e = (x, refl)
@@ -108,12 +110,14 @@ formed_table : (tables : List TableDecl) (make : ℕ → Command) (words : List 
 formed_table tables make words name place e1 e2 e3 =
     gives (word cause.Command words) _ (Ok (make place)) name e1 (gives (no_word cause.Command name.1) _ (Ok (make place)) tt e2 (gives (table_named tables name.0) _ (Ok (make place)) place e3 refl))
 
+-- A table and a key that are read make the command of their form.
 formed_key : (tables : List TableDecl) (make : ℕ → ℤ → Command) (words : List (List ℕ)) (name key_word : List ℕ × List (List ℕ)) (place : ℕ) (key : ℤ) → word cause.Command words ≡ Ok name → word cause.Command name.1 ≡ Ok key_word
     → no_word cause.Command key_word.1 ≡ Ok tt → table_named tables name.0 ≡ Ok place → key_in key_word.0 ≡ Ok key → formed tables (OfKey make) words ≡ Ok (make place key)
 formed_key tables make words name key_word place key e1 e2 e3 e4 e5 =
     gives (word cause.Command words) _ (Ok (make place key)) name e1 (gives (word cause.Command name.1) _ (Ok (make place key)) key_word e2 (gives (no_word cause.Command key_word.1) _ (Ok (make place key)) tt e3
     (gives (table_named tables name.0) _ (Ok (make place key)) place e4 (gives (key_in key_word.0) _ (Ok (make place key)) key e5 refl))))
 
+-- A table and a block that are read make the command of their form.
 formed_block : (tables : List TableDecl) (make : ℕ → ℕ → Command) (words : List (List ℕ)) (name block_word : List ℕ × List (List ℕ)) (place block : ℕ) → word cause.Command words ≡ Ok name → word cause.Command name.1 ≡ Ok block_word
     → no_word cause.Command block_word.1 ≡ Ok tt → table_named tables name.0 ≡ Ok place → natural_of block_word.0 ≡ Some block → is_block_of tables place block ≡ true → formed tables (OfBlock make) words ≡ Ok (make place block)
 formed_block tables make words name block_word place block e1 e2 e3 e4 e5 e6 =
@@ -121,6 +125,7 @@ formed_block tables make words name block_word place block e1 e2 e3 e4 e5 e6 =
     (gives (table_named tables name.0) _ (Ok (make place block)) place e4 (gives (or_cause cause.Block (natural_of block_word.0)) _ (Ok (make place block)) block (ap (or_cause cause.Block) e5)
     (gives (rule cause.Block (is_block_of tables place block)) _ (Ok (make place block)) tt (rule_back cause.Block (is_block_of tables place block) e6) refl)))))
 
+-- A table, a key and cells that are read make the command of their form.
 formed_row : (tables : List TableDecl) (make : ℕ → List Cell → Command) (words : List (List ℕ)) (name key_word : List ℕ × List (List ℕ)) (place : ℕ) (key : ℤ) (cells : List Cell) → word cause.Command words ≡ Ok name
     → word cause.Command name.1 ≡ Ok key_word → table_named tables name.0 ≡ Ok place → length (schema_at tables place) == length key_word.1 + 1 ≡ true → key_in key_word.0 ≡ Ok key
     → cells_of (drop 1 (schema_at tables place)) key_word.1 ≡ Ok cells → formed tables (OfRow make) words ≡ Ok (make place (Num key ∷ cells))
@@ -139,6 +144,7 @@ pub record RowBack (schema : List Column) (row : List Cell) : Type 0 where
   pub many : length schema == length cells + 1 ≡ true
   pub others : CellsBack (drop 1 schema) cells
 
+-- In a column that takes no nulls, a null is a fault.
 no_null : (b : Bool) → not b ≡ true → is_none (if b then None else Some (NullAt 0)) ≡ true → ⊥
 no_null true n e = cc
 no_null false n e = cc
@@ -165,6 +171,7 @@ pub fit_by : (b : Bool) (fault : Option RowFault) → is_none (if b then fault e
 fit_by true fault e = (refl, e)
 fit_by false fault e = absurd cc
 
+-- A row that fits its columns is a key and cells that are read back.
 row_back : (schema : List Column) (row : List Cell) → begins_with_key schema ≡ true → fits schema row ≡ true → list_all has_only_bytes row ≡ true → RowBack schema row
 row_back [] row begins fit bytes = absurd cc
 row_back (column ∷ columns) [] begins fit bytes = absurd (let f = fit_by (length {A = Cell} [] == length (column ∷ columns)) (first_fault 0 (column ∷ columns) []) fit in omega (arith, eqb-true 0 (length (column ∷ columns)) f.0))
@@ -192,9 +199,11 @@ pub record CommandBack (tables : List TableDecl) (read : Command) : Type 0 where
   pub back : formed tables form words ≡ Ok read
   pub are : AreWords (name ∷ words)
 
+-- A command of a word alone is read back from the word.
 alone_back : (tables : List TableDecl) (name : List ℕ) (made : Command) → command_words tables made ≡ name ∷ [] → form_of whole name ≡ Some (Alone made) → IsWord name → CommandBack tables made
 alone_back tables name made text known is = record { name = name; words = []; form = Alone made; text = text; known = known; back = refl; are = (is, tt) }
 
+-- A command of a table is read back from its words.
 table_command : (tables : List TableDecl) (name : List ℕ) (make : ℕ → Command) (place : ℕ) → command_words tables (make place) ≡ name ∷ name_of_table tables place ∷ [] → form_of whole name ≡ Some (OfTable make) → IsWord name → Stands tables place
     → CommandBack tables (make place)
 table_command tables name make place text known is at = record {
@@ -207,6 +216,7 @@ table_command tables name make place text known is at = record {
   are = (is, (at.word, tt));
 }
 
+-- A command of a table and a key is read back from its words.
 key_command : (tables : List TableDecl) (name : List ℕ) (make : ℕ → ℤ → Command) (place : ℕ) (key : ℤ) → command_words tables (make place key) ≡ name ∷ name_of_table tables place ∷ signed_decimal key ∷ [] → form_of whole name ≡ Some (OfKey make) → IsWord name
     → Stands tables place → is_key_number key ≡ true → CommandBack tables (make place key)
 key_command tables name make place key text known is at number = record {
@@ -219,6 +229,7 @@ key_command tables name make place key text known is at number = record {
   are = (is, (at.word, (plain_word (signed_decimal key) (signed_plain key (key_small key number)), tt)));
 }
 
+-- A command of a table and a block is read back from its words.
 block_command : (tables : List TableDecl) (name : List ℕ) (make : ℕ → ℕ → Command) (place block : ℕ) → command_words tables (make place block) ≡ name ∷ name_of_table tables place ∷ decimal block ∷ [] → form_of whole name ≡ Some (OfBlock make) → IsWord name
     → Stands tables place → is_block_of tables place block ≡ true → block < 2 ^ 64 → CommandBack tables (make place block)
 block_command tables name make place block text known is at there small = record {
@@ -231,6 +242,7 @@ block_command tables name make place block text known is at there small = record
   are = (is, (at.word, (number_word block small, tt)));
 }
 
+-- A command of a table and a row is read back from its words.
 row_command : (tables : List TableDecl) (name : List ℕ) (make : ℕ → List Cell → Command) (place : ℕ) (row : List Cell) → command_words tables (make place row) ≡ name ∷ name_of_table tables place ∷ cell_words row → form_of whole name ≡ Some (OfRow make) → IsWord name
     → Stands tables place → (table : TableDecl) → slice_get tables place ≡ Some table → RowBack table.schema row → CommandBack tables (make place row)
 row_command tables name make place row text known is at table here all =
@@ -250,6 +262,7 @@ row_command tables name make place row text known is at table here all =
       are = (is, (at.word, (plain_word (signed_decimal all.key) (signed_plain all.key (key_small all.key all.number)), all.others.words)));
     }
 
+-- A command with a row that fits one of the tables is read back.
 row_at : (tables : List TableDecl) (name : List ℕ) (make : ℕ → List Cell → Command) (place : ℕ) (row : List Cell) → list_all is_table tables ≡ true → have_own_names tables ≡ true
     → command_words tables (make place row) ≡ name ∷ name_of_table tables place ∷ cell_words row → form_of whole name ≡ Some (OfRow make) → IsWord name → fits_table tables place row ≡ true → list_all has_only_bytes row ≡ true → CommandBack tables (make place row)
 row_at tables name make place row all own text known is fit bytes =
@@ -257,6 +270,7 @@ row_at tables name make place row all own text known is fit bytes =
     let at = stands tables place s.0 all own s.1 in
     row_command tables name make place row text known is at s.0 s.1 (row_back s.0.schema row (begins s.0 (table_at tables place s.0 all s.1)) s.2 bytes)
 
+-- A command with a block that one of the tables has is read back.
 block_at : (tables : List TableDecl) (name : List ℕ) (make : ℕ → ℕ → Command) (place block : ℕ) → list_all is_table tables ≡ true → have_own_names tables ≡ true
     → command_words tables (make place block) ≡ name ∷ name_of_table tables place ∷ decimal block ∷ [] → form_of whole name ≡ Some (OfBlock make) → IsWord name → is_block_of tables place block ≡ true → CommandBack tables (make place block)
 block_at tables name make place block all own text known is there =
@@ -265,6 +279,7 @@ block_at tables name make place block all own text known is there =
     let small = within_high 1 most_blocks s.0.blocks (table_parts s.0 (table_at tables place s.0 all s.1)).blocks in
     block_command tables name make place block text known is at there (omega (arith, ltb-true block s.0.blocks s.2, small))
 
+-- A command with one of the tables and a key is read back.
 key_at : (tables : List TableDecl) (name : List ℕ) (make : ℕ → ℤ → Command) (place : ℕ) (key : ℤ) → list_all is_table tables ≡ true → have_own_names tables ≡ true → command_words tables (make place key) ≡ name ∷ name_of_table tables place ∷ signed_decimal key ∷ []
     → form_of whole name ≡ Some (OfKey make) → IsWord name → (is_table_place tables place && is_key_number key) ≡ true → CommandBack tables (make place key)
 key_at tables name make place key all own text known is fits =
@@ -288,6 +303,7 @@ command_back tables (command.Seal place block) all own is bytes = block_at table
 command_back tables (command.Gather place block) all own is bytes = block_at tables (codes "gather") command.Gather place block all own refl refl (plain_word (codes "gather") refl) is
 command_back tables (command.Export place) all own is bytes = table_command tables (codes "export") command.Export place refl refl (plain_word (codes "export") refl) (place_stands tables place all own is)
 
+-- A session and a command that are read make a line.
 line_made : (tables : List TableDecl) (sessions : ℕ) (exported : Bool) (words : List (List ℕ)) (session : ℕ × List (List ℕ)) (first : List ℕ × List (List ℕ)) (form : Form) (read : Command) → number cause.Session 1 sessions words ≡ Ok session
     → word cause.Command session.1 ≡ Ok first → form_of whole first.0 ≡ Some form → formed tables form first.1 ≡ Ok read → (exported && is_export read) ≡ false → line_of whole tables sessions exported words ≡ Ok (record { session = session.0; command = read })
 line_made tables sessions exported words session first form read e1 e2 e3 e4 e5 =
@@ -301,6 +317,7 @@ pub record LineBack (tables : List TableDecl) (sessions : ℕ) (exported : Bool)
   pub other : bytes_eq (line_text tables line) (codes "--") ≡ false
   pub whole : is_whole (line_text tables line) ≡ true
 
+-- A line that begins with a digit is not one of two dashes.
 spaced_begins : (word : List ℕ) (words : List (List ℕ)) → Begins word → bytes_eq (spaced (word ∷ words)) (codes "--") ≡ false
 spaced_begins [] words begins = absurd (let e = begins.is in cc)
 spaced_begins (first ∷ rest) [] begins = other_bytes (first ∷ rest) (codes "--") (λ e. let same : first ≡ begins.first = (let f = begins.is in cc) in let d : first ≡ 45 = cc in omega (arith, same, d, begins.least))

@@ -38,9 +38,11 @@ unfolding own_names
 own_tables [] = refl
 own_tables (table ∷ tables) = ap (λ (b : Bool). not (is_declared table.name tables) && b) (own_tables tables)
 
+-- Tables with names of their own have them with one more of a new name.
 own_behind : (tables : List TableDecl) (table : TableDecl) → have_own_names tables ≡ true → is_declared table.name tables ≡ false → have_own_names (tables ++ table ∷ []) ≡ true
 own_behind tables table own none = own_tables (tables ++ table ∷ []) ∙ own_names-behind (λ (t : TableDecl). t.name) tables table (sym (own_tables tables) ∙ own) none
 
+-- Where there is room for one more table, there are few enough with it.
 few_behind : (tables : List TableDecl) (table : TableDecl) → nat_lt (length tables) most_tables ≡ true → nat_le (length (tables ++ table ∷ [])) most_tables ≡ true
 few_behind tables table room = le-leb _ _ (omega (arith, ltb-true (length tables) 16 room, length-append tables (table ∷ [])))
 
@@ -53,9 +55,11 @@ pub record ReadsTables (tables : List TableDecl) (lines : List (List ℕ)) (read
   pub own : have_own_names tables ≡ true → have_own_names read.0 ≡ true
   pub few : nat_le (length tables) most_tables ≡ true → nat_le (length read.0) most_tables ≡ true
 
+-- Where no more tables are read, those so far and all lines are left.
 none_read : (tables : List TableDecl) (lines : List (List ℕ)) (read : List TableDecl × List (List ℕ)) → (tables, lines) ≡ read → ReadsTables tables lines read
 none_read tables lines read e = subst (ReadsTables tables lines) e (record { more = []; behind = sym (append-nil tables); text = refl; each = λ a. a; own = λ o. o; few = λ f. f })
 
+-- A line of a table is one table more, and any other ends the tables.
 tables_by : (at : ℕ) (tables : List TableDecl) (line next : List ℕ) (rest : List (List ℕ)) (read : List TableDecl × List (List ℕ)) (b : Bool)
     → ((others : List TableDecl) → tables_from whole (at + 1) others (next ∷ rest) ≡ Ok read → ReadsTables others (next ∷ rest) read)
     → elim b as (λ c. Result (List TableDecl × List (List ℕ)) Fault) [

@@ -31,6 +31,7 @@ pub not_true : (b : Bool) → not b ≡ true → b ≡ false
 not_true true e = absurd cc
 not_true false e = refl
 
+-- Two tests of which each passes where the other does are one.
 same : (s t : Bool) → (s ≡ true → t ≡ true) → (t ≡ true → s ≡ true) → s ≡ t
 same true t to back = sym (to refl)
 same false true to back = back refl
@@ -66,6 +67,7 @@ own_names-behind name (y ∷ ys) x own none =
     let n = neither (bytes_eq (name y) (name x)) (list_any (λ z. bytes_eq (name z) (name x)) ys) none in
     joined (ap not (none-behind (λ z. bytes_eq (name z) (name y)) ys x (not_true _ o.0) (bytes_eq-sym (name x) (name y) ∙ n.0))) (own_names-behind name ys x o.1 n.1)
 
+-- What is found first or behind passes, where what is found behind does.
 found : {X : Type 0} (p : X → Bool) (y x : X) (rest : Option X) (b : Bool) → p y ≡ b → (rest ≡ Some x → p x ≡ true) → cond b (Some y) rest ≡ Some x → p x ≡ true
 found p y x rest true this later e = let f : y ≡ x = cc in ap p (sym f) ∙ this
 found p y x rest false this later e = later e
@@ -75,10 +77,12 @@ pub find_is : {X : Type 0} (p : X → Bool) (xs : List X) (x : X) → find p xs 
 find_is p [] x e = absurd cc
 find_is p (y ∷ ys) x e = found p y x (find p ys) (p y) refl (find_is p ys x) e
 
+-- Where no place is found first or behind, none passes.
 none_by : (b rest : Bool) (i : ℕ) (o : Option ℕ) → is_none (cond b (Some i) o) ≡ true → (is_none o ≡ true → rest ≡ false) → (b || rest) ≡ false
 none_by true rest i o e later = absurd cc
 none_by false rest i o e later = later e
 
+-- Where no place is found, counted from a number on, none passes.
 from_none : {X : Type 0} (p : X → Bool) (xs : List X) (i : ℕ) → is_none (position_from p i xs) ≡ true → list_any p xs ≡ false
 from_none p [] i e = refl
 from_none p (x ∷ xs) i e = none_by (p x) (list_any p xs) i (position_from p (i + 1) xs) e (from_none p xs (i + 1))
@@ -87,6 +91,7 @@ from_none p (x ∷ xs) i e = none_by (p x) (list_any p xs) i (position_from p (i
 pub position_none : {X : Type 0} (p : X → Bool) (xs : List X) → is_none (position p xs) ≡ true → list_any p xs ≡ false
 position_none p xs e = from_none p xs 0 (ap is_none (sym (position_from-zero p xs)) ∙ e)
 
+-- Where none passes, no place is found, counted from a number on.
 from_absent : {X : Type 0} (p : X → Bool) (xs : List X) (i : ℕ) → list_any p xs ≡ false → position_from p i xs ≡ None
 from_absent p [] i e = refl
 from_absent p (x ∷ xs) i e = let parts = neither (p x) (list_any p xs) e in rw (parts.0) (from_absent p xs (i + 1) parts.1)
@@ -99,11 +104,13 @@ none_position p xs e = ap is_none (position_from-zero p xs ∙ from_absent p xs 
 abbrev pub Passes : {X : Type 0} (p : X → Bool) (xs : List X) (k : ℕ) → Type 0
 Passes {X} p xs k = (x : X) × (slice_get xs k ≡ Some x) × (p x ≡ true)
 
+-- A place that is found first or behind is that of one that passes.
 some_by : {X : Type 0} (p : X → Bool) (x : X) (xs : List X) (i k : ℕ) (b : Bool) (o : Option ℕ) → p x ≡ b → cond b (Some i) o ≡ Some k → (o ≡ Some k → (j : ℕ) × (k ≡ (i + 1) + j) × Passes p xs j)
     → (j : ℕ) × (k ≡ i + j) × Passes p (x ∷ xs) j
 some_by p x xs i k true o this e later = let f : i ≡ k = cc in (0, omega (arith, f), (x, refl, this))
 some_by p x xs i k false o this e later = let r = later e in (suc r.0, omega (arith, r.1), r.2)
 
+-- A place that is found, counted from a number on, is that of one that passes.
 from_some : {X : Type 0} (p : X → Bool) (xs : List X) (i k : ℕ) → position_from p i xs ≡ Some k → (j : ℕ) × (k ≡ i + j) × Passes p xs j
 from_some p [] i k e = absurd cc
 from_some p (x ∷ xs) i k e = some_by p x xs i k (p x) (position_from p (i + 1) xs) refl e (from_some p xs (i + 1) k)

@@ -30,6 +30,7 @@ TakenAs taken flag (OfKey command) = (table : ℕ) (key : ℤ) → is_taken take
 TakenAs taken flag (OfRow command) = (table : ℕ) (row : List Cell) → is_taken taken (command table row) ≡ flag
 TakenAs taken flag (OfBlock command) = (table block : ℕ) → is_taken taken (command table block) ≡ flag
 
+-- A command is taken as this flag says.
 abbrev IsTaken : Commands → Bool → Command → Type 0
 IsTaken taken flag made = is_taken taken made ≡ flag
 
@@ -62,15 +63,18 @@ formed_taken taken flag tables (OfBlock command) words made is e =
     step (or_cause cause.Block (natural_of block_word.0)) _ made e4 (λ block is5 e5.
     step (rule cause.Block (is_block_of tables table block)) _ made e5 (λ there is6 e6. let same : command table block ≡ made = cc in subst (IsTaken taken flag) same (is table block)))))))
 
+-- A word with its form, and a flag that says whether it is taken.
 abbrev Entry : Type 0
 Entry = List ℕ × Form × Bool
 
--- an entry's form is the one of its word in the whole format, and in an extent where its flag is set
+-- an entry's form is the one of its word in the whole format, and in an extent where its flag is
+-- set
 record IsForm (extent : Extent) (entry : Entry) : Type 0 where
   known : form_of whole entry.0 ≡ Some entry.1
   taken : entry.2 ≡ true → form_of extent entry.0 ≡ Some entry.1
   flag : TakenAs extent.commands entry.2 entry.1
 
+-- Each form of an extent is the whole format's, and is taken as its flag says.
 each_form : (extent : Extent) → Each (IsForm extent) (forms extent.commands)
 each_form extent = (
   record { known = refl; taken = λ e. rw e refl; flag = refl },
@@ -116,10 +120,12 @@ each_form extent = (
   ),
 )
 
+-- A form that is found for a word is that of an entry that is found.
 form_by : (o : Option Entry) (form : Form) → option_map (λ entry. entry.1) o ≡ Some form → (entry : Entry) × (o ≡ Some entry) × (entry.1 ≡ form)
 form_by None form e = absurd cc
 form_by (Some entry) form e = (entry, refl, cc)
 
+-- Whether an entry is that of the word, and is taken.
 abbrev stands_for : List ℕ → Entry → Bool
 stands_for first entry = bytes_eq entry.0 first && entry.2
 
@@ -138,6 +144,7 @@ form_narrow extent first form e =
 abbrev Beside : Extent → Entry → Type 0
 Beside extent entry = (flag : Bool) × TakenAs extent.commands flag entry.1 × (flag ≡ true → form_of extent entry.0 ≡ Some entry.1)
 
+-- Each form of the whole format stands beside the extent's.
 each_beside : (extent : Extent) → Each (Beside extent) (forms whole.commands)
 each_beside extent =
     let c = extent.commands in (
@@ -223,16 +230,20 @@ pub record RoundsTaken (extent : Extent) (rounds : List (List Line)) : Type 0 wh
   pub few : (extent.parts_rounds || nat_le (length rounds) 1) ≡ true
   pub each : list_all (λ line. is_taken extent.commands line.command) (lines_of rounds) ≡ true
 
+-- Where the second part holds, so does the disjunction.
 or_right : (s t : Bool) → t ≡ true → (s || t) ≡ true
 or_right true t e = refl
 or_right false t e = e
 
+-- One round without a line is within each extent.
 end_taken : (extent : Extent) → RoundsTaken extent ([] ∷ [])
 end_taken extent = record { few = or_right extent.parts_rounds true refl; each = refl }
 
+-- The end of the rounds is read within an extent as in the whole format.
 rounds_end : (extent : Extent) → Narrows {E = Fault} (Ok ([] ∷ [])) (Ok ([] ∷ [])) (RoundsTaken extent)
 rounds_end extent = alike (Ok ([] ∷ [])) (RoundsTaken extent) (λ a same. let e : ([] ∷ []) ≡ a = cc in subst (RoundsTaken extent) e (end_taken extent))
 
+-- Two dashes spell no number of a session.
 no_dashes : natural_of (codes "--") ≡ None
 unfolding digits
 no_dashes = refl
@@ -241,6 +252,7 @@ no_dashes = refl
 dashes_none : (extent : Extent) (tables : List TableDecl) (sessions : ℕ) (exported : Bool) (at : ℕ) → on_line at (line_of extent tables sessions exported (words_of (codes "--"))) ≡ Err (record { line = at; cause = cause.Session })
 dashes_none extent tables sessions exported at = rw no_dashes refl
 
+-- Rounds onto which a line was put are at least one.
 onto_some : (line : Line) (rounds : List (List Line)) → 0 < length (onto_first line rounds)
 onto_some line [] = omega arith
 onto_some line (round ∷ rounds) = omega arith
@@ -255,12 +267,14 @@ behind_line extent tables sessions at exported line rest =
 abbrev pub behind_parting : Extent → List TableDecl → ℕ → ℕ → Bool → List (List ℕ) → Result (List (List Line)) Fault
 behind_parting extent tables sessions at exported rest = rounds_from extent tables sessions (at + 1) exported rest >>= λ rounds. Ok ([] ∷ rounds)
 
+-- What is read behind a line that parts rounds, or behind any other.
 abbrev behind_either : Extent → List TableDecl → ℕ → ℕ → Bool → List ℕ → List (List ℕ) → Bool → Result (List (List Line)) Fault
 behind_either extent tables sessions at exported line rest parts = elim parts as (λ c. Result (List (List Line)) Fault) [
   | true ↦ behind_parting extent tables sessions at exported rest
   | false ↦ behind_line extent tables sessions at exported line rest
 ]
 
+-- What is read behind a line, whether it parts rounds or not, has a round.
 some_by : (extent : Extent) (tables : List TableDecl) (sessions at : ℕ) (exported parts : Bool) (line : List ℕ) (rest : List (List ℕ)) (rounds : List (List Line)) → behind_either extent tables sessions at exported line rest parts ≡ Ok rounds → 0 < length rounds
 some_by extent tables sessions at exported true line rest rounds e =
     step (rounds_from extent tables sessions (at + 1) exported rest) _ rounds e (λ read is same. let f : ([] ∷ read) ≡ rounds = cc in omega (arith, ap length f))
@@ -276,16 +290,19 @@ rounds_some extent tables sessions at exported ([] ∷ []) rounds e = let f : ([
 rounds_some extent tables sessions at exported ((byte ∷ bytes) ∷ []) rounds e = absurd cc
 rounds_some extent tables sessions at exported (line ∷ next ∷ rest) rounds e = some_by extent tables sessions at exported (extent.parts_rounds && bytes_eq line (codes "--")) line (next ∷ rest) rounds e
 
+-- A line that is taken, put onto rounds within an extent, leaves them within it.
 onto_taken : (extent : Extent) (line : Line) (rounds : List (List Line)) → 0 < length rounds → LineTaken extent line → RoundsTaken extent rounds → RoundsTaken extent (onto_first line rounds)
 onto_taken extent line [] some is are = absurd (omega (arith, some))
 onto_taken extent line (round ∷ rounds) some is are = record { few = are.few; each = joined is are.each }
 
+-- Of rounds within an extent, the line put onto them is taken, and they were within it.
 onto_was : (extent : Extent) (line : Line) (rounds : List (List Line)) → 0 < length rounds → RoundsTaken extent (onto_first line rounds) → LineTaken extent line × RoundsTaken extent rounds
 onto_was extent line [] some are = absurd (omega (arith, some))
 onto_was extent line (round ∷ rounds) some are =
     let b = both (is_taken extent.commands line.command) (list_all (λ line. is_taken extent.commands line.command) (lines_of (round ∷ rounds))) are.each in
     (b.0, record { few = are.few; each = b.1 })
 
+-- What is read behind a line is narrower where what is read of the rest is.
 narrow_behind_line : (extent : Extent) (tables : List TableDecl) (sessions at : ℕ) (exported : Bool) (line : List ℕ) (rest : List (List ℕ))
     → ((seen : Bool) → Narrows (rounds_from extent tables sessions (at + 1) seen rest) (rounds_from whole tables sessions (at + 1) seen rest) (RoundsTaken extent))
     → Narrows (behind_line extent tables sessions at exported line rest) (behind_line whole tables sessions at exported line rest) (RoundsTaken extent)
@@ -302,16 +319,20 @@ narrow_behind_line extent tables sessions at exported line rest others =
     (λ read a is1 made kept. step (rounds_from whole tables sessions (at + 1) (exported || is_export read.command) rest) _ a made (λ rounds is2 same. let e : onto_first read rounds ≡ a = cc in
     (onto_was extent read rounds (rounds_some whole tables sessions (at + 1) (exported || is_export read.command) rest rounds is2) (subst (RoundsTaken extent) (sym e) kept)).0))
 
+-- Where an extent parts rounds, one more round leaves them within it.
 parted_taken : (extent : Extent) (rounds : List (List Line)) → extent.parts_rounds ≡ true → RoundsTaken extent rounds → RoundsTaken extent ([] ∷ rounds)
 parted_taken extent rounds parts are = record { few = rw parts refl; each = are.each }
 
+-- Where an extent parts rounds, those behind an empty one are within it, too.
 parted_was : (extent : Extent) (rounds : List (List Line)) → extent.parts_rounds ≡ true → RoundsTaken extent ([] ∷ rounds) → RoundsTaken extent rounds
 parted_was extent rounds parts are = record { few = rw parts refl; each = are.each }
 
+-- Where an extent does not part rounds, there is one round at most.
 one_round : (parts : Bool) (count : ℕ) → parts ≡ false → (parts || nat_le count 1) ≡ true → count ≤ 1
 one_round true count none few = absurd cc
 one_round false count none few = leb-true count 1 few
 
+-- What is read behind a line that parts rounds or not is narrower within an extent.
 narrow_either : (extent : Extent) (tables : List TableDecl) (sessions at : ℕ) (exported : Bool) (line : List ℕ) (rest : List (List ℕ)) (parts dashes : Bool) → extent.parts_rounds ≡ parts → bytes_eq line (codes "--") ≡ dashes
     → ((seen : Bool) → Narrows (rounds_from extent tables sessions (at + 1) seen rest) (rounds_from whole tables sessions (at + 1) seen rest) (RoundsTaken extent))
     → Narrows (behind_either extent tables sessions at exported line rest (parts && dashes)) (behind_either whole tables sessions at exported line rest dashes) (RoundsTaken extent)

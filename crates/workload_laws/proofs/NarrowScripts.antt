@@ -1,4 +1,5 @@
--- A workload is read within an extent exactly where the whole format reads it and it runs within the extent.
+-- A workload is read within an extent exactly where the whole format reads it and it runs within
+-- the extent.
 use Rattle.std.proofs.Common.{◌≡◌, ◌↔◌, ℕ, ◌+◌, ◌≤◌, Bool, true, false, List, [], length, refl, sym, ap, ◌∙◌, subst, arith}
 use Rattle.std.specs.Prelude.{◌&&◌, ◌||◌, nat_le, bytes_eq, codes, Ok}
 use Rattle.std.specs.List.{list_all}
@@ -54,6 +55,7 @@ record Keeps (extent : Extent) (script : Script) : Type 0 where
   workers : FewWorkers extent (script.workers, script.turns)
   rounds : RoundsTaken extent script.rounds
 
+-- A script that runs within an extent keeps it part by part.
 keeps : (extent : Extent) (script : Script) → runs_within extent script ≡ true → Keeps extent script
 keeps extent script is =
     let t : TableDecl → Bool = λ table. nat_le (length table.schema) extent.columns in
@@ -71,10 +73,12 @@ keeps extent script is =
       rounds = record { few = e.1; each = f.1 };
     }
 
+-- A script that keeps an extent part by part runs within it.
 kept : (extent : Extent) (script : Script) → Keeps extent script → runs_within extent script ≡ true
 kept extent script k =
     joined (joined (joined (joined (joined (joined k.tables.few k.tables.each) k.sessions) k.workers.0) k.workers.1) k.rounds.few) k.rounds.each
 
+-- No tables are few enough for each extent.
 no_tables : (extent : Extent) → FewTables extent []
 no_tables extent = record { few = le-leb 0 extent.tables (omega arith); each = refl }
 

@@ -24,9 +24,11 @@ use Rattle.workload_laws.proofs.Narrows.{Narrows, alike, behind, joint, narrow_r
 abbrev pub room : ℕ → ℕ → Bool
 room most count = nat_lt count most
 
+-- What is below a bound is below each that is no less.
 widened : (low most count : ℕ) → low ≤ most → nat_lt count low ≡ true → nat_lt count most ≡ true
 widened low most count le lt = lt-ltb count most (omega (arith, ltb-true count low lt))
 
+-- A column within an extent is the whole format's for which there is room.
 narrow_column : (extent : Extent) (columns : List Column) (text : List ℕ) → extent.columns ≤ most_columns
     → Narrows (column_of extent columns text) (column_of whole columns text) (λ _. nat_lt (length columns) extent.columns ≡ true)
 narrow_column extent columns text le =
@@ -43,13 +45,16 @@ narrow_column extent columns text le =
 abbrev pub Few : ℕ → List Column × List (List ℕ) → Type 0
 Few most read = nat_le (length read.0) most ≡ true
 
+-- Where there is room for one more column, there are few enough with it.
 more_room : (most : ℕ) (columns : List Column) (column : Column) → nat_lt (length columns) most ≡ true → nat_le (length (columns ++ column ∷ [])) most ≡ true
 more_room most columns column lt = le-leb _ _ (omega (arith, ltb-true (length columns) most lt, length-append columns (column ∷ [])))
 
+-- Where the columns that were read are few enough, there was room for each.
 had_room : (most : ℕ) (columns more : List Column) (column : Column) (read : List Column) → read ≡ (columns ++ column ∷ []) ++ more → nat_le (length read) most ≡ true → nat_lt (length columns) most ≡ true
 had_room most columns more column read e few =
     lt-ltb _ _ (omega (arith, leb-true (length read) most few, ap length e, length-append (columns ++ column ∷ []) more, length-append columns (column ∷ [])))
 
+-- Columns from a word on, with a colon or not, are narrower within an extent.
 narrow_columns_by : (extent : Extent) (columns : List Column) (text : List ℕ) (words : List (List ℕ)) (colon : Bool) → extent.columns ≤ most_columns → nat_le (length columns) extent.columns ≡ true
     → ((others : List Column) → nat_le (length others) extent.columns ≡ true → Narrows (columns_from extent others words) (columns_from whole others words) (Few extent.columns))
     → Narrows
@@ -82,6 +87,7 @@ limits name columns = do
   end ← no_word cause.Blocks blocks.1
   Ok (record { name = name; schema = columns.0; slots = slots.0; blocks = blocks.0 })
 
+-- A table that is read behind its columns has these columns.
 schema_kept : (name : List ℕ) (columns : List Column × List (List ℕ)) (table : TableDecl) → limits name columns ≡ Ok table → table.schema ≡ columns.0
 schema_kept name columns table e =
     step (keyword cause.Slots (codes "slots") columns.1) _ table e (λ slots_word is1 e1.
@@ -116,22 +122,27 @@ pub record FewTables (extent : Extent) (tables : List TableDecl) : Type 0 where
   pub few : nat_le (length tables) extent.tables ≡ true
   pub each : list_all (λ table. nat_le (length table.schema) extent.columns) tables ≡ true
 
+-- The tables that were read are few enough for the extent.
 abbrev ReadFew : Extent → List TableDecl × List (List ℕ) → Type 0
 ReadFew extent read = FewTables extent read.0
 
+-- Whether a table has few enough columns for the extent.
 abbrev narrow_test : Extent → TableDecl → Bool
 narrow_test extent table = nat_le (length table.schema) extent.columns
 
+-- Where there is room, one more narrow table leaves the tables few enough.
 more_tables : (extent : Extent) (tables : List TableDecl) (table : TableDecl) → FewTables extent tables → nat_lt (length tables) extent.tables ≡ true → IsNarrow extent table → FewTables extent (tables ++ table ∷ [])
 more_tables extent tables table are lt is = record {
   few = le-leb _ _ (omega (arith, ltb-true (length tables) extent.tables lt, length-append tables (table ∷ [])));
   each = list_all-append (narrow_test extent) tables (table ∷ []) ∙ joined are.each (joined is refl);
 }
 
+-- Where the tables that were read are few enough, there was room for each.
 had_table_room : (extent : Extent) (tables more : List TableDecl) (table : TableDecl) (read : List TableDecl) → read ≡ (tables ++ table ∷ []) ++ more → FewTables extent read → nat_lt (length tables) extent.tables ≡ true
 had_table_room extent tables more table read e are =
     lt-ltb _ _ (omega (arith, leb-true (length read) extent.tables are.few, ap length e, length-append (tables ++ table ∷ []) more, length-append tables (table ∷ [])))
 
+-- Where the tables that were read are few enough, each is narrow.
 was_narrow : (extent : Extent) (tables more : List TableDecl) (table : TableDecl) (read : List TableDecl) → read ≡ (tables ++ table ∷ []) ++ more → FewTables extent read → IsNarrow extent table
 was_narrow extent tables more table read e are =
     let all : list_all (narrow_test extent) ((tables ++ table ∷ []) ++ more) ≡ true = subst (λ (ts : List TableDecl). list_all (narrow_test extent) ts ≡ true) e are.each in
@@ -145,6 +156,7 @@ declared extent at tables line rest =
     on_line at (rule cause.Table (nat_lt (length tables) extent.tables)) >>= λ room.
     on_line at (table_of extent tables (words_of line)) >>= λ table. tables_from extent (at + 1) (tables ++ table ∷ []) rest
 
+-- Tables from a line on, of a table or not, are narrower within an extent.
 narrow_tables_by : (extent : Extent) (at : ℕ) (tables : List TableDecl) (line : List ℕ) (rest : List (List ℕ)) (first : Bool) → extent.tables ≤ most_tables → 1 ≤ extent.columns → extent.columns ≤ most_columns → FewTables extent tables
     → ((others : List TableDecl) → FewTables extent others → Narrows (tables_from extent (at + 1) others rest) (tables_from whole (at + 1) others rest) (ReadFew extent))
     → Narrows (elim first as (λ c. Result (List TableDecl × List (List ℕ)) Fault) [ true ↦ declared extent at tables line rest | false ↦ Ok (tables, line ∷ rest) ])

@@ -1,4 +1,5 @@
--- A reading within an extent beside the same of the whole format: it gives the same, where that keeps the extent's bounds.
+-- A reading within an extent beside the same of the whole format: it gives the same, where that
+-- keeps the extent's bounds.
 use Rattle.std.proofs.Common.{◌≡◌, ℕ, ◌≤◌, Bool, true, false, List, refl, sym, ap, ◌∙◌, subst, arith}
 use Rattle.std.specs.Prelude.{Option, Some, None, nat_le, Result, Ok, Err, option_and_then, if◌then◌else◌}
 use Rattle.std.proofs.lemmas.Bool.{leb-true, le-leb}
@@ -29,7 +30,8 @@ behind first next wide keeps each = record {
   back = λ b e kept. step first wide b e (λ a is rest. gives first next (Ok b) a is ((each a is).back b rest kept));
 }
 
--- what is read behind a narrower reading, where bounds that the last value keeps are kept by the first too
+-- what is read behind a narrower reading, where bounds that the last value keeps are kept by the
+-- first too
 pub joint : {A B E : Type 0} (first second : Result A E) (keeps_first : A → Type 0) (next wide : A → Result B E) (keeps : B → Type 0)
     → Narrows first second keeps_first → ((a : A) → second ≡ Ok a → keeps_first a → Narrows (next a) (wide a) keeps)
     → ((a : A) (b : B) → second ≡ Ok a → wide a ≡ Ok b → keeps b → keeps_first a) → Narrows (first >>= next) (second >>= wide) keeps
@@ -64,15 +66,18 @@ narrow_on_line {A} at narrow wide keeps known = record {
 
 -- Numbers with a lower bound.
 
+-- A number, if there is one, where it is within two bounds.
 abbrev Within : ℕ → ℕ → Option ℕ → Option ℕ
 Within low high o = option_and_then (λ value. if is_within low high value then Some value else None) o
 
+-- A number within two bounds is so with a higher upper one.
 within_test : (low high most value : ℕ) → high ≤ most → is_within low high value ≡ true → is_within low most value ≡ true
 within_test low high most value le within =
     let w = both (nat_le low value) (nat_le value high) within in
     let h = leb-true value high w.1 in
     joined w.0 (le-leb value most (omega arith))
 
+-- What a stricter test takes is what the other takes of values up to a bound.
 narrow_test : (cause : Cause) (value high : ℕ) (narrow wide : Bool) → (narrow ≡ true → wide ≡ true) → (narrow ≡ true → nat_le value high ≡ true) → (wide ≡ true → nat_le value high ≡ true → narrow ≡ true)
     → Narrows (or_cause cause (if narrow then Some value else None)) (or_cause cause (if wide then Some value else None)) (λ n. nat_le n high ≡ true)
 narrow_test cause value high true wide widened low back = record {
@@ -85,6 +90,7 @@ narrow_test cause value high false true widened low back = record {
 }
 narrow_test cause value high false false widened low back = record { to = λ a is. absurd cc; back = λ a is kept. absurd cc }
 
+-- A number within lower bounds is one within higher ones that is low enough.
 narrow_within : (cause : Cause) (low high most : ℕ) (o : Option ℕ) → high ≤ most → Narrows (or_cause cause (Within low high o)) (or_cause cause (Within low most o)) (λ n. nat_le n high ≡ true)
 narrow_within cause low high most None le = record { to = λ a is. absurd cc; back = λ a is kept. absurd cc }
 narrow_within cause low high most (Some value) le =

@@ -21,6 +21,7 @@ abbrev pub are_digits : List ℕ → Bool
 are_digits [] = true
 are_digits (byte ∷ bytes) = is_within 48 57 byte && are_digits bytes
 
+-- Words of digits, with the value of each, are a model of numerals.
 own : IsNumeralModel (λ ds. are_digits ds ≡ true) (λ ds. value_of_digits ds)
 own = numerals_by_fold _ (search rules) (λ n ds. fold (λ value digit. value * 10 + digit_value digit) n ds) (search rules)
 
@@ -60,6 +61,7 @@ pub record Begins (word : List ℕ) : Type 0 where
   pub least : 48 ≤ first
   pub most : first ≤ 57
 
+-- A word of digits that has at least one begins with a digit.
 begins_by : (word : List ℕ) → are_digits word ≡ true → 0 < length word → Begins word
 begins_by [] digits some = absurd (omega (arith, some))
 begins_by (first ∷ rest) digits some =
@@ -71,6 +73,7 @@ begins_by (first ∷ rest) digits some =
 pub decimal_begins : (n : ℕ) → n < 2 ^ 64 → Begins (decimal n)
 decimal_begins n small = begins_by (decimal n) (digits_decimal own n small) (decimal_nonempty n small)
 
+-- A word of digits is of plain bytes.
 digits_plain : (word : List ℕ) → are_digits word ≡ true → list_all is_plain word ≡ true
 digits_plain [] digits = refl
 digits_plain (byte ∷ bytes) digits =
@@ -87,6 +90,7 @@ abbrev pub magnitude : ℤ → ℕ
 magnitude (pos n) = n
 magnitude (negsuc n) = n + 1
 
+-- The integer of a word that begins with a digit is the value of its digits.
 unsigned : (word : List ℕ) → Begins word → integer_in word ≡ pos (value_of_digits word)
 unsigned [] begins = absurd (let e = begins.is in cc)
 unsigned (first ∷ rest) begins =

@@ -7,11 +7,13 @@ use Rattle.workload_spec.specs.Words.{space, spaced}
 use Rattle.workload_spec.specs.Reading.{Position, AtStart, parted, parts, position_after, is_outside, words_from, words_of}
 use Rattle.workload_laws.proofs.Lists.{both}
 
+-- Parts with one more byte in front, parted by it or not, are at least one.
 some_part : (b : Bool) (byte : ℕ) (ps : List (List ℕ)) → 0 < length (parted b byte ps)
 some_part true byte ps = omega arith
 some_part false byte [] = omega arith
 some_part false byte (p ∷ ps) = omega arith
 
+-- Parts with one more byte in front, parted by it or not, are joined behind it.
 joined_by : (separator byte : ℕ) (b : Bool) (ps : List (List ℕ)) → 0 < length ps → (b ≡ true → byte ≡ separator) → join_with_byte separator (parted b byte ps) ≡ byte ∷ join_with_byte separator ps
 joined_by separator byte b [] some is = absurd (omega (arith, some))
 joined_by separator byte true (p ∷ ps) some is = ap (λ (b : ℕ). b ∷ join_with_byte separator (p ∷ ps)) (sym (is refl))

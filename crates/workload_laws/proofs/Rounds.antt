@@ -45,6 +45,7 @@ pub record ReadsRounds (tables : List TableDecl) (sessions : ℕ) (exported : Bo
   pub bytes : list_all has_bytes (lines_of rounds) ≡ true
   pub once : cond exported 1 0 + exports_of (lines_of rounds) ≤ 1
 
+-- Where no lines are left, one round without lines is read.
 none_read : (tables : List TableDecl) (sessions : ℕ) (exported : Bool) (lines : List (List ℕ)) (rounds : List (List Line)) → rest_text lines ≡ [] → ([] ∷ []) ≡ rounds → ReadsRounds tables sessions exported lines rounds
 none_read tables sessions exported lines rounds empty e = subst (ReadsRounds tables sessions exported lines) e (record { text = sym empty; some = omega arith; each = refl; bytes = refl; once = least exported })
   where
@@ -68,6 +69,7 @@ parted_read tables sessions exported line next rest (first ∷ rounds) is all = 
   once = all.once;
 }
 
+-- Exports that are one by either flag are one apart, where not both flags are set.
 once_by : (exported export : Bool) (n : ℕ) → (exported && export) ≡ false → cond (exported || export) 1 0 + n ≤ 1 → cond exported 1 0 + (cond export 1 0 + n) ≤ 1
 once_by true true n none le = absurd cc
 once_by true false n none le = omega (arith, le)
@@ -94,6 +96,7 @@ line_read tables sessions exported line next rest read (first ∷ others) one al
       (once_by exported (is_export read.command) (exports_of (lines_of (first ∷ others))) one.once all.once);
 }
 
+-- Behind a first line that parts rounds or not, the rounds are the lines left.
 rounds_by : (tables : List TableDecl) (sessions at : ℕ) (exported : Bool) (line next : List ℕ) (rest : List (List ℕ)) (rounds : List (List Line)) (b : Bool) → bytes_eq line (codes "--") ≡ b → list_all is_table tables ≡ true
     → ((seen : Bool) (read : List (List Line)) → rounds_from whole tables sessions (at + 1) seen (next ∷ rest) ≡ Ok read → ReadsRounds tables sessions seen (next ∷ rest) read)
     → elim b as (λ c. Result (List (List Line)) Fault) [

@@ -34,6 +34,7 @@ pub record Head (tables : List TableDecl) (sessions : ℕ) : Type 0 where
   pub own : have_own_names tables ≡ true
   pub few : sessions ≤ 64
 
+-- Where at most one exports, not both flags are set, and either counts as one.
 once_by : (exported export : Bool) (n : ℕ) → cond exported 1 0 + (cond export 1 0 + n) ≤ 1 → ((exported && export) ≡ false) × (cond (exported || export) 1 0 + n ≤ 1)
 once_by true true n le = absurd (omega (arith, le))
 once_by true false n le = (refl, omega (arith, le))
@@ -45,6 +46,7 @@ record FirstFine (tables : List TableDecl) (sessions : ℕ) (exported : Bool) (l
   pub back : LineBack tables sessions exported line
   pub others : AreFine tables sessions (exported || is_export line.command) lines
 
+-- The first of fine lines is read back, and the others are fine behind it.
 first_fine : (tables : List TableDecl) (sessions : ℕ) (exported : Bool) (line : Line) (lines : List Line) → Head tables sessions → AreFine tables sessions exported (line ∷ lines) → FirstFine tables sessions exported line lines
 first_fine tables sessions exported line lines head fine =
     let o = once_by exported (is_export line.command) (exports_of lines) (subst (λ (n : ℕ). cond exported 1 0 + n ≤ 1) (sum_by-cons (λ (l : Line). cond (is_export l.command) 1 0) line lines) fine.once) in
@@ -56,6 +58,7 @@ first_fine tables sessions exported line lines head fine =
       others = record { each = e.1; once = o.1 };
     }
 
+-- A line that parts rounds puts an empty round in front of the others.
 parting_next : (tables : List TableDecl) (sessions at : ℕ) (exported : Bool) (line : List ℕ) (rest : List (List ℕ)) (rounds : List (List Line)) → 0 < length rest → bytes_eq line (codes "--") ≡ true
     → rounds_from whole tables sessions (at + 1) exported rest ≡ Ok rounds → rounds_from whole tables sessions at exported (line ∷ rest) ≡ Ok ([] ∷ rounds)
 parting_next tables sessions at exported line [] rounds some is read = absurd (omega (arith, some))
@@ -64,6 +67,7 @@ parting_next tables sessions at exported line (next ∷ rest) rounds some is rea
     (on_line at (line_of whole tables sessions exported (words_of line)) >>= (λ read. rounds_from whole tables sessions (at + 1) (exported || is_export read.command) (next ∷ rest) >>= (λ rounds. Ok (onto_first read rounds)))) is
     ∙ gives (rounds_from whole tables sessions (at + 1) exported (next ∷ rest)) _ (Ok ([] ∷ rounds)) rounds read refl
 
+-- A line that is read goes to the front of the first round.
 line_next : (tables : List TableDecl) (sessions at : ℕ) (exported : Bool) (line : List ℕ) (rest : List (List ℕ)) (first : Line) (round : List Line) (rounds : List (List Line)) → 0 < length rest → bytes_eq line (codes "--") ≡ false
     → line_of whole tables sessions exported (words_of line) ≡ Ok first → rounds_from whole tables sessions (at + 1) (exported || is_export first.command) rest ≡ Ok (round ∷ rounds)
     → rounds_from whole tables sessions at exported (line ∷ rest) ≡ Ok ((first ∷ round) ∷ rounds)
@@ -82,9 +86,11 @@ ended lines = lines ++ [] ∷ []
 abbrev pub AreBack : List TableDecl → ℕ → List (List Line) → Type 0
 AreBack tables sessions rounds = (at : ℕ) (exported : Bool) → AreFine tables sessions exported (lines_of rounds) → rounds_from whole tables sessions at exported (ended (round_lines tables rounds)) ≡ Ok rounds
 
+-- Lines with the end behind them are at least one.
 end_behind : (lines : List (List ℕ)) → 0 < length (ended lines)
 end_behind lines = omega (arith, length-append lines ([] ∷ []))
 
+-- Where rounds with an empty first one are read back, so are those with any first.
 round_back : (tables : List TableDecl) (sessions : ℕ) (others : List (List Line)) → Head tables sessions → AreBack tables sessions ([] ∷ others) → (first : List Line) → AreBack tables sessions (first ∷ others)
 round_back tables sessions others head behind [] = behind
 round_back tables sessions others head behind (line ∷ first) = λ at exported fine.

@@ -27,37 +27,46 @@ use Rattle.workload_laws.proofs.TablesBack.{within_high, number_word, table_are_
 use Rattle.workload_laws.proofs.Rounds.{is_line_of, lines_of, exports_of}
 use Rattle.workload_laws.proofs.RoundsBack.{AreFine, Head, ended, rounds_back, rounds_whole, lines_apart}
 
+-- The next line is the first one, where others follow it.
 next_back : (at : ℕ) (cause : Cause) (line : List ℕ) (rest : List (List ℕ)) → 0 < length rest → next_line at cause (line ∷ rest) ≡ Ok (line, rest)
 next_back at cause line [] some = absurd (omega (arith, some))
 next_back at cause line (next ∷ rest) some = refl
 
+-- The line of the sessions is read from its keyword and its number.
 sessions_made : (words rest : List (List ℕ)) (sessions : ℕ × List (List ℕ)) → keyword cause.Sessions (codes "sessions") words ≡ Ok rest → number cause.Sessions 1 most_sessions rest ≡ Ok sessions → no_word cause.Sessions sessions.1 ≡ Ok tt → sessions_of whole words ≡ Ok sessions.0
 sessions_made words rest sessions e1 e2 e3 =
     gives (keyword cause.Sessions (codes "sessions") words) _ (Ok sessions.0) rest e1 (gives (number cause.Sessions 1 most_sessions rest) _ (Ok sessions.0) sessions e2 (gives (no_word cause.Sessions sessions.1) _ (Ok sessions.0) tt e3 refl))
 
+-- The line of the workers is read from its keyword and its two numbers.
 workers_made : (words rest : List (List ℕ)) (workers turns : ℕ × List (List ℕ)) → keyword cause.Workers (codes "workers") words ≡ Ok rest → number cause.Workers 0 most_workers rest ≡ Ok workers → number cause.Workers 0 most_turns workers.1 ≡ Ok turns
     → no_word cause.Workers turns.1 ≡ Ok tt → workers_of whole words ≡ Ok (workers.0, turns.0)
 workers_made words rest workers turns e1 e2 e3 e4 =
     gives (keyword cause.Workers (codes "workers") words) _ (Ok (workers.0, turns.0)) rest e1 (gives (number cause.Workers 0 most_workers rest) _ (Ok (workers.0, turns.0)) workers e2
     (gives (number cause.Workers 0 most_turns workers.1) _ (Ok (workers.0, turns.0)) turns e3 (gives (no_word cause.Workers turns.1) _ (Ok (workers.0, turns.0)) tt e4 refl)))
 
+-- The words of the line that tells how many sessions there are.
 abbrev sessions_words : ℕ → List (List ℕ)
 sessions_words sessions = codes "sessions" ∷ decimal sessions ∷ []
 
+-- The words of the line that tells how many workers and turns there are.
 abbrev workers_words : ℕ → ℕ → List (List ℕ)
 workers_words workers turns = codes "workers" ∷ decimal workers ∷ decimal turns ∷ []
 
+-- The line of the sessions is of words.
 sessions_are : (sessions : ℕ) → sessions < 2 ^ 64 → AreWords (sessions_words sessions)
 sessions_are sessions small = (plain_word (codes "sessions") refl, (number_word sessions small, tt))
 
+-- The line of the workers is of words.
 workers_are : (workers turns : ℕ) → workers < 2 ^ 64 → turns < 2 ^ 64 → AreWords (workers_words workers turns)
 workers_are workers turns small few = (plain_word (codes "workers") refl, (number_word workers small, (number_word turns few, tt)))
 
+-- How many sessions there are is read back from their line.
 sessions_back : (sessions : ℕ) → sessions < 2 ^ 64 → is_within 1 most_sessions sessions ≡ true → sessions_of whole (words_of (spaced (sessions_words sessions))) ≡ Ok sessions
 sessions_back sessions small within =
     ap (sessions_of whole) (words_apart (codes "sessions") (decimal sessions ∷ []) (sessions_are sessions small))
     ∙ sessions_made (sessions_words sessions) (decimal sessions ∷ []) (sessions, []) (keyword_back cause.Sessions (codes "sessions") (decimal sessions ∷ [])) (number_back cause.Sessions 1 most_sessions sessions [] small within) refl
 
+-- How many workers and turns there are is read back from their line.
 workers_back : (workers turns : ℕ) → workers < 2 ^ 64 → turns < 2 ^ 64 → is_within 0 most_workers workers ≡ true → is_within 0 most_turns turns ≡ true → workers_of whole (words_of (spaced (workers_words workers turns))) ≡ Ok (workers, turns)
 workers_back workers turns small few within also =
     ap (workers_of whole) (words_apart (codes "workers") (decimal workers ∷ decimal turns ∷ []) (workers_are workers turns small few))
@@ -124,22 +133,27 @@ script_parts script valid =
       once = leb-true (exports_of (all_lines script)) 1 a.1;
     }
 
+-- Where all of a list pass each of two tests, all pass both.
 all_and : {X : Type 0} (p q : X → Bool) (xs : List X) → list_all p xs ≡ true → list_all q xs ≡ true → list_all (λ x. p x && q x) xs ≡ true
 all_and p q [] ps qs = refl
 all_and p q (x ∷ xs) ps qs = let a = both (p x) (list_all p xs) ps in let b = both (q x) (list_all q xs) qs in joined (joined a.0 b.0) (all_and p q xs a.1 b.1)
 
+-- The lines of a workload that writes only bytes are fine.
 fine : (script : Script) → ScriptParts script → writes_only_bytes script ≡ true → AreFine script.tables script.sessions false (all_lines script)
 fine script parts bytes = record {
   each = all_and (is_line_of script.tables script.sessions) (λ line. list_all has_only_bytes (written_row line.command)) (all_lines script) parts.lines bytes;
   once = omega (arith, parts.once);
 }
 
+-- Lines with the end behind them are not none.
 end_some : (lines : List (List ℕ)) → 0 < length (ended lines)
 end_some lines = omega (arith, length-append lines ([] ∷ []))
 
+-- The line of a table is tested to be one.
 first_table : (table : TableDecl) → is_table table ≡ true → is_table_line (table_text table) ≡ true
 first_table table is = is_table_line_by (table_text table) (codes "table") _ (table_apart table is)
 
+-- The line of the sessions is not one of a table.
 no_table : (sessions : ℕ) → sessions < 2 ^ 64 → is_table_line (spaced (sessions_words sessions)) ≡ false
 no_table sessions small = is_table_line_by (spaced (sessions_words sessions)) (codes "sessions") (decimal sessions ∷ []) (words_apart (codes "sessions") (decimal sessions ∷ []) (sessions_are sessions small))
 
@@ -171,6 +185,7 @@ parts_back table more sessions workers turns round others few head in_sessions i
     (next_back (at + 2) cause.Go (codes "go") rounds (end_some (round_lines (table ∷ more) (round ∷ others)))) refl
     (rounds_back (table ∷ more) sessions head others round (at + 3) false are)
 
+-- A workload's lines are those of its version, tables, sessions, workers and rounds.
 lines_are : (script : Script) → script.version ≡ 1 → ended (script_lines script)
     ≡ codes "store 1" ∷ (map table_text script.tables ++ spaced (sessions_words script.sessions) ∷ spaced (workers_words script.workers script.turns) ∷ codes "go" ∷ ended (round_lines script.tables script.rounds))
 lines_are script version =
@@ -183,24 +198,28 @@ IsBack script tables rounds = length tables ≤ 16 → Head tables script.sessio
     → script_in whole (codes "store 1" ∷ (map table_text tables ++ spaced (sessions_words script.sessions) ∷ spaced (workers_words script.workers script.turns) ∷ codes "go" ∷ ended (round_lines tables rounds)))
     ≡ Ok (record { version = 1; tables = tables; sessions = script.sessions; workers = script.workers; turns = script.turns; rounds = rounds })
 
+-- Where there are tables and rounds, a workload's lines with them are read as it.
 back_by : (script : Script) (tables : List TableDecl) (rounds : List (List Line)) → ScriptParts script → 0 < length tables → 0 < length rounds → IsBack script tables rounds
 back_by script [] rounds parts some many = absurd (omega (arith, some))
 back_by script (table ∷ tables) [] parts some many = absurd (omega (arith, many))
 back_by script (table ∷ tables) (round ∷ rounds) parts some many =
     λ few head are. parts_back table tables script.sessions script.workers script.turns round rounds few head parts.sessions parts.workers parts.turns are
 
+-- A workload whose lines are fine is read back from them.
 lines_back : (script : Script) → ScriptParts script → AreFine script.tables script.sessions false (all_lines script) → script_in whole (ended (script_lines script)) ≡ Ok script
 lines_back script parts are =
     ap (script_in whole) (lines_are script parts.version)
     ∙ back_by script script.tables script.rounds parts parts.some parts.rounds parts.tables parts.head are
     ∙ ap (λ (version : ℕ). Ok (record { version = version; tables = script.tables; sessions = script.sessions; workers = script.workers; turns = script.turns; rounds = script.rounds })) (sym parts.version)
 
+-- The lines of tables have no line feed in them.
 tables_whole : (tables : List TableDecl) → list_all is_table tables ≡ true → list_all is_whole (map table_text tables) ≡ true
 tables_whole [] each = refl
 tables_whole (table ∷ tables) each =
     let e = both (is_table table) (list_all is_table tables) each in
     joined (words_whole (table_words table) (table_are_words table e.0)) (tables_whole tables e.1)
 
+-- The lines of a workload have no line feed in them.
 script_whole : (script : Script) → ScriptParts script → AreFine script.tables script.sessions false (all_lines script) → list_all is_whole (script_lines script) ≡ true
 script_whole script parts are =
     let small = small_of 1 most_sessions script.sessions (omega arith) parts.sessions in

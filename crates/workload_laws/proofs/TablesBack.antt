@@ -48,9 +48,11 @@ table_parts table is =
 pub within_high : (low high n : ℕ) → is_within low high n ≡ true → n ≤ high
 within_high low high n within = leb-true n high (both (nat_le low n) (nat_le n high) within).1
 
+-- A column with the name and the kind of the key and no nulls is the key's.
 key_by : (name : List ℕ) (k : Kind) (nullable : Bool) → name ≡ codes "key" → k ≡ kind.I64 → nullable ≡ false → key_column ≡ record { name = name; kind = k; nullable = nullable }
 key_by name k nullable e f g = rw (e, f, g) refl
 
+-- A column that is tested to be the key is the key's column.
 key_is : (column : Column) → is_key column ≡ true → key_column ≡ column
 key_is column is =
     let a = both (bytes_eq column.name (codes "key") && is_i64 column.kind) (not column.nullable) is in
@@ -70,6 +72,7 @@ columns_begin columns are = (both (begins_with_key columns) _ (both _ _ (both _ 
 abbrev pub IsReadBack : List TableDecl → TableDecl → Type 0
 IsReadBack tables table = table_of whole tables (table_words table) ≡ Ok table
 
+-- How many slots a table may have is below 2^64.
 small_slots : (slots most : ℕ) → slots ≤ min (2 ^ 15) most → slots < 2 ^ 64
 small_slots slots most le = omega arith
 
@@ -96,6 +99,7 @@ assembled tables words line name key columns slots_word slots blocks_word blocks
     (gives (number cause.Blocks 1 most_blocks blocks_word) _ made blocks e11
     (gives (no_word cause.Blocks blocks.1) _ made tt e12 refl)))))))))))
 
+-- A table whose parts keep their limits is read back from its words.
 parts_back : (tables : List TableDecl) (name : List ℕ) (more : List Column) (slots blocks : ℕ) → is_declared name tables ≡ false → TableParts (record { name = name; schema = key_column ∷ more; slots = slots; blocks = blocks })
     → IsReadBack tables (record { name = name; schema = key_column ∷ more; slots = slots; blocks = blocks })
 parts_back tables name more slots blocks own parts =
@@ -119,9 +123,11 @@ table_back tables table own is =
     let same : record { name = table.name; schema = key_column ∷ first.0; slots = table.slots; blocks = table.blocks } ≡ table = ap (λ (schema : List Column). record { name = table.name; schema = schema; slots = table.slots; blocks = table.blocks }) first.1 in
     subst (IsReadBack tables) same (parts_back tables table.name first.0 table.slots table.blocks own (subst TableParts (sym same) parts))
 
+-- Plain bytes and more plain bytes are plain together.
 plain_append : (a b : List ℕ) → list_all is_plain a ≡ true → list_all is_plain b ≡ true → list_all is_plain (a ++ b) ≡ true
 plain_append a b pa pb = list_all-append is_plain a b ∙ joined pa pb
 
+-- The text of each kind is of plain bytes.
 kind_plain : (k : Kind) → list_all is_plain (kind_text k) ≡ true
 kind_plain kind.I8 = refl
 kind_plain kind.I16 = refl
@@ -135,16 +141,19 @@ kind_plain kind.Bool = refl
 kind_plain kind.Utf8 = refl
 kind_plain kind.Binary = refl
 
+-- The mark for nulls, if there is one, is of plain bytes.
 mark_plain : (nullable : Bool) → list_all is_plain (if nullable then codes "?" else []) ≡ true
 mark_plain true = refl
 mark_plain false = refl
 
+-- The text of a column with a name is of plain bytes.
 column_plain : (column : Column) → is_name column.name ≡ true → list_all is_plain (column_text column) ≡ true
 column_plain column named =
     plain_append ((column.name ++ codes ":") ++ kind_text column.kind) (if column.nullable then codes "?" else [])
     (plain_append (column.name ++ codes ":") (kind_text column.kind) (plain_append column.name (codes ":") (name_bytes column.name named).plain refl) (kind_plain column.kind))
     (mark_plain column.nullable)
 
+-- The texts of columns with names are words.
 columns_words : (columns : List Column) → list_all (λ column. is_name column.name) columns ≡ true → AreWords (map column_text columns)
 columns_words [] named = tt
 columns_words (column ∷ columns) named =
@@ -185,11 +194,13 @@ table_apart table is = words_apart (codes "table") (table.name ∷ (map column_t
 pub is_table_line_by : (line : List ℕ) (first : List ℕ) (rest : List (List ℕ)) → words_of line ≡ first ∷ rest → is_table_line line ≡ bytes_eq first (codes "table")
 is_table_line_by line first rest e = ap (λ (words : List (List ℕ)). option_map_or (λ word. bytes_eq word (codes "table")) (slice_get words 0) false) e
 
+-- A line that is none of a table ends the tables, and is left.
 tables_none : (at : ℕ) (tables : List TableDecl) (line next : List ℕ) (rest : List (List ℕ)) → is_table_line line ≡ false → tables_from whole at tables (line ∷ next ∷ rest) ≡ Ok (tables, line ∷ next ∷ rest)
 tables_none at tables line next rest none =
     passed (is_table_line line) (on_line at (rule cause.Table (nat_lt (length tables) most_tables)) >>= (λ room. on_line at (table_of whole tables (words_of line)) >>= (λ table. tables_from whole (at + 1) (tables ++ table ∷ []) (next ∷ rest))))
     (Ok (tables, line ∷ next ∷ rest)) none
 
+-- A line that is read as a table puts it behind the others.
 tables_next : (at : ℕ) (tables : List TableDecl) (table : TableDecl) (line : List ℕ) (rest : List (List ℕ)) → 0 < length rest → is_table_line line ≡ true → nat_lt (length tables) most_tables ≡ true → table_of whole tables (words_of line) ≡ Ok table
     → tables_from whole at tables (line ∷ rest) ≡ tables_from whole (at + 1) (tables ++ table ∷ []) rest
 tables_next at tables table line [] some first room read = absurd (omega (arith, some))

@@ -17,6 +17,7 @@ pub record IsDigitOf (value digit : ℕ) : Type 0 where
   pub least : 48 ≤ digit
   pub no_backslash : digit ≡ 92 → ⊥
 
+-- Each value below sixteen has a hexadecimal digit.
 digit_of : (value : ℕ) → value < 16 → IsDigitOf value (digit_char value)
 digit_of value small = by (nat_lt value 10) refl
   where
@@ -32,12 +33,15 @@ digit_of value small = by (nat_lt value 10) refl
       no_backslash = λ is. let c : digit_char value ≡ 87 + value = rw e refl in omega (arith, c, is, ltb-false value 10 e);
     }
 
+-- The first of a byte's two digits is hexadecimal.
 high_of : (byte : ℕ) → IsDigitOf (byte / 16 % 16) (digit_char (byte / 16 % 16))
 high_of byte = digit_of (byte / 16 % 16) (omega arith)
 
+-- The second of a byte's two digits is hexadecimal.
 low_of : (byte : ℕ) → IsDigitOf (byte % 16) (digit_char (byte % 16))
 low_of byte = digit_of (byte % 16) (omega arith)
 
+-- The values of a byte's two digits make up the byte.
 pair : (byte : ℕ) → byte < 256 → byte / 16 % 16 * 16 + byte % 16 ≡ byte
 pair byte small = omega arith
 
@@ -53,6 +57,7 @@ bytes_back (byte ∷ bytes) all =
     let one : digit_value (digit_char (byte / 16 % 16)) * 16 + digit_value (digit_char (byte % 16)) ≡ byte = digits_back byte (ltb-true byte 256 b.0) in
     rw (one, bytes_back bytes b.1) refl
 
+-- The digits of bytes are plain bytes.
 digits_plain : (bytes : List ℕ) → list_all is_plain (flat_map hex_digits bytes) ≡ true
 digits_plain [] = refl
 digits_plain (byte ∷ bytes) =
@@ -64,6 +69,7 @@ digits_plain (byte ∷ bytes) =
 pub blob_word : (bytes : List ℕ) → IsWord (codes "x" ++ flat_map hex_digits bytes)
 blob_word bytes = plain_word (120 ∷ flat_map hex_digits bytes) (digits_plain bytes)
 
+-- One byte is read as what it stands for, and then the others behind it.
 unescape_step : (spelling : Spelling) (byte : ℕ) (tail : List ℕ) → 0 < length tail → unescaped_from spelling (byte ∷ tail) ≡ unescaped_at spelling byte ++ unescaped_from (spelling_after spelling byte) tail
 unescape_step spelling byte [] some = absurd (omega (arith, some))
 unescape_step spelling byte (next ∷ tail) some = refl
@@ -74,6 +80,7 @@ data Spells (byte : ℕ) : Type 0 where
   Digits : byte < 256 → escaped byte ≡ 92 ∷ 120 ∷ digit_char (byte / 16 % 16) ∷ digit_char (byte % 16) ∷ [] → Spells byte
   Alone : 32 ≤ byte → (byte ≡ 34 → ⊥) → (byte ≡ 92 → ⊥) → escaped byte ≡ byte ∷ [] → Spells byte
 
+-- Each byte is spelled with an escape, by its digits or by itself.
 spells : (byte : ℕ) → Spells byte
 spells byte = by (byte == quote || byte == backslash) (is_control byte) refl refl
   where
@@ -85,15 +92,19 @@ spells byte = by (byte == quote || byte == backslash) (is_control byte) refl ref
         let k = neither (nat_lt byte 0x20) (byte == 0x7f) c in
         Alone (ltb-false byte 32 k.0) (eqb-false byte 34 n.0) (eqb-false byte 92 n.1) (rw (m, c) refl)
 
+-- A byte behind a backslash that is no mark of digits is read as itself.
 behind_back : (byte : ℕ) (tail : List ℕ) → 0 < length tail → byte == 120 ≡ false → unescaped_from Escape (byte ∷ tail) ≡ byte ∷ unescaped_from Itself tail
 behind_back byte tail some n = unescape_step Escape byte tail some ∙ rw n refl
 
+-- A byte that is no backslash is read as itself.
 alone_back : (byte : ℕ) (tail : List ℕ) → 0 < length tail → byte == 92 ≡ false → unescaped_from Itself (byte ∷ tail) ≡ byte ∷ unescaped_from Itself tail
 alone_back byte tail some n = unescape_step Itself byte tail some ∙ rw n refl
 
+-- A byte is read at the second of its digits.
 digits_last : (byte : ℕ) (tail : List ℕ) → 0 < length tail → byte < 256 → unescaped_from (SecondDigit (digit_value (digit_char (byte / 16 % 16)))) (digit_char (byte % 16) ∷ tail) ≡ byte ∷ unescaped_from Itself tail
 digits_last byte tail some small = unescape_step (SecondDigit (digit_value (digit_char (byte / 16 % 16)))) (digit_char (byte % 16)) tail some ∙ ap (λ (b : ℕ). b ∷ unescaped_from Itself tail) (digits_back byte small)
 
+-- Each byte is read back from its spelling in a text.
 one_back : (byte : ℕ) (tail : List ℕ) → 0 < length tail → Spells byte → unescaped_from Itself (escaped byte ++ tail) ≡ byte ∷ unescaped_from Itself tail
 one_back byte tail some (Behind e is) =
     ap (λ (bytes : List ℕ). unescaped_from Itself (bytes ++ tail)) is
@@ -101,9 +112,11 @@ one_back byte tail some (Behind e is) =
 one_back byte tail some (Digits small is) = ap (λ (bytes : List ℕ). unescaped_from Itself (bytes ++ tail)) is ∙ digits_last byte tail some small
 one_back byte tail some (Alone control no_quote no_backslash is) = ap (λ (bytes : List ℕ). unescaped_from Itself (bytes ++ tail)) is ∙ alone_back byte tail some (ne_eqb byte 92 no_backslash)
 
+-- Bytes with a quote behind them are at least one.
 quote_behind : (bytes : List ℕ) → 0 < length (bytes ++ quote ∷ [])
 quote_behind bytes = omega (arith, length-append bytes (quote ∷ []))
 
+-- A text is read back from its spelling up to the closing quote.
 unescaped_back : (text : List ℕ) → unescaped_from Itself (flat_map escaped text ++ quote ∷ []) ≡ text
 unescaped_back [] = refl
 unescaped_back (byte ∷ bytes) =
@@ -119,9 +132,11 @@ text_back text = unescaped_back text
 stays_on : (byte : ℕ) (tail : List ℕ) → (byte ≡ 34 → ⊥) → (byte ≡ 92 → ⊥) → Stays WithinText tail → Stays WithinText (byte ∷ tail)
 stays_on byte tail no_quote no_backslash stays = rw (ne_eqb byte 34 no_quote, ne_eqb byte 92 no_backslash) (and-false (byte == space), stays)
 
+-- Behind a backslash, each byte leaves the reader within the text.
 stays_behind : (byte : ℕ) (tail : List ℕ) → Stays WithinText tail → Stays BehindBackslash (byte ∷ tail)
 stays_behind byte tail stays = (and-false (byte == space), stays)
 
+-- The spelling of a byte leaves the reader within the text.
 one_stays : (byte : ℕ) (tail : List ℕ) → Spells byte → Stays WithinText tail → Stays WithinText (escaped byte ++ tail)
 one_stays byte tail (Behind e is) stays = let P : List ℕ → Type 0 = λ bytes. Stays WithinText (bytes ++ tail) in subst P (sym is) (refl, stays_behind byte tail stays)
 one_stays byte tail (Digits small is) stays =
@@ -138,14 +153,17 @@ one_stays byte tail (Digits small is) stays =
     )
 one_stays byte tail (Alone control no_quote no_backslash is) stays = let P : List ℕ → Type 0 = λ bytes. Stays WithinText (bytes ++ tail) in subst P (sym is) (stays_on byte tail no_quote no_backslash stays)
 
+-- The spelling of a text leaves the reader within it up to the quote.
 text_stays : (text : List ℕ) → Stays WithinText (flat_map escaped text ++ quote ∷ [])
 text_stays [] = (refl, refl)
 text_stays (byte ∷ bytes) =
     subst (Stays WithinText) (sym (append_assoc (escaped byte) (flat_map escaped bytes) (quote ∷ []))) (one_stays byte (flat_map escaped bytes ++ quote ∷ []) (spells byte) (text_stays bytes))
 
+-- A byte that is not ten is tested to be no line feed.
 no_feed : (byte : ℕ) → (byte ≡ 10 → ⊥) → not (byte == line_feed) ≡ true
 no_feed byte n = ap not (ne_eqb byte 10 n)
 
+-- The spelling of a byte has no line feed in it.
 one_whole : (byte : ℕ) → Spells byte → is_whole (escaped byte) ≡ true
 one_whole byte (Behind e is) = ap is_whole is ∙ joined (no_feed byte (λ same. elim e [ inl a ↦ omega (arith, a, same) | inr b ↦ omega (arith, b, same) ])) refl
 one_whole byte (Digits small is) =
@@ -154,6 +172,7 @@ one_whole byte (Digits small is) =
     ap is_whole is ∙ joined (no_feed (digit_char (byte / 16 % 16)) (λ e. omega (arith, e, h.least))) (joined (no_feed (digit_char (byte % 16)) (λ e. omega (arith, e, l.least))) refl)
 one_whole byte (Alone control no_quote no_backslash is) = ap is_whole is ∙ joined (no_feed byte (λ e. omega (arith, e, control))) refl
 
+-- The spelling of a text has no line feed in it.
 text_whole : (text : List ℕ) → is_whole (flat_map escaped text) ≡ true
 text_whole [] = refl
 text_whole (byte ∷ bytes) = whole_append (escaped byte) (flat_map escaped bytes) (one_whole byte (spells byte)) (text_whole bytes)

@@ -29,6 +29,7 @@ value_bytes at true true long fit = refl
 value_bytes at true false long fit = absurd cc
 value_bytes at false bytes long fit = absurd cc
 
+-- A cell that fits its column has only bytes.
 cell_bytes : (at : ℕ) (column : Column) (cell : Cell) → is_none (cell_fault at column cell) ≡ true → has_only_bytes cell ≡ true
 cell_bytes at column Null fit = refl
 cell_bytes at column (Num number) fit = refl
@@ -37,6 +38,7 @@ cell_bytes at column (Text text) fit = refl
 cell_bytes at column (Blob bytes) fit =
     value_bytes at (is_binary_kind column.kind) (are_bytes bytes) (nat_lt most_bytes (length bytes)) fit
 
+-- Cells that each fit their columns have only bytes.
 cells_bytes : (at : ℕ) (columns : List Column) (cells : List Cell) → length cells ≡ length columns
     → is_none (first_fault at columns cells) ≡ true → list_all has_only_bytes cells ≡ true
 cells_bytes at columns [] same fit = refl
@@ -45,11 +47,13 @@ cells_bytes at (column ∷ columns) (cell ∷ cells) same fit =
     let parts = first_fits (cell_fault at column cell) (first_fault (at + 1) columns cells) fit in
     joined (cell_bytes at column cell parts.0) (cells_bytes (at + 1) columns cells (omega (arith, same)) parts.1)
 
+-- A row that fits its columns has only bytes.
 row_bytes : (schema : List Column) (row : List Cell) → fits schema row ≡ true → list_all has_only_bytes row ≡ true
 row_bytes schema row fit =
     let parts = fit_by (length row == length schema) (first_fault 0 schema row) fit in
     cells_bytes 0 schema row (eqb-true (length row) (length schema) parts.0) parts.1
 
+-- What a valid command writes has only bytes.
 command_bytes : (tables : List TableDecl) (read : Command) → is_command tables read ≡ true
     → list_all has_only_bytes (written_row read) ≡ true
 command_bytes tables (command.Insert place row) is =
@@ -60,6 +64,7 @@ command_bytes tables (command.Update place row) is =
     row_bytes found.0.schema row found.2
 command_bytes tables _ is = refl
 
+-- What the commands of valid lines write has only bytes.
 lines_bytes : (tables : List TableDecl) (sessions : ℕ) (lines : List Line) → list_all (is_line_of tables sessions) lines ≡ true
     → list_all (λ line. list_all has_only_bytes (written_row line.command)) lines ≡ true
 lines_bytes tables sessions [] are = refl
