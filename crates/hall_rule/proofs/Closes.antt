@@ -6,7 +6,7 @@ use mathlib.Core.Option as maybe
 use lib.ListN.{get_elem?}
 use Rattle.atomic_table.specs.Table.{State}
 use Rattle.hall_rule.specs.EventLog.{has, own}
-use Rattle.hall_rule.specs.HallInvariant.{AtHome, HallInvariant, Owners, entries_of, hands_of, since, stage, total_of}
+use Rattle.hall_rule.specs.HallInvariant.{AtHome, HallInvariant, Owners, entries_of, hands_of, latch_word, since, stage, total_of}
 use Rattle.hall_rule.specs.Hands.{all_in}
 use Rattle.hall_rule.specs.Meaning.{Meaning}
 use Rattle.hall_rule.specs.declared.view.Entry.{Entry}
@@ -61,7 +61,7 @@ module _ {P E T F : Type 0} (M : Meaning P E T F) (log : List (Entry E)) (o : Ow
 
   -- each part is at home: no other pass has a hand to hold one
   pub all_home : (k : ℕ) → k < length M.start → AtHome M log s.homes k
-  all_home k lt = by_cases (slice_index s.words (suc k)) 0 (AtHome M log s.homes k) (kept.at_home.free k lt)
+  all_home k lt = by_cases (slice_index s.words (latch_word k)) 0 (AtHome M log s.homes k) (kept.at_home.free k lt)
       (λ taken.
       let h = kept.at_home.latched k lt taken in
       by_cases (o.part k) id (AtHome M log s.homes k)

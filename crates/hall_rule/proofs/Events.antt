@@ -1,12 +1,12 @@
 -- An event keeps the invariant: what was lawful by what a pass knew is lawful where it is made.
-use Rattle.std.proofs.Common.{◌≡◌, ◌≢◌, ℕ, suc, ◌+◌, ◌*◌, ◌%◌, ◌^◌, ◌<◌, true, false, List, [], ◌∷◌, ◌++◌, Option, Some, length, set, get_or-set_same, get_or-set_other, refl, sym, ap, subst, ◌∙◌, inl, inr, ⊎_elim, true≢false, length-append, length-set, mod-eq_of_lt, arith}
+use Rattle.std.proofs.Common.{◌≡◌, ◌≢◌, ℕ, ◌+◌, ◌*◌, ◌%◌, ◌^◌, ◌<◌, true, false, List, [], ◌∷◌, ◌++◌, Option, Some, length, set, get_or-set_same, get_or-set_other, refl, sym, ap, subst, ◌∙◌, inl, inr, ⊎_elim, true≢false, length-append, length-set, mod-eq_of_lt, arith}
 use Rattle.std.specs.Prelude.{slice_get, slice_index}
 use mathlib.Core.Option as maybe
 use lib.ListN.{get_elem?}
 use Rattle.atomic_table.specs.Table.{Allows, State}
 use Rattle.atomic_table.specs.Table.Act.{keeps}
 use Rattle.hall_rule.specs.EventLog.{LawfulFrom, Spares, Untouched, after, has, own, replay}
-use Rattle.hall_rule.specs.HallInvariant.{HallInvariant, Owners, Rule, hands_of, stage}
+use Rattle.hall_rule.specs.HallInvariant.{HallInvariant, Owners, Rule, hands_of, latch_word, stage}
 use Rattle.hall_rule.specs.Hands.{Agrees, Covers, Holds}
 use Rattle.hall_rule.specs.Meaning.{Laws, Meaning}
 use Rattle.hall_rule.specs.Views.{Adds, Learned, Sees, added}
@@ -62,7 +62,7 @@ module _ {P E T F : Type 0} (M : Meaning P E T F) (laws : Laws M) where
       left k away = after_is M (λ (t : List P). slice_get t k ≡ slice_get (replay M log) k) e (replay M log) refl
           (laws.frame e.event hand (replay M log) new.sound asks.covers still.0 still.1 still.2 k (λ h. away (held k h)))
 
-      ending : (ws : List ℕ) → slice_index ws 0 ≡ length log + 1 → length ws ≡ length s.words → ((i : ℕ) → slice_index ws (suc i) ≡ slice_index s.words (suc i))
+      ending : (ws : List ℕ) → slice_index ws 0 ≡ length log + 1 → length ws ≡ length s.words → ((i : ℕ) → slice_index ws (latch_word i) ≡ slice_index s.words (latch_word i))
           → Moves M log (e ∷ []) o o.part s ws s.homes id v (added v log e)
       ending ws counted wide word =
           let old = kept.at_home.each id v at live in
@@ -126,7 +126,7 @@ module _ {P E T F : Type 0} (M : Meaning P E T F) (laws : Laws M) where
             log ++ e ∷ [],
             kept.1,
             moved M log (e ∷ []) kept.1 kept.1.part s (set s.words 0 ((n + 1) % 2 ^ 64)) s.homes id v (added v log e) kept.2 at live
-                (ending log kept.1 s kept.2 at (set s.words 0 ((n + 1) % 2 ^ 64)) (get_or-set_same s.words 0 ((n + 1) % 2 ^ 64) 0 wide ∙ next) (length-set s.words 0 ((n + 1) % 2 ^ 64)) (λ i. get_or-set_other s.words 0 (suc i) ((n + 1) % 2 ^ 64) 0 (λ x. absurd (omega (arith, x))))) laws,
+                (ending log kept.1 s kept.2 at (set s.words 0 ((n + 1) % 2 ^ 64)) (get_or-set_same s.words 0 ((n + 1) % 2 ^ 64) 0 wide ∙ next) (length-set s.words 0 ((n + 1) % 2 ^ 64)) (λ i. get_or-set_other s.words 0 (latch_word i) ((n + 1) % 2 ^ 64) 0 (λ x. absurd (omega (arith, x))))) laws,
           ),
           (log, new log kept.1 s kept.2 at, refl, refl),
         )

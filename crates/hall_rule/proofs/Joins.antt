@@ -1,12 +1,12 @@
 -- A pass that takes in another's numbers, entries and hands keeps the invariant.
-use Rattle.std.proofs.Common.{◌≡◌, ◌≢◌, ℕ, suc, ◌+◌, ◌*◌, ◌^◌, ◌<◌, ◌≤◌, ltb, Bool, true, false, cond, List, [], ◌∷◌, ◌++◌, Option, length, drop, set, refl, sym, ap, subst, ◌∙◌, ⊎_elim, true≢false, append-nil, length-append, length-set, ltb-false, ltb-true, arith}
+use Rattle.std.proofs.Common.{◌≡◌, ◌≢◌, ℕ, ◌+◌, ◌*◌, ◌^◌, ◌<◌, ◌≤◌, ltb, Bool, true, false, cond, List, [], ◌∷◌, ◌++◌, Option, length, drop, set, refl, sym, ap, subst, ◌∙◌, ⊎_elim, true≢false, append-nil, length-append, length-set, ltb-false, ltb-true, arith}
 use Rattle.std.specs.Prelude.{slice_index}
 use mathlib.Core.Option as maybe
 use lib.ListN.{get_elem?}
 use Rattle.atomic_table.specs.Table.{Joins, State}
 use Rattle.atomic_table.proofs.Lists.{at_set, set_else, set_here}
 use Rattle.hall_rule.specs.EventLog.{MadeBelow, Spares, Tied, Untouched, after, has, own, replay, replay_from}
-use Rattle.hall_rule.specs.HallInvariant.{EachLive, GoesOn, HallInvariant, HoldsParts, Owners, OwnsSessions, Rule, SeesLog, entries_of, hands_of, since, stage}
+use Rattle.hall_rule.specs.HallInvariant.{EachLive, GoesOn, HallInvariant, HoldsParts, Owners, OwnsSessions, Rule, SeesLog, entries_of, hands_of, latch_word, since, stage}
 use Rattle.hall_rule.specs.Meaning.{Laws, Meaning}
 use Rattle.hall_rule.specs.Views.{among, joined_by, longer, spent_view}
 use Rattle.hall_rule.specs.declared.view.Entry.{Entry}
@@ -210,7 +210,7 @@ module _ {P E T F : Type 0} (M : Meaning P E T F) where
     here : get_elem? views id ≡ maybe.some both
     here = set_else (set s.views id both) other id spent_view (λ e. else (sym e)) ∙ set_here s.views id both (at_below s.views id v at)
 
-    latched : (k : ℕ) → k < length M.start → slice_index s.words (suc k) ≢ 0 → (x : View E) × (get_elem? views (o.part k) ≡ maybe.some x) × (x.spent ≡ false) × (stage x k ≢ 0)
+    latched : (k : ℕ) → k < length M.start → slice_index s.words (latch_word k) ≢ 0 → (x : View E) × (get_elem? views (o.part k) ≡ maybe.some x) × (x.spent ≡ false) × (stage x k ≢ 0)
     latched k lt taken =
         let h = kept.at_home.latched k lt taken in
         by_cases (o.part k) id ((x : View E) × (get_elem? views (o.part k) ≡ maybe.some x) × (x.spent ≡ false) × (stage x k ≢ 0))

@@ -8,7 +8,7 @@ use Rattle.atomic_table.specs.Table.{Act, Allows, State, Valid, carried_after, s
 use Rattle.atomic_table.specs.Table.Act.{keeps, takes, gives}
 use Rattle.atomic_table.proofs.Lists.{set_else, set_here}
 use Rattle.hall_rule.specs.EventLog.{Untouched, has, replay, replay_from}
-use Rattle.hall_rule.specs.HallInvariant.{AtHome, HallInvariant, Owners, Rule, hands_of, since, stage}
+use Rattle.hall_rule.specs.HallInvariant.{AtHome, HallInvariant, Owners, Rule, hands_of, latch_word, since, stage}
 use Rattle.hall_rule.specs.Meaning.{Laws, Meaning}
 use Rattle.hall_rule.specs.Views.{Draws, Gives, Homes, Latches, Learned, Loads, drawn, given, homed, loaded, staged}
 use Rattle.hall_rule.specs.declared.view.Entry.{Entry}
@@ -70,12 +70,12 @@ module _ {P E T F : Type 0} (M : Meaning P E T F) (laws : Laws M) where
   module _ (slots id : ℕ) (v : View E) (k : ℕ) (live : v.spent ≡ false) (lt : k < length M.start) (room : k < length v.stages) where
     -- The latch of the part k was free, and is taken now.
     taken : (log : List (Entry E)) (o : Owners) (s : State (Option P) (View E)) → HallInvariant M log o s → get_elem? s.views id ≡ maybe.some v
-        → stage v k ≡ 0 → hands_of v ≢ 0 → slice_index s.words (suc k) ≡ 0 → Stirs M log o (λ i. cond (eqb i k) id (o.part i)) s (set s.words (suc k) 1) s.homes id v (staged v k 1)
+        → stage v k ≡ 0 → hands_of v ≢ 0 → slice_index s.words (latch_word k) ≡ 0 → Stirs M log o (λ i. cond (eqb i k) id (o.part i)) s (set s.words (latch_word k) 1) s.homes id v (staged v k 1)
     taken log o s kept at away hand free =
         let old = kept.at_home.each id v at live in
-        let wide : suc k < length s.words = let w = kept.at_home.wide in omega (arith, w, lt) in
-        let one : slice_index (set s.words (suc k) 1) (suc k) ≡ 1 = get_or-set_same s.words (suc k) 1 0 wide in
-        let word : (i : ℕ) → i ≢ k → slice_index (set s.words (suc k) 1) (suc i) ≡ slice_index s.words (suc i) = λ (i : ℕ) ne. get_or-set_other s.words (suc k) (suc i) 1 0 (λ e. ne (omega (arith, e))) in
+        let wide : latch_word k < length s.words = let w = kept.at_home.wide in omega (arith, w, lt) in
+        let one : slice_index (set s.words (latch_word k) 1) (latch_word k) ≡ 1 = get_or-set_same s.words (latch_word k) 1 0 wide in
+        let word : (i : ℕ) → i ≢ k → slice_index (set s.words (latch_word k) 1) (latch_word i) ≡ slice_index s.words (latch_word i) = λ (i : ℕ) ne. get_or-set_other s.words (latch_word k) (latch_word i) 1 0 (λ e. ne (omega (arith, e))) in
         let part : (i : ℕ) → i ≢ k → cond (eqb i k) id (o.part i) ≡ o.part i = λ (i : ℕ) ne. ap (λ b. cond b id (o.part i)) (ne_eqb i k ne) in
         let mine : cond (eqb k k) id (o.part k) ≡ id = ap (λ b. cond b id (o.part k)) (eq-eqb k k refl) in
         let here = stage_here v k 1 room in
@@ -85,16 +85,16 @@ module _ {P E T F : Type 0} (M : Meaning P E T F) (laws : Laws M) where
           before = inl refl;
           live = live;
           seen = inl refl;
-          counted = get_or-set_other s.words (suc k) 0 1 0 (λ e. absurd (omega (arith, e)));
-          wide = length-set s.words (suc k) 1;
+          counted = get_or-set_other s.words (latch_word k) 0 1 0 (λ e. absurd (omega (arith, e)));
+          wide = length-set s.words (latch_word k) 1;
           deep = refl;
           idle = λ none'. absurd (hand none');
           same = λ i below before now.
               let ne : i ≢ k = λ e. absurd (let h = subst (λ (x : ℕ). stage (staged v k 1) x ≡ 0) e now in omega (arith, h, here)) in
               (word i ne, refl, part i ne);
-          fresh = λ i before now. by_cases i k (slice_index s.words (suc i) ≡ 0) (λ e. ap (λ (x : ℕ). slice_index s.words (suc x)) e ∙ free) (λ ne. absurd (now (else i ne ∙ before)));
+          fresh = λ i before now. by_cases i k (slice_index s.words (latch_word i) ≡ 0) (λ e. ap (λ (x : ℕ). slice_index s.words (latch_word x)) e ∙ free) (λ ne. absurd (now (else i ne ∙ before)));
           free = λ i below held none'. by_cases i k (AtHome M log s.homes i)
-              (λ e. absurd (let h = subst (λ (x : ℕ). slice_index (set s.words (suc k) 1) (suc x) ≡ 0) e none' in omega (arith, h, one)))
+              (λ e. absurd (let h = subst (λ (x : ℕ). slice_index (set s.words (latch_word k) 1) (latch_word x) ≡ 0) e none' in omega (arith, h, one)))
               (λ ne.
               let h : stage v i ≢ 0 = ⊎_elim (λ a. a) (λ a e. a (else i ne ∙ e)) held in
               let x = (old.holds i h).1 in let y = word i ne in absurd (omega (arith, x, y, none')));
@@ -104,8 +104,8 @@ module _ {P E T F : Type 0} (M : Meaning P E T F) (laws : Laws M) where
               let h : stage v i ≢ 0 = ⊎_elim (λ a. a) (λ a e. a (else i ne ∙ e)) held in
               (part i ne ∙ (old.holds i h).2, (λ z. h (sym (else i ne) ∙ z))));
           parts = record {
-            holds = λ i held. by_cases i k ((i < length M.start) × (slice_index (set s.words (suc k) 1) (suc i) ≡ 1) × (cond (eqb i k) id (o.part i) ≡ id))
-                (λ e. subst (λ (x : ℕ). (x < length M.start) × (slice_index (set s.words (suc k) 1) (suc x) ≡ 1) × (cond (eqb x k) id (o.part x) ≡ id)) (sym e) (lt, one, mine))
+            holds = λ i held. by_cases i k ((i < length M.start) × (slice_index (set s.words (latch_word k) 1) (latch_word i) ≡ 1) × (cond (eqb i k) id (o.part i) ≡ id))
+                (λ e. subst (λ (x : ℕ). (x < length M.start) × (slice_index (set s.words (latch_word k) 1) (latch_word x) ≡ 1) × (cond (eqb x k) id (o.part x) ≡ id)) (sym e) (lt, one, mine))
                 (λ ne. let h = old.holds i (λ z. held (else i ne ∙ z)) in (h.0, word i ne ∙ h.1, part i ne ∙ h.2));
             taken = λ i first. by_cases i k (AtHome M log s.homes i) (λ e. subst (AtHome M log s.homes) (sym e) (kept.at_home.free k lt free)) (λ ne. old.taken i (sym (else i ne) ∙ first));
             loaded = λ i two. by_cases i k (Untouched M i (replay M v.log) (since v log))
@@ -123,10 +123,10 @@ module _ {P E T F : Type 0} (M : Meaning P E T F) (laws : Laws M) where
         }
 
     -- A free latch word is taken, and the part with it; one that is taken stays as it is.
-    pub latches : stage v k ≡ 0 → hands_of v ≢ 0 → Allows (Rule M) slots id (v, []) (suc k) (λ n. either (eqb n 0) 1 n) (Latches M v k)
+    pub latches : stage v k ≡ 0 → hands_of v ≢ 0 → Allows (Rule M) slots id (v, []) (latch_word k) (λ n. either (eqb n 0) 1 n) (Latches M v k)
     latches away hand s held deep at fits =
-        let n : ℕ = slice_index s.words (suc k) in
-        let Goal : ℕ → Type 0 = λ m. (w : View E) × (a : Act (Option P)) × Valid s.homes [] a × Rule M (stepped s (suc k) m id [] w a) × Latches M v k n (w, carried_after [] a) in
+        let n : ℕ = slice_index s.words (latch_word k) in
+        let Goal : ℕ → Type 0 = λ m. (w : View E) × (a : Act (Option P)) × Valid s.homes [] a × Rule M (stepped s (latch_word k) m id [] w a) × Latches M v k n (w, carried_after [] a) in
         by_cases n 0 (Goal (either (eqb n 0) 1 n))
         (λ e.
         let b = eq-eqb n 0 e in
@@ -134,7 +134,7 @@ module _ {P E T F : Type 0} (M : Meaning P E T F) (laws : Laws M) where
           staged v k 1,
           keeps,
           tt,
-          (held.0, record { part = (λ (i : ℕ). cond (eqb i k) id (held.1.part i)); number = held.1.number; session = held.1.session }, stirred M laws held.0 held.1 (λ (i : ℕ). cond (eqb i k) id (held.1.part i)) s (set s.words (suc k) 1) s.homes id v (staged v k 1) held.2 at live (taken held.0 held.1 s held.2 at away hand e)),
+          (held.0, record { part = (λ (i : ℕ). cond (eqb i k) id (held.1.part i)); number = held.1.number; session = held.1.session }, stirred M laws held.0 held.1 (λ (i : ℕ). cond (eqb i k) id (held.1.part i)) s (set s.words (latch_word k) 1) s.homes id v (staged v k 1) held.2 at live (taken held.0 held.1 s held.2 at away hand e)),
           (sym (ap (λ (x : Bool). cond x (staged v k 1) v) b), refl),
         ))
         (λ ne.
@@ -143,7 +143,7 @@ module _ {P E T F : Type 0} (M : Meaning P E T F) (laws : Laws M) where
           v,
           keeps,
           tt,
-          (held.0, held.1, subst (λ (ws : List ℕ). HallInvariant M held.0 held.1 record { words = ws; homes = s.homes; views = set s.views id v }) (sym (unset s.words (suc k))) (subst (λ (vs : List (View E)). HallInvariant M held.0 held.1 record { words = s.words; homes = s.homes; views = vs }) (sym (Rattle.atomic_table.proofs.Lists.set_again s.views id v at)) held.2)),
+          (held.0, held.1, subst (λ (ws : List ℕ). HallInvariant M held.0 held.1 record { words = ws; homes = s.homes; views = set s.views id v }) (sym (unset s.words (latch_word k))) (subst (λ (vs : List (View E)). HallInvariant M held.0 held.1 record { words = s.words; homes = s.homes; views = vs }) (sym (Rattle.atomic_table.proofs.Lists.set_again s.views id v at)) held.2)),
           (sym (ap (λ (x : Bool). cond x (staged v k 1) v) b), refl),
         ))
 
@@ -268,7 +268,7 @@ module _ {P E T F : Type 0} (M : Meaning P E T F) (laws : Laws M) where
         )
 
     -- The empty slot of a part in the hand goes out again.
-    pub draws : stage v k ≡ 2 → v.out ≡ 0 → Allows (Rule M) slots id (v, []) (suc k) (λ n. n) (Draws M v k)
+    pub draws : stage v k ≡ 2 → v.out ≡ 0 → Allows (Rule M) slots id (v, []) (latch_word k) (λ n. n) (Draws M v k)
     draws two none_out s held deep at fits =
         let log = held.0 in
         let kept = held.2 in
@@ -279,7 +279,7 @@ module _ {P E T F : Type 0} (M : Meaning P E T F) (laws : Laws M) where
           (
             log,
             held.1,
-            subst (λ (ws : List ℕ). HallInvariant M log held.1 record { words = ws; homes = set s.homes k h; views = set s.views id (drawn v k) }) (sym (unset s.words (suc k)))
+            subst (λ (ws : List ℕ). HallInvariant M log held.1 record { words = ws; homes = set s.homes k h; views = set s.views id (drawn v k) }) (sym (unset s.words (latch_word k)))
                 (stirred M laws log held.1 held.1.part s s.words (set s.homes k h) id v (drawn v k) kept at live
                 (shifting log held.1 s h (suc k) kept at two
                 (λ i first away.
@@ -292,14 +292,14 @@ module _ {P E T F : Type 0} (M : Meaning P E T F) (laws : Laws M) where
 
     -- The part goes home, and its latch is free.
     giving : (p : P) (log : List (Entry E)) (o : Owners) (s : State (Option P) (View E)) → HallInvariant M log o s → get_elem? s.views id ≡ maybe.some v
-        → stage v k ≡ 2 → v.out ≡ suc k → slice_get (replay M v.log) k ≡ Some p → Stirs M log o o.part s (set s.words (suc k) 0) (set s.homes k (maybe.some (Some p))) id v (given v k)
+        → stage v k ≡ 2 → v.out ≡ suc k → slice_get (replay M v.log) k ≡ Some p → Stirs M log o o.part s (set s.words (latch_word k) 0) (set s.homes k (maybe.some (Some p))) id v (given v k)
     giving p log o s kept at two is_out value =
         let h : maybe.Option (Option P) = maybe.some (Some p) in
         let old = kept.at_home.each id v at live in
         let here = stage_here v k 0 room in
-        let wide : suc k < length s.words = let w = kept.at_home.wide in omega (arith, w, lt) in
-        let zero' : slice_index (set s.words (suc k) 0) (suc k) ≡ 0 = get_or-set_same s.words (suc k) 0 0 wide in
-        let word : (i : ℕ) → i ≢ k → slice_index (set s.words (suc k) 0) (suc i) ≡ slice_index s.words (suc i) = λ (i : ℕ) ne. get_or-set_other s.words (suc k) (suc i) 0 0 (λ e. ne (omega (arith, e))) in
+        let wide : latch_word k < length s.words = let w = kept.at_home.wide in omega (arith, w, lt) in
+        let zero' : slice_index (set s.words (latch_word k) 0) (latch_word k) ≡ 0 = get_or-set_same s.words (latch_word k) 0 0 wide in
+        let word : (i : ℕ) → i ≢ k → slice_index (set s.words (latch_word k) 0) (latch_word i) ≡ slice_index s.words (latch_word i) = λ (i : ℕ) ne. get_or-set_other s.words (latch_word k) (latch_word i) 0 0 (λ e. ne (omega (arith, e))) in
         let else : (i : ℕ) → i ≢ k → stage (given v k) i ≡ stage v i = λ (i : ℕ) ne. stage_else v k 0 i ne in
         let home : (i : ℕ) → i ≢ k → get_elem? (set s.homes k h) i ≡ get_elem? s.homes i = λ (i : ℕ) ne. set_else s.homes k i h ne in
         let apart : (i : ℕ) → stage (given v k) i ≢ 0 → i ≢ k = λ (i : ℕ) held e. held (ap (stage (given v k)) e ∙ here) in
@@ -310,8 +310,8 @@ module _ {P E T F : Type 0} (M : Meaning P E T F) (laws : Laws M) where
           before = inl refl;
           live = live;
           seen = inl refl;
-          counted = get_or-set_other s.words (suc k) 0 0 0 (λ e. absurd (omega (arith, e)));
-          wide = length-set s.words (suc k) 0;
+          counted = get_or-set_other s.words (latch_word k) 0 0 0 (λ e. absurd (omega (arith, e)));
+          wide = length-set s.words (latch_word k) 0;
           deep = length-set s.homes k h;
           idle = λ none'. absurd (let z = kept.hands.idle id v at none' k in omega (arith, z, two));
           same = λ i below was is.
@@ -323,7 +323,7 @@ module _ {P E T F : Type 0} (M : Meaning P E T F) (laws : Laws M) where
               (p, (learns log o s id v kept at live).parts k two ∙ value, set_here s.homes k h (in_slots s log o kept)))
               (λ ne. absurd (let x = (old.holds i (before i held)).1 in let y = word i ne in omega (arith, x, y, none')));
           latched = λ i below held some'. by_cases i k ((o.part i ≡ id) × (stage (given v k) i ≢ 0))
-              (λ e. absurd (some' (ap (λ (x : ℕ). slice_index (set s.words (suc k) 0) (suc x)) e ∙ zero')))
+              (λ e. absurd (some' (ap (λ (x : ℕ). slice_index (set s.words (latch_word k) 0) (latch_word x)) e ∙ zero')))
               (λ ne. ((old.holds i (before i held)).2, (λ z. before i held (sym (else i ne) ∙ z))));
           parts = record {
             holds = λ i held. let x = old.holds i (before i (inr held)) in (x.0, word i (apart i held) ∙ x.1, x.2);
@@ -342,13 +342,13 @@ module _ {P E T F : Type 0} (M : Meaning P E T F) (laws : Laws M) where
         }
 
     -- The slot is given home with its part, and the latch is free again.
-    pub gives_back : (p : P) → stage v k ≡ 2 → v.out ≡ suc k → slice_get (replay M v.log) k ≡ Some p → Allows (Rule M) slots id (v, (k, Some p) ∷ []) (suc k) (λ _. 0) (λ _. Gives M v k 0)
+    pub gives_back : (p : P) → stage v k ≡ 2 → v.out ≡ suc k → slice_get (replay M v.log) k ≡ Some p → Allows (Rule M) slots id (v, (k, Some p) ∷ []) (latch_word k) (λ _. 0) (λ _. Gives M v k 0)
     gives_back p two is_out value s held deep at fits =
         let log = held.0 in
         let kept = held.2 in (
           given v k,
           gives,
           tt,
-          (log, held.1, stirred M laws log held.1 held.1.part s (set s.words (suc k) 0) (set s.homes k (maybe.some (Some p))) id v (given v k) kept at live (giving p log held.1 s kept at two is_out value)),
+          (log, held.1, stirred M laws log held.1 held.1.part s (set s.words (latch_word k) 0) (set s.homes k (maybe.some (Some p))) id v (given v k) kept at live (giving p log held.1 s kept at two is_out value)),
           (refl, refl),
         )

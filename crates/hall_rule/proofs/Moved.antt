@@ -6,7 +6,7 @@ use lib.ListN.{get_elem?}
 use Rattle.atomic_table.specs.Table.{State}
 use Rattle.atomic_table.proofs.Lists.{at_set, set_here, set_else}
 use Rattle.hall_rule.specs.EventLog.{Distinct, LawfulFrom, MadeBelow, NamesOnly, Spares, Tied, Untouched, has, own, replay, replay_from}
-use Rattle.hall_rule.specs.HallInvariant.{AtHome, GoesOn, HallInvariant, Hands, HoldsParts, LastingFacts, LawfulLog, OneLog, Owners, OwnsSessions, PartsAtHome, SeesLog, entries_of, hands_of, since, stage}
+use Rattle.hall_rule.specs.HallInvariant.{AtHome, GoesOn, HallInvariant, Hands, HoldsParts, LastingFacts, LawfulLog, OneLog, Owners, OwnsSessions, PartsAtHome, SeesLog, entries_of, hands_of, latch_word, since, stage}
 use Rattle.hall_rule.specs.Meaning.{Laws, Meaning}
 use Rattle.hall_rule.specs.declared.view.Entry.{Entry}
 use Rattle.hall_rule.specs.declared.view.View.{View}
@@ -49,12 +49,12 @@ module _ {P E T F : Type 0} (M : Meaning P E T F) where
     pub deep : length homes ≡ length s.homes
     pub idle : hands_of v ≡ 0 → (k : ℕ) → stage w k ≡ 0
     -- a part that is held neither before nor after stays as it is
-    pub same : (k : ℕ) → k < length M.start → stage v k ≡ 0 → stage w k ≡ 0 → (slice_index words (suc k) ≡ slice_index s.words (suc k)) × (get_elem? homes k ≡ get_elem? s.homes k) × (part k ≡ o.part k)
+    pub same : (k : ℕ) → k < length M.start → stage v k ≡ 0 → stage w k ≡ 0 → (slice_index words (latch_word k) ≡ slice_index s.words (latch_word k)) × (get_elem? homes k ≡ get_elem? s.homes k) × (part k ≡ o.part k)
     -- a part is taken only where its latch is free
-    pub fresh : (k : ℕ) → stage v k ≡ 0 → stage w k ≢ 0 → slice_index s.words (suc k) ≡ 0
+    pub fresh : (k : ℕ) → stage v k ≡ 0 → stage w k ≢ 0 → slice_index s.words (latch_word k) ≡ 0
     pub untouched : (k : ℕ) → stage v k ≡ 0 → Untouched M k (replay M log) more
-    pub free : (k : ℕ) → k < length M.start → (stage v k ≢ 0) ⊎ (stage w k ≢ 0) → slice_index words (suc k) ≡ 0 → AtHome M (log ++ more) homes k
-    pub latched : (k : ℕ) → k < length M.start → (stage v k ≢ 0) ⊎ (stage w k ≢ 0) → slice_index words (suc k) ≢ 0 → (part k ≡ id) × (stage w k ≢ 0)
+    pub free : (k : ℕ) → k < length M.start → (stage v k ≢ 0) ⊎ (stage w k ≢ 0) → slice_index words (latch_word k) ≡ 0 → AtHome M (log ++ more) homes k
+    pub latched : (k : ℕ) → k < length M.start → (stage v k ≢ 0) ⊎ (stage w k ≢ 0) → slice_index words (latch_word k) ≢ 0 → (part k ≡ id) × (stage w k ≢ 0)
     pub parts : HoldsParts M (log ++ more) part words homes id w
 
   -- What a view has learned is what a later log leaves.
@@ -150,7 +150,7 @@ module _ {P E T F : Type 0} (M : Meaning P E T F) where
         not_after k held = by_cases (stage w k) 0 (stage w k ≡ 0) (λ e. e)
             (λ mine. let zero' = m.fresh k (not_before k held) mine in let one = ((kept.at_home.each j u there alive).holds k held).1 in absurd (omega (arith, zero', one)))
 
-        stays : (k : ℕ) → stage u k ≢ 0 → (slice_index words (suc k) ≡ slice_index s.words (suc k)) × (get_elem? homes k ≡ get_elem? s.homes k) × (part k ≡ o.part k)
+        stays : (k : ℕ) → stage u k ≢ 0 → (slice_index words (latch_word k) ≡ slice_index s.words (latch_word k)) × (get_elem? homes k ≡ get_elem? s.homes k) × (part k ≡ o.part k)
         stays k held = m.same k ((kept.at_home.each j u there alive).holds k held).0 (not_before k held) (not_after k held)
 
         -- what another pass holds stays held and in place
@@ -207,7 +207,7 @@ module _ {P E T F : Type 0} (M : Meaning P E T F) where
             each = each_set s.views id w (SeesLog M log o.number (length s.views)) (SeesLog M (log ++ more) o.number (length (set s.views id w))) kept.one_log.each (λ j u else there alive _. other_log j u else there alive) (λ _. own_log);
           }
 
-      free : (k : ℕ) → k < length M.start → slice_index words (suc k) ≡ 0 → AtHome M (log ++ more) homes k
+      free : (k : ℕ) → k < length M.start → slice_index words (latch_word k) ≡ 0 → AtHome M (log ++ more) homes k
       free k lt zero' = by_cases (stage v k) 0 (AtHome M (log ++ more) homes k)
           (λ before. by_cases (stage w k) 0 (AtHome M (log ++ more) homes k)
           (λ now.
@@ -226,7 +226,7 @@ module _ {P E T F : Type 0} (M : Meaning P E T F) where
       held_here : (k : ℕ) → part k ≡ id → stage w k ≢ 0 → Holder k
       held_here k e held = (w, subst (λ i. get_elem? (set s.views id w) i ≡ maybe.some w) (sym e) (set_here s.views id w (at_below s.views id v at)), m.live, held)
 
-      latched : (k : ℕ) → k < length M.start → slice_index words (suc k) ≢ 0 → Holder k
+      latched : (k : ℕ) → k < length M.start → slice_index words (latch_word k) ≢ 0 → Holder k
       latched k lt taken = by_cases (stage v k) 0 (Holder k)
           (λ before. by_cases (stage w k) 0 (Holder k)
           (λ now.

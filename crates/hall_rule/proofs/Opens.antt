@@ -5,7 +5,7 @@ use mathlib.Core.Option as maybe
 use lib.ListN.{get_elem?}
 use Rattle.atomic_table.specs.Table.{State, opening}
 use Rattle.hall_rule.specs.EventLog.{Distinct, has, replay}
-use Rattle.hall_rule.specs.HallInvariant.{HallInvariant, HoldsParts, Owners, OwnsSessions, Rule, SeesLog, entries_of, hands_of, stage}
+use Rattle.hall_rule.specs.HallInvariant.{HallInvariant, HoldsParts, Owners, OwnsSessions, Rule, SeesLog, entries_of, hands_of, latch_word, stage}
 use Rattle.hall_rule.specs.Hands.{all_in}
 use Rattle.hall_rule.specs.Meaning.{Meaning}
 use Rattle.hall_rule.specs.Opening.{first_view, sessions_to}
@@ -55,7 +55,7 @@ sessions_to-distinct zero = tt
 sessions_to-distinct (suc n) = distinct_append (sessions_to n) (suc n ∷ []) (sessions_to-distinct n) (refl, tt) (λ q a b. ⊎_elim (λ e. absurd (let r = below_to n q a in omega (arith, r, e))) (λ z. true≢false (sym z)) (has_cons q (suc n) [] b))
 
 module _ {P E T F : Type 0} (M : Meaning P E T F) (begins : M.sound M.start) (some' : 1 ≤ M.passes) (limit : M.passes ≤ 128)
-    (words : List ℕ) (wide : length words ≡ suc (length M.start + M.blocks)) (zero' : (k : ℕ) → slice_index words k ≡ 0) where
+    (words : List ℕ) (wide : length words ≡ latch_word (length M.start + M.blocks)) (zero' : (k : ℕ) → slice_index words k ≡ 0) where
   -- The table that the hall begins with: all parts in it, and the first view.
   abbrev at_first : State (Option P) (View E)
   at_first = opening words (all_in M.start) (first_view M.start M.passes)
@@ -92,7 +92,7 @@ module _ {P E T F : Type 0} (M : Meaning P E T F) (begins : M.sound M.start) (so
       wide = wide;
       deep = map-length maybe.some (all_in M.start) ∙ map-length Some M.start;
       free = λ k lt none'. in_all M.start k lt;
-      latched = λ k lt taken. absurd (taken (zero' (suc k)));
+      latched = λ k lt taken. absurd (taken (zero' (latch_word k)));
       each = λ j v there live. alone (HoldsParts M [] owners.part words (map maybe.some (all_in M.start))) (record {
         holds = λ k held. absurd (held (none_held k));
         taken = λ k one. absurd (let z = none_held k in omega (arith, z, one));

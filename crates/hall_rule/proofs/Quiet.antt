@@ -5,7 +5,7 @@ use mathlib.Core.Option as maybe
 use lib.ListN.{get_elem?}
 use Rattle.atomic_table.specs.Table.{State}
 use Rattle.hall_rule.specs.EventLog.{LawfulFrom, Spares, has, own}
-use Rattle.hall_rule.specs.HallInvariant.{AtHome, GoesOn, HallInvariant, HoldsParts, Owners, OwnsSessions, hands_of, since, stage}
+use Rattle.hall_rule.specs.HallInvariant.{AtHome, GoesOn, HallInvariant, HoldsParts, Owners, OwnsSessions, hands_of, latch_word, since, stage}
 use Rattle.hall_rule.specs.Meaning.{Laws, Meaning}
 use Rattle.hall_rule.specs.declared.view.Entry.{Entry}
 use Rattle.hall_rule.specs.declared.view.View.{View}
@@ -27,10 +27,10 @@ module _ {P E T F : Type 0} (M : Meaning P E T F) where
     pub wide : length words ≡ length s.words
     pub deep : length homes ≡ length s.homes
     pub idle : hands_of v ≡ 0 → (k : ℕ) → stage w k ≡ 0
-    pub same : (k : ℕ) → k < length M.start → stage v k ≡ 0 → stage w k ≡ 0 → (slice_index words (suc k) ≡ slice_index s.words (suc k)) × (get_elem? homes k ≡ get_elem? s.homes k) × (part k ≡ o.part k)
-    pub fresh : (k : ℕ) → stage v k ≡ 0 → stage w k ≢ 0 → slice_index s.words (suc k) ≡ 0
-    pub free : (k : ℕ) → k < length M.start → (stage v k ≢ 0) ⊎ (stage w k ≢ 0) → slice_index words (suc k) ≡ 0 → AtHome M log homes k
-    pub latched : (k : ℕ) → k < length M.start → (stage v k ≢ 0) ⊎ (stage w k ≢ 0) → slice_index words (suc k) ≢ 0 → (part k ≡ id) × (stage w k ≢ 0)
+    pub same : (k : ℕ) → k < length M.start → stage v k ≡ 0 → stage w k ≡ 0 → (slice_index words (latch_word k) ≡ slice_index s.words (latch_word k)) × (get_elem? homes k ≡ get_elem? s.homes k) × (part k ≡ o.part k)
+    pub fresh : (k : ℕ) → stage v k ≡ 0 → stage w k ≢ 0 → slice_index s.words (latch_word k) ≡ 0
+    pub free : (k : ℕ) → k < length M.start → (stage v k ≢ 0) ⊎ (stage w k ≢ 0) → slice_index words (latch_word k) ≡ 0 → AtHome M log homes k
+    pub latched : (k : ℕ) → k < length M.start → (stage v k ≢ 0) ⊎ (stage w k ≢ 0) → slice_index words (latch_word k) ≢ 0 → (part k ≡ id) × (stage w k ≢ 0)
     pub parts : HoldsParts M log part words homes id w
 
   module _ (laws : Laws M) (log : List (Entry E)) (o : Owners) (part : ℕ → ℕ) (s : State (Option P) (View E)) (words : List ℕ) (homes : Homes M) (id : ℕ) (v w : View E)

@@ -6,7 +6,7 @@ use lib.ListN.{get_elem?}
 use Rattle.atomic_table.specs.Table.{Splits, State}
 use Rattle.atomic_table.proofs.Lists.{at_longer, at_set, set_else, set_here}
 use Rattle.hall_rule.specs.EventLog.{Distinct, MadeBelow, has, is_unnamed, own, replay}
-use Rattle.hall_rule.specs.HallInvariant.{EachLive, HallInvariant, HoldsParts, Owners, OwnsSessions, Rule, SeesLog, entries_of, hands_of, since, stage}
+use Rattle.hall_rule.specs.HallInvariant.{EachLive, HallInvariant, HoldsParts, Owners, OwnsSessions, Rule, SeesLog, entries_of, hands_of, latch_word, since, stage}
 use Rattle.hall_rule.specs.Meaning.{Meaning}
 use Rattle.hall_rule.specs.Views.{dealt, greatest, newcomer, without}
 use Rattle.hall_rule.specs.declared.view.Entry.{Entry}
@@ -116,7 +116,7 @@ module _ {P E T F : Type 0} (M : Meaning P E T F) (log : List (Entry E)) (o : Ow
   parts = kept.at_home.each id v at live
 
   -- A part whose latch is taken is held by a live view after the split too.
-  latched : (k : ℕ) → k < length M.start → slice_index s.words (suc k) ≢ 0 → (u : View E) × (get_elem? views (o.part k) ≡ maybe.some u) × (u.spent ≡ false) × (stage u k ≢ 0)
+  latched : (k : ℕ) → k < length M.start → slice_index s.words (latch_word k) ≢ 0 → (u : View E) × (get_elem? views (o.part k) ≡ maybe.some u) × (u.spent ≡ false) × (stage u k ≢ 0)
   latched k lt taken =
       let h = kept.at_home.latched k lt taken in
       by_cases (o.part k) id ((u : View E) × (get_elem? views (o.part k) ≡ maybe.some u) × (u.spent ≡ false) × (stage u k ≢ 0))

@@ -19,6 +19,11 @@ pub record Owners : Type 0 where
   pub number : ℕ → ℕ
   pub session : ℕ → ℕ
 
+-- The word of a part's latch. Latches lie eight words apart from each other and from the event
+-- word, so that no two lie in one line of a processor's cache.
+abbrev pub latch_word : ℕ → ℕ
+latch_word k = 8 * k + 8
+
 module _ {E : Type 0} where
   -- The entries that the view has not seen.
   abbrev pub since : View E → List (Entry E) → List (Entry E)
@@ -77,8 +82,8 @@ module _ {P E T F : Type 0} (M : Meaning P E T F) (log : List (Entry E)) where
   -- has not seen changes it, nor one since the last call that changed the hand; and its value is in
   -- the hand, or out on the way there or back.
   pub record HoldsParts (part : ℕ → ℕ) (words : List ℕ) (homes : List (maybe.Option (Option P))) (j : ℕ) (v : View E) : Type 0 where
-    pub holds : (k : ℕ) → stage v k ≢ 0 → (k < length M.start) × (slice_index words (suc k) ≡ 1)
-        × (part k ≡ j)
+    pub holds : (k : ℕ) → stage v k ≢ 0 → (k < length M.start)
+        × (slice_index words (latch_word k) ≡ 1) × (part k ≡ j)
     pub taken : (k : ℕ) → stage v k ≡ 1 → AtHome homes k
     pub loaded : (k : ℕ) → stage v k ≡ 2 → Untouched M k (replay M v.log) (since v log)
     pub kept : (k : ℕ) → stage v k ≡ 2
@@ -90,11 +95,13 @@ module _ {P E T F : Type 0} (M : Meaning P E T F) (log : List (Entry E)) where
 
   -- A part whose latch is free is at home, and one whose latch is taken is held by one view.
   pub record PartsAtHome (owners : Owners) (s : State (Option P) (View E)) : Type 0 where
-    pub wide : length s.words ≡ suc (length M.start + M.blocks)
+    pub wide : length s.words ≡ latch_word (length M.start + M.blocks)
     pub deep : length s.homes ≡ length M.start
-    pub free : (k : ℕ) → k < length M.start → slice_index s.words (suc k) ≡ 0 → AtHome s.homes k
-    pub latched : (k : ℕ) → k < length M.start → slice_index s.words (suc k) ≢ 0 → (v : View E)
-        × (get_elem? s.views (owners.part k) ≡ maybe.some v) × (v.spent ≡ false) × (stage v k ≢ 0)
+    pub free : (k : ℕ) → k < length M.start → slice_index s.words (latch_word k) ≡ 0
+        → AtHome s.homes k
+    pub latched : (k : ℕ) → k < length M.start → slice_index s.words (latch_word k) ≢ 0
+        → (v : View E) × (get_elem? s.views (owners.part k) ≡ maybe.some v)
+        × (v.spent ≡ false) × (stage v k ≢ 0)
     pub each : EachLive (HoldsParts owners.part s.words s.homes) s.views
 
   -- No other view has a session of the view's, no entry that it has not seen is of one, and the

@@ -1,11 +1,11 @@
 -- What a pass is to its hall, and what the calls tell.
-use Rattle.std.specs.Prelude.{◌≡◌, ℕ, suc, ◌+◌, ◌*◌, ◌^◌, ◌<◌, ◌≤◌, true, false, List, [], ◌∷◌}
+use Rattle.std.specs.Prelude.{◌≡◌, ℕ, ◌+◌, ◌*◌, ◌^◌, ◌<◌, ◌≤◌, true, false, List, [], ◌∷◌}
 use Rattle.std.specs.Prelude.{◌++◌, Option, Some, length, slice_get}
 use Rattle.atomic_table.specs.Seated.{TableId}
 use Rattle.atomic_table.specs.Table.{Me}
 use Rattle.atomic_table.specs.declared.shared.Seat.{Seat}
 use Rattle.hall_rule.specs.EventLog.{Distinct, LawfulFrom, Tied, has, own, replay}
-use Rattle.hall_rule.specs.HallInvariant.{GoesOn, hands_of, stage}
+use Rattle.hall_rule.specs.HallInvariant.{GoesOn, hands_of, latch_word, stage}
 use Rattle.hall_rule.specs.Hands.{Holds}
 use Rattle.hall_rule.specs.Meaning.{Meaning, meaning}
 use Rattle.hall_rule.specs.declared.parts.Parts.{Ghosts}
@@ -48,7 +48,7 @@ means core_type hall = meaning core_type hall.core hall.passes
 module _ {P E T F : Type 0} (M : Meaning P E T F) where
   -- The event word, a latch word for each part and the block words; and a slot for each part.
   pub record IsSized (z : TableId) : Type 0 where
-    pub words : z.words ≡ suc (length M.start + M.blocks)
+    pub words : z.words ≡ latch_word (length M.start + M.blocks)
     pub slots : z.slots ≡ length M.start
 
   -- A seat of the table z that was not joined into another, which can step on the part k.

@@ -1,7 +1,7 @@
 //! Taking a part and giving it back.
 ghost use Rattle.std.specs.Prelude.{◌≡◌, ◌≢◌, ℕ, ◌+◌, ◌<◌, ◌==◌, List, [], ◌∷◌, ◌++◌, None, Some};
 ghost use Rattle.std.specs.Prelude.{cond, length, slice_get, slice_set};
-ghost use Rattle.hall_rule.specs.HallInvariant.{hands_of, stage};
+ghost use Rattle.hall_rule.specs.HallInvariant.{hands_of, latch_word, stage};
 ghost use Rattle.hall_rule.specs.EventLog.{replay};
 ghost use Rattle.hall_rule.specs.Hands.{Holds};
 ghost use Rattle.hall_rule.specs.declared.view.Entry.{Entry};
@@ -9,7 +9,7 @@ ghost use Rattle.hall_rule.specs.Meaning.{planned};
 ghost use Rattle.hall_rule.specs.Views.{Learned, Loads, drawn, given, homed, loaded, staged};
 ghost use Rattle.hall_steps.specs.Hall.{IsAt, IsOf, IsSameSeat, IsSized, Looks};
 
-use crate::telling::{Board, Place, free_as, latch_as, load_as};
+use crate::telling::{Board, Place, free_as, latch_as, latch_word, load_as};
 use hall_rule::{Hand, Parts};
 use std::hint::spin_loop;
 use std::marker::Brand;
@@ -41,9 +41,9 @@ fn try_latch<C: Parts>(board: &Board<C>, seat: &mut Place<C>, part: u32) -> bool
 
 /// Whether the latch of a part was free a moment ago, as far as a look at its word tells.
 fn looks_free<C: Parts>(board: &Board<C>, part: u32) -> bool
-    requires { part + 1 < board.now.table_id.words }
+    requires { latch_word part < board.now.table_id.words }
 {
-    board.peek(part as usize + 1) == 0
+    board.peek(latch_word(part)) == 0
 }
 
 /// Waits a little, without sleeping.
@@ -105,7 +105,7 @@ fn wait_latch<C: Parts, R: Wait>(rt: &R, board: &Board<C>, seat: &mut Place<C>, 
         if try_latch(board, seat, part) {
             return;
         }
-        board.park(rt, part as usize + 1, 1);
+        board.park(rt, latch_word(part), 1);
     }
     unreachable!()
 }
@@ -168,7 +168,7 @@ fn draw<C: Parts>(board: &Board<C>, seat: &mut Place<C>, part: u32)
     ensures seat { IsSameSeat seat.old seat.new }
     ensures out { seat.new.me ≡ (drawn seat.old.me.0 part, (part, None) ∷ []) }
 {
-    load_as::<C, Brand>(board, seat, part as usize + 1, part);
+    load_as::<C, Brand>(board, seat, latch_word(part), part);
 }
 
 /// Gives the slot of a part home, with the part in it, and frees its latch.
@@ -269,6 +269,6 @@ pub(crate) fn give_from<C: Parts>(
         None => unreachable!(),
     }
     if waiting[part as usize].load(Ordering::SeqCst) > 0 {
-        board.wake_one(part as usize + 1);
+        board.wake_one(latch_word(part));
     }
 }

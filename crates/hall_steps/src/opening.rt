@@ -8,6 +8,7 @@ ghost use Rattle.hall_steps.specs.Hall.{EachHand, IsPass, first_of};
 
 use crate::hall::{Hall, Pass};
 use crate::hands::Hands;
+use crate::telling::latch_word;
 use atomic_table::Table;
 use hall_rule::{Hand, Parts, Plan};
 use std::alloc::{AllocError, Global};
@@ -72,7 +73,8 @@ impl<C: Parts> Hall<C> {
             → C.transaction (C.shape_of core)
             (replay (meaning C.Parts core passes) r.1.seat.me.0.log) q ≡ None) }
     {
-        let parts = core.parts() as usize;
+        let count = core.parts();
+        let parts = count as usize;
         let plan = Plan {
             core: Snapshot::of(&core),
             passes,
@@ -80,7 +82,7 @@ impl<C: Parts> Hall<C> {
         let (shape, all) = core.into_parts()?;
         let waiting = counts(alloc, parts)?;
         let hands = empty_hands(alloc, passes, parts)?;
-        let words = zeros(alloc, parts + 1)?;
+        let words = zeros(alloc, latch_word(count))?;
         let Ok((table, seat)) = Table::new(alloc, words.as_slice(), all.into_places(), &plan) else {
             return Err(AllocError);
         };

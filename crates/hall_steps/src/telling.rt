@@ -4,7 +4,7 @@ ghost use Rattle.std.specs.Prelude.{◌≡◌, ℕ, [], ◌∷◌, ◌+◌, ◌<
 ghost use mathlib.Core.Option.{none};
 ghost use prog.Atomic.{either};
 ghost use Rattle.atomic_table.specs.Table.{Allows, Joins, Me, Step, step};
-ghost use Rattle.hall_rule.specs.HallInvariant.{Rule};
+ghost use Rattle.hall_rule.specs.HallInvariant.{Rule, latch_word};
 ghost use Rattle.hall_rule.specs.Meaning.{planned};
 ghost use Rattle.hall_rule.specs.Views.{dealt, greatest, newcomer, spent_view};
 
@@ -23,6 +23,17 @@ pub(crate) type Board<C> = Shared<
 
 /// A pass's seat at them.
 pub(crate) type Place<C> = Seat<Option<<C as Parts>::Part>, View<<C as Parts>::Event>>;
+
+/// How many words a latch has for itself: a line of the processors' caches, so that who takes it
+/// does not wait for who took its neighbour.
+const APART: usize = 8;
+
+/// The word of a part's latch.
+pub(crate) fn latch_word(part: u32) -> usize
+    ensures { result ≡ latch_word part }
+{
+    APART * part as usize + APART
+}
 
 /// What a step tells. A call picks it.
 pub trait Telling<S, V> {
@@ -109,16 +120,16 @@ pub(crate) fn latch_as<C: Parts, D: Telling<Option<C::Part>, View<C::Event>>>(
     part: u32,
 ) -> u64
     requires table { seat.old.table_id ≡ board.now.table_id }
-    requires words { part + 1 < board.now.table_id.words }
+    requires words { latch_word part < board.now.table_id.words }
     requires keeps { Allows (Rule (planned C.Parts board.now.key)) board.now.table_id.slots
-        seat.old.id seat.old.me (part + 1) (λ n. either (n == 0) 1 n)
-        (D.tells (step board.now.table_id.slots (part + 1) 0 1 none) seat.old.me) }
+        seat.old.id seat.old.me (latch_word part) (λ n. either (n == 0) 1 n)
+        (D.tells (step board.now.table_id.slots (latch_word part) 0 1 none) seat.old.me) }
     ensures table { seat.new.table_id ≡ seat.old.table_id }
     ensures id { seat.new.id ≡ seat.old.id }
-    ensures told { D.tells (step board.now.table_id.slots (part + 1) 0 1 none) seat.old.me result
-        seat.new.me }
+    ensures told { D.tells (step board.now.table_id.slots (latch_word part) 0 1 none) seat.old.me
+        result seat.new.me }
 {
-    board.compare_exchange::<Told<D>>(seat, part as usize + 1, 0, 1)
+    board.compare_exchange::<Told<D>>(seat, latch_word(part), 0, 1)
 }
 
 /// Frees the latch of a part.
@@ -128,16 +139,16 @@ pub(crate) fn free_as<C: Parts, D: Telling<Option<C::Part>, View<C::Event>>>(
     part: u32,
 )
     requires table { seat.old.table_id ≡ board.now.table_id }
-    requires words { part + 1 < board.now.table_id.words }
+    requires words { latch_word part < board.now.table_id.words }
     requires keeps { Allows (Rule (planned C.Parts board.now.key)) board.now.table_id.slots
-        seat.old.id seat.old.me (part + 1) (λ _. 0)
-        (λ _. D.tells (step board.now.table_id.slots (part + 1) 0 0 none) seat.old.me 0) }
+        seat.old.id seat.old.me (latch_word part) (λ _. 0)
+        (λ _. D.tells (step board.now.table_id.slots (latch_word part) 0 0 none) seat.old.me 0) }
     ensures table { seat.new.table_id ≡ seat.old.table_id }
     ensures id { seat.new.id ≡ seat.old.id }
-    ensures told { D.tells (step board.now.table_id.slots (part + 1) 0 0 none) seat.old.me 0
+    ensures told { D.tells (step board.now.table_id.slots (latch_word part) 0 0 none) seat.old.me 0
         seat.new.me }
 {
-    board.store::<Told<D>>(seat, part as usize + 1, 0);
+    board.store::<Told<D>>(seat, latch_word(part), 0);
 }
 
 /// Counts an event. The event and its reply are what the step is about.

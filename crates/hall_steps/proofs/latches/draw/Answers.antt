@@ -1,4 +1,3 @@
-use Rattle.std.proofs.Common.{add-one}
 use Rattle.hall_rule.specs.Meaning.{meaning}
 use Rattle.hall_rule.proofs.Latches.{draws}
 use Rattle.hall_rule.proofs.OfParts.{laws_of}
@@ -12,7 +11,7 @@ load_as-requires-clause-keeps g c κs within =
     let M = meaning g.C.Parts key.core.value key.passes in
     let v = c.args.seat.now.me.0 in
     let r = c.requires in
-    rw (r.none_out, add-one) (draws M laws c.args.board.now.table_id.slots c.args.seat.now.id v c.args.part r.at.live r.at.below r.at.room r.held.0 r.held.1)
+    rw (r.none_out, c.latch_word.ensures) (draws M laws c.args.board.now.table_id.slots c.args.seat.now.id v c.args.part r.at.live r.at.below r.at.room r.held.0 r.held.1)
 
 pub returns-clause-out : goal.returns-clause-out
 returns-clause-out g c = let t = c.load_as.ensures.told.1 in λ i. (t.0 i, t.1 i)

@@ -12,7 +12,7 @@ free_as-requires-clause-keeps g c κs within =
     let M = meaning g.C.Parts key.core.value key.passes in
     let v = c.args.seat.now.me.0 in
     let r = c.requires in
-    rw (r.value.1, add-one) (gives_back M laws c.args.board.now.table_id.slots c.args.seat.now.id v c.args.part r.at.live r.at.below r.at.room r.value.0 r.held.0 (r.held.1 ∙ add-one c.args.part) r.value.2)
+    rw (r.value.1) (gives_back M laws c.args.board.now.table_id.slots c.args.seat.now.id v c.args.part r.at.live r.at.below r.at.room r.value.0 r.held.0 (r.held.1 ∙ add-one c.args.part) r.value.2)
 
 pub returns-clause-given : goal.returns-clause-given
 returns-clause-given g c = let t = c.free_as.ensures.told in λ i. (t.0 i, t.1 i)

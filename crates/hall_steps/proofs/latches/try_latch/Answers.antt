@@ -1,4 +1,3 @@
-use Rattle.std.proofs.Common.{add-one}
 use Rattle.hall_rule.specs.Meaning.{meaning}
 use Rattle.hall_rule.proofs.Latches.{latches}
 use Rattle.hall_rule.proofs.OfParts.{laws_of}
@@ -12,7 +11,7 @@ latch_as-requires-clause-keeps g c κs within =
     let M = meaning g.C.Parts key.core.value key.passes in
     let v = c.args.seat.now.me.0 in
     let r = c.requires in
-    rw (r.none_out, add-one) (latches M laws c.args.board.now.table_id.slots c.args.seat.now.id v c.args.part r.at.live r.at.below r.at.room r.away r.hand)
+    rw (r.none_out) (latches M laws c.args.board.now.table_id.slots c.args.seat.now.id v c.args.part r.at.live r.at.below r.at.room r.away r.hand)
 
 pub returns-clause-taken : goal.returns-clause-taken
 returns-clause-taken g c = let t = c.latch_as.ensures.told in λ i. (t.0 i, t.1 i)
