@@ -1,4 +1,5 @@
 pub mod Alone
+pub mod AtDesk
 pub mod BlockReads
 pub mod Calls
 pub mod Changed

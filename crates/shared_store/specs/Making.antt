@@ -6,9 +6,9 @@ use Rattle.engine_core.specs.Costs.{cost_of}
 use Rattle.event_spec.specs.declared.own.OwnTransaction.{OwnTransaction}
 use Rattle.event_spec.specs.Effects.{CoreEvent}
 use Rattle.event_spec.specs.Lawful.{FitsIn, IsOldest, Stands, takes_memory}
-use Rattle.event_spec.specs.Parts.{Parts, Shape, desk_at}
+use Rattle.event_spec.specs.Parts.{CorePart, Name, Parts, Shape, TheDesk, desk_at}
 use Rattle.event_spec.specs.Replies.{CoreReply, reply_to}
-use Rattle.event_spec.specs.Touched.{touching}
+use Rattle.event_spec.specs.Touched.{touched, touching}
 use Rattle.frame_laws.specs.Shards.{CoreHolds}
 use Rattle.hall_rule.specs.EventLog.{replay}
 use Rattle.hall_rule.specs.Hands.{Agrees, Covers, SameRoom}
@@ -121,6 +121,11 @@ GivesAny store old hands new later = (session : ℕ) (own : Option OwnTransactio
     → IsWithin store session old hands own → Gives store session old new later own
 
 -- ---- an event, with its parts
+
+-- Whatever is held, the event touches the desk.
+abbrev pub IsAtDesk : Shape → CoreEvent → Type 0
+IsAtDesk shape event = (held : Name → Option CorePart)
+    → touched shape held event TheDesk ≡ true
 
 -- the event fits each core in which a stamp is left
 abbrev pub FitsEach : Shape → CoreEvent → Type 0

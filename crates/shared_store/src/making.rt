@@ -5,7 +5,7 @@ ghost use Rattle.event_spec.specs.Touched.{touching};
 ghost use Rattle.hall_rule.specs.Hands.{Holds};
 ghost use Rattle.hall_steps.specs.Hall.{first_of};
 ghost use Rattle.shared_store.specs.Alone.{HoldsAlone, IsOnBody, TakesBody};
-ghost use Rattle.shared_store.specs.Making.{GivesAny, MakesAny, MakesAnyHeld, MayMake};
+ghost use Rattle.shared_store.specs.Making.{GivesAny, IsAtDesk, MakesAny, MakesAnyHeld, MayMake};
 ghost use Rattle.shared_store.specs.Making.{MayMakeHeld, ReadsFew, TakesAny};
 ghost use Rattle.shared_store.specs.Store.{IsAnyAt, IsAnyWithin, shape_in};
 
@@ -135,6 +135,28 @@ impl Store {
             pass.old.seat pass.old.hands pass.new.seat pass.new.hands event result }
     {
         self.make_by::<R, Brand>(rt, pass, event, Blank::new(1))
+    }
+
+    /// Makes an event that touches the desk, of a pass that holds no part. The desk goes back
+    /// before the other parts, since every transaction comes to it, when it begins and when it
+    /// ends.
+    pub(crate) fn make_at_desk<R: Wait>(
+        &self,
+        rt: &R,
+        pass: &mut Pass<Core>,
+        event: KeyedEvent,
+    ) -> CoreReply
+        requires may { MayMake self.now pass.old.seat pass.old.hands event }
+        requires desk { IsAtDesk (shape_in self.now) event }
+        ensures { MakesAny self.now
+            pass.old.seat pass.old.hands pass.new.seat pass.new.hands event result }
+    {
+        let desk = self.hall.shape().desk();
+        self.take_for(rt, pass, &event);
+        let reply = self.make_on(pass, event);
+        self.give_part(pass, desk);
+        self.give_back(pass);
+        reply
     }
 
     /// Takes the body of a block, for a pass that holds no part, and tells its number.

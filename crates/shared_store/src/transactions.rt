@@ -35,7 +35,7 @@ impl Store {
         let event = KeyedEvent::new(Event::Begin {
             session: session.session,
         });
-        let Reply::Begun(snapshot) = self.make(rt, &mut session.pass, event) else {
+        let Reply::Begun(snapshot) = self.make_at_desk(rt, &mut session.pass, event) else {
             unreachable!()
         };
         session.writes.clear(rt);
@@ -56,7 +56,7 @@ impl Store {
     {
         let own = session.own_all(rt);
         let event = KeyedEvent::ending(self.shape().alloc(), Event::Commit { own });
-        let Reply::Committed(number) = self.make(rt, &mut session.pass, event) else {
+        let Reply::Committed(number) = self.make_at_desk(rt, &mut session.pass, event) else {
             unreachable!()
         };
         session.snapshot = None;
@@ -74,7 +74,7 @@ impl Store {
     {
         let own = session.own_all(rt);
         let event = KeyedEvent::ending(self.shape().alloc(), Event::Abort { own });
-        let Reply::Aborted = self.make(rt, &mut session.pass, event) else {
+        let Reply::Aborted = self.make_at_desk(rt, &mut session.pass, event) else {
             unreachable!()
         };
         session.snapshot = None;

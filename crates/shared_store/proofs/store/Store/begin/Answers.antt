@@ -19,19 +19,19 @@ pub unreachable-requires : goal.unreachable-requires
 unreachable-requires g c =
     let s = c.args.session.now in
     let mine : IsOfSession s.session c.new-event.result = inl (ap session_of c.new-event.ensures) in
-    let m = subst (λ (e : CoreEvent). Makes c.args.self.now s.session s.pass.seat c.make.new.pass.seat c.make.new.pass.hands (own_of s) e c.make.result) c.new-event.ensures
-    (c.make.ensures s.session (own_of s) c.requires.session.stands mine) in
-    c.in_default.not-Begun _ (told_always c.args.self.now s.session s.pass.seat c.make.new.pass.seat c.make.new.pass.hands (own_of s) (event.Begin s.session) c.make.result m refl)
+    let m = subst (λ (e : CoreEvent). Makes c.args.self.now s.session s.pass.seat c.make_at_desk.new.pass.seat c.make_at_desk.new.pass.hands (own_of s) e c.make_at_desk.result) c.new-event.ensures
+    (c.make_at_desk.ensures s.session (own_of s) c.requires.session.stands mine) in
+    c.in_default.not-Begun _ (told_always c.args.self.now s.session s.pass.seat c.make_at_desk.new.pass.seat c.make_at_desk.new.pass.hands (own_of s) (event.Begin s.session) c.make_at_desk.result m refl)
 
 pub returns-clause-session : goal.returns-clause-session
 returns-clause-session g c =
     let s = c.args.session.now in
     let none' = none_open s (sym c.is_some.ensures ∙ c.if-is_some.false) in
     let mine : IsOfSession s.session c.new-event.result = inl (ap session_of c.new-event.ensures) in
-    let m = subst (λ (e : CoreEvent). Makes c.args.self.now s.session s.pass.seat c.make.new.pass.seat c.make.new.pass.hands (own_of s) e c.make.result) c.new-event.ensures
-    (c.make.ensures s.session (own_of s) c.requires.session.stands mine) in
-    let new : Session = record { pass = c.make.new.pass; session = s.session; snapshot = Some c.in-Begun.snapshot; writes = c.clear.new.self } in
-    (one_event c.args.self.now s new command.Begin (event.Begin s.session) c.make.result (said.At c.in-Begun.snapshot.number) c.requires.session m refl
+    let m = subst (λ (e : CoreEvent). Makes c.args.self.now s.session s.pass.seat c.make_at_desk.new.pass.seat c.make_at_desk.new.pass.hands (own_of s) e c.make_at_desk.result) c.new-event.ensures
+    (c.make_at_desk.ensures s.session (own_of s) c.requires.session.stands mine) in
+    let new : Session = record { pass = c.make_at_desk.new.pass; session = s.session; snapshot = Some c.in-Begun.snapshot; writes = c.clear.new.self } in
+    (one_event c.args.self.now s new command.Begin (event.Begin s.session) c.make_at_desk.result (said.At c.in-Begun.snapshot.number) c.requires.session m refl
     (ap (λ w. Some (opened_at s.session w c.in-Begun.snapshot)) c.clear.ensures ∙ ap (begun_by s.session (own_of s)) (sym c.in-Begun.is))
     (ap (refusal_of command.Begin) none') (λ made. refl)
     (subst (λ (r : CoreReply). TellsLine (own_of s) command.Begin r (said.At c.in-Begun.snapshot.number)) (sym c.in-Begun.is) refl)).0
@@ -41,10 +41,10 @@ returns-clause-answers g c =
     let s = c.args.session.now in
     let none' = none_open s (sym c.is_some.ensures ∙ c.if-is_some.false) in
     let mine : IsOfSession s.session c.new-event.result = inl (ap session_of c.new-event.ensures) in
-    let m = subst (λ (e : CoreEvent). Makes c.args.self.now s.session s.pass.seat c.make.new.pass.seat c.make.new.pass.hands (own_of s) e c.make.result) c.new-event.ensures
-    (c.make.ensures s.session (own_of s) c.requires.session.stands mine) in
-    let new : Session = record { pass = c.make.new.pass; session = s.session; snapshot = Some c.in-Begun.snapshot; writes = c.clear.new.self } in
-    (one_event c.args.self.now s new command.Begin (event.Begin s.session) c.make.result (said.At c.in-Begun.snapshot.number) c.requires.session m refl
+    let m = subst (λ (e : CoreEvent). Makes c.args.self.now s.session s.pass.seat c.make_at_desk.new.pass.seat c.make_at_desk.new.pass.hands (own_of s) e c.make_at_desk.result) c.new-event.ensures
+    (c.make_at_desk.ensures s.session (own_of s) c.requires.session.stands mine) in
+    let new : Session = record { pass = c.make_at_desk.new.pass; session = s.session; snapshot = Some c.in-Begun.snapshot; writes = c.clear.new.self } in
+    (one_event c.args.self.now s new command.Begin (event.Begin s.session) c.make_at_desk.result (said.At c.in-Begun.snapshot.number) c.requires.session m refl
     (ap (λ w. Some (opened_at s.session w c.in-Begun.snapshot)) c.clear.ensures ∙ ap (begun_by s.session (own_of s)) (sym c.in-Begun.is))
     (ap (refusal_of command.Begin) none') (λ made. refl)
     (subst (λ (r : CoreReply). TellsLine (own_of s) command.Begin r (said.At c.in-Begun.snapshot.number)) (sym c.in-Begun.is) refl)).1

@@ -22,9 +22,9 @@ unreachable-requires g c =
     let t = c.own_all-own.result in
     let owns = own_stands c.args.self.now s t c.requires.session c.own_all-own.ensures in
     let mine : IsOfSession s.session c.ending-event.result = inl (ap session_of c.ending-event.ensures ∙ ap Some owns.0) in
-    let m = subst (λ (e : CoreEvent). Makes c.args.self.now s.session s.pass.seat c.make.new.pass.seat c.make.new.pass.hands (own_of s) e c.make.result) c.ending-event.ensures
-    (c.make.ensures s.session (own_of s) c.requires.session.stands mine) in
-    c.in_default.not-Committed _ (told_always c.args.self.now s.session s.pass.seat c.make.new.pass.seat c.make.new.pass.hands (own_of s) (event.Commit t) c.make.result m refl)
+    let m = subst (λ (e : CoreEvent). Makes c.args.self.now s.session s.pass.seat c.make_at_desk.new.pass.seat c.make_at_desk.new.pass.hands (own_of s) e c.make_at_desk.result) c.ending-event.ensures
+    (c.make_at_desk.ensures s.session (own_of s) c.requires.session.stands mine) in
+    c.in_default.not-Committed _ (told_always c.args.self.now s.session s.pass.seat c.make_at_desk.new.pass.seat c.make_at_desk.new.pass.hands (own_of s) (event.Commit t) c.make_at_desk.result m refl)
 
 pub returns-clause-session : goal.returns-clause-session
 returns-clause-session g c =
@@ -32,10 +32,10 @@ returns-clause-session g c =
     let t = c.own_all-own.result in
     let owns = own_stands c.args.self.now s t c.requires.session c.own_all-own.ensures in
     let mine : IsOfSession s.session c.ending-event.result = inl (ap session_of c.ending-event.ensures ∙ ap Some owns.0) in
-    let m = subst (λ (e : CoreEvent). Makes c.args.self.now s.session s.pass.seat c.make.new.pass.seat c.make.new.pass.hands (own_of s) e c.make.result) c.ending-event.ensures
-    (c.make.ensures s.session (own_of s) c.requires.session.stands mine) in
-    let new : Session = record { pass = c.make.new.pass; session = s.session; snapshot = None; writes = s.writes } in
-    (one_event c.args.self.now s new command.Commit (event.Commit t) c.make.result (said.Committed c.in-Committed.number) c.requires.session m refl refl
+    let m = subst (λ (e : CoreEvent). Makes c.args.self.now s.session s.pass.seat c.make_at_desk.new.pass.seat c.make_at_desk.new.pass.hands (own_of s) e c.make_at_desk.result) c.ending-event.ensures
+    (c.make_at_desk.ensures s.session (own_of s) c.requires.session.stands mine) in
+    let new : Session = record { pass = c.make_at_desk.new.pass; session = s.session; snapshot = None; writes = s.writes } in
+    (one_event c.args.self.now s new command.Commit (event.Commit t) c.make_at_desk.result (said.Committed c.in-Committed.number) c.requires.session m refl refl
     (ap (refusal_of command.Commit) c.own_all-own.ensures) (λ made. ap (λ (o : Option OwnTransaction). events_of (shape_in c.args.self.now) o s.session command.Commit made) c.own_all-own.ensures)
     (subst (λ (r : CoreReply). TellsLine (own_of s) command.Commit r (said.Committed c.in-Committed.number)) (sym c.in-Committed.is) refl)).0
 
@@ -45,9 +45,9 @@ returns-clause-answers g c =
     let t = c.own_all-own.result in
     let owns = own_stands c.args.self.now s t c.requires.session c.own_all-own.ensures in
     let mine : IsOfSession s.session c.ending-event.result = inl (ap session_of c.ending-event.ensures ∙ ap Some owns.0) in
-    let m = subst (λ (e : CoreEvent). Makes c.args.self.now s.session s.pass.seat c.make.new.pass.seat c.make.new.pass.hands (own_of s) e c.make.result) c.ending-event.ensures
-    (c.make.ensures s.session (own_of s) c.requires.session.stands mine) in
-    let new : Session = record { pass = c.make.new.pass; session = s.session; snapshot = None; writes = s.writes } in
-    (one_event c.args.self.now s new command.Commit (event.Commit t) c.make.result (said.Committed c.in-Committed.number) c.requires.session m refl refl
+    let m = subst (λ (e : CoreEvent). Makes c.args.self.now s.session s.pass.seat c.make_at_desk.new.pass.seat c.make_at_desk.new.pass.hands (own_of s) e c.make_at_desk.result) c.ending-event.ensures
+    (c.make_at_desk.ensures s.session (own_of s) c.requires.session.stands mine) in
+    let new : Session = record { pass = c.make_at_desk.new.pass; session = s.session; snapshot = None; writes = s.writes } in
+    (one_event c.args.self.now s new command.Commit (event.Commit t) c.make_at_desk.result (said.Committed c.in-Committed.number) c.requires.session m refl refl
     (ap (refusal_of command.Commit) c.own_all-own.ensures) (λ made. ap (λ (o : Option OwnTransaction). events_of (shape_in c.args.self.now) o s.session command.Commit made) c.own_all-own.ensures)
     (subst (λ (r : CoreReply). TellsLine (own_of s) command.Commit r (said.Committed c.in-Committed.number)) (sym c.in-Committed.is) refl)).1
