@@ -9,7 +9,7 @@ mod Rows
 mod Agendas
 mod WorkerTurns
 mod Quiet
-mod Halves
+mod Parts
 mod Runs
 mod Duties
 mod WholeRounds

@@ -2,7 +2,7 @@ use Rattle.std.proofs.Common.{List, ◌++◌, sym, ◌∙◌, subst}
 use Rattle.shared_store.specs.declared.session.Session.{Session}
 use Rattle.store_rounds.specs.Served.{OneExportsAtMost, RowServed}
 use Rattle.store_rounds.specs.declared.duty.Duty.{Duty}
-use Rattle.store_rounds.proofs.Halves.{not_both, parts_served}
+use Rattle.store_rounds.proofs.Parts.{not_both, parts_served}
 use Rattle.store_rounds.proofs.serving.+outlet.Goals as goal
 
 pub serve_row-serve_parts-requires-clause-one : goal.serve_row-serve_parts-requires-clause-one

@@ -4,7 +4,7 @@ use Rattle.shared_store.specs.declared.session.Session.{Session}
 use Rattle.store_rounds.specs.Duties.{is_cut}
 use Rattle.store_rounds.specs.Served.{RowServedQuietly}
 use Rattle.store_rounds.specs.declared.duty.Duty.{Duty}
-use Rattle.store_rounds.proofs.Halves.{both_quiet, never_rose, quiet_served}
+use Rattle.store_rounds.proofs.Parts.{both_quiet, never_rose, quiet_served}
 use Rattle.store_rounds.proofs.serving.+quiet.Goals as goal
 
 pub serve_quietly-returns-then-row-lt2 : goal.serve_quietly-returns-then-row-lt2

@@ -6,7 +6,7 @@ use Rattle.store_rounds.specs.Turned.{TurnsMade}
 use Rattle.store_rounds.specs.declared.duty.Duty.{Duty}
 use Rattle.store_rounds.specs.declared.duty.Task.TheVariants as task
 use Rattle.store_rounds.specs.declared.fault.RunFault.TheVariants as fault
-use Rattle.store_rounds.proofs.Halves.{none_of, nothing_served, session_served, worker_served}
+use Rattle.store_rounds.proofs.Parts.{none_of, nothing_served, session_served, worker_served}
 use Rattle.store_rounds.proofs.serving.serve.Goals.{in-Commands, in-Turns}
 use Rattle.store_rounds.proofs.serving.serve.Goals as goal
 

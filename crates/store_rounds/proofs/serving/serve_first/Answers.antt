@@ -1,6 +1,6 @@
 use Rattle.std.proofs.Common.{◌≡◌, ◌<◌, length, arith}
 use Rattle.std.proofs.lemmas.Bool.Decides.{nat_tests}
-use Rattle.store_rounds.proofs.Halves.{none_served, one_served}
+use Rattle.store_rounds.proofs.Parts.{none_served, one_served}
 use Rattle.store_rounds.proofs.serving.serve_first.Goals as goal
 
 pub returns-then-is_empty-clause-served : goal.returns-then-is_empty-clause-served

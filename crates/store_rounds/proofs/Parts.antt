@@ -1,4 +1,4 @@
--- Rows at work, half by half.
+-- Rows at work: a row of one at most, and a row in two parts.
 use Rattle.std.proofs.Common.{◌≡◌, ℕ, ◌+◌, ◌-◌, ◌<◌, ◌≤◌, nat_le, Bool, true, false, ◌&&◌, ◌||◌, List, [], ◌∷◌, ◌++◌, length, get_or, slice_set, Option, None, Some, Ok, Err, refl, sym, ap, ◌∙◌, subst, append-nil, arith, length-append, true≢false}
 use Rattle.std.specs.Prelude.{◌≢◌, IfErr, OnOk, Result}
 use Rattle.std.specs.Global.{Vec as GlobalVec}
@@ -128,7 +128,7 @@ module _ {X : Type 0} where
 
 module _ (store : StoreView) (front back : List Session) (first second : List Duty) (size : length first ≡ length front)
     (may : MayServeRow store (first ++ second) (front ++ back)) where
-  -- the first half of a row may do its duties
+  -- the first part of a row may do its duties
   pub may_front : MayServeRow store first front
   may_front = record {
     size = size;
@@ -138,7 +138,7 @@ module _ (store : StoreView) (front back : List Session) (first second : List Du
         (may.each k d e (omega (arith, within, length-append front back))));
   }
 
-  -- the second half of a row may do its duties
+  -- the second part of a row may do its duties
   pub may_back : MayServeRow store second back
   may_back = record {
     size = omega (arith, may.size, size, length-append front back, length-append first second);
@@ -149,20 +149,20 @@ module _ (store : StoreView) (front back : List Session) (first second : List Du
   }
 
 module _ (first second : List Duty) (once : OneExportsAtMost (first ++ second)) where
-  -- at most one of the first half exports
+  -- at most one of the first part exports
   pub once_front : OneExportsAtMost first
   once_front j k d low high one other =
       once j k d (omega (arith, low, length-append first second)) (omega (arith, high, length-append first second))
       (ap asks_export (at_front first second j d low) ∙ one) (ap asks_export (at_front first second k d high) ∙ other)
 
-  -- at most one of the second half exports
+  -- at most one of the second part exports
   pub once_back : OneExportsAtMost second
   once_back j k d low high one other =
       let same = once (length first + j) (length first + k) d (omega (arith, low, length-append first second)) (omega (arith, high, length-append first second))
       (ap asks_export (at_back first second (length first) j d refl) ∙ one) (ap asks_export (at_back first second (length first) k d refl) ∙ other) in
       omega (arith, same)
 
-  -- not both halves export
+  -- not both parts export
   pub not_both : (list_any asks_export first && list_any asks_export second) ≡ false
   not_both = go (list_any asks_export first) refl (list_any asks_export second) refl
     where
@@ -244,7 +244,7 @@ module _ (store : StoreView) (row : List Session) (new session : Session) (dutie
 -- ---- two parts of a row
 
 module _ (store : StoreView) (front front_now back back_now : List Session) (first first_now second second_now : List Duty) (size : length first ≡ length front) where
-  -- a row is served where its halves are, one after the other
+  -- a row is served where its parts are, one after the other
   pub both_served : (exported between exported_now : Option (List ℕ))
       → RowServed store front front_now first first_now exported between
       → RowServed store back back_now second second_now between exported_now
@@ -286,13 +286,13 @@ module _ (store : StoreView) (front front_now back back_now : List Session) (fir
           (joined_back (length front) one.calls other.calls (k + 1) (j + 1) (omega (arith, at')) (omega arith))
           (other.each j d e inside)
 
-  -- a row is served where its halves are recorded as served, one after the other
+  -- a row is served where its parts are recorded as served, one after the other
   pub parts_served : (exported exported_now : Option (List ℕ))
       → PartsServed store front front_now first first_now back back_now second second_now exported exported_now
       → RowServed store (front ++ back) (front_now ++ back_now) (first ++ second) (first_now ++ second_now) exported exported_now
   parts_served exported exported_now parts = both_served exported parts.between exported_now parts.of_front parts.of_back
 
-  -- a row whose halves left the outlet alone leaves it alone
+  -- a row whose parts left the outlet alone leaves it alone
   pub both_quiet : RowServedQuietly store front front_now first first_now → RowServedQuietly store back back_now second second_now
       → RowServedQuietly store (front ++ back) (front_now ++ back_now) (first ++ second) (first_now ++ second_now)
   both_quiet one other = record {
@@ -339,16 +339,16 @@ never_rose false same = refl
 
 -- ---- the outlet's faults
 
--- the outlet's faults of two halves are those of the row
+-- the outlet's faults of two parts are those of the row
 pub cut_beside : (first second : List Duty) (before now : ℕ) → CountsCut (list_any is_cut first || list_any is_cut second) before now
     → CountsCut (list_any is_cut (first ++ second)) before now
 cut_beside first second before now counts = subst (λ b. CountsCut b before now) (sym (list_any-append is_cut first second)) counts
 
--- where the first half had no fault of the outlet, the count of the second is that of both
+-- where the first part had no fault of the outlet, the count of the second is that of both
 pub cut_of_second : (a b : Bool) (before now : ℕ) → a ≡ false → CountsCut b before now → CountsCut (a || b) before now
 cut_of_second a b before now none counts = subst (λ c. CountsCut (c || b) before now) (sym none) counts
 
--- where the second half had no fault of the outlet, the count of the first is that of both
+-- where the second part had no fault of the outlet, the count of the first is that of both
 pub cut_of_first : (a b : Bool) (before now : ℕ) → b ≡ false → CountsCut a before now → CountsCut (a || b) before now
 cut_of_first true b before now none counts = counts
 cut_of_first false b before now none counts = subst (λ c. CountsCut c before now) (sym none) counts
