@@ -44,6 +44,7 @@ module _ (bytes : List ℕ) (place width : ℕ) (first count : ℕ) where
   answer whole part n =
       if whole then (if part then Ok (place + 4, n) else Err (record { place = place + 4; need = n * width })) else Err (record { place = place; need = 4 })
 
+  -- The elements of a vector that is read end inside the bytes.
   inside_by : (whole part : Bool) (n : ℕ) → nat_le (place + 4 + n * width) (length bytes) ≡ part → answer whole part n ≡ Ok (first, count) → first + width * count ≤ length bytes
   inside_by false part n is e = absurd cc
   inside_by true false n is e = absurd cc

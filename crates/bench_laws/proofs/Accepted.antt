@@ -66,6 +66,7 @@ turns-low turn (suc count) t s (inr (inr (inr (inr rest)))) = let e = turns-low 
 
 -- ---- what an acceptable write may be told
 
+-- An acceptable insert that is told of no refusal, full table or conflict is accepted.
 insert-told : (told : Said) → IsInsertReply told → is_refused told ≡ false → (told ≡ said.Full → ⊥) → ((session : ℕ) → told ≡ said.ConflictSession session → ⊥) → ((number : ℕ) → told ≡ said.ConflictCommit number → ⊥)
     → write_holds true told ≡ true → told ≡ said.Accepted
 insert-told said.Accepted fits granted full session number h = refl

@@ -20,6 +20,7 @@ use Rattle.bench_laws.proofs.Told.{Told, tables}
 abbrev Quiet : Said → Type 0
 Quiet told = (snapshot_in told ≡ None) × (is_end told ≡ false)
 
+-- A reply to an insert begins and ends no transaction.
 insert-quiet : (told : Said) → IsInsertReply told → Quiet told
 insert-quiet said.Accepted h = (refl, refl)
 insert-quiet said.Exists h = (refl, refl)

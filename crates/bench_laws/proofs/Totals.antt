@@ -82,6 +82,7 @@ plain-exports-none : (told : Said) → Plain told → exported_in told ≡ None
 plain-exports-none (said.Exported number rows batches frozen) h = absurd h
 plain-exports-none _ h = refl
 
+-- A reply to an insert tells neither of a scan nor of an export.
 insert-plain : (told : Said) → IsInsertReply told → Plain told
 insert-plain (said.Scanned rows) h = h
 insert-plain (said.Exported number rows batches frozen) h = h

@@ -173,6 +173,7 @@ module _ (seed : ℕ) (tables : List TableDecl) (round turn session : ℕ) (low 
       commit-read earlier number inserted answer.told insert_fits fits out a b c a_is b_is refl
       (own-more session ((earlier ++ a ∷ []) ++ b ∷ []) c true refl within ∙ within-update answer.told fits) answer.rest
 
+  -- Behind its begin a transaction's insert is read, then its update and its commit.
   insert-read : (earlier : List Entry) (number : ℕ) → AllOut earlier
       → (a : Entry) → a ≡ at earlier command.Begin (said.At number)
       → is_within (Session session) (earlier ++ a ∷ []) ≡ true

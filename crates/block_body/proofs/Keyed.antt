@@ -38,6 +38,7 @@ same_length : (b : Bool) (fault : Option RowFault) → cond b fault (Some Arity)
 same_length true fault is = is
 same_length false fault is = cc
 
+-- A row without a fault has a key in its range.
 in_range : (b : Bool) (rest : Option RowFault) → cond (not b) (Some (RangeAt 0)) rest ≡ None → b ≡ true
 in_range true rest is = refl
 in_range false rest is = cc

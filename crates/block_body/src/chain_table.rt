@@ -14,7 +14,8 @@ use undo_chain::Chain;
 /// How many slots a group has.
 const GROUP: usize = 64;
 
-/// Of how many places for a chain one has to be in use, else the others are given back.
+/// Of so many chains that there is memory for, one at least is there; else the rest of that memory
+/// is given back.
 const SPARE: usize = 8;
 
 /// The chains of the slots that have one, found in two steps. The chains stand close together, in
@@ -156,9 +157,9 @@ impl ChainTable {
         }
     }
 
-    /// Gives the memory back that the chains do not need, where it is most of theirs. That of the
-    /// places stays: where each sweep empties a table, it would be filled with zeros again after
-    /// each of them.
+    /// Gives memory back where it is for at least `SPARE` times as many chains as there are, and
+    /// `SPARE` more. That for fewer than `SPARE` chains stays, and that of the places: where each
+    /// sweep empties a table, it would be taken anew after each of them.
     pub(crate) fn trim(&mut self)
         ensures { self.new.entries ≡ self.old.entries }
     {

@@ -205,7 +205,7 @@ new_columns taken cs ds slots none made = record {
   bare = λ at bit. subst (λ (l : List ColumnValue). All (λ (cell : Cell). cell ≡ Null) (cells_at at l)) (sym made) (none_cells at ds);
 }
 
--- Slots of a range of which each has no row are as many slots without rows.
+-- A range mapped to no row each is as long a list of no rows.
 none_from : (n a : ℕ) → map (λ (i : ℕ). let o : Option (List Cell) = None in o) (range_with_len a n) ≡ replicate n None
 none_from zero a = refl
 none_from (suc n) a = ap (λ (l : List (Option (List Cell))). None ∷ l) (none_from n (a + 1))

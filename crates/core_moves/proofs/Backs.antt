@@ -153,9 +153,11 @@ module _ (sh : Shape) (t : ℕ) (moves : List MovePair) (old now : Held) (pairs 
   long : (b : ℕ) → HasBlock sh t b → length (was b (body_at sh v.may.parts t b)).slots ≡ slots_of sh t
   long b has = all_long sh v.may.parts t ((desk_at sh v.may.parts).newest + 1) b (take k pairs) (body_at sh v.may.parts t b) ∙ (v.may.holds.sound.bodies t b has).slots
 
+  -- A pair's source is a slot of its block.
   inside_source : slot_of pair.source < length (was (block_of pair.source) (body_at sh v.may.parts t (block_of pair.source))).slots
   inside_source = subst (λ n. slot_of pair.source < n) (sym (long (block_of pair.source) (places sh t moves old v.may pair mine).0.0)) (places sh t moves old v.may pair mine).0.1
 
+  -- A pair's target is a slot of its block.
   inside_target : slot_of pair.target < length (was (block_of pair.target) (body_at sh v.may.parts t (block_of pair.target))).slots
   inside_target = subst (λ n. slot_of pair.target < n) (sym (long (block_of pair.target) (places sh t moves old v.may pair mine).1.0)) (places sh t moves old v.may pair mine).1.1
 

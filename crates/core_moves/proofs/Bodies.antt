@@ -50,6 +50,7 @@ set_same (x ∷ xs) (suc j) a less is = ap (λ ys. x ∷ ys) (set_same xs j a (o
 out_back : (stamp : ℕ) (row : Row) (slot : Slot) → slot.row ≡ Some row → taken_back (moved_out stamp row slot) ≡ slot
 out_back stamp row slot is = ap (λ (o : Option Row). record slot { row = o }) (sym is)
 
+-- A row that moved into an empty slot, taken back, leaves the slot as it was.
 in_back : (stamp : ℕ) (row : Row) (slot : Slot) → slot.row ≡ None → taken_back (moved_in stamp row slot) ≡ slot
 in_back stamp row slot is = ap (λ (o : Option Row). record slot { row = o }) (sym is)
 

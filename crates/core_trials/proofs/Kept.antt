@@ -50,6 +50,7 @@ module _ (sh : Shape) (s : Parts) where
   commit_by true q = omega arith
   commit_by false q = omega arith
 
+  -- An insert raises the newest stamp by one at most.
   insert_by : (own : OwnKey) (t : ℕ) (row : Row) (r : Result ℕ WriteFault) → ((after_insert sh s own t row r).desk (desk_at sh s)).newest ≤ (desk_at sh s).newest + 1
   insert_by own t row (Err fault) = omega arith
   insert_by own t row (Ok p) = omega arith

@@ -21,6 +21,7 @@ use Rattle.txn_desk.specs.Desk.{DeskState}
 use Rattle.count_laws.specs.Numbers.{IsNarrow, NumbersAreNarrow, OpensNarrow}
 
 module _ (sh : Shape) (s : Parts) where
+  -- An insert leaves the desk, whether it is granted or not.
   insert_desk : (own : OwnKey) (u : ℕ) (row : Row) (r : Result ℕ WriteFault) (x : DeskState) → (after_insert sh s own u row r).desk x ≡ x
   insert_desk own u row (Err fault) x = refl
   insert_desk own u row (Ok p) x = refl
@@ -38,12 +39,14 @@ module _ (sh : Shape) (s : Parts) where
       go true = refl
       go false = refl
 
-  -- A move leaves the stamps below their bound, and the commits no more than they are.
+  -- Where there is room for one more stamp, a move leaves the newest below its bound, and the
+  -- commits no more than the stamps.
   move_narrow : (u : ℕ) (pairs : List MovePair) (x : DeskState) → x.newest + 1 < 2 ^ 63 → IsNarrow x → IsNarrow ((after_move sh s u pairs).desk x)
   move_narrow u [] x low is = is
   move_narrow u (first ∷ rest) x low is = let c = is.commits in record { commits = omega (arith, c); stamps = low }
 
-  -- A commit leaves the stamps below their bound, and the commits no more than they are.
+  -- Where there is room for one more stamp, a commit leaves the newest below its bound, and the
+  -- commits no more than the stamps.
   commit_narrow : (wrote : Bool) (q : ℕ) (x : DeskState) → x.newest + 1 < 2 ^ 63 → IsNarrow x → IsNarrow (closed q (cond wrote (numbered x) x))
   commit_narrow true q x low is = let c = is.commits in record { commits = omega (arith, c); stamps = low }
   commit_narrow false q x low is = record { commits = is.commits; stamps = is.stamps }

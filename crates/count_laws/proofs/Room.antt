@@ -451,6 +451,8 @@ module _ (sh : Shape) (s : Parts) (shape : IsShape sh) (ok : Sound sh s) (t : �
         go true e = in_head e
         go false e = in_other e
 
+  -- The slots in use of a table grow by no more than its head's count, and this by one at most, and
+  -- only where the insert was accepted into this table.
   insert_grows : (own : OwnKey) (u : ℕ) (row : Row) → IsLawful sh (event.Insert own u row) s
       → Grows (effect sh s (event.Insert own u row)) (cond (t == u) (writes_told (reply_to_write (insert_judged sh s own u (key_of row)))) 0)
   insert_grows own u row lawful = go (insert_judged sh s own u (key_of row)) refl

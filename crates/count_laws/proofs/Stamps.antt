@@ -68,6 +68,7 @@ slotted : (j : ℕ) (g : Slot → Slot) (y : Body) → Keeps y (with_slot j g y)
 slotted j g y = record { last = refl; phase = refl; loose = λ e. e }
 
 module _ (sh : Shape) (s : Parts) (t b : ℕ) where
+  -- An insert keeps a body's stamp and phase.
   insert_keeps : (own : OwnKey) (u : ℕ) (row : Row) (r : Result ℕ WriteFault) (y : Body) → Keeps y ((after_insert sh s own u row r).body t b y)
   insert_keeps own u row (Err fault) y = keeps y
   insert_keeps own u row (Ok p) y = at_one u (block_of p) (with_slot (slot_of p) (written own.session (change.Put row))) t b y

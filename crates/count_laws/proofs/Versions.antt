@@ -127,6 +127,7 @@ count_parted p q (x ∷ xs) both = go (q x) refl (count_parted p q xs both)
 
 -- ---- over all blocks
 
+-- A number among those of the tables is below their count.
 in_tables : (sh : Shape) (t : ℕ) → Among t (tables_of sh) → t < length sh.tables
 in_tables sh t a = let r = member_below 0 (length sh.tables) t a in omega (arith, r)
 
@@ -519,6 +520,7 @@ module _ (sh : Shape) (s : Parts) (ok : Sound sh s) where
   out_stamped : (at : ℕ) (row : Row) (x : Slot) → counts is_stamped (moved_out at row x) ≤ counts is_stamped x + 1
   out_stamped at row x = pushed is_stamped (record { session = 0; stamp = Some at; number = 0; kind = Rattle.undo_chain.specs.declared.undo.UndoKind.TheVariants.MoveOut; before = Rattle.block_spec.specs.declared.change.Before.TheVariants.Whole row }) x.entries
 
+  -- A row that moves into a slot brings one stamped entry at most.
   in_stamped : (at : ℕ) (row : Row) (x : Slot) → counts is_stamped (moved_in at row x) ≤ counts is_stamped x + 1
   in_stamped at row x = pushed is_stamped (record { session = 0; stamp = Some at; number = 0; kind = Rattle.undo_chain.specs.declared.undo.UndoKind.TheVariants.MoveIn; before = Rattle.block_spec.specs.declared.change.Before.TheVariants.Empty }) x.entries
 

@@ -243,7 +243,7 @@ KeysTouchParts =
     × (filter (touched_by_insert 1 (pos 9) (Some (place_of 1 2)) (3 ∷ [])) (names shape)
     ≡ HeadOf 1 ∷ ShardOf 1 1 ∷ BodyOf 1 0 ∷ BodyOf 1 1 ∷ [])
 
--- ---- whole events
+-- ---- whole events, most of them on parts laid by hand, some of which no run reaches
 
 -- the opening parts with one body of table 0 in another's place, and its head where the first slot
 -- of block 0 is taken

@@ -123,8 +123,8 @@ OwnsAll shape own parts =
     IsSession shape own.session × IsSomeAnd (transaction shape parts own.session)
     (IsOwn shape parts own)
 
--- No live snapshot is below a stamp, which then holds for ever. An `oldest` teaches it of its
--- reply.
+-- No live snapshot is below the stamp, nor, where none is live, the newest stamp; in a sound state
+-- none ever will be. An `oldest` teaches it of its reply.
 abbrev pub IsOldest : Shape → ℕ → Parts → Type 0
 IsOldest shape oldest parts = oldest ≤ oldest_of (desk_at shape parts)
 

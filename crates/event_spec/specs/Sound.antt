@@ -63,8 +63,8 @@ pub record IsNoHead (shape : Shape) (parts : Parts) (table block : ℕ) : Type 0
   pub phase : is_loose (body_at shape parts table block).phase ≡ false → block
       ≢ (head_at shape parts table).block
 
--- The invariant: each part is what its name says, the parts follow a machine, and heads and bodies
--- hold.
+-- The invariant but for the entries of the shards: each part is what its name says, the parts
+-- follow a machine, heads and bodies hold, and no head is cooling, sealed or imaged.
 pub record Sound (shape : Shape) (parts : Parts) : Type 0 where
   pub follows : (machine : IsolationMachine)
       × Follows (slot_at shape parts) (places_at shape parts) (desk_at shape parts) machine

@@ -118,6 +118,7 @@ memory_stands (command.Export table) e = inl tt
 
 -- ---- at an event that is not quiet
 
+-- An insert is refused for its conflict, for a row that stands there, or for a full table.
 insert_fault : (conflict : Option WriteFault) (b : Bool) (place : Option ℕ) (n : ℕ) (fault : WriteFault) → judged (option_or conflict (cond b (Some refusal.Exists) None)) place (refusal.Full n) ≡ Err fault
     → (conflict ≡ Some fault) ⊎ ((fault ≡ refusal.Exists) ⊎ (fault ≡ refusal.Full n))
 insert_fault (Some x) b place n fault e = inl (cc)
@@ -189,6 +190,7 @@ frozen_change block (Imaged g) fault e = absurd (let never : ⊥ = cc e in never
 frozen_change block (Sealed g) fault e = subst (λ (o : Option WriteFault). IfSome o IsChangeFault) e tt
 
 module _ (sh : Shape) (s : Parts) (own : OwnKey) (t : ℕ) where
+  -- The fault of a refused insert is one that an insert may meet.
   insert_kind : (key : ℤ) (fault : WriteFault) → insert_judged sh s own t key ≡ Err fault → IsInsertFault fault
   insert_kind key fault e = go (insert_fault (fault_of (newer_by (slot_at sh s t) (places_at sh s t key) own)) (is_some (found sh s own t key))
       (option_or own.written (next_place (head_at sh s t) (slots_of sh t))) (head_at sh s t).inserts fault e)
@@ -234,6 +236,7 @@ module _ (script : Script) (few_seats : script.sessions + script.workers < 2 ^ 3
   commits_few : (desk_at (shape_of script) parts).commits < 2 ^ 63
   commits_few = let c = held.narrow.commits in let n = held.narrow.stamps in omega (arith, c, n)
 
+  -- What an insert tells may stand where it is due.
   insert_stands : (own : OwnKey) (table : ℕ) (row : Row) (told : Option Said) (refused : Bool) (r : Result ℕ WriteFault) → insert_judged (shape_of script) parts own table (key_of row) ≡ r
       → told ≡ line_to worker (told_by table 0 (cond refused reply.Memory (reply_to_write r)))
       → IsStep (command_in (event.Insert own table row)) at (cond refused reply.Memory (reply_to_write r)) next

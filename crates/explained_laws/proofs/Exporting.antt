@@ -88,6 +88,7 @@ module _ (table : ℕ) where
   skipped : (place : Place) (row : List Cell) (rows : State) → (place.table == table) ≡ false → contents_of table ((place, row) ∷ rows) ≡ contents_of table rows
   skipped place row rows other = ap (λ b. cons_option (cond b (Some row) None) (contents_of table rows)) other
 
+  -- A row put into another table leaves this table's contents.
   insert_skips : (rows : State) (place : Place) (row : List Cell) → (place.table == table) ≡ false → contents_of table (insert_entry place_cmp rows place row) ≡ contents_of table rows
   insert_skips [] place row other = skipped place row [] other
   insert_skips (e ∷ rows) place row other = go (place_cmp place e.0) refl (insert_skips rows place row other)

@@ -230,6 +230,8 @@ module _ (m next : IsolationMachine) (q : ℕ) (place : Place) (value : Option (
       not_so : answer.NoTransaction ≡ answer.Accepted → ⊥
       not_so e = cc
 
+-- Where an insert is accepted, the machine goes on with its row among the session's own; else it
+-- stays.
 insert_goes : (m next : IsolationMachine) (q table : ℕ) (row : List Cell) (said : Answer) → step m (asked q (act.Insert table row)) ≡ pair said next
     → Goes m next q (place_of table row) (Some row) said
 insert_goes m next q table row said h = go (transaction_of q m) refl h

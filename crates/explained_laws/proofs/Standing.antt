@@ -84,6 +84,7 @@ times_most (suc a) b c h =
     let n : suc a * c ≡ c + a * c = grind arith in
     omega (arith, h, rest, m, n)
 
+-- Where two lists of events, each with one more behind it, are the same, so are these two events.
 init_same : (xs : List CoreEvent) (ys : List CoreEvent) (x y : CoreEvent) → xs ++ x ∷ [] ≡ ys ++ y ∷ [] → x ≡ y
 init_same [] [] x y e = heads x y [] [] e
 init_same [] (b ∷ ys) x y e = absurd (none_behind ys y [] (tails x b [] (ys ++ y ∷ []) e))

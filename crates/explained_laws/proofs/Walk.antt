@@ -146,6 +146,7 @@ upkeep_accepted t command.Commit (Some line) up = absurd (true_false (sym up))
 upkeep_accepted t command.Abort (Some line) up = absurd (true_false (sym up))
 upkeep_accepted t (command.Export table) (Some line) up = absurd (true_false (sym up))
 
+-- One more reply counts no fewer accepted inserts of a table.
 inserts_rise : (t : ℕ) (lines : List Entry) (printed : Option Entry) → inserts_in t lines ≤ inserts_in t (with_reply lines printed)
 inserts_rise t lines None = omega arith
 inserts_rise t lines (Some entry) = let more = Rattle.explained_laws.proofs.Shown.inserts_more t lines entry in omega (arith, more)

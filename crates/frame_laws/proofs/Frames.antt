@@ -261,6 +261,7 @@ module _ (sh : Shape) (s : Parts) (hand : List (Option CorePart)) (agrees : Agre
           (option_and_then (λ place. freezing_of (block_of place) (body_at sh s t (block_of place)).phase) (current_place (slot_at sh s t) (places_at sh s t key)))))
           (current_place (slot_at sh s t) (places_at sh s t key)) Missing p is).1
 
+  -- An insert leaves each part that it does not touch.
   insert_rests : (own : OwnKey) (t : ℕ) (row : Row) → Covers (touching sh (event.Insert own t row)) hand
       → (n : Name) (piece : CorePart) → touches sh (event.Insert own t row) hand n ≡ false → (r : Result ℕ WriteFault) → insert_judged sh s own t (key_of row) ≡ r → Rests (after_insert sh s own t row r) n piece
   insert_rests own t row covers n piece away (Err fault) is = rests_nothing n piece

@@ -223,6 +223,7 @@ half_by stamp block pair row body =
     let gone : Body = cond (block_of pair.source == block) (with_slot (slot_of pair.source) (moved_out stamp row) body) body in
     cond (block_of pair.target == block) (with_slot (slot_of pair.target) (moved_in stamp row) gone) gone
 
+-- An insert of the same judgement makes the same of the parts, whatever these are.
 insert_made : (sh : Shape) (s u : Parts) (own : OwnKey) (t : ℕ) (row : Row) (r : Result ℕ WriteFault) → after_insert sh u own t row r ≡ after_insert sh s own t row r
 insert_made sh s u own t row (Err fault) = refl
 insert_made sh s u own t row (Ok p) = refl

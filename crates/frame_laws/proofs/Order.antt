@@ -170,6 +170,7 @@ module _ (sh : Shape) (one other : List (Option CorePart)) (k : ℕ) (same : (j 
   key_told u x t key written is =
       ap (λ o. touched_by_key t key (option_to_list written ++ candidates_of (shard_from o) key) (BodyOf u x)) (told u x is (ShardOf t (shard_of key)) (omega arith))
 
+  -- Whether an insert touches a body is the same for hands that agree below the body's part.
   insert_told : (u x t : ℕ) (key : ℤ) (written : Option ℕ) → slice_get (names sh) k ≡ Some (BodyOf u x)
       → touched_by_insert t key (option_or written (next_place (head_from (held_named (names sh) one (HeadOf t))) (slots_of sh t))) (candidates_of (shard_from (held_named (names sh) one (ShardOf t (shard_of key)))) key) (BodyOf u x)
       ≡ touched_by_insert t key (option_or written (next_place (head_from (held_named (names sh) other (HeadOf t))) (slots_of sh t))) (candidates_of (shard_from (held_named (names sh) other (ShardOf t (shard_of key)))) key) (BodyOf u x)

@@ -97,6 +97,7 @@ module _ (slot other : ℕ → Slot) (places : List ℕ) (own : OwnKey) (same : 
       go (Some p) is =
           ap (found_at other places own) is ∙ ap (λ (x : Slot). seen x own.snapshot.stamp own.session) (mine p is) ∙ ap (found_at slot places own) (sym is)
 
+  -- An insert is judged the same where the slots at the key's places and at the own place are.
   insert_same : (head : Head) (slots : ℕ) → judged_insert other places head slots own ≡ judged_insert slot places head slots own
   insert_same head slots =
       ap (λ n. judged (option_or (fault_of n) (cond (is_some (found_by other places own)) (Some Exists) None)) (option_or own.written (next_place head slots)) (Full head.inserts)) newer_same
@@ -167,6 +168,7 @@ module _ (sh : Shape) (e : CoreEvent) (hand : List (Option CorePart)) (s u : Par
       ∙ change_same (slot_at sh s t) (slot_at sh u t) (places_at sh s t key) own (λ p a. ap (λ x. slot_in x (slot_of p)) (reads.bodies p a)) reads.mine
       (λ block. (body_at sh s t block).phase) (λ block. (body_at sh u t block).phase) (λ p a. ap (λ (x : Body). x.phase) (reads.bodies p a))
 
+  -- An insert is judged alike on two states whose head and key's parts are the same.
   insert_alike : (own : OwnKey) (t : ℕ) (key : ℤ) → ReadsKey own t key → head_at sh u t ≡ head_at sh s t → insert_judged sh u own t key ≡ insert_judged sh s own t key
   insert_alike own t key reads head =
       ap (λ ps. judged_insert (slot_at sh u t) ps (head_at sh u t) (slots_of sh t) own) reads.places
@@ -210,6 +212,7 @@ module _ (sh : Shape) (hand : List (Option CorePart)) (s u : Parts) (here : Agre
   delete_reads own t key covers = reads_key sh (event.Delete own t key) hand s u covers here there own t key
       (shard_touched t key (option_to_list own.written ++ in_hand t key)) (body_touched t key (option_to_list own.written) (in_hand t key)) (own_touched t key own.written (in_hand t key))
 
+  -- The parts that an insert touches have all that its key's judgement reads.
   insert_reads : (own : OwnKey) (t : ℕ) (row : Row) → (covers : Covers (touching sh (event.Insert own t row)) hand) → ReadsKey sh (event.Insert own t row) hand s u covers here there own t (key_of row)
   insert_reads own t row covers = reads_key sh (event.Insert own t row) hand s u covers here there own t (key_of row)
       (shard_touched t (key_of row) (option_to_list (taken own t) ++ in_hand t (key_of row)))
@@ -219,6 +222,7 @@ module _ (sh : Shape) (hand : List (Option CorePart)) (s u : Parts) (here : Agre
       taken : OwnKey → ℕ → Option ℕ
       taken own t = option_or own.written (next_place (head_from (held_named (names sh) hand (HeadOf t))) (slots_of sh t))
 
+  -- An insert touches its table's head.
   insert_head : (own : OwnKey) (t : ℕ) (row : Row) → touches sh (event.Insert own t row) hand (HeadOf t) ≡ true
   insert_head own t row = or_left (t == t) _ (num_refl t)
 

@@ -199,6 +199,7 @@ shards_after sh s c step holds t i places is = go (part_named (names sh) s (Shar
         (step t i x (holds t i x at))
 
 module _ (sh : Shape) (s : Parts) where
+  -- An insert leaves each shard in order.
   insert_holds : (own : OwnKey) (t : ℕ) (row : Row) (r : Result ℕ WriteFault) (u i : ℕ) (x : Places) → ShardHolds i x → ShardHolds i ((after_insert sh s own t row r).shard u i x)
   insert_holds own t row (Err fault) u i x h = h
   insert_holds own t row (Ok p) u i x h = go ((u == t) && (i == shard_of (key_of row))) refl

@@ -118,6 +118,7 @@ module _ (sh : Shape) (s : Parts) (shape : IsShape sh) (ok : Sound sh s) (t b : 
   write_same : (u p : ℕ) (g : Slot → Slot) → is_loose (body_at sh s u (block_of p)).phase ≡ true → Same (body_at sh s t b) (at_both u (block_of p) (with_slot (slot_of p) g) t b (body_at sh s t b))
   write_same u p g loose = at_one u (block_of p) (with_slot (slot_of p) g) t b (body_at sh s t b) (λ e e'. absurd (elsewhere u p loose e e'))
 
+  -- An insert leaves the slots and the stamp of a sealed or imaged block.
   insert_same : (own : OwnKey) (u : ℕ) (row : Row) → IsLawful sh (event.Insert own u row) s → Same (body_at sh s t b) ((changes_of sh s (event.Insert own u row)).body t b (body_at sh s t b))
   insert_same own u row lawful = go (insert_judged sh s own u (key_of row)) refl
     where

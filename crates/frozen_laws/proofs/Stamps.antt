@@ -36,6 +36,7 @@ at_one t b g up u x y = go ((u == t) && (x == b))
     go false = omega arith
 
 module _ (sh : Shape) (s : Parts) (t b : ℕ) where
+  -- An insert lowers no block's last stamp.
   insert_last : (own : OwnKey) (u : ℕ) (row : Row) (r : Result ℕ WriteFault) (y : Body) → y.last ≤ ((after_insert sh s own u row r).body t b y).last
   insert_last own u row (Err fault) y = omega arith
   insert_last own u row (Ok p) y = at_one u (block_of p) (with_slot (slot_of p) (written own.session (change.Put row))) (λ y. omega arith) t b y

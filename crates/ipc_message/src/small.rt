@@ -16,7 +16,7 @@ use std::alloc::{AllocError, Global};
 
 /// The message of the batch of the first `rows` slots of a block's columns, each of which has a
 /// row, with these buffers; none where one of the buffers is large, or there are more columns than
-/// those of a table.
+/// a table may have.
 pub fn small_message(
     alloc: Global,
     columns: &Columns,
@@ -41,10 +41,10 @@ pub fn small_message(
 }
 
 /// Whether the buffers of each column are all small.
-fn each_is_small(columns: &[Buffers]) -> bool
-    ensures { IsTrue result ↔ All AreSmall columns.now }
+fn each_is_small(buffers: &[Buffers]) -> bool
+    ensures { IsTrue result ↔ All AreSmall buffers.now }
 {
-    columns.iter().all(|buffers| all_small(buffers.as_slice()))
+    buffers.iter().all(|column| all_small(column.as_slice()))
 }
 
 /// The message of the record batch of so many rows with these columns.

@@ -64,9 +64,11 @@ module _ {K X : Type 0} {R : K → K → Ordering} (o : IsTotalOrder R) where
   insert-Less : (e : K × X) (es : List (K × X)) (k : K) (v : X) → R k e.0 ≡ Less → insert_entry R (e ∷ es) k v ≡ (k, v) ∷ e ∷ es
   insert-Less e es k v is = ap (λ (answer : Ordering). match_ordering answer ((k, v) ∷ e ∷ es) ((e.0, v) ∷ es) (e ∷ insert_entry R es k v)) is
 
+  -- An insertion at the first entry's key takes the entry's place.
   insert-Equal : (e : K × X) (es : List (K × X)) (k : K) (v : X) → R k e.0 ≡ Equal → insert_entry R (e ∷ es) k v ≡ (e.0, v) ∷ es
   insert-Equal e es k v is = ap (λ (answer : Ordering). match_ordering answer ((k, v) ∷ e ∷ es) ((e.0, v) ∷ es) (e ∷ insert_entry R es k v)) is
 
+  -- An insertion at a greater key goes on behind the first entry.
   insert-Greater : (e : K × X) (es : List (K × X)) (k : K) (v : X) → R k e.0 ≡ Greater → insert_entry R (e ∷ es) k v ≡ e ∷ insert_entry R es k v
   insert-Greater e es k v is = ap (λ (answer : Ordering). match_ordering answer ((k, v) ∷ e ∷ es) ((e.0, v) ∷ es) (e ∷ insert_entry R es k v)) is
 
@@ -116,6 +118,7 @@ module _ {K X : Type 0} {R : K → K → Ordering} (o : IsTotalOrder R) where
       insert-Greater (k, v) [] l w (o.antisymm l k ∙ ap ordering_reverse less) ∙ sym (insert-Less (l, w) [] k v less)
   insert-insert_less (e ∷ es) k l v w less = swapped e es k l v w (R k e.0) less refl (insert-insert_less es k l v w less)
 
+  -- Insertions at two keys that differ may be made in either order.
   insert-insert_by : (es : List (K × X)) (k l : K) (v w : X) (answer : Ordering) → R k l ≡ answer → is_eq answer ≡ false
       → insert_entry R (insert_entry R es k v) l w ≡ insert_entry R (insert_entry R es l w) k v
   insert-insert_by es k l v w Less is untied = insert-insert_less es k l v w is

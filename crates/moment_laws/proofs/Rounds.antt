@@ -60,6 +60,7 @@ module _ (script : Script) (lines : List Line) (there : Among lines script.round
           shares_dropped script lines number 1 (script.sessions + script.workers) earlier round.shares who al (λ q low high. out q (low, omega (arith, high)))
           ∙ sym (thread_of_stranger script front who (round_moments script earlier number round) out are)
 
+  -- The replies of a round's moments are of that round.
   in_round : Each (λ entry. entry.reply.round ≡ number) (replies_at (round_moments script earlier number round))
   in_round = Each-timeline (λ entry. entry.reply.round ≡ number) (all_printed (shares_lined script.tables earlier number round.shares)) (replies_at (round_moments script earlier number round))
       threads (shares_in script lines number script.tables earlier round.shares)

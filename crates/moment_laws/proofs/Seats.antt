@@ -254,6 +254,7 @@ module _ (script : Script) (lines : List Line) (there : Among lines script.round
   abbrev pub calls_at : ℕ → List Pending
   calls_at = pending_at (seats_of script) (shares_lined script.tables earlier number round.shares)
 
+  -- Each seat has its share of the round.
   inside : (q : ℕ) → Seat script q → ShareAt script lines number front round.made q (calls_at q)
   inside q s = let low = s.0 in let high = s.1 in
       share_at script lines number front round.made 1 (script.sessions + script.workers) earlier round.shares q al is.done (omega (arith, low)) (omega (arith, high))

@@ -84,6 +84,7 @@ stamps-counted stamp entries =
     count-shown (λ shown. shown == stamp.stamp) (λ (e : Entry). stamp_in stamp.of.table stamp.of.block e.reply.said) entries
     ∙ count-agree (λ e. option_map_or (λ shown. shown == stamp.stamp) (stamp_in stamp.of.table stamp.of.block e.reply.said) false) (is_stamp_of stamp) (λ e. stamp-said stamp e.reply.said) entries
 
+-- An insert is counted for a table exactly where it was accepted and went into that table.
 insert-into : (table into : ℕ) (accepted : Bool) → (into == table && accepted) ≡ is_keyed nat_cmp table (if accepted then Some into else None)
 insert-into table into true = by (into == table) ∙ sym (nat-same into table)
   where

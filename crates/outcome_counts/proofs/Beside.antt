@@ -35,6 +35,7 @@ own-itself x y round who =
     (subst (λ (w : Who). is_up_to w x.reply.who ≡ true) who (up-to-itself x.reply.who)))
 
 module _ (x y : Entry) (beside : Beside x y) where
+  -- The first of the two replies is in front of the second.
   in-front : is_in_front y x ≡ true
   in-front = let round = beside.round in or_right (is_past y x) _ (and_from (eqb x.reply.round y.reply.round) (is_earlier x.reply.who y.reply.who) (grind (arith, nat_tests, round)) beside.who)
 

@@ -62,6 +62,7 @@ same-front x y round who entries =
     ap (λ (n : ℕ). count_by (λ (o : Entry). nat_lt o.reply.round n || eqb o.reply.round n && is_earlier o.reply.who y.reply.who) entries) (sym round)
     ∙ ap (λ (w : Who). count_by (λ (o : Entry). nat_lt o.reply.round x.reply.round || eqb o.reply.round x.reply.round && is_earlier o.reply.who w) entries) (sym who)
 
+-- A reply behind or beside another has the other in front.
 in-front : (x y : Entry) → Behind x y ⊎ Beside x y → is_in_front y x ≡ true
 in-front x y (inl b) = or_left (is_past y x) (eqb x.reply.round y.reply.round && is_earlier x.reply.who y.reply.who) (let l = b.later in grind (arith, nat_tests, l))
 in-front x y (inr b) = or_right (is_past y x) (eqb x.reply.round y.reply.round && is_earlier x.reply.who y.reply.who)

@@ -144,6 +144,7 @@ module _ (entries front : List Entry) (entry : Entry) (rest : List Entry) (whole
   open-of : (who : Who) (owner : ℕ) → held who ≡ Some owner → IsOpen who front owner
   open-of who owner h = subst (Standing who front) h (stands.standing who)
 
+  -- A transaction that somebody has open began at one of the replies in front.
   inside : (who : Who) (owner : ℕ) → held who ≡ Some owner → owner < length front
   inside who owner h =
       let open_ = open-of who owner h in

@@ -83,6 +83,7 @@ in-turn true b c = refl
 
 -- ---- all of them, in the order of the three parts and in that of the definition
 
+-- The nine conditions, taken together in another order.
 in-order : (c s r w k f u x p : Bool) → ((c && s && f && u && p) && (k && (r && w && x))) ≡ (c && s && r && w && k && f && u && x && p)
 in-order false s r w k f u x p = refl
 in-order true false r w k f u x p = refl

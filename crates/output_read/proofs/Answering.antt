@@ -50,6 +50,7 @@ get-reply columns key said.Absent h = (tt, tt)
 get-reply columns key said.Memory h = (tt, tt)
 get-reply columns key _ h = absurd (never h)
 
+-- What may answer an insert and may be said is one of an insert's replies.
 insert-reply : (tables : List TableDecl) (told : Said) → answers_insert told ≡ true → is_said tables told ≡ true → IsInsertReply told
 insert-reply tables said.Accepted h fit = tt
 insert-reply tables said.Exists h fit = tt

@@ -41,7 +41,7 @@ module _ (tables : List TableDecl) (round worker : ℕ) (valid : list_all is_tab
   abbrev In : NextSteps → Type 0
   In steps = InTurn tables round worker valid steps
 
-  -- One table further is not behind the last table.
+  -- Also one table further, the steps end no later than the turn.
   more-until : (until : ℕ) → until ≤ length tables → one_more tables until ≤ length tables
   more-until until most = by (nat_lt until (length tables)) refl
     where

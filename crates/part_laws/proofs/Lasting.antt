@@ -57,6 +57,7 @@ module _ (sh : Shape) (s : Parts) (ok : Sound sh s) where
   commit_up true q = least_at_end (desk_at sh s).newest ((desk_at sh s).newest + 1) (desk_at sh s).open_snapshots (q - 1) begun (omega arith)
   commit_up false q = least_at_end (desk_at sh s).newest (desk_at sh s).newest (desk_at sh s).open_snapshots (q - 1) begun (omega arith)
 
+  -- An insert makes the oldest stamp no older.
   insert_up : (own : OwnKey) (t : ℕ) (row : Row) (r : Result ℕ WriteFault) → oldest_of (desk_at sh s) ≤ oldest_of ((after_insert sh s own t row r).desk (desk_at sh s))
   insert_up own t row (Err fault) = omega arith
   insert_up own t row (Ok p) = omega arith

@@ -213,6 +213,7 @@ module _ (sh : Shape) (s : Parts) (shape : IsShape sh) (ok : Sound sh s) (q : �
           ∙ ap (λ x'. write_on q u x (slot_at sh s t x')) (sym e.1) ∙ ap (λ u'. write_on q u x (slot_at sh s u' x)) (sym e.0)
       go (inr n) = ap (λ (y : Slot). write_on q u x y) (write_else sh s c (written r new) t p body f.kinds there inside bodies u x n)
 
+  -- Another session's insert leaves what this session wrote at each place.
   insert_writes : (own : OwnKey) (t : ℕ) (row : Row) → IsLawful sh (event.Insert own t row) s → q ≢ own.session
       → (u x : ℕ) → write_on q u x (slot_at sh (effect sh s (event.Insert own t row)) u x) ≡ write_on q u x (slot_at sh s u x)
   insert_writes own t row lawful ne u x = go (insert_judged sh s own t (key_of row)) refl
@@ -360,11 +361,12 @@ module _ (sh : Shape) (s : Parts) (shape : IsShape sh) (ok : Sound sh s) (q : �
 
   -- ---- the snapshot
 
+  -- An insert, made or refused, leaves the session's snapshot.
   insert_snapshot : (own : OwnKey) (t : ℕ) (row : Row) (r : Result ℕ WriteFault) → snapshot_of ((after_insert sh s own t row r).desk (desk_at sh s)) q ≡ snapshot_of (desk_at sh s) q
   insert_snapshot own t row (Err fault) = refl
   insert_snapshot own t row (Ok p) = refl
 
-  -- Another's update or delete leaves the session's snapshot.
+  -- An update or a delete, made or refused, leaves the session's snapshot.
   change_snapshot : (own : OwnKey) (t : ℕ) (choice : Row → Change) (r : Result ℕ WriteFault) → snapshot_of ((after_change sh s own t choice r).desk (desk_at sh s)) q ≡ snapshot_of (desk_at sh s) q
   change_snapshot own t choice (Err fault) = refl
   change_snapshot own t choice (Ok p) = refl

@@ -78,6 +78,7 @@ magnitude_small : (z : ℤ) → is_key_number z ≡ true → nat_lt (magnitude z
 magnitude_small (pos n) is = lt-ltb n (2 ^ 64) (key_small (pos n) is)
 magnitude_small (negsuc n) is = lt-ltb (n + 1) (2 ^ 64) (key_small (negsuc n) is)
 
+-- A number of 64 bits and a sign is read back from its decimals.
 integer_back : (z : ℤ) → nat_lt (magnitude z) (2 ^ 64) ≡ true → integer_of (signed_decimal z) ≡ Some z
 integer_back (pos n) small = integer_of_back (pos n) (ltb-true n (2 ^ 64) small)
 integer_back (negsuc n) small = integer_of_back (negsuc n) (ltb-true (n + 1) (2 ^ 64) small)

@@ -99,6 +99,7 @@ apart-by table q Less is apart = refl
 apart-by table q Equal is apart = absurd (apart is)
 apart-by table q Greater is apart = refl
 
+-- A place whose key is of 64 bits is in a table's range exactly where it is of that table.
 in-range-by : (table : ℕ) (q : Place) (b : Bool) → (q.table == table) ≡ b → is_key q ≡ true
     → (is_le (place_cmp (place_at table least_key) q) && not (is_lt (place_cmp (place_at table greatest_key) q))) ≡ b
 in-range-by table q true is key =

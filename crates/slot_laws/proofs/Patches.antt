@@ -12,6 +12,7 @@ use Rattle.block_spec.specs.declared.patch.Assignment.{Assignment}
 use Rattle.block_spec.specs.Slots.{Row, patched, columns_before}
 use Rattle.event_spec.specs.Judged.{same_cell, same_truth, differences}
 
+-- Numbers that test equal are equal.
 int_eq_is : (m n : ℤ) → int_eq m n ≡ true → m ≡ n
 int_eq_is m n e = (Decides-int_eq m n).0 e
 

@@ -43,7 +43,7 @@ use Rattle.snapshot_laws.specs.Laws.{SeenStays}
 use Rattle.sound_laws.proofs.Written.{change_goes, judged_ok}
 use Rattle.txn_desk.specs.declared.Snapshot.{Snapshot}
 
--- A row that is put into a slot can be laid back.
+-- A put's before-image, laid back, gives what the slot had.
 put_undone : (slot : Slot) (row : Row) → IsUndone slot (change.Put row)
 put_undone slot row = go slot.row
   where
@@ -51,7 +51,7 @@ put_undone slot row = go slot.row
     go None = refl
     go (Some old) = refl
 
--- The deletion of a slot's row can be laid back.
+-- A deletion's before-image, laid back, gives what the slot had.
 gone_undone : (slot : Slot) → IsUndone slot change.Gone
 gone_undone slot = go slot.row
   where
@@ -59,7 +59,7 @@ gone_undone slot = go slot.row
     go None = refl
     go (Some old) = refl
 
--- A patch of a slot's row to one of the same length can be laid back.
+-- The before-image of a patch to a row of the same length, laid back, gives what the slot had.
 patch_undone : (slot : Slot) (old new : Row) → slot.row ≡ Some old → length old ≡ length new → IsUndone slot (change.Patch (differences 0 old new))
 patch_undone slot old new is same =
     subst (λ (o : Option Row). laid_back (row_after o (change.Patch (differences 0 old new))) (image_before o (change.Patch (differences 0 old new))) ≡ o) (sym is)
@@ -114,6 +114,7 @@ module _ (sh : Shape) (s : Parts) (shape : IsShape sh) (ok : Sound sh s) (q : �
           ∙ ap (λ x. seen (slot_at sh s t x) snapshot.stamp q) (sym e.1) ∙ ap (λ u. seen (slot_at sh s u x) snapshot.stamp q) (sym e.0)
       go (inr n) = ap (λ (y : Slot). seen y snapshot.stamp q) (write_else sh s c (written r new) t p body f.kinds there inside bodies u x n)
 
+  -- Another session's insert leaves what an open session sees of each slot.
   insert_seen : (own : OwnKey) (t : ℕ) (row : Row) → IsLawful sh (event.Insert own t row) s → q ≢ own.session
       → (u x : ℕ) → seen (slot_at sh (effect sh s (event.Insert own t row)) u x) snapshot.stamp q ≡ seen (slot_at sh s u x) snapshot.stamp q
   insert_seen own t row lawful ne u x = go (insert_judged sh s own t (key_of row)) refl

@@ -69,6 +69,7 @@ out_fits sh t stamp row slot is fit =
     let here : Fits (columns_in sh t) row = subst (SlotFits sh t) is fit in
     subst (λ slot. SlotFits sh t (moved_out stamp row slot)) (sym is) (tt, here, here)
 
+-- A row that fits, moved into an empty slot, makes one that fits its table.
 in_fits : (sh : Shape) (t stamp : ℕ) (row : Row) (slot : Slot) → slot ≡ bare → Fits (columns_in sh t) row → SlotFits sh t (moved_in stamp row slot)
 in_fits sh t stamp row slot is fit = subst (λ slot. SlotFits sh t (moved_in stamp row slot)) (sym is) (fit, tt, tt)
 
@@ -101,6 +102,7 @@ module _ (sh : Shape) (s : Parts) (ok : Shaped sh s) (m : IsolationMachine) (f :
   abbrev both : Parts
   both = each_changed second (names sh) half
 
+  -- A place that a table has is a slot of its block.
   inside_at : (p : ℕ) → HasPlace sh t p → slot_of p < length (body_at sh s t (block_of p)).slots
   inside_at p place = let less = place.1 in let same = (ok.bodies t (block_of p) place.0).slots in omega (arith, less, same)
 
@@ -127,6 +129,7 @@ module _ (sh : Shape) (s : Parts) (ok : Shaped sh s) (m : IsolationMachine) (f :
       (let less = ready'.source_place.1 in let same = (wide (block_of pair.source) source.has).2 in omega (arith, less, same)) (λ u b x. refl) t pair.target (λ e x. two (sym x))
       ∙ ready'.free
 
+  -- A pair's target is a slot of its block, also after the pair's source was emptied.
   inside_half : slot_of pair.target < length (body_at sh half t (block_of pair.target)).slots
   inside_half = let less = ready'.target_place.1 in let same = (half_shaped.bodies t (block_of pair.target) target.has).slots in omega (arith, less, same)
 

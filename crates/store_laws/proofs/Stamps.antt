@@ -34,6 +34,7 @@ same_more : (x y : DeskState) → y ≡ x → IsOneMore x y
 same_more x y same = subst (IsOneMore x) (sym same) (omega arith)
 
 module _ (sh : Shape) (s : Parts) where
+  -- An insert leaves the desk, and so takes no stamp.
   insert_desk : (own : OwnKey) (u : ℕ) (row : Row) (r : Result ℕ WriteFault) (x : DeskState) → (after_insert sh s own u row r).desk x ≡ x
   insert_desk own u row (Err fault) x = refl
   insert_desk own u row (Ok p) x = refl

@@ -74,6 +74,7 @@ variable-short cells few values =
       rest,
     )
 
+-- The data of at most 2^15 cells takes at most 2^31 + 2^20 bytes with padding.
 data-short : (values : Values) (cells : List Cell) → length cells ≤ 2 ^ 15 → Few cells
     → length (flat_map padded (data_buffers (layout_in values) cells)) ≤ 2 ^ 31 + 2 ^ 20
 data-short (signed width) cells few values =

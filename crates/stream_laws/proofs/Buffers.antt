@@ -127,6 +127,7 @@ length-numbers width cells =
     length-pieces (λ cell. number_bytes width (number_of cell)) (byte_len width) cells
     (λ cell. length-number width _)
 
+-- The data buffers of a column are at least as long as its cells need.
 data-long : (values : Values) (cells : List Cell)
     → AreLong (data_needs values (length cells)) (data_buffers (layout_in values) cells)
 data-long (signed width) cells = (omega (arith, length-numbers width cells), tt)

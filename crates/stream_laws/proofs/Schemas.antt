@@ -48,6 +48,7 @@ width_small w128 = lit< tt
 abbrev pub int_fields : ℕ → ℕ → List Field
 int_fields bits is_signed = number 4 w32 bits ∷ number 8 w8 is_signed ∷ []
 
+-- The table of an integer type that lies in bytes reads as its two fields.
 int-there : (bytes : List ℕ) (end bits is_signed : ℕ)
     → Has bytes end (int_table bits is_signed end).bytes
     → IsTableAt bytes end 9 (int_fields bits is_signed)

@@ -87,6 +87,7 @@ pub record HasVtable (bytes : List ℕ) (vtable place size : ℕ) (fields : List
 
 module _ (bytes : List ℕ) (vtable place size : ℕ) (fields : List Field)
     (has : HasVtable bytes vtable place size fields) where
+  -- The words of the vtable: its own size, the table's, and the fields' places.
   abbrev words : List ℕ
   words = (4 + 2 * length fields) ∷ size ∷ map place_of fields
 

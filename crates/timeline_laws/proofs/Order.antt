@@ -113,6 +113,7 @@ false-true b h k = absurd (let never : ⊥ = cc in never)
 -- those after it.
 module _ (printed timeline front : List Entry) (entry : Entry) (rest : List Entry) (threads : (who : Who) → thread who printed ≡ thread who timeline)
     (whole : timeline ≡ front ++ entry ∷ rest) (order : InOrder timeline) where
+  -- The timeline, cut at the reply, is in order.
   in_order : InOrder (front ++ entry ∷ rest)
   in_order = subst InOrder whole order
 

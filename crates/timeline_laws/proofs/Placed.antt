@@ -37,6 +37,7 @@ one-place a b h =
     let key : a.key ≡ b.key = int_cmp-IsAntisymmetric a.key b.key parts.1 in
     ap (λ (t : ℕ). record a { table = t }) table ∙ ap (λ (k : ℤ). record b { key = k }) key
 
+-- Where a comparison by two tests is less, its first test holds.
 int-less : (a b : Bool) → cond a Less (cond b Greater Equal) ≡ Less → a ≡ true
 int-less true b h = refl
 int-less false true h = absurd (let never : ⊥ = cc in never)
@@ -72,6 +73,7 @@ module _ (tables : List TableDecl) where
   above-less low high [] less h = tt
   above-less low high (entry ∷ entries) less h = (place_cmp-total.trans low high entry.0 less h.0, above-less low high entries less h.1)
 
+  -- An insertion above a place keeps all entries above it.
   insert-above : (low place : Place) (row : List Cell) (entries : State) → place_cmp low place ≡ Less → Above low entries → Above low (insert_entry place_cmp entries place row)
   insert-above low place row [] less h = (less, tt)
   insert-above low place row (entry ∷ entries) less h = by (insert-above low place row entries less h.1) (place_cmp place entry.0)
@@ -85,6 +87,7 @@ module _ (tables : List TableDecl) where
   turned : (a b : Place) → place_cmp a b ≡ Greater → place_cmp b a ≡ Less
   turned a b h = place_cmp-total.antisymm b a ∙ ap ordering_reverse h
 
+  -- With a row inserted at its own place each row is at its place still, and the places go up.
   insert-placed : (place : Place) (row : List Cell) (entries : State) → IsAt place row → Placed entries → Placed (insert_entry place_cmp entries place row)
   insert-placed place row [] at h = (at, tt, tt)
   insert-placed place row (entry ∷ entries) at h = by (insert-placed place row entries at h.2) (place_cmp place entry.0) refl

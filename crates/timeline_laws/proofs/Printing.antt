@@ -58,6 +58,7 @@ flat-all : (round : ℕ) (f : ℕ → List Due) → ((x : ℕ) → AllIn round (
 flat-all round f h [] = tt
 flat-all round f h (x ∷ xs) = all-append round (f x) (flat_map f xs) (h x) (flat-all round f h xs)
 
+-- All that is due in a script's round is of that round.
 in-all : (script : Script) (round : ℕ) (lines : List Line) → AllIn round (dues_in script round lines)
 in-all script round lines =
     all-append round
@@ -161,6 +162,7 @@ module _ (tables : List TableDecl) (earlier : List Entry) (due : Due) (told : Sa
       let other : eqb due.round e.reply.round ≡ false = grind (arith, nat_tests, is_a) in
       rw (round, other) refl
 
+  -- A counted reply to the same session or worker is before the new reply.
   in-turn-by : (e : Entry) → Counted tables earlier due.round e → is_same due.who e.reply.who ≡ true → (a : Bool) → eqb e.reply.round due.round ≡ a → is_before e new ≡ true
   in-turn-by e h same true is_a =
       let same_who : is_same e.reply.who due.who ≡ true = turned-who e same in

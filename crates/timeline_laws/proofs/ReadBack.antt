@@ -62,6 +62,7 @@ module _ (tables : List TableDecl) (names : NamesPlain tables) where
   at-said : (n : ℕ) → IsSaid tables (said.At n)
   at-said n = plainly tables (said.At n) (codes "at") (decimal n ∷ []) refl (refl, (plain_decimal n, tt)) refl
 
+  -- The line of a begin within a transaction is of words.
   in-said : IsSaid tables said.InTransaction
   in-said = plainly tables said.InTransaction (codes "in") (codes "transaction" ∷ []) refl (refl, (refl, tt)) refl
 
@@ -181,6 +182,7 @@ module _ (tables : List TableDecl) (names : NamesPlain tables) where
 
   -- ---- writes
 
+  -- An insert's replies are read back where the insert is due.
   insert-read : (table : ℕ) (row : List Cell) (told : Said) → IsInsertReply told → IsRead tables true (command.Insert table row) told
   unfolding tail_of
   insert-read table row said.Accepted h = record { is_said = ok-said; picks = λ rest. inl refl }

@@ -129,7 +129,8 @@ module _ (tables : List TableDecl) (printed timeline : List Entry) (t : Timeline
       ∙ ap (writes_place place) (sym (get_or-drop n so_far (k - 1 - n) []))
       ∙ last-none place (n + 1) (drop n so_far) none (k - 1 - n)
 
-  -- Where none in front has the place, a commit that has it is not before the reply.
+  -- Where no commit in front with a number above n has the place, one above n that has it is not
+  -- committed before the reply.
   none-by : (n : ℕ) (place : Place) (k : ℕ) → n ≤ length so_far → last_writer place (n + 1) (drop n so_far) ≡ None → n < k → writes_place place (write_set_at (the_run).history k) ≡ true
       → (b : Bool) → nat_le k (length so_far) ≡ b → not (is_committed_before the_run entry k) ≡ true
   none-by n place k bound none low has true is =
@@ -139,7 +140,8 @@ module _ (tables : List TableDecl) (printed timeline : List Entry) (t : Timeline
       absurd (let impossible : ⊥ = cc in impossible)
   none-by n place k bound none low has false is = ap not (not-before k (let e : length so_far < k = grind (arith, nat_tests, is) in e))
 
-  -- Where none in front has the place, no later commit of it is before the reply.
+  -- Where no commit in front with a number above n has the place, none above n that has it is
+  -- committed before the reply.
   none-later : (n : ℕ) (place : Place) → n ≤ length so_far → last_writer place (n + 1) (drop n so_far) ≡ None → (k : ℕ) → is_later n place k ≡ true → not (is_committed_before the_run entry k) ≡ true
   none-later n place bound none k h =
       let parts = and_parts (nat_lt n k) (writes_place place (write_set_at (the_run).history k)) h in

@@ -41,6 +41,7 @@ pub record Laid (tables : List TableDecl) (dues : List Due) : Type 0 where
   pub formed : AreFormed tables pieces
   pub begins : BeginsFixed pieces
 
+-- The dues of two lists of pieces, one behind the other, are those of the one, then of the other.
 in-pieces-append : (a b : Pieces) → dues_in_pieces (a ++ b) ≡ dues_in_pieces a ++ dues_in_pieces b
 in-pieces-append [] b = refl
 in-pieces-append (inl due ∷ a) b = ap (λ (dues : List Due). due ∷ dues) (in-pieces-append a b)

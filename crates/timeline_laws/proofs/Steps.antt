@@ -296,6 +296,7 @@ module _ (machine : IsolationMachine) (sane : Sane machine) (session : ℕ) wher
   untold : (asked : Command) → Change (Session session) asked said.NoTransaction machine machine
   untold asked = quiet (quietly asked machine said.NoTransaction refl refl refl refl refl)
 
+  -- The machine's own step of an insert is such a change.
   insert-stepped : (table : ℕ) (row : List Cell) (found : Option Transaction) → transaction_of session machine ≡ found → Stepped (command.Insert table row) (act.Insert table row) found
   insert-stepped table row None at = untold (command.Insert table row)
   insert-stepped table row (Some t) at =

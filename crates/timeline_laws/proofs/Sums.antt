@@ -66,6 +66,7 @@ module _ (printed timeline front : List Entry) (entry : Entry) (rest : List Entr
       ∙ sum_by-append (λ other. cond (p other) (f other) 0) front (entry ∷ rest)
       ∙ ap (λ (n : ℕ). sum_by (λ other. cond (p other) (f other) 0) front + n) (sum_by-cons (λ other. cond (p other) (f other) 0) entry rest)
 
+  -- The timeline, cut at the reply, is in order.
   in_order : InOrder (front ++ entry ∷ rest)
   in_order = subst InOrder whole order
 

@@ -64,6 +64,7 @@ filter_none limit (e ∷ es) all =
     (All-head (λ undo. is_stamped_by undo limit ≡ true) e es all)
     (filter_none limit es (All-tail (λ undo. is_stamped_by undo limit ≡ true) e es all))
 
+-- An entry that its stamp brings into view is in view, the reader's own or not.
 in_view_from : (own : Bool) (by : Bool) → by ≡ true → own || by ≡ true
 in_view_from true passed seen = refl
 in_view_from false passed seen = seen

@@ -37,6 +37,7 @@ digit_by c low high =
     let g : nat_lt c 58 ≡ true = lt-ltb c 58 (omega arith) in
     rw (f, g) refl
 
+-- A letter from a to f stands for ten to fifteen.
 letter_by : (c : ℕ) → 97 ≤ c → c ≤ 102 → digit_value c ≡ c - 87
 letter_by c low high =
     let a : nat_lt c 48 ≡ false = le-ltb c 48 (omega arith) in
