@@ -10,8 +10,8 @@ use Rattle.event_spec.specs.Touched.{touching}
 use Rattle.frame_laws.specs.Shards.{CoreHolds}
 use Rattle.hall_rule.specs.Meaning.{Laws, Meaning}
 
--- The core's events over parts, from a start on, for so many passes and with so many words behind
--- the latch words. A lasting fact is a stamp that no live snapshot is below.
+-- The core's events over parts, from a start on, for so many passes and with so many block words
+-- behind the latch words. A lasting fact is a stamp that no live snapshot is below.
 abbrev pub core_meaning : Shape → Parts → ℕ → ℕ → Meaning CorePart CoreEvent Opened ℕ
 core_meaning shape start passes blocks = record {
   start = start;

@@ -11,6 +11,7 @@ use Rattle.hall_rule.specs.EventLog.{Untouched, has, replay, replay_from}
 use Rattle.hall_rule.specs.HallInvariant.{AtHome, HallInvariant, Owners, Rule, hands_of, latch_word, since, stage}
 use Rattle.hall_rule.specs.Meaning.{Laws, Meaning}
 use Rattle.hall_rule.specs.Views.{Draws, Gives, Homes, Latches, Learned, Loads, drawn, given, homed, loaded, staged}
+use Rattle.hall_rule.specs.Slots.{slot_of}
 use Rattle.hall_rule.specs.declared.view.Entry.{Entry}
 use Rattle.hall_rule.specs.declared.view.View.{View}
 use Rattle.hall_rule.proofs.Lists.{by_cases, others_few, total_at}
@@ -112,7 +113,7 @@ module _ {P E T F : Type 0} (M : Meaning P E T F) (laws : Laws M) where
                 (λ e. absurd (let h = subst (λ (x : ℕ). stage (staged v k 1) x ≡ 2) e two in omega (arith, h, here))) (λ ne. old.loaded i (sym (else i ne) ∙ two));
             kept = λ i two. by_cases i k (Untouched M i (replay M v.before) (Rattle.std.proofs.Common.drop (length v.before) log))
                 (λ e. absurd (let h = subst (λ (x : ℕ). stage (staged v k 1) x ≡ 2) e two in omega (arith, h, here))) (λ ne. old.kept i (sym (else i ne) ∙ two));
-            in_hand = λ i two out. by_cases i k (get_elem? s.homes i ≡ maybe.some (maybe.some None))
+            in_hand = λ i two out. by_cases i k (get_elem? s.homes (slot_of i) ≡ maybe.some (maybe.some None))
                 (λ e. absurd (let h = subst (λ (x : ℕ). stage (staged v k 1) x ≡ 2) e two in omega (arith, h, here))) (λ ne. old.in_hand i (sym (else i ne) ∙ two) out);
             out = λ i e.
                 let h = old.out i e in
@@ -149,12 +150,12 @@ module _ {P E T F : Type 0} (M : Meaning P E T F) (laws : Laws M) where
 
     -- The event word is loaded, and the part, which is at home, goes out.
     loading : (log : List (Entry E)) (o : Owners) (s : State (Option P) (View E)) → HallInvariant M log o s → get_elem? s.views id ≡ maybe.some v
-        → stage v k ≡ 1 → v.out ≡ 0 → Stirs M log o o.part s s.words (set s.homes k maybe.none) id v (loaded v k log)
+        → stage v k ≡ 1 → v.out ≡ 0 → Stirs M log o o.part s s.words (set s.homes (slot_of k) maybe.none) id v (loaded v k log)
     loading log o s kept at one none_out =
         let old = kept.at_home.each id v at live in
         let here = stage_here v k 2 room in
         let else : (i : ℕ) → i ≢ k → stage (loaded v k log) i ≡ stage v i = λ (i : ℕ) ne. stage_else v k 2 i ne in
-        let home : (i : ℕ) → i ≢ k → get_elem? (set s.homes k maybe.none) i ≡ get_elem? s.homes i = λ (i : ℕ) ne. set_else s.homes k i maybe.none ne in
+        let home : (i : ℕ) → i ≢ k → get_elem? (set s.homes (slot_of k) maybe.none) (slot_of i) ≡ get_elem? s.homes (slot_of i) = λ (i : ℕ) ne. set_else s.homes (slot_of k) (slot_of i) maybe.none (λ e. ne (omega (arith, e))) in
         let before : (i : ℕ) → (stage v i ≢ 0) ⊎ (stage (loaded v k log) i ≢ 0) → stage v i ≢ 0 = λ (i : ℕ) held. by_cases i k (stage v i ≢ 0)
         (λ e z. absurd (let h = subst (λ (x : ℕ). stage v x ≡ 0) e z in omega (arith, h, one))) (λ ne. ⊎_elim (λ a. a) (λ a e. a (else i ne ∙ e)) held) in
         let now : (i : ℕ) → stage v i ≢ 0 → stage (loaded v k log) i ≢ 0 = λ (i : ℕ) held. by_cases i k (stage (loaded v k log) i ≢ 0)
@@ -166,7 +167,7 @@ module _ {P E T F : Type 0} (M : Meaning P E T F) (laws : Laws M) where
           seen = inr refl;
           counted = refl;
           wide = refl;
-          deep = length-set s.homes k maybe.none;
+          deep = length-set s.homes (slot_of k) maybe.none;
           idle = λ none'. absurd (let z = kept.hands.idle id v at none' k in omega (arith, z, one));
           same = λ i below was is.
               let ne : i ≢ k = λ e. absurd (let h = subst (λ (x : ℕ). stage v x ≡ 0) e was in omega (arith, h, one)) in
@@ -197,13 +198,13 @@ module _ {P E T F : Type 0} (M : Meaning P E T F) (laws : Laws M) where
         let kept = held.2 in
         let home = (kept.at_home.each id v at live).taken k one in (
           loaded v k log,
-          takes k (Some home.0),
+          takes (slot_of k) (Some home.0),
           home.2,
           (
             log,
             held.1,
-            subst (λ (ws : List ℕ). HallInvariant M log held.1 record { words = ws; homes = set s.homes k maybe.none; views = set s.views id (loaded v k log) }) (sym (unset s.words 0))
-                (stirred M laws log held.1 held.1.part s s.words (set s.homes k maybe.none) id v (loaded v k log) kept at live (loading log held.1 s kept at one none_out)),
+            subst (λ (ws : List ℕ). HallInvariant M log held.1 record { words = ws; homes = set s.homes (slot_of k) maybe.none; views = set s.views id (loaded v k log) }) (sym (unset s.words 0))
+                (stirred M laws log held.1 held.1.part s s.words (set s.homes (slot_of k) maybe.none) id v (loaded v k log) kept at live (loading log held.1 s kept at one none_out)),
           ),
           (log, home.0, learns log held.1 s id v kept at live, home.1, refl, refl),
         )
@@ -211,11 +212,11 @@ module _ {P E T F : Type 0} (M : Meaning P E T F) (laws : Laws M) where
     -- One slot changes whose part is in the view's hand, and nothing else but what is out.
     shifting : (log : List (Entry E)) (o : Owners) (s : State (Option P) (View E)) (h : maybe.Option (Option P)) (out : ℕ) → HallInvariant M log o s → get_elem? s.views id ≡ maybe.some v
         → stage v k ≡ 2
-        → ((i : ℕ) → stage v i ≡ 2 → out ≢ suc i → get_elem? (set s.homes k h) i ≡ maybe.some (maybe.some None)) → ((i : ℕ) → out ≡ suc i → stage v i ≡ 2)
-        → Stirs M log o o.part s s.words (set s.homes k h) id v (record v { out = out })
+        → ((i : ℕ) → stage v i ≡ 2 → out ≢ suc i → get_elem? (set s.homes (slot_of k) h) (slot_of i) ≡ maybe.some (maybe.some None)) → ((i : ℕ) → out ≡ suc i → stage v i ≡ 2)
+        → Stirs M log o o.part s s.words (set s.homes (slot_of k) h) id v (record v { out = out })
     shifting log o s h out kept at two in_hand is_out =
         let old = kept.at_home.each id v at live in
-        let home : (i : ℕ) → stage v i ≢ 2 → get_elem? (set s.homes k h) i ≡ get_elem? s.homes i = λ (i : ℕ) ne. set_else s.homes k i h (λ e. ne (ap (stage v) e ∙ two)) in
+        let home : (i : ℕ) → stage v i ≢ 2 → get_elem? (set s.homes (slot_of k) h) (slot_of i) ≡ get_elem? s.homes (slot_of i) = λ (i : ℕ) ne. set_else s.homes (slot_of k) (slot_of i) h (λ e. ne (ap (stage v) (let same : i ≡ k = omega (arith, e) in same) ∙ two)) in
         let before : (i : ℕ) → (stage v i ≢ 0) ⊎ (stage v i ≢ 0) → stage v i ≢ 0 = λ (i : ℕ) held. ⊎_elim (λ a. a) (λ a. a) held in
         record {
           lasts = refl;
@@ -224,7 +225,7 @@ module _ {P E T F : Type 0} (M : Meaning P E T F) (laws : Laws M) where
           seen = inl refl;
           counted = refl;
           wide = refl;
-          deep = length-set s.homes k h;
+          deep = length-set s.homes (slot_of k) h;
           idle = kept.hands.idle id v at;
           same = λ i below was is. (refl, home i (λ e. absurd (omega (arith, e, was))), refl);
           fresh = λ i was is. absurd (is was);
@@ -241,11 +242,11 @@ module _ {P E T F : Type 0} (M : Meaning P E T F) (laws : Laws M) where
           };
         }
 
-    in_slots : (s : State (Option P) (View E)) → (log : List (Entry E)) (o : Owners) → HallInvariant M log o s → k < length s.homes
+    in_slots : (s : State (Option P) (View E)) → (log : List (Entry E)) (o : Owners) → HallInvariant M log o s → slot_of k < length s.homes
     in_slots s log o kept = let d = kept.at_home.deep in omega (arith, d, lt)
 
     -- The slot that is out is given home empty, and the part stays in the hand.
-    pub homes : stage v k ≡ 2 → v.out ≡ suc k → Allows (Rule M) slots id (v, (k, None) ∷ []) 0 (λ n. n) (Homes M v)
+    pub homes : stage v k ≡ 2 → v.out ≡ suc k → Allows (Rule M) slots id (v, (slot_of k, None) ∷ []) (latch_word k) (λ n. n) (Homes M v)
     homes two is_out s held deep at fits =
         let log = held.0 in
         let kept = held.2 in
@@ -256,12 +257,12 @@ module _ {P E T F : Type 0} (M : Meaning P E T F) (laws : Laws M) where
           (
             log,
             held.1,
-            subst (λ (ws : List ℕ). HallInvariant M log held.1 record { words = ws; homes = set s.homes k h; views = set s.views id (homed v) }) (sym (unset s.words 0))
-                (stirred M laws log held.1 held.1.part s s.words (set s.homes k h) id v (homed v) kept at live
+            subst (λ (ws : List ℕ). HallInvariant M log held.1 record { words = ws; homes = set s.homes (slot_of k) h; views = set s.views id (homed v) }) (sym (unset s.words (latch_word k)))
+                (stirred M laws log held.1 held.1.part s s.words (set s.homes (slot_of k) h) id v (homed v) kept at live
                 (shifting log held.1 s h 0 kept at two
-                (λ i first away. by_cases i k (get_elem? (set s.homes k h) i ≡ maybe.some (maybe.some None))
-                (λ e. subst (λ (x : ℕ). get_elem? (set s.homes k h) x ≡ maybe.some (maybe.some None)) (sym e) (set_here s.homes k h (in_slots s log held.1 kept)))
-                (λ ne. set_else s.homes k i h ne ∙ (kept.at_home.each id v at live).in_hand i first (λ e. ne (let x : suc i ≡ suc k = sym e ∙ is_out in omega (arith, x)))))
+                (λ i first away. by_cases i k (get_elem? (set s.homes (slot_of k) h) (slot_of i) ≡ maybe.some (maybe.some None))
+                (λ e. subst (λ (x : ℕ). get_elem? (set s.homes (slot_of k) h) (slot_of x) ≡ maybe.some (maybe.some None)) (sym e) (set_here s.homes (slot_of k) h (in_slots s log held.1 kept)))
+                (λ ne. set_else s.homes (slot_of k) (slot_of i) h (λ e. ne (omega (arith, e))) ∙ (kept.at_home.each id v at live).in_hand i first (λ e. ne (let x : suc i ≡ suc k = sym e ∙ is_out in omega (arith, x)))))
                 (λ i e. absurd (omega (arith, e))))),
           ),
           (refl, refl),
@@ -274,17 +275,17 @@ module _ {P E T F : Type 0} (M : Meaning P E T F) (laws : Laws M) where
         let kept = held.2 in
         let h : maybe.Option (Option P) = maybe.none in (
           drawn v k,
-          takes k None,
+          takes (slot_of k) None,
           (kept.at_home.each id v at live).in_hand k two (λ e. absurd (omega (arith, e, none_out))),
           (
             log,
             held.1,
-            subst (λ (ws : List ℕ). HallInvariant M log held.1 record { words = ws; homes = set s.homes k h; views = set s.views id (drawn v k) }) (sym (unset s.words (latch_word k)))
-                (stirred M laws log held.1 held.1.part s s.words (set s.homes k h) id v (drawn v k) kept at live
+            subst (λ (ws : List ℕ). HallInvariant M log held.1 record { words = ws; homes = set s.homes (slot_of k) h; views = set s.views id (drawn v k) }) (sym (unset s.words (latch_word k)))
+                (stirred M laws log held.1 held.1.part s s.words (set s.homes (slot_of k) h) id v (drawn v k) kept at live
                 (shifting log held.1 s h (suc k) kept at two
                 (λ i first away.
                 let ne : i ≢ k = λ e. away (ap suc (sym e)) in
-                set_else s.homes k i h ne ∙ (kept.at_home.each id v at live).in_hand i first (λ e. absurd (omega (arith, e, none_out))))
+                set_else s.homes (slot_of k) (slot_of i) h (λ e. ne (omega (arith, e))) ∙ (kept.at_home.each id v at live).in_hand i first (λ e. absurd (omega (arith, e, none_out))))
                 (λ i e. let same : i ≡ k = omega (arith, e) in subst (λ (x : ℕ). stage v x ≡ 2) (sym same) two))),
           ),
           (refl, refl),
@@ -292,7 +293,7 @@ module _ {P E T F : Type 0} (M : Meaning P E T F) (laws : Laws M) where
 
     -- The part goes home, and its latch is free.
     giving : (p : P) (log : List (Entry E)) (o : Owners) (s : State (Option P) (View E)) → HallInvariant M log o s → get_elem? s.views id ≡ maybe.some v
-        → stage v k ≡ 2 → v.out ≡ suc k → slice_get (replay M v.log) k ≡ Some p → Stirs M log o o.part s (set s.words (latch_word k) 0) (set s.homes k (maybe.some (Some p))) id v (given v k)
+        → stage v k ≡ 2 → v.out ≡ suc k → slice_get (replay M v.log) k ≡ Some p → Stirs M log o o.part s (set s.words (latch_word k) 0) (set s.homes (slot_of k) (maybe.some (Some p))) id v (given v k)
     giving p log o s kept at two is_out value =
         let h : maybe.Option (Option P) = maybe.some (Some p) in
         let old = kept.at_home.each id v at live in
@@ -301,7 +302,7 @@ module _ {P E T F : Type 0} (M : Meaning P E T F) (laws : Laws M) where
         let zero' : slice_index (set s.words (latch_word k) 0) (latch_word k) ≡ 0 = get_or-set_same s.words (latch_word k) 0 0 wide in
         let word : (i : ℕ) → i ≢ k → slice_index (set s.words (latch_word k) 0) (latch_word i) ≡ slice_index s.words (latch_word i) = λ (i : ℕ) ne. get_or-set_other s.words (latch_word k) (latch_word i) 0 0 (λ e. ne (omega (arith, e))) in
         let else : (i : ℕ) → i ≢ k → stage (given v k) i ≡ stage v i = λ (i : ℕ) ne. stage_else v k 0 i ne in
-        let home : (i : ℕ) → i ≢ k → get_elem? (set s.homes k h) i ≡ get_elem? s.homes i = λ (i : ℕ) ne. set_else s.homes k i h ne in
+        let home : (i : ℕ) → i ≢ k → get_elem? (set s.homes (slot_of k) h) (slot_of i) ≡ get_elem? s.homes (slot_of i) = λ (i : ℕ) ne. set_else s.homes (slot_of k) (slot_of i) h (λ e. ne (omega (arith, e))) in
         let apart : (i : ℕ) → stage (given v k) i ≢ 0 → i ≢ k = λ (i : ℕ) held e. held (ap (stage (given v k)) e ∙ here) in
         let before : (i : ℕ) → (stage v i ≢ 0) ⊎ (stage (given v k) i ≢ 0) → stage v i ≢ 0 = λ (i : ℕ) held. by_cases i k (stage v i ≢ 0)
         (λ e z. absurd (let x = subst (λ (y : ℕ). stage v y ≡ 0) e z in omega (arith, x, two))) (λ ne. ⊎_elim (λ a. a) (λ a e. a (else i ne ∙ e)) held) in
@@ -312,15 +313,15 @@ module _ {P E T F : Type 0} (M : Meaning P E T F) (laws : Laws M) where
           seen = inl refl;
           counted = get_or-set_other s.words (latch_word k) 0 0 0 (λ e. absurd (omega (arith, e)));
           wide = length-set s.words (latch_word k) 0;
-          deep = length-set s.homes k h;
+          deep = length-set s.homes (slot_of k) h;
           idle = λ none'. absurd (let z = kept.hands.idle id v at none' k in omega (arith, z, two));
           same = λ i below was is.
               let ne : i ≢ k = λ e. absurd (let x = subst (λ (y : ℕ). stage v y ≡ 0) e was in omega (arith, x, two)) in
               (word i ne, home i ne, refl);
           fresh = λ i was is. absurd (before i (inr is) was);
-          free = λ i below held none'. by_cases i k (AtHome M log (set s.homes k h) i)
-              (λ e. subst (AtHome M log (set s.homes k h)) (sym e)
-              (p, (learns log o s id v kept at live).parts k two ∙ value, set_here s.homes k h (in_slots s log o kept)))
+          free = λ i below held none'. by_cases i k (AtHome M log (set s.homes (slot_of k) h) i)
+              (λ e. subst (AtHome M log (set s.homes (slot_of k) h)) (sym e)
+              (p, (learns log o s id v kept at live).parts k two ∙ value, set_here s.homes (slot_of k) h (in_slots s log o kept)))
               (λ ne. absurd (let x = (old.holds i (before i held)).1 in let y = word i ne in omega (arith, x, y, none')));
           latched = λ i below held some'. by_cases i k ((o.part i ≡ id) × (stage (given v k) i ≢ 0))
               (λ e. absurd (some' (ap (λ (x : ℕ). slice_index (set s.words (latch_word k) 0) (latch_word x)) e ∙ zero')))
@@ -342,13 +343,13 @@ module _ {P E T F : Type 0} (M : Meaning P E T F) (laws : Laws M) where
         }
 
     -- The slot is given home with its part, and the latch is free again.
-    pub gives_back : (p : P) → stage v k ≡ 2 → v.out ≡ suc k → slice_get (replay M v.log) k ≡ Some p → Allows (Rule M) slots id (v, (k, Some p) ∷ []) (latch_word k) (λ _. 0) (λ _. Gives M v k 0)
+    pub gives_back : (p : P) → stage v k ≡ 2 → v.out ≡ suc k → slice_get (replay M v.log) k ≡ Some p → Allows (Rule M) slots id (v, (slot_of k, Some p) ∷ []) (latch_word k) (λ _. 0) (λ _. Gives M v k 0)
     gives_back p two is_out value s held deep at fits =
         let log = held.0 in
         let kept = held.2 in (
           given v k,
           gives,
           tt,
-          (log, held.1, stirred M laws log held.1 held.1.part s (set s.words (latch_word k) 0) (set s.homes k (maybe.some (Some p))) id v (given v k) kept at live (giving p log held.1 s kept at two is_out value)),
+          (log, held.1, stirred M laws log held.1 held.1.part s (set s.words (latch_word k) 0) (set s.homes (slot_of k) (maybe.some (Some p))) id v (given v k) kept at live (giving p log held.1 s kept at two is_out value)),
           (refl, refl),
         )

@@ -1,5 +1,5 @@
 -- The table that a hall begins with keeps the invariant.
-use Rattle.std.proofs.Common.{◌≡◌, ℕ, zero, suc, ◌+◌, ◌*◌, ◌^◌, ◌<◌, ◌≤◌, true, List, [], ◌∷◌, ◌++◌, Option, Some, length, map, refl, sym, subst, ◌∙◌, length-append, true≢false, ⊎_elim, arith}
+use Rattle.std.proofs.Common.{◌≡◌, ℕ, zero, suc, ◌+◌, ◌*◌, ◌^◌, ◌<◌, ◌≤◌, true, List, [], ◌∷◌, ◌++◌, Option, Some, length, map, refl, sym, ap, subst, ◌∙◌, length-append, true≢false, ⊎_elim, arith}
 use Rattle.std.specs.Prelude.{replicate, slice_get, slice_index}
 use mathlib.Core.Option as maybe
 use lib.ListN.{get_elem?}
@@ -9,6 +9,7 @@ use Rattle.hall_rule.specs.HallInvariant.{HallInvariant, HoldsParts, Owners, Own
 use Rattle.hall_rule.specs.Hands.{all_in}
 use Rattle.hall_rule.specs.Meaning.{Meaning}
 use Rattle.hall_rule.specs.Opening.{first_view, sessions_to}
+use Rattle.hall_rule.specs.Slots.{slot_of, spread}
 use Rattle.hall_rule.specs.declared.view.View.{View}
 use Rattle.hall_rule.proofs.Numbers.{distinct_append, has_append, has_cons}
 
@@ -24,10 +25,18 @@ zeros (suc n) zero = refl
 zeros (suc n) (suc k) = zeros n k
 
 -- each part of the first state is at home in its slot
-pub in_all : {P : Type 0} (xs : List P) (k : ℕ) → k < length xs → (p : P) × (slice_get xs k ≡ Some p) × (get_elem? (map maybe.some (map Some xs)) k ≡ maybe.some (maybe.some (Some p)))
+pub in_all : {P : Type 0} (xs : List P) (k : ℕ) → k < length xs → (p : P) × (slice_get xs k ≡ Some p) × (get_elem? (map maybe.some (spread (map Some xs))) (slot_of k) ≡ maybe.some (maybe.some (Some p)))
 in_all [] k lt = absurd (omega arith)
 in_all (x ∷ xs) zero lt = (x, refl, refl)
-in_all (x ∷ xs) (suc k) lt = in_all xs k (omega (arith, lt))
+in_all (x ∷ xs) (suc k) lt =
+    let h = in_all xs k (omega (arith, lt)) in
+    let next : slot_of (suc k) ≡ suc (suc (suc (suc (slot_of k)))) = omega arith in
+    (h.0, h.1, ap (get_elem? (map maybe.some (spread (map Some (x ∷ xs))))) next ∙ h.2)
+
+-- There are four slots for each place.
+pub spread-length : {P : Type 0} (xs : List (Option P)) → length (spread xs) ≡ slot_of (length xs)
+spread-length [] = refl
+spread-length (x ∷ xs) = let h = spread-length xs in omega (arith, h)
 
 -- In a list of one, what is found is its element, at the first place.
 only_one : {A : Type 0} (x y : A) (j : ℕ) → get_elem? (x ∷ []) j ≡ maybe.some y → (j ≡ 0) × (x ≡ y)
@@ -58,7 +67,7 @@ module _ {P E T F : Type 0} (M : Meaning P E T F) (begins : M.sound M.start) (so
     (words : List ℕ) (wide : length words ≡ latch_word (length M.start + M.blocks)) (zero' : (k : ℕ) → slice_index words k ≡ 0) where
   -- The table that the hall begins with: all parts in it, and the first view.
   abbrev at_first : State (Option P) (View E)
-  at_first = opening words (all_in M.start) (first_view M.start M.passes)
+  at_first = opening words (spread (all_in M.start)) (first_view M.start M.passes)
 
   -- what holds of the first view holds of each
   alone : (B : ℕ → View E → Type 0) → B 0 (first_view M.start M.passes) → (j : ℕ) (v : View E) → get_elem? (first_view {E = E} M.start M.passes ∷ []) j ≡ maybe.some v → B j v
@@ -90,10 +99,10 @@ module _ {P E T F : Type 0} (M : Meaning P E T F) (begins : M.sound M.start) (so
     };
     at_home = record {
       wide = wide;
-      deep = map-length maybe.some (all_in M.start) ∙ map-length Some M.start;
+      deep = map-length maybe.some (spread (all_in M.start)) ∙ (spread-length (all_in M.start) ∙ ap slot_of (map-length Some M.start));
       free = λ k lt none'. in_all M.start k lt;
       latched = λ k lt taken. absurd (taken (zero' (latch_word k)));
-      each = λ j v there live. alone (HoldsParts M [] owners.part words (map maybe.some (all_in M.start))) (record {
+      each = λ j v there live. alone (HoldsParts M [] owners.part words (map maybe.some (spread (all_in M.start)))) (record {
         holds = λ k held. absurd (held (none_held k));
         taken = λ k one. absurd (let z = none_held k in omega (arith, z, one));
         loaded = λ k two. absurd (let z = none_held k in omega (arith, z, two));
@@ -119,5 +128,5 @@ module _ {P E T F : Type 0} (M : Meaning P E T F) (begins : M.sound M.start) (so
   }
 
   -- The hall with its first pass, which has every hand, keeps the invariant.
-  pub opens : Rule M (opening words (all_in M.start) (first_view M.start M.passes))
+  pub opens : Rule M (opening words (spread (all_in M.start)) (first_view M.start M.passes))
   opens = ([], owners, kept)

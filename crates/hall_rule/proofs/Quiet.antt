@@ -1,5 +1,5 @@
 -- The steps that make no event, and what becomes of one part by them.
-use Rattle.std.proofs.Common.{◌≡◌, ◌≢◌, ℕ, zero, suc, ◌+◌, ◌<◌, true, false, List, [], ◌∷◌, ◌++◌, Option, length, sym, ap, subst, ◌∙◌, ◌⊎◌, ⊎_elim, append-nil, arith}
+use Rattle.std.proofs.Common.{◌≡◌, ◌≢◌, ℕ, ◌+◌, ◌<◌, true, false, List, [], ◌∷◌, ◌++◌, Option, length, sym, ap, subst, ◌∙◌, ◌⊎◌, ⊎_elim, append-nil, arith}
 use Rattle.std.specs.Prelude.{slice_index}
 use mathlib.Core.Option as maybe
 use lib.ListN.{get_elem?}
@@ -7,6 +7,7 @@ use Rattle.atomic_table.specs.Table.{State}
 use Rattle.hall_rule.specs.EventLog.{LawfulFrom, Spares, has, own}
 use Rattle.hall_rule.specs.HallInvariant.{AtHome, GoesOn, HallInvariant, HoldsParts, Owners, OwnsSessions, hands_of, latch_word, since, stage}
 use Rattle.hall_rule.specs.Meaning.{Laws, Meaning}
+use Rattle.hall_rule.specs.Slots.{slot_of}
 use Rattle.hall_rule.specs.declared.view.Entry.{Entry}
 use Rattle.hall_rule.specs.declared.view.View.{View}
 use Rattle.hall_rule.proofs.Logs.{goes_on_whole, rest_is, since_whole}
@@ -27,7 +28,7 @@ module _ {P E T F : Type 0} (M : Meaning P E T F) where
     pub wide : length words ≡ length s.words
     pub deep : length homes ≡ length s.homes
     pub idle : hands_of v ≡ 0 → (k : ℕ) → stage w k ≡ 0
-    pub same : (k : ℕ) → k < length M.start → stage v k ≡ 0 → stage w k ≡ 0 → (slice_index words (latch_word k) ≡ slice_index s.words (latch_word k)) × (get_elem? homes k ≡ get_elem? s.homes k) × (part k ≡ o.part k)
+    pub same : (k : ℕ) → k < length M.start → stage v k ≡ 0 → stage w k ≡ 0 → (slice_index words (latch_word k) ≡ slice_index s.words (latch_word k)) × (get_elem? homes (slot_of k) ≡ get_elem? s.homes (slot_of k)) × (part k ≡ o.part k)
     pub fresh : (k : ℕ) → stage v k ≡ 0 → stage w k ≢ 0 → slice_index s.words (latch_word k) ≡ 0
     pub free : (k : ℕ) → k < length M.start → (stage v k ≢ 0) ⊎ (stage w k ≢ 0) → slice_index words (latch_word k) ≡ 0 → AtHome M log homes k
     pub latched : (k : ℕ) → k < length M.start → (stage v k ≢ 0) ⊎ (stage w k ≢ 0) → slice_index words (latch_word k) ≢ 0 → (part k ≡ id) × (stage w k ≢ 0)

@@ -1,5 +1,6 @@
 -- What holds of a hall between any two atomic steps. The words are the event word, a latch word for
--- each part, and then the block words; a slot for each part; and the view of each seat, whose
+-- each part, and then the block words, and behind each of them fifteen that nobody uses. There is
+-- a slot for each part, with three behind it that no step touches, and the view of each seat, whose
 -- number is the pass's.
 use Rattle.std.specs.Prelude.{◌≡◌, ◌≢◌, ℕ, suc, ◌+◌, ◌*◌, ◌^◌, ◌<◌, ◌≤◌, true, false, List, [], ◌∷◌}
 use Rattle.std.specs.Prelude.{◌++◌, Option, None, Some, length, drop, slice_get, slice_index}
@@ -9,6 +10,7 @@ use Rattle.atomic_table.specs.Table.{State}
 use Rattle.hall_rule.specs.EventLog.{Distinct, LawfulFrom, MadeBelow, Spares, Tied, Untouched, has}
 use Rattle.hall_rule.specs.EventLog.{own, replay}
 use Rattle.hall_rule.specs.Meaning.{Meaning}
+use Rattle.hall_rule.specs.Slots.{slot_of}
 use Rattle.hall_rule.specs.declared.view.Entry.{Entry}
 use Rattle.hall_rule.specs.declared.view.View.{View}
 
@@ -19,10 +21,11 @@ pub record Owners : Type 0 where
   pub number : ℕ → ℕ
   pub session : ℕ → ℕ
 
--- The word of a part's latch. Latches lie eight words apart from each other and from the event
--- word, so that no two lie in one line of a processor's cache.
+-- The word of the latch of the part k. Latches lie sixteen words apart from each other and from the
+-- event word, so that no two lie in the two lines of its cache that a processor fetches together. A
+-- hall of k parts and block words has as many words in all.
 abbrev pub latch_word : ℕ → ℕ
-latch_word k = 8 * k + 8
+latch_word k = 16 * k + 16
 
 module _ {E : Type 0} where
   -- The entries that the view has not seen.
@@ -54,10 +57,10 @@ module _ {E : Type 0} where
       → holds j v
 
 module _ {P E T F : Type 0} (M : Meaning P E T F) (log : List (Entry E)) where
-  -- The slot k has that part of what the log leaves.
+  -- The slot of the part k has that part of what the log leaves.
   abbrev pub AtHome : List (maybe.Option (Option P)) → ℕ → Type 0
   AtHome homes k = (p : P) × (slice_get (replay M log) k ≡ Some p)
-      × (get_elem? homes k ≡ maybe.some (maybe.some (Some p)))
+      × (get_elem? homes (slot_of k) ≡ maybe.some (maybe.some (Some p)))
 
   -- The view's log is a beginning of the log, and so is what it heard; its own entries are exactly
   -- those of its numbers.
@@ -88,7 +91,7 @@ module _ {P E T F : Type 0} (M : Meaning P E T F) (log : List (Entry E)) where
     pub loaded : (k : ℕ) → stage v k ≡ 2 → Untouched M k (replay M v.log) (since v log)
     pub kept : (k : ℕ) → stage v k ≡ 2
         → Untouched M k (replay M v.before) (drop (length v.before) log)
-    pub in_hand : (k : ℕ) → stage v k ≡ 2 → v.out ≢ suc k → get_elem? homes k
+    pub in_hand : (k : ℕ) → stage v k ≡ 2 → v.out ≢ suc k → get_elem? homes (slot_of k)
         ≡ maybe.some (maybe.some None)
     pub out : (k : ℕ) → v.out ≡ suc k → stage v k ≡ 2
     pub ever : (k : ℕ) → stage v k ≢ 0 → has k v.taken ≡ true
@@ -96,7 +99,7 @@ module _ {P E T F : Type 0} (M : Meaning P E T F) (log : List (Entry E)) where
   -- A part whose latch is free is at home, and one whose latch is taken is held by one view.
   pub record PartsAtHome (owners : Owners) (s : State (Option P) (View E)) : Type 0 where
     pub wide : length s.words ≡ latch_word (length M.start + M.blocks)
-    pub deep : length s.homes ≡ length M.start
+    pub deep : length s.homes ≡ slot_of (length M.start)
     pub free : (k : ℕ) → k < length M.start → slice_index s.words (latch_word k) ≡ 0
         → AtHome s.homes k
     pub latched : (k : ℕ) → k < length M.start → slice_index s.words (latch_word k) ≢ 0

@@ -4,4 +4,5 @@ pub mod Hands
 pub mod Marks
 pub mod Meaning
 pub mod Opening
+pub mod Slots
 pub mod Views

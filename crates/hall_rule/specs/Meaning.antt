@@ -19,11 +19,11 @@ pub record Meaning (P E T F : Type 0) : Type 1 where
   pub fact : F → List P → Type 0
   -- for how many passes the hall was made
   pub passes : ℕ
-  -- how many words stand behind the latch words
+  -- how many block words stand behind the latch words, as far apart as these
   pub blocks : ℕ
 
--- What a core means to a hall that is made for a number of passes. No word stands behind the latch
--- words yet.
+-- What a core means to a hall that is made for a number of passes. No block word stands behind
+-- the latch words yet.
 abbrev pub meaning : {C P E R S T F : Type 0} → Ghosts C P E R S T F → C → ℕ → Meaning P E T F
 meaning core_type core passes = let shape = core_type.shape_of core in record {
   start = core_type.state_of core;

@@ -7,6 +7,7 @@ use Rattle.hall_rule.specs.EventLog.{Distinct, LawfulFrom, Spares, Tied, has, is
 use Rattle.hall_rule.specs.EventLog.{replay}
 use Rattle.hall_rule.specs.HallInvariant.{GoesOn, hands_of, since, stage}
 use Rattle.hall_rule.specs.Meaning.{Meaning}
+use Rattle.hall_rule.specs.Slots.{slot_of}
 use Rattle.hall_rule.specs.declared.view.Entry.{Entry}
 use Rattle.hall_rule.specs.declared.view.View.{View}
 
@@ -198,7 +199,8 @@ module _ {P E T F : Type 0} (M : Meaning P E T F) where
   -- The log was seen, and the part k, as it leaves it, is out.
   abbrev pub Loads : ℕ → View E → ℕ → ℕ → Me (Option P) (View E) → Type 0
   Loads id v k n me = (log : List (Entry E)) × (p : P) × Learned id v log
-      × (slice_get (replay M log) k ≡ Some p) × (me.0 ≡ loaded v k log) × (me.1 ≡ (k, Some p) ∷ [])
+      × (slice_get (replay M log) k ≡ Some p) × (me.0 ≡ loaded v k log)
+      × (me.1 ≡ (slot_of k, Some p) ∷ [])
 
   -- The slot that was out is home.
   abbrev pub Homes : View E → ℕ → Me (Option P) (View E) → Type 0
@@ -206,7 +208,7 @@ module _ {P E T F : Type 0} (M : Meaning P E T F) where
 
   -- The empty slot of the part k is out.
   abbrev pub Draws : View E → ℕ → ℕ → Me (Option P) (View E) → Type 0
-  Draws v k n me = (me.0 ≡ drawn v k) × (me.1 ≡ (k, None) ∷ [])
+  Draws v k n me = (me.0 ≡ drawn v k) × (me.1 ≡ (slot_of k, None) ∷ [])
 
   -- The part k is home, and its latch is free.
   abbrev pub Gives : View E → ℕ → ℕ → Me (Option P) (View E) → Type 0

@@ -31,7 +31,7 @@ pub struct View<E> {
     /// Of each part: 0 where it is not held, 1 from its take, and 2 once the event word was loaded
     /// since.
     pub stages: LinkedList<u64>,
-    /// One more than the number of the slot that is out with the pass, 0 where none is.
+    /// One more than the number of the part whose slot is out with the pass, 0 where none is.
     pub out: u64,
     /// The sessions of its hands.
     pub sessions: LinkedList<u64>,

@@ -9,6 +9,7 @@ use Rattle.hall_rule.specs.HallInvariant.{GoesOn, hands_of, latch_word, stage}
 use Rattle.hall_rule.specs.Hands.{Holds}
 use Rattle.hall_rule.specs.Meaning.{Meaning, meaning}
 use Rattle.hall_rule.specs.declared.parts.Parts.{Ghosts}
+use Rattle.hall_rule.specs.Slots.{slot_of}
 use Rattle.hall_rule.specs.Views.{Learned, Stays, among, fresh}
 use Rattle.hall_rule.specs.declared.view.Entry.{Entry}
 use Rattle.hall_rule.specs.declared.view.View.{View}
@@ -46,10 +47,11 @@ abbrev pub means : {C P E R S T F : Type 0} → Ghosts C P E R S T F → HallVie
 means core_type hall = meaning core_type hall.core hall.passes
 
 module _ {P E T F : Type 0} (M : Meaning P E T F) where
-  -- The event word, a latch word for each part and the block words; and a slot for each part.
+  -- The event word, a latch word for each part and the block words, each with fifteen behind it;
+  -- and a slot for each part, with three behind it.
   pub record IsSized (z : TableId) : Type 0 where
     pub words : z.words ≡ latch_word (length M.start + M.blocks)
-    pub slots : z.slots ≡ length M.start
+    pub slots : z.slots ≡ slot_of (length M.start)
 
   -- A seat of the table z that was not joined into another, which can step on the part k.
   pub record IsAt (z : TableId) (seat : Seat (Option P) (View E)) (k : ℕ) : Type 0 where

@@ -6,10 +6,11 @@ ghost use Rattle.hall_rule.specs.EventLog.{replay};
 ghost use Rattle.hall_rule.specs.Hands.{Holds};
 ghost use Rattle.hall_rule.specs.declared.view.Entry.{Entry};
 ghost use Rattle.hall_rule.specs.Meaning.{planned};
+ghost use Rattle.hall_rule.specs.Slots.{slot_of};
 ghost use Rattle.hall_rule.specs.Views.{Learned, Loads, drawn, given, homed, loaded, staged};
 ghost use Rattle.hall_steps.specs.Hall.{IsAt, IsOf, IsSameSeat, IsSized, Looks};
 
-use crate::telling::{Board, Place, free_as, latch_as, latch_word, load_as};
+use crate::telling::{Board, Place, free_as, latch_as, latch_word, load_as, slot_of};
 use hall_rule::{Hand, Parts};
 use std::hint::spin_loop;
 use std::marker::Brand;
@@ -147,26 +148,26 @@ fn learn<C: Parts>(board: &Board<C>, seat: &mut Place<C>, part: u32)
     load_as::<C, Brand>(board, seat, 0, part);
 }
 
-/// Gives the empty slot of a part home.
+/// Gives the empty slot of a part home. The word that is loaded is the part's latch, which this
+/// processor has just written: one that others write too would have to be waited for.
 fn put_back<C: Parts>(board: &Board<C>, seat: &mut Place<C>, part: u32)
     requires at { IsAt (planned C.Parts board.now.key) board.now.table_id seat.old part }
-    requires empty { seat.old.me.1 ≡ (part, None) ∷ [] }
+    requires empty { seat.old.me.1 ≡ (slot_of part, None) ∷ [] }
     requires held { (stage seat.old.me.0 part ≡ 2) × (seat.old.me.0.out ≡ part + 1) }
     ensures seat { IsSameSeat seat.old seat.new }
     ensures home { seat.new.me ≡ (homed seat.old.me.0, []) }
 {
-    load_as::<C, Brand>(board, seat, 0, part);
+    load_as::<C, Brand>(board, seat, latch_word(part), part);
 }
 
-/// Takes out the empty slot of a part that is held. The word that is loaded is the part's latch: a
-/// load of the event word right behind the `fetch_add` that counted an event takes as long as a
-/// locked step.
+/// Takes out the empty slot of a part that is held. Its latch is loaded here too: a load of the
+/// event word right behind the `fetch_add` that counted an event takes as long as a locked step.
 fn draw<C: Parts>(board: &Board<C>, seat: &mut Place<C>, part: u32)
     requires at { IsAt (planned C.Parts board.now.key) board.now.table_id seat.old part }
     requires none_out { seat.old.me.1 ≡ [] }
     requires held { (stage seat.old.me.0 part ≡ 2) × (seat.old.me.0.out ≡ 0) }
     ensures seat { IsSameSeat seat.old seat.new }
-    ensures out { seat.new.me ≡ (drawn seat.old.me.0 part, (part, None) ∷ []) }
+    ensures out { seat.new.me ≡ (drawn seat.old.me.0 part, (slot_of part, None) ∷ []) }
 {
     load_as::<C, Brand>(board, seat, latch_word(part), part);
 }
@@ -174,7 +175,7 @@ fn draw<C: Parts>(board: &Board<C>, seat: &mut Place<C>, part: u32)
 /// Gives the slot of a part home, with the part in it, and frees its latch.
 fn release<C: Parts>(board: &Board<C>, seat: &mut Place<C>, part: u32)
     requires at { IsAt (planned C.Parts board.now.key) board.now.table_id seat.old part }
-    requires value { (p : C.Part) × (seat.old.me.1 ≡ (part, Some p) ∷ [])
+    requires value { (p : C.Part) × (seat.old.me.1 ≡ (slot_of part, Some p) ∷ [])
         × (slice_get (replay (planned C.Parts board.now.key) seat.old.me.0.log) part ≡ Some p) }
     requires held { (stage seat.old.me.0 part ≡ 2) × (seat.old.me.0.out ≡ part + 1) }
     ensures seat { IsSameSeat seat.old seat.new }
@@ -196,7 +197,7 @@ fn carry_out<C: Parts>(board: &Board<C>, seat: &mut Place<C>, part: u32) -> C::P
         × (seat.new.me ≡ (homed (loaded seat.old.me.0 part log), [])) }
 {
     learn(board, seat, part);
-    let out = board.exchange(seat, part as usize, None);
+    let out = board.exchange(seat, slot_of(part), None);
     put_back(board, seat, part);
     match out {
         Some(held) => held,
@@ -215,7 +216,7 @@ fn carry_in<C: Parts>(board: &Board<C>, seat: &mut Place<C>, part: u32, held: C:
     ensures given { seat.new.me ≡ (given seat.old.me.0 part, []) }
 {
     draw(board, seat, part);
-    drop(board.exchange(seat, part as usize, Some(held)));
+    drop(board.exchange(seat, slot_of(part), Some(held)));
     release(board, seat, part);
 }
 

@@ -6,6 +6,7 @@ ghost use prog.Atomic.{either};
 ghost use Rattle.atomic_table.specs.Table.{Allows, Joins, Me, Step, step};
 ghost use Rattle.hall_rule.specs.HallInvariant.{Rule, latch_word};
 ghost use Rattle.hall_rule.specs.Meaning.{planned};
+ghost use Rattle.hall_rule.specs.Slots.{slot_of};
 ghost use Rattle.hall_rule.specs.Views.{dealt, greatest, newcomer, spent_view};
 
 use atomic_table::{Join, Play, Seat, Shared, Split};
@@ -24,15 +25,28 @@ pub(crate) type Board<C> = Shared<
 /// A pass's seat at them.
 pub(crate) type Place<C> = Seat<Option<<C as Parts>::Part>, View<<C as Parts>::Event>>;
 
-/// How many words a latch has for itself: a line of the processors' caches, so that who takes it
-/// does not wait for who took its neighbour.
-const APART: usize = 8;
+/// How many words lie from one latch to the next, and from the event word to the first: 128 bytes,
+/// two lines of the processors' caches, which some fetch together, so that who takes a latch does
+/// not wait for who took its neighbour.
+const WORDS_APART: usize = 16;
 
 /// The word of a part's latch.
 pub(crate) fn latch_word(part: u32) -> usize
     ensures { result ≡ latch_word part }
 {
-    APART * part as usize + APART
+    WORDS_APART * part as usize + WORDS_APART
+}
+
+/// How many slots lie from that of one part to that of the next. Where a part is a tag and a
+/// pointer, a slot is 24 bytes and 72 lie between two: a line of the processors' caches, which has
+/// 64, never has some of both.
+pub(crate) const SLOTS_APART: usize = 4;
+
+/// The slot of a part.
+pub(crate) fn slot_of(part: u32) -> usize
+    ensures { result ≡ slot_of part }
+{
+    SLOTS_APART * part as usize
 }
 
 /// What a step tells. A call picks it.

@@ -12,7 +12,7 @@ load_as-requires-clause-keeps g c κs within =
     let M = meaning g.C.Parts key.core.value key.passes in
     let v = c.args.seat.now.me.0 in
     let r = c.requires in
-    rw r.empty (homes M laws c.args.board.now.table_id.slots c.args.seat.now.id v c.args.part r.at.live r.at.below r.at.room r.held.0 (r.held.1 ∙ add-one c.args.part))
+    rw (r.empty, c.latch_word.ensures) (homes M laws c.args.board.now.table_id.slots c.args.seat.now.id v c.args.part r.at.live r.at.below r.at.room r.held.0 (r.held.1 ∙ add-one c.args.part))
 
 pub returns-clause-home : goal.returns-clause-home
 returns-clause-home g c = let t = c.load_as.ensures.told.1 in λ i. (t.0 i, t.1 i)

@@ -6,6 +6,7 @@ use Rattle.hall_rule.specs.HallInvariant.{Rule}
 use Rattle.hall_rule.specs.Hands.{all_in}
 use Rattle.hall_rule.specs.Meaning.{meaning}
 use Rattle.hall_rule.specs.Opening.{first_view}
+use Rattle.hall_rule.specs.Slots.{spread}
 use Rattle.hall_rule.proofs.Opens.{opens, zeros}
 use Rattle.hall_steps.specs.Hall.{EachHand}
 use Rattle.hall_steps.proofs.Dividing.{Empty, each_first, nothing, opened_pass, replicate-length}
@@ -22,7 +23,7 @@ new-requires g c =
     let n : length ws ≡ c.latch_word.result = ap length is ∙ replicate-length c.latch_word.result 0 in
     let word = c.latch_word.ensures in
     let parts : c.parts-count.result ≡ length M.start = c.parts-count.ensures ∙ ap (λ (y : g.row.C.Denot). length (t.state_of y)) (sym c.of.ensures) in
-    let slots : c.into_places.result.items ≡ all_in M.start = c.into_places.ensures ∙ (c.in_ok-shape.ensures.1 ∙ ap (λ (y : g.row.C.Denot). all_in (t.state_of y)) (sym c.of.ensures)) in
+    let slots : c.in_ok-slots.slots.items ≡ spread (all_in M.start) = c.in_ok-slots.ensures.slots ∙ ap spread (c.into_places.ensures ∙ (c.in_ok-shape.ensures.1 ∙ ap (λ (y : g.row.C.Denot). all_in (t.state_of y)) (sym c.of.ensures))) in
     subst (λ xs. Rule M (opening ws xs (first_view M.start M.passes))) (sym slots)
     (opens M begins c.requires.passes.0 c.requires.passes.1 ws (omega (arith, n, word, parts)) (λ k. ap (λ l. slice_index l k) is ∙ zeros c.latch_word.result k))
 
