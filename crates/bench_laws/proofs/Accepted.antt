@@ -18,10 +18,11 @@ use Rattle.outcome_spec.specs.Answers.{is_acceptable, write_holds}
 use Rattle.outcome_spec.specs.Conflicts.{has_write}
 use Rattle.outcome_spec.specs.Numbers.{commit_holds, has_written}
 use Rattle.bench_spec.specs.Counted.{is_refused}
+use Rattle.timeline_laws.proofs.Order.{before-itself}
 use Rattle.bench_laws.proofs.Every.{Has, every-has, has-map, has-mapped}
 use Rattle.bench_laws.proofs.Replies.{IsInsertReply, IsUpdateReply}
 use Rattle.bench_laws.proofs.Parts.{Wrote, begin, insert, update, commit, replies_to, turn_of, turns}
-use Rattle.bench_laws.proofs.Order.{before-itself, before-round}
+use Rattle.bench_laws.proofs.Order.{before-round}
 use Rattle.bench_laws.proofs.Places.{about}
 use Rattle.bench_laws.proofs.Told.{Told, sound-at}
 use Rattle.bench_laws.proofs.Freezing.{not-freezing}

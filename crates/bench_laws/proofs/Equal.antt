@@ -5,7 +5,7 @@ use Rattle.std.proofs.Common.{◌≡◌, ◌⊎◌, inl, inr, ℕ, ◌+◌, ◌-
 use Rattle.std.specs.BTreeMap.{insert_entry}
 use Rattle.std.specs.Cmp.{eq_by_cmp_equiv}
 use Rattle.std.specs.Ordering.{match_ordering}
-use Rattle.std.proofs.lemmas.Bool.{or_cases}
+use Rattle.std.proofs.lemmas.Bool.{or_cases, both_ways}
 use Rattle.std.proofs.lemmas.List.Folds.{fold-map}
 use Rattle.std.proofs.lemmas.List.Sums.{fold-append}
 use Rattle.cell_model.specs.declared.cell.Cell.{Cell}
@@ -178,10 +178,6 @@ module _ (seed size : ℕ) (small : 4 * size ≤ 32768) (replies : List Entry) (
       ap (λ x. at_place (seen x) place) (sym e)
       ∙ still seed size replies told place m (n - m) (λ v k has is above under h. none v k has is above (omega (arith, under, e)) (sym (has-write v has place) ∙ h))
 
-  -- No test is both false and true.
-  false-true : (b : Bool) → b ≡ false → b ≡ true → ⊥
-  false-true b h k = let never : true ≡ false = sym k ∙ h in let impossible : ⊥ = cc in impossible
-
   -- Behind a transaction's commit a place has what the transaction leaves of the state before.
   state-behind : (w : Wrote) → Has w all → (k : ℕ) → w.number ≡ Some k → 1 ≤ k → (place : Place) → at_place (seen k) place ≡ formula w place (at_place (seen (k - 1)) place)
   state-behind w among zero is low place = absurd (omega (arith, low))
@@ -198,7 +194,7 @@ module _ (seed size : ℕ) (small : 4 * size ≤ 32768) (replies : List Entry) (
     where
       by : Every (λ w. touches_it place w ≡ false) all ⊎ LastSuch (touches_it place) all → at_place (seen told.last.snapshot) place ≡ at_place (fold behind_one [] all) place
       by (inl none) =
-          state-passes place 0 told.last.snapshot (omega arith) (λ v k has is above under h. false-true (touches_it place v) (every-has (λ w. touches_it place w ≡ false) all v none has) h)
+          state-passes place 0 told.last.snapshot (omega arith) (λ v k has is above under h. both_ways (touches_it place v) (every-has (λ w. touches_it place w ≡ false) all v none has) h)
           ∙ sym (fold-passes place all [] none)
       by (inr l) =
           let w = l.such in
@@ -228,7 +224,7 @@ module _ (seed size : ℕ) (small : 4 * size ≤ 32768) (replies : List Entry) (
                 let low = facts.earlier (commit v) j (among-replies seed size replies told v has (commit v) (inr (inr (inr (inl refl))))) (before-round (commit v) (commit l.such) (omega (arith, less, session))) is in
                 omega (arith, low, above)
             | inr (inl same) ↦ (let e : Some k ≡ Some j = sym is_k ∙ ap (λ (x : Wrote). x.number) same ∙ is in let f : k ≡ j = cc in omega (arith, f, above))
-            | inr (inr rest) ↦ false-true (touches_it place v) (every-has (λ x. touches_it place x ≡ false) l.rest v l.none rest) h
+            | inr (inr rest) ↦ both_ways (touches_it place v) (every-has (λ x. touches_it place x ≡ false) l.rest v l.none rest) h
           ]
 
   -- ---- so the two are the same rows

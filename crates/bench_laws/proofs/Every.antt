@@ -155,8 +155,3 @@ find-step p x xs y false is h rest = let r = rest h in (inr r.0, r.1)
 pub find-has : {X : Type 0} (p : X → Bool) (xs : List X) (y : X) → find p xs ≡ Some y → Has y xs × (p y ≡ true)
 find-has p [] y h = absurd (let never : ⊥ = cc in never)
 find-has p (x ∷ xs) y h = find-step p x xs y (p x) refl h (find-has p xs y)
-
--- a sum of no elements
-pub append-none : {X : Type 0} (xs : List X) → xs ++ [] ≡ xs
-append-none [] = refl
-append-none (x ∷ xs) = ap (λ ys. x ∷ ys) (append-none xs)

@@ -1,6 +1,6 @@
 -- No update is told that its block is freezing: a block that was sealed was gathered too, and each
 -- of its stamps is spent.
-use Rattle.std.proofs.Common.{◌≡◌, ◌⊎◌, inl, inr, ℕ, ◌+◌, ◌*◌, ◌<◌, ◌≤◌, Bool, true, false, ◌&&◌, eqb, nat_lt, nat_le, List, [], ◌∷◌, ◌++◌, length, Option, None, Some, refl, sym, ap, ◌∙◌, subst, arith, append_assoc}
+use Rattle.std.proofs.Common.{◌≡◌, ◌⊎◌, inl, inr, ℕ, ◌+◌, ◌*◌, ◌<◌, ◌≤◌, Bool, true, false, ◌&&◌, eqb, nat_lt, nat_le, List, [], ◌∷◌, ◌++◌, length, Option, None, Some, refl, sym, ap, ◌∙◌, subst, arith, append_assoc, append-nil}
 use Rattle.std.specs.Prelude.{if◌then◌else◌}
 use Rattle.std.specs.List.{count_by, cons_option}
 use Rattle.std.proofs.lemmas.Bool.{eqb-true, ltb-true, leb-true}
@@ -14,7 +14,7 @@ use Rattle.outcome_spec.specs.Tables.{slots_at}
 use Rattle.outcome_spec.specs.Upkeep.{stamp_in, rows_in, seals_in, freezes_in, stamp_count, freeze_holds, idle_gather_holds, upkeep_reply_holds, freezing_reply_holds}
 use Rattle.outcome_check.specs.Places.{Rises}
 use Rattle.bench_spec.specs.Counted.{is_refused}
-use Rattle.bench_laws.proofs.Every.{Every, Has, append-none, every-append, every-has, every-left, every-right, has-here}
+use Rattle.bench_laws.proofs.Every.{Every, Has, every-append, every-has, every-left, every-right, has-here}
 use Rattle.bench_laws.proofs.Replies.{IsCountReply, IsUpdateReply, IsSealReply, IsGatherReply}
 use Rattle.bench_laws.proofs.Parts.{Part, Writing, Keeping, Freezing, Wrote, Kept as KeptLine, Froze, Good, GoodWrote, From, InTurn, Under, begin, insert, update, commit, replies_to, kept_entry, seal_entry, gather_entry, entries_in, entries_of, last_begin, last_scan, last_export, last_commit, last_entries}
 use Rattle.bench_laws.proofs.Order.{Kept, before-round, shown-before, shown-not_after}
@@ -174,7 +174,7 @@ module _ (seed size : ℕ) (replies : List Entry) (told : Told seed size replies
       none-shown : (shown : Said → Option ℕ) → Mark shown → shown_in shown (front ++ replies_to w) ≡ shown_in shown front
       none-shown shown mark =
           filter_map-append (λ (x : Entry). shown x.reply.said) front (replies_to w)
-          ∙ (rw (mark.at_none w.snapshot, mark.insert_none w.insert_said good.insert_fits, mark.update_none w.update_said good.update_fits, mark.commit_none w.number) (append-none (shown_in shown front)))
+          ∙ (rw (mark.at_none w.snapshot, mark.insert_none w.insert_said good.insert_fits, mark.update_none w.update_said good.update_fits, mark.commit_none w.number) (append-nil (shown_in shown front)))
   balanced-more front (Keeping k) rest whole good level block =
       more-none (stamp_in 0 block) front (kept_entry k) (count-unstamped block k.told good.1) ∙ level block ∙ sym (more-none (rows_in 0 block) front (kept_entry k) (count-rowless block k.told good.1))
   balanced-more front (Freezing f) rest whole good level block =
@@ -191,7 +191,7 @@ module _ (seed size : ℕ) (replies : List Entry) (told : Told seed size replies
 
   -- Part by part the gathers of each block stay as many as its seals.
   balanced-to : (front : List Entry) (parts rest : List Part) → replies ≡ front ++ (entries_in (parts ++ rest) ++ last_entries told.last) → Every (Good seed) parts → Balanced front → Balanced (front ++ entries_in parts)
-  balanced-to front [] rest whole good level = subst Balanced (sym (append-none front)) level
+  balanced-to front [] rest whole good level = subst Balanced (sym (append-nil front)) level
   balanced-to front (part ∷ parts) rest whole good level =
       let split : replies ≡ front ++ (entries_of part ++ (entries_in (parts ++ rest) ++ last_entries told.last)) =
       whole ∙ ap (λ (es : List Entry). front ++ es) (append_assoc (entries_of part) (entries_in (parts ++ rest)) (last_entries told.last)) in
@@ -278,7 +278,7 @@ module _ (seed size : ℕ) (replies : List Entry) (told : Told seed size replies
     no-more : (shown : Said → Option ℕ) → Mark shown → shown_in shown ahead_update ≡ shown_in shown ahead_of
     no-more shown mark =
         filter_map-append (λ (x : Entry). shown x.reply.said) ahead_of (begin w ∷ insert w ∷ [])
-        ∙ (rw (mark.at_none w.snapshot, mark.insert_none w.insert_said good-here.insert_fits) (append-none (shown_in shown ahead_of)))
+        ∙ (rw (mark.at_none w.snapshot, mark.insert_none w.insert_said good-here.insert_fits) (append-nil (shown_in shown ahead_of)))
 
     marks-before : (shown : Said → Option ℕ) → Mark shown → shown_in shown (before replies (update w)) ≡ shown_in shown ahead_of
     marks-before shown mark =
@@ -291,7 +291,7 @@ module _ (seed size : ℕ) (replies : List Entry) (told : Told seed size replies
         ap (λ (es : List Entry). shown_in shown (not_after es (update w))) stands-update
         ∙ shown-not_after shown ahead_update (update w) (commit w ∷ behind_it) (subst Rises stands-update told.rises) (rest-update shown mark)
         ∙ filter_map-append (λ (x : Entry). shown x.reply.said) ahead_update (update w ∷ [])
-        ∙ (rw (mark.update_none w.update_said good-here.update_fits) (append-none (shown_in shown ahead_update)))
+        ∙ (rw (mark.update_none w.update_said good-here.update_fits) (append-nil (shown_in shown ahead_update)))
         ∙ no-more shown mark
 
     level : Balanced ahead_of

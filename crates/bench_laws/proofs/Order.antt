@@ -1,15 +1,17 @@
 -- Which replies stand before one in the order of lines, and what those before it, or not after it,
 -- show.
-use Rattle.std.proofs.Common.{◌≡◌, ◌⊎◌, inl, inr, ℕ, ◌<◌, Bool, true, false, cond, ◌&&◌, ◌||◌, not, eqb, nat_lt, List, [], ◌∷◌, ◌++◌, Option, None, Some, refl, sym, ap, ◌∙◌, subst, arith, append_assoc}
+use Rattle.std.proofs.Common.{◌≡◌, ◌⊎◌, inl, inr, ℕ, ◌<◌, Bool, true, false, cond, ◌&&◌, ◌||◌, not, eqb, nat_lt, List, [], ◌∷◌, ◌++◌, Option, None, Some, refl, sym, ap, ◌∙◌, subst, arith, append_assoc, append-nil}
 use Rattle.std.specs.List.{filter, list_all, cons_option}
-use Rattle.std.proofs.lemmas.Bool.{eq-eqb, lt-ltb, le-ltb, ne_eqb}
+use Rattle.std.proofs.lemmas.Bool.{eq-eqb, lt-ltb, le-ltb, ne_eqb, not_from_false, not_from_true}
 use Rattle.std.proofs.lemmas.List.Elements.{filter-append, filter_map-append}
 use Rattle.workload_spec.specs.declared.reply.Who.{Who}
 use Rattle.workload_spec.specs.declared.reply.Said.{Said}
 use Rattle.outcome_spec.specs.Entries.{Entry, before, not_after, is_before, is_not_after, is_same, shown_in}
 use Rattle.outcome_check.specs.Places.{Rises, is_ahead, is_earlier}
-use Rattle.outcome_check.proofs.Places.{Behind, Beside, Own, ahead-cases, earlier-itself, front-ahead, rest-behind, same-is, same-itself}
-use Rattle.bench_laws.proofs.Every.{Every, Has, all-has, append-none}
+use Rattle.outcome_check.proofs.Places.{Behind, Beside, Own, ahead-cases, earlier-itself, front-ahead, rest-behind, same-is}
+use Rattle.outcome_check.proofs.Order.{same-itself}
+use Rattle.timeline_laws.proofs.Order.{before-itself}
+use Rattle.bench_laws.proofs.Every.{Every, Has, all-has}
 
 -- ---- tests of two replies
 
@@ -77,12 +79,6 @@ ahead-own a b h who = by (ahead-cases a b h)
         before-test a b false true true true (le-ltb a.reply.round b.reply.round (let e = x.round in omega (arith, e))) (eq-eqb a.reply.round b.reply.round x.round)
         (subst (λ (w : Who). is_same w b.reply.who ≡ true) (sym who) (same-itself b.reply.who)) (lt-ltb a.reply.index b.reply.index x.index)
 
--- no reply is before itself
-pub before-itself : (a : Entry) → is_before a a ≡ false
-before-itself a =
-    before-test a a false (eqb a.reply.round a.reply.round) (is_same a.reply.who a.reply.who) false (le-ltb a.reply.round a.reply.round (omega arith)) refl refl (le-ltb a.reply.index a.reply.index (omega arith))
-    ∙ later (eqb a.reply.round a.reply.round) (is_same a.reply.who a.reply.who)
-
 -- ---- of the replies in front of one and behind it
 
 -- Where all elements pass a test, what follows from it holds of each.
@@ -141,7 +137,7 @@ module _ (shown : Said → Option ℕ) (p : Entry → Bool) where
   pub shown-both : (front rest : List Entry) → Every (Kept shown p true) front → Every (Kept shown p false) rest → shown_in shown (filter p (front ++ rest)) ≡ shown_in shown front
   shown-both front rest h k =
       ap (shown_in shown) (filter-append p front rest) ∙ filter_map-append (λ (x : Entry). shown x.reply.said) (filter p front) (filter p rest)
-      ∙ ap (λ (xs : List ℕ). shown_in shown (filter p front) ++ xs) (shown-dropped rest k) ∙ append-none (shown_in shown (filter p front)) ∙ shown-kept front h
+      ∙ ap (λ (xs : List ℕ). shown_in shown (filter p front) ++ xs) (shown-dropped rest k) ∙ append-nil (shown_in shown (filter p front)) ∙ shown-kept front h
 
 -- Where one property follows from another, it holds of each reply that has the other.
 every-so : (P Q : Entry → Type 0) → ((x : Entry) → P x → Q x) → (xs : List Entry) → Every P xs → Every Q xs
@@ -156,16 +152,6 @@ shown-before shown front e rest rises h =
     shown-both shown (λ x. is_before x e) front (e ∷ rest) h
     (inr (before-itself e), every-so (λ x. is_ahead e x ≡ true) (Kept shown (λ x. is_before x e) false) (λ x ahead. inr (ahead-not e x ahead)) rest (rest-are front e rest rises))
 
--- The negation of what is false is true.
-not-false : (b : Bool) → b ≡ false → not b ≡ true
-not-false true h = absurd (let never : ⊥ = cc in never)
-not-false false h = refl
-
--- The negation of what is true is false.
-not-true : (b : Bool) → b ≡ true → not b ≡ false
-not-true true h = refl
-not-true false h = absurd (let never : ⊥ = cc in never)
-
 -- What holds of each reply and of one more holds of each with it at the end.
 every-push : (P : Entry → Type 0) (xs : List Entry) (x : Entry) → Every P xs → P x → Every P (xs ++ x ∷ [])
 every-push P [] x h k = (k, tt)
@@ -179,13 +165,13 @@ shown-not_after shown front e rest rises h =
     ap (λ (es : List Entry). shown_in shown (not_after es e)) (sym (append_assoc front (e ∷ []) rest))
     ∙ shown-both shown (λ x. is_not_after x e) (front ++ e ∷ []) rest
     (every-push (Kept shown (λ x. is_not_after x e) true) front e
-    (every-so (λ x. is_ahead x e ≡ true) (Kept shown (λ x. is_not_after x e) true) (λ x ahead. inr (not-false (is_before e x) (ahead-not x e ahead))) front (front-are front e rest rises))
-    (inr (not-false (is_before e e) (before-itself e))))
+    (every-so (λ x. is_ahead x e ≡ true) (Kept shown (λ x. is_not_after x e) true) (λ x ahead. inr (not_from_false (is_before e x) (ahead-not x e ahead))) front (front-are front e rest rises))
+    (inr (not_from_false (is_before e e) (before-itself e))))
     (every-so (Kept shown (λ x. is_before e x) true) (Kept shown (λ x. is_not_after x e) false) turn rest h)
   where
     turn : (x : Entry) → Kept shown (λ x. is_before e x) true x → Kept shown (λ x. is_not_after x e) false x
     turn x (inl none) = inl none
-    turn x (inr is) = inr (not-true (is_before e x) is)
+    turn x (inr is) = inr (not_from_true (is_before e x) is)
 
 -- A number that an option shows is in the list that it begins.
 has-step : (o : Option ℕ) (k : ℕ) (xs : List ℕ) → o ≡ Some k → Has k (cons_option o xs)

@@ -1,5 +1,5 @@
 -- Round by round, the replies of a generated workload are read as its parts.
-use Rattle.std.proofs.Common.{◌≡◌, ℕ, ◌+◌, ◌*◌, ◌/◌, ◌%◌, ◌≤◌, zero, suc, Bool, true, false, ◌||◌, List, [], ◌∷◌, ◌++◌, refl, ap, ◌∙◌, subst, arith}
+use Rattle.std.proofs.Common.{◌≡◌, ℕ, ◌+◌, ◌*◌, ◌/◌, ◌%◌, ◌≤◌, zero, suc, Bool, true, false, ◌||◌, List, [], ◌∷◌, ◌++◌, refl, ap, ◌∙◌, subst, arith, append-nil}
 use Rattle.std.specs.Prelude.{flat_map, if◌then◌else◌, ◌==◌}
 use Rattle.std.specs.List.{enumerate_from, range_with_len}
 use Rattle.cell_model.specs.declared.table.TableDecl.{TableDecl}
@@ -13,7 +13,6 @@ use Rattle.workload_spec.specs.declared.script.Script.{Script}
 use Rattle.outcome_spec.specs.Entries.{Entry}
 use Rattle.outcome_spec.specs.Forms.{Due, commands_of, dues_in, dues_to, entry_behind, is_upkeep, is_within}
 use Rattle.bench_spec.specs.Generated.{bench_script, bench_table, freezing, last_round, rounds_at, upkeep_round, write_round, writers}
-use Rattle.bench_laws.proofs.Every.{append-none}
 use Rattle.bench_laws.proofs.Replies.{due, Goes, step, done, within-count, within-seal, within-gather, within-scan, within-export, begin-shows, commit-shows, fits-in, fits-out, fits-upkeep, FitsBy, IsBeginReply, IsCommitReply, IsCountReply, IsSealReply, IsGatherReply, IsScanReply, IsExportReply}
 use Rattle.bench_laws.proofs.Parts.{Wrote, Kept, Froze, Last, GoodWrote, IsKept, Rest, first_row, next_row, rest-weaker, rest-writes, rest-keeps, rest-freezes, replies_to, turns}
 use Rattle.bench_laws.proofs.Walk.{AllOut, tx_dues, transaction-read, own-more, quiet-more}
@@ -195,7 +194,7 @@ module _ (seed : ℕ) (all : List (List Line)) where
   upkeep-dues round turn =
       ap (λ (ds : List Due). due round 1 command.Prune ∷ due round 1 command.Observe ∷ due round 1 command.Observe ∷ due round 1 (command.Compact 0) ∷ ds)
       (rw (commands-one (blocks_at turn), commands-none 2 refl (blocks_at turn), commands-none 3 refl (blocks_at turn), commands-none 4 refl (blocks_at turn), dues-one round (blocks_at turn))
-      (append-none (freeze_dues round (blocks_at turn) ++ []) ∙ append-none (freeze_dues round (blocks_at turn))))
+      (append-nil (freeze_dues round (blocks_at turn) ++ []) ∙ append-nil (freeze_dues round (blocks_at turn))))
 
 -- ---- all rounds
 

@@ -1,5 +1,5 @@
 -- The stamps of a block rise by one from seal to seal.
-use Rattle.std.proofs.Common.{◌≡◌, ◌⊎◌, inl, inr, ℕ, ◌+◌, ◌<◌, ◌≤◌, suc, Bool, true, false, cond, ◌&&◌, eqb, nat_lt, nat_le, List, [], ◌∷◌, ◌++◌, length, Option, None, Some, refl, sym, ap, ◌∙◌, subst, arith, append_assoc}
+use Rattle.std.proofs.Common.{◌≡◌, ◌⊎◌, inl, inr, ℕ, ◌+◌, ◌<◌, ◌≤◌, suc, Bool, true, false, cond, ◌&&◌, eqb, nat_lt, nat_le, List, [], ◌∷◌, ◌++◌, length, Option, None, Some, refl, sym, ap, ◌∙◌, subst, arith, append_assoc, append-nil}
 use Rattle.std.specs.Prelude.{if◌then◌else◌}
 use Rattle.std.specs.List.{list_all, count_by, cons_option}
 use Rattle.std.proofs.lemmas.Bool.{and_parts, eqb-true, ltb-true, leb-true}
@@ -13,7 +13,7 @@ use Rattle.outcome_spec.specs.Entries.{Entry, before, not_after, is_before, show
 use Rattle.outcome_spec.specs.Runs.{Run, run_of}
 use Rattle.outcome_spec.specs.Upkeep.{stamp_in, rows_in, seals_in, stamp_count, seal_holds}
 use Rattle.outcome_check.specs.Places.{Rises, is_ahead}
-use Rattle.bench_laws.proofs.Every.{Every, Has, append-none, every-append, every-has, every-left, every-right, every-weaker, has-here}
+use Rattle.bench_laws.proofs.Every.{Every, Has, every-append, every-has, every-left, every-right, every-weaker, has-here}
 use Rattle.bench_laws.proofs.Replies.{IsInsertReply, IsUpdateReply}
 use Rattle.bench_laws.proofs.Parts.{Part, Writing, Keeping, Freezing, Good, entries_in, entries_of, last_entries}
 use Rattle.bench_laws.proofs.Order.{Kept, ahead-own, front-are, rest-are, shown-before, shown-not_after}
@@ -233,7 +233,7 @@ module _ (seed size : ℕ) (replies : List Entry) (told : Told seed size replies
       by : (o : Option ℕ) → stamp_in 0 block e.reply.said ≡ o → Climb (shown_in (stamp_in 0 block) front ++ cons_option (stamp_in 0 block e.reply.said) []) (shown_in (stamp_in 0 block) rest)
           → Climb (shown_in (stamp_in 0 block) front) (cons_option o (shown_in (stamp_in 0 block) rest))
       by None is h =
-          subst (λ (xs : List ℕ). Climb xs (shown_in (stamp_in 0 block) rest)) (ap (λ (o : Option ℕ). shown_in (stamp_in 0 block) front ++ cons_option o []) is ∙ append-none (shown_in (stamp_in 0 block) front)) h
+          subst (λ (xs : List ℕ). Climb xs (shown_in (stamp_in 0 block) rest)) (ap (λ (o : Option ℕ). shown_in (stamp_in 0 block) front ++ cons_option o []) is ∙ append-nil (shown_in (stamp_in 0 block) front)) h
       by (Some k) is h =
           let has : Has e replies = subst (Has e) (sym whole) (has-here front e rest) in
           let who = who-first (stamp_in 0 block) e k (every-has (First (stamp_in 0 block)) replies e (firsts (stamp_in 0 block) (stamp-mark block)) has) is in (

@@ -1,8 +1,8 @@
 -- The columns of a batch one after another, and the rows that they are.
-use Rattle.std.proofs.Common.{◌≡◌, ℕ, zero, suc, ◌+◌, ◌<◌, ◌≤◌, ◌&&◌, Bool, true, false, List, [], ◌∷◌, ◌++◌, length, map, take, drop, get_or, Ok, Err, refl, sym, ap, ◌∙◌, arith, drop-cons, length-drop, length-take, add-one, append_assoc, ◌-◌, ◌==◌, eq-eqb}
+use Rattle.std.proofs.Common.{◌≡◌, ℕ, zero, suc, ◌+◌, ◌<◌, ◌≤◌, Bool, true, false, List, [], ◌∷◌, ◌++◌, length, map, take, drop, get_or, Ok, Err, refl, sym, ap, ◌∙◌, arith, drop-cons, length-drop, length-take, add-one, append_assoc, ◌-◌, ◌==◌, eq-eqb}
 use Rattle.std.specs.Prelude.{pos, Result, IfOk, Some, slice_get, slice_index_or}
 use Rattle.std.specs.List.{list_all, range_with_len}
-use Rattle.std.proofs.lemmas.Bool.{le-leb}
+use Rattle.std.proofs.lemmas.Bool.{le-leb, and_parts, and_from}
 use Rattle.std.proofs.lemmas.List.{get_or_default, take_all}
 use Rattle.std.proofs.lemmas.List.Folds.{list_all_at}
 use Rattle.std.proofs.lemmas.List.FromFn.{get_or-map-range_with_len, length-map-range_with_len}
@@ -22,7 +22,7 @@ use Rattle.stream_spec.specs.declared.message.FieldNode.{FieldNode}
 use Rattle.ipc_read.specs.declared.views.View.{View}
 use Rattle.ipc_read.specs.Views.{cell_in, cells_in, has_room}
 use Rattle.ipc_read.specs.Batches.{has_slot, have_room, have_slot, row_in, rows_in}
-use Rattle.ipc_read.proofs.ViewLemmas.{anded, room_at}
+use Rattle.ipc_read.proofs.ViewLemmas.{room_at}
 
 -- what holds of all holds of each
 module _ {X : Type 0} (p : X → Bool) (xs : List X) (k : ℕ) (x : X) (all : list_all p xs ≡ true) (lt : k < length xs) (is : x ≡ get_or xs k x) where
@@ -35,22 +35,17 @@ module _ {X : Type 0} (p : X → Bool) (xs : List X) (k : ℕ) (x : X) (all : li
   pub all_at : p x ≡ true
   all_at = all_by (p x) refl
 
--- both hold
-split : (a b : Bool) → (a && b) ≡ true → (a ≡ true) × (b ≡ true)
-split true b is = (refl, is)
-split false b is = absurd cc
-
 -- one more of which it holds
 pub all_more : {X : Type 0} (p : X → Bool) (xs : List X) (x : X) → list_all p xs ≡ true → p x ≡ true → list_all p (xs ++ x ∷ []) ≡ true
-all_more p [] x all here = anded (p x) true here refl
-all_more p (y ∷ ys) x all here = let both = split (p y) (list_all p ys) all in anded (p y) (list_all p (ys ++ x ∷ [])) both.0 (all_more p ys x both.1 here)
+all_more p [] x all here = and_from (p x) true here refl
+all_more p (y ∷ ys) x all here = let both = and_parts (p y) (list_all p ys) all in and_from (p y) (list_all p (ys ++ x ∷ [])) both.0 (all_more p ys x both.1 here)
 
 -- the data of columns with room for all rows reach as far as each slot
 pub slot_in_room : (rows i : ℕ) → i < rows → (views : List View) → have_room rows views ≡ true → have_slot i views ≡ true
 slot_in_room rows i lt [] all = refl
 slot_in_room rows i lt (view ∷ views) all =
-    let both = split (has_room rows view) (have_room rows views) all in
-    anded (has_slot i view) (have_slot i views) (le-leb _ _ (room_at view.kind i rows (length view.data.now) lt both.0)) (slot_in_room rows i lt views both.1)
+    let both = and_parts (has_room rows view) (have_room rows views) all in
+    and_from (has_slot i view) (have_slot i views) (le-leb _ _ (room_at view.kind i rows (length view.data.now) lt both.0)) (slot_in_room rows i lt views both.1)
 
 -- ---- columns one after another
 

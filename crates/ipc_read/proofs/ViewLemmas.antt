@@ -1,7 +1,7 @@
 -- What a column's buffers are, kind by kind.
 use Rattle.std.proofs.Common.{◌≡◌, ℕ, ◌+◌, ◌<◌, ◌≤◌, ◌&&◌, ◌||◌, ◌==◌, ◌⊎◌, inl, inr, Bool, true, false, List, [], ◌∷◌, length, map, take, get_or, refl, sym, ap, ◌∙◌, arith}
 use Rattle.std.specs.Prelude.{nat_le, slice_index, unsigned_abs, ℤ, pos, Result, Ok, Err}
-use Rattle.std.proofs.lemmas.Bool.{leb-true, le-leb, eqb-true}
+use Rattle.std.proofs.lemmas.Bool.{leb-true, le-leb, eqb-true, and_from}
 use Rattle.std.specs.List.{list_all}
 use Rattle.std.specs.Ordering.{int_eq}
 use Rattle.cell_model.specs.declared.cell.Cell.{Cell}
@@ -42,14 +42,10 @@ room_at k i rows length lt room =
     let more : need_of k (i + 1) ≤ need_of k rows = grows k i rows lt in
     omega (arith, all, more)
 
--- two tests that pass each pass together
-pub anded : (a b : Bool) → a ≡ true → b ≡ true → (a && b) ≡ true
-anded a b p q = ap (λ (x : Bool). x && b) p ∙ q
-
 -- Where the first and the last hold, the first and one of the other two do.
 free : (a b c : Bool) → a ≡ true → c ≡ true → (a && (b || c)) ≡ true
-free a true c p q = anded a true p refl
-free a false c p q = anded a c p q
+free a true c p q = and_from a true p refl
+free a false c p q = and_from a c p q
 
 -- a list of one, and of two
 one_item : {A : Type 0} (items : List A) (d : A) → length items ≡ 1 → items ≡ get_or items 0 d ∷ []
@@ -91,7 +87,7 @@ with_values body rows values buffers d e count two first second = elim (shape_of
   | inr is ↦
       ap (λ (needs : List ℕ). are_buffers body rows needs buffers) is.needs_are
       ∙ (ap (are_buffers body rows (slice_index (data_needs values rows) 0 ∷ 0 ∷ [])) (two_items buffers d e (count ∙ is.count_is))
-      ∙ anded _ _ first (anded _ _ (free (lies_in body (get_or buffers 1 e)) (rows == 0) (nat_le 0 (count_in (get_or buffers 1 e))) second (le-leb 0 _ (omega arith))) refl))
+      ∙ and_from _ _ first (and_from _ _ (free (lies_in body (get_or buffers 1 e)) (rows == 0) (nat_le 0 (count_in (get_or buffers 1 e))) second (le-leb 0 _ (omega arith))) refl))
 ]
 
 -- and where there is none
@@ -103,7 +99,7 @@ without_values body rows values buffers d count few first = elim (shape_of value
   | inl is ↦
       ap (λ (needs : List ℕ). are_buffers body rows needs buffers) is.needs_are
       ∙ (ap (are_buffers body rows (slice_index (data_needs values rows) 0 ∷ [])) (one_item buffers d (count ∙ is.count_is))
-      ∙ anded _ _ first refl)
+      ∙ and_from _ _ first refl)
   | inr two ↦ absurd (omega (arith, two.count_is, count, few))
 ]
 

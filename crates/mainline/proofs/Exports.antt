@@ -2,6 +2,7 @@
 use Rattle.std.proofs.Common.{◌≡◌, ℕ, Bool, true, false, cond, ◌||◌, ◌==◌, List, [], ◌∷◌, ◌++◌, refl, ap, sym, ◌∙◌}
 use Rattle.std.specs.List.{flat_map, list_any}
 use Rattle.std.proofs.lemmas.List.Folds.{list_any-append}
+use Rattle.std.proofs.lemmas.Bool.{or_left, or_right}
 use Rattle.export_spec.specs.Sent.{has_export}
 use Rattle.round_laws.specs.Fronts.{AreFirstLines, lines_of}
 use Rattle.store_rounds.specs.Workloads.{LinesEndAtExport}
@@ -20,16 +21,6 @@ rounds_export [] = refl
 rounds_export (round ∷ rounds) =
     ap (λ (b : Bool). list_any exports round || b) (rounds_export rounds)
     ∙ sym (list_any-append exports round (flat_map (λ (round : List Line). round) rounds))
-
--- Where the first of two is true, so is their disjunction.
-or_left : (a b : Bool) → a ≡ true → (a || b) ≡ true
-or_left true b is = refl
-or_left false b is = absurd cc
-
--- Where the second of two is true, so is their disjunction.
-or_right : (a b : Bool) → b ≡ true → (a || b) ≡ true
-or_right true b is = refl
-or_right false b is = is
 
 -- A true disjunction is true with a second in place that its own second implies.
 or_more : (a b c : Bool) → (b ≡ true → c ≡ true) → (a || b) ≡ true → (a || c) ≡ true

@@ -4,14 +4,9 @@ use Rattle.std.specs.Prelude.{◌&&◌, nat_le, nat_lt, if◌then◌else◌}
 use Rattle.std.specs.Char.{digit_value}
 use Rattle.std.specs.List.{list_all}
 use Rattle.std.specs.Str.Parse.{AllDigits, IsNumeral, digits_value, without_leading_plus}
-use Rattle.std.proofs.lemmas.Bool.{le-leb, leb-true, lt-ltb, ltb-true}
+use Rattle.std.proofs.lemmas.Bool.{le-leb, leb-true, lt-ltb, ltb-true, and_parts, and_right}
 use Rattle.clap.specs.Words.{Text}
 use Rattle.mainline.specs.Words.{are_digits, number_in, within}
-
--- Where a conjunction is true, so is each of the two.
-both : (a b : Bool) → (a && b) ≡ true → (a ≡ true) × (b ≡ true)
-both true b is = (refl, is)
-both false b is = absurd cc
 
 -- Where all bytes are digits, each of them has a value below ten.
 each_digit : (bytes : List ℕ) → AllDigits 10 bytes → list_all (λ byte. nat_lt (digit_value byte) 10) bytes ≡ true
@@ -22,7 +17,7 @@ each_digit (byte ∷ bytes) all = ap₂ (λ (a b : Bool). a && b) (lt-ltb (digit
 all_digits : (bytes : List ℕ) → list_all (λ byte. nat_lt (digit_value byte) 10) bytes ≡ true → AllDigits 10 bytes
 all_digits [] each = tt
 all_digits (byte ∷ bytes) each =
-    let parts = both (nat_lt (digit_value byte) 10) (list_all (λ b. nat_lt (digit_value b) 10) bytes) each in
+    let parts = and_parts (nat_lt (digit_value byte) 10) (list_all (λ b. nat_lt (digit_value b) 10) bytes) each in
     (ltb-true (digit_value byte) 10 parts.0, all_digits bytes parts.1)
 
 -- The bytes of a decimal numeral pass the test for digits.
@@ -32,7 +27,7 @@ digits_are bytes numeral = ap₂ (λ (a b : Bool). a && b) (lt-ltb 0 (length byt
 -- Bytes that pass the test for digits are a decimal numeral.
 numeral_of : (bytes : List ℕ) → are_digits bytes ≡ true → IsNumeral 10 bytes
 numeral_of bytes are =
-    let parts = both (nat_lt 0 (length bytes)) (list_all (λ b. nat_lt (digit_value b) 10) bytes) are in
+    let parts = and_parts (nat_lt 0 (length bytes)) (list_all (λ b. nat_lt (digit_value b) 10) bytes) are in
     (ltb-true 0 (length bytes) parts.0, all_digits bytes parts.1)
 
 -- a number that a word gives and that lies between
@@ -44,16 +39,11 @@ number_found low high word number numeral is above below =
     some ∙ ap (within low high) is
     ∙ ap (λ (b : Bool). if b then within low high (digits_value 10 (without_leading_plus word)) else None) (sym (digits_are (without_leading_plus word) numeral))
 
--- A conjunction with something false is false.
-and_false : (a : Bool) → (a && false) ≡ false
-and_false true = refl
-and_false false = refl
-
 -- A value above the high bound is not within the bounds.
 too_high : (low high value : ℕ) (b : Bool) → nat_le value high ≡ b → (value ≤ high → ⊥) → None ≡ within low high value
 too_high low high value true is above = absurd (above (leb-true value high is))
 too_high low high value false is above =
-    ap (λ (b : Bool). if b then Some value else None) (sym (ap (λ (c : Bool). nat_le low value && c) is ∙ and_false (nat_le low value)))
+    ap (λ (b : Bool). if b then Some value else None) (sym (ap (λ (c : Bool). nat_le low value && c) is ∙ and_right (nat_le low value) false refl))
 
 -- a word that is none of 64 bits
 pub number_missed : (low high : ℕ) (word : Text) → high < 2 ^ 64 → (IsNumeral 10 (without_leading_plus word) × (digits_value 10 (without_leading_plus word) < 2 ^ 64) → ⊥)

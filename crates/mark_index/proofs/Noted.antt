@@ -1,5 +1,5 @@
 -- Marks that follow the elements one by one.
-use Rattle.std.proofs.Common.{◌≡◌, ℕ, ◌+◌, ◌-◌, ◌*◌, ◌^◌, ◌<◌, ◌≤◌, ◌⊎◌, inl, inr, max, zero, suc, Bool, true, false, cond, List, [], ◌∷◌, ◌++◌, length, take, drop, get_or, nat_lt, Option, None, Some, refl, sym, ap, ◌∙◌, subst, arith, append_assoc, append-nil, zero-add}
+use Rattle.std.proofs.Common.{◌≡◌, ℕ, ◌+◌, ◌-◌, ◌*◌, ◌^◌, ◌<◌, ◌≤◌, ◌⊎◌, inl, inr, max, zero, suc, Bool, true, false, cond, List, [], ◌∷◌, ◌++◌, length, take, drop, get_or, nat_lt, Option, None, Some, refl, sym, ap, ◌∙◌, subst, arith, append_assoc, append-nil, zero-add, Result, Ok, Err, OnOk}
 use Rattle.std.specs.List.{filter, last_or, list_all, count_by, sum_by}
 use Rattle.std.specs.List.Sorted.{IsNonDecreasingBy}
 use Rattle.std.specs.Option.{option_map_or}
@@ -14,6 +14,11 @@ use Rattle.mark_index.specs.declared.marks.Peak.{Peak}
 use Rattle.mark_index.specs.declared.marks.Sum.{Sum}
 use Rattle.mark_index.specs.Marks.{highest, part, count_below, AreCounted, last_below, most_below, own_below, ArePeaks, AreStarts, next_peak, AreSums, last_sum, total_below, next_sum}
 
+-- what follows where a result is one that went well
+pub on-ok : {T E : Type 0} (P Q : Type 0) (r : Result T E) → (P → Q) → OnOk r P → OnOk r Q
+on-ok P Q (Ok x) f h = f h
+on-ok P Q (Err e) f h = tt
+
 -- ---- tests that all pass
 
 -- what passes a test passes one that it implies
@@ -23,18 +28,18 @@ all-weaker p q so (x ∷ xs) h =
     let parts = and_parts (p x) (list_all p xs) h in
     and_from (q x) (list_all q xs) (so x parts.0) (all-weaker p q so xs parts.1)
 
--- Where all elements pass, the one at each place does.
-all-get : {X : Type 0} (p : X → Bool) (xs : List X) (i : ℕ) (d : X) → i < length xs → list_all p xs ≡ true → p (get_or xs i d) ≡ true
+-- where all elements pass, the one at each place does
+pub all-get : {X : Type 0} (p : X → Bool) (xs : List X) (i : ℕ) (d : X) → i < length xs → list_all p xs ≡ true → p (get_or xs i d) ≡ true
 all-get p [] i d within h = absurd (omega (arith, within))
 all-get p (x ∷ xs) zero d within h = (and_parts (p x) (list_all p xs) h).0
 all-get p (x ∷ xs) (suc i) d within h = all-get p xs i d (omega (arith, within)) (and_parts (p x) (list_all p xs) h).1
 
--- Where all elements pass and one more does, all of them with it do.
-all-push : {X : Type 0} (p : X → Bool) (xs : List X) (x : X) → list_all p xs ≡ true → p x ≡ true → list_all p (xs ++ x ∷ []) ≡ true
+-- where all elements pass and one more does, all of them with it do
+pub all-push : {X : Type 0} (p : X → Bool) (xs : List X) (x : X) → list_all p xs ≡ true → p x ≡ true → list_all p (xs ++ x ∷ []) ≡ true
 all-push p xs x h k = list_all-append p xs (x ∷ []) ∙ rw (h, k) refl
 
--- Where all elements pass the test, it keeps them all.
-filter-all : {X : Type 0} (p : X → Bool) (xs : List X) → list_all p xs ≡ true → filter p xs ≡ xs
+-- where all elements pass the test, it keeps them all
+pub filter-all : {X : Type 0} (p : X → Bool) (xs : List X) → list_all p xs ≡ true → filter p xs ≡ xs
 filter-all p [] h = refl
 filter-all p (x ∷ xs) h =
     let parts = and_parts (p x) (list_all p xs) h in
@@ -59,14 +64,14 @@ count-push p xs x =
 lower : {X : Type 0} (place : X → ℕ) (m n : ℕ) → m ≤ n → (xs : List X) → list_all (λ x. nat_lt (place x) m) xs ≡ true → list_all (λ x. nat_lt (place x) n) xs ≡ true
 lower place m n h xs k = all-weaker (λ x. nat_lt (place x) m) (λ x. nat_lt (place x) n) (λ x is. lt-ltb (place x) n (let low = ltb-true (place x) m is in omega (arith, low, h))) xs k
 
--- Elements that rise by their places do so with one behind them that is above all.
-rises-push : {X : Type 0} (place : X → ℕ) (xs : List X) (x : X) → IsNonDecreasingBy place xs → list_all (λ y. nat_lt (place y) (place x)) xs ≡ true → IsNonDecreasingBy place (xs ++ x ∷ [])
+-- elements that rise by their places do so with one behind them that is above all
+pub rises-push : {X : Type 0} (place : X → ℕ) (xs : List X) (x : X) → IsNonDecreasingBy place xs → list_all (λ y. nat_lt (place y) (place x)) xs ≡ true → IsNonDecreasingBy place (xs ++ x ∷ [])
 rises-push place xs x rise within =
     IsNonDecreasingBy-push place xs x rise
     (λ d some. let last = ltb-true (place (get_or xs (length xs - 1) d)) (place x) (all-get (λ y. nat_lt (place y) (place x)) xs (length xs - 1) d (omega (arith, some)) within) in omega (arith, last))
 
 -- a place is up to another or the next
-up-to-next : (place n : ℕ) → place ≤ n + 1 → (place ≤ n) ⊎ (place ≡ n + 1)
+pub up-to-next : (place n : ℕ) → place ≤ n + 1 → (place ≤ n) ⊎ (place ≡ n + 1)
 up-to-next place n h = by (cases_lt n place)
   where
     by : (n < place) ⊎ (place ≤ n) → (place ≤ n) ⊎ (place ≡ n + 1)
@@ -147,8 +152,8 @@ pub highest-append : {X : Type 0} (value : X → ℕ) (xs ys : List X) → highe
 highest-append value [] ys = omega arith
 highest-append value (x ∷ xs) ys = let rest = highest-append value xs ys in omega (arith, rest)
 
--- The last of a list with one element more is this element.
-last-push : {X : Type 0} (first : Option X) (xs : List X) (x : X) → last_or first (xs ++ x ∷ []) ≡ Some x
+-- the last of a list with one element more is this element
+pub last-push : {X : Type 0} (first : Option X) (xs : List X) (x : X) → last_or first (xs ++ x ∷ []) ≡ Some x
 last-push first [] x = refl
 last-push first (y ∷ xs) x = last-push (Some y) xs x
 

@@ -1,7 +1,7 @@
 -- Which replies of each side are before one, and which it is before.
 use Rattle.std.proofs.Common.{◌≡◌, ℕ, Bool, true, false, cond, ◌&&◌, not, eqb, nat_lt, List, [], ◌∷◌, ◌++◌, refl, ap, ◌∙◌, ◌+◌, sum_by, append-nil, arith}
 use Rattle.std.specs.List.{filter, list_all}
-use Rattle.std.proofs.lemmas.Bool.{and_parts, not-true}
+use Rattle.std.proofs.lemmas.Bool.{and_parts, not-true, not_from_false, not_from_true}
 use Rattle.std.proofs.lemmas.Bool.Decides.{nat_tests}
 use Rattle.std.proofs.lemmas.List.Elements.{filter-append}
 use Rattle.std.proofs.lemmas.List.Sums.{sum_by-append, sum_by-cons}
@@ -35,10 +35,10 @@ same-turned (Session a) (Worker b) = refl
 same-turned (Worker a) (Session b) = refl
 same-turned (Worker a) (Worker b) = grind (arith, nat_tests)
 
--- A session or worker is the same as itself.
-itself : (a : Who) → is_same a a ≡ true
-itself (Session a) = grind (arith, nat_tests)
-itself (Worker a) = grind (arith, nat_tests)
+-- each is the same as himself
+pub same-itself : (a : Who) → is_same a a ≡ true
+same-itself (Session a) = grind (arith, nat_tests)
+same-itself (Worker a) = grind (arith, nat_tests)
 
 -- A number that is below another is neither above nor equal to it.
 less-not : (a b : ℕ) → nat_lt a b ≡ true → (nat_lt b a ≡ false) × (eqb b a ≡ false)
@@ -116,15 +116,7 @@ not-before-itself entry =
     let round : nat_lt entry.reply.round entry.reply.round ≡ false = grind (arith, nat_tests) in
     let equal : eqb entry.reply.round entry.reply.round ≡ true = grind (arith, nat_tests) in
     let index : nat_lt entry.reply.index entry.reply.index ≡ false = grind (arith, nat_tests) in
-    rw (round, equal, itself entry.reply.who, index) refl
-
--- The negation of what is false is true.
-turn-not : (b : Bool) → b ≡ false → not b ≡ true
-turn-not b h = ap not h
-
--- The negation of what is true is false.
-turn-true : (b : Bool) → b ≡ true → not b ≡ false
-turn-true b h = ap not h
+    rw (round, equal, same-itself entry.reply.who, index) refl
 
 -- ---- the sides, kept or left
 
@@ -156,12 +148,12 @@ sides-before entries entry sides =
 pub sides-not_after : (entries : List Entry) (entry : Entry) (sides : Sides entries entry) → not_after entries entry ≡ sides.past ++ (sides.front ++ (sides.own ++ entry ∷ sides.back))
 sides-not_after entries entry sides =
     let q : Entry → Bool = λ other. is_not_after other entry in
-    let kept_past = keep-all (is_past entry) q (λ other h. turn-not (is_before entry other) (past-not-behind entry other h)) sides.past sides.past_are in
-    let kept_front = keep-all (is_beside entry) q (λ other h. turn-not (is_before entry other) (beside-not-behind entry other h)) sides.front sides.front_are in
-    let kept_own = keep-all (λ other. is_own entry other && nat_lt other.reply.index entry.reply.index) q (λ other h. turn-not (is_before entry other) (own-not-behind entry other h)) sides.own sides.own_are in
-    let kept_rest = keep-none (λ other. is_own entry other && nat_lt entry.reply.index other.reply.index) q (λ other h. turn-true (is_before entry other) (rest-behind entry other h)) sides.rest sides.rest_are in
-    let kept_back = keep-all (is_beside entry) q (λ other h. turn-not (is_before entry other) (beside-not-behind entry other h)) sides.back sides.back_are in
-    let kept_later = keep-none (λ other. is_past other entry) q (λ other h. turn-true (is_before entry other) (past-before other entry h)) sides.later sides.later_are in
+    let kept_past = keep-all (is_past entry) q (λ other h. not_from_false (is_before entry other) (past-not-behind entry other h)) sides.past sides.past_are in
+    let kept_front = keep-all (is_beside entry) q (λ other h. not_from_false (is_before entry other) (beside-not-behind entry other h)) sides.front sides.front_are in
+    let kept_own = keep-all (λ other. is_own entry other && nat_lt other.reply.index entry.reply.index) q (λ other h. not_from_false (is_before entry other) (own-not-behind entry other h)) sides.own sides.own_are in
+    let kept_rest = keep-none (λ other. is_own entry other && nat_lt entry.reply.index other.reply.index) q (λ other h. not_from_true (is_before entry other) (rest-behind entry other h)) sides.rest sides.rest_are in
+    let kept_back = keep-all (is_beside entry) q (λ other h. not_from_false (is_before entry other) (beside-not-behind entry other h)) sides.back sides.back_are in
+    let kept_later = keep-none (λ other. is_past other entry) q (λ other h. not_from_true (is_before entry other) (past-before other entry h)) sides.later sides.later_are in
     ap (filter q) sides.whole
     ∙ split-six q sides.past sides.front sides.own entry sides.rest sides.back sides.later
     ∙ rw (kept_past, kept_front, kept_own, kept_rest, kept_back, kept_later, not-before-itself entry, append-nil) refl

@@ -1,7 +1,7 @@
 -- Lists parted by a test that those in front pass and those behind fail.
 use Rattle.std.proofs.Common.{◌≡◌, ℕ, ◌+◌, ◌<◌, ◌≤◌, zero, suc, Bool, true, false, cond, not, List, [], ◌∷◌, ◌++◌, take, drop, length, refl, sym, ap, ◌∙◌, arith}
 use Rattle.std.specs.List.{list_all, count_by}
-use Rattle.std.proofs.lemmas.Bool.{and_parts, and_from}
+use Rattle.std.proofs.lemmas.Bool.{and_parts, and_from, not-true}
 use Rattle.std.proofs.lemmas.List.{take-append-drop, take-take}
 use Rattle.std.proofs.lemmas.List.Sums.{sum_by-cons, sum_by-append}
 
@@ -24,12 +24,8 @@ module _ {X : Type 0} (p : X → Bool) where
   count-none [] h = refl
   count-none (x ∷ xs) h =
       let parts = and_parts (not (p x)) (list_all (λ y. not (p y)) xs) h in
-      let is : p x ≡ false = by (p x) parts.0 in
+      let is : p x ≡ false = not-true (p x) parts.0 in
       count-cons x xs ∙ rw (is, count-none xs parts.1) refl
-    where
-      by : (b : Bool) → not b ≡ true → b ≡ false
-      by true h = sym h
-      by false h = refl
 
   -- As many in front as pass all pass, with one element more in front.
   front-step : (x : X) (xs : List X) (b : Bool) → p x ≡ b → (p x ≡ false → list_all (λ y. not (p y)) xs ≡ true)

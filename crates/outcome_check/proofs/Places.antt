@@ -1,7 +1,7 @@
 -- Replies that rise by their places.
 use Rattle.std.proofs.Common.{◌≡◌, ℕ, ◌+◌, ◌-◌, ◌<◌, ◌≤◌, ◌⊎◌, inl, inr, Bool, true, false, ◌&&◌, not, eqb, nat_lt, nat_le, List, [], ◌∷◌, ◌++◌, take, drop, length, refl, sym, ap, ◌∙◌, subst, arith, append_assoc}
 use Rattle.std.specs.List.{list_all}
-use Rattle.std.proofs.lemmas.Bool.{and_parts, and_from, or_cases, or_from, or_left, or_right, not-true, not_from_false, eqb-true, ltb-true, false_from_ne_true}
+use Rattle.std.proofs.lemmas.Bool.{and_parts, and_from, or_cases, or_from, or_left, or_right, not-true, not_from_false, eqb-true, ltb-true, false_from_ne_true, and_right}
 use Rattle.std.proofs.lemmas.Bool.Decides.{nat_tests}
 use Rattle.std.proofs.lemmas.List.{take_at, drop_at, drop-drop, length-append}
 use Rattle.std.proofs.lemmas.List.Folds.{list_all-append}
@@ -10,7 +10,7 @@ use Rattle.workload_spec.specs.declared.reply.Who.TheVariants.{Session, Worker}
 use Rattle.outcome_spec.specs.Entries.{Entry, is_same, before, after, not_after}
 use Rattle.outcome_check.specs.Places.{is_earlier, is_up_to, is_among, is_in_front, is_up_to_own, is_ahead, Rises, round_start, own_start, own_end, round_end, between}
 use Rattle.outcome_check.specs.Sides.{Sides, is_past, is_beside, is_own}
-use Rattle.outcome_check.proofs.Order.{sides-before, sides-not_after, sides-after}
+use Rattle.outcome_check.proofs.Order.{sides-before, sides-not_after, sides-after, same-itself}
 use Rattle.outcome_check.proofs.Pieces.{Parted, parted-front, parted-back, all-drop, all-drop-take, front-reaches, back-reaches, all-weaker, all-both, cut-between, drop-between, count-weaker}
 
 -- The other reply is of no later round.
@@ -54,11 +54,6 @@ earlier-trans (Worker a) (Worker b) (Worker c) h k = grind (arith, nat_tests)
 pub earlier-itself : (a : Who) → is_earlier a a ≡ false
 earlier-itself (Session a) = grind (arith, nat_tests)
 earlier-itself (Worker a) = grind (arith, nat_tests)
-
--- each is the same as himself
-pub same-itself : (a : Who) → is_same a a ≡ true
-same-itself (Session a) = grind (arith, nat_tests)
-same-itself (Worker a) = grind (arith, nat_tests)
 
 -- ---- one reply's line in front of another's
 
@@ -336,11 +331,7 @@ module _ (front : List Entry) (entry : Entry) (rest : List Entry) (rises : Rises
   itself-not-front =
       let round : nat_lt entry.reply.round entry.reply.round ≡ false = grind (arith, nat_tests) in
       or_from (is_past entry entry) (eqb entry.reply.round entry.reply.round && is_earlier entry.reply.who entry.reply.who) round
-      (rw (earlier-itself entry.reply.who) (and-false (eqb entry.reply.round entry.reply.round)))
-    where
-      and-false : (b : Bool) → (b && false) ≡ false
-      and-false true = refl
-      and-false false = refl
+      (rw (earlier-itself entry.reply.who) (and_right (eqb entry.reply.round entry.reply.round) false refl))
 
   -- The reply is up to its own.
   itself-own : is_up_to_own entry entry ≡ true

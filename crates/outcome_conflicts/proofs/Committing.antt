@@ -3,16 +3,18 @@ use Rattle.std.proofs.Common.{◌≡◌, ℕ, ◌≤◌, max, Bool, true, false,
 use Rattle.std.specs.List.{filter, find, list_all, list_any}
 use Rattle.std.specs.Option.{option_map_or}
 use Rattle.std.specs.Prelude.{if◌then◌else◌, ◌==◌}
-use Rattle.std.proofs.lemmas.Bool.{and_parts, and_from, eqb-true}
+use Rattle.std.proofs.lemmas.Bool.{and_parts, and_from, eqb-true, or_right, or_left}
 use Rattle.std.proofs.lemmas.Bool.Decides.{nat_tests}
 use Rattle.workload_spec.specs.declared.reply.Who.{Who}
 use Rattle.outcome_spec.specs.Entries.{Entry, before, commit_in, is_before, is_reply, is_same}
 use Rattle.outcome_spec.specs.Runs.{commit_line, commits_as}
 use Rattle.mark_index.specs.Marks.{highest}
+use Rattle.outcome_check.proofs.Places.{same-is}
+use Rattle.outcome_check.proofs.Order.{same-itself}
+use Rattle.outcome_counts.proofs.Shown.{both-ways}
 use Rattle.outcome_conflicts.specs.Writers.{is_line_of, is_number_in, number_told}
-use Rattle.outcome_conflicts.proofs.Spans.{found-in, both-ways}
+use Rattle.outcome_conflicts.proofs.Spans.{found-in}
 use Rattle.outcome_conflicts.proofs.Tops.{any-filter}
-use Rattle.outcome_conflicts.proofs.Whos.{same-is, same-itself}
 
 -- ---- what is in a list
 
@@ -20,23 +22,13 @@ use Rattle.outcome_conflicts.proofs.Whos.{same-is, same-itself}
 abbrev pub Among : {X : Type 0} → X → List X → Type 0
 Among {X} x xs = (q : X → Bool) → q x ≡ true → list_any q xs ≡ true
 
--- Where the second of two is true, so is their disjunction.
-or-right : (a b : Bool) → b ≡ true → (a || b) ≡ true
-or-right true b h = refl
-or-right false b h = h
-
--- Where the first of two is true, so is their disjunction.
-or-left : (a b : Bool) → a ≡ true → (a || b) ≡ true
-or-left true b h = refl
-or-left false b h = absurd (let never : ⊥ = cc in never)
-
 -- A list has its first element.
 among-first : {X : Type 0} (x : X) (xs : List X) → Among x (x ∷ xs)
-among-first x xs q is = or-left (q x) (list_any q xs) is
+among-first x xs q is = or_left (q x) (list_any q xs) is
 
 -- What a list has it has with one element more in front.
 among-behind : {X : Type 0} (x y : X) (xs : List X) → Among x xs → Among x (y ∷ xs)
-among-behind x y xs h q is = or-right (q y) (list_any q xs) (h q is)
+among-behind x y xs h q is = or_right (q y) (list_any q xs) (h q is)
 
 -- Where all elements pass, none fails.
 none-fails : {X : Type 0} (p : X → Bool) (xs : List X) → list_all p xs ≡ true → list_any (λ x. not (p x)) xs ≡ false
@@ -204,11 +196,11 @@ module _ (entries : List Entry) (entry : Entry) (numbers : List ℕ) where
             omega (arith, worth, most, h)
 
         by-before : (line : Entry) → commit_line entries later ≡ Some line → (b : Bool) → is_before line entry ≡ b → (nat_le later bound || not b) ≡ true
-        by-before line is true stands = or-left (nat_le later bound) false (let l = told line is stands in grind (arith, nat_tests, l))
-        by-before line is false stands = or-right (nat_le later bound) true refl
+        by-before line is true stands = or_left (nat_le later bound) false (let l = told line is stands in grind (arith, nat_tests, l))
+        by-before line is false stands = or_right (nat_le later bound) true refl
 
         by : (line : Option Entry) → commit_line entries later ≡ line → is_free bound later ≡ true
-        by None is = ap (λ (o : Option Entry). nat_le later bound || not (option_map_or (λ l. is_before l entry) o false)) is ∙ or-right (nat_le later bound) true refl
+        by None is = ap (λ (o : Option Entry). nat_le later bound || not (option_map_or (λ l. is_before l entry) o false)) is ∙ or_right (nat_le later bound) true refl
         by (Some line) is = ap (λ (o : Option Entry). nat_le later bound || not (option_map_or (λ l. is_before l entry) o false)) is ∙ by-before line is (is_before line entry) refl
 
     -- the highest number told before the reply keeps to a bound where each does, or comes later

@@ -1,15 +1,14 @@
 -- Leads that follow the elements one by one.
-use Rattle.std.proofs.Common.{◌≡◌, ℕ, ◌+◌, ◌-◌, ◌<◌, ◌≤◌, ◌⊎◌, inl, inr, zero, suc, max, Bool, true, false, cond, nat_lt, List, [], ◌∷◌, ◌++◌, length, take, get_or, Option, None, Some, refl, sym, ap, ◌∙◌, subst, arith, append-nil}
+use Rattle.std.proofs.Common.{◌≡◌, ℕ, ◌+◌, ◌-◌, ◌<◌, ◌≤◌, ◌⊎◌, inl, inr, zero, max, Bool, true, false, cond, nat_lt, List, [], ◌∷◌, ◌++◌, length, take, get_or, Option, None, Some, refl, sym, ap, ◌∙◌, subst, arith, append-nil}
 use Rattle.std.specs.List.{filter, last_or, list_all}
 use Rattle.std.specs.Prelude.{if◌then◌else◌}
-use Rattle.std.proofs.lemmas.Bool.{and_parts, ltb-true, cases_lt, lt-ltb, le-ltb}
+use Rattle.std.proofs.lemmas.Bool.{ltb-true, lt-ltb, le-ltb}
 use Rattle.std.proofs.lemmas.List.Elements.{filter-append}
-use Rattle.std.proofs.lemmas.List.Folds.{list_all-append}
 use Rattle.std.proofs.lemmas.List.Sorted.{IsNonDecreasingBy-push}
 use Rattle.workload_spec.specs.declared.reply.Who.{Who}
 use Rattle.outcome_spec.specs.Entries.{is_same}
 use Rattle.mark_index.specs.Marks.{highest}
-use Rattle.mark_index.proofs.Noted.{all-weaker, take-next, highest-append}
+use Rattle.mark_index.proofs.Noted.{all-weaker, take-next, highest-append, all-get, all-push, filter-all, last-push, up-to-next}
 use Rattle.outcome_conflicts.specs.Leads.{but_of, lead_below, but_own, is_ordered, AreLeads, AreFollowed}
 use Rattle.outcome_conflicts.specs.declared.leads.Lead.{Lead}
 
@@ -35,36 +34,6 @@ lead-kept false true others most value apart low = omega arith
 lead-kept false false others most value apart low = omega (arith, low)
 
 -- ---- an element more
-
--- Where all elements pass the test, it keeps them all.
-filter-all : {X : Type 0} (p : X → Bool) (xs : List X) → list_all p xs ≡ true → filter p xs ≡ xs
-filter-all p [] h = refl
-filter-all p (x ∷ xs) h =
-    let parts = and_parts (p x) (list_all p xs) h in
-    rw parts.0 (ap (λ (ys : List _). x ∷ ys) (filter-all p xs parts.1))
-
--- Where all elements pass and one more does, all of them with it do.
-all-push : {X : Type 0} (p : X → Bool) (xs : List X) (x : X) → list_all p xs ≡ true → p x ≡ true → list_all p (xs ++ x ∷ []) ≡ true
-all-push p xs x h k = list_all-append p xs (x ∷ []) ∙ rw (h, k) refl
-
--- Where all elements pass, the one at each place does.
-all-get : {X : Type 0} (p : X → Bool) (xs : List X) (i : ℕ) (d : X) → i < length xs → list_all p xs ≡ true → p (get_or xs i d) ≡ true
-all-get p [] i d within h = absurd (omega (arith, within))
-all-get p (x ∷ xs) zero d within h = (and_parts (p x) (list_all p xs) h).0
-all-get p (x ∷ xs) (suc i) d within h = all-get p xs i d (omega (arith, within)) (and_parts (p x) (list_all p xs) h).1
-
--- The last of a list with one element more is this element.
-last-push : {X : Type 0} (first : Option X) (xs : List X) (x : X) → last_or first (xs ++ x ∷ []) ≡ Some x
-last-push first [] x = refl
-last-push first (y ∷ xs) x = last-push (Some y) xs x
-
--- A place up to the next is up to this one, or it is the next.
-up-to-next : (place n : ℕ) → place ≤ n + 1 → (place ≤ n) ⊎ (place ≡ n + 1)
-up-to-next place n h = by (cases_lt n place)
-  where
-    by : (n < place) ⊎ (place ≤ n) → (place ≤ n) ⊎ (place ≡ n + 1)
-    by (inl above) = inr (omega (arith, above, h))
-    by (inr low) = inl low
 
 -- Leads that are all below a place are all below one that is no less.
 lower : (m n : ℕ) → m ≤ n → (leads : List Lead) → list_all (λ (lead : Lead). nat_lt lead.place m) leads ≡ true → list_all (λ (lead : Lead). nat_lt lead.place n) leads ≡ true

@@ -1,15 +1,14 @@
 -- Numbers and peaks of the commits that wrote a place, with a change, a commit or a reply more.
-use Rattle.std.proofs.Common.{◌≡◌, ℕ, ◌+◌, ◌-◌, ◌<◌, zero, suc, Bool, true, false, cond, ◌&&◌, ◌||◌, not, nat_lt, nat_le, List, [], ◌∷◌, ◌++◌, length, get_or, map, take, Option, None, Some, Result, Ok, Err, OnOk, refl, sym, ap, ◌∙◌, subst, arith}
+use Rattle.std.proofs.Common.{◌≡◌, ℕ, ◌+◌, ◌-◌, ◌<◌, Bool, true, false, cond, ◌&&◌, ◌||◌, not, nat_lt, nat_le, List, [], ◌∷◌, ◌++◌, length, map, take, Option, None, Some, Result, Ok, Err, OnOk, refl, sym, ap, ◌∙◌, subst, arith, append-nil}
 use Rattle.std.specs.BTreeMap.{insert_entry}
 use Rattle.std.specs.List.{filter, filter_map, last_or, list_all, list_any, range_with_len}
 use Rattle.std.specs.List.Sorted.{IsNonDecreasing, IsNonDecreasingBy}
 use Rattle.std.specs.Option.{option_map_or}
 use Rattle.std.specs.Ordering.{nat_cmp, is_eq}
 use Rattle.std.specs.Prelude.{◌==◌, is_some, option_and_then, slice_index_or}
-use Rattle.std.proofs.lemmas.Bool.{and_parts, and_from}
+use Rattle.std.proofs.lemmas.Bool.{and_parts, and_from, not-true}
 use Rattle.std.proofs.lemmas.Bool.Decides.{nat_tests}
 use Rattle.std.proofs.lemmas.List.Elements.{filter-append}
-use Rattle.std.proofs.lemmas.List.Sorted.{IsNonDecreasingBy-push}
 use Rattle.std.proofs.lemmas.List.Folds.{list_all-append, list_any-append}
 use Rattle.std.proofs.lemmas.List.FromFn.{get_or-map-range_with_len}
 use Rattle.cell_model.specs.declared.cell.Cell.{Cell}
@@ -19,9 +18,10 @@ use Rattle.isolation_spec.specs.declared.place.Place.{Place}
 use Rattle.isolation_laws.proofs.Entries.{lookup-insert_entry}
 use Rattle.isolation_laws.proofs.Rows.{place_cmp-total}
 use Rattle.timeline_laws.proofs.Ranges.{range-push}
+use Rattle.timeline_laws.proofs.Tests.{or-false}
 use Rattle.mark_index.specs.Lists.{is_last, marks_at, with_mark}
 use Rattle.mark_index.specs.declared.marks.Peak.{Peak}
-use Rattle.mark_index.proofs.Noted.{all-weaker}
+use Rattle.mark_index.proofs.Noted.{all-weaker, last-push, rises-push}
 use Rattle.outcome_spec.specs.Entries.{Entry}
 use Rattle.outcome_spec.specs.Runs.{Span, accepted_write, commit_count, commits_as, committed_writes, transactions_of, transaction_with, writes_in}
 use Rattle.outcome_spans.specs.Openings.{AreOpenings, opening_of, openings_in}
@@ -35,7 +35,7 @@ use Rattle.outcome_history.specs.declared.changes.Changes.{Changes}
 use Rattle.outcome_history.specs.declared.keys.RowKey.{RowKey}
 use Rattle.outcome_history.proofs.History.{FirstAt, commits-end, first-none, first-some}
 use Rattle.outcome_history.proofs.Laid.{entered}
-use Rattle.outcome_history.proofs.Noted.{push-none, symmetric}
+use Rattle.outcome_history.proofs.Noted.{symmetric}
 use Rattle.outcome_history.proofs.Own.{changes-all}
 use Rattle.outcome_history.proofs.Spanned.{IsSpan, spanned, unspanned}
 use Rattle.outcome_conflicts.specs.Writers.{history_in, is_written, numbers_up_to}
@@ -53,21 +53,6 @@ on-each-of (Ok x) f g h same next = λ n k. same k ∙ next n k
 on-each-of (Err e) f g h same next = tt
 
 -- ---- a mark is put once
-
--- What is true when negated is false.
-not-true : (b : Bool) → not b ≡ true → b ≡ false
-not-true true h = absurd (let never : ⊥ = cc in never)
-not-true false h = refl
-
--- `or false` changes nothing
-pub or-none : (b : Bool) → (b || false) ≡ b
-or-none true = refl
-or-none false = refl
-
--- The last of a list with one element more is this element.
-last-push : {X : Type 0} (o : Option X) (xs : List X) (x : X) → last_or o (xs ++ x ∷ []) ≡ Some x
-last-push o [] x = refl
-last-push o (y ∷ xs) x = last-push (Some y) xs x
 
 -- Where none of some marks is seen, the last of them is not seen.
 last-none : {X : Type 0} (seen : X → Bool) (xs : List X) → list_all (λ x. not (seen x)) xs ≡ true → (o : Option X) → option_map_or seen o false ≡ false → option_map_or seen (last_or o xs) false ≡ false
@@ -96,7 +81,7 @@ pub written-step : (of : RowKey) (bound : ℕ) (own : List Change) (i : ℕ) (ch
 written-step of bound own i change next b is =
     ap (is_written of bound) next
     ∙ list_any-append (λ (c : Change). nat_le c.left.time bound && is_eq (key_cmp c.of of)) (take i own) (change ∷ [])
-    ∙ ap (λ (c : Bool). is_written of bound (take i own) || c) (or-none (nat_le change.left.time bound && is_eq (key_cmp change.of of)))
+    ∙ ap (λ (c : Bool). is_written of bound (take i own) || c) (or-false (nat_le change.left.time bound && is_eq (key_cmp change.of of)))
     ∙ ap (λ (c : Bool). is_written of bound (take i own) || (c && is_eq (key_cmp change.of of))) is
 
 -- ---- what a write set has
@@ -104,7 +89,7 @@ written-step of bound own i change next b is =
 -- A write set with changes entered has a place that it had, or that a change has.
 entered-writes : (place : Place) (changes : List (Place × Option (List Cell))) (writes : WriteSet)
     → writes_place place (entered writes changes) ≡ (writes_place place writes || list_any (λ (c : Place × Option (List Cell)). is_place place c.0) changes)
-entered-writes place [] writes = sym (or-none (writes_place place writes))
+entered-writes place [] writes = sym (or-false (writes_place place writes))
 entered-writes place (change ∷ changes) writes =
     entered-writes place changes (insert_entry place_cmp writes change.0 change.1)
     ∙ ap (λ (o : Option (Option (List Cell))). is_some o || list_any (λ (c : Place × Option (List Cell)). is_place place c.0) changes) (lookup-insert_entry place_cmp-total writes change.0 change.1 place)
@@ -193,7 +178,7 @@ history-at entries at inside =
 -- A number that is put behind others, or not, is a mark that is put or not.
 put-by : (b : Bool) (xs : List ℕ) (n : ℕ) → xs ++ cond b (n ∷ []) [] ≡ with_mark b n xs
 put-by true xs n = refl
-put-by false xs n = push-none xs
+put-by false xs n = append-nil xs
 
 -- with one more commit a place has its number too, where that wrote it
 pub numbers-next : (entries : List Entry) (at : ℕ) (place : Place) → at < commit_count entries
@@ -207,18 +192,6 @@ numbers-next entries at place inside =
     ∙ filter-append test (range_with_len 1 at) ((at + 1) ∷ [])
     ∙ put-by (test (at + 1)) (numbers_up_to at entries place) (at + 1)
     ∙ ap (λ (b : Bool). with_mark b (at + 1) (numbers_up_to at entries place)) is
-
--- Where all elements pass, the one at each place does.
-below-got : {X : Type 0} (test : X → Bool) (xs : List X) (i : ℕ) (d : X) → i < length xs → list_all test xs ≡ true → test (get_or xs i d) ≡ true
-below-got test [] i d within h = absurd (omega (arith, within))
-below-got test (x ∷ xs) zero d within h = (and_parts (test x) (list_all test xs) h).0
-below-got test (x ∷ xs) (suc i) d within h = below-got test xs i d (omega (arith, within)) (and_parts (test x) (list_all test xs) h).1
-
--- Elements that rise by their places do so with one behind them that is above all.
-rises-push : {X : Type 0} (place : X → ℕ) (xs : List X) (x : X) → IsNonDecreasingBy place xs → list_all (λ y. nat_lt (place y) (place x)) xs ≡ true → IsNonDecreasingBy place (xs ++ x ∷ [])
-rises-push place xs x rise within =
-    IsNonDecreasingBy-push place xs x rise
-    (λ d some. let last = below-got (λ y. nat_lt (place y) (place x)) xs (length xs - 1) d (omega (arith, some)) within in grind (arith, nat_tests, last))
 
 -- a higher number keeps them rising
 pub numbers-rise : (b : Bool) (n : ℕ) (xs : List ℕ) → IsNonDecreasing xs → list_all (λ number. nat_lt number n) xs ≡ true → IsNonDecreasing (with_mark b n xs)

@@ -2,14 +2,17 @@
 use Rattle.std.proofs.Common.{◌≡◌, ℕ, ◌+◌, Bool, true, false, cond, ◌&&◌, ◌||◌, List, [], ◌∷◌, ◌++◌, Option, None, Some, refl, sym, ap, ◌∙◌, subst}
 use Rattle.std.specs.List.{list_any, cons_option}
 use Rattle.std.specs.Prelude.{option_map, is_some, if◌then◌else◌}
-use Rattle.std.proofs.lemmas.Bool.{and_from}
+use Rattle.std.proofs.lemmas.Bool.{and_from, or_right, and_parts}
 use Rattle.workload_spec.specs.declared.reply.Who.{Who}
 use Rattle.outcome_spec.specs.Entries.{Entry, is_same, thread, is_end, is_accepted, snapshot_in}
 use Rattle.outcome_spec.specs.Forms.{is_within, within_behind}
 use Rattle.outcome_spec.specs.Runs.{Span, up_to_end, span_from, transactions_of}
+use Rattle.timeline_laws.proofs.Tests.{and-false}
+use Rattle.outcome_check.proofs.Places.{same-is}
+use Rattle.outcome_check.proofs.Order.{same-itself}
+use Rattle.outcome_counts.proofs.Shown.{both-ways}
 use Rattle.outcome_conflicts.specs.Held.{Held, held_at, held_behind, held_in, stop_in, stop_of}
 use Rattle.outcome_conflicts.proofs.Stops.{stop-cons, within-next, within-by, opening-is-no-end, opening-accepts-none, end-accepts-none}
-use Rattle.outcome_conflicts.proofs.Whos.{same-is, same-itself}
 
 -- ---- where something is found
 
@@ -17,11 +20,6 @@ pub record Found {X : Type 0} (p : X → Bool) (xs : List X) : Type 0 where
   pub item : X
   pub passes : p item ≡ true
   pub found : (q : X → Bool) → q item ≡ true → list_any q xs ≡ true
-
--- Where the second of two is true, so is their disjunction.
-or-right : (a b : Bool) → b ≡ true → (a || b) ≡ true
-or-right true b h = refl
-or-right false b h = h
 
 -- where some element passes there is one, and each test that it passes finds one
 pub found-in : {X : Type 0} (p : X → Bool) (xs : List X) → list_any p xs ≡ true → Found p xs
@@ -32,14 +30,7 @@ found-in p (x ∷ xs) h = by (p x) refl h (found-in p xs)
     by true is k behind = record { item = x; passes = is; found = λ q its. rw its refl }
     by false is k behind =
         let later = behind k in
-        record { item = later.item; passes = later.passes; found = λ q its. or-right (q x) (list_any q xs) (later.found q its) }
-
--- two tests that follow from each other are one
-pub both-ways : (a b : Bool) → (a ≡ true → b ≡ true) → (b ≡ true → a ≡ true) → a ≡ b
-both-ways true true f g = refl
-both-ways true false f g = sym (f refl)
-both-ways false true f g = g refl
-both-ways false false f g = refl
+        record { item = later.item; passes = later.passes; found = λ q its. or_right (q x) (list_any q xs) (later.found q its) }
 
 -- two tests that agree on each element find one in the same lists
 pub any-agree : {X : Type 0} (p q : X → Bool) → ((x : X) → p x ≡ q x) → (xs : List X) → list_any p xs ≡ list_any q xs
@@ -236,11 +227,7 @@ module _ (test : Entry → Bool) (quiet : (entry : Entry) → is_accepted entry.
   -- one's transactions pass exactly where one of one's replies that are held does
   pub held-behind : (who : Who) (front entries : List Entry)
       → (list_any (is_passing who) (transactions_of entries) || (is_within who front && passes (thread who entries))) ≡ list_any (is_held who) (held_behind front entries)
-  held-behind who front [] = by (is_within who front)
-    where
-      by : (b : Bool) → (b && false) ≡ false
-      by true = refl
-      by false = refl
+  held-behind who front [] = and-false (is_within who front)
   held-behind who front (entry ∷ entries) =
       by (is_same entry.reply.who who) refl (held-behind entry.reply.who (front ++ entry ∷ []) entries) (held-behind who (front ++ entry ∷ []) entries)
     where
@@ -271,20 +258,15 @@ module _ (test : Entry → Bool) (quiet : (entry : Entry) → is_accepted entry.
       theirs : Held → Bool
       theirs h = test h.entry && far h.until
 
-      parts : (a b : Bool) → (a && b) ≡ true → (a ≡ true) × (b ≡ true)
-      parts true true h = (refl, refl)
-      parts true false h = absurd (let never : ⊥ = cc in never)
-      parts false b h = absurd (let never : ⊥ = cc in never)
-
       there : list_any (λ t. chosen t.who && (list_any test t.replies && far (stop_in t.replies))) (transactions_of entries) ≡ true
           → list_any (λ h. chosen h.entry.reply.who && (test h.entry && far h.until)) (held_in entries) ≡ true
       there h =
           let at = found-in (λ (t : Span). chosen t.who && its t) (transactions_of entries) h in
           let who = at.item.who in
-          let is = parts (chosen who) (its at.item) at.passes in
+          let is = and_parts (chosen who) (its at.item) at.passes in
           let one = at.found (is_passing who) (and_from (is_same who who) (its at.item) (same-itself who) is.1) in
           let one_held = found-in (is_held who) (held_in entries) (sym (held-all who entries) ∙ one) in
-          let both = parts (is_same one_held.item.entry.reply.who who) (theirs one_held.item) one_held.passes in
+          let both = and_parts (is_same one_held.item.entry.reply.who who) (theirs one_held.item) one_held.passes in
           one_held.found (λ h. chosen h.entry.reply.who && theirs h)
           (and_from (chosen one_held.item.entry.reply.who) (theirs one_held.item) (ap chosen (same-is one_held.item.entry.reply.who who both.0) ∙ is.0) both.1)
 
@@ -293,9 +275,9 @@ module _ (test : Entry → Bool) (quiet : (entry : Entry) → is_accepted entry.
       back h =
           let one_held = found-in (λ (h : Held). chosen h.entry.reply.who && theirs h) (held_in entries) h in
           let who = one_held.item.entry.reply.who in
-          let is = parts (chosen who) (theirs one_held.item) one_held.passes in
+          let is = and_parts (chosen who) (theirs one_held.item) one_held.passes in
           let one = one_held.found (is_held who) (and_from (is_same who who) (theirs one_held.item) (same-itself who) is.1) in
           let at = found-in (is_passing who) (transactions_of entries) (held-all who entries ∙ one) in
-          let both = parts (is_same at.item.who who) (its at.item) at.passes in
+          let both = and_parts (is_same at.item.who who) (its at.item) at.passes in
           at.found (λ t. chosen t.who && its t)
           (and_from (chosen at.item.who) (its at.item) (ap chosen (same-is at.item.who who both.0) ∙ is.0) both.1)

@@ -3,7 +3,7 @@ use Rattle.std.proofs.Common.{◌≡◌, ℕ, ◌+◌, ◌<◌, ◌^◌, max, su
 use Rattle.std.specs.List.{filter, find, list_any, list_all, count_by}
 use Rattle.std.specs.Option.{option_map_or}
 use Rattle.std.specs.Prelude.{if◌then◌else◌}
-use Rattle.std.proofs.lemmas.Bool.{and_parts, and_from}
+use Rattle.std.proofs.lemmas.Bool.{and_parts, and_from, not-true}
 use Rattle.std.proofs.lemmas.Bool.Decides.{nat_tests}
 use Rattle.isolation_spec.specs.declared.place.Place.{Place}
 use Rattle.workload_spec.specs.declared.reply.Who.{Who}
@@ -15,7 +15,8 @@ use Rattle.cell_model.specs.declared.table.TableDecl.{TableDecl}
 use Rattle.outcome_check.specs.Places.{Rises, round_start, round_end}
 use Rattle.outcome_check.specs.Sides.{is_past}
 use Rattle.outcome_check.proofs.Pieces.{Parted, count-cons, count-none}
-use Rattle.outcome_check.proofs.Places.{past-parts, round-parts}
+use Rattle.outcome_check.proofs.Places.{past-parts, round-parts, same-is}
+use Rattle.outcome_check.proofs.Order.{same-itself}
 use Rattle.outcome_counts.proofs.Parts.{parted-map, count-map}
 use Rattle.outcome_counts.proofs.Peaks.{highest-agree}
 use Rattle.mark_index.specs.Marks.{highest}
@@ -27,7 +28,7 @@ use Rattle.outcome_history.specs.Kept.{place_in}
 use Rattle.outcome_history.specs.declared.keys.RowKey.{RowKey}
 use Rattle.outcome_conflicts.proofs.Splits.{held-entries}
 use Rattle.outcome_conflicts.proofs.Spans.{any-agree, held-chosen}
-use Rattle.outcome_conflicts.proofs.Whos.{same-itself, same-is, same-turned}
+use Rattle.outcome_conflicts.proofs.Whos.{same-turned}
 
 -- ---- what is found among those that pass
 
@@ -47,6 +48,11 @@ any-filter p q (x ∷ xs) = by (p x) (q x) refl ∙ ap (λ (b : Bool). (p x && q
         or-false : (b : Bool) → list_any p (filter q xs) ≡ ((b && false) || list_any p (filter q xs))
         or-false true = refl
         or-false false = refl
+
+-- two conjunctions are the same where their seconds are, as far as the first is true
+pub under : (a b c : Bool) → (a ≡ true → b ≡ c) → (a && b) ≡ (a && c)
+under true b c h = h refl
+under false b c h = refl
 
 -- the first that passes is one of those that a second test passes
 pub found-agree : {X : Type 0} (p s f g : X → Bool) (none : Bool) → ((x : X) → s x ≡ true → f x ≡ g x) → (xs : List X) → list_all s xs ≡ true
@@ -177,11 +183,6 @@ module _ (place : Place) (own : Who) (chosen : Who → Bool) (others : (who : Wh
       (λ x its. ended x (ap (λ (w : Who). is_same w own) (same-is x.reply.who who its) ∙ others who is)) replies same
       ∙ by-stop (find (λ x. is_end x.reply.said) replies))
 
-  -- Two conjunctions are the same where their seconds are, as far as the first is true.
-  under : (a b c : Bool) → (a ≡ true → b ≡ c) → (a && b) ≡ (a && c)
-  under true b c h = h refl
-  under false b c h = refl
-
   -- Of four conditions together the third may go to the front.
   moved : (c w n f : Bool) → (c && ((w && n) && f)) ≡ (n && ((c && w) && f))
   moved true true true f = refl
@@ -273,7 +274,7 @@ module _ (entries : List Entry) (entry : Entry) (rises : Rises entries) (round :
       (any-agree (λ rival. (not (is_same rival.who entry.reply.who) && has_write (place_in of) (before rival.replies entry)) && option_map_or (λ ending. is_before entry ending) (ending_of rival) true)
       (λ rival. not (is_same rival.who entry.reply.who) && (has_write (place_in of) (before rival.replies entry) && option_map_or (λ ending. is_before entry ending) (ending_of rival) true))
       (λ rival. grouped (not (is_same rival.who entry.reply.who)) (has_write (place_in of) (before rival.replies entry)) (option_map_or (λ ending. is_before entry ending) (ending_of rival) true)) (transactions_of entries)
-      ∙ any-rival (place_in of) entry.reply.who (λ who. not (is_same who entry.reply.who)) (λ who is. unnot (is_same who entry.reply.who) is)
+      ∙ any-rival (place_in of) entry.reply.who (λ who. not (is_same who entry.reply.who)) (λ who is. not-true (is_same who entry.reply.who) is)
       (λ x. is_before x entry) (λ x. nat_lt x.reply.round r) (λ x other. before-by-round x entry other)
       (λ x. is_before entry x) (r + 1) (λ x other. before-by-round entry x (apart-turned x.reply.who entry.reply.who other) ∙ later x.reply.round r)
       (let l = round in grind (arith, nat_tests, l)) entries
@@ -285,10 +286,6 @@ module _ (entries : List Entry) (entry : Entry) (rises : Rises entries) (round :
       grouped : (a b c : Bool) → ((a && b) && c) ≡ (a && (b && c))
       grouped true b c = refl
       grouped false b c = refl
-
-      unnot : (b : Bool) → not b ≡ true → b ≡ false
-      unnot true h = sym h
-      unnot false h = refl
 
       later : (n m : ℕ) → nat_lt m n ≡ nat_lt (m + 1) (n + 1)
       later n m = grind (arith, nat_tests)

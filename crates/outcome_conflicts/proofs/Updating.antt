@@ -12,13 +12,14 @@ use Rattle.outcome_spec.specs.Conflicts.{is_committed_not_after, is_first_update
 use Rattle.outcome_spec.specs.Entries.{Entry, before, commit_in, is_reply, is_same, snapshot_in}
 use Rattle.outcome_spec.specs.Runs.{Span, ending_of, run_of, span_from, transactions_of, transaction_with}
 use Rattle.mark_index.specs.Marks.{count_below, highest}
+use Rattle.outcome_check.proofs.Places.{same-is}
+use Rattle.outcome_counts.proofs.Shown.{all-agree}
 use Rattle.outcome_conflicts.specs.Writers.{count_up_to, history_in, is_number_in, number_told, numbers_of, transaction_told}
 use Rattle.outcome_conflicts.specs.declared.commits.Transaction.{Transaction}
 use Rattle.outcome_conflicts.proofs.Committing.{all-at, comes_before, is_free, line-of, none-above}
 use Rattle.outcome_conflicts.proofs.Counting.{all-filter, none-between}
 use Rattle.outcome_conflicts.proofs.Spans.{any-agree, found-in}
 use Rattle.outcome_conflicts.proofs.Tops.{any-filter, span-same}
-use Rattle.outcome_conflicts.proofs.Whos.{same-is}
 
 -- ---- the commits above a snapshot
 
@@ -40,11 +41,6 @@ later-test snapshot n false = grind (arith, nat_tests)
 -- the later writers of a place are its numbers above the snapshot
 pub later-above : (entries : List Entry) (snapshot : ℕ) (place : Place) → later_writers (history_in entries) snapshot place ≡ filter (nat_lt snapshot) (numbers_of entries place)
 later-above entries snapshot place = filter-twice (nat_lt snapshot) _ _ (λ n. later-test snapshot n _) _
-
--- Two tests that agree on each element are passed by all of a list alike.
-all-agree : {X : Type 0} (p q : X → Bool) → ((x : X) → p x ≡ q x) → (xs : List X) → list_all p xs ≡ list_all q xs
-all-agree p q same [] = refl
-all-agree p q same (x ∷ xs) = ap (λ (b : Bool). b && list_all p xs) (same x) ∙ ap (λ (b : Bool). q x && b) (all-agree p q same xs)
 
 -- ---- none before
 

@@ -6,6 +6,7 @@ use Rattle.std.specs.Prelude.{◌==◌, option_and_then, unwrap_or, if◌then◌
 use Rattle.std.proofs.lemmas.Bool.{and_parts, cases_lt, eqb-true}
 use Rattle.std.proofs.lemmas.Bool.Decides.{nat_tests}
 use Rattle.std.proofs.lemmas.List.FromFn.{length-map-range_with_len}
+use Rattle.std.proofs.lemmas.Option.{same_Some}
 use Rattle.workload_spec.specs.declared.reply.Who.{Who}
 use Rattle.isolation_spec.specs.Machine.{write_set_at, writes_place}
 use Rattle.isolation_spec.specs.declared.place.Place.{Place}
@@ -15,17 +16,18 @@ use Rattle.mark_index.specs.declared.marks.Peak.{Peak}
 use Rattle.outcome_spec.specs.Entries.{Entry, commit_in, is_reply, is_same}
 use Rattle.outcome_spec.specs.Runs.{commit_count, commits_as, committed_writes, transactions_of}
 use Rattle.outcome_check.specs.Places.{Rises, is_ahead, is_earlier}
-use Rattle.outcome_check.proofs.Places.{Behind, Beside, Own, ahead-cases, earlier-itself, front-ahead}
+use Rattle.outcome_check.proofs.Places.{Behind, Beside, Own, ahead-cases, earlier-itself, front-ahead, same-is}
 use Rattle.outcome_counts.proofs.Starts.{get-at}
 use Rattle.outcome_history.specs.Commits.{first_of}
 use Rattle.outcome_history.specs.Kept.{place_in}
 use Rattle.outcome_history.specs.declared.keys.RowKey.{RowKey}
 use Rattle.outcome_history.proofs.History.{first-none, first-some}
+use Rattle.timeline_laws.proofs.Tests.{or-false}
+use Rattle.outcome_spans.proofs.Cuts.{one-cut}
 use Rattle.outcome_conflicts.specs.Writers.{history_in, is_line_at, is_line_of, is_number_in, line_told, numbers_of, value_at}
 use Rattle.outcome_conflicts.proofs.Committing.{reply-itself}
 use Rattle.outcome_conflicts.proofs.Numbering.{history-at}
-use Rattle.outcome_conflicts.proofs.Tops.{any-filter}
-use Rattle.outcome_conflicts.proofs.Whos.{same-is}
+use Rattle.outcome_conflicts.proofs.Tops.{any-filter, under}
 
 -- ---- replies at two places are two
 
@@ -61,14 +63,10 @@ got-front [] rest i h = absurd (omega (arith, h))
 got-front (x ∷ front) rest zero h = refl
 got-front (x ∷ front) rest (suc i) h = got-front front rest i (omega (arith, h))
 
--- The replies that two equal options hold are the same.
-some-entry : (a b : Entry) → Some a ≡ Some b → a ≡ b
-some-entry a b h = ap (λ (o : Option Entry). unwrap_or o a) h
-
 -- Where all replies pass, the one at each place does.
 got-all : (test : Entry → Bool) (xs : List Entry) (i : ℕ) (x : Entry) → list_all test xs ≡ true → slice_get xs i ≡ Some x → test x ≡ true
 got-all test [] i x h got = absurd (let never : ⊥ = cc in never)
-got-all test (y ∷ xs) zero x h got = ap test (sym (some-entry y x got)) ∙ (and_parts (test y) (list_all test xs) h).0
+got-all test (y ∷ xs) zero x h got = ap test (sym (same_Some y x got)) ∙ (and_parts (test y) (list_all test xs) h).0
 got-all test (y ∷ xs) (suc i) x h got = got-all test xs i x (and_parts (test y) (list_all test xs) h).1 got
 
 -- of two places the reply at the first is ahead of that at the second
@@ -77,11 +75,6 @@ places-ahead entries fa a ra fb b rb first second rises less =
     let there : slice_get fb (length fa) ≡ Some a =
     sym (got-front fb (b ∷ rb) (length fa) less) ∙ ap (λ (es : List Entry). slice_get es (length fa)) (sym second ∙ first) ∙ get-at fa a ra in
     got-all (λ other. is_ahead other b) fb (length fa) a (front-ahead fb b rb (subst Rises second rises)) there
-
--- Two replies at one place are the same.
-same-place : (entries fa : List Entry) (a : Entry) (ra fb : List Entry) (b : Entry) (rb : List Entry) → entries ≡ fa ++ a ∷ ra → entries ≡ fb ++ b ∷ rb → length fa ≡ length fb → a ≡ b
-same-place entries fa a ra fb b rb first second far =
-    some-entry a b (sym (get-at fa a ra) ∙ ap (λ (es : List Entry). slice_get es (length fa)) (sym first ∙ second) ∙ ap (slice_get (fb ++ b ∷ rb)) far ∙ get-at fb b rb)
 
 -- one reply is another exactly where they stand at one place
 reply-at : (entries fa : List Entry) (a : Entry) (ra fb : List Entry) (b : Entry) (rb : List Entry) → entries ≡ fa ++ a ∷ ra → entries ≡ fb ++ b ∷ rb → Rises entries
@@ -98,7 +91,7 @@ reply-at entries fa a ra fb b rb first second rises = by (cases_lt (length fa) (
     by (inr high) (inr low) =
         let same : length fa ≡ length fb = omega (arith, high, low) in
         let test : eqb (length fa) (length fb) ≡ true = grind (arith, nat_tests, same) in
-        ap (λ (x : Entry). is_reply x b) (same-place entries fa a ra fb b rb first second same) ∙ reply-itself b ∙ sym test
+        ap (λ (x : Entry). is_reply x b) (one-cut entries fa a ra fb b rb first second same) ∙ reply-itself b ∙ sym test
 
 -- ---- the line of a number, and its commit
 
@@ -129,18 +122,9 @@ any-range test number first (suc n) = ap (λ (b : Bool). ((first == number) && t
         let past : (nat_le (first + 1) number && nat_lt number ((first + 1) + n)) ≡ false = grind (arith, nat_tests, same) in
         let there : (nat_le first number && nat_lt number (first + suc n)) ≡ true = grind (arith, nat_tests, same) in
         ap (λ (b : Bool). test first || (b && test number)) past ∙ or-false (test first) ∙ ap test same ∙ sym (ap (λ (b : Bool). b && test number) there)
-      where
-        or-false : (b : Bool) → (b || false) ≡ b
-        or-false true = refl
-        or-false false = refl
     by false is =
         let same : (nat_le (first + 1) number && nat_lt number ((first + 1) + n)) ≡ (nat_le first number && nat_lt number (first + suc n)) = grind (arith, nat_tests, is) in
         ap (λ (b : Bool). b && test number) same
-
--- Two conjunctions are the same where their seconds are, as far as the first is true.
-under : (a b c : Bool) → (a ≡ true → b ≡ c) → (a && b) ≡ (a && c)
-under true b c h = h refl
-under false b c h = refl
 
 -- a number is kept for a place exactly where its commit wrote it
 pub number-in : (entries : List Entry) (place : Place) (number : ℕ)

@@ -10,6 +10,7 @@ use Rattle.workload_spec.specs.declared.reply.Said.TheVariants as said
 use Rattle.outcome_spec.specs.Conflicts.{conflict_holds, conflicts_hold, is_first_updater, names_session, passes_no_commit, passes_no_session}
 use Rattle.outcome_spec.specs.Entries.{Entry}
 use Rattle.outcome_spec.specs.Runs.{Run, Span, run_of, transaction_of, write_of}
+use Rattle.timeline_laws.proofs.Tests.{and-true}
 use Rattle.outcome_conflicts.specs.Conflicts.{height_rule, heights_hold, is_highest, is_named, number_rule, numbers_hold, session_rule, sessions_hold, shown_in}
 use Rattle.outcome_conflicts.specs.Writers.{transaction_told}
 use Rattle.outcome_history.specs.Kept.{place_in}
@@ -19,11 +20,6 @@ use Rattle.outcome_history.specs.declared.keys.RowKey.{RowKey}
 use Rattle.outcome_conflicts.proofs.Updating.{names-commit}
 
 -- ---- the rule that a reply is under, in three parts
-
--- A conjunction with something true is its first.
-with-true : (a : Bool) → (a && true) ≡ a
-with-true false = refl
-with-true true = refl
 
 -- A conjunction is the same either way around.
 turned : (a b : Bool) → (a && b) ≡ (b && a)
@@ -55,7 +51,7 @@ all_rules run t place entry its = (session_rule run t place entry its && height_
 rule-parts : (tables : List TableDecl) (entries : List Entry) (t : Span) (place : Place) (entry : Entry) (told : Said)
     → all_rules (run_of tables entries) t place entry (shown_in told) ≡ conflict_holds (run_of tables entries) t place entry told
 rule-parts tables entries t place entry said.Memory = refl
-rule-parts tables entries t place entry (said.ConflictSession session) = let n = names_session (run_of tables entries) t place entry session in with-true (n && true) ∙ with-true n
+rule-parts tables entries t place entry (said.ConflictSession session) = let n = names_session (run_of tables entries) t place entry session in and-true (n && true) ∙ and-true n
 rule-parts tables entries t place entry (said.ConflictCommit number) =
     let run = run_of tables entries in
     last-first (passes_no_session run t place entry) (is_highest entries place entry number) (is_named run t place entry number)
@@ -65,7 +61,7 @@ rule-parts tables entries t place entry said.Accepted =
     second-first (passes_no_session run t place entry) (passes_no_commit run t place entry) (is_first_updater run t place)
 rule-parts tables entries t place entry _ =
     let run = run_of tables entries in
-    with-true (passes_no_session run t place entry && passes_no_commit run t place entry) ∙ turned (passes_no_session run t place entry) (passes_no_commit run t place entry)
+    and-true (passes_no_session run t place entry && passes_no_commit run t place entry) ∙ turned (passes_no_session run t place entry) (passes_no_commit run t place entry)
 
 -- the condition on conflicts is its three parts
 pub in-parts : (tables : List TableDecl) (entries : List Entry) (entry : Entry) → let run = run_of tables entries in

@@ -5,6 +5,7 @@ use Rattle.std.specs.Option.{option_map_or}
 use Rattle.std.specs.Ordering.{nat_cmp}
 use Rattle.std.specs.Prelude.{slice_index_or, is_some, ◌==◌, ◌&&◌, nat_lt, if◌then◌else◌, None, Some}
 use Rattle.std.proofs.lemmas.List.{length-map, get_or_default, take_all}
+use Rattle.std.proofs.lemmas.Bool.{and_right}
 use Rattle.workload_spec.specs.declared.command.Command.{Command}
 use Rattle.workload_spec.specs.declared.command.Command.TheVariants as command
 use Rattle.workload_spec.specs.declared.reply.Said.{Said}
@@ -91,11 +92,7 @@ insert-into table into true = by (into == table) ∙ sym (nat-same into table)
     by : (b : Bool) → (b && true) ≡ b
     by true = refl
     by false = refl
-insert-into table into false = by (into == table)
-  where
-    by : (b : Bool) → (b && false) ≡ false
-    by true = refl
-    by false = refl
+insert-into table into false = and_right (into == table) false refl
 
 -- A reply that tells of no table is not counted for one.
 none-into : (table : ℕ) (accepted : Bool) → false ≡ is_keyed nat_cmp table (if accepted then None else None)

@@ -8,7 +8,7 @@ use Rattle.outcome_spec.specs.Entries.{Entry, is_same}
 use Rattle.outcome_check.specs.Places.{Rises, is_ahead, is_earlier, is_in_front, is_up_to, is_up_to_own, own_end, own_start}
 use Rattle.outcome_check.specs.Sides.{is_own}
 use Rattle.outcome_check.proofs.Pieces.{parted-back, parted-front}
-use Rattle.outcome_check.proofs.Places.{front-parts, own-parts}
+use Rattle.outcome_check.proofs.Places.{front-parts, own-parts, same-is}
 use Rattle.output_read.specs.Kept.{entries_of, entry_of}
 use Rattle.output_read.specs.declared.kept.KeptReply.{KeptReply as Kept}
 use Rattle.outcome_counts.specs.Asked.{IsAsked}
@@ -16,13 +16,6 @@ use Rattle.outcome_counts.specs.Stretch.{stretch_of}
 use Rattle.outcome_counts.specs.declared.stretch.Stretch.{Stretch}
 
 -- ---- sessions and workers
-
--- Sessions or workers that are taken as one are one.
-same-is : (v w : Who) → is_same v w ≡ true → v ≡ w
-same-is (Session a) (Session b) h = ap (λ (n : ℕ). Session n) (eqb-true a b h)
-same-is (Session a) (Worker b) h = absurd (let never : ⊥ = cc in never)
-same-is (Worker a) (Session b) h = absurd (let never : ⊥ = cc in never)
-same-is (Worker a) (Worker b) h = ap (λ (n : ℕ). Worker n) (eqb-true a b h)
 
 -- no number is below one that is up to it
 not-both : (a b : ℕ) → nat_lt a b ≡ true → (nat_lt b a || b == a) ≡ true → ⊥

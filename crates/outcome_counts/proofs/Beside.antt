@@ -10,7 +10,8 @@ use Rattle.outcome_spec.specs.Entries.{Entry, is_same}
 use Rattle.outcome_check.specs.Places.{Rises, is_earlier, is_in_front, is_up_to, is_up_to_own, own_end, own_start, round_end, round_start}
 use Rattle.outcome_check.specs.Sides.{is_past}
 use Rattle.outcome_check.proofs.Pieces.{Parted, all-weaker, count-append, count-none, parted-back, parted-front}
-use Rattle.outcome_check.proofs.Places.{Behind, Beside, Own, ahead-cases, earlier-itself, front-parts, own-parts, round-parts, same-itself}
+use Rattle.outcome_check.proofs.Places.{Behind, Beside, Own, ahead-cases, earlier-itself, front-parts, own-parts, round-parts}
+use Rattle.outcome_check.proofs.Order.{same-itself}
 use Rattle.output_read.specs.Kept.{entries_of, entry_of}
 use Rattle.output_read.specs.declared.kept.KeptReply.{KeptReply as Kept}
 use Rattle.outcome_counts.specs.Asked.{IsAsked, asked_at}

@@ -34,8 +34,8 @@ nat-same a b = by (cases_eq a b)
     by (inl e) = ap (λ (n : ℕ). is_eq (nat_cmp n b)) e ∙ ap is_eq (tied_itself nat_cmp_total b) ∙ sym (eq-eqb a b e)
     by (inr n) = false_from_ne_true (is_eq (nat_cmp a b)) (λ h. n (nat-one a b h)) ∙ sym (ne_eqb a b n)
 
--- Two comparisons in turn are equal exactly where both are.
-then-same : (a b : Ordering) → is_eq (ordering_then a b) ≡ (is_eq a && is_eq b)
+-- two comparisons in turn are equal exactly where both are
+pub then-same : (a b : Ordering) → is_eq (ordering_then a b) ≡ (is_eq a && is_eq b)
 then-same Less b = refl
 then-same Equal b = refl
 then-same Greater b = refl

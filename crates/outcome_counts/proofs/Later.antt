@@ -3,7 +3,7 @@ use Rattle.std.proofs.Common.{◌≡◌, ℕ, ◌+◌, ◌-◌, ◌<◌, ◌≤�
 use Rattle.std.specs.List.{count_by, list_all, filter_map, cons_option}
 use Rattle.std.specs.Option.{option_map_or}
 use Rattle.std.specs.Prelude.{slice_index_or, is_some}
-use Rattle.std.proofs.lemmas.Bool.{and_parts, false_from_ne_true, or_from}
+use Rattle.std.proofs.lemmas.Bool.{and_parts, false_from_ne_true, or_from, and_right}
 use Rattle.std.proofs.lemmas.Bool.Decides.{nat_tests}
 use Rattle.std.proofs.lemmas.List.{length-append, length-reverse, length-drop, length-map, reverse-append, take_at, drop_at, take-append-drop, get_or_default}
 use Rattle.workload_spec.specs.declared.reply.Who.{Who}
@@ -74,11 +74,6 @@ up-not a b h = or_from (is_earlier b a) (is_same b a) (earlier-not a b h) (false
         let f : true ≡ false = sym k ∙ earlier-itself a in
         let impossible : ⊥ = cc in impossible
 
--- A conjunction with something false is false.
-and-false : (b : Bool) → (b && false) ≡ false
-and-false true = refl
-and-false false = refl
-
 -- A reply of a later round, or to a later one in the round, is not up to one's own.
 behind-not : (x y : Entry) → Behind x y ⊎ Beside x y → is_up_to_own x y ≡ false
 behind-not x y (inl b) =
@@ -90,7 +85,7 @@ behind-not x y (inr b) =
     let r = b.round in
     let less : nat_lt y.reply.round x.reply.round ≡ false = grind (arith, nat_tests, r) in
     or_from (nat_lt y.reply.round x.reply.round) (eqb y.reply.round x.reply.round && is_up_to y.reply.who x.reply.who) less
-    (ap (λ (t : Bool). eqb y.reply.round x.reply.round && t) (up-not x.reply.who y.reply.who b.who) ∙ and-false (eqb y.reply.round x.reply.round))
+    (ap (λ (t : Bool). eqb y.reply.round x.reply.round && t) (up-not x.reply.who y.reply.who b.who) ∙ and_right (eqb y.reply.round x.reply.round) false refl)
 
 -- Where the next reply is none of its own, a reply's own end behind it.
 fresh-end : (entries front : List Entry) (x y : Entry) (rest : List Entry) → entries ≡ front ++ x ∷ y ∷ rest → Rises entries → Behind x y ⊎ Beside x y → own_end entries x ≡ length front + 1

@@ -2,14 +2,9 @@
 use Rattle.std.proofs.Common.{◌≡◌, ℕ, ◌+◌, ◌<◌, zero, suc, Bool, true, false, cond, ◌&&◌, not, List, [], ◌∷◌, map, length, get_or, refl, sym, ap, ◌∙◌, arith}
 use Rattle.std.specs.List.{list_all, count_by}
 use Rattle.std.specs.List.Sorted.{IsPartitionedBy}
-use Rattle.std.proofs.lemmas.Bool.{and_parts, not-true}
+use Rattle.std.proofs.lemmas.Bool.{not-true}
 use Rattle.outcome_check.proofs.Pieces.{Parted, count-cons}
-
--- Where all elements pass, the one at each place does.
-all-get : {X : Type 0} (p : X → Bool) (xs : List X) (i : ℕ) (d : X) → i < length xs → list_all p xs ≡ true → p (get_or xs i d) ≡ true
-all-get p [] i d within h = absurd (omega (arith, within))
-all-get p (x ∷ xs) zero d within h = (and_parts (p x) (list_all p xs) h).0
-all-get p (x ∷ xs) (suc i) d within h = all-get p xs i d (omega (arith, within)) (and_parts (p x) (list_all p xs) h).1
+use Rattle.mark_index.proofs.Noted.{all-get}
 
 -- where one behind passes, the first does
 pub first-passes : {X : Type 0} (p : X → Bool) (x : X) (xs : List X) (j : ℕ) (d : X) (b : Bool) → p x ≡ b → (p x ≡ false → list_all (λ y. not (p y)) xs ≡ true) → j < length xs → p (get_or xs j d) ≡ true → p x ≡ true

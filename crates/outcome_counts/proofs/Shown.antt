@@ -36,8 +36,14 @@ numbered-counted entries = length-shown (λ (e : Entry). commit_in e.reply.said)
 pub commits-below : (number : ℕ) (entries : List Entry) → list_all (λ earlier. nat_lt earlier number) (shown_in commit_in entries) ≡ nat_le (highest above_commit entries) number
 commits-below number entries = all-below (λ (e : Entry). commit_in e.reply.said) number entries
 
--- Two tests that agree on each element are passed by all of a list alike.
-all-agree : {X : Type 0} (p q : X → Bool) → ((x : X) → p x ≡ q x) → (xs : List X) → list_all p xs ≡ list_all q xs
+-- two tests that follow from each other are one
+pub both-ways : (a b : Bool) → (a ≡ true → b ≡ true) → (b ≡ true → a ≡ true) → a ≡ b
+both-ways true b f g = sym (f refl)
+both-ways false true f g = g refl
+both-ways false false f g = refl
+
+-- two tests that agree on each element are passed by all of a list alike
+pub all-agree : {X : Type 0} (p q : X → Bool) → ((x : X) → p x ≡ q x) → (xs : List X) → list_all p xs ≡ list_all q xs
 all-agree p q same [] = refl
 all-agree p q same (x ∷ xs) = ap (λ (b : Bool). b && list_all p xs) (same x) ∙ ap (λ (b : Bool). q x && b) (all-agree p q same xs)
 

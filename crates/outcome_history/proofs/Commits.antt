@@ -1,12 +1,12 @@
 -- The writes of commits, laid over each other.
-use Rattle.std.proofs.Common.{◌≡◌, ℕ, ◌+◌, ◌<◌, ◌≤◌, nat_le, zero, suc, Bool, true, false, cond, List, [], ◌∷◌, ◌++◌, length, map, take, get_or, Option, None, Some, Result, Ok, Err, OnOk, refl, sym, ap, ◌∙◌, subst, arith, append_assoc}
+use Rattle.std.proofs.Common.{◌≡◌, ℕ, ◌+◌, ◌<◌, ◌≤◌, nat_le, zero, suc, Bool, true, false, cond, List, [], ◌∷◌, ◌++◌, length, map, take, get_or, Option, None, Some, refl, sym, ap, ◌∙◌, subst, arith, append_assoc, append-nil}
 use Rattle.std.specs.List.{list_all}
 use Rattle.std.specs.List.Sorted.{IsNonDecreasing, IsNonDecreasingBy}
 use Rattle.std.specs.Option.{option_map_or, option_or}
 use Rattle.std.specs.Ordering.{nat_cmp}
 use Rattle.std.specs.Prelude.{◌==◌, option_map, unwrap_or, is_some, slice_get, if◌then◌else◌}
 use Rattle.mark_index.specs.Lists.{marks_at, with_mark}
-use Rattle.mark_index.proofs.Noted.{all-weaker, take-next, take-front}
+use Rattle.mark_index.proofs.Noted.{all-weaker, take-next, take-front, filter-all}
 use Rattle.outcome_counts.specs.Keys.{is_keyed}
 use Rattle.outcome_counts.proofs.Keyed.{nat-same}
 use Rattle.cell_model.specs.declared.cell.Cell.{Cell}
@@ -30,7 +30,7 @@ use Rattle.outcome_history.specs.declared.keys.Spot.{Spot}
 use Rattle.outcome_history.specs.declared.writes.Left.{Left}
 use Rattle.outcome_history.specs.declared.writes.Writes.{Writes}
 use Rattle.outcome_history.proofs.Laid.{at-after}
-use Rattle.outcome_history.proofs.Noted.{push-none, filter-all, kept-next}
+use Rattle.outcome_history.proofs.Noted.{kept-next}
 
 -- ---- the places of replies
 
@@ -97,11 +97,6 @@ pub some-mapped : {X Y : Type 0} (f : X → Y) (o : Option X) → is_some o ≡ 
 some-mapped f None = refl
 some-mapped f (Some x) = refl
 
--- what follows where a result is one that went well
-pub on-ok : {T E : Type 0} (P Q : Type 0) (r : Result T E) → (P → Q) → OnOk r P → OnOk r Q
-on-ok P Q (Ok x) f h = f h
-on-ok P Q (Err e) f h = tt
-
 -- what is kept of a row goes by the time of its writes
 pub lay-rise : (time : ℕ) (writes : Writes) → CanLay time writes → (spot : Spot) → IsNonDecreasingBy (λ left. left.time) (marks_at spot_cmp writes.left spot)
 lay-rise time writes can spot = can.laid.kept.left_rise spot
@@ -156,7 +151,7 @@ made-next number bound own change b is =
         ≡ timed number (changes_of (up_to bound (map written_by own))) ++ cond b (made_at number (written_by change) ∷ []) []
     by true = ap (timed number) (map-push (λ (w : TimedWrite). (w.place, w.row)) (up_to bound (map written_by own)) (written_by change))
         ∙ map-push (timed_one number) (changes_of (up_to bound (map written_by own))) ((written_by change).place, (written_by change).row)
-    by false = ap (λ (ws : List TimedWrite). timed number (changes_of ws)) (push-none (up_to bound (map written_by own))) ∙ sym (push-none (timed number (changes_of (up_to bound (map written_by own)))))
+    by false = ap (λ (ws : List TimedWrite). timed number (changes_of ws)) (append-nil (up_to bound (map written_by own))) ∙ sym (append-nil (timed number (changes_of (up_to bound (map written_by own)))))
 
 -- the first elements with one more
 pub take-next-one : {X : Type 0} (xs : List X) (i : ℕ) (x : X) → i < length xs → x ≡ get_or xs i x → take (i + 1) xs ≡ take i xs ++ x ∷ []
@@ -183,7 +178,7 @@ pub made-past : (front : List TimedWrite) (number bound : ℕ) (own : List Chang
 made-past front number bound own i change next h =
     let test : nat_le change.left.time bound ≡ false = grind (arith, nat_tests, h) in
     ap (λ (cs : List Change). front ++ timed number (changes_of (up_to bound (map written_by cs)))) next
-    ∙ ap (λ (ws : List TimedWrite). front ++ ws) (made-next number bound (take i own) change false test ∙ push-none (timed number (changes_of (up_to bound (map written_by (take i own))))))
+    ∙ ap (λ (ws : List TimedWrite). front ++ ws) (made-next number bound (take i own) change false test ∙ append-nil (timed number (changes_of (up_to bound (map written_by (take i own))))))
 
 -- ---- nothing is laid
 
@@ -210,7 +205,7 @@ module _ (openings : List (Option ℕ)) (entries : List Entry) where
   pub commits-next : (first count : ℕ) → commits_from openings entries first (count + 1) ≡ commits_from openings entries first count ++ commit_writes openings entries (first + count)
   commits-next first zero =
       let e : first ≡ first + 0 = omega arith in
-      push-none (commit_writes openings entries first) ∙ ap (commit_writes openings entries) e
+      append-nil (commit_writes openings entries first) ∙ ap (commit_writes openings entries) e
   commits-next first (suc count) =
       let e : suc count + 1 ≡ suc (count + 1) = omega arith in
       let f : (first + 1) + count ≡ first + suc count = omega arith in

@@ -1,12 +1,13 @@
 -- What the open transactions have accepted behind replies.
-use Rattle.std.proofs.Common.{◌≡◌, ℕ, ◌+◌, ◌<◌, ◌≤◌, ◌⊎◌, inl, inr, suc, Bool, true, false, cond, eqb, List, [], ◌∷◌, ◌++◌, length, drop, Option, None, Some, refl, sym, ap, ◌∙◌, subst, arith, append_assoc}
+use Rattle.std.proofs.Common.{◌≡◌, ℕ, ◌+◌, ◌<◌, ◌≤◌, ◌⊎◌, inl, inr, suc, Bool, true, false, cond, eqb, List, [], ◌∷◌, ◌++◌, length, drop, Option, None, Some, refl, sym, ap, ◌∙◌, subst, arith, append_assoc, append-nil}
 use Rattle.std.specs.List.{filter_map, slice_get}
 use Rattle.std.specs.Option.{option_map_or}
-use Rattle.std.specs.Prelude.{is_some, unwrap_or, if◌then◌else◌}
+use Rattle.std.specs.Prelude.{is_some, if◌then◌else◌}
 use Rattle.std.proofs.lemmas.Bool.{cases_eq, ne_eqb}
 use Rattle.std.proofs.lemmas.Bool.Decides.{nat_tests}
 use Rattle.std.proofs.lemmas.List.{length-append, map-append, drop-append-le, drop_at}
 use Rattle.std.proofs.lemmas.List.Elements.{filter-append, filter_map-append}
+use Rattle.std.proofs.lemmas.Option.{same_Some}
 use Rattle.cell_model.specs.declared.cell.Cell.{Cell}
 use Rattle.isolation_spec.specs.declared.place.Place.{Place}
 use Rattle.workload_spec.specs.declared.reply.Who.{Who}
@@ -19,12 +20,11 @@ use Rattle.outcome_spec.specs.Runs.{accepted_write, write_of}
 use Rattle.outcome_check.specs.Opened.{OpensOutside}
 use Rattle.outcome_counts.proofs.Starts.{get-at}
 use Rattle.outcome_spans.specs.Openings.{opening_next, own_next, open_next, openings_from, openings_in}
-use Rattle.outcome_spans.proofs.Held.{IsOpen, Standing, standing-nil, standing-next}
+use Rattle.outcome_spans.proofs.Held.{IsOpen, Standing, standing-nil, standing-next, impossible}
 use Rattle.timeline_laws.proofs.Order.{same-is, same-itself}
 use Rattle.outcome_history.specs.Own.{is_opened, own_one, own_writes, changes_of}
 use Rattle.outcome_history.specs.Timed.{TimedWrite, timed_one}
 use Rattle.outcome_history.proofs.Own.{own-append}
-use Rattle.outcome_history.proofs.Noted.{push-none}
 
 -- where the open transactions are opened behind replies
 abbrev pub held_from : ℕ → (Who → Option ℕ) → List Entry → Who → Option ℕ
@@ -83,7 +83,7 @@ so-far-push owner front entry =
     ap (λ (os : List (Option ℕ)). own_writes owner 0 os (front ++ entry ∷ [])) (openings-push front entry)
     ∙ own-append owner 0 (openings_in front) (opening_here front entry ∷ []) front (entry ∷ []) (openings-long 0 (λ who. None) front)
     ∙ (let e : 0 + length front ≡ length front = omega arith in ap (λ (n : ℕ). so_far owner front ++ (own_one owner n (opening_here front entry) entry ++ [])) e)
-    ∙ ap (λ (ws : List TimedWrite). so_far owner front ++ ws) (push-none (own_one owner (length front) (opening_here front entry) entry))
+    ∙ ap (λ (ws : List TimedWrite). so_far owner front ++ ws) (append-nil (own_one owner (length front) (opening_here front entry) entry))
 
 -- ---- what is accepted
 
@@ -102,22 +102,10 @@ opens-accepts-none : (told : Said) (change : Option (Place × Option (List Cell)
 opens-accepts-none (said.At number) change h = refl
 opens-accepts-none _ change h = absurd (let never : ⊥ = cc in never)
 
--- Where true were the same as false, anything would follow.
-impossible : {P : Type 0} → true ≡ false → P
-impossible h = absurd (let never : ⊥ = cc in never)
-
--- Where there are no writes, a choice of them has none.
-none-of : (b : Bool) (ws : List TimedWrite) → ws ≡ [] → (if b then ws else []) ≡ []
+-- where there are no writes, a choice of them has none
+pub none-of : (b : Bool) (ws : List TimedWrite) → ws ≡ [] → (if b then ws else []) ≡ []
 none-of true ws h = h
 none-of false ws h = refl
-
--- The numbers that two equal options hold are the same.
-some-number : (a b : ℕ) → Some a ≡ Some b → a ≡ b
-some-number a b h = ap (λ (o : Option ℕ). unwrap_or o a) h
-
--- The replies that two equal options hold are the same.
-some-entry : (a b : Entry) → Some a ≡ Some b → a ≡ b
-some-entry a b h = ap (λ (o : Option Entry). unwrap_or o a) h
 
 -- What stands behind replies: the open transactions, and what each has accepted; none that is
 -- opened later has.
@@ -158,7 +146,7 @@ module _ (entries front : List Entry) (entry : Entry) (rest : List Entry) (whole
   one-who a b owner h k =
       let x = open-of a owner h in
       let y = open-of b owner k in
-      let one : x.opening ≡ y.opening = some-entry x.opening y.opening
+      let one : x.opening ≡ y.opening = same_Some x.opening y.opening
       (sym (get-at x.ahead x.opening x.mid) ∙ ap (λ (es : List Entry). slice_get es (length x.ahead)) (sym x.whole ∙ y.whole)
       ∙ ap (slice_get (y.ahead ++ y.opening ∷ y.mid)) (x.far ∙ sym y.far) ∙ get-at y.ahead y.opening y.mid) in
       sym x.of ∙ ap (λ (e : Entry). e.reply.who) one ∙ y.of
@@ -193,7 +181,7 @@ module _ (entries front : List Entry) (entry : Entry) (rest : List Entry) (whole
       so-far-push owner front entry
       ∙ ap (λ (b : Bool). so_far owner front ++ (if b then option_map_or (λ change. timed_one (length front + 1) change ∷ []) (accepted_write entry) [] else []))
       (not-opened owner (is_some (snapshot_in entry.reply.said)) refl here never)
-      ∙ push-none (so_far owner front)
+      ∙ append-nil (so_far owner front)
 
   -- With a reply more, those from a place in front on are the same and the reply.
   dropped : (owner : ℕ) → owner ≤ length front → drop owner (front ++ entry ∷ []) ≡ drop owner front ++ entry ∷ []
@@ -213,7 +201,7 @@ module _ (entries front : List Entry) (entry : Entry) (rest : List Entry) (whole
       let never : held its ≡ Some owner → ⊥ = λ k. (let e : true ≡ false = sym (same-itself who) ∙ ap (λ (w : Who). is_same w who) (one-who who its owner h k) ∙ apart in let no : ⊥ = cc in no) in
       ap changes_of (none-more owner (λ e. let no : ⊥ = omega (arith, e, within) in no) never)
       ∙ stands.own who owner h
-      ∙ ap (filter_map accepted_write) (sym (thread-more who owner false (omega (arith, within)) apart ∙ push-none (thread who (drop owner front))))
+      ∙ ap (filter_map accepted_write) (sym (thread-more who owner false (omega (arith, within)) apart ∙ append-nil (thread who (drop owner front))))
 
   -- its own that goes on
   goes-on : (who : Who) (owner : ℕ) → held who ≡ Some owner → is_same its who ≡ true → is_some (snapshot_in entry.reply.said) ≡ false
@@ -241,7 +229,7 @@ module _ (entries front : List Entry) (entry : Entry) (rest : List Entry) (whole
       let empty : own_one owner (length front) (opening_here front entry) entry ≡ [] =
       ap (λ (o : Option (Place × Option (List Cell))). if is_opened owner (opening_here front entry) then option_map_or (λ change. timed_one (length front + 1) change ∷ []) o [] else []) none
       ∙ none-of (is_opened owner (opening_here front entry)) [] refl in
-      ap changes_of (so-far-push owner front entry ∙ ap (λ (ws : List TimedWrite). so_far owner front ++ ws) empty ∙ push-none (so_far owner front) ∙ stands.fresh owner (omega (arith, far)))
+      ap changes_of (so-far-push owner front entry ∙ ap (λ (ws : List TimedWrite). so_far owner front ++ ws) empty ∙ append-nil (so_far owner front) ∙ stands.fresh owner (omega (arith, far)))
       ∙ sym (ap (λ (es : List Entry). filter_map accepted_write (thread who es)) (drop_at front (entry ∷ []) owner far)
       ∙ ap (λ (b : Bool). filter_map accepted_write (cond b (entry ∷ []) [])) same ∙ kept-one accepted_write entry None none)
 
@@ -257,7 +245,7 @@ module _ (entries front : List Entry) (entry : Entry) (rest : List Entry) (whole
     where
       by : (told ends : Bool) → is_some (snapshot_in entry.reply.said) ≡ told → is_end entry.reply.said ≡ ends → (if told then Some (length front) else (if ends then None else held who)) ≡ Some owner
           → changes_of (so_far owner (front ++ entry ∷ [])) ≡ filter_map accepted_write (thread who (drop owner (front ++ entry ∷ [])))
-      by true ends t e h = opens who owner (some-number (length front) owner h) s t
+      by true ends t e h = opens who owner (same_Some (length front) owner h) s t
       by false true t e h = absurd (let never : ⊥ = cc in never)
       by false false t e h = goes-on who owner h s t
 
@@ -284,7 +272,7 @@ module _ (entries front : List Entry) (entry : Entry) (rest : List Entry) (whole
 
 -- What stands behind a front stands behind it and further replies.
 stands-on : (entries front back rest : List Entry) → entries ≡ (front ++ back) ++ rest → OpensOutside entries → Stands front → Stands (front ++ back)
-stands-on entries front [] rest whole outside stands = subst Stands (sym (push-none front)) stands
+stands-on entries front [] rest whole outside stands = subst Stands (sym (append-nil front)) stands
 stands-on entries front (entry ∷ back) rest whole outside stands =
     let next = stands-next entries front entry (back ++ rest) (whole ∙ append_assoc front (entry ∷ back) rest) outside stands in
     subst Stands (append_assoc front (entry ∷ []) back)

@@ -2,9 +2,10 @@
 use Rattle.std.proofs.Common.{◌≡◌, ℕ, ◌+◌, ◌<◌, nat_le, zero, suc, Bool, true, false, cond, List, [], ◌∷◌, ◌++◌, length, map, take, Option, None, Some, refl, sym, ap, ◌∙◌, arith}
 use Rattle.std.specs.List.{find, range_with_len, slice_get}
 use Rattle.std.specs.Option.{option_map_or}
-use Rattle.std.specs.Prelude.{◌==◌, fold, unwrap_or, option_and_then, if◌then◌else◌}
+use Rattle.std.specs.Prelude.{◌==◌, fold, option_and_then, if◌then◌else◌}
 use Rattle.std.proofs.lemmas.Bool.Decides.{nat_tests}
 use Rattle.std.proofs.lemmas.List.Elements.{filter-append}
+use Rattle.std.proofs.lemmas.Option.{same_Some}
 use Rattle.cell_model.specs.declared.cell.Cell.{Cell}
 use Rattle.isolation_spec.specs.Contents.{State, WriteSet, laid_over, state_at}
 use Rattle.isolation_spec.specs.declared.place.Place.{Place}
@@ -17,12 +18,12 @@ use Rattle.outcome_check.specs.Places.{Rises as Ordered}
 use Rattle.outcome_spans.specs.Openings.{AreOpenings, opening_of, openings_in}
 use Rattle.si_machine.specs.Kept.{Rises}
 use Rattle.si_machine.proofs.Rising.{rises-laid}
+use Rattle.mark_index.proofs.Noted.{filter-all}
 use Rattle.outcome_history.specs.Timed.{TimedWrite, after_writes, timed, up_to}
 use Rattle.outcome_history.specs.Own.{own_writes, changes_of}
 use Rattle.outcome_history.specs.Commits.{places_of, first_of, made_of, commit_writes, commits_from}
 use Rattle.outcome_history.specs.Seen.{history_of}
 use Rattle.outcome_history.proofs.Laid.{laid-writes, after-append}
-use Rattle.outcome_history.proofs.Noted.{filter-all}
 use Rattle.outcome_history.proofs.Commits.{commit-at, lower}
 use Rattle.outcome_history.proofs.Spanned.{IsSpan, spanned, unspanned}
 
@@ -36,10 +37,6 @@ pub record FirstAt (test : Entry → Bool) (place : ℕ) (entries : List Entry) 
   pub far : place + length front ≡ first
   pub found : find test entries ≡ Some entry
   pub passes : test entry ≡ true
-
--- The numbers that two equal options hold are the same.
-some-number : (a b : ℕ) → Some a ≡ Some b → a ≡ b
-some-number a b h = ap (λ (o : Option ℕ). unwrap_or o a) h
 
 -- where no place is the first that passes, nothing passes
 pub first-none : (test : Entry → Bool) (place : ℕ) (entries : List Entry) → slice_get (places_of test place entries) 0 ≡ None → find test entries ≡ None
@@ -59,7 +56,7 @@ first-some test place (entry ∷ entries) first h = by (test entry) refl (first-
     by : (b : Bool) → test entry ≡ b → (slice_get (places_of test (place + 1) entries) 0 ≡ Some first → FirstAt test (place + 1) entries first)
         → slice_get (if b then place ∷ places_of test (place + 1) entries else places_of test (place + 1) entries) 0 ≡ Some first → FirstAt test place (entry ∷ entries) first
     by true is rest h =
-        let e : place ≡ first = some-number place first h in
+        let e : place ≡ first = same_Some place first h in
         record { front = []; entry = entry; rest = entries; whole = refl; far = omega (arith, e); found = ap (λ (b : Bool). cond b (Some entry) (find test entries)) is; passes = is }
     by false is rest h =
         let later = rest h in

@@ -5,6 +5,7 @@ use Rattle.std.specs.BTreeMap.{insert_entry}
 use Rattle.std.specs.List.{filter, filter_map, last_or}
 use Rattle.std.specs.Ordering.{is_eq}
 use Rattle.std.specs.declared.cmp.Ordering.TheVariants.{Less}
+use Rattle.std.proofs.lemmas.Option.{same_Some}
 use Rattle.cell_model.specs.declared.cell.Cell.{Cell}
 use Rattle.isolation_spec.specs.Contents.{place_cmp, is_place, at_place, State, WriteSet, with_write, laid_over}
 use Rattle.isolation_spec.specs.declared.place.Place.{Place}
@@ -79,8 +80,8 @@ less-both a b h k =
     let f : is_eq Less ≡ true = ap is_eq e ∙ itself a in
     let never : ⊥ = cc in never
 
--- At the place of its first entry a state has this entry's row.
-first-here : (x : Place × List Cell) (xs : State) → at_place (x ∷ xs) x.0 ≡ Some x.1
+-- at the place of its first entry a state has this entry's row
+pub first-here : (x : Place × List Cell) (xs : State) → at_place (x ∷ xs) x.0 ≡ Some x.1
 first-here x xs = ap (λ (b : Bool). cond b (Some x.1) (at_place xs x.0)) (itself x.0)
 
 -- where a place is found behind the first, the first is below it
@@ -89,10 +90,6 @@ found-behind y ys q r true is fails below h = absurd (let never : ⊥ = cc in ne
 found-behind y ys q r false is fails below h =
     let there : at_place ys q ≡ Some r = ap (λ (b : Bool). cond b (Some y.1) (at_place ys q)) (sym is) ∙ h in
     among q ys y.0 below (ap is_some there)
-
--- The rows that two equal options hold are the same.
-some-is : (a b : List Cell) → Some a ≡ Some b → a ≡ b
-some-is a b h = ap (λ (o : Option (List Cell)). unwrap_or o a) h
 
 -- States with the same first entry and the same at each place have the same behind it.
 rest-same : (x y : Place × List Cell) (xs ys : State) → x ≡ y → Below x.0 xs → Below y.0 ys → ((q : Place) → at_place (x ∷ xs) q ≡ at_place (y ∷ ys) q)
@@ -128,7 +125,7 @@ same-states (x ∷ xs) (y ∷ ys) h k same = by (same-states xs ys h.1 k.1) (is_
     by again false is = apart (is_place y.0 x.0) is refl
     by again true is =
         let places : x.0 ≡ y.0 = same-place x.0 y.0 is in
-        let rows : x.1 ≡ y.1 = some-is x.1 y.1 (sym found-x ∙ ap (at_place (y ∷ ys)) places ∙ first-here y ys) in
+        let rows : x.1 ≡ y.1 = same_Some x.1 y.1 (sym found-x ∙ ap (at_place (y ∷ ys)) places ∙ first-here y ys) in
         let whole : x ≡ y = ap (λ (p : Place). (p, x.1)) places ∙ ap (λ (r : List Cell). (y.0, r)) rows in
         let rest : xs ≡ ys = again (λ q. rest-same x y xs ys whole h.0 k.0 same q (is_place q x.0) refl) in
         ap (λ (z : Place × List Cell). z ∷ xs) whole ∙ ap (λ (zs : State). y ∷ zs) rest

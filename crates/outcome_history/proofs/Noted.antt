@@ -1,11 +1,10 @@
 -- A write more of an owner is kept beside the others.
-use Rattle.std.proofs.Common.{◌≡◌, ℕ, ◌+◌, ◌-◌, ◌<◌, nat_le, zero, suc, Bool, true, false, cond, ◌&&◌, eqb, List, [], ◌∷◌, ◌++◌, length, get_or, Option, None, Some, refl, sym, ap, ◌∙◌, subst, arith}
+use Rattle.std.proofs.Common.{◌≡◌, ℕ, ◌+◌, ◌-◌, nat_le, Bool, true, false, cond, ◌&&◌, eqb, List, [], ◌∷◌, ◌++◌, length, None, refl, sym, ap, ◌∙◌, subst, arith, append-nil}
 use Rattle.std.specs.Cmp.{eq_by_cmp_equiv}
 use Rattle.std.specs.List.{filter, last_or, list_all}
 use Rattle.std.specs.List.Sorted.{IsNonDecreasing, IsNonDecreasingBy}
 use Rattle.std.specs.Ordering.{int_cmp, nat_cmp, is_eq, ordering_then}
 use Rattle.std.specs.declared.cmp.Ordering.{Ordering}
-use Rattle.std.specs.declared.cmp.Ordering.TheVariants.{Less, Equal, Greater}
 use Rattle.std.specs.Prelude.{is_some, option_map, if◌then◌else◌}
 use Rattle.std.proofs.lemmas.Bool.{and_parts, eq-eqb}
 use Rattle.std.proofs.lemmas.Bool.Decides.{nat_tests}
@@ -16,8 +15,8 @@ use Rattle.isolation_spec.specs.Contents.{is_place, at_place, State, with_write}
 use Rattle.isolation_spec.specs.declared.place.Place.{Place}
 use Rattle.isolation_laws.proofs.Rows.{place_cmp-total}
 use Rattle.mark_index.specs.Lists.{marks_at, with_mark}
-use Rattle.mark_index.proofs.Noted.{all-weaker, count-push}
-use Rattle.outcome_counts.proofs.Keyed.{nat-same}
+use Rattle.mark_index.proofs.Noted.{all-weaker, count-push, all-get, filter-all, last-push}
+use Rattle.outcome_counts.proofs.Keyed.{nat-same, then-same}
 use Rattle.si_machine.specs.Kept.{Rises}
 use Rattle.outcome_history.specs.Spots.{row_at}
 use Rattle.outcome_history.specs.Timed.{TimedWrite, after_writes, left_at, up_to, rows_in, gains, loses}
@@ -35,22 +34,6 @@ use Rattle.outcome_history.proofs.Rows.{rows-write}
 pub filter-push : {X : Type 0} (p : X → Bool) (xs : List X) (x : X) → filter p (xs ++ x ∷ []) ≡ filter p xs ++ cond (p x) (x ∷ []) []
 filter-push p xs x = filter-append p xs (x ∷ [])
 
--- the last of a list with one element more is that one
-pub last-push : {X : Type 0} (first : Option X) (xs : List X) (x : X) → last_or first (xs ++ x ∷ []) ≡ Some x
-last-push first [] x = refl
-last-push first (y ∷ xs) x = last-push (Some y) xs x
-
--- a list with nothing behind it
-pub push-none : {X : Type 0} (xs : List X) → xs ++ [] ≡ xs
-push-none [] = refl
-push-none (x ∷ xs) = ap (λ (ys : List _). x ∷ ys) (push-none xs)
-
--- Where all elements pass, the one at each place does.
-all-get : {X : Type 0} (p : X → Bool) (xs : List X) (i : ℕ) (d : X) → i < length xs → list_all p xs ≡ true → p (get_or xs i d) ≡ true
-all-get p [] i d within h = absurd (omega (arith, within))
-all-get p (x ∷ xs) zero d within h = (and_parts (p x) (list_all p xs) h).0
-all-get p (x ∷ xs) (suc i) d within h = all-get p xs i d (omega (arith, within)) (and_parts (p x) (list_all p xs) h).1
-
 -- Elements that rise by their times do so with one more, if put, that is no earlier.
 rise-by : {X : Type 0} (time : X → ℕ) (put : Bool) (x : X) (xs : List X) → (put ≡ true → list_all (λ y. nat_le (time y) (time x)) xs ≡ true)
     → IsNonDecreasingBy time xs → IsNonDecreasingBy time (with_mark put x xs)
@@ -63,20 +46,7 @@ within-by : {X : Type 0} (p : X → Bool) (put : Bool) (x : X) (xs : List X) →
 within-by p true x xs h one = list_all-append p xs (x ∷ []) ∙ rw (h, one refl) refl
 within-by p false x xs h one = h
 
--- where all pass all are kept
-pub filter-all : {X : Type 0} (p : X → Bool) (xs : List X) → list_all p xs ≡ true → filter p xs ≡ xs
-filter-all p [] h = refl
-filter-all p (x ∷ xs) h =
-    let parts = and_parts (p x) (list_all p xs) h in
-    rw parts.0 (ap (λ (ys : List _). x ∷ ys) (filter-all p xs parts.1))
-
 -- ---- keys
-
--- Two comparisons in turn are equal exactly where both are.
-then-same : (a b : Ordering) → is_eq (ordering_then a b) ≡ (is_eq a && is_eq b)
-then-same Less b = refl
-then-same Equal b = refl
-then-same Greater b = refl
 
 -- Of three conditions together the first and the last may change places.
 turned : (a b c : Bool) → (a && (b && c)) ≡ (c && (b && a))
@@ -158,15 +128,15 @@ module _ (bases : ℕ → State) (written : ℕ → List TimedWrite) (before now
       → row_up_to bound marks ≡ left_at place (up_to bound writes)
       → row_up_to bound (with_mark c left marks) ≡ left_at place (up_to bound writes ++ cond d (more ∷ []) [])
   left-push place bound marks writes c false is up old =
-      kept-mark c ∙ old ∙ ap (left_at place) (sym (push-none (up_to bound writes)))
+      kept-mark c ∙ old ∙ ap (left_at place) (sym (append-nil (up_to bound writes)))
     where
       kept-mark : (c : Bool) → row_up_to bound (with_mark c left marks) ≡ row_up_to bound marks
       kept-mark true = ap (λ (ls : List Left). option_map row_left (last_or None ls)) (filter-push (λ l. nat_le l.time bound) marks left
-          ∙ ap (λ (b : Bool). filter (λ l. nat_le l.time bound) marks ++ cond b (left ∷ []) []) up ∙ push-none (filter (λ l. nat_le l.time bound) marks))
+          ∙ ap (λ (b : Bool). filter (λ l. nat_le l.time bound) marks ++ cond b (left ∷ []) []) up ∙ append-nil (filter (λ l. nat_le l.time bound) marks))
       kept-mark false = refl
   left-push place bound marks writes false true is up old =
       old ∙ ap (λ (ws : List TimedWrite). option_map (λ w. w.row) (last_or None ws)) (sym (filter-push (λ w. is_place place w.place) (up_to bound writes) more
-      ∙ ap (λ (b : Bool). filter (λ w. is_place place w.place) (up_to bound writes) ++ cond b (more ∷ []) []) is ∙ push-none (filter (λ w. is_place place w.place) (up_to bound writes))))
+      ∙ ap (λ (b : Bool). filter (λ w. is_place place w.place) (up_to bound writes) ++ cond b (more ∷ []) []) is ∙ append-nil (filter (λ w. is_place place w.place) (up_to bound writes))))
   left-push place bound marks writes true true is up old =
       ap (λ (ls : List Left). option_map row_left (last_or None ls)) (filter-push (λ l. nat_le l.time bound) marks left
       ∙ ap (λ (b : Bool). filter (λ l. nat_le l.time bound) marks ++ cond b (left ∷ []) []) up)
@@ -243,7 +213,7 @@ module _ (bases : ℕ → State) (written : ℕ → List TimedWrite) (before now
   rows-next : (table bound : ℕ) (d : Bool) → nat_le left.time bound ≡ d
       → rows_in table (after_writes (bases spot.owner) (up_to bound (written spot.owner) ++ cond d (more ∷ []) [])) + cond (d && (eqb spot.table table && loses had (row_left left))) 1 0
       ≡ rows_in table (after_writes (bases spot.owner) (up_to bound (written spot.owner))) + cond (d && (eqb spot.table table && gains had (row_left left))) 1 0
-  rows-next table bound false is = ap (λ (ws : List TimedWrite). rows_in table (after_writes (bases spot.owner) ws) + 0) (push-none (up_to bound (written spot.owner)))
+  rows-next table bound false is = ap (λ (ws : List TimedWrite). rows_in table (after_writes (bases spot.owner) ws) + 0) (append-nil (up_to bound (written spot.owner)))
   rows-next table bound true is =
       let whole : up_to bound (written spot.owner) ≡ written spot.owner =
       filter-all (λ w. nat_le w.time bound) (written spot.owner) (all-weaker (λ w. nat_le w.time left.time) (λ w. nat_le w.time bound) (λ w low. grind (arith, nat_tests, low, is)) (written spot.owner) latest) in

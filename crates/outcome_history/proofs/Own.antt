@@ -1,5 +1,5 @@
 -- The writes of transactions with a reply more.
-use Rattle.std.proofs.Common.{◌≡◌, ℕ, ◌+◌, suc, Bool, true, false, List, [], ◌∷◌, ◌++◌, length, map, take, Option, None, Some, sym, ap, ◌∙◌, arith, append_assoc}
+use Rattle.std.proofs.Common.{◌≡◌, ℕ, ◌+◌, suc, Bool, true, false, List, [], ◌∷◌, ◌++◌, length, map, take, Option, None, Some, sym, ap, ◌∙◌, arith, append_assoc, append-nil}
 use Rattle.std.specs.Option.{option_map_or}
 use Rattle.std.specs.Ordering.{nat_cmp}
 use Rattle.std.specs.Prelude.{option_map, unwrap_or, if◌then◌else◌}
@@ -15,7 +15,6 @@ use Rattle.outcome_history.specs.Own.{AreChanges, is_opened, own_one, own_writes
 use Rattle.outcome_history.specs.Timed.{TimedWrite, timed_one}
 use Rattle.outcome_history.specs.declared.changes.Change.{Change}
 use Rattle.outcome_history.specs.declared.changes.Changes.{Changes}
-use Rattle.outcome_history.proofs.Noted.{push-none}
 
 -- a transaction's writes in two lists of replies in a row
 pub own-append : (owner place : ℕ) (openings openings2 : List (Option ℕ)) (entries entries2 : List Entry) → length openings ≡ length entries
@@ -36,7 +35,7 @@ some-timed a b h = ap (λ (o : Option TimedWrite). unwrap_or o a) h
 -- With a change more, if there is one, the changes are the writes with its write behind them.
 pushed : (time : ℕ) (change : Option Change) (told : Option (Place × Option (List Cell))) (changes : List Change) → option_map written_by change ≡ option_map (timed_one time) told
     → map written_by (option_map_or (λ its. changes ++ its ∷ []) change changes) ≡ map written_by changes ++ option_map_or (λ its. timed_one time its ∷ []) told []
-pushed time None None changes h = sym (push-none (map written_by changes))
+pushed time None None changes h = sym (append-nil (map written_by changes))
 pushed time None (Some told) changes h = absurd (let never : ⊥ = cc in never)
 pushed time (Some change) None changes h = absurd (let never : ⊥ = cc in never)
 pushed time (Some change) (Some told) changes h =
@@ -47,7 +46,7 @@ pushed-by : (b : Bool) (time : ℕ) (change : Option Change) (told : Option (Pla
     → map written_by (if b then option_map_or (λ its. changes ++ its ∷ []) change changes else changes)
     ≡ map written_by changes ++ (if b then option_map_or (λ its. timed_one time its ∷ []) told [] else [])
 pushed-by true time change told changes h = pushed time change told changes h
-pushed-by false time change told changes h = sym (push-none (map written_by changes))
+pushed-by false time change told changes h = sym (append-nil (map written_by changes))
 
 -- a transaction's writes with a reply more
 pub own-next : (owner : ℕ) (entries front : List Entry) (entry : Entry) (rest : List Entry) (openings ofront : List (Option ℕ)) (opening : Option ℕ) (orest : List (Option ℕ)) (n : ℕ)
@@ -60,7 +59,7 @@ own-next owner entries front entry rest openings ofront opening orest n whole fa
     ∙ ap (λ (xs : List Entry). own_writes owner 0 (ofront ++ opening ∷ []) xs) es
     ∙ own-append owner 0 ofront (opening ∷ []) front (entry ∷ []) (ofar ∙ sym far)
     ∙ (let e : 0 + length front ≡ n = omega (arith, far) in ap (λ (k : ℕ). own_writes owner 0 ofront front ++ (own_one owner k opening entry ++ [])) e)
-    ∙ ap (λ (ws : List TimedWrite). own_writes owner 0 ofront front ++ ws) (push-none (own_one owner n opening entry))
+    ∙ ap (λ (ws : List TimedWrite). own_writes owner 0 ofront front ++ ws) (append-nil (own_one owner n opening entry))
     ∙ ap (λ (xs : List (Option ℕ)). own_writes owner 0 xs front ++ own_one owner n opening entry) (sym (take-front openings ofront opening orest n owhole ofar))
     ∙ ap (λ (xs : List Entry). own_writes owner 0 (take n openings) xs ++ own_one owner n opening entry) (sym (take-front entries front entry rest n whole far))
 

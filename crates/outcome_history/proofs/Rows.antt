@@ -6,11 +6,13 @@ use Rattle.std.specs.Map.{remove_entry}
 use Rattle.std.specs.Ordering.{is_eq, match_ordering}
 use Rattle.std.specs.declared.cmp.Ordering.{Ordering}
 use Rattle.std.specs.declared.cmp.Ordering.TheVariants.{Less, Equal, Greater}
+use Rattle.std.proofs.lemmas.Bool.{and_right}
 use Rattle.cell_model.specs.declared.cell.Cell.{Cell}
 use Rattle.isolation_spec.specs.Contents.{place_cmp, is_place, at_place, State, with_write}
 use Rattle.isolation_spec.specs.declared.place.Place.{Place}
 use Rattle.si_machine.specs.Kept.{Rises}
 use Rattle.si_machine.proofs.Rising.{same-place, at-below, below-less}
+use Rattle.timeline_laws.proofs.Tests.{and-true}
 use Rattle.outcome_history.specs.Timed.{rows_in, gains, loses}
 
 module _ (table : ℕ) where
@@ -33,23 +35,14 @@ module _ (table : ℕ) where
 
   -- A conjunction with something true is its first.
   both-true : (a b : Bool) → b ≡ true → (a && b) ≡ a
-  both-true a b h = rw h (by a)
-    where
-      by : (a : Bool) → (a && true) ≡ a
-      by true = refl
-      by false = refl
-
-  -- A conjunction with something false is false.
-  both-false : (a b : Bool) → b ≡ false → (a && b) ≡ false
-  both-false true b h = h
-  both-false false b h = refl
+  both-true a b h = rw h (and-true a)
 
   -- An insertion adds a row to its table where there was none at the place.
   rows-insert : (rows : State) (place : Place) (row : List Cell) → Rises rows
       → rows_in table (insert_entry place_cmp rows place row) + one (here place && is_some (at_place rows place)) ≡ rows_in table rows + one (here place)
   rows-insert [] place row h =
       let a = rows-cons (place, row) [] in
-      let b : one (here place && false) ≡ 0 = ap one (both-false (here place) false refl) in
+      let b : one (here place && false) ≡ 0 = ap one (and_right (here place) false refl) in
       omega (arith, a, b)
   rows-insert (e ∷ rows) place row h = by (rows-insert rows place row h.1) (place_cmp place e.0) refl
     where
@@ -60,7 +53,7 @@ module _ (table : ℕ) where
       by rest Less is =
           let a = rows-cons (place, row) (e ∷ rows) in
           let c : one (here place && is_some (at_place rows place)) ≡ 0 =
-          ap one (both-false (here place) (is_some (at_place rows place)) (ap is_some (at-below place rows (below-less place e.0 rows is h.0)))) in
+          ap one (and_right (here place) (is_some (at_place rows place)) (ap is_some (at-below place rows (below-less place e.0 rows is h.0)))) in
           omega (arith, a, c)
       by rest Equal is =
           let a = rows-cons (e.0, row) rows in
@@ -75,7 +68,7 @@ module _ (table : ℕ) where
   -- A removal takes a row of its table away where there was one at the place.
   rows-remove : (rows : State) (place : Place) → rows_in table (remove_entry (is_place place) rows) + one (here place && is_some (at_place rows place)) ≡ rows_in table rows
   rows-remove [] place =
-      let b : one (here place && false) ≡ 0 = ap one (both-false (here place) false refl) in
+      let b : one (here place && false) ≡ 0 = ap one (and_right (here place) false refl) in
       omega (arith, b)
   rows-remove (e ∷ rows) place = by (rows-remove rows place) (is_place place e.0) refl
     where

@@ -5,11 +5,12 @@ use Rattle.std.specs.Cmp.{nat_cmp_is}
 use Rattle.std.proofs.lemmas.Bool.{and_parts, and_from, eqb-true, eq-eqb}
 use Rattle.std.proofs.lemmas.Bool.Decides.{Decides-int_eq}
 use Rattle.std.proofs.lemmas.Slice.Eq.{bytes_eq-Decides}
+use Rattle.std.proofs.lemmas.Option.{same_Some}
 use Rattle.std.specs.Option.{option_map_or}
 use Rattle.std.specs.Ordering.{nat_cmp, int_cmp, ordering_then}
 use Rattle.std.specs.declared.cmp.Ordering.{Ordering}
 use Rattle.std.specs.declared.cmp.Ordering.TheVariants.{Less, Equal, Greater}
-use Rattle.std.specs.Prelude.{◌==◌, ℤ, int_lt, is_some, unwrap_or}
+use Rattle.std.specs.Prelude.{◌==◌, ℤ, int_lt, is_some}
 use Rattle.cell_model.specs.declared.cell.Cell.{Cell}
 use Rattle.cell_model.specs.declared.cell.Cell.TheVariants.{Null, Num, Truth, Text, Blob}
 use Rattle.isolation_spec.specs.Contents.{State, at_place, contents_of, is_place, key_of, place_at, place_cmp, place_of}
@@ -19,9 +20,11 @@ use Rattle.si_machine.specs.Kept.{Below, Rises}
 use Rattle.si_machine.proofs.Rising.{same-place, itself}
 use Rattle.si_machine.proofs.Scanned.{unlike, among}
 use Rattle.outcome_spec.specs.Answers.{is_cell, is_row}
+use Rattle.outcome_counts.proofs.Shown.{both-ways}
 use Rattle.outcome_history.specs.Judged.{are_found, is_above, is_found}
 use Rattle.outcome_history.specs.Timed.{rows_in}
 use Rattle.outcome_history.proofs.Keyed.{AreKeyed}
+use Rattle.outcome_history.proofs.Laid.{first-here}
 
 -- each of the rows is found at its place
 abbrev pub Found : ℕ → State → List (List Cell) → Type 0
@@ -37,10 +40,6 @@ Under table place (row ∷ rows) = (place_cmp place (place_of table row) ≡ Les
 abbrev pub Ordered : ℕ → List (List Cell) → Type 0
 Ordered table [] = Unit {0}
 Ordered table (row ∷ rows) = Under table (place_of table row) rows × Ordered table rows
-
--- The rows that two equal options hold are the same.
-one-row : (a b : List Cell) → Some a ≡ Some b → a ≡ b
-one-row a b h = ap (λ (o : Option (List Cell)). unwrap_or o a) h
 
 module _ (table : ℕ) where
   -- what isn't at the first place is found behind it
@@ -141,7 +140,7 @@ module _ (table : ℕ) where
       by true true is at whole rest =
           let r = rows-own e seen is in
           let under : Under table e.0 rows = subst (λ (p : Place). Under table p rows) (same-place (place_of table row) e.0 at) ordered.0 in
-          let same : e.1 ≡ row = one-row e.1 row (sym (ap (λ (b : Bool). cond b (Some e.1) (at_place seen (place_of table row))) at) ∙ found.0) in
+          let same : e.1 ≡ row = same_Some e.1 row (sym (ap (λ (b : Bool). cond b (Some e.1) (at_place seen (place_of table row))) at) ∙ found.0) in
           ap (λ (x : List Cell). x ∷ rows) (sym same) ∙ ap (λ (xs : List (List Cell)). e.1 ∷ xs) (rest (all-behind e seen rows under found.1) (omega (arith, r, long)))
           ∙ sym (contents-own e seen is)
 
@@ -244,10 +243,6 @@ module _ (table : ℕ) where
 
   -- ---- the rows that are seen are found
 
-  -- At the place of its first entry a state has this entry's row.
-  first-found : (e : Place × List Cell) (seen : State) → at_place (e ∷ seen) e.0 ≡ Some e.1
-  first-found e seen = ap (λ (b : Bool). cond b (Some e.1) (at_place seen e.0)) (itself e.0)
-
   -- each entry is one of the whole
   abbrev Within : State → State → Type 0
   Within whole part = (place : Place) (row : List Cell) → at_place part place ≡ Some row → at_place whole place ≡ Some row
@@ -288,17 +283,11 @@ module _ (table : ℕ) where
           let same : e.0.table ≡ table = eqb-true e.0.table table is in
           let place : e.0 ≡ place_of table e.1 = keyed.0 ∙ ap (λ (t : ℕ). place_of t e.1) same in
           let above-it : is_above last (key_of e.1) ≡ true = above-key last (key_of e.1) part e.1 (subst (λ (p : Place). AllAbove last ((p, e.1) ∷ part)) place above) in
-          let there : at_place whole (place_of table e.1) ≡ Some e.1 = ap (at_place whole) (sym place) ∙ within e.0 e.1 (first-found e part) in
+          let there : at_place whole (place_of table e.1) ≡ Some e.1 = ap (at_place whole) (sym place) ∙ within e.0 e.1 (first-here e part) in
           let found : is_found table whole e.1 ≡ true = ap (λ (o : Option (List Cell)). option_map_or (is_row e.1) o false) there ∙ row-itself e.1 in
           ap (are_found table whole last) (contents-own table e part is)
           ∙ and_from (is_above last (key_of e.1)) (is_found table whole e.1 && are_found table whole (Some (key_of e.1)) (contents_of table part)) above-it
           (and_from (is_found table whole e.1) (are_found table whole (Some (key_of e.1)) (contents_of table part)) found (next (subst (λ (p : Place). Below p part) place rises.0)))
-
-  -- Two tests that follow from each other are one.
-  both-ways : (a b : Bool) → (a ≡ true → b ≡ true) → (b ≡ true → a ≡ true) → a ≡ b
-  both-ways true b f g = sym (f refl)
-  both-ways false true f g = g refl
-  both-ways false false f g = refl
 
   -- Rows that rise, each that of its key, and as many as there are, are those of the table.
   pub scanned : (seen : State) (rows : List (List Cell)) → Rises seen → AreKeyed seen → (length rows == rows_in table seen && are_found table seen None rows) ≡ pointwise is_row rows (contents_of table seen)

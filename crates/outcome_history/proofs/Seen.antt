@@ -1,5 +1,5 @@
 -- What is kept of the transactions of an output, with a reply more.
-use Rattle.std.proofs.Common.{◌≡◌, ℕ, ◌+◌, ◌<◌, ◌≤◌, nat_le, suc, Bool, true, false, List, [], ◌∷◌, ◌++◌, length, take, Option, None, Some, refl, sym, ap, ◌∙◌, subst, arith}
+use Rattle.std.proofs.Common.{◌≡◌, ℕ, ◌+◌, ◌<◌, ◌≤◌, nat_le, suc, Bool, true, false, List, [], ◌∷◌, ◌++◌, length, take, Option, None, Some, refl, sym, ap, ◌∙◌, subst, arith, append-nil}
 use Rattle.std.specs.List.{list_all, slice_get}
 use Rattle.std.specs.Option.{option_map_or}
 use Rattle.std.specs.Prelude.{◌==◌, option_map, option_and_then, unwrap_or, is_some, if◌then◌else◌}
@@ -30,11 +30,12 @@ use Rattle.outcome_history.specs.declared.keys.RowKey.{RowKey}
 use Rattle.outcome_history.specs.declared.writes.Writes.{Writes}
 use Rattle.outcome_history.proofs.Keyed.{AreKeyed, keyed-after, keyed-commits, keyed-own, keyed-up-to}
 use Rattle.outcome_history.proofs.Laid.{at-after, rises-after}
-use Rattle.outcome_history.proofs.Noted.{push-none, kept-next}
+use Rattle.outcome_history.proofs.Noted.{kept-next}
 use Rattle.outcome_history.proofs.Own.{own-next}
 use Rattle.outcome_history.proofs.Commits.{row-of}
 use Rattle.outcome_history.proofs.History.{state-is}
 use Rattle.outcome_history.proofs.Spanned.{own-early}
+use Rattle.outcome_history.proofs.Held.{none-of}
 
 -- the row of a key after so many commits
 pub row-committed : (openings : List (Option ℕ)) (entries : List Entry) → IsOutput openings entries → (writes : Writes) → AreCommits openings entries (commit_count entries) writes → (number : ℕ) (of : RowKey)
@@ -134,13 +135,8 @@ module _ (openings : List (Option ℕ)) (entries front : List Entry) (entry : En
   none-with writes none own = record {
     written = own.written;
     kept = own.kept;
-    own = λ owner. own.own owner ∙ sym (next owner ∙ ap (λ (ws : List TimedWrite). own_writes owner 0 (take n openings) (take n entries) ++ ws) (none owner) ∙ push-none (own_writes owner 0 (take n openings) (take n entries)));
+    own = λ owner. own.own owner ∙ sym (next owner ∙ ap (λ (ws : List TimedWrite). own_writes owner 0 (take n openings) (take n entries) ++ ws) (none owner) ∙ append-nil (own_writes owner 0 (take n openings) (take n entries)));
   }
-
-  -- Where there are no writes, a choice of them has none.
-  none-of : (b : Bool) (ws : List TimedWrite) → ws ≡ [] → (if b then ws else []) ≡ []
-  none-of true ws h = h
-  none-of false ws h = refl
 
   -- a reply that accepts nothing
   pub own-same : option_map written_by None ≡ option_map (timed_one (n + 1)) (accepted_write entry) → (writes : Writes) → AreOwn openings entries n writes → AreOwn openings entries (n + 1) writes
@@ -191,7 +187,7 @@ module _ (openings : List (Option ℕ)) (entries front : List Entry) (entry : En
               ≡ own_writes other 0 (take n openings) (take n entries) ++ (if b then option_map_or (λ its. timed_one (n + 1) its ∷ []) (accepted_write entry) [] else [])
           branch true = ap (λ (ws : List TimedWrite). ws ++ written_by change ∷ []) (own.own other)
               ∙ ap (λ (ws : List TimedWrite). own_writes other 0 (take n openings) (take n entries) ++ ws) (sym (some-change (n + 1) change (accepted_write entry) told))
-          branch false = own.own other ∙ sym (push-none (own_writes other 0 (take n openings) (take n entries)))
+          branch false = own.own other ∙ sym (append-nil (own_writes other 0 (take n openings) (take n entries)))
 
 -- and with a reply that is in no transaction
 pub own-unopened : (openings : List (Option ℕ)) (replies : List KeptReply) (ofront : List (Option ℕ)) (opening : Option ℕ) (orest : List (Option ℕ)) (n : ℕ) → n < length replies

@@ -1,12 +1,12 @@
 -- The transaction of a reply, and what it has accepted in front of it.
-use Rattle.std.proofs.Common.{◌≡◌, ℕ, ◌+◌, ◌≤◌, nat_le, nat_lt, Bool, true, false, cond, ◌&&◌, eqb, List, [], ◌∷◌, ◌++◌, length, drop, Option, None, Some, refl, sym, ap, ◌∙◌, subst, arith, append_assoc}
+use Rattle.std.proofs.Common.{◌≡◌, ℕ, ◌+◌, ◌≤◌, nat_le, Bool, true, false, cond, List, [], ◌∷◌, ◌++◌, length, drop, Option, None, Some, refl, sym, ap, ◌∙◌, subst, arith, append_assoc, append-nil}
 use Rattle.std.specs.List.{filter_map, list_any, slice_get}
 use Rattle.std.specs.Option.{option_map_or}
-use Rattle.std.specs.Prelude.{is_some, option_map, option_and_then, unwrap_or, if◌then◌else◌}
-use Rattle.std.proofs.lemmas.Bool.{or_parts}
+use Rattle.std.specs.Prelude.{is_some, option_map, option_and_then, if◌then◌else◌}
 use Rattle.std.proofs.lemmas.Bool.Decides.{nat_tests}
 use Rattle.std.proofs.lemmas.List.{drop_at}
 use Rattle.std.proofs.lemmas.List.Elements.{filter-append, filter_map-append}
+use Rattle.std.proofs.lemmas.Option.{same_Some}
 use Rattle.cell_model.specs.declared.cell.Cell.{Cell}
 use Rattle.isolation_spec.specs.declared.place.Place.{Place}
 use Rattle.workload_spec.specs.declared.reply.Who.{Who}
@@ -18,26 +18,18 @@ use Rattle.outcome_check.specs.Opened.{OpensOutside}
 use Rattle.outcome_check.specs.Places.{Rises}
 use Rattle.outcome_counts.proofs.Starts.{get-at}
 use Rattle.outcome_spans.specs.Openings.{AreOpenings, opened_at, opened_by, opening_of, openings_from, openings_in}
-use Rattle.outcome_spans.proofs.Held.{IsOpen, Standing}
+use Rattle.outcome_spans.proofs.Held.{IsOpen, Standing, up-to-append, opens-not-end}
 use Rattle.outcome_spans.proofs.Ordered.{rises-in-order}
 use Rattle.timeline_spec.specs.Timeline.{Each, Follows, InOrder}
-use Rattle.timeline_laws.proofs.Order.{same-is, same-itself}
+use Rattle.timeline_laws.proofs.Order.{same-is, same-itself, before-itself}
 use Rattle.timeline_laws.proofs.Spans.{order-filter, thread-of}
 use Rattle.timeline_laws.proofs.Belongs.{Each-up_to_end}
 use Rattle.outcome_history.specs.Own.{is_opened, own_one, own_writes, changes_of}
 use Rattle.outcome_history.specs.Timed.{TimedWrite, timed_one, up_to}
 use Rattle.outcome_history.proofs.Own.{own-append}
-use Rattle.outcome_history.proofs.Noted.{push-none}
 use Rattle.outcome_history.proofs.Held.{held_behind, opening_here, so_far, openings-append, openings-long, Stands, stands-behind}
 
 -- ---- which replies of one are before a reply to it
-
--- With no end in front, those up to the end are all in front and the others up to it.
-up-to-append : (a b : List Entry) → list_any (λ e. is_end e.reply.said) a ≡ false → up_to_end (a ++ b) ≡ a ++ up_to_end b
-up-to-append [] b h = refl
-up-to-append (e ∷ a) b h =
-    let parts = or_parts (is_end e.reply.said) (list_any (λ x. is_end x.reply.said) a) h in
-    rw parts.0 (ap (λ (es : List Entry). e ∷ es) (up-to-append a b parts.1))
 
 -- Of replies in order those behind a front are in order.
 order-back : (front back : List Entry) → InOrder (front ++ back) → InOrder back
@@ -66,17 +58,6 @@ rest-not-before entry (x ∷ rest) h = (h.0.not_before, rest-not-before entry re
 none-before : (entry : Entry) (rest : List Entry) → Each (λ other. is_before other entry ≡ false) rest → before rest entry ≡ []
 none-before entry [] h = refl
 none-before entry (x ∷ rest) h = rw h.0 (none-before entry rest h.1)
-
--- A reply is not before itself.
-not-before-itself : (entry : Entry) → is_before entry entry ≡ false
-not-before-itself entry =
-    let r : nat_lt entry.reply.round entry.reply.round ≡ false = grind (arith, nat_tests) in
-    let i : nat_lt entry.reply.index entry.reply.index ≡ false = grind (arith, nat_tests) in
-    rw (r, i) (never (eqb entry.reply.round entry.reply.round && is_same entry.reply.who entry.reply.who))
-  where
-    never : (b : Bool) → (b && false) ≡ false
-    never true = refl
-    never false = refl
 
 -- ---- what a transaction accepts up to a place
 
@@ -125,7 +106,7 @@ own-up-to owner front rest =
     ∙ ap (λ (ws : List TimedWrite). ws ++ up_to (length front) (own_writes owner (0 + length front) (openings_from (0 + length front) (held_behind front) rest) rest))
     (own-early (length front) owner 0 (openings_in front) front (omega arith))
     ∙ ap (λ (ws : List TimedWrite). so_far owner front ++ ws) (own-late (length front) owner (0 + length front) (openings_from (0 + length front) (held_behind front) rest) rest (omega (arith, start)))
-    ∙ push-none (so_far owner front)
+    ∙ append-nil (so_far owner front)
 
 -- the opening at a reply's place is the one that the replies in front of it tell
 pub opening-at : (front : List Entry) (entry : Entry) (rest : List Entry) → opening_of (openings_in (front ++ entry ∷ rest)) (length front) ≡ opening_here front entry
@@ -142,15 +123,6 @@ opening-at front entry rest =
 ends-accept-none : (told : Said) (change : Option (Place × Option (List Cell))) → is_end told ≡ true → (if is_accepted told then change else None) ≡ None
 ends-accept-none said.Accepted change h = absurd (let never : false ≡ true = h in let no : ⊥ = cc in no)
 ends-accept-none _ change h = refl
-
--- What shows a snapshot ends no transaction.
-opens-number : (told : Said) (number : ℕ) → snapshot_in told ≡ Some number → is_end told ≡ false
-opens-number (said.At number) n h = refl
-opens-number _ n h = absurd (let never : ⊥ = cc in never)
-
--- The numbers that two equal options hold are the same.
-some-number : (a b : ℕ) → Some a ≡ Some b → a ≡ b
-some-number a b h = ap (λ (o : Option ℕ). unwrap_or o a) h
 
 -- The transaction that is opened at a place, of a reply: its snapshot, and what it has accepted in
 -- front of the reply, which is all that it accepts where the reply ends it.
@@ -199,8 +171,8 @@ module _ (entries front : List Entry) (entry : Entry) (rest : List Entry) (whole
       ∙ ap (λ (es : List Entry). es ++ before (up_to_end (entry ∷ own-rest)) entry) (front-before front-own entry own-rest order of)
       ∙ ap (λ (es : List Entry). front-own ++ es)
       (none-before entry (up_to_end (entry ∷ own-rest))
-      (Each-up_to_end (λ other. is_before other entry ≡ false) (entry ∷ own-rest) (not-before-itself entry, rest-not-before entry own-rest (order-back front-own (entry ∷ own-rest) order).0)))
-      ∙ push-none front-own
+      (Each-up_to_end (λ other. is_before other entry ≡ false) (entry ∷ own-rest) (before-itself entry, rest-not-before entry own-rest (order-back front-own (entry ∷ own-rest) order).0)))
+      ∙ append-nil front-own
 
   -- all that it accepts, where the reply ends it
   ended-cut : (front-own : List Entry) (own-rest : List Entry) → list_any (λ e. is_end e.reply.said) front-own ≡ false → is_end entry.reply.said ≡ true
@@ -209,7 +181,7 @@ module _ (entries front : List Entry) (entry : Entry) (rest : List Entry) (whole
       ap (filter_map accepted_write) (up-to-append front-own (entry ∷ own-rest) on ∙ ap (λ (b : Bool). front-own ++ cond b (entry ∷ []) (entry ∷ up_to_end own-rest)) ends)
       ∙ filter_map-append accepted_write front-own (entry ∷ [])
       ∙ ap (λ (cs : List (Place × Option (List Cell))). filter_map accepted_write front-own ++ cs) none
-      ∙ push-none (filter_map accepted_write front-own)
+      ∙ append-nil (filter_map accepted_write front-own)
     where
       none : filter_map accepted_write (entry ∷ []) ≡ []
       none = let n = ends-accept-none entry.reply.said (write_of entry.command) ends in rw n refl
@@ -232,7 +204,7 @@ module _ (entries front : List Entry) (entry : Entry) (rest : List Entry) (whole
         shown = opens;
         accepted = ap (filter_map accepted_write) (replies-cut [] (thread its rest) refl (order-back (thread its front) (entry ∷ thread its rest) (subst InOrder cut order)) tt)
             ∙ sym (ap changes_of (own-so-far place ∙ none));
-        ended = λ ends. absurd (let e : true ≡ false = sym ends ∙ opens-number entry.reply.said number opens in let never : ⊥ = cc in never);
+        ended = λ ends. absurd (let e : true ≡ false = sym ends ∙ opens-not-end entry.reply.said number opens in let never : ⊥ = cc in never);
       }
 
   -- one that is open in front of it
@@ -278,7 +250,7 @@ module _ (entries front : List Entry) (entry : Entry) (rest : List Entry) (whole
       by : (shown : Option ℕ) → snapshot_in entry.reply.said ≡ shown → IsSpan entries place entry owner
       by (Some number) is =
           let told : Some place ≡ Some owner = sym (ap (λ (o : Option ℕ). if is_some o then Some place else held_behind front its) is) ∙ sym here ∙ h in
-          subst (IsSpan entries place entry) (some-number place owner told) (opens-own number is)
+          subst (IsSpan entries place entry) (same_Some place owner told) (opens-own number is)
       by None is =
           let told : held_behind front its ≡ Some owner = sym (ap (λ (o : Option ℕ). if is_some o then Some place else held_behind front its) is) ∙ sym here ∙ h in
           held-own owner is told

@@ -2,6 +2,7 @@
 use Rattle.std.proofs.Common.{◌≡◌, ℕ, ◌+◌, ◌-◌, ◌<◌, ◌≤◌, zero, suc, ◌⊎◌, inl, inr, Bool, true, false, ◌&&◌, List, None, Some, length, take, refl, sym, ap, ◌∙◌, subst, arith}
 use Rattle.std.specs.List.{list_all}
 use Rattle.std.proofs.lemmas.List.{take-take}
+use Rattle.std.proofs.lemmas.Bool.{and_left, and_right, and_from}
 use Rattle.outcome_check.proofs.Pieces.{all-both, all-take, all-weaker}
 use Rattle.outcome_counts.specs.Asked.{IsAsked, asked_at}
 use Rattle.outcome_counts.specs.declared.stretch.Stretch.{Stretch}
@@ -10,20 +11,6 @@ use Rattle.output_read.specs.Kept.{entries_of}
 use Rattle.output_read.specs.declared.kept.KeptReply.{KeptReply}
 use Rattle.outcome_judge.specs.Judged.{EndsAt}
 use Rattle.outcome_judge.proofs.Found.{failing, found-first, none-found}
-
--- Where the first is false, so is the conjunction.
-first-false : (a b : Bool) → a ≡ false → (a && b) ≡ false
-first-false false b h = refl
-first-false true b h = absurd (let never : ⊥ = cc in never)
-
--- Where the second is false, so is the conjunction.
-second-false : (a b : Bool) → b ≡ false → (a && b) ≡ false
-second-false false b h = refl
-second-false true b h = h
-
--- Where both are true, so is the conjunction.
-both-true : (a b : Bool) → a ≡ true → b ≡ true → (a && b) ≡ true
-both-true a b g h = rw (g, h) refl
 
 -- a bound up to another is below it or the same
 below-or-same : (a b : ℕ) → a ≤ b → (a < b) ⊎ (a ≡ b)
@@ -42,16 +29,16 @@ module _ (p q : Entry → Bool) (replies : List KeptReply) where
   both-end until first place of then = record {
     within = omega (arith, of.within, then.within);
     front =
-        all-both p q (λ entry. p entry && q entry) (λ entry g h. both-true (p entry) (q entry) g h) (take place (entries_of replies))
+        all-both p q (λ entry. p entry && q entry) (λ entry g h. and_from (p entry) (q entry) g h) (take place (entries_of replies))
         (subst (λ (entries : List Entry). list_all p entries ≡ true) (take-take place first (entries_of replies) then.within) (all-take p place (take first (entries_of replies)) of.front))
         then.front;
     fails = λ none below. by none below (below-or-same place first then.within);
   }
     where
       by : (none : KeptReply) → place < until → (place < first) ⊎ (place ≡ first) → (p (asked_at replies place none) && q (asked_at replies place none)) ≡ false
-      by none below (inl less) = second-false (p (asked_at replies place none)) (q (asked_at replies place none)) (then.fails none less)
+      by none below (inl less) = and_right (p (asked_at replies place none)) (q (asked_at replies place none)) (then.fails none less)
       by none below (inr same) =
-          first-false (p (asked_at replies place none)) (q (asked_at replies place none))
+          and_left (p (asked_at replies place none)) (q (asked_at replies place none))
           (subst (λ (n : ℕ). p (asked_at replies n none) ≡ false) (sym same) (of.fails none (subst (λ (n : ℕ). n < until) same below)))
 
   -- a test that is the same everywhere

@@ -60,14 +60,14 @@ own-of : (entries front rest : List Entry) (who : Who) (ended : Who → Option �
 own-of entries front rest (Session k) ended h known = known k
 own-of entries front rest (Worker k) ended h known = absurd (let never : ⊥ = cc in never)
 
--- An element in front of an append is that of the first list.
-get-before : {X : Type 0} (xs ys : List X) (i : ℕ) → i < length xs → slice_get (xs ++ ys) i ≡ slice_get xs i
+-- an element in front of an append is that of the first list
+pub get-before : {X : Type 0} (xs ys : List X) (i : ℕ) → i < length xs → slice_get (xs ++ ys) i ≡ slice_get xs i
 get-before [] ys i h = absurd (omega (arith, h))
 get-before (x ∷ xs) ys zero h = refl
 get-before (x ∷ xs) ys (suc i) h = get-before xs ys i (omega (arith, h))
 
--- A number below the next one is below this one or is it.
-up-to-next : (i n : ℕ) → i < n + 1 → (i < n) ⊎ (i ≡ n)
+-- a number below the next one is below this one or is it
+pub up-to-next : (i n : ℕ) → i < n + 1 → (i < n) ⊎ (i ≡ n)
 up-to-next i n h = from (cases_lt i n)
   where
     from : (i < n) ⊎ (n ≤ i) → (i < n) ⊎ (i ≡ n)

@@ -1,5 +1,5 @@
 -- Which transactions are open behind replies, and to which one each reply belongs.
-use Rattle.std.proofs.Common.{◌≡◌, ℕ, Bool, true, false, cond, ◌||◌, List, [], ◌∷◌, ◌++◌, length, drop, map, Option, None, Some, refl, sym, ap, ◌∙◌, subst, append_assoc}
+use Rattle.std.proofs.Common.{◌≡◌, ℕ, Bool, true, false, cond, ◌||◌, List, [], ◌∷◌, ◌++◌, length, drop, map, Option, None, Some, refl, sym, ap, ◌∙◌, subst, append_assoc, append-nil}
 use Rattle.std.specs.List.{fold, list_any}
 use Rattle.std.specs.Prelude.{is_some, option_map, option_and_then, if◌then◌else◌}
 use Rattle.std.proofs.lemmas.Bool.{or_parts, or_from}
@@ -24,8 +24,8 @@ use Rattle.outcome_spans.proofs.Ordered.{at-rising}
 
 -- ---- what is said
 
--- From true being false anything follows.
-impossible : {P : Type 0} → true ≡ false → P
+-- from true being false anything follows
+pub impossible : {P : Type 0} → true ≡ false → P
 impossible h = absurd (let never : ⊥ = cc in never)
 
 -- what opens a transaction does not end one
@@ -63,15 +63,10 @@ pub thread-own : (who : Who) (front : List Entry) (entry : Entry) → is_same en
 thread-own who front entry same =
     filter-append (λ e. is_same e.reply.who who) front (entry ∷ []) ∙ ap (λ (b : Bool). thread who front ++ cond b (entry ∷ []) []) same
 
--- A list with nothing behind it is itself.
-append-none : {X : Type 0} (xs : List X) → xs ++ [] ≡ xs
-append-none [] = refl
-append-none (x ∷ xs) = ap (λ ys. x ∷ ys) (append-none xs)
-
 -- another's reply adds nothing to it
 pub thread-other : (who : Who) (front : List Entry) (entry : Entry) → is_same entry.reply.who who ≡ false → thread who (front ++ entry ∷ []) ≡ thread who front
 thread-other who front entry apart =
-    filter-append (λ e. is_same e.reply.who who) front (entry ∷ []) ∙ ap (λ (b : Bool). thread who front ++ cond b (entry ∷ []) []) apart ∙ append-none (thread who front)
+    filter-append (λ e. is_same e.reply.who who) front (entry ∷ []) ∙ ap (λ (b : Bool). thread who front ++ cond b (entry ∷ []) []) apart ∙ append-nil (thread who front)
 
 -- Whether replies of one alone leave a transaction open.
 abbrev within_by : List Entry → Bool
@@ -230,8 +225,8 @@ module _ (who : Who) (front : List Entry) (entry : Entry) (same : is_same entry.
 
 -- ---- the transaction of a reply
 
--- Behind replies that end nothing, the first end is looked for among those that follow.
-up-to-append : (a b : List Entry) → list_any (λ e. is_end e.reply.said) a ≡ false → up_to_end (a ++ b) ≡ a ++ up_to_end b
+-- behind replies that end nothing, the first end is looked for among those that follow
+pub up-to-append : (a b : List Entry) → list_any (λ e. is_end e.reply.said) a ≡ false → up_to_end (a ++ b) ≡ a ++ up_to_end b
 up-to-append [] b h = refl
 up-to-append (e ∷ a) b h =
     let parts = or_parts (is_end e.reply.said) (list_any (λ x. is_end x.reply.said) a) h in

@@ -2,31 +2,23 @@
 -- and index.
 use Rattle.std.proofs.Common.{◌≡◌, Bool, true, false, ◌&&◌, eqb, nat_lt, List, [], ◌∷◌, ◌++◌, ◌⊎◌, inl, inr, refl, sym, ◌∙◌, subst, arith}
 use Rattle.std.specs.List.{list_all}
-use Rattle.std.proofs.lemmas.Bool.{and_parts}
+use Rattle.std.proofs.lemmas.Bool.{and_parts, false_from_ne_true}
 use Rattle.std.proofs.lemmas.Bool.Decides.{nat_tests}
 use Rattle.workload_spec.specs.declared.reply.Who.{Who}
 use Rattle.outcome_spec.specs.Entries.{Entry, is_same, is_before}
 use Rattle.outcome_check.specs.Places.{Rises, is_ahead, is_earlier}
-use Rattle.outcome_check.proofs.Places.{Behind, Beside, Own, ahead-cases, same-is, earlier-itself, same-itself}
+use Rattle.outcome_check.proofs.Places.{Behind, Beside, Own, ahead-cases, same-is, earlier-itself}
+use Rattle.outcome_check.proofs.Order.{same-itself}
 use Rattle.timeline_spec.specs.Timeline.{Each, Follows, InOrder}
 use Rattle.timeline_laws.proofs.Order.{Each-at}
 use Rattle.timeline_laws.proofs.Unique.{Only, unique}
 use Rattle.timeline_laws.proofs.Belongs.{At}
-
--- A conjunction whose second is false is false.
-and-false : (b : Bool) → (b && false) ≡ false
-and-false true = refl
-and-false false = refl
-
--- What is never true is false.
-false-of : (b : Bool) → (b ≡ true → ⊥) → b ≡ false
-false-of true h = absurd (h refl)
-false-of false h = refl
+use Rattle.timeline_laws.proofs.Tests.{and-false}
 
 -- A reply of no earlier round and of another session or worker is not before this one.
 apart-before : (x y : Entry) → nat_lt y.reply.round x.reply.round ≡ false → (is_same y.reply.who x.reply.who ≡ true → ⊥) → is_before y x ≡ false
 apart-before x y less never =
-    let apart = false-of (is_same y.reply.who x.reply.who) never in
+    let apart = false_from_ne_true (is_same y.reply.who x.reply.who) never in
     rw (less, apart) (and-left (eqb y.reply.round x.reply.round) (nat_lt y.reply.index x.reply.index))
   where
     and-left : (a b : Bool) → ((a && false) && b) ≡ false

@@ -1,5 +1,5 @@
 -- The writes of the transactions that commit among replies, by their commits.
-use Rattle.std.proofs.Common.{◌≡◌, ℕ, ◌+◌, ◌≤◌, zero, suc, Bool, true, false, cond, ◌||◌, not, List, [], ◌∷◌, ◌++◌, length, take, drop, eqb, Option, None, Some, refl, sym, ap, ◌∙◌, subst, arith, append_assoc}
+use Rattle.std.proofs.Common.{◌≡◌, ℕ, ◌+◌, ◌≤◌, zero, suc, Bool, true, false, cond, ◌||◌, not, List, [], ◌∷◌, ◌++◌, length, take, drop, eqb, Option, None, Some, refl, sym, ap, ◌∙◌, subst, arith, append_assoc, append-nil}
 use Rattle.std.specs.List.{filter, filter_map, cons_option, find, list_all, list_any, sum_by, count_by}
 use Rattle.std.specs.Option.{option_map_or}
 use Rattle.std.specs.Prelude.{is_some, option_map, slice_index_or, if◌then◌else◌}
@@ -188,15 +188,10 @@ now-ended who n replies x h on =
 abbrev total : Who → List Entry → ℕ
 total who replies = sum_by writes_committed (spans who replies)
 
--- A list with nothing behind it is itself.
-append-none : {X : Type 0} (xs : List X) → xs ++ [] ≡ xs
-append-none [] = refl
-append-none (x ∷ xs) = ap (λ ys. x ∷ ys) (append-none xs)
-
 -- what the transactions of one have committed, by what is open
 idle-total : (who : Who) (replies : List Entry) (past : Past who replies None) → total who replies ≡ sum_by writes_committed past.done
 idle-total who replies past =
-    ap (total who) (sym (append-none replies)) ∙ ap (sum_by writes_committed) (past.parts [] ∙ append-none past.done)
+    ap (total who) (sym (append-nil replies)) ∙ ap (sum_by writes_committed) (past.parts [] ∙ append-nil past.done)
 
 -- Where none is open, one reply more adds what it commits by itself to the total.
 idle-more : (who : Who) (replies : List Entry) (past : Past who replies None) (x : Entry) → total who (replies ++ x ∷ []) ≡ sum_by writes_committed past.done + total who (x ∷ [])
@@ -206,10 +201,10 @@ idle-more who replies past x = ap (sum_by writes_committed) (past.parts (x ∷ [
 open-total : (who : Who) (replies : List Entry) (n : ℕ) (its : List Entry) (past : Past who replies (Some (n, its))) → list_any ends its ≡ false → total who replies ≡ sum_by writes_committed past.done
 open-total who replies n its past on =
     let whole : total who replies ≡ sum_by writes_committed past.done + sum_by writes_committed (span who n (its ++ []) ∷ []) =
-    ap (total who) (sym (append-none replies)) ∙ ap (sum_by writes_committed) (past.parts []) ∙ sum_by-append writes_committed past.done (span who n (its ++ []) ∷ []) in
+    ap (total who) (sym (append-nil replies)) ∙ ap (sum_by writes_committed) (past.parts []) ∙ sum_by-append writes_committed past.done (span who n (its ++ []) ∷ []) in
     let one = sum_by-cons writes_committed (span who n (its ++ [])) [] in
     let none : sum_by writes_committed [] ≡ 0 = refl in
-    let quiet : writes_committed (span who n (its ++ [])) ≡ 0 = ap (λ (es : List Entry). writes_committed (span who n es)) (append-none its) ∙ open-none who n its on in
+    let quiet : writes_committed (span who n (its ++ [])) ≡ 0 = ap (λ (es : List Entry). writes_committed (span who n es)) (append-nil its) ∙ open-none who n its on in
     omega (arith, whole, one, none, quiet)
 
 -- With one reply more the open transaction adds what it has committed with it.
@@ -358,7 +353,7 @@ module _ (entries front : List Entry) (x : Entry) (rest : List Entry) (whole : e
 
 -- So it is of each front of them.
 pub counted-front : (entries front mid rest : List Entry) → entries ≡ front ++ (mid ++ rest) → Rises entries → OpensOutside entries → (who : Who) → Counted entries who front → Counted entries who (front ++ mid)
-counted-front entries front [] rest whole rises outside who c = subst (Counted entries who) (sym (append-none front)) c
+counted-front entries front [] rest whole rises outside who c = subst (Counted entries who) (sym (append-nil front)) c
 counted-front entries front (x ∷ mid) rest whole rises outside who c =
     subst (Counted entries who) (append_assoc front (x ∷ []) mid)
     (counted-front entries (front ++ x ∷ []) mid rest (whole ∙ sym (append_assoc front (x ∷ []) (mid ++ rest))) rises outside who (counted-step entries front x (mid ++ rest) whole rises outside who c))
@@ -410,7 +405,7 @@ module _ (entries front : List Entry) (x : Entry) (rest : List Entry) (whole : e
   reach who = by (is_same x.reply.who who) refl
     where
       by : (b : Bool) → is_same x.reply.who who ≡ b → (k : ℕ) × (thread who (not_after entries x) ≡ thread who (take k entries))
-      by true is = (length front + 1, thread-not-after who ∙ ap (λ (es : List Entry). thread who (take (length front + 1) entries) ++ es) (none-beside who is) ∙ append-none (thread who (take (length front + 1) entries)))
+      by true is = (length front + 1, thread-not-after who ∙ ap (λ (es : List Entry). thread who (take (length front + 1) entries) ++ es) (none-beside who is) ∙ append-nil (thread who (take (length front + 1) entries)))
       by false is =
           let low : length front + 1 ≤ oe = let e = order.ends in omega (arith, e) in
           let high : oe ≤ re = order.closes in
@@ -421,7 +416,7 @@ module _ (entries front : List Entry) (x : Entry) (rest : List Entry) (whole : e
           ∙ ap (λ (es : List Entry). es ++ thread who (between oe re entries)) (filter-append (λ e. is_same e.reply.who who) (take (length front + 1) entries) (between (length front + 1) oe entries)) in
           let short : thread who (take re entries) ≡ thread who (take (length front + 1) entries) ++ thread who (between oe re entries) =
           its ∙ ap (λ (es : List Entry). (thread who (take (length front + 1) entries) ++ es) ++ thread who (between oe re entries)) (none-own who is)
-          ∙ ap (λ (es : List Entry). es ++ thread who (between oe re entries)) (append-none (thread who (take (length front + 1) entries))) in
+          ∙ ap (λ (es : List Entry). es ++ thread who (between oe re entries)) (append-nil (thread who (take (length front + 1) entries))) in
           (re, thread-not-after who ∙ sym short)
 
   -- For each one, the writes committed not after the reply are the weights of one's commits there.

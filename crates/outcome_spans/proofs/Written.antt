@@ -19,6 +19,7 @@ use Rattle.mark_index.specs.Marks.{AreCounted, count_below}
 use Rattle.outcome_counts.specs.Keys.{is_keyed}
 use Rattle.outcome_counts.proofs.Counts.{count-agree}
 use Rattle.outcome_counts.proofs.Keyed.{nat-same}
+use Rattle.timeline_laws.proofs.Tests.{and-true, and-false}
 use Rattle.outcome_spans.specs.Ends.{next_end}
 use Rattle.outcome_spec.specs.Runs.{transactions_of, transaction_with}
 use Rattle.output_read.specs.Kept.{entries_of}
@@ -65,15 +66,7 @@ counted-between test xs taken places counted from to h k =
 -- A reply is a write of a session's where it accepts one and is to that session.
 by-write : (who : Who) (k : ℕ) (w : Bool) → is_keyed nat_cmp k (if w then session_of who else None) ≡ (is_same who (Session k) && w)
 by-write (Session n) k true = nat-same n k ∙ sym (and-true (n == k))
-  where
-    and-true : (b : Bool) → (b && true) ≡ b
-    and-true true = refl
-    and-true false = refl
 by-write (Session n) k false = sym (and-false (n == k))
-  where
-    and-false : (b : Bool) → (b && false) ≡ false
-    and-false true = refl
-    and-false false = refl
 by-write (Worker n) k true = refl
 by-write (Worker n) k false = refl
 
@@ -167,12 +160,6 @@ pub got-opening : (openings : List (Option ℕ)) (at : ℕ) (o : Option ℕ) →
 got-opening [] at o h is = absurd (omega (arith, h))
 got-opening (x ∷ openings) zero o h is = sym is
 got-opening (x ∷ openings) (suc at) o h is = got-opening openings at o (omega (arith, h)) is
-
--- past the end nothing stands
-pub got-none : {X : Type 0} (xs : List X) (i : ℕ) → length xs ≤ i → slice_get xs i ≡ None
-got-none [] i h = refl
-got-none (x ∷ xs) zero h = absurd (omega (arith, h))
-got-none (x ∷ xs) (suc i) h = got-none xs i (omega (arith, h))
 
 -- the writes of the transaction that is found
 pub writes-found : (o : Option Span) (n : ℕ) → is_some o ≡ true → ((t : Span) → o ≡ Some t → n ≡ writes_of t) → n ≡ option_map_or writes_of o 0

@@ -1,5 +1,5 @@
 -- The replies that are due stand in order.
-use Rattle.std.proofs.Common.{◌≡◌, ℕ, ◌+◌, zero, suc, Bool, true, false, ◌&&◌, ◌||◌, not, eqb, nat_lt, nat_le, List, [], ◌∷◌, ◌++◌, refl, sym, ap, ◌∙◌, subst, arith}
+use Rattle.std.proofs.Common.{◌≡◌, ℕ, ◌+◌, zero, suc, Bool, true, false, ◌&&◌, ◌||◌, not, eqb, nat_lt, nat_le, List, [], ◌∷◌, ◌++◌, refl, sym, ◌∙◌, subst, arith}
 use Rattle.std.specs.Prelude.{flat_map}
 use Rattle.std.specs.List.{list_all, range_with_len, enumerate_from}
 use Rattle.std.proofs.lemmas.Bool.{and_parts, and_from, or_left, or_right}
@@ -15,6 +15,9 @@ use Rattle.workload_spec.specs.declared.script.Script.{Script}
 use Rattle.outcome_spec.specs.Entries.{is_same}
 use Rattle.outcome_spec.specs.Forms.{Due, dues_to, dues_in, dues_of, turn_of, commands_of, is_upkeep, is_worker}
 use Rattle.outcome_check.specs.Places.{is_earlier, is_up_to}
+use Rattle.outcome_check.proofs.Places.{same-is}
+use Rattle.outcome_check.proofs.Pieces.{all-weaker}
+use Rattle.outcome_check.proofs.Order.{same-itself}
 
 -- what is due to one in a round is due in front of, or with, what is due to another
 abbrev pub is_ahead_of : ℕ → Who → Due → Bool
@@ -24,13 +27,6 @@ is_ahead_of round who due = nat_lt round due.round || eqb round due.round && is_
 abbrev pub DuesRise : List Due → Type 0
 DuesRise [] = Unit {0}
 DuesRise (due ∷ dues) = (list_all (is_ahead_of due.round due.who) dues ≡ true) × DuesRise dues
-
--- Where one test passes no less than another, all that pass the one pass it.
-all-weaker : {X : Type 0} (p q : X → Bool) → ((x : X) → p x ≡ true → q x ≡ true) → (xs : List X) → list_all p xs ≡ true → list_all q xs ≡ true
-all-weaker p q so [] h = refl
-all-weaker p q so (x ∷ xs) h =
-    let parts = and_parts (p x) (list_all p xs) h in
-    and_from (q x) (list_all q xs) (so x parts.0) (all-weaker p q so xs parts.1)
 
 -- Where all of two lists pass a test, all of both in a row do.
 all-append : {X : Type 0} (p : X → Bool) (a b : List X) → list_all p a ≡ true → list_all p b ≡ true → list_all p (a ++ b) ≡ true
@@ -45,11 +41,6 @@ rise-append (d ∷ a) b h k cross =
 
 -- ---- to one in a round
 
--- Everyone is tested as the same as oneself.
-same-itself : (a : Who) → is_same a a ≡ true
-same-itself (Session a) = grind (arith, nat_tests)
-same-itself (Worker a) = grind (arith, nat_tests)
-
 -- What is due is of this round and to this one.
 abbrev is_to : ℕ → Who → Due → Bool
 is_to round who due = eqb due.round round && is_same due.who who
@@ -60,13 +51,6 @@ all-to round who [] = refl
 all-to round who (asked ∷ commands) =
     let equal : eqb round round ≡ true = grind (arith, nat_tests) in
     and_from (eqb round round && is_same who who) (list_all (is_to round who) (dues_to round who commands)) (and_from (eqb round round) (is_same who who) equal (same-itself who)) (all-to round who commands)
-
--- Those who are tested as the same are the same.
-same-is : (a b : Who) → is_same a b ≡ true → a ≡ b
-same-is (Session a) (Session b) h = let e : a ≡ b = grind (arith, nat_tests) in ap (λ n. Session n) e
-same-is (Session a) (Worker b) h = absurd (let never : ⊥ = cc in never)
-same-is (Worker a) (Session b) h = absurd (let never : ⊥ = cc in never)
-same-is (Worker a) (Worker b) h = let e : a ≡ b = grind (arith, nat_tests) in ap (λ n. Worker n) e
 
 -- those of a round, to one at or behind another
 ahead-by : (round : ℕ) (who : Who) (due : Due) → eqb due.round round ≡ true → is_up_to who due.who ≡ true → is_ahead_of round who due ≡ true

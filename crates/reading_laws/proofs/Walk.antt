@@ -1,5 +1,5 @@
 -- A reading along what is due: what it keeps holds of what it reads.
-use Rattle.std.proofs.Common.{◌≡◌, ℕ, ◌+◌, ◌≤◌, ◌⊎◌, inl, inr, Bool, true, false, cond, ◌&&◌, ◌||◌, not, eqb, nat_lt, nat_le, List, [], ◌∷◌, ◌++◌, map, drop, Option, None, Some, Result, Ok, Err, ℤ, refl, sym, ap, ◌∙◌, subst, arith, append_assoc}
+use Rattle.std.proofs.Common.{◌≡◌, ℕ, ◌+◌, ◌≤◌, ◌⊎◌, inl, inr, Bool, true, false, cond, ◌&&◌, ◌||◌, not, eqb, nat_lt, nat_le, List, [], ◌∷◌, ◌++◌, map, drop, Option, None, Some, Result, Ok, Err, ℤ, refl, sym, ap, ◌∙◌, subst, arith, append_assoc, append-nil}
 use Rattle.std.specs.Prelude.{is_some, is_none, if◌then◌else◌}
 use Rattle.std.specs.Option.{option_map_or}
 use Rattle.std.specs.List.{list_all, find, filter, count_by}
@@ -15,7 +15,6 @@ use Rattle.cell_model.specs.declared.table.TableDecl.{TableDecl}
 use Rattle.workload_spec.specs.declared.command.Command.{Command}
 use Rattle.workload_spec.specs.declared.command.Command.TheVariants as command
 use Rattle.workload_spec.specs.declared.reply.Who.{Who}
-use Rattle.workload_spec.specs.declared.reply.Who.TheVariants.{Session, Worker}
 use Rattle.workload_spec.specs.declared.reply.Said.{Said}
 use Rattle.workload_spec.specs.declared.reply.Said.TheVariants as said
 use Rattle.outcome_spec.specs.Entries.{Entry, is_same, snapshot_in}
@@ -25,7 +24,9 @@ use Rattle.outcome_spec.specs.Tables.{columns_at}
 use Rattle.outcome_check.specs.Places.{Rises, is_ahead, is_earlier, is_in_front, is_up_to}
 use Rattle.outcome_check.specs.Sides.{is_past, is_own}
 use Rattle.outcome_check.specs.Opened.{OpensOutside}
-use Rattle.outcome_check.proofs.Pieces.{count-append, count-cons}
+use Rattle.outcome_check.proofs.Pieces.{count-append, count-cons, all-weaker, all-both}
+use Rattle.outcome_check.proofs.Places.{same-is}
+use Rattle.outcome_check.proofs.Order.{same-itself}
 use Rattle.reading_laws.proofs.Dues.{is_ahead_of, DuesRise, is_upkeep_due}
 
 -- ---- the ways of a reading
@@ -124,21 +125,6 @@ pub record Ordered (dues : List Due) (earlier : List Entry) : Type 0 where
   pub cross : list_all (λ x. list_all (is_ahead_of x.reply.round x.reply.who) dues) earlier ≡ true
   pub indexes : list_all (is_counted earlier) earlier ≡ true
 
--- Where one test passes no less than another, all that pass the one pass it.
-all-weaker : {X : Type 0} (p q : X → Bool) → ((x : X) → p x ≡ true → q x ≡ true) → (xs : List X) → list_all p xs ≡ true → list_all q xs ≡ true
-all-weaker p q so [] h = refl
-all-weaker p q so (x ∷ xs) h =
-    let parts = and_parts (p x) (list_all p xs) h in
-    and_from (q x) (list_all q xs) (so x parts.0) (all-weaker p q so xs parts.1)
-
--- Where all pass two tests, all pass a third that those who pass both do.
-all-both : {X : Type 0} (p q r : X → Bool) → ((x : X) → p x ≡ true → q x ≡ true → r x ≡ true) → (xs : List X) → list_all p xs ≡ true → list_all q xs ≡ true → list_all r xs ≡ true
-all-both p q r so [] h k = refl
-all-both p q r so (x ∷ xs) h k =
-    let parts = and_parts (p x) (list_all p xs) h in
-    let others = and_parts (q x) (list_all q xs) k in
-    and_from (r x) (list_all r xs) (so x parts.0 others.0) (all-both p q r so xs parts.1 others.1)
-
 -- Where all of a list and one more pass a test, all with that one do.
 all-push : {X : Type 0} (p : X → Bool) (xs : List X) (x : X) → list_all p xs ≡ true → p x ≡ true → list_all p (xs ++ x ∷ []) ≡ true
 all-push p xs x h k = list_all-append p xs (x ∷ []) ∙ and_from (list_all p xs) (p x && true) h (and_from (p x) true k refl)
@@ -159,18 +145,6 @@ skip-ordered due dues earlier h = record {
       (λ x k. (and_parts (is_ahead_of x.reply.round x.reply.who due) (list_all (is_ahead_of x.reply.round x.reply.who) dues) k).1) earlier h.cross;
   indexes = h.indexes;
 }
-
--- Those who are tested as the same are the same.
-same-is : (a b : Who) → is_same a b ≡ true → a ≡ b
-same-is (Session a) (Session b) h = let e : a ≡ b = grind (arith, nat_tests) in ap (λ n. Session n) e
-same-is (Session a) (Worker b) h = absurd (let never : ⊥ = cc in never)
-same-is (Worker a) (Session b) h = absurd (let never : ⊥ = cc in never)
-same-is (Worker a) (Worker b) h = let e : a ≡ b = grind (arith, nat_tests) in ap (λ n. Worker n) e
-
--- Everyone is tested as the same as oneself.
-same-itself : (a : Who) → is_same a a ≡ true
-same-itself (Session a) = grind (arith, nat_tests)
-same-itself (Worker a) = grind (arith, nat_tests)
 
 -- a reply in front of what is due, with its index among those of its own, is ahead of the answer
 ahead-by : (x e : Entry) (earlier : List Entry) → is_ahead_of x.reply.round x.reply.who (record { round = e.reply.round; who = e.reply.who; command = e.command }) ≡ true → is_counted earlier x ≡ true
@@ -320,11 +294,6 @@ may-allowed tables earlier due words behind =
     (if is_within due.who earlier || is_upkeep due.command then replies_within tables words behind due.command else replies_without words due.command)
     (may-by tables earlier due words behind (is_within due.who earlier || is_upkeep due.command) refl)
 
--- A list with nothing behind it is itself.
-append-none : {X : Type 0} (xs : List X) → xs ++ [] ≡ xs
-append-none [] = refl
-append-none (x ∷ xs) = ap (λ ys. x ∷ ys) (append-none xs)
-
 -- each of the replies behind a front opens none, or where its session is in none
 abbrev Opens : List Entry → Entry → Type 0
 Opens front entry = is_some (snapshot_in entry.reply.said) ≡ true → (is_within entry.reply.who front ≡ false) × (is_worker entry.reply.who ≡ false)
@@ -336,12 +305,12 @@ Outside front (entry ∷ entries) = Opens front entry × Outside (front ++ entry
 
 -- With one reply more that opens only where it may, all behind the front do so.
 outside-push : (front xs : List Entry) (e : Entry) → Outside front xs → Opens (front ++ xs) e → Outside front (xs ++ e ∷ [])
-outside-push front [] e h k = (subst (λ (es : List Entry). Opens es e) (append-none front) k, tt)
+outside-push front [] e h k = (subst (λ (es : List Entry). Opens es e) (append-nil front) k, tt)
 outside-push front (x ∷ xs) e h k = (h.0, outside-push (front ++ x ∷ []) xs e h.1 (subst (λ (es : List Entry). Opens es e) (sym (append_assoc front (x ∷ []) xs)) k))
 
 -- A reply among those behind a front opens a transaction only where it may.
 outside-at : (front ahead : List Entry) (entry : Entry) (rest : List Entry) → Outside front (ahead ++ entry ∷ rest) → Opens (front ++ ahead) entry
-outside-at front [] entry rest h = subst (λ (es : List Entry). Opens es entry) (sym (append-none front)) h.0
+outside-at front [] entry rest h = subst (λ (es : List Entry). Opens es entry) (sym (append-nil front)) h.0
 outside-at front (x ∷ ahead) entry rest h = subst (λ (es : List Entry). Opens es entry) (append_assoc front (x ∷ []) ahead) (outside-at (front ++ x ∷ []) ahead entry rest h.1)
 
 pub record Opening (dues : List Due) (earlier : List Entry) : Type 0 where

@@ -1,8 +1,8 @@
 use Rattle.std.proofs.Common.{◌≤◌, Bor, List, ℕ, length, refl, sym, ap, ◌∙◌}
-use Rattle.std.proofs.lemmas.Bool.{ltb-false}
+use Rattle.std.proofs.lemmas.Bool.{ltb-false, and_from}
 use Rattle.cell_model.specs.Kinds.{values_of}
 use Rattle.stream_spec.specs.Columns.{bytes_of, lies_in}
-use Rattle.ipc_read.proofs.ViewLemmas.{anded, bytes_with, bytes_without, with_values, without_values}
+use Rattle.ipc_read.proofs.ViewLemmas.{bytes_with, bytes_without, with_values, without_values}
 use Rattle.ipc_read.proofs.views.lend.Goals as goal
 use Rattle.ipc_read.proofs.views.lend.Goals.{in-Some+in_ok-values-in-Some, in-None}
 
@@ -18,7 +18,7 @@ returns c =
           let b = w.in_ok-values-in-Some.ensures in
           let place = w.in-Some.place.now in
           record {
-            inside = anded _ _ v.0 (with_values body c.args.rows (values_of c.args.kind) buffers _ place c.requires.count look.3.0 d.inside (ap (lies_in body) (sym look.1) ∙ b.inside));
+            inside = and_from _ _ v.0 (with_values body c.args.rows (values_of c.args.kind) buffers _ place c.requires.count look.3.0 d.inside (ap (lies_in body) (sym look.1) ∙ b.inside));
             of_kind = refl;
             of_validity = v.1;
             of_data = bytes_with body (values_of c.args.kind) buffers _ place c.in_ok-data.data.now c.match-get.values.now c.requires.count look.3.0 d.bytes_are (ap (λ (t : Bor (List ℕ)). t.now) w.values-is ∙ (b.bytes_are ∙ ap (bytes_of body) look.1));
@@ -28,7 +28,7 @@ returns c =
           let look = w.in-None.ensures.lookup in
           let few : length buffers ≤ 1 = ltb-false 1 (length buffers) (sym look.0) in
           record {
-            inside = anded _ _ v.0 (without_values body c.args.rows (values_of c.args.kind) buffers _ c.requires.count few d.inside);
+            inside = and_from _ _ v.0 (without_values body c.args.rows (values_of c.args.kind) buffers _ c.requires.count few d.inside);
             of_kind = refl;
             of_validity = v.1;
             of_data = bytes_without body (values_of c.args.kind) buffers _ c.in_ok-data.data.now c.match-get.values.now c.requires.count few d.bytes_are;

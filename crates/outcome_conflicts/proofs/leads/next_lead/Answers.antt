@@ -6,10 +6,11 @@ use Rattle.std.proofs.lemmas.Bool.Decides.{nat_tests}
 use Rattle.workload_spec.specs.declared.reply.Who.{Who}
 use Rattle.outcome_spec.specs.Entries.{is_same}
 use Rattle.mark_index.proofs.Parted.{last-get}
+use Rattle.outcome_check.proofs.Places.{same-is}
 use Rattle.outcome_conflicts.specs.Leads.{but_of, is_ordered}
 use Rattle.outcome_conflicts.specs.declared.leads.Lead.{Lead}
 use Rattle.outcome_conflicts.proofs.Leading.{lead-same, lead-new, lead-kept}
-use Rattle.outcome_conflicts.proofs.Whos.{same-is, same-apart}
+use Rattle.outcome_conflicts.proofs.Whos.{same-apart}
 use Rattle.outcome_conflicts.proofs.leads.next_lead.Goals as goal
 
 but-last : (own : Who) (leads : List Lead) (last : Lead) → Some last ≡ slice_get leads (length leads - 1) → (if is_same last.who own then last.others else last.most) ≡ but_of own (last_or None leads)

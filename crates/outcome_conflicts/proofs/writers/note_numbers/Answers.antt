@@ -5,9 +5,10 @@ use Rattle.mark_index.specs.Lists.{marks_at, with_mark}
 use Rattle.outcome_history.specs.Kept.{key_cmp}
 use Rattle.outcome_history.specs.declared.changes.Change.{Change}
 use Rattle.outcome_history.proofs.Commits.{take-next-one}
+use Rattle.timeline_laws.proofs.Tests.{or-false}
 use Rattle.outcome_conflicts.specs.Writers.{is_written}
 use Rattle.outcome_conflicts.proofs.Marking.{key-one}
-use Rattle.outcome_conflicts.proofs.Numbering.{none-same, noted-step, or-none, written-step}
+use Rattle.outcome_conflicts.proofs.Numbering.{none-same, noted-step, written-step}
 use Rattle.outcome_conflicts.proofs.writers.note_numbers.Goals as goal
 use Rattle.outcome_conflicts.proofs.writers.note_numbers.Goals.{then-change-bound+in_ok-push_number, else-change-bound}
 
@@ -37,5 +38,5 @@ loop-change-preserved c = λ of.
           let late : nat_le change.left.time bound ≡ false = grind (arith, nat_tests, high) in
           ap (λ (ns : _). marks_at key_cmp ns of) w.numbers-is
           ∙ c.loop-change.invariant of
-          ∙ sym (ap (λ (b : Bool). with_mark b number base) (written-step of bound own i change next false late ∙ or-none was))
+          ∙ sym (ap (λ (b : Bool). with_mark b number base) (written-step of bound own i change next false late ∙ or-false was))
     ]

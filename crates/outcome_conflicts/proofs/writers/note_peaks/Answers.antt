@@ -8,9 +8,10 @@ use Rattle.mark_index.specs.declared.marks.Peak.{Peak}
 use Rattle.outcome_history.specs.Kept.{key_cmp}
 use Rattle.outcome_history.specs.declared.changes.Change.{Change}
 use Rattle.outcome_history.proofs.Commits.{take-next-one}
+use Rattle.timeline_laws.proofs.Tests.{or-false}
 use Rattle.outcome_conflicts.specs.Writers.{is_written}
 use Rattle.outcome_conflicts.proofs.Marking.{key-one}
-use Rattle.outcome_conflicts.proofs.Numbering.{none-there, noted-step, or-none, peaks-rise, written-step}
+use Rattle.outcome_conflicts.proofs.Numbering.{none-there, noted-step, peaks-rise, written-step}
 use Rattle.outcome_conflicts.proofs.writers.note_peaks.Goals as goal
 use Rattle.outcome_conflicts.proofs.writers.note_peaks.Goals.{then-change-place+in_ok-note_peak, else-change-place}
 
@@ -46,5 +47,5 @@ loop-change-preserved c = λ of.
           let late : nat_le change.left.time place ≡ false = grind (arith, nat_tests, high) in
           ap (λ (ps : _). marks_at key_cmp ps of) w.peaks-is
           ∙ c.loop-change.invariant of
-          ∙ sym (ap (λ (b : Bool). with_mark b (mark base) base) (written-step of place own i change next false late ∙ or-none was))
+          ∙ sym (ap (λ (b : Bool). with_mark b (mark base) base) (written-step of place own i change next false late ∙ or-false was))
     ]

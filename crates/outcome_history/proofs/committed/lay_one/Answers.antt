@@ -1,11 +1,12 @@
 use Rattle.std.proofs.Common.{◌∙◌, ap, refl, subst, None}
 use Rattle.std.specs.Prelude.{is_some, unwrap_or}
 use Rattle.mark_index.specs.Lists.{marks_at}
+use Rattle.mark_index.proofs.Noted.{on-ok}
 use Rattle.outcome_history.specs.Kept.{IsNoted, row_up_to, spot_cmp}
 use Rattle.outcome_history.specs.Spots.{spot_at}
 use Rattle.outcome_history.specs.declared.keys.Spot.{Spot}
 use Rattle.outcome_history.specs.declared.writes.Left.{Left}
-use Rattle.outcome_history.proofs.Commits.{laid-one, lay-rise, some-mapped, on-ok}
+use Rattle.outcome_history.proofs.Commits.{laid-one, lay-rise, some-mapped}
 use Rattle.outcome_history.proofs.committed.lay_one.Goals as goal
 
 pub row_at-requires : goal.row_at-requires

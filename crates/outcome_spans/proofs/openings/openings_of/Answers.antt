@@ -1,8 +1,9 @@
-use Rattle.std.proofs.Common.{◌≡◌, ◌∙◌, ◌+◌, ◌<◌, ◌≤◌, ◌⊎◌, inl, inr, ap, sym, subst, refl, ℕ, zero, suc, List, [], ◌∷◌, ◌++◌, length, take, drop, Option, None, Some, arith, append_assoc}
+use Rattle.std.proofs.Common.{◌≡◌, ◌∙◌, ◌+◌, ◌<◌, ◌≤◌, ◌⊎◌, inl, inr, ap, sym, subst, refl, ℕ, List, [], ◌∷◌, ◌++◌, length, take, drop, Option, None, Some, arith, append_assoc}
 use Rattle.std.specs.List.{slice_get}
 use Rattle.std.specs.Prelude.{option_and_then, is_some, true, if◌then◌else◌}
 use Rattle.std.proofs.lemmas.Bool.{cases_lt}
 use Rattle.std.proofs.lemmas.List.{take_at, drop_at, length-append}
+use Rattle.std.proofs.lemmas.Option.{slice_get_past}
 use Rattle.workload_spec.specs.declared.reply.Who.{Who}
 use Rattle.outcome_spec.specs.Entries.{Entry, snapshot_in, is_same}
 use Rattle.outcome_spec.specs.Runs.{transactions_of, transaction_with}
@@ -13,18 +14,7 @@ use Rattle.outcome_spans.proofs.Cuts.{one-cut}
 use Rattle.outcome_spans.proofs.Held.{Standing, belongs, standing-next, there}
 use Rattle.outcome_spec.specs.Forms.{is_worker}
 use Rattle.outcome_spans.proofs.openings.openings_of.Goals as goal
-
-get-before : {X : Type 0} (xs ys : List X) (i : ℕ) → i < length xs → slice_get (xs ++ ys) i ≡ slice_get xs i
-get-before [] ys i h = absurd (omega (arith, h))
-get-before (x ∷ xs) ys zero h = refl
-get-before (x ∷ xs) ys (suc i) h = get-before xs ys i (omega (arith, h))
-
-up-to-next : (i n : ℕ) → i < n + 1 → (i < n) ⊎ (i ≡ n)
-up-to-next i n h = from (cases_lt i n)
-  where
-    from : (i < n) ⊎ (n ≤ i) → (i < n) ⊎ (i ≡ n)
-    from (inl low) = inl low
-    from (inr high) = inr (omega (arith, high, h))
+use Rattle.outcome_spans.proofs.Ended.{get-before, up-to-next}
 
 -- what is pushed behind openings is that of the next reply
 pushed : (openings : List (Option ℕ)) (opening : Option ℕ) (n : ℕ) → length openings ≡ n → opening_of (openings ++ opening ∷ []) n ≡ opening
@@ -33,11 +23,6 @@ pushed openings opening n long =
 
 kept : (openings : List (Option ℕ)) (opening : Option ℕ) (i : ℕ) → i < length openings → opening_of (openings ++ opening ∷ []) i ≡ opening_of openings i
 kept openings opening i h = ap (λ (x : Option (Option ℕ)). option_and_then (λ (o : Option ℕ). o) x) (get-before openings (opening ∷ []) i h)
-
-past-none : {X : Type 0} (xs : List X) (i : ℕ) → length xs ≤ i → slice_get xs i ≡ None
-past-none [] i h = refl
-past-none (x ∷ xs) zero h = absurd (omega (arith, h))
-past-none (x ∷ xs) (suc i) h = past-none xs i (omega (arith, h))
 
 -- an opening among those with one more is one of them, or that one
 there-next : (openings : List (Option ℕ)) (opening : Option ℕ) (place s : ℕ) → opening_of (openings ++ opening ∷ []) place ≡ Some s → (opening_of openings place ≡ Some s) ⊎ (opening ≡ Some s)
@@ -52,7 +37,7 @@ there-next openings opening place s is = by (cases_lt place (length openings))
       where
         from : (length openings < place) ⊎ (place ≤ length openings) → (opening_of openings place ≡ Some s) ⊎ (opening ≡ Some s)
         from (inl above) =
-            let none : opening_of (openings ++ opening ∷ []) place ≡ None = ap (λ (x : Option (Option ℕ)). option_and_then (λ (o : Option ℕ). o) x) (past-none (openings ++ opening ∷ []) place (omega (arith, above, long))) in
+            let none : opening_of (openings ++ opening ∷ []) place ≡ None = ap (λ (x : Option (Option ℕ)). option_and_then (λ (o : Option ℕ). o) x) (slice_get_past (openings ++ opening ∷ []) place (omega (arith, above, long))) in
             absurd (let e : None ≡ Some s = sym none ∙ is in let never : ⊥ = cc in never)
         from (inr low) =
             let at : length openings ≡ place = omega (arith, high, low) in

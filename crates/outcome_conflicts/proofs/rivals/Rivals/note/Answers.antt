@@ -1,9 +1,10 @@
-use Rattle.std.proofs.Common.{◌≡◌, ℕ, Bool, ◌&&◌, ◌∙◌, ap, subst, Result, Ok, Err, OnOk}
+use Rattle.std.proofs.Common.{◌≡◌, ℕ, Bool, ◌&&◌, ◌∙◌, ap, subst}
 use Rattle.workload_spec.specs.declared.reply.Who.TheVariants.{Session}
 use Rattle.outcome_spec.specs.Entries.{is_same}
 use Rattle.outcome_spec.specs.Runs.{accepted_write}
 use Rattle.mark_index.specs.Lists.{marks_at, with_mark}
 use Rattle.mark_index.specs.Marks.{next_peak}
+use Rattle.mark_index.proofs.Noted.{on-ok}
 use Rattle.output_read.specs.Kept.{entry_of}
 use Rattle.outcome_counts.specs.Keys.{is_keyed}
 use Rattle.outcome_conflicts.specs.Leads.{AreFollowed}
@@ -13,10 +14,6 @@ use Rattle.outcome_history.specs.Kept.{key_cmp, place_in}
 use Rattle.outcome_history.specs.declared.keys.RowKey.{RowKey}
 use Rattle.outcome_conflicts.proofs.Marking.{writes-keyed}
 use Rattle.outcome_conflicts.proofs.rivals.Rivals.note.Goals as goal
-
-on-ok : {T E : Type 0} (P Q : Type 0) (r : Result T E) → (P → Q) → OnOk r P → OnOk r Q
-on-ok P Q (Ok x) f h = f h
-on-ok P Q (Err e) f h = tt
 
 pub returns : goal.returns
 returns c =

@@ -1,16 +1,13 @@
-use Rattle.std.proofs.Common.{◌∙◌, ap, ℕ, Option, Result, Ok, Err, OnOk}
+use Rattle.std.proofs.Common.{◌∙◌, ap, ℕ, Option}
 use Rattle.std.specs.Ordering.{nat_cmp}
 use Rattle.std.specs.Prelude.{option_map}
 use Rattle.mark_index.specs.Lists.{marks_at, with_mark}
 use Rattle.mark_index.specs.Marks.{next_peak}
+use Rattle.mark_index.proofs.Noted.{on-ok}
 use Rattle.outcome_counts.specs.Keys.{block_cmp, stamp_cmp, above_told, is_keyed}
 use Rattle.outcome_counts.specs.declared.keys.Block.{Block}
 use Rattle.outcome_counts.specs.declared.keys.Stamp.{Stamp}
 use Rattle.outcome_counts.proofs.block_marks.BlockMarks.note.Goals as goal
-
-on-ok : {T E : Type 0} (P Q : Type 0) (r : Result T E) → (P → Q) → OnOk r P → OnOk r Q
-on-ok P Q (Ok x) f h = f h
-on-ok P Q (Err e) f h = tt
 
 pub returns : goal.returns
 returns c =

@@ -1,14 +1,11 @@
-use Rattle.std.proofs.Common.{◌∙◌, ap, ℕ, Option, Result, Ok, Err, OnOk}
+use Rattle.std.proofs.Common.{◌∙◌, ap, ℕ, Option}
 use Rattle.std.specs.Ordering.{nat_cmp}
 use Rattle.std.specs.Prelude.{is_some}
 use Rattle.mark_index.specs.Lists.{marks_at, with_mark}
+use Rattle.mark_index.proofs.Noted.{on-ok}
 use Rattle.outcome_counts.specs.Keys.{is_keyed}
 use Rattle.outcome_counts.specs.NumberMarks.{with_peak}
 use Rattle.outcome_counts.proofs.number_marks.NumberMarks.note.Goals as goal
-
-on-ok : {T E : Type 0} (P Q : Type 0) (r : Result T E) → (P → Q) → OnOk r P → OnOk r Q
-on-ok P Q (Ok x) f h = f h
-on-ok P Q (Err e) f h = tt
 
 pub returns : goal.returns
 returns c =

@@ -2,8 +2,8 @@ use Rattle.std.proofs.Common.{◌≡◌, ◌∙◌, ◌<◌, sym, subst, None, l
 use Rattle.output_read.specs.Kept.{entries_of}
 use Rattle.outcome_spec.specs.Runs.{commit_count}
 use Rattle.outcome_counts.proofs.Starts.{at-place}
+use Rattle.mark_index.proofs.Noted.{on-ok}
 use Rattle.outcome_history.specs.Commits.{AreCommits}
-use Rattle.outcome_history.proofs.Commits.{on-ok}
 use Rattle.outcome_history.proofs.Seen.{own-unopened, opening-cut}
 use Rattle.outcome_history.specs.declared.committed.Committed.{Committed}
 use Rattle.outcome_history.proofs.sights.Sights.note.Goals as goal

@@ -2,9 +2,10 @@ use Rattle.std.proofs.Common.{◌≡◌, ◌∙◌, ◌<◌, ap, subst, Some, le
 use Rattle.std.specs.Prelude.{is_some}
 use Rattle.output_read.specs.Kept.{entries_of, entry_of}
 use Rattle.outcome_counts.proofs.Starts.{kept-at, at-place}
+use Rattle.mark_index.proofs.Noted.{on-ok}
 use Rattle.outcome_history.specs.Kept.{IsNoted}
 use Rattle.outcome_history.specs.declared.keys.Spot.{Spot}
-use Rattle.outcome_history.proofs.Commits.{on-ok, some-mapped}
+use Rattle.outcome_history.proofs.Commits.{some-mapped}
 use Rattle.outcome_history.proofs.Seen.{own-same, own-noted, opening-cut}
 use Rattle.outcome_history.proofs.sights.Sights.note_own.Goals as goal
 

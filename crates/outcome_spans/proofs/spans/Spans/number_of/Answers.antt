@@ -3,11 +3,12 @@ use Rattle.std.specs.List.{slice_get}
 use Rattle.std.specs.Prelude.{option_and_then}
 use Rattle.std.proofs.lemmas.Bool.{ltb-true}
 use Rattle.std.proofs.lemmas.List.{length-map}
+use Rattle.std.proofs.lemmas.Option.{slice_get_past}
 use Rattle.outcome_spec.specs.Entries.{Entry, commit_in}
 use Rattle.output_read.specs.Kept.{entries_of, entry_of}
 use Rattle.outcome_counts.proofs.Starts.{kept-at, at-place, get-at}
 use Rattle.outcome_spans.specs.Openings.{opened_at}
-use Rattle.outcome_spans.proofs.Written.{ending-is, opens-session, got-none}
+use Rattle.outcome_spans.proofs.Written.{ending-is, opens-session}
 use Rattle.outcome_spans.proofs.spans.Spans.number_of.Goals as goal
 
 pub returns-in-Some : goal.returns-in-Some
@@ -35,5 +36,5 @@ returns-in-None c = λ t opened.
     let its = ap (λ (n : ℕ). opened_at n es) at.far ∙ opened in
     let session = opens-session es at.front at.item at.rest at.whole c.requires.outside t its in
     let end = c.end_of.ensures at.front at.item at.rest at.whole at.far session in
-    let past : slice_get es c.end_of.result ≡ None = got-none es c.end_of.result (subst (λ (n : ℕ). n ≤ c.end_of.result) (sym long) c.in-None.ensures.lookup.3) in
+    let past : slice_get es c.end_of.result ≡ None = slice_get_past es c.end_of.result (subst (λ (n : ℕ). n ≤ c.end_of.result) (sym long) c.in-None.ensures.lookup.3) in
     ap (option_and_then (λ (ending : Entry). commit_in ending.reply.said)) (sym (ending-is es at.front at.item at.rest at.whole c.requires.outside t its c.end_of.result end ∙ past))
