@@ -10,6 +10,4 @@ mod values;
 
 pub use arrays::{all_fit, build};
 pub use batch::{Array, Batch};
-
-#[cfg(test)]
-mod tests;
+pub use numbers::add_u32;

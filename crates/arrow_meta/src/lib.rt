@@ -15,6 +15,3 @@ pub use fields::NotRead;
 pub use heads::read_head;
 pub use message::{batch_message, schema_message};
 pub use schemas::read_schema;
-
-#[cfg(test)]
-mod tests;

@@ -11,8 +11,8 @@ use Rattle.workload_spec.specs.declared.reply.Said.TheVariants as said
 use Rattle.outcome_spec.specs.Entries.{Entry, after, before, commit_in, is_before, shown_in}
 use Rattle.outcome_spec.specs.Runs.{Run, Span, run_of, accepted_write, commit_count, commit_line, commits_as, committed_writes, transaction_with, transactions_of, writes_in}
 use Rattle.outcome_spec.specs.Numbers.{commit_holds, has_written, number_shown, snapshot_holds}
-use Rattle.outcome_check.specs.Places.{Rises, is_ahead}
-use Rattle.outcome_check.proofs.Pieces.{count-cons}
+use Rattle.order_laws.specs.Places.{Rises, is_ahead}
+use Rattle.order_laws.proofs.Pieces.{count-cons}
 use Rattle.bench_laws.proofs.Every.{Every, Has, all-has, every-has, find-has, has-cases, has-filter, has-left, has-right}
 use Rattle.bench_laws.proofs.Replies.{IsInsertReply, IsUpdateReply, IsCountReply, IsSealReply, IsGatherReply, IsScanReply, IsExportReply}
 use Rattle.bench_laws.proofs.Parts.{Part, Writing, Keeping, Freezing, Wrote, Good, GoodWrote, From, InTurn, Under, begin, insert, update, commit, replies_to, entries_in, last_commit, last_entries, wrotes}

@@ -12,7 +12,7 @@ use Rattle.outcome_spec.specs.Entries.{Entry, before, not_after, is_before, show
 use Rattle.outcome_spec.specs.Runs.{Run}
 use Rattle.outcome_spec.specs.Tables.{slots_at}
 use Rattle.outcome_spec.specs.Upkeep.{stamp_in, rows_in, seals_in, freezes_in, stamp_count, freeze_holds, idle_gather_holds, upkeep_reply_holds, freezing_reply_holds}
-use Rattle.outcome_check.specs.Places.{Rises}
+use Rattle.order_laws.specs.Places.{Rises}
 use Rattle.bench_spec.specs.Counted.{is_refused}
 use Rattle.bench_laws.proofs.Every.{Every, Has, every-append, every-has, every-left, every-right, has-here}
 use Rattle.bench_laws.proofs.Replies.{IsCountReply, IsUpdateReply, IsSealReply, IsGatherReply}

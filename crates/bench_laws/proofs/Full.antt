@@ -11,7 +11,7 @@ use Rattle.workload_spec.specs.declared.reply.Said.TheVariants as said
 use Rattle.outcome_spec.specs.Entries.{Entry, not_after, is_not_after}
 use Rattle.outcome_spec.specs.Runs.{run_of}
 use Rattle.outcome_spec.specs.Upkeep.{capacity_at, full_reply_holds, inserts_in, is_accepted_insert}
-use Rattle.outcome_check.proofs.Pieces.{count-append, count-cons}
+use Rattle.order_laws.proofs.Pieces.{count-append, count-cons}
 use Rattle.bench_laws.proofs.Every.{Every, Has, has-left}
 use Rattle.bench_laws.proofs.Parts.{Part, Writing, Keeping, Freezing, Wrote, Good, IsKept, begin, insert, update, commit, kept_entry, seal_entry, gather_entry, entries_in, last_entries, wrotes, turn_of, turns}
 use Rattle.bench_laws.proofs.Places.{has-reply}

@@ -7,9 +7,9 @@ use Rattle.std.proofs.lemmas.List.Elements.{filter-append, filter_map-append}
 use Rattle.workload_spec.specs.declared.reply.Who.{Who}
 use Rattle.workload_spec.specs.declared.reply.Said.{Said}
 use Rattle.outcome_spec.specs.Entries.{Entry, before, not_after, is_before, is_not_after, is_same, shown_in}
-use Rattle.outcome_check.specs.Places.{Rises, is_ahead, is_earlier}
-use Rattle.outcome_check.proofs.Places.{Behind, Beside, Own, ahead-cases, earlier-itself, front-ahead, rest-behind, same-is}
-use Rattle.outcome_check.proofs.Order.{same-itself}
+use Rattle.order_laws.specs.Places.{Rises, is_ahead, is_earlier}
+use Rattle.order_laws.proofs.Places.{Behind, Beside, Own, ahead-cases, earlier-itself, front-ahead, rest-behind, same-is}
+use Rattle.order_laws.proofs.Order.{same-itself}
 use Rattle.timeline_laws.proofs.Order.{before-itself}
 use Rattle.bench_laws.proofs.Every.{Every, Has, all-has}
 

@@ -9,7 +9,7 @@ use Rattle.workload_spec.specs.declared.reply.Said.{Said}
 use Rattle.workload_spec.specs.declared.reply.Said.TheVariants as said
 use Rattle.outcome_spec.specs.Entries.{Entry, is_end, is_reply, is_same, snapshot_in}
 use Rattle.outcome_spec.specs.Runs.{Span, run_of, transaction_of, transaction_with, transactions_of}
-use Rattle.outcome_check.proofs.Order.{same-itself}
+use Rattle.order_laws.proofs.Order.{same-itself}
 use Rattle.bench_laws.proofs.Every.{Every, Has, any-has, every-right}
 use Rattle.bench_laws.proofs.Replies.{IsInsertReply, IsUpdateReply, IsCountReply, IsSealReply, IsGatherReply, IsScanReply, IsExportReply}
 use Rattle.bench_laws.proofs.Parts.{Part, Writing, Keeping, Freezing, Wrote, Last, Good, GoodWrote, InTurn, Under, begin, insert, update, commit, replies_to, entries_in, last_entries, wrotes}

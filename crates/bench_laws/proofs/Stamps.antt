@@ -12,7 +12,7 @@ use Rattle.workload_spec.specs.declared.reply.Said.TheVariants as said
 use Rattle.outcome_spec.specs.Entries.{Entry, before, not_after, is_before, shown_in}
 use Rattle.outcome_spec.specs.Runs.{Run, run_of}
 use Rattle.outcome_spec.specs.Upkeep.{stamp_in, rows_in, seals_in, stamp_count, seal_holds}
-use Rattle.outcome_check.specs.Places.{Rises, is_ahead}
+use Rattle.order_laws.specs.Places.{Rises, is_ahead}
 use Rattle.bench_laws.proofs.Every.{Every, Has, every-append, every-has, every-left, every-right, every-weaker, has-here}
 use Rattle.bench_laws.proofs.Replies.{IsInsertReply, IsUpdateReply}
 use Rattle.bench_laws.proofs.Parts.{Part, Writing, Keeping, Freezing, Good, entries_in, entries_of, last_entries}

@@ -12,9 +12,9 @@ use Rattle.outcome_spec.specs.Numbers.{commit_numbers_hold, snapshot_numbers_hol
 use Rattle.outcome_spec.specs.Answers.{reads_hold, writes_hold}
 use Rattle.outcome_spec.specs.Conflicts.{conflicts_hold}
 use Rattle.outcome_spec.specs.Upkeep.{freezing_holds, full_holds, exports_hold, upkeep_holds}
-use Rattle.outcome_check.specs.Places.{Rises}
-use Rattle.reading_laws.proofs.Dues.{dues-rise}
-use Rattle.reading_laws.proofs.Walk.{read-rise}
+use Rattle.order_laws.specs.Places.{Rises}
+use Rattle.order_laws.proofs.Dues.{dues-rise}
+use Rattle.order_laws.proofs.Walk.{read-rise}
 use Rattle.outcome_spec.specs.Lines.{lines_of}
 use Rattle.outcome_spec.specs.Forms.{dues_of}
 use Rattle.bench_spec.specs.Counted.{is_refused, was_refused}

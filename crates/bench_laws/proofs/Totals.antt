@@ -21,7 +21,8 @@ use Rattle.outcome_spec.specs.Entries.{Entry, before, commit_in, is_before, not_
 use Rattle.outcome_spec.specs.Runs.{Run, Span, accepted_write, commit_count, seen_at, write_of, writes_in}
 use Rattle.outcome_spec.specs.Answers.{is_cell, is_row, read_holds}
 use Rattle.outcome_spec.specs.Tables.{blocks_at, slots_at}
-use Rattle.outcome_spec.specs.Upkeep.{export_reply_holds, frozen_blocks, least_key, summary_holds}
+use Rattle.outcome_spec.specs.Upkeep.{export_reply_holds, frozen_blocks, summary_holds}
+use Rattle.isolation_spec.specs.Contents.{least_key}
 use Rattle.bench_spec.specs.Counted.{counted, exported, exported_in, first_told, is_refused, scanned, scanned_in}
 use Rattle.bench_spec.specs.Generated.{generated}
 use Rattle.bench_laws.specs.Left.{left_by}

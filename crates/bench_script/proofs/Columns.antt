@@ -1,9 +1,10 @@
 -- The columns of the table are named.
-use Rattle.std.proofs.Common.{ℕ, ◌<◌, ◌≤◌, List, [], ◌∷◌, length, zero, suc, codes, arith}
-use Rattle.std.specs.Prelude.{slice_index, true, false}
+use Rattle.std.proofs.Common.{◌≤◌, [], ◌∷◌, length, codes, arith}
+use Rattle.std.specs.Prelude.{true, false}
 use Rattle.std.specs.Str.{IsAscii}
 use Rattle.std.proofs.lemmas.List.Elements.{All-nil, All-cons}
 use Rattle.std.proofs.lemmas.Str.{IsUtf8-from_ascii}
+use Rattle.std.proofs.lemmas.Str.Ascii.{IsAscii-cons}
 use Rattle.cell_model.specs.declared.column.Column.{Column}
 use Rattle.cell_model.specs.declared.kind.Kind.TheVariants.{I64, Utf8}
 use Rattle.cell_model.specs.Schemas.{AreNamed, IsName}
@@ -12,14 +13,6 @@ use Rattle.bench_spec.specs.Generated.{bench_columns}
 -- A name without bytes is one of ASCII.
 no_bytes : IsAscii []
 no_bytes = λ i. omega arith
-
--- one byte more of ASCII in front
-pub one_more : (b : ℕ) (bs : List ℕ) → b < 128 → IsAscii bs → IsAscii (b ∷ bs)
-one_more b bs small rest = λ i. by i
-  where
-    by : (i : ℕ) → slice_index (b ∷ bs) i < 128
-    by zero = small
-    by (suc i) = rest i
 
 -- A column with a short name of ASCII is named.
 named : (column : Column) → IsAscii column.name → length column.name ≤ 100 → IsName column
@@ -40,7 +33,7 @@ text = record { name = codes "t"; kind = Utf8; nullable = true }
 -- the columns of the table are named
 pub columns_named : AreNamed bench_columns
 columns_named = record {
-  each = All-cons IsName key (number ∷ text ∷ []) (named key (one_more 107 (101 ∷ 121 ∷ []) (omega arith) (one_more 101 (121 ∷ []) (omega arith) (one_more 121 [] (omega arith) no_bytes))) (omega arith))
-      (All-cons IsName number (text ∷ []) (named number (one_more 110 [] (omega arith) no_bytes) (omega arith))
-      (All-cons IsName text [] (named text (one_more 116 [] (omega arith) no_bytes) (omega arith)) (All-nil IsName)));
+  each = All-cons IsName key (number ∷ text ∷ []) (named key (IsAscii-cons 107 (101 ∷ 121 ∷ []) (omega arith) (IsAscii-cons 101 (121 ∷ []) (omega arith) (IsAscii-cons 121 [] (omega arith) no_bytes))) (omega arith))
+      (All-cons IsName number (text ∷ []) (named number (IsAscii-cons 110 [] (omega arith) no_bytes) (omega arith))
+      (All-cons IsName text [] (named text (IsAscii-cons 116 [] (omega arith) no_bytes) (omega arith)) (All-nil IsName)));
 }

@@ -8,6 +8,7 @@ use Rattle.std.proofs.lemmas.Fmt.{IsAscii-decimal, length-decimal-le}
 use Rattle.std.proofs.lemmas.Int.{ints}
 use Rattle.std.proofs.lemmas.Nat.{mod_below}
 use Rattle.std.proofs.lemmas.Str.{IsUtf8-from_ascii, is_utf8-from_IsUtf8}
+use Rattle.std.proofs.lemmas.Str.Ascii.{IsAscii-cons}
 use Rattle.cell_model.specs.declared.cell.Cell.{Cell}
 use Rattle.cell_model.specs.declared.cell.Cell.TheVariants.{Null, Num, Text}
 use Rattle.cell_model.specs.declared.kind.Kind.TheVariants.{I64}
@@ -16,7 +17,7 @@ use Rattle.cell_model.specs.Rows.{cell_fault, fits}
 use Rattle.cell_model.specs.Values.{is_integer_of, most_bytes}
 use Rattle.bench_spec.specs.Draws.{draw, state_after}
 use Rattle.bench_spec.specs.Generated.{bench_columns, number_of, row_of, text_of}
-use Rattle.bench_script.proofs.Columns.{key, number, one_more, text}
+use Rattle.bench_script.proofs.Columns.{key, number, text}
 
 -- a draw has 31 bits
 pub draw_small : (seed n : ℕ) → 0 < n → draw seed n < 2 ^ 31
@@ -49,7 +50,7 @@ text_fits : (t : ℕ) → t < 2 ^ 31 → is_none (cell_fault 2 text (text_of t))
 text_fits t few = by (t % 4 == 0)
   where
     utf8 : is_utf8 (codes "s" ++ decimal t) ≡ true
-    utf8 = is_utf8-from_IsUtf8 (codes "s" ++ decimal t) (IsUtf8-from_ascii (codes "s" ++ decimal t) (one_more 115 (decimal t) (omega arith) (IsAscii-decimal t (omega (arith, few)))))
+    utf8 = is_utf8-from_IsUtf8 (codes "s" ++ decimal t) (IsUtf8-from_ascii (codes "s" ++ decimal t) (IsAscii-cons 115 (decimal t) (omega arith) (IsAscii-decimal t (omega (arith, few)))))
 
     short : nat_lt most_bytes (length (codes "s" ++ decimal t)) ≡ false
     short = let few_digits : length (decimal t) ≤ 10 = length-decimal-le 10 t (omega arith) (omega (arith, few)) (omega (arith, few)) in grind (arith, nat_tests, few_digits)

@@ -10,6 +10,3 @@ mod table;
 mod writing;
 
 pub use generating::generate;
-
-#[cfg(test)]
-mod tests;

@@ -2,4 +2,10 @@
 #![tactic(auto)]
 
 #[cfg(test)]
-mod tests;
+mod counted;
+#[cfg(test)]
+mod machine;
+#[cfg(test)]
+mod marks;
+#[cfg(test)]
+mod scripts;

@@ -7,6 +7,7 @@ use Rattle.std.specs.declared.cmp.Ordering.{Ordering}
 use Rattle.std.specs.declared.cmp.Ordering.TheVariants.{Less, Equal, Greater}
 use Rattle.std.specs.BTreeMap.{is_at}
 use Rattle.std.proofs.lemmas.Bool.{cases_eq}
+use Rattle.std.proofs.lemmas.Option.{same_Some}
 use Rattle.block_spec.specs.declared.change.Before.{Before}
 use Rattle.undo_chain.specs.State.{ChainState}
 use Rattle.undo_chain.specs.declared.undo.Undo.{Undo}
@@ -36,10 +37,6 @@ is_at-other slot q other = go (is_at (nat_cmp slot) q) refl
     go true is = absurd (other (sym (tied slot q is)))
     go false is = refl
 
--- Two options that are equal contain the same.
-some_is : {X : Type 0} (a b : X) → Some a ≡ Some b → a ≡ b
-some_is a b is = cc
-
 -- An option is not both nothing and something.
 none_not : {X : Type 0} (a : Option X) (x : X) → a ≡ None → a ≡ Some x → ⊥
 none_not a x none some = cc
@@ -54,4 +51,4 @@ put_chains old new slot chain are here others few lawful = record {
     go : (found : ChainState Before) (es : List (Undo Before)) → chain.entries ≡ es → kept_for es chain ≡ Some found → IsChain found
     go found [] is e = absurd (none_not None found refl e)
     go found (u ∷ es) is e =
-        subst IsChain (some_is chain found e) (record { some = subst (λ (l : List (Undo Before)). 0 < length l) (sym is) (omega arith); few = few; lawful = lawful })
+        subst IsChain (same_Some chain found e) (record { some = subst (λ (l : List (Undo Before)). 0 < length l) (sym is) (omega arith); few = few; lawful = lawful })

@@ -2,7 +2,7 @@
 use Rattle.std.proofs.Common.{◌≡◌, ◌≢◌, ◌∙◌, ℕ, ◌+◌, ◌<◌, ◌≤◌, eqb, Bool, true, false, not, ◌||◌, cond, List, [], ◌∷◌, Option, None, take, length, get_or, refl, sym, ap, subst, arith, ⊎_elim}
 use Rattle.std.specs.Prelude.{filter, fold, slice_set, All}
 use Rattle.std.specs.List.{list_any}
-use Rattle.std.proofs.lemmas.Bool.{cases_eq, cases_lt, eqb-true}
+use Rattle.std.proofs.lemmas.Bool.{cases_eq, cases_lt, eqb-true, or_right}
 use Rattle.std.proofs.lemmas.List.{get_or-set_same, get_or-set_other, set-get_or}
 use Rattle.std.proofs.lemmas.List.Folds.{list_any_more}
 use Rattle.std.proofs.Math.ListN.{length-set}
@@ -106,13 +106,9 @@ pub listed_any : (P : ℕ → Bool) (xs : List ℕ) (x : ℕ) → is_listed xs x
 listed_any P [] x listed passes = cc
 listed_any P (y ∷ ys) x listed passes = go (eqb y x) refl listed (λ l. listed_any P ys x l passes)
   where
-    either : (a b : Bool) → b ≡ true → (a || b) ≡ true
-    either true b is = refl
-    either false b is = is
-
     go : (b : Bool) → eqb y x ≡ b → (b || is_listed ys x) ≡ true → (is_listed ys x ≡ true → list_any P ys ≡ true) → (P y || list_any P ys) ≡ true
     go true same listed rest = ap (λ b. b || list_any P ys) (ap P (eqb-true y x same) ∙ passes)
-    go false same listed rest = either (P y) (list_any P ys) (rest listed)
+    go false same listed rest = or_right (P y) (list_any P ys) (rest listed)
 
 -- whether any slot so far had an entry of the session, at the next slot
 pub any_more : (session : ℕ) (init now : List (Option Row)) (chains at : Chains) (slots : List ℕ) (i x : ℕ) → i < length slots → x ≡ get_or slots i 0 →

@@ -1,8 +1,8 @@
 -- A slot's newest entry taken off, and what a slot's changes took away.
-use Rattle.std.proofs.Common.{◌≡◌, ◌≢◌, ◌∙◌, ℕ, ◌<◌, Bool, true, false, ◌||◌, List, [], ◌∷◌, Option, None, length, get_or, refl, sym, ap, subst, arith, ⊎_elim}
+use Rattle.std.proofs.Common.{◌≡◌, ◌≢◌, ◌∙◌, ℕ, ◌<◌, true, false, List, [], ◌∷◌, Option, None, length, get_or, refl, sym, ap, subst, arith, ⊎_elim}
 use Rattle.std.specs.Prelude.{slice_set, All}
 use Rattle.std.specs.List.{list_any}
-use Rattle.std.proofs.lemmas.Bool.{cases_eq}
+use Rattle.std.proofs.lemmas.Bool.{cases_eq, or_right}
 use Rattle.std.proofs.lemmas.List.{get_or-set_same, get_or-set_other}
 use Rattle.std.proofs.lemmas.List.Elements.{All-tail}
 use Rattle.std.proofs.Math.ListN.{length-set}
@@ -88,14 +88,10 @@ module _ (rows new_rows : RowsValue) (chains new : Chains) (slot : ℕ) (undo : 
   pub taken_fewer : (q k : ℕ) → list_any (λ undo. is_own undo q) (entries_at new k) ≡ true → list_any (λ undo. is_own undo q) (entries_at chains k) ≡ true
   taken_fewer q k own = ⊎_elim same (λ apart. sym (ap (list_any (λ (undo : Undo Before). is_own undo q)) (others k apart)) ∙ own) (cases_eq k slot)
     where
-      either : (a b : Bool) → b ≡ true → (a || b) ≡ true
-      either true b is = refl
-      either false b is = is
-
       same : k ≡ slot → list_any (λ undo. is_own undo q) (entries_at chains k) ≡ true
       same at =
           ap (list_any (λ (undo : Undo Before). is_own undo q)) (ap (entries_at chains) at ∙ is)
-          ∙ either (is_own undo q) (list_any (λ undo. is_own undo q) (entries_at new slot)) (sym (ap (λ n. list_any (λ (undo : Undo Before). is_own undo q) (entries_at new n)) at) ∙ own)
+          ∙ or_right (is_own undo q) (list_any (λ undo. is_own undo q) (entries_at new slot)) (sym (ap (λ n. list_any (λ (undo : Undo Before). is_own undo q) (entries_at new n)) at) ∙ own)
 
   -- nor an entry that had none
   pub taken_nil : (k : ℕ) → entries_at chains k ≡ [] → entries_at new k ≡ []

@@ -14,8 +14,5 @@ mod shared;
 mod view;
 
 pub use body::Body;
-pub use look::Look;
+pub use look::{Look, key_of};
 pub use shared::Shared;
-
-#[cfg(test)]
-mod tests;

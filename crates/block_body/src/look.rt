@@ -78,7 +78,7 @@ impl Look {
 }
 
 /// The key of a row, a number of 64 bits.
-pub(crate) fn key_of(row: &Row) -> i64
+pub fn key_of(row: &Row) -> i64
     requires { HasKey row.now }
     ensures { result ≡ key_of row.now }
 {

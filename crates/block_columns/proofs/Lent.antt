@@ -1,7 +1,7 @@
 -- What a column lends as Arrow's bytes.
-use Rattle.std.proofs.Common.{◌≡◌, ℕ, ◌*◌, ◌+◌, Bool, true, false, not, cond, List, [], ◌∷◌, ◌++◌, length, map, refl, sym, ap, ◌∙◌, arith, add-one}
+use Rattle.std.proofs.Common.{◌≡◌, ℕ, ◌*◌, ◌+◌, Bool, true, false, not, cond, List, [], ◌∷◌, length, map, refl, sym, ap, ◌∙◌, arith, add-one}
 use Rattle.std.specs.Int.{Width, byte_len}
-use Rattle.std.specs.List.{count_by, flat_map}
+use Rattle.std.specs.List.{count_by}
 use Rattle.std.proofs.lemmas.List.Sums.{sum_by-cons}
 use Rattle.cell_model.specs.declared.cell.Cell.{Cell}
 use Rattle.cell_model.specs.Values.{is_null}
@@ -16,11 +16,6 @@ width_of (unsigned w) bits sign width known same = let e : w ≡ width = cc in k
 width_of truths bits sign width known same = absurd known
 width_of texts bits sign width known same = absurd known
 width_of blobs bits sign width known same = absurd known
-
--- lists made of what a list is mapped to, in a row
-pub flat_map-map : {X Y Z : Type 0} (f : Y → List Z) (g : X → Y) (xs : List X) → flat_map f (map g xs) ≡ flat_map (λ x. f (g x)) xs
-flat_map-map f g [] = refl
-flat_map-map f g (x ∷ xs) = ap (λ (l : List _). f (g x) ++ l) (flat_map-map f g xs)
 
 -- A cell is counted once, be it null or not.
 one_each : (null : Bool) → cond (not null) 1 0 + cond null 1 0 ≡ 1

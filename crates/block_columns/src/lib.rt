@@ -17,6 +17,3 @@ pub use columns::Columns;
 pub use form::ArrowForm;
 pub use image::Image;
 pub use value::Value;
-
-#[cfg(test)]
-mod tests;

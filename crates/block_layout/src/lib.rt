@@ -58,27 +58,3 @@ impl SlotId {
         (self.place % PLACES_PER_BLOCK) as u32
     }
 }
-
-#[cfg(test)]
-mod tests {
-    use super::*;
-
-    #[test]
-    fn places_of_slots(rt: HostRuntime) {
-        let cases = [
-            (0, 0, 0),
-            (0, 7, 7),
-            (1, 0, 1_048_576),
-            (3, 32_767, 3_178_495),
-            (u32::MAX, 1_048_575, (1 << 52) - 1),
-        ];
-        for (block, slot, place) in cases {
-            let id = SlotId::join(block, slot);
-            assert_eq!(rt; id.place, place, "of slot {slot} in block {block}");
-            assert_eq!(rt; id.block(), block);
-            assert_eq!(rt; id.slot(), slot);
-        }
-        assert!(rt; SlotId::join(0, 9) < SlotId::join(1, 2));
-        assert!(rt; SlotId::join(1, 2) < SlotId::join(1, 3));
-    }
-}

@@ -14,6 +14,3 @@ pub use change::{Before, Change};
 pub use look::MovableRow;
 pub use patch::{Assignment, Patch};
 pub use phase::{Phase, SealFault};
-
-#[cfg(test)]
-mod tests;

@@ -15,6 +15,3 @@ pub use ports::{Failed, Gate, OpenGate, Outlet, Sink, Source};
 pub use pure::{PureOutlet, PureSink, PureSource};
 pub use std_ports::{FileOutlet, StdSink, StdSource};
 pub use whole::{InputFault, read_to_end, write_all};
-
-#[cfg(test)]
-mod tests;

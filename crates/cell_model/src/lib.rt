@@ -21,6 +21,3 @@ pub use row::{Row, RowFault};
 pub use rows::Rows;
 pub use schema::{MOST_COLUMNS, MOST_SLOTS, Schema, SchemaFault, most_slots};
 pub use table::TableDecl;
-
-#[cfg(test)]
-mod tests;

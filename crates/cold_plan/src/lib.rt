@@ -6,6 +6,3 @@ mod observer;
 
 pub use moves::{MOST_MOVES, plan_moves};
 pub use observer::Observer;
-
-#[cfg(test)]
-mod tests;

@@ -8,6 +8,3 @@ mod planning;
 
 pub use looks::BlockLook;
 pub use planning::plan;
-
-#[cfg(test)]
-mod tests;

@@ -1,2 +1,16 @@
+pub mod Taking
+pub mod Patching
+pub mod Places
+pub mod Keys
+pub mod PatchFits
+pub mod Takes
+pub mod Changing
+pub mod Puts
+pub mod Touched
 pub mod Alone
 pub mod Desks
+pub mod Bodies
+pub mod Replying
+pub mod Rows
+pub mod Shares
+pub mod Frozen

@@ -1,0 +1,7 @@
+pub mod Writes
+pub mod Patches
+pub mod Slots
+pub mod Candidates
+pub mod Puts
+pub mod Reads
+pub mod Freezes

@@ -1,8 +1,34 @@
-//! What begin, oldest, observe, seal and thaw make of the parts in a hand, and what they reply.
+//! The events of the core that touch one key or one block: what each makes of the parts in a hand,
+//! and what it replies.
 #![tactic(auto)]
 
 mod blocks;
+mod changes;
+mod finds;
+mod freezing;
+mod inserts;
+mod keyed;
+mod looking;
+mod meetings;
+mod patches;
+mod reading;
+mod reads;
 mod sessions;
+mod sharing;
+mod verdicts;
+mod writes;
 
 pub use blocks::{observe, seal, thaw};
+pub use changes::{delete, update};
+pub use finds::{current, found};
+pub use freezing::image;
+pub use inserts::insert;
+pub use keyed::candidates;
+pub use looking::look;
+pub use patches::patch_at;
+pub use reading::{BlockRows, read};
+pub use reads::get;
 pub use sessions::{begin, oldest};
+pub use sharing::shared;
+pub use verdicts::{judge_change, judge_insert};
+pub use writes::{add_candidate, drop_candidate, install, take_slot};

@@ -5,15 +5,15 @@ use Rattle.std.specs.Prelude.{slice_get}
 use Rattle.block_spec.specs.Bodies.{Body}
 use Rattle.core_parts.proofs.Placing.{NamedOnce, laid_twice, named_once, once_head}
 use Rattle.core_parts.specs.Hands.{Held, after, hand_changed, in_hand, laid, laid_at, place_changed}
-use Rattle.event_laws.proofs.ByKind.{nothing_changes}
-use Rattle.event_laws.proofs.Slots.{num_refl}
-use Rattle.event_laws.proofs.States.{IsTwice, changed_twice, name_is}
+use Rattle.core_laws.proofs.Events.ByKind.{nothing_changes}
+use Rattle.core_laws.proofs.Events.Slots.{num_refl}
+use Rattle.core_laws.proofs.Events.States.{IsTwice, changed_twice, name_is}
 use Rattle.event_spec.specs.declared.part.Head.{Head}
 use Rattle.event_spec.specs.declared.part.Part.TheVariants as part
 use Rattle.event_spec.specs.Effects.{at_both, at_table}
 use Rattle.event_spec.specs.Lawful.{Among}
 use Rattle.event_spec.specs.Parts.{Changes, CorePart, Parts, Shape, Name, HeadOf, ShardOf, BodyOf, TheDesk, changed, each_changed, held_named, names, nothing, same_name}
-use Rattle.frame_laws.proofs.Looks.{true_false}
+use Rattle.core_laws.proofs.Frames.Looks.{true_false}
 use Rattle.hall_rule.specs.Hands.{Agrees, Holds, SameRoom}
 use Rattle.key_index.specs.Candidates.{Places}
 use Rattle.txn_desk.specs.Desk.{DeskState}

@@ -1,4 +1,15 @@
+pub mod Heads
+pub mod Shards
 pub mod Numbering
 pub mod Placing
 pub mod Changing
 pub mod Telling
+pub mod Front
+pub mod SameKinds
+pub mod Places
+pub mod Founds
+pub mod Held
+pub mod Names
+pub mod Nexts
+pub mod Numbered
+pub mod Spots

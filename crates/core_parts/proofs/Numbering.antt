@@ -5,6 +5,7 @@ use Rattle.core_parts.specs.Numbers.{AreNumbers}
 use Rattle.std.specs.List.{flat_map, range_with_len}
 use Rattle.std.specs.Prelude.{All}
 use Rattle.std.proofs.lemmas.List.Elements.{All-head, All-tail}
+use Rattle.std.proofs.lemmas.List.FromFn.{length-range_with_len}
 use Rattle.cell_model.specs.declared.table.TableDecl.{TableDecl}
 use Rattle.core_parts.specs.Numbers.{first_bodies, after_bodies}
 use Rattle.event_spec.specs.Lawful.{HasBlock, HasTable}
@@ -32,11 +33,6 @@ length_each : {X Y : Type 0} (f : X → Y) (xs : List X) → length (map f xs) �
 length_each f [] = refl
 length_each f (x ∷ xs) = ap suc (length_each f xs)
 
--- A range has as many numbers as it is made with.
-length_range : (a n : ℕ) → length (range_with_len a n) ≡ n
-length_range a zero = refl
-length_range a (suc n) = ap suc (length_range (a + 1) n)
-
 -- At a place of a range's images stands that of its first number plus the place.
 get_range : {X : Type 0} (f : ℕ → X) (a n k : ℕ) → k < n → slice_get (map f (range_with_len a n)) k ≡ Some (f (a + k))
 get_range f a zero k less = absurd (omega (arith, less))
@@ -52,14 +48,14 @@ shards_length a zero = omega arith
 shards_length a (suc n) =
     let e = shards_length (a + 1) n in
     let j = length_join (map (ShardOf a) (below 8)) (flat_map (λ t. map (ShardOf t) (below 8)) (range_with_len (a + 1) n)) in
-    let l = length_each (ShardOf a) (below 8) ∙ length_range 0 8 in j ∙ (omega (arith, e, l))
+    let l = length_each (ShardOf a) (below 8) ∙ length-range_with_len 0 8 in j ∙ (omega (arith, e, l))
 
 -- A table's shard stands behind eight for each table before, by its own index.
 get_shard : (a n t i : ℕ) → t < n → i < 8 → slice_get (flat_map (λ t. map (ShardOf t) (below 8)) (range_with_len a n)) (8 * t + i) ≡ Some (ShardOf (a + t) i)
 get_shard a zero t i less small = absurd (omega (arith, less))
 get_shard a (suc n) zero i less small =
     get_left (map (ShardOf a) (below 8)) (flat_map (λ t. map (ShardOf t) (below 8)) (range_with_len (a + 1) n)) (8 * 0 + i)
-    (let l = length_each (ShardOf a) (below 8) ∙ length_range 0 8 in omega (arith, l, small))
+    (let l = length_each (ShardOf a) (below 8) ∙ length-range_with_len 0 8 in omega (arith, l, small))
     ∙ get_range (ShardOf a) 0 8 (8 * 0 + i) (omega (arith, small))
     ∙ ap (λ x. Some (ShardOf x (0 + (8 * 0 + i)))) (let e : a ≡ a + 0 = omega arith in e)
     ∙ ap (λ x. Some (ShardOf (a + 0) x)) (let e : 0 + (8 * 0 + i) ≡ i = omega arith in e)
@@ -70,7 +66,7 @@ get_shard a (suc n) (suc t) i less small =
     ∙ ap (λ x. Some (ShardOf x i)) (let e : a + 1 + t ≡ a + suc t = omega arith in e)
   where
     at : 8 * suc t + i ≡ length (map (ShardOf a) (below 8)) + (8 * t + i)
-    at = let l = length_each (ShardOf a) (below 8) ∙ length_range 0 8 in omega (arith, l)
+    at = let l = length_each (ShardOf a) (below 8) ∙ length-range_with_len 0 8 in omega (arith, l)
 
 -- ---- bodies
 
@@ -94,7 +90,7 @@ bodies_length blocks a from (decl ∷ tables) each =
     let rest = bodies_length blocks (a + 1) (from + decl.blocks) tables (next blocks a decl tables each) in
     let here = first blocks a decl tables each in
     let j = length_join (map (BodyOf a) (below (blocks a))) (flat_map (λ t. map (BodyOf t) (below (blocks t))) (range_with_len (a + 1) (length tables))) in
-    let l = length_each (BodyOf a) (below (blocks a)) ∙ length_range 0 (blocks a) in
+    let l = length_each (BodyOf a) (below (blocks a)) ∙ length-range_with_len 0 (blocks a) in
     let e : from + length (flat_map (λ t. map (BodyOf t) (below (blocks t))) (range_with_len a (suc (length tables)))) ≡ from + decl.blocks + length (flat_map (λ t. map (BodyOf t) (below (blocks t))) (range_with_len (a + 1) (length tables))) =
     ap (λ n. from + n) j ∙ (omega (arith, l, here)) in
     e ∙ rest
@@ -109,7 +105,7 @@ get_body blocks a from (decl ∷ tables) zero b start each at less = (
   b,
   (let e : from ≡ start = cc in omega (arith, e)),
   get_left (map (BodyOf a) (below (blocks a))) (flat_map (λ t. map (BodyOf t) (below (blocks t))) (range_with_len (a + 1) (length tables))) b
-      (let l = length_each (BodyOf a) (below (blocks a)) ∙ length_range 0 (blocks a) in omega (arith, l, here))
+      (let l = length_each (BodyOf a) (below (blocks a)) ∙ length-range_with_len 0 (blocks a) in omega (arith, l, here))
       ∙ get_range (BodyOf a) 0 (blocks a) b here
       ∙ ap (λ x. Some (BodyOf x (0 + b))) (let e : a ≡ a + 0 = omega arith in e)
       ∙ ap (λ x. Some (BodyOf (a + 0) x)) (let e : 0 + b ≡ b = omega arith in e),
@@ -122,7 +118,7 @@ get_body blocks a from (decl ∷ tables) (suc t) b start each at less =
     (subst (λ x. b < blocks x) (let e : a + suc t ≡ a + 1 + t = omega arith in e) less) in
     let is = r.1 in
     let here = first blocks a decl tables each in
-    let l = length_each (BodyOf a) (below (blocks a)) ∙ length_range 0 (blocks a) in (
+    let l = length_each (BodyOf a) (below (blocks a)) ∙ length-range_with_len 0 (blocks a) in (
       length (map (BodyOf a) (below (blocks a))) + r.0,
       omega (arith, is, here, l),
       get_right (map (BodyOf a) (below (blocks a))) (flat_map (λ t. map (BodyOf t) (below (blocks t))) (range_with_len (a + 1) (length tables))) r.0
@@ -157,7 +153,7 @@ module _ (sh : Shape) where
 
   -- There are as many heads as tables.
   heads_length : length heads ≡ length sh.tables
-  heads_length = length_each HeadOf (tables_of sh) ∙ length_range 0 (length sh.tables)
+  heads_length = length_each HeadOf (tables_of sh) ∙ length-range_with_len 0 (length sh.tables)
 
   -- There are nine heads and shards for each table.
   front_length : length (heads ++ shards) ≡ 9 * length sh.tables

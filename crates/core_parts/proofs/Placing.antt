@@ -3,12 +3,12 @@ use Rattle.std.proofs.Common.{◌≡◌, ℕ, zero, suc, ◌+◌, ◌<◌, Bool,
 use mathlib.Core.Logic.{inl, inr}
 use Rattle.std.specs.Prelude.{slice_get}
 use Rattle.core_parts.specs.Hands.{Held, in_hand, laid_at}
-use Rattle.event_laws.proofs.States.{name_is}
+use Rattle.core_laws.proofs.Events.States.{name_is}
 use Rattle.event_spec.specs.declared.part.Part.TheVariants as part
 use Rattle.event_spec.specs.Lawful.{Among}
 use Rattle.event_spec.specs.Parts.{CorePart, Parts, Shape, Name, same_name, names, part_named, held_named}
-use Rattle.frame_laws.proofs.Distinct.{part_is}
-use Rattle.frame_laws.proofs.Looks.{got_among, name_self, true_false, within}
+use Rattle.core_laws.proofs.Frames.Distinct.{part_is}
+use Rattle.core_laws.proofs.Frames.Looks.{got_among, name_self, true_false, within}
 use Rattle.hall_rule.specs.Hands.{Agrees}
 
 -- ---- no name stands twice

@@ -6,8 +6,8 @@ use Rattle.block_spec.specs.Bodies.{Body}
 use Rattle.core_parts.proofs.Changing.{after_nothing, alike}
 use Rattle.core_parts.proofs.Placing.{held_among, in_state}
 use Rattle.core_parts.specs.Hands.{Has, Held, Makes, MayRun, after, in_hand}
-use Rattle.event_laws.proofs.Lists.{flat_member, map_member, member_below, split}
-use Rattle.event_laws.proofs.Naming.{at_name, bodies_in, heads_in, shards_in, head_named, shard_named, body_named, desk_named}
+use Rattle.core_laws.proofs.Events.Lists.{flat_member, map_member, member_below, split}
+use Rattle.core_laws.proofs.Events.Naming.{at_name, bodies_in, heads_in, shards_in, head_named, shard_named, body_named, desk_named}
 use Rattle.event_spec.specs.declared.part.Head.{Head}
 use Rattle.event_spec.specs.declared.part.Part.TheVariants as part
 use Rattle.event_spec.specs.Effects.{CoreEvent, changes_of}
@@ -15,9 +15,9 @@ use Rattle.event_spec.specs.Lawful.{Among, HasBlock, HasTable}
 use Rattle.event_spec.specs.Parts.{Changes, CorePart, Parts, Shape, Name, HeadOf, ShardOf, BodyOf, TheDesk, below, blocks_of, body_at, body_from, changed, desk_at, desk_from, each_changed, head_at, head_from, names, nothing, places_at, shard_from, shard_of}
 use Rattle.event_spec.specs.Replies.{CoreReply, reply_to}
 use Rattle.event_spec.specs.Sound.{IsOfKind}
-use Rattle.frame_laws.proofs.Looks.{look, touches}
-use Rattle.frame_laws.proofs.Makes.{makes}
-use Rattle.frame_laws.proofs.Replies.{replies}
+use Rattle.core_laws.proofs.Frames.Looks.{look, touches}
+use Rattle.core_laws.proofs.Frames.Makes.{makes}
+use Rattle.core_laws.proofs.Frames.Replies.{replies}
 use Rattle.hall_rule.specs.Hands.{Agrees}
 use Rattle.key_index.specs.Candidates.{Places, candidates_of}
 use Rattle.txn_desk.specs.Desk.{DeskState}

@@ -7,7 +7,7 @@ use Rattle.event_spec.specs.Parts.{names, same_name}
 use Rattle.event_spec.specs.Replies.{CoreReply, reply_to}
 use Rattle.event_spec.specs.Sound.{IsOfKind}
 use Rattle.event_spec.specs.Touched.{touching}
-use Rattle.frame_laws.specs.Shards.{CoreHolds}
+use Rattle.core_laws.specs.Frames.Shards.{CoreHolds}
 use Rattle.hall_rule.specs.Hands.{Agrees, Covers}
 
 -- a place for each part, in which the part lies or not

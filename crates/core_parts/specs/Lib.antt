@@ -1,2 +1,15 @@
+pub mod Heads
+pub mod Shards
+pub mod Laws
 pub mod Hands
 pub mod Numbers
+pub mod Kinds
+pub mod Gathered
+pub mod FrontValues
+pub mod Fronts
+pub mod Placed
+pub mod Keyed
+pub mod Least
+pub mod Touched
+pub mod Written
+pub mod Found

@@ -6,13 +6,13 @@ ghost use Rattle.event_spec.specs.Parts.{HeadOf, ShardOf, BodyOf, TheDesk, names
 ghost use Rattle.event_spec.specs.Lawful.{HasBlock, HasTable};
 ghost use Rattle.hall_rule.specs.Hands.{Holds};
 
+use crate::head_changes::TableHead;
 use crate::kept::{CorePart, Kept};
 use crate::shape::Shape;
 use block_body::Body;
 use event_spec::Part;
 use hall_rule::Hand;
 use key_index::Index;
-use part_changes::TableHead;
 use txn_desk::Desk;
 
 /// A table's head, lent.

@@ -1,10 +1,10 @@
 //! What lies in a hand: small values, whose contents stay where they are.
 ghost use Rattle.std.specs.Prelude.{◌≡◌, IfOk};
 
+use crate::head_changes::TableHead;
 use block_body::Body;
 use event_spec::Part;
 use key_index::Index;
-use part_changes::TableHead;
 use std::alloc::{AllocError, Global};
 use std::marker::Model;
 use txn_desk::Desk;

@@ -2,6 +2,7 @@
 use Rattle.std.proofs.Common.{◌≡◌, ℕ, ℤ, false, ◌&&◌, ◌||◌, ◌==◌, [], ◌∷◌, ◌++◌, Option, None, Some, is_some, option_map, length, refl, sym, ap, ◌∙◌, subst}
 use Rattle.std.specs.Map.{lookup}
 use Rattle.std.specs.Prelude.{IsSome, slice_get}
+use Rattle.std.proofs.lemmas.Bool.{or_left, and_from}
 use Rattle.block_layout.specs.Place.{block_of}
 use Rattle.block_spec.specs.Bodies.{Body, rolled_back_in}
 use Rattle.core_parts.proofs.Changing.{desk_change, desk_only, in_after, laid_back_changed}
@@ -9,10 +10,10 @@ use Rattle.core_parts.proofs.Telling.{a_body, a_desk, body_is, desk_is, from_one
 use Rattle.core_parts.specs.Hands.{Has, Held, Makes, MayRun, after, in_hand, laid}
 use Rattle.core_sweeps.proofs.Handing.{after_then, body_in_after, body_is_in, first_same, has_still, room_still}
 use Rattle.core_sweeps.proofs.Rolling.{at_first, at_last, block_is_there, body_more, one_more}
-use Rattle.core_sweeps.specs.Steps.{IsUndone, body_in, rolled, undone, undone_so_far}
-use Rattle.event_laws.proofs.Owners.{all_open}
-use Rattle.event_laws.proofs.Places.{shard_small}
-use Rattle.event_laws.proofs.Slots.{num_refl}
+use Rattle.core_sweeps.specs.SweepSteps.{IsUndone, body_in, rolled, undone, undone_so_far}
+use Rattle.core_laws.proofs.Events.Owners.{all_open}
+use Rattle.core_laws.proofs.Events.Places.{shard_small}
+use Rattle.core_laws.proofs.Events.Slots.{num_refl}
 use Rattle.event_spec.specs.declared.event.Event.TheVariants as event
 use Rattle.event_spec.specs.declared.own.OwnTransaction.{OwnTransaction}
 use Rattle.event_spec.specs.declared.part.Part.TheVariants as part
@@ -21,10 +22,9 @@ use Rattle.event_spec.specs.Effects.{changes_of, closed}
 use Rattle.event_spec.specs.Lawful.{HasBlock}
 use Rattle.event_spec.specs.Parts.{CorePart, Shape, Name, HeadOf, ShardOf, BodyOf, TheDesk, body_at, changed, desk_at, names, part_at, shard_of}
 use Rattle.event_spec.specs.Touched.{is_body_written, is_shard_written}
-use Rattle.follow_laws.proofs.Stepping.{has_pass}
-use Rattle.frame_laws.proofs.Distinct.{part_is}
-use Rattle.frame_laws.proofs.Frames.{written_passes}
-use Rattle.frame_laws.proofs.Looks.{and_true, or_left}
+use Rattle.core_laws.proofs.Following.Stepping.{has_pass}
+use Rattle.core_laws.proofs.Frames.Distinct.{part_is}
+use Rattle.core_laws.proofs.Frames.Frames.{written_passes}
 use Rattle.isolation_spec.specs.Contents.{PlaceMap, at_place, is_place, place_at}
 use Rattle.isolation_spec.specs.declared.place.Place.{Place}
 use Rattle.txn_desk.specs.Desk.{DeskState}
@@ -67,13 +67,13 @@ module _ (sh : Shape) (own : OwnTransaction) (old : Held) (m : MayRun sh (event.
     pub has_its_shard : Has sh old (ShardOf t (shard_of key))
     has_its_shard = has_shard sh (event.Abort own) old m t (shard_of key) block.0 (shard_small key)
         (or_left (is_shard_written own.writes (ShardOf t (shard_of key)) || false) false (or_left (is_shard_written own.writes (ShardOf t (shard_of key))) false
-        (written_passes (λ u k r. (u == t) && (shard_of k == shard_of key)) own.writes t key p there (and_true (t == t) (shard_of key == shard_of key) (num_refl t) (num_refl (shard_of key))))))
+        (written_passes (λ u k r. (u == t) && (shard_of k == shard_of key)) own.writes t key p there (and_from (t == t) (shard_of key == shard_of key) (num_refl t) (num_refl (shard_of key))))))
 
     -- and the body of its block
     pub has_its_body : Has sh old (BodyOf t (block_of p))
     has_its_body = has_body sh (event.Abort own) old m t (block_of p) block
         (or_left (is_body_written own.writes (BodyOf t (block_of p))) false
-        (written_passes (λ u k r. (u == t) && (block_of r == block_of p)) own.writes t key p there (and_true (t == t) (block_of p == block_of p) (num_refl t) (num_refl (block_of p)))))
+        (written_passes (λ u k r. (u == t) && (block_of r == block_of p)) own.writes t key p there (and_from (t == t) (block_of p == block_of p) (num_refl t) (num_refl (block_of p)))))
 
 -- ---- one write more
 

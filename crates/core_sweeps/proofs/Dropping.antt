@@ -4,19 +4,20 @@ use Rattle.std.proofs.Common.{◌≡◌, ◌≢◌, ◌⊎◌, ℕ, ◌+◌, ◌
 use mathlib.Core.Logic.{inl, inr}
 use Rattle.std.specs.List.{list_all}
 use Rattle.std.proofs.lemmas.Bool.Decides.{nat_tests}
+use Rattle.std.proofs.lemmas.Bool.{and_from, and_right}
 use Rattle.block_body.specs.Changes.{IsNextVersioned, key_left}
 use Rattle.block_layout.specs.Place.{block_of, place_of, slot_of}
 use Rattle.block_spec.specs.Bodies.{Body, is_empty, pruned_in, slot_in}
 use Rattle.block_spec.specs.declared.change.Before.{Before}
 use Rattle.block_spec.specs.Slots.{Row, Slot, has_none, is_bare, laid_back, pruned, taken_back}
 use Rattle.core_sweeps.proofs.Rolling.{differs, learns, shard_owns}
-use Rattle.core_sweeps.specs.Steps.{dropped_at, dropped_to, keep_to, pruned_by, with_gain}
-use Rattle.event_laws.proofs.ByKind.{rests_at, twice_at}
-use Rattle.event_laws.proofs.Naming.{follows_machine}
-use Rattle.event_laws.proofs.Places.{same_place}
-use Rattle.event_laws.proofs.Slots.{num, num_refl}
-use Rattle.event_laws.proofs.States.{slot_map}
-use Rattle.event_laws.specs.Named.{FollowsMachine}
+use Rattle.core_sweeps.specs.SweepSteps.{dropped_at, dropped_to, keep_to, pruned_by, with_gain}
+use Rattle.core_laws.proofs.Events.ByKind.{rests_at, twice_at}
+use Rattle.core_laws.proofs.Events.Naming.{follows_machine}
+use Rattle.core_laws.proofs.Events.Places.{same_place}
+use Rattle.core_laws.proofs.Events.Slots.{num, num_refl}
+use Rattle.core_laws.proofs.Events.States.{slot_map}
+use Rattle.core_laws.specs.Events.Named.{FollowsMachine}
 use Rattle.event_spec.specs.declared.event.Event.TheVariants as event
 use Rattle.event_spec.specs.declared.part.Head.{Head}
 use Rattle.event_spec.specs.declared.part.Part.TheVariants as part
@@ -25,15 +26,15 @@ use Rattle.event_spec.specs.Lawful.{Among, HasBlock, HasTable}
 use Rattle.event_spec.specs.Parts.{CorePart, Parts, Shape, Name, HeadOf, ShardOf, blocks_of, body_at, changed, head_at, head_from, part_at, places_at, shard_from, shard_of}
 use Rattle.event_spec.specs.SlotSound.{Keyed}
 use Rattle.event_spec.specs.Sound.{IsShape, Sound}
-use Rattle.frame_laws.proofs.Looks.{and_true, true_false}
-use Rattle.frame_laws.proofs.Makes.{head_is_there}
-use Rattle.frame_laws.specs.Shards.{ShardsHold}
+use Rattle.core_laws.proofs.Frames.Looks.{true_false}
+use Rattle.core_laws.proofs.Frames.Makes.{head_is_there}
+use Rattle.core_laws.specs.Frames.Shards.{ShardsHold}
 use Rattle.isolation_spec.specs.Contents.{key_of}
 use Rattle.key_index.specs.Candidates.{Places, candidates_of}
-use Rattle.part_changes.proofs.Heads.{knowing_rests}
-use Rattle.part_changes.proofs.Shards.{drops_go_on, sweep_rests, sweeps_agree}
-use Rattle.part_changes.specs.Shards.{without_place}
-use Rattle.slot_laws.proofs.Endings.{keyed_row}
+use Rattle.core_parts.proofs.Heads.{knowing_rests}
+use Rattle.core_parts.proofs.Shards.{drops_go_on, sweep_rests, sweeps_agree}
+use Rattle.core_parts.specs.Shards.{without_place}
+use Rattle.core_laws.proofs.Slots.Endings.{keyed_row}
 use Rattle.undo_chain.specs.declared.undo.Undo.{Undo}
 
 -- ---- a slot that is left bare
@@ -81,7 +82,7 @@ pruned_empty oldest body is = all body.slots is
     all [] e = refl
     all (x ∷ xs) e =
         let two = both (is_bare x) (list_all is_bare xs) e in
-        and_true (is_bare (pruned oldest x)) (list_all is_bare (map (pruned oldest) xs)) (none x.row x.entries two.0) (all xs two.1)
+        and_from (is_bare (pruned oldest x)) (list_all is_bare (map (pruned oldest) xs)) (none x.row x.entries two.0) (all xs two.1)
 
 module _ (sh : Shape) (s : Parts) (shape : IsShape sh) (ok : Sound sh s) (shards : ShardsHold sh s) (t b oldest : ℕ) (has : HasBlock sh t b) where
   -- How the core before the pruning follows a machine.
@@ -305,7 +306,7 @@ module _ (sh : Shape) (s : Parts) (shape : IsShape sh) (ok : Sound sh s) (shards
             ≡ cond (u == t) (kept_places (keep_to b oldest (body_at sh s t b) (j + 1)) x) x
         go true true e e' =
             let same = num u t e in
-            ap (λ c. cond c (without_place key (place_of b j) (cond (u == t) (kept_places (keep_to b oldest (body_at sh s t b) from) x) x)) (cond (u == t) (kept_places (keep_to b oldest (body_at sh s t b) from) x) x)) (and_true (u == t) (i == shard_of key) e e')
+            ap (λ c. cond c (without_place key (place_of b j) (cond (u == t) (kept_places (keep_to b oldest (body_at sh s t b) from) x) x)) (cond (u == t) (kept_places (keep_to b oldest (body_at sh s t b) from) x) x)) (and_from (u == t) (i == shard_of key) e e')
             ∙ ap (λ c. without_place key (place_of b j) (cond c (kept_places (keep_to b oldest (body_at sh s t b) from) x) x)) e
             ∙ drops_go_on i x (keep_to b oldest (body_at sh s t b) from) (keep_to b oldest (body_at sh s t b) (j + 1)) key (place_of b j) (shards u i x at) (sym (num i (shard_of key) e')) (here same) (others same)
             ∙ sym (ap (λ c. cond c (kept_places (keep_to b oldest (body_at sh s t b) (j + 1)) x) x) e)
@@ -347,10 +348,6 @@ module _ (sh : Shape) (s : Parts) (shape : IsShape sh) (ok : Sound sh s) (shards
           (knowing_rests (blocks_of sh u) (λ d. is_empty (body_at sh s u d)) (λ d. is_empty (body_at sh s u d)) (head_at sh s u)
           (record { others = (ok.heads u own).empty; own = (ok.heads u own).anew }) (ok.heads u own).block.1 (λ other less. refl))
 
-      and_last : (c d : Bool) → d ≡ false → (c && d) ≡ false
-      and_last true d e = e
-      and_last false d e = refl
-
       go : (c : Bool) → (u == t) ≡ c
           → cond (u == t) (with_gain (is_empty (pruned_in oldest (body_at sh s t b))) b x) x
           ≡ cond (u == t) (with_empty (blocks_of sh u) (λ d. is_empty (cond ((u == t) && (d == b)) (pruned_in oldest (body_at sh s u d)) (body_at sh s u d))) x) x
@@ -360,8 +357,8 @@ module _ (sh : Shape) (s : Parts) (shape : IsShape sh) (ok : Sound sh s) (shards
           (ap (λ y. with_gain (is_empty (pruned_in oldest (body_at sh s t b))) b y) (sym before)
           ∙ learns (blocks_of sh u) b (λ d. is_empty (body_at sh s u d)) (λ d. is_empty (cond ((u == t) && (d == b)) (pruned_in oldest (body_at sh s u d)) (body_at sh s u d))) x
           (is_empty (pruned_in oldest (body_at sh s t b))) inside (subst (λ u. b < blocks_of sh u) (sym same) has.1)
-          (λ d ne. ap (λ c. is_empty (cond c (pruned_in oldest (body_at sh s u d)) (body_at sh s u d))) (and_last (u == t) (d == b) (differs d b ne)))
-          (ap (λ c. is_empty (cond c (pruned_in oldest (body_at sh s u b)) (body_at sh s u b))) (and_true (u == t) (b == b) e (num_refl b)) ∙ ap (λ u. is_empty (pruned_in oldest (body_at sh s u b))) same)
+          (λ d ne. ap (λ c. is_empty (cond c (pruned_in oldest (body_at sh s u d)) (body_at sh s u d))) (and_right (u == t) (d == b) (differs d b ne)))
+          (ap (λ c. is_empty (cond c (pruned_in oldest (body_at sh s u b)) (body_at sh s u b))) (and_from (u == t) (b == b) e (num_refl b)) ∙ ap (λ u. is_empty (pruned_in oldest (body_at sh s u b))) same)
           (λ em. subst (λ u. is_empty (pruned_in oldest (body_at sh s u b)) ≡ true) same (pruned_empty oldest (body_at sh s u b) em)))
       go false e =
           ap (λ c. cond c (with_gain (is_empty (pruned_in oldest (body_at sh s t b))) b x) x) e
@@ -372,10 +369,6 @@ module _ (sh : Shape) (s : Parts) (shape : IsShape sh) (ok : Sound sh s) (shards
       → (dropped_to sh s t b oldest from).shard u i x ≡ (changes_of sh s (event.Prune t b oldest)).shard u i x
   last_shard from none u i x is = go (u == t) refl
     where
-      and_last : (c d : Bool) → d ≡ false → (c && d) ≡ false
-      and_last true d e = e
-      and_last false d e = refl
-
       at : u ≡ t → (u == t) ≡ true → (k : ℤ) (r : ℕ) → Among r (candidates_of x k)
           → not (is_bare (slot_in (cond ((u == t) && (block_of r == b)) (pruned_in oldest (body_at sh s u (block_of r))) (body_at sh s u (block_of r))) (slot_of r))) ≡ keep_to b oldest (body_at sh s t b) from r
       at same e k r a = by (block_cases r)
@@ -389,7 +382,7 @@ module _ (sh : Shape) (s : Parts) (shape : IsShape sh) (ok : Sound sh s) (shards
           by : (block_of r ≡ b) ⊎ (block_of r ≢ b)
               → not (is_bare (slot_in (cond ((u == t) && (block_of r == b)) (pruned_in oldest (body_at sh s u (block_of r))) (body_at sh s u (block_of r))) (slot_of r))) ≡ keep_to b oldest (body_at sh s t b) from r
           by (inl here) =
-              ap (λ c. not (is_bare (slot_in (cond c (pruned_in oldest (body_at sh s u (block_of r))) (body_at sh s u (block_of r))) (slot_of r)))) (and_true (u == t) (block_of r == b) e (ap (λ y. y == b) here ∙ num_refl b))
+              ap (λ c. not (is_bare (slot_in (cond c (pruned_in oldest (body_at sh s u (block_of r))) (body_at sh s u (block_of r))) (slot_of r)))) (and_from (u == t) (block_of r == b) e (ap (λ y. y == b) here ∙ num_refl b))
               ∙ ap (λ u. not (is_bare (slot_in (pruned_in oldest (body_at sh s u (block_of r))) (slot_of r)))) same
               ∙ ap (λ d. not (is_bare (slot_in (pruned_in oldest (body_at sh s t d)) (slot_of r)))) here
               ∙ part_of (order (slot_of r) from)
@@ -398,7 +391,7 @@ module _ (sh : Shape) (s : Parts) (shape : IsShape sh) (ok : Sound sh s) (shards
               part_of (inl less) = sym (below_is from r here less)
               part_of (inr le) = ap not (stays k r there here (none (slot_of r) le)) ∙ sym (above_is from r le)
           by (inr ne) =
-              ap (λ c. not (is_bare (slot_in (cond c (pruned_in oldest (body_at sh s u (block_of r))) (body_at sh s u (block_of r))) (slot_of r)))) (and_last (u == t) (block_of r == b) (differs (block_of r) b ne))
+              ap (λ c. not (is_bare (slot_in (cond c (pruned_in oldest (body_at sh s u (block_of r))) (body_at sh s u (block_of r))) (slot_of r)))) (and_right (u == t) (block_of r == b) (differs (block_of r) b ne))
               ∙ ap not (f.follows.index.filled u r k mine)
               ∙ sym (else_is from r ne)
 

@@ -8,16 +8,16 @@ use Rattle.core_parts.proofs.Changing.{after_twice, body_only, head_only, in_aft
 use Rattle.core_parts.proofs.Placing.{length-laid}
 use Rattle.core_parts.proofs.Telling.{a_body}
 use Rattle.core_parts.specs.Hands.{Has, Held, after, hand_changed, in_hand, laid, place_changed}
-use Rattle.core_sweeps.specs.Steps.{body_changed, body_in, head_changed, shard_changed, undone, with_gain, without_bare}
-use Rattle.event_laws.proofs.ByKind.{rests_at}
-use Rattle.event_laws.proofs.Slots.{num_refl}
+use Rattle.core_sweeps.specs.SweepSteps.{body_changed, body_in, head_changed, shard_changed, undone, with_gain, without_bare}
+use Rattle.core_laws.proofs.Events.ByKind.{rests_at}
+use Rattle.core_laws.proofs.Events.Slots.{num_refl}
 use Rattle.event_spec.specs.Lawful.{Among}
 use Rattle.event_spec.specs.declared.part.Head.{Head}
 use Rattle.event_spec.specs.declared.part.Part.TheVariants as part
 use Rattle.event_spec.specs.Parts.{Changes, CorePart, Shape, Name, HeadOf, ShardOf, BodyOf, TheDesk, body_from, changed, names, shard_of}
 use Rattle.event_spec.specs.Sound.{IsOfKind}
 use Rattle.key_index.specs.Candidates.{Places}
-use Rattle.part_changes.specs.Shards.{without_place}
+use Rattle.core_parts.specs.Shards.{without_place}
 
 -- ---- one change after another, of the parts that are there
 

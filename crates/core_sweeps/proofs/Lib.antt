@@ -4,3 +4,10 @@ pub mod Handing
 pub mod Prunes
 pub mod Quiet
 pub mod Rolling
+pub mod Commits
+pub mod Backs
+pub mod Bodies
+pub mod Halves
+pub mod Keeping
+pub mod Moves
+pub mod Whole

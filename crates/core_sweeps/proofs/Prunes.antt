@@ -1,6 +1,7 @@
 -- A pruning, slot by slot, on a hand.
 use Rattle.std.proofs.Common.{◌≡◌, ℕ, ◌+◌, ◌<◌, ◌≤◌, ◌^◌, true, false, ◌&&◌, ◌||◌, ◌==◌, List, [], ◌∷◌, Option, None, Some, length, refl, sym, ap, ◌∙◌, subst, arith}
 use Rattle.std.specs.Prelude.{IfSome, slice_get}
+use Rattle.std.proofs.lemmas.Bool.{or_left}
 use Rattle.block_body.proofs.Keyed.{fits-has_key}
 use Rattle.block_body.specs.Changes.{IsNextVersioned, key_left}
 use Rattle.block_body.specs.Keys.{HasKey}
@@ -15,9 +16,9 @@ use Rattle.core_parts.proofs.Telling.{a_body, body_is, from_one, has_body, has_h
 use Rattle.core_parts.specs.Hands.{Has, Held, Makes, MayRun, after, in_hand}
 use Rattle.core_sweeps.proofs.Dropping.{first_dropped, last_pruned, one_slot_more}
 use Rattle.core_sweeps.proofs.Handing.{after_then, body_in_after, body_in_changed, body_is_in, first_same, has_still, room_still}
-use Rattle.core_sweeps.specs.Steps.{AreDropped, IsDropped, body_changed, body_in, dropped_at, dropped_to, head_changed, pruned_by, with_gain}
-use Rattle.event_laws.proofs.Fitting.{current_fits}
-use Rattle.event_laws.proofs.Slots.{num_refl}
+use Rattle.core_sweeps.specs.SweepSteps.{AreDropped, IsDropped, body_changed, body_in, dropped_at, dropped_to, head_changed, pruned_by, with_gain}
+use Rattle.core_laws.proofs.Events.Fitting.{current_fits}
+use Rattle.core_laws.proofs.Events.Slots.{num_refl}
 use Rattle.event_spec.specs.declared.event.Event.TheVariants as event
 use Rattle.event_spec.specs.declared.part.Part.TheVariants as part
 use Rattle.event_spec.specs.declared.reply.Reply.TheVariants as reply
@@ -25,9 +26,9 @@ use Rattle.event_spec.specs.Effects.{changes_of}
 use Rattle.event_spec.specs.Parts.{CorePart, Shape, Name, HeadOf, ShardOf, BodyOf, body_at, names, part_at}
 use Rattle.event_spec.specs.Replay.{columns_in}
 use Rattle.event_spec.specs.SlotSound.{VersionsFit}
-use Rattle.frame_laws.proofs.Distinct.{part_is}
-use Rattle.frame_laws.proofs.Looks.{name_self, or_left}
-use Rattle.sound_laws.proofs.Calm.{index_all}
+use Rattle.core_laws.proofs.Frames.Distinct.{part_is}
+use Rattle.core_laws.proofs.Frames.Looks.{name_self}
+use Rattle.core_laws.proofs.Sound.Calm.{index_all}
 use Rattle.undo_chain.specs.declared.undo.Undo.{Undo}
 
 -- ---- the key of a version

@@ -2,6 +2,7 @@
 use Rattle.std.proofs.Common.{◌≡◌, ℕ, Bool, true, false, cond, not, ◌&&◌, ◌==◌, List, [], ◌∷◌, Some, filter, map, sum_by, refl, sym, ap, ◌∙◌, subst, arith}
 use Rattle.std.proofs.lemmas.List.Sums.{sum_by-cons}
 use Rattle.std.specs.List.{count_by, list_all}
+use Rattle.std.proofs.lemmas.Bool.{and_parts}
 use Rattle.block_spec.specs.Bodies.{Body, dropped_from, is_empty, is_quiet, pruned_in}
 use Rattle.block_spec.specs.declared.change.Before.{Before}
 use Rattle.block_spec.specs.Slots.{Slot, has_none, pruned}
@@ -10,8 +11,8 @@ use Rattle.core_parts.specs.Hands.{Held, Makes, MayRun, in_hand}
 use Rattle.core_sweeps.proofs.Dropping.{first_dropped, last_pruned}
 use Rattle.core_sweeps.proofs.Handing.{first_same}
 use Rattle.core_sweeps.proofs.Prunes.{part_there}
-use Rattle.event_laws.proofs.ByKind.{rests_at}
-use Rattle.event_laws.proofs.Slots.{num}
+use Rattle.core_laws.proofs.Events.ByKind.{rests_at}
+use Rattle.core_laws.proofs.Events.Slots.{num}
 use Rattle.event_spec.specs.declared.event.Event.TheVariants as event
 use Rattle.event_spec.specs.declared.part.Head.{Head}
 use Rattle.event_spec.specs.declared.part.Part.TheVariants as part
@@ -19,11 +20,11 @@ use Rattle.event_spec.specs.declared.reply.Reply.TheVariants as reply
 use Rattle.event_spec.specs.Effects.{at_both, changes_of, with_empty}
 use Rattle.event_spec.specs.Lawful.{HasBlock}
 use Rattle.event_spec.specs.Parts.{CorePart, Parts, Shape, Name, HeadOf, ShardOf, BodyOf, blocks_of, body_at, body_from, changed, head_at, head_from, names, part_at}
-use Rattle.frame_laws.proofs.Makes.{head_is_there}
-use Rattle.frame_laws.specs.Shards.{CoreHolds}
+use Rattle.core_laws.proofs.Frames.Makes.{head_is_there}
+use Rattle.core_laws.specs.Frames.Shards.{CoreHolds}
 use Rattle.key_index.specs.Candidates.{Places}
-use Rattle.part_changes.proofs.Heads.{knowing_rests}
-use Rattle.sound_laws.proofs.Bodies.{and_parts, quiet_none}
+use Rattle.core_parts.proofs.Heads.{knowing_rests}
+use Rattle.core_laws.proofs.Sound.Bodies.{quiet_none}
 use Rattle.undo_chain.specs.declared.undo.Undo.{Undo}
 use Rattle.undo_chain.specs.Entry.{is_stamped_by}
 

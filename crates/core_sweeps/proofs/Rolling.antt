@@ -7,18 +7,19 @@ use Rattle.std.specs.List.{list_all, list_any}
 use Rattle.std.specs.FinMap as finite
 use Rattle.std.proofs.lemmas.List.Elements.{All-head, All-tail}
 use Rattle.std.proofs.lemmas.List.Folds.{list_any-append}
+use Rattle.std.proofs.lemmas.Bool.{and_from, cases_Bool, and_right}
 use Rattle.block_layout.specs.Place.{block_of, slot_of}
 use Rattle.block_spec.specs.Bodies.{Body, is_empty, is_writer, is_written_by, modified, rolled_back_in, slot_in}
 use Rattle.block_spec.specs.declared.change.Before.{Before}
 use Rattle.block_spec.specs.Slots.{Slot, bare, has_none, is_bare, rolled_back, writer_of}
-use Rattle.core_sweeps.specs.Steps.{is_left, is_rolled, is_undone, rolled, undone, undone_so_far, with_gain, without_bare}
-use Rattle.event_laws.proofs.Aborted.{rolled_slot}
-use Rattle.event_laws.proofs.ByKind.{rests_at, twice_at}
-use Rattle.event_laws.proofs.Lists.{member_below}
-use Rattle.event_laws.proofs.Naming.{body_is_there, body_there, follows_machine}
-use Rattle.event_laws.proofs.Owners.{all_slots}
-use Rattle.event_laws.proofs.Slots.{body_of, num, num_refl}
-use Rattle.event_laws.specs.Named.{FollowsMachine}
+use Rattle.core_sweeps.specs.SweepSteps.{is_left, is_rolled, is_undone, rolled, undone, undone_so_far, with_gain, without_bare}
+use Rattle.core_laws.proofs.Events.Aborted.{rolled_slot}
+use Rattle.core_laws.proofs.Events.ByKind.{rests_at, twice_at}
+use Rattle.core_laws.proofs.Events.Lists.{member_below}
+use Rattle.core_laws.proofs.Events.Naming.{body_is_there, body_there, follows_machine}
+use Rattle.core_laws.proofs.Events.Owners.{all_slots}
+use Rattle.core_laws.proofs.Events.Slots.{body_of, num, num_refl}
+use Rattle.core_laws.specs.Events.Named.{FollowsMachine}
 use Rattle.event_spec.specs.declared.own.OwnTransaction.{OwnTransaction}
 use Rattle.event_spec.specs.declared.part.Head.{Head}
 use Rattle.event_spec.specs.declared.part.Part.TheVariants as part
@@ -26,19 +27,19 @@ use Rattle.event_spec.specs.Effects.{after_abort, closed, kept_places, with_empt
 use Rattle.event_spec.specs.Lawful.{Among, HasBlock, HasTable, OwnsAll}
 use Rattle.event_spec.specs.Parts.{CorePart, Parts, Shape, Name, HeadOf, ShardOf, BodyOf, below, blocks_of, body_at, body_from, changed, desk_at, head_at, head_from, nothing, part_at, places_at, shard_from, shard_of, slot_at}
 use Rattle.event_spec.specs.Sound.{IsShape, Sound}
-use Rattle.frame_laws.proofs.Frames.{abort_stays, written_passes}
-use Rattle.frame_laws.proofs.Looks.{and_true, true_false}
-use Rattle.frame_laws.proofs.Makes.{head_is_there}
-use Rattle.frame_laws.proofs.Replies.{filter_same}
-use Rattle.frame_laws.specs.Shards.{ShardHolds, ShardsHold}
+use Rattle.core_laws.proofs.Frames.Frames.{abort_stays, written_passes}
+use Rattle.core_laws.proofs.Frames.Looks.{true_false}
+use Rattle.core_laws.proofs.Frames.Makes.{head_is_there}
+use Rattle.core_laws.proofs.Frames.Replies.{filter_same}
+use Rattle.core_laws.specs.Frames.Shards.{ShardHolds, ShardsHold}
 use Rattle.isolation_spec.specs.Contents.{PlaceMap, at_place, place_at}
 use Rattle.isolation_spec.specs.declared.place.Place.{Place}
 use Rattle.key_index.specs.Candidates.{Places, candidates_of}
-use Rattle.part_changes.proofs.Heads.{gains_go_on, knowing_rests, swept_knows}
-use Rattle.part_changes.proofs.Shards.{drops_go_on, sweep_rests, sweeps_agree}
-use Rattle.slot_laws.proofs.Endings.{rolled_back_other}
-use Rattle.slot_laws.proofs.Kept.{bool_cases, writer_filled}
-use Rattle.sound_laws.proofs.Fewer.{slots_lawful, unwritten}
+use Rattle.core_parts.proofs.Heads.{gains_go_on, knowing_rests, swept_knows}
+use Rattle.core_parts.proofs.Shards.{drops_go_on, sweep_rests, sweeps_agree}
+use Rattle.core_laws.proofs.Slots.Endings.{rolled_back_other}
+use Rattle.core_laws.proofs.Slots.Kept.{writer_filled}
+use Rattle.core_laws.proofs.Sound.Fewer.{slots_lawful, unwritten}
 use Rattle.undo_chain.specs.declared.undo.Undo.{Undo}
 use Rattle.undo_chain.specs.Entry.{is_move, is_own}
 use Rattle.undo_chain.specs.Lawful.{IsLawful, IsWriteOrStamped}
@@ -291,7 +292,7 @@ module _ (sh : Shape) (s : Parts) (shape : IsShape sh) (ok : Sound sh s) (shards
     body_step : (u b : ℕ) (x : Body) → part_at sh s (BodyOf u b) ≡ Some (part.Body x)
         → cond ((u == t) && (b == block_of p)) (rolled_back_in own.session (rolled own.session done u b x)) (rolled own.session done u b x)
         ≡ rolled own.session (done ++ (place_at t key, p) ∷ []) u b x
-    body_step u b x is = go (bool_cases (u == t)) (bool_cases (b == block_of p))
+    body_step u b x is = go (cases_Bool (u == t)) (cases_Bool (b == block_of p))
       where
         same_x : body_at sh s u b ≡ x
         same_x = ap body_from is
@@ -310,10 +311,6 @@ module _ (sh : Shape) (s : Parts) (shape : IsShape sh) (ok : Sound sh s) (shards
         and_none true b e = absurd (true_false e)
         and_none false b e = refl
 
-        and_last : (a b : Bool) → b ≡ false → (a && b) ≡ false
-        and_last true b e = e
-        and_last false b e = refl
-
         apart : (a b : ℕ) → (a == b) ≡ false → (b == a) ≡ false
         apart a b e = differs b a (λ same. true_false (sym (ap (λ y. a == y) same ∙ num_refl a) ∙ e))
 
@@ -322,16 +319,16 @@ module _ (sh : Shape) (s : Parts) (shape : IsShape sh) (ok : Sound sh s) (shards
             ≡ rolled own.session (done ++ (place_at t key, p) ∷ []) u b x
         go (inl a) (inl c) =
             let one = num u t a in let two = num b (block_of p) c in
-            ap (λ y. cond y (rolled_back_in own.session (rolled own.session done u b x)) (rolled own.session done u b x)) (and_true (u == t) (b == block_of p) a c)
+            ap (λ y. cond y (rolled_back_in own.session (rolled own.session done u b x)) (rolled own.session done u b x)) (and_from (u == t) (b == block_of p) a c)
             ∙ again (is_rolled done u b)
             ∙ sym (next ∙ ap (λ y. cond y (rolled_back_in own.session x) x)
-            (ap (λ y. is_rolled done u b || y) (and_true (t == u) (block_of p == b) (ap (λ y. t == y) one ∙ num_refl t) (ap (λ y. block_of p == y) two ∙ num_refl (block_of p))) ∙ or_true (is_rolled done u b)))
+            (ap (λ y. is_rolled done u b || y) (and_from (t == u) (block_of p == b) (ap (λ y. t == y) one ∙ num_refl t) (ap (λ y. block_of p == y) two ∙ num_refl (block_of p))) ∙ or_true (is_rolled done u b)))
           where
             again : (c : Bool) → rolled_back_in own.session (cond c (rolled_back_in own.session x) x) ≡ rolled_back_in own.session x
             again true = subst (λ (y : Body). rolled_back_in own.session (rolled_back_in own.session y) ≡ rolled_back_in own.session y) same_x
                 (rolled_once own.session (body_at sh s u b) (lawful_in u b (body_is_there sh s u b (part.Body x) is)))
             again false = refl
-        go (inl a) (inr c) = stay (and_last (u == t) (b == block_of p) c) (and_last (t == u) (block_of p == b) (apart b (block_of p) c))
+        go (inl a) (inr c) = stay (and_right (u == t) (b == block_of p) c) (and_right (t == u) (block_of p == b) (apart b (block_of p) c))
         go (inr a) c = stay (and_none (u == t) (b == block_of p) a) (and_none (t == u) (block_of p == b) (apart u t a))
 
     passing : (u r : ℕ) → ((t == u) && (p == r)) ≡ false → is_undone (done ++ (place_at t key, p) ∷ []) u r ≡ is_undone done u r
@@ -352,10 +349,6 @@ module _ (sh : Shape) (s : Parts) (shape : IsShape sh) (ok : Sound sh s) (shards
         alone : (b : ℕ) → ((t == u) && (block_of p == b)) ≡ false → is_rolled (done ++ (place_at t key, p) ∷ []) u b ≡ is_rolled done u b
         alone b e = rolled_after u b ∙ ap (λ c. is_rolled done u b || c) e ∙ or_none (is_rolled done u b)
 
-        and_last : (a b : Bool) → b ≡ false → (a && b) ≡ false
-        and_last true b e = e
-        and_last false b e = refl
-
         go : (c : Bool) → (u == t) ≡ c
             → cond (u == t) (with_gain (is_empty (rolled_back_in own.session (body_at sh s t (block_of p)))) (block_of p) ((undone_so_far sh s own.session done).head u x)) ((undone_so_far sh s own.session done).head u x)
             ≡ (undone_so_far sh s own.session (done ++ (place_at t key, p) ∷ [])).head u x
@@ -366,9 +359,9 @@ module _ (sh : Shape) (s : Parts) (shape : IsShape sh) (ok : Sound sh s) (shards
             (λ b. is_empty (rolled own.session done u b (body_at sh s u b))) (λ b. is_empty (rolled own.session (done ++ (place_at t key, p) ∷ []) u b (body_at sh s u b)))
             x (is_empty (rolled_back_in own.session (body_at sh s t (block_of p)))) inside
             (subst (λ u. block_of p < blocks_of sh u) (sym same) (block_is_there t key p there).1)
-            (λ b ne. ap (λ c. is_empty (cond c (rolled_back_in own.session (body_at sh s u b)) (body_at sh s u b))) (alone b (and_last (t == u) (block_of p == b) (differs (block_of p) b (λ k. ne (sym k))))))
+            (λ b ne. ap (λ c. is_empty (cond c (rolled_back_in own.session (body_at sh s u b)) (body_at sh s u b))) (alone b (and_right (t == u) (block_of p == b) (differs (block_of p) b (λ k. ne (sym k))))))
             (ap (λ c. is_empty (cond c (rolled_back_in own.session (body_at sh s u (block_of p))) (body_at sh s u (block_of p))))
-            (rolled_after u (block_of p) ∙ ap (λ c. is_rolled done u (block_of p) || c) (and_true (t == u) (block_of p == block_of p) (ap (λ y. t == y) same ∙ num_refl t) (num_refl (block_of p))) ∙ or_true (is_rolled done u (block_of p)))
+            (rolled_after u (block_of p) ∙ ap (λ c. is_rolled done u (block_of p) || c) (and_from (t == u) (block_of p == block_of p) (ap (λ y. t == y) same ∙ num_refl t) (num_refl (block_of p))) ∙ or_true (is_rolled done u (block_of p)))
             ∙ ap (λ u. is_empty (rolled_back_in own.session (body_at sh s u (block_of p)))) same)
             (λ em. subst (λ u. is_empty (rolled_back_in own.session (body_at sh s u (block_of p))) ≡ true) same (before (is_rolled done u (block_of p)) em))
           where
@@ -406,10 +399,6 @@ module _ (sh : Shape) (s : Parts) (shape : IsShape sh) (ok : Sound sh s) (shards
         rest none = sym (sweeps_agree i x (λ r. not (is_undone done u r && is_left sh s own.session u r)) (λ r. not (is_undone (done ++ (place_at t key, p) ∷ []) u r && is_left sh s own.session u r)) h
             (λ k r a. ap (λ b. not (b && is_left sh s own.session u r)) (passing u r (none k r a))))
 
-        and_last : (a b : Bool) → b ≡ false → (a && b) ≡ false
-        and_last true b e = e
-        and_last false b e = refl
-
         skip : ((u == t) && (i == shard_of key)) ≡ false
             → cond ((u == t) && (i == shard_of key)) (without_bare (is_bare (slot_in (rolled_back_in own.session (body_at sh s t (block_of p))) (slot_of p))) key p ((undone_so_far sh s own.session done).shard u i x)) ((undone_so_far sh s own.session done).shard u i x)
             ≡ (undone_so_far sh s own.session done).shard u i x
@@ -420,11 +409,11 @@ module _ (sh : Shape) (s : Parts) (shape : IsShape sh) (ok : Sound sh s) (shards
             ≡ (undone_so_far sh s own.session (done ++ (place_at t key, p) ∷ [])).shard u i x
         go true true a b =
             let same = num u t a in let mine = num i (shard_of key) b in
-            ap (λ c. cond c (without_bare (is_bare (slot_in (rolled_back_in own.session (body_at sh s t (block_of p))) (slot_of p))) key p ((undone_so_far sh s own.session done).shard u i x)) ((undone_so_far sh s own.session done).shard u i x)) (and_true (u == t) (i == shard_of key) a b)
+            ap (λ c. cond c (without_bare (is_bare (slot_in (rolled_back_in own.session (body_at sh s t (block_of p))) (slot_of p))) key p ((undone_so_far sh s own.session done).shard u i x)) ((undone_so_far sh s own.session done).shard u i x)) (and_from (u == t) (i == shard_of key) a b)
             ∙ loses i x (λ r. not (is_undone done u r && is_left sh s own.session u r)) (λ r. not (is_undone (done ++ (place_at t key, p) ∷ []) u r && is_left sh s own.session u r)) key p (is_left sh s own.session t p) h (sym mine)
             (both (is_undone done u p) (is_left sh s own.session u p) (ap (λ u. is_left sh s own.session u p) same) ∙ sym (now same))
             (now same)
-            (λ r ne. ap (λ b. not (b && is_left sh s own.session u r)) (passing u r (and_last (t == u) (p == r) (differs p r (λ k. ne (sym k))))))
+            (λ r ne. ap (λ b. not (b && is_left sh s own.session u r)) (passing u r (and_right (t == u) (p == r) (differs p r (λ k. ne (sym k))))))
             (λ k ne c. apart k same ne c)
           where
             both : (a b : Bool) {c : Bool} → b ≡ c → (not (a && b) && not c) ≡ not c
@@ -435,9 +424,9 @@ module _ (sh : Shape) (s : Parts) (shape : IsShape sh) (ok : Sound sh s) (shards
             now : u ≡ t → not (is_undone (done ++ (place_at t key, p) ∷ []) u p && is_left sh s own.session u p) ≡ not (is_left sh s own.session t p)
             now same =
                 ap (λ b. not (b && is_left sh s own.session u p))
-                (undone_after u p ∙ ap (λ b. is_undone done u p || b) (and_true (t == u) (p == p) (ap (λ y. t == y) same ∙ num_refl t) (num_refl p)) ∙ or_true (is_undone done u p))
+                (undone_after u p ∙ ap (λ b. is_undone done u p || b) (and_from (t == u) (p == p) (ap (λ y. t == y) same ∙ num_refl t) (num_refl p)) ∙ or_true (is_undone done u p))
                 ∙ ap (λ u. not (is_left sh s own.session u p)) same
-        go true false a b = skip (and_last (u == t) (i == shard_of key) b) ∙ rest (λ k r c. and_last (t == u) (p == r) (differs p r (λ same. far k r c same)))
+        go true false a b = skip (and_right (u == t) (i == shard_of key) b) ∙ rest (λ k r c. and_right (t == u) (p == r) (differs p r (λ same. far k r c same)))
           where
             far : (k : ℤ) (r : ℕ) → Among r (candidates_of x k) → p ≡ r → ⊥
             far k r c same =
@@ -495,13 +484,13 @@ module _ (sh : Shape) (s : Parts) (shape : IsShape sh) (ok : Sound sh s) (shards
       and_rest false b e = sym (ap not e)
 
       at : (k : ℤ) (p : ℕ) → Among p (places_at sh s t k) → not (is_undone own.writes t p && is_left sh s own.session t p) ≡ not (is_left sh s own.session t p)
-      at k p a = go (bool_cases (is_writer own.session (writer_of (slot_at sh s t p).entries)))
+      at k p a = go (cases_Bool (is_writer own.session (writer_of (slot_at sh s t p).entries)))
         where
           go : ((is_writer own.session (writer_of (slot_at sh s t p).entries) ≡ true) ⊎ (is_writer own.session (writer_of (slot_at sh s t p).entries) ≡ false))
               → not (is_undone own.writes t p && is_left sh s own.session t p) ≡ not (is_left sh s own.session t p)
           go (inl w) = and_left (is_undone own.writes t p) (is_left sh s own.session t p)
               (written_passes (λ u key r. (u == t) && (r == p)) own.writes t k p ((all_slots sh s ok own owns t k).all p a (writer_is (writer_of (slot_at sh s t p).entries) w))
-              (and_true (t == t) (p == p) (num_refl t) (num_refl p)))
+              (and_from (t == t) (p == p) (num_refl t) (num_refl p)))
           go (inr n) = and_rest (is_undone own.writes t p) (is_left sh s own.session t p)
               (ap is_bare (rolled_slot own.session (desk_at sh s).newest (desk_at sh s).commits (body_at sh s t (block_of p)) (slot_of p) (f.follows.slots t p)
               ∙ rolled_back_other own.session (slot_at sh s t p) (f.follows.slots t p).lawful (no_writer (writer_of (slot_at sh s t p).entries) n))

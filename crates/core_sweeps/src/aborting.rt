@@ -3,7 +3,7 @@ ghost use Rattle.std.specs.Prelude.{◌≡◌, length};
 ghost use Rattle.block_layout.specs.Place.{block_of};
 ghost use Rattle.block_spec.specs.Bodies.{rolled_back_in};
 ghost use Rattle.core_parts.specs.Hands.{Has, Makes, MayRun, after};
-ghost use Rattle.core_sweeps.specs.Steps.{IsUndone, body_changed, body_in, undone};
+ghost use Rattle.core_sweeps.specs.SweepSteps.{IsUndone, body_changed, body_in, undone};
 ghost use Rattle.event_spec.specs.declared.event.Event.TheVariants as event;
 ghost use Rattle.event_spec.specs.declared.reply.Reply.TheVariants as reply;
 ghost use Rattle.event_spec.specs.Parts.{HeadOf, ShardOf, BodyOf, names, shard_of};

@@ -5,7 +5,7 @@ ghost use Rattle.block_body.specs.Changes.{key_left};
 ghost use Rattle.block_body.specs.Keys.{HasKey};
 ghost use Rattle.block_spec.specs.Slots.{taken_back};
 ghost use Rattle.core_parts.specs.Hands.{Has, Makes, MayRun, after};
-ghost use Rattle.core_sweeps.specs.Steps.{AreDropped, body_changed, body_in, dropped_at};
+ghost use Rattle.core_sweeps.specs.SweepSteps.{AreDropped, body_changed, body_in, dropped_at};
 ghost use Rattle.event_spec.specs.declared.event.Event.TheVariants as event;
 ghost use Rattle.event_spec.specs.declared.reply.Reply.TheVariants as reply;
 ghost use Rattle.event_spec.specs.Parts.{ShardOf, BodyOf, names};

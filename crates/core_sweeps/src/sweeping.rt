@@ -4,16 +4,17 @@ ghost use Rattle.block_layout.specs.Place.{block_of, slot_of};
 ghost use Rattle.block_spec.specs.Bodies.{is_empty, slot_in};
 ghost use Rattle.block_spec.specs.Slots.{is_bare};
 ghost use Rattle.core_parts.specs.Hands.{Has, after};
-ghost use Rattle.core_sweeps.specs.Steps.{body_in, head_changed, shard_changed, with_gain};
-ghost use Rattle.core_sweeps.specs.Steps.{without_bare};
+ghost use Rattle.core_sweeps.specs.SweepSteps.{body_in, head_changed, shard_changed, with_gain};
+ghost use Rattle.core_sweeps.specs.SweepSteps.{without_bare};
 ghost use Rattle.event_spec.specs.Parts.{HeadOf, ShardOf, BodyOf, names, shard_of};
-ghost use Rattle.part_changes.specs.Heads.{gained};
-ghost use Rattle.part_changes.specs.Shards.{without_place};
+ghost use Rattle.core_parts.specs.Heads.{gained};
+ghost use Rattle.core_parts.specs.Shards.{without_place};
 
 use block_layout::SlotId;
-use core_parts::{CorePart, Shape, body, lay_head, lay_shard, shard_of, take_head, take_shard};
+use core_parts::{
+    CorePart, Shape, body, drop_place, lay_head, lay_shard, shard_of, take_head, take_shard,
+};
 use hall_rule::Hand;
-use part_changes::drop_place;
 
 /// Drops a candidate of a key from its shard.
 pub fn drop_candidate(shape: &Shape, held: &mut Hand<CorePart>, table: u32, key: i64, place: SlotId)

@@ -16,8 +16,8 @@ use Rattle.core_trials.specs.declared.own.Mark.{Mark}
 use Rattle.core_trials.specs.Trials.{IsKept, IsMarked, IsTrial, TrialState, behind_of, own_at, trial_table}
 use Rattle.engine_core.specs.Core.{IsOpening, MayOpen, is_memory}
 use Rattle.engine_core.specs.Laws.{holds_opening, rests_opening}
-use Rattle.event_laws.proofs.Naming.{follows_machine}
-use Rattle.event_laws.proofs.States.{desk_at_after}
+use Rattle.core_laws.proofs.Events.Naming.{follows_machine}
+use Rattle.core_laws.proofs.Events.States.{desk_at_after}
 use Rattle.event_spec.specs.declared.event.Event.TheVariants as event
 use Rattle.event_spec.specs.declared.event.MovePair.{MovePair}
 use Rattle.event_spec.specs.declared.own.OwnKey.{OwnKey}
@@ -31,13 +31,13 @@ use Rattle.event_spec.specs.Parts.{Parts, Shape, nothing, desk_at, body_at, is_h
 use Rattle.event_spec.specs.Replay.{after, reply_after}
 use Rattle.event_spec.specs.Replies.{CoreReply, reply_to}
 use Rattle.event_spec.specs.Sound.{Sound}
-use Rattle.frame_laws.proofs.Reached.{core_kept}
+use Rattle.core_laws.proofs.Frames.Reached.{core_kept}
 use Rattle.isolation_spec.specs.Contents.{key_of, place_at, place_of}
 use Rattle.isolation_spec.specs.declared.place.Place.{Place}
-use Rattle.own_laws.proofs.Going.{goes, stays}
-use Rattle.own_laws.specs.Laws.{HasOpened}
-use Rattle.part_laws.proofs.Lasting.{learns, outlives}
-use Rattle.run_laws.proofs.Opening.{desk}
+use Rattle.store_laws.proofs.Going.{goes, stays}
+use Rattle.store_laws.specs.OwnLaws.{HasOpened}
+use Rattle.core_laws.proofs.Parts.Lasting.{learns, outlives}
+use Rattle.core_laws.proofs.Logs.Opening.{desk}
 use Rattle.run_spec.specs.Opened.{own_behind, with_own}
 use Rattle.txn_desk.specs.Desk.{DeskState}
 use Rattle.txn_desk.specs.Oldest.{oldest_of}

@@ -19,8 +19,8 @@ use Rattle.event_spec.specs.Judged.{current_place}
 use Rattle.event_spec.specs.Lawful.{FitsTable, HasBlock, HasPlace, HasStamp, HasTable, IsImageOf, IsSession, IsThawed, NoPlaceTwice, OwnsAll}
 use Rattle.event_spec.specs.Parts.{Parts, Shape, blocks_of, body_at, places_at, slot_at, slots_of}
 use Rattle.isolation_spec.specs.Contents.{key_of}
-use Rattle.own_laws.proofs.Going.{keys}
-use Rattle.own_laws.specs.Laws.{HasOpened}
+use Rattle.store_laws.proofs.Going.{keys}
+use Rattle.store_laws.specs.OwnLaws.{HasOpened}
 use Rattle.run_spec.specs.Opened.{own_key}
 
 -- Two numbers that are equal as options are equal.

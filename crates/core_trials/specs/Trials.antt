@@ -5,7 +5,7 @@ use Rattle.block_layout.specs.Place.{block_of, slot_of}
 use Rattle.cell_model.specs.declared.column.Column.{Column}
 use Rattle.cell_model.specs.Schemas.{IsSchema}
 use Rattle.cell_model.specs.declared.table.TableDecl.{TableDecl}
-use Rattle.core_touches.specs.Keyed.{IsKeyed}
+use Rattle.core_parts.specs.Keyed.{IsKeyed}
 use Rattle.core_trials.specs.declared.own.Mark.{Mark}
 use Rattle.core_trials.specs.declared.own.Mark.TheVariants.{Opens, Stays, Writes, Closes}
 use Rattle.event_spec.specs.declared.event.MovePair.{MovePair}
@@ -14,9 +14,9 @@ use Rattle.event_spec.specs.Effects.{CoreEvent}
 use Rattle.event_spec.specs.Lawful.{IsLawful, IsOldest, session_of}
 use Rattle.event_spec.specs.Parts.{Parts, Shape, desk_at}
 use Rattle.event_spec.specs.Replies.{CoreReply}
-use Rattle.frame_laws.specs.Shards.{CoreHolds}
+use Rattle.core_laws.specs.Frames.Shards.{CoreHolds}
 use Rattle.isolation_spec.specs.Contents.{place_at}
-use Rattle.own_laws.specs.Laws.{HasOpened}
+use Rattle.store_laws.specs.OwnLaws.{HasOpened}
 use Rattle.run_spec.specs.Opened.{begun_by, own_behind, with_own}
 
 abbrev pub trial_table : List Column → ℕ → ℕ → TableDecl

@@ -9,9 +9,9 @@ ghost use Rattle.isolation_spec.specs.Contents.{key_of};
 
 use crate::own::Own;
 use crate::trial::Trial;
+use block_body::key_of;
 use cell_model::Row;
-use core_images::Gathered;
-use core_touches::key_of;
+use core_parts::Gathered;
 use event_spec::MovePair;
 use std::alloc::AllocError;
 use std::test::Fail;

@@ -13,4 +13,8 @@ pub use own::{Mark, Own};
 pub use trial::{Told, Trial};
 
 #[cfg(test)]
+mod heads;
+#[cfg(test)]
+mod marks;
+#[cfg(test)]
 mod tests;

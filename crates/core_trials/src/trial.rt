@@ -4,8 +4,7 @@ ghost use Rattle.core_trials.specs.Trials.{MayKeepUp, MayMake};
 
 use crate::own::{Mark, Own, renew};
 use cell_model::{Bytes, Schema, TableDecl};
-use core_images::Gathered;
-use core_touches::KeyedEvent;
+use core_parts::{Gathered, KeyedEvent};
 use engine_core::{Core, CoreReply};
 use event_spec::{Event, Reply};
 use hall_rule::Steps;

@@ -7,7 +7,7 @@ use Rattle.block_layout.specs.Place.{block_of, slot_of}
 use Rattle.block_spec.specs.Bodies.{Body, has_row, is_front, is_imaged, is_loose, rows_of}
 use Rattle.block_spec.specs.declared.phase.Phase.TheVariants.{Imaged, Loose, Sealed}
 use Rattle.block_spec.specs.Slots.{Row, Slot}
-use Rattle.core_images.proofs.Front.{front_rows}
+use Rattle.core_parts.proofs.Front.{front_rows}
 use Rattle.core_parts.proofs.Telling.{a_body, a_shard, body_is, body_there, places_are}
 use Rattle.core_parts.specs.Hands.{Has, Held, in_hand}
 use Rattle.engine_core.proofs.Wholes.{agrees, has_its_body, has_its_shard}
@@ -18,12 +18,12 @@ use Rattle.event_spec.specs.Judged.{current_place}
 use Rattle.event_spec.specs.Lawful.{Among, HasBlock, HasTable, IsImageOf, IsThawed}
 use Rattle.event_spec.specs.Parts.{Parts, Shape, ShardOf, BodyOf, body_at, body_from, places_at, shard_from, shard_of, slot_at}
 use Rattle.event_spec.specs.Sound.{BodyHolds}
-use Rattle.frame_laws.specs.Shards.{CoreHolds}
+use Rattle.core_laws.specs.Frames.Shards.{CoreHolds}
 use Rattle.hall_rule.specs.Hands.{Agrees}
-use Rattle.key_events.specs.Candidates.{candidates_in}
+use Rattle.core_events.specs.Candidates.{candidates_in}
 use Rattle.key_index.specs.Candidates.{candidates_of}
-use Rattle.key_judge.specs.Slots.{HasSlots}
-use Rattle.sound_laws.proofs.Written.{filled_there}
+use Rattle.core_events.specs.Slots.{HasSlots}
+use Rattle.core_laws.proofs.Sound.Written.{filled_there}
 
 -- the candidates are the core's
 candidates_by : (sh : Shape) (hand : Held) (t : ℕ) (key : ℤ) → Has sh hand (ShardOf t (shard_of key)) → (s : Parts) → Agrees hand s → places_at sh s t key ≡ candidates_in sh hand t key

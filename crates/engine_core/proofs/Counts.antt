@@ -1,21 +1,17 @@
 -- How many parts a core has.
-use Rattle.std.proofs.Common.{◌≡◌, ℕ, zero, suc, ◌+◌, ◌*◌, ◌^◌, ◌<◌, ◌≤◌, List, [], ◌∷◌, ◌++◌, map, length, unwrap_or, refl, ap, ◌∙◌, length-append, arith}
+use Rattle.std.proofs.Common.{◌≡◌, ℕ, zero, suc, ◌+◌, ◌*◌, ◌^◌, ◌<◌, ◌≤◌, List, [], ◌∷◌, ◌++◌, map, length, unwrap_or, ◌∙◌, length-append, arith}
 use Rattle.std.specs.Prelude.{All, option_map, slice_get}
-use Rattle.std.specs.List.{flat_map, range_with_len}
+use Rattle.std.specs.List.{flat_map}
 use Rattle.std.proofs.lemmas.List.{length-map}
 use Rattle.std.proofs.lemmas.List.Elements.{All-head, All-tail}
+use Rattle.std.proofs.lemmas.List.FromFn.{length-range_with_len}
 use Rattle.cell_model.specs.declared.table.TableDecl.{TableDecl}
 use Rattle.core_parts.specs.Numbers.{IsOfSize}
 use Rattle.event_spec.specs.Parts.{Name, HeadOf, ShardOf, BodyOf, TheDesk, Shape, below, blocks_of, names, tables_of}
 
--- A range has as many numbers as it is made with.
-range_long : (from n : ℕ) → length (range_with_len from n) ≡ n
-range_long from zero = refl
-range_long from (suc n) = ap suc (range_long (from + 1) n)
-
 -- There are as many names as the numbers that they are made of.
 named_long : (f : ℕ → Name) (n : ℕ) → length (map f (below n)) ≡ n
-named_long f n = length-map (below n) f ∙ range_long 0 n
+named_long f n = length-map (below n) f ∙ length-range_with_len 0 n
 
 -- Lists of at most so many names each are together at most as many times that.
 flat_few : (f : ℕ → List Name) (most : ℕ) (ts : List ℕ) → ((t : ℕ) → length (f t) ≤ most) → length (flat_map f ts) ≤ length ts * most
@@ -43,7 +39,7 @@ few_parts sh size =
     let shards = flat_few (λ t. map (ShardOf t) (below 8)) 8 (tables_of sh) (λ t. let e = named_long (ShardOf t) 8 in omega (arith, e)) in
     let bodies = flat_few (λ t. map (BodyOf t) (below (blocks_of sh t))) (2 ^ 10) (tables_of sh)
     (λ t. let e = named_long (BodyOf t) (blocks_of sh t) in let b = few_blocks sh.tables t size.blocks_few in omega (arith, e, b)) in
-    let long = range_long 0 n in
+    let long = length-range_with_len 0 n in
     let one = length-append (map HeadOf (tables_of sh)) (flat_map (λ t. map (ShardOf t) (below 8)) (tables_of sh)) in
     let two = length-append (map HeadOf (tables_of sh) ++ flat_map (λ t. map (ShardOf t) (below 8)) (tables_of sh)) (flat_map (λ t. map (BodyOf t) (below (blocks_of sh t))) (tables_of sh)) in
     let three = length-append (map HeadOf (tables_of sh) ++ flat_map (λ t. map (ShardOf t) (below 8)) (tables_of sh) ++ flat_map (λ t. map (BodyOf t) (below (blocks_of sh t))) (tables_of sh)) (TheDesk ∷ []) in

@@ -10,7 +10,7 @@ use Rattle.event_spec.specs.Parts.{Parts, Shape, names}
 use Rattle.event_spec.specs.declared.reply.Reply.TheVariants as reply
 use Rattle.event_spec.specs.declared.reply.WriteFault.{WriteFault}
 use Rattle.event_spec.specs.Replies.{CoreReply, reply_to, reply_to_write}
-use Rattle.frame_laws.specs.Shards.{CoreHolds}
+use Rattle.core_laws.specs.Frames.Shards.{CoreHolds}
 use Rattle.hall_rule.specs.Hands.{Agrees, SameRoom}
 
 module _ (sh : Shape) (e : CoreEvent) (old new : Held) (said : CoreReply) where

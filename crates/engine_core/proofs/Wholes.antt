@@ -13,11 +13,11 @@ use Rattle.event_spec.specs.Parts.{BodyOf, Changes, CorePart, Parts, Shape, Shar
 use Rattle.event_spec.specs.Replay.{opening}
 use Rattle.event_spec.specs.Replay as replay
 use Rattle.event_spec.specs.Replies.{CoreReply}
-use Rattle.event_laws.proofs.Naming.{at_name, body_named, shard_named}
-use Rattle.event_laws.proofs.Places.{shard_small}
+use Rattle.core_laws.proofs.Events.Naming.{at_name, body_named, shard_named}
+use Rattle.core_laws.proofs.Events.Places.{shard_small}
 use Rattle.event_spec.specs.Sound.{IsOfKind, IsShape}
-use Rattle.frame_laws.proofs.Reached.{core_kept, core_opens}
-use Rattle.frame_laws.specs.Shards.{CoreHolds}
+use Rattle.core_laws.proofs.Frames.Reached.{core_kept, core_opens}
+use Rattle.core_laws.specs.Frames.Shards.{CoreHolds}
 use Rattle.hall_rule.specs.Hands.{Agrees, Holds, all_in}
 
 -- the parts in a hand that has all of a state are the state

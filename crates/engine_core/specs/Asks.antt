@@ -7,9 +7,9 @@ use Rattle.event_spec.specs.Judged.{current_place}
 use Rattle.event_spec.specs.Lawful.{Among}
 use Rattle.event_spec.specs.Parts.{Parts, Shape, ShardOf, BodyOf, body_at, places_at, shard_of}
 use Rattle.event_spec.specs.Parts.{slot_at}
-use Rattle.frame_laws.specs.Shards.{CoreHolds}
+use Rattle.core_laws.specs.Frames.Shards.{CoreHolds}
 use Rattle.hall_rule.specs.Hands.{Agrees}
-use Rattle.key_events.specs.Candidates.{candidates_in}
+use Rattle.core_events.specs.Candidates.{candidates_in}
 
 -- The parts in a hand are those of a core that holds.
 pub record IsOfCore (shape : Shape) (hand : Held) : Type 0 where

@@ -8,7 +8,7 @@ use Rattle.core_parts.specs.Hands.{Held}
 use Rattle.event_spec.specs.Parts.{Parts, Shape}
 use Rattle.event_spec.specs.Replay.{opening}
 use Rattle.event_spec.specs.Sound.{IsShape}
-use Rattle.frame_laws.specs.Shards.{CoreHolds}
+use Rattle.core_laws.specs.Frames.Shards.{CoreHolds}
 use Rattle.hall_rule.specs.Hands.{all_in}
 
 -- the parts that lie in a hand, in order

@@ -3,8 +3,8 @@ use Rattle.std.proofs.Common.{◌≡◌, ℕ, None, sym, ap, subst, ◌∙◌}
 use Rattle.engine_core.specs.Core.{IsOpening}
 use Rattle.event_spec.specs.Lawful.{transaction}
 use Rattle.event_spec.specs.Parts.{Parts, Shape}
-use Rattle.frame_laws.specs.Shards.{CoreHolds}
-use Rattle.hall_laws.proofs.Meets.{starts}
+use Rattle.core_laws.specs.Frames.Shards.{CoreHolds}
+use Rattle.core_laws.proofs.Hall.Meets.{starts}
 
 pub holds_opening : (sh : Shape) (s : Parts) → IsOpening sh s → CoreHolds sh s
 holds_opening sh s is = subst (CoreHolds sh) (sym is.parts_are) (starts sh is.measures).0

@@ -4,16 +4,14 @@ ghost use Rattle.core_parts.specs.Hands.{Has};
 ghost use Rattle.engine_core.specs.Asks.{HasKeyParts, IsOfCore, imaged_block};
 ghost use Rattle.event_spec.specs.Lawful.{IsImageOf, IsThawed};
 ghost use Rattle.event_spec.specs.Parts.{Parts, BodyOf, body_at};
-ghost use Rattle.frame_laws.specs.Shards.{CoreHolds};
+ghost use Rattle.core_laws.specs.Frames.Shards.{CoreHolds};
 ghost use Rattle.hall_rule.specs.Hands.{Agrees};
 
 use block_spec::Phase;
-use core_images::Gathered;
-use core_parts::{CorePart, Shape, body};
+use core_events::{candidates, current};
+use core_parts::{CorePart, Gathered, Shape, body};
 use gather_core::gather_form;
 use hall_rule::Hand;
-use key_events::candidates;
-use key_judge::current;
 use std::alloc::AllocError;
 use std::thread::Threads;
 

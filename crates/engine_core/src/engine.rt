@@ -8,16 +8,14 @@ ghost use Rattle.event_spec.specs.Lawful.{FitsIn, IsOldest, Stands, Teaches, ses
 ghost use Rattle.event_spec.specs.Lawful.{takes_memory, transaction};
 ghost use Rattle.event_spec.specs.Replies.{reply_to};
 ghost use Rattle.event_spec.specs.Touched.{touching};
-ghost use Rattle.frame_laws.specs.Shards.{CoreHolds};
-ghost use Rattle.frame_laws.proofs.Order.{ascends};
-ghost use Rattle.hall_laws.proofs.Meets.{has_laws};
-ghost use Rattle.part_laws.proofs.Lasting.{learns};
+ghost use Rattle.core_laws.specs.Frames.Shards.{CoreHolds};
+ghost use Rattle.core_laws.proofs.Frames.Order.{ascends};
+ghost use Rattle.core_laws.proofs.Hall.Meets.{has_laws};
+ghost use Rattle.core_laws.proofs.Parts.Lasting.{learns};
 
 use crate::running::run;
 use block_body::Look;
-use core_images::{ReadRows, SharedRows};
-use core_parts::{CorePart, Shape};
-use core_touches::{KeyedEvent, next_touched, touches};
+use core_parts::{CorePart, KeyedEvent, ReadRows, Shape, SharedRows, next_touched, touches};
 use event_spec::Reply;
 use hall_rule::{Hand, Parts, Steps};
 use std::alloc::AllocError;

@@ -15,17 +15,13 @@ ghost use Rattle.hall_rule.specs.Hands.{Agrees};
 use crate::engine::CoreReply;
 use block_layout::SlotId;
 use cell_model::Row;
-use core_commits::commit;
-use core_events::{begin, observe, oldest, seal, thaw};
-use core_freezes::image;
-use core_images::Gathered;
-use core_moves::move_rows;
-use core_parts::{CorePart, Shape};
-use core_reads::{BlockRows, look, read};
-use core_sweeps::{abort, prune};
+use core_events::{
+    BlockRows, begin, delete, get, image, insert, look, observe, oldest, read, seal, thaw, update,
+};
+use core_parts::{CorePart, Gathered, Shape};
+use core_sweeps::{abort, commit, move_rows, prune};
 use event_spec::{Moves, OwnKey, OwnTransaction, Reply, WriteFault};
 use hall_rule::{Hand, Steps};
-use key_events::{delete, get, insert, update};
 use std::alloc::AllocError;
 use std::sync::ledger::Ledger;
 

@@ -4,7 +4,7 @@ ghost use Rattle.core_parts.specs.Hands.{MayRun};
 ghost use Rattle.engine_core.specs.Costs.{cost_of};
 ghost use Rattle.engine_core.specs.Runs.{Runs};
 ghost use Rattle.event_spec.specs.Parts.{Parts as CoreParts};
-ghost use Rattle.frame_laws.specs.Shards.{CoreHolds};
+ghost use Rattle.core_laws.specs.Frames.Shards.{CoreHolds};
 ghost use Rattle.hall_rule.specs.Hands.{Agrees};
 
 use crate::engine::CoreReply;
@@ -12,8 +12,7 @@ use crate::replies::{
     aborted, begun, committed, deleted, found, frozen, inserted, least_stamp, looked, moved,
     observed, pruned, rows_read, sealed, thawed, updated,
 };
-use core_parts::{CorePart, Shape};
-use core_touches::KeyedEvent;
+use core_parts::{CorePart, KeyedEvent, Shape};
 use event_spec::Event;
 use hall_rule::{Hand, Steps};
 use std::sync::ledger::Ledger;

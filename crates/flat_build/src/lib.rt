@@ -181,6 +181,3 @@ fn write_bytes(bytes: &mut [u8], at: usize, piece: &[u8])
 {
     bytes[at..at + piece.len()].copy_from_slice(piece);
 }
-
-#[cfg(test)]
-mod tests;

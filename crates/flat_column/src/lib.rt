@@ -6,6 +6,3 @@ mod number_list;
 
 pub use bit_list::{Bits, ones_among};
 pub use number_list::Fixed;
-
-#[cfg(test)]
-mod tests;

@@ -114,6 +114,3 @@ fn bytes_at(bytes: &[u8], place: u64, need: u64) -> Result<&[u8], FlatFault>
     }
     Ok(&bytes[start..start + length])
 }
-
-#[cfg(test)]
-mod tests;

@@ -6,6 +6,3 @@ mod column;
 mod values;
 
 pub use block::{gather, gather_form, gather_in_turn};
-
-#[cfg(test)]
-mod tests;

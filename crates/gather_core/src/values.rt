@@ -4,8 +4,8 @@ ghost use Rattle.std.specs.Prelude.{◌≡◌, ◌≤◌, ◌^◌, ◌++◌, IfO
 ghost use Rattle.std.specs.Int.{w32, to_le_bytes};
 ghost use Rattle.arrow_spec.specs.Arrays.{offsets, value_of};
 
+use arrow_array::add_u32;
 use block_columns::ColumnCells;
-use byteorder::{ByteOrder, LittleEndian};
 use std::alloc::{AllocError, Global};
 
 /// How many bytes are reserved for each value before the first is seen: those that stand in an
@@ -47,13 +47,4 @@ pub fn values(alloc: Global, column: &ColumnCells, n: usize) -> Result<VariableB
         offsets: starts,
         bytes,
     })
-}
-
-/// Adds a number of four bytes, the lowest first.
-fn add_u32(bytes: &mut Vec<u8>, number: u32) -> Result<(), AllocError>
-    ensures { OnOk result (bytes.new.items ≡ bytes.old.items ++ to_le_bytes w32 number) }
-{
-    let mut buffer = [0; 4];
-    LittleEndian::write_u32(&mut buffer, number);
-    bytes.extend_from_slice(&buffer)
 }

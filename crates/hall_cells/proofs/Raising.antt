@@ -1,21 +1,15 @@
 -- What becomes of the hand when a mark is raised.
-use Rattle.std.proofs.Common.{◌≡◌, ℕ, zero, suc, ◌+◌, ◌<◌, List, [], ◌∷◌, Option, None, Some, length, set, length-set, sym, ap, subst, ◌∙◌, arith}
+use Rattle.std.proofs.Common.{◌≡◌, ℕ, ◌+◌, List, Option, None, Some, length, set, length-set, sym, ap, subst, ◌∙◌}
 use Rattle.std.specs.Prelude.{slice_get, slice_index}
+use Rattle.std.proofs.lemmas.Option.{slice_get_within}
 use Rattle.hall_cells.specs.Laws.{index_of_get}
 use Rattle.hall_rule.specs.Hands.{Agrees, Holds, SameRoom}
 use Rattle.hall_rule.proofs.Lists.{by_cases, get_set_else, get_set_here}
 
-module _ {A : Type 0} where
-  -- A place at which a list has something is below its length.
-  get_below : (l : List A) (k : ℕ) (a : A) → slice_get l k ≡ Some a → k < length l
-  get_below [] k a e = absurd (cc)
-  get_below (x ∷ xs) zero a e = omega arith
-  get_below (x ∷ xs) (suc k) a e = let h : k < length xs = get_below xs k a e in omega (arith, h)
-
 -- a raised mark stands in the hand where it stood
 pub raise_room : (h h' : List (Option ℕ)) (p x y : ℕ) → slice_get h p ≡ Some (Some y) → h' ≡ set h p (Some x) → SameRoom h h'
 raise_room h h' p x y there is =
-    let lt = get_below h p (Some y) there in
+    let lt = slice_get_within h p (Some y) there in
     subst (SameRoom h) (sym is) (record {
       places = length-set h p (Some x);
       away = λ k none'. by_cases k p (slice_get (set h p (Some x)) k ≡ Some None)
@@ -29,10 +23,10 @@ raise_room h h' p x y there is =
 -- the hand agrees with the marks after the raise, and had the mark as it was before
 pub raise_meets : (h h' : List (Option ℕ)) (s : List ℕ) (p was by : ℕ) → Agrees h s → slice_get h p ≡ Some (Some was) → h' ≡ set h p (Some (was + by)) → Agrees h' (set s p (slice_index s p + by)) × (was ≡ slice_index s p)
 raise_meets h h' s p was by agrees there is =
-    let lt = get_below h p (Some was) there in
+    let lt = slice_get_within h p (Some was) there in
     let there' = agrees.1 p was there in
     let value : slice_index s p ≡ was = index_of_get s p was there' in
-    let low = get_below s p was there' in
+    let low = slice_get_within s p was there' in
     let t = set s p (slice_index s p + by) in (
       (
         ap length is ∙ (length-set h p (Some (was + by)) ∙ (agrees.0 ∙ sym (length-set s p (slice_index s p + by)))),

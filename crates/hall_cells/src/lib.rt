@@ -8,6 +8,3 @@ mod marks;
 pub use calls::{begin, end, join_and_raise, open, raise, raise_within};
 pub use deed::{Deed, Least};
 pub use marks::Marks;
-
-#[cfg(test)]
-mod tests;

@@ -1,6 +1,7 @@
 -- What the slots have when a hall is closed.
-use Rattle.std.proofs.Common.{◌≡◌, ℕ, zero, suc, ◌+◌, ◌<◌, List, [], ◌∷◌, Option, Some, length, get_or, sym, ap, ◌∙◌, arith}
+use Rattle.std.proofs.Common.{◌≡◌, ℕ, ◌+◌, ◌<◌, List, Option, Some, length, get_or, sym, ap, ◌∙◌, arith}
 use Rattle.std.specs.Prelude.{slice_get}
+use Rattle.std.proofs.lemmas.Option.{slice_get_within, get_or_from_slice_get}
 use lib.ListN.{get_elem?}
 use Rattle.atomic_table.specs.Table.{Final, Me, Seen}
 use Rattle.hall_rule.specs.EventLog.{replay}
@@ -10,21 +11,14 @@ use Rattle.hall_rule.specs.Meaning.{Meaning}
 use Rattle.hall_rule.specs.declared.view.View.{View}
 use Rattle.hall_rule.specs.Slots.{places_in, slot_of}
 use Rattle.hall_rule.proofs.Closes.{all_at, all_home, fourth_at, fourth_get, fourths-length, whole_log}
-use Rattle.hall_steps.proofs.Knowing.{get_below, some_is}
 use Rattle.hall_steps.specs.Hall.{Knows}
-
--- What is found in a list is what is had there, whatever stands for nothing.
-found_is : {A : Type 0} (xs : List A) (k : ℕ) (a d : A) → slice_get xs k ≡ Some a → get_or xs k d ≡ a
-found_is [] k a d e = absurd (cc)
-found_is (x ∷ xs) zero a d e = some_is x a e
-found_is (x ∷ xs) (suc k) a d e = found_is xs k a d e
 
 -- A place that some slots have stands in the slot of its part.
 pub place_at : {A : Type 0} (xs : List A) (k slot : ℕ) (place : A) → slot ≡ slot_of k → slice_get (places_in xs) k ≡ Some place → (slot < length xs) × ((d : A) → get_or xs slot d ≡ place)
 place_at xs k slot place is there =
     let here : slot_of k + 0 ≡ slot = omega (arith, is) in
     let found : slice_get xs slot ≡ Some place = ap (slice_get xs) (sym here) ∙ (sym (fourth_get 0 xs k) ∙ there) in
-    (get_below xs slot place found, λ d. found_is xs slot place d found)
+    (slice_get_within xs slot place found, λ d. get_or_from_slice_get xs slot place d found)
 
 -- When a pass has all hands and holds nothing, the places in the slots are the parts that its log
 -- leaves.

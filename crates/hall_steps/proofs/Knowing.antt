@@ -1,6 +1,7 @@
 -- What a pass knows after a take, a give and an event.
 use Rattle.std.proofs.Common.{◌≡◌, ◌≢◌, ℕ, zero, suc, ◌+◌, ◌*◌, ◌^◌, ◌<◌, ◌≤◌, Bool, true, false, cond, List, [], ◌∷◌, ◌++◌, Option, None, Some, length, set, refl, sym, ap, subst, ◌∙◌, ◌⊎◌, inl, inr, ⊎_elim, length-set, length-append, arith}
 use Rattle.std.specs.Prelude.{MatchBool, slice_get, slice_index}
+use Rattle.std.proofs.lemmas.Option.{slice_get_within}
 use Rattle.atomic_table.specs.Table.{Me}
 use Rattle.hall_rule.specs.EventLog.{after, has, own, replay}
 use Rattle.hall_rule.specs.HallInvariant.{hands_of, stage}
@@ -20,12 +21,6 @@ use Rattle.atomic_table.specs.declared.shared.Seat.{Seat}
 use Rattle.hall_steps.specs.Hall.{EndsWith, Extends, IsOf, IsSameSeat, Knows, Looks, LooksOn}
 
 module _ {A : Type 0} where
-  -- a place where something stands is within the list
-  pub get_below : (l : List A) (k : ℕ) (a : A) → slice_get l k ≡ Some a → k < length l
-  get_below [] k a e = absurd (cc)
-  get_below (x ∷ xs) zero a e = omega arith
-  get_below (x ∷ xs) (suc k) a e = let h : k < length xs = get_below xs k a e in omega (arith, h)
-
   -- what two `Some` hold is the same
   pub some_is : (a b : A) → Some a ≡ Some b → a ≡ b
   some_is a b e = cc
@@ -45,7 +40,7 @@ module _ {P : Type 0} where
   -- where two hands have the same parts, the later holds what the earlier does
   pub same_holds : (g h : List (Option P)) → SameRoom g h → (k : ℕ) → Holds h k → Holds g k
   same_holds g h same k held =
-      let lt = get_below h k (Some held.0) held.1 in
+      let lt = slice_get_within h k (Some held.0) held.1 in
       let n = same.places in
       ⊎_elim (λ e. not_none held.0 (Holds g k) (some_is (Some held.0) None (sym held.1 ∙ same.away k e))) (λ x. x) (place g k (omega (arith, lt, n)))
 
@@ -89,7 +84,7 @@ module _ {P E T F : Type 0} (M : Meaning P E T F) where
       let room2 : k < length (set v.stages k 1) = let m : length (set v.stages k 1) ≡ length v.stages = length-set v.stages k 1 in omega (arith, m, room1) in
       let here : stage w k ≡ 2 = stage_here (staged v k 1) k 2 room2 in
       let else : (i : ℕ) → i ≢ k → stage w i ≡ stage v i = λ (i : ℕ) ne. stage_else (staged v k 1) k 2 i ne ∙ stage_else v k 1 i ne in
-      let in_hand : k < length hand = get_below hand k None none' in (
+      let in_hand : k < length hand = slice_get_within hand k None none' in (
         record {
           none_out = refl;
           home = refl;
@@ -126,7 +121,7 @@ module _ {P E T F : Type 0} (M : Meaning P E T F) where
   -- a part left the hand
   pub gave : (id : ℕ) (v : View E) (hand : List (Option P)) (k : ℕ) (p : P) → Knows M id (v, []) hand → slice_get hand k ≡ Some (Some p) → Knows M id (given v k, []) (set hand k None)
   gave id v hand k p knows there =
-      let in_hand : k < length hand = get_below hand k (Some p) there in
+      let in_hand : k < length hand = slice_get_within hand k (Some p) there in
       let two : stage v k ≡ 2 = knows.held k (p, there) in
       let else : (i : ℕ) → i ≢ k → stage (given v k) i ≡ stage v i = λ (i : ℕ) ne. stage_else v k 0 i ne in
       let room : k < length v.stages = staged_below v.stages k two in

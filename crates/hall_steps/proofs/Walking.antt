@@ -1,6 +1,7 @@
 -- Taking the parts of an event one after another, each as the parts before it tell.
 use Rattle.std.proofs.Common.{◌≡◌, ◌≢◌, ℕ, ◌+◌, ◌<◌, ◌≤◌, ltb, Bool, true, List, [], ◌∷◌, ◌++◌, Option, None, Some, length, drop, set, refl, sym, ap, subst, ◌∙◌, ⊎_elim, true≢false, append-nil, append_assoc, ltb-false, ltb-true, arith}
 use Rattle.std.specs.Prelude.{slice_get}
+use Rattle.std.proofs.lemmas.Option.{slice_get_within}
 use Rattle.atomic_table.specs.Seated.{TableId}
 use Rattle.atomic_table.specs.declared.shared.Seat.{Seat}
 use Rattle.hall_rule.specs.EventLog.{Spares}
@@ -14,7 +15,6 @@ use Rattle.hall_rule.proofs.Lists.{bool_cases, by_cases, get_set_else, get_set_h
 use Rattle.hall_rule.proofs.Logs.{begins_more, rest_is, spares_append}
 use Rattle.hall_rule.proofs.Numbers.{has_append, has_cons}
 use Rattle.hall_steps.specs.Hall.{EachHand, IsPass, LooksOn, SeesMore, TookParts, first_of}
-use Rattle.hall_steps.proofs.Knowing.{get_below}
 
 -- What follows where a number is below another, and where it is not, follows anyway.
 below_or : (n m : ℕ) (Q : Type 0) → (n < m → Q) → (m ≤ n → Q) → Q
@@ -143,7 +143,7 @@ module _ {P : Type 0} where
       (λ e.
       let held' : Holds (set hand part None) part = subst (λ x. Holds x part) is (subst (Holds hand') e held) in
       let there = next.1 in
-      let f : Some (Some held'.0) ≡ Some None = sym held'.1 ∙ get_set_here hand part None (get_below hand part (Some there.0) there.1) in
+      let f : Some (Some held'.0) ≡ Some None = sym held'.1 ∙ get_set_here hand part None (slice_get_within hand part (Some there.0) there.1) in
       absurd (cc))
       (λ ne.
       let was : Holds hand k = (held.0, sym (get_set_else hand part k None ne) ∙ (ap (λ x. slice_get x k) (sym is) ∙ held.1)) in

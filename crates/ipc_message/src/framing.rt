@@ -1,10 +1,10 @@
 //! The bytes of a message before its body (Arrow columnar format, "Encapsulated message format").
-ghost use Rattle.std.specs.Prelude.{◌≡◌, ◌++◌, ◌<◌, ◌^◌, [], IfOk, OnOk, length};
+ghost use Rattle.std.specs.Prelude.{◌≡◌, ◌++◌, ◌<◌, ◌^◌, [], IfOk, length};
 ghost use Rattle.std.specs.Int.{w32, to_le_bytes};
 ghost use Rattle.arrow_spec.specs.Bytes.{padded};
 ghost use Rattle.arrow_spec.specs.Streams.{continuation};
 
-use byteorder::{ByteOrder, LittleEndian};
+use arrow_array::add_u32;
 use std::alloc::AllocError;
 
 /// Four bytes FF, the size of the metadata with its padding, and the metadata with its padding, in
@@ -23,13 +23,4 @@ pub fn framed(empty: Vec<u8>, metadata: &[u8], room: usize) -> Result<Vec<u8>, A
     bytes.extend_from_slice(metadata)?;
     bytes.resize(8 + size, 0)?;
     Ok(bytes)
-}
-
-/// Adds a number of four bytes, the lowest first.
-fn add_u32(bytes: &mut Vec<u8>, number: u32) -> Result<(), AllocError>
-    ensures { OnOk result (bytes.new.items ≡ bytes.old.items ++ to_le_bytes w32 number) }
-{
-    let mut buffer = [0; 4];
-    LittleEndian::write_u32(&mut buffer, number);
-    bytes.extend_from_slice(&buffer)
 }

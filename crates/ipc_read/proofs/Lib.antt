@@ -1,5 +1,7 @@
 mod BatchLemmas
+mod LookLemmas
 mod OffsetLemmas
 mod RangeLemmas
 pub mod ReadingLemmas
 mod ViewLemmas
+mod WholeLemmas

@@ -6,17 +6,22 @@ mod batch;
 mod bits;
 mod faults;
 mod frames;
+mod known;
+mod looking;
 mod message;
 mod offsets;
+mod pieces;
+mod reader;
 mod reading;
 mod schema;
 mod views;
+mod whole;
 
 pub use batch::Batch;
 pub use faults::NotRead;
+pub use known::Known;
 pub use message::{Next, next_batch};
+pub use pieces::{Whole, read_pieces};
+pub use reader::{Fed, Reader};
 pub use reading::{Reading, read};
 pub use schema::{SchemaMessage, first_schema};
-
-#[cfg(test)]
-mod tests;

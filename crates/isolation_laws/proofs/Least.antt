@@ -16,7 +16,7 @@ use Rattle.std.proofs.lemmas.Map.Views.{All-keys-insert_entry, list_any-from_Con
 use Rattle.cell_model.specs.declared.cell.Cell.{Cell}
 use Rattle.isolation_spec.specs.Contents.{place_cmp, WriteSet, key_of, place_at, place_of}
 use Rattle.isolation_spec.specs.declared.place.Place.{Place}
-use Rattle.outcome_spec.specs.Upkeep.{least_key}
+use Rattle.isolation_spec.specs.Contents.{least_key}
 use Rattle.isolation_laws.specs.Inserts.{has_key, writes_of, least_of}
 use Rattle.isolation_laws.proofs.Rows.{IsOf}
 

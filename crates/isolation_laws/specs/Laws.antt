@@ -9,7 +9,7 @@ use Rattle.cell_model.specs.declared.cell.Cell.{Cell}
 use Rattle.isolation_spec.specs.Contents.{place_cmp, at_place, History, laid_over, state_at}
 use Rattle.isolation_spec.specs.Contents.{contents_of, WriteSet, key_of, place_at, place_of}
 use Rattle.isolation_spec.specs.declared.place.Place.{Place}
-use Rattle.outcome_spec.specs.Upkeep.{least_key}
+use Rattle.isolation_spec.specs.Contents.{least_key}
 use Rattle.isolation_laws.specs.Inserts.{has_key, are_distinct, row_at, writes_of, history_of}
 use Rattle.isolation_laws.specs.Inserts.{state_after, all_rows, least_of}
 

@@ -1,5 +1,5 @@
 -- State of several tables as finite maps, and what write sets make of them.
-use Rattle.std.specs.Prelude.{ℕ, Bool, ◌==◌, List, [], ◌∷◌, ℤ, pos, take, fold, filter_map}
+use Rattle.std.specs.Prelude.{ℕ, Bool, ◌==◌, List, [], ◌∷◌, ℤ, pos, take, fold, filter_map, find, option_map}
 use Rattle.std.specs.Prelude.{if◌then◌else◌, Option, None, Some}
 use Rattle.std.specs.Ordering.{nat_cmp, int_cmp, ordering_then, is_eq}
 use Rattle.std.specs.declared.cmp.Ordering.{Ordering}
@@ -33,6 +33,11 @@ State = PlaceMap (List Cell)
 -- the row is gone.
 abbrev pub WriteSet : Type 0
 WriteSet = PlaceMap (Option (List Cell))
+
+-- The least key of the table in a write set.
+abbrev pub least_key : ℕ → WriteSet → Option ℤ
+least_key table writes = option_map (λ write. write.0.key)
+    (find (λ write. write.0.table == table) writes)
 
 -- The write sets of the commits that wrote, the first commit first; commit number 1 is the first.
 abbrev pub History : Type 0

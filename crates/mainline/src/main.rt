@@ -2,18 +2,8 @@
 //! prints the replies, and writes the export as an Arrow stream to the path.
 #![tactic(auto)]
 
-mod benching;
-mod checking;
-mod output;
-mod perform;
-mod status;
-#[cfg(test)]
-mod tests;
-mod words;
-
 use byte_ports::{FileOutlet, OpenGate, StdSink, StdSource};
-use perform::perform;
-use status::Status;
+use program::{Status, perform};
 use std::alloc::AllocError;
 use std::env;
 use std::io::ErrorKind;

@@ -7,8 +7,6 @@ ghost use Rattle.mark_index.specs.Lists.{marks_at, with_mark};
 
 mod behind;
 pub mod marks;
-#[cfg(test)]
-mod tests;
 
 use std::alloc::{AllocError, Global};
 use std::collections::BTreeMap;

@@ -5,10 +5,10 @@ use Rattle.std.proofs.lemmas.Bool.{and_parts, or_cases, eqb-true, ltb-true}
 use Rattle.workload_spec.specs.declared.reply.Who.{Who}
 use Rattle.workload_spec.specs.declared.reply.Who.TheVariants.{Session, Worker}
 use Rattle.outcome_spec.specs.Entries.{Entry, is_same}
-use Rattle.outcome_check.specs.Places.{Rises, is_ahead, is_earlier, is_in_front, is_up_to, is_up_to_own, own_end, own_start}
-use Rattle.outcome_check.specs.Sides.{is_own}
-use Rattle.outcome_check.proofs.Pieces.{parted-back, parted-front}
-use Rattle.outcome_check.proofs.Places.{front-parts, own-parts, same-is}
+use Rattle.order_laws.specs.Places.{Rises, is_ahead, is_earlier, is_in_front, is_up_to, is_up_to_own, own_end, own_start}
+use Rattle.order_laws.specs.Sides.{is_own}
+use Rattle.order_laws.proofs.Pieces.{parted-back, parted-front}
+use Rattle.order_laws.proofs.Places.{front-parts, own-parts, same-is}
 use Rattle.output_read.specs.Kept.{entries_of, entry_of}
 use Rattle.output_read.specs.declared.kept.KeptReply.{KeptReply as Kept}
 use Rattle.outcome_counts.specs.Asked.{IsAsked}

@@ -7,11 +7,11 @@ use Rattle.std.proofs.lemmas.List.{length-map, length-take-le, take-append-drop}
 use Rattle.std.proofs.lemmas.List.Sums.{count_by-le-length}
 use Rattle.workload_spec.specs.declared.reply.Who.{Who}
 use Rattle.outcome_spec.specs.Entries.{Entry, is_same}
-use Rattle.outcome_check.specs.Places.{Rises, is_earlier, is_in_front, is_up_to, is_up_to_own, own_end, own_start, round_end, round_start}
-use Rattle.outcome_check.specs.Sides.{is_past}
-use Rattle.outcome_check.proofs.Pieces.{Parted, all-weaker, count-append, count-none, parted-back, parted-front}
-use Rattle.outcome_check.proofs.Places.{Behind, Beside, Own, ahead-cases, earlier-itself, front-parts, own-parts, round-parts}
-use Rattle.outcome_check.proofs.Order.{same-itself}
+use Rattle.order_laws.specs.Places.{Rises, is_earlier, is_in_front, is_up_to, is_up_to_own, own_end, own_start, round_end, round_start}
+use Rattle.order_laws.specs.Sides.{is_past}
+use Rattle.order_laws.proofs.Pieces.{Parted, all-weaker, count-append, count-none, parted-back, parted-front}
+use Rattle.order_laws.proofs.Places.{Behind, Beside, Own, ahead-cases, earlier-itself, front-parts, own-parts, round-parts}
+use Rattle.order_laws.proofs.Order.{same-itself}
 use Rattle.output_read.specs.Kept.{entries_of, entry_of}
 use Rattle.output_read.specs.declared.kept.KeptReply.{KeptReply as Kept}
 use Rattle.outcome_counts.specs.Asked.{IsAsked, asked_at}

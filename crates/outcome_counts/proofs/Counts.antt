@@ -6,9 +6,9 @@ use Rattle.std.specs.Prelude.{is_some}
 use Rattle.std.proofs.lemmas.List.{length-append}
 use Rattle.std.proofs.lemmas.List.Sums.{count_by-le-length}
 use Rattle.outcome_spec.specs.Entries.{Entry, before, not_after}
-use Rattle.outcome_check.specs.Places.{Rises, round_start, own_start, own_end, round_end, between}
-use Rattle.outcome_check.proofs.Pieces.{count-append, count-cons, cut-between}
-use Rattle.outcome_check.proofs.Places.{by-places, os-at, at-oe, rs-os, oe-re}
+use Rattle.order_laws.specs.Places.{Rises, round_start, own_start, own_end, round_end, between}
+use Rattle.order_laws.proofs.Pieces.{count-append, count-cons, cut-between}
+use Rattle.order_laws.proofs.Places.{by-places, os-at, at-oe, rs-os, oe-re}
 use Rattle.mark_index.specs.Marks.{AreCounted, count_below}
 use Rattle.outcome_counts.specs.Asked.{count_before, count_not_after}
 use Rattle.outcome_counts.specs.Stretch.{stretch_of}

@@ -8,9 +8,9 @@ use Rattle.std.proofs.lemmas.Bool.Decides.{nat_tests}
 use Rattle.std.proofs.lemmas.List.{length-append, length-reverse, length-drop, length-map, reverse-append, take_at, drop_at, take-append-drop, get_or_default}
 use Rattle.workload_spec.specs.declared.reply.Who.{Who}
 use Rattle.outcome_spec.specs.Entries.{Entry, is_same, after}
-use Rattle.outcome_check.specs.Places.{Rises, is_ahead, is_earlier, is_up_to, is_up_to_own, own_end, round_end, between}
-use Rattle.outcome_check.proofs.Pieces.{front-reaches, parted-front, drop-between}
-use Rattle.outcome_check.proofs.Places.{Behind, Beside, Own, ahead-cases, rest-behind, at-oe, own-parts, by-places, earlier-not, earlier-itself, same-is}
+use Rattle.order_laws.specs.Places.{Rises, is_ahead, is_earlier, is_up_to, is_up_to_own, own_end, round_end, between}
+use Rattle.order_laws.proofs.Pieces.{front-reaches, parted-front, drop-between}
+use Rattle.order_laws.proofs.Places.{Behind, Beside, Own, ahead-cases, rest-behind, at-oe, own-parts, by-places, earlier-not, earlier-itself, same-is}
 use Rattle.mark_index.specs.Marks.{AreStarts, highest, most_below, own_below, part}
 use Rattle.mark_index.specs.declared.marks.Peak.{Peak}
 use Rattle.mark_index.proofs.Noted.{highest-append, highest-push}

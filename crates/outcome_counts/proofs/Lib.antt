@@ -12,3 +12,13 @@ pub mod Asked
 pub mod Numbered
 pub mod Later
 pub mod Shown
+pub mod Ordered
+pub mod Held
+pub mod Ended
+pub mod Cuts
+pub mod Written
+pub mod Committed
+pub mod Whose
+pub mod Totals
+pub mod Sums
+pub mod Upkeep

@@ -3,7 +3,7 @@ use Rattle.std.proofs.Common.{◌≡◌, ℕ, ◌+◌, ◌<◌, ◌≤◌, zero,
 use Rattle.std.specs.List.{list_all, count_by}
 use Rattle.std.proofs.lemmas.Bool.{and_parts, and_from}
 use Rattle.std.proofs.lemmas.List.{take-append-drop, length-take-le}
-use Rattle.outcome_check.proofs.Pieces.{Parted, all-take, count-append, count-cons, count-none, cut-between}
+use Rattle.order_laws.proofs.Pieces.{Parted, all-take, count-append, count-cons, count-none, cut-between}
 use Rattle.outcome_counts.proofs.Parts.{first-passes}
 
 module _ {X : Type 0} (p : X → Bool) where

@@ -3,7 +3,7 @@ use Rattle.std.proofs.Common.{◌≡◌, ℕ, ◌+◌, ◌<◌, zero, suc, Bool,
 use Rattle.std.specs.List.{list_all, count_by}
 use Rattle.std.specs.List.Sorted.{IsPartitionedBy}
 use Rattle.std.proofs.lemmas.Bool.{not-true}
-use Rattle.outcome_check.proofs.Pieces.{Parted, count-cons}
+use Rattle.order_laws.proofs.Pieces.{Parted, count-cons}
 use Rattle.mark_index.proofs.Noted.{all-get}
 
 -- where one behind passes, the first does

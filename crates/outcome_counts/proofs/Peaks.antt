@@ -7,8 +7,8 @@ use Rattle.std.proofs.lemmas.Bool.Decides.{nat_tests}
 use Rattle.std.proofs.lemmas.List.{length-map, get_or_default}
 use Rattle.outcome_spec.specs.Entries.{Entry, before, shown_in}
 use Rattle.outcome_spec.specs.Upkeep.{stamp_in}
-use Rattle.outcome_check.specs.Places.{round_start, own_start, between}
-use Rattle.outcome_check.proofs.Places.{by-places}
+use Rattle.order_laws.specs.Places.{round_start, own_start, between}
+use Rattle.order_laws.proofs.Places.{by-places}
 use Rattle.mark_index.specs.Marks.{ArePeaks, highest, most_below, own_below, part}
 use Rattle.mark_index.specs.declared.marks.Peak.{Peak}
 use Rattle.mark_index.proofs.Noted.{highest-append}

@@ -7,10 +7,10 @@ use Rattle.std.proofs.lemmas.Bool.Decides.{nat_tests}
 use Rattle.std.proofs.lemmas.List.{length-append}
 use Rattle.workload_spec.specs.declared.reply.Who.{Who}
 use Rattle.outcome_spec.specs.Entries.{Entry}
-use Rattle.outcome_check.specs.Places.{Rises, is_ahead, is_earlier, is_in_front, own_start}
-use Rattle.outcome_check.specs.Sides.{is_past}
-use Rattle.outcome_check.proofs.Pieces.{back-reaches, parted-back}
-use Rattle.outcome_check.proofs.Places.{Behind, Beside, Own, ahead-cases, rest-behind, os-at, front-parts}
+use Rattle.order_laws.specs.Places.{Rises, is_ahead, is_earlier, is_in_front, own_start}
+use Rattle.order_laws.specs.Sides.{is_past}
+use Rattle.order_laws.proofs.Pieces.{back-reaches, parted-back}
+use Rattle.order_laws.proofs.Places.{Behind, Beside, Own, ahead-cases, rest-behind, os-at, front-parts}
 use Rattle.mark_index.specs.Marks.{AreStarts}
 use Rattle.output_read.specs.Kept.{entries_of, entry_of}
 use Rattle.output_read.specs.declared.kept.KeptReply.{KeptReply}

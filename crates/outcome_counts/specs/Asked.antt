@@ -1,7 +1,7 @@
 -- A reply among kept ones that is judged, and counts about it.
 use Rattle.std.specs.Prelude.{◌≡◌, ℕ, ◌+◌, ◌-◌, ◌<◌, max, Bool, List, length, slice_index_or}
 use Rattle.outcome_spec.specs.Entries.{Entry}
-use Rattle.outcome_check.specs.Places.{Rises}
+use Rattle.order_laws.specs.Places.{Rises}
 use Rattle.mark_index.specs.Marks.{count_below, most_below, own_below}
 use Rattle.mark_index.specs.declared.marks.Peak.{Peak}
 use Rattle.output_read.specs.Kept.{entries_of, entry_of}

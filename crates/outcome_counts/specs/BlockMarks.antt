@@ -3,7 +3,7 @@ use Rattle.std.specs.Prelude.{◌≡◌, ℕ, Bool, List, slice_get}
 use Rattle.std.specs.Option.{option_map_or}
 use Rattle.std.specs.Ordering.{nat_cmp}
 use Rattle.outcome_spec.specs.Entries.{Entry}
-use Rattle.outcome_check.specs.Places.{own_start}
+use Rattle.order_laws.specs.Places.{own_start}
 use Rattle.mark_index.specs.Lists.{marks_at, with_mark}
 use Rattle.mark_index.specs.Marks.{AreCounted, ArePeaks, next_peak}
 use Rattle.outcome_counts.specs.Keys.{above_told, block_cmp, stamp_cmp, inserted_into, stamp_told}

@@ -2,7 +2,7 @@
 use Rattle.std.specs.Prelude.{ℕ, ◌-◌, ◌^◌, List, length, reverse, slice_get, is_some, Option}
 use Rattle.std.specs.Option.{option_map_or}
 use Rattle.outcome_spec.specs.Entries.{Entry, commit_in}
-use Rattle.outcome_check.specs.Places.{own_end}
+use Rattle.order_laws.specs.Places.{own_end}
 use Rattle.mark_index.specs.Lists.{with_mark}
 use Rattle.mark_index.specs.Marks.{ArePeaks, next_peak}
 use Rattle.mark_index.specs.declared.marks.Peak.{Peak}

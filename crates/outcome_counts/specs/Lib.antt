@@ -6,3 +6,9 @@ pub mod Blocks
 pub mod NumberMarks
 pub mod LaterCommits
 pub mod Numbers
+pub mod Openings
+pub mod Ends
+pub mod Written
+pub mod Commits
+pub mod Weights
+pub mod Prunes

@@ -1,7 +1,7 @@
 -- The places about a reply.
 use Rattle.std.specs.Prelude.{List}
 use Rattle.outcome_spec.specs.Entries.{Entry}
-use Rattle.outcome_check.specs.Places.{round_start, own_start, own_end, round_end}
+use Rattle.order_laws.specs.Places.{round_start, own_start, own_end, round_end}
 use Rattle.outcome_counts.specs.declared.stretch.Stretch.{Stretch}
 
 -- where its round begins, where its own of the round begin and end, and where the round ends

@@ -2,7 +2,7 @@
 ghost use Rattle.std.specs.Prelude.{◌≡◌, [], ℕ, IfOk, OnOk, length, option_map};
 ghost use Rattle.std.specs.List.Sorted.{IsNonDecreasingBy};
 ghost use Rattle.std.specs.Ordering.{nat_cmp};
-ghost use Rattle.outcome_check.specs.Places.{Rises};
+ghost use Rattle.order_laws.specs.Places.{Rises};
 ghost use Rattle.mark_index.specs.Lists.{marks_at, with_mark};
 ghost use Rattle.mark_index.specs.Marks.{next_peak};
 ghost use Rattle.output_read.specs.Kept.{entries_of, entry_of};

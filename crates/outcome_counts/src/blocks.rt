@@ -18,7 +18,7 @@ use crate::keys::{
 };
 use crate::stretch::Stretch;
 use cell_model::TableDecl;
-use output_read::KeptReply;
+use output_read::{KeptReply, blocks_at};
 
 /// Whether a seal is one line, which is not after a reply, and fewer freezes than its stamp are
 /// before.
@@ -41,16 +41,6 @@ pub fn slots_at(tables: &[TableDecl], table: u32) -> u32
 {
     match tables.get(table as usize) {
         Some(decl) => decl.slots,
-        None => 0,
-    }
-}
-
-/// How many blocks the table has.
-pub fn blocks_at(tables: &[TableDecl], table: u32) -> u32
-    ensures { result ≡ blocks_at tables.now table }
-{
-    match tables.get(table as usize) {
-        Some(decl) => decl.blocks,
         None => 0,
     }
 }

@@ -2,7 +2,7 @@
 ghost use Rattle.std.specs.Prelude.{◌≡◌, IfOk, OnOk, length};
 ghost use Rattle.std.specs.List.Sorted.{IsNonDecreasingBy};
 ghost use Rattle.outcome_spec.specs.Entries.{after};
-ghost use Rattle.outcome_check.specs.Places.{Rises};
+ghost use Rattle.order_laws.specs.Places.{Rises};
 ghost use Rattle.mark_index.specs.Marks.{highest};
 ghost use Rattle.output_read.specs.Kept.{entries_of};
 ghost use Rattle.output_read.specs.declared.kept.KeptReply.{KeptReply as Kept};

@@ -1,18 +1,24 @@
-//! What the replies of an output count: commit numbers, snapshots, and what is said of blocks.
+//! What the replies of an output count (commit numbers, snapshots, what is said of blocks), and its
+//! transactions with what they wrote, by the places of its replies.
 #![tactic(auto)]
 
 mod block_counts;
 mod block_marks;
 mod blocks;
+mod commits;
+pub mod ends;
 mod keys;
 mod later_commits;
 mod noting;
 mod number_marks;
 mod numbers;
+pub mod openings;
+pub mod prunes;
+pub mod spans;
 mod stretch;
 
 pub use block_marks::BlockMarks;
-pub use blocks::{blocks_at, slots_at};
+pub use blocks::slots_at;
 pub use keys::{Block, Stamp, commit_told, snapshot_told};
 pub use later_commits::LaterCommits;
 pub use noting::note_key;

@@ -2,7 +2,7 @@
 ghost use Rattle.std.specs.Prelude.{◌≡◌, [], IfOk, OnOk, length, ℕ, is_some};
 ghost use Rattle.std.specs.List.Sorted.{IsNonDecreasingBy};
 ghost use Rattle.std.specs.Ordering.{nat_cmp};
-ghost use Rattle.outcome_check.specs.Places.{Rises};
+ghost use Rattle.order_laws.specs.Places.{Rises};
 ghost use Rattle.mark_index.specs.Lists.{marks_at, with_mark};
 ghost use Rattle.output_read.specs.Kept.{entries_of, entry_of};
 ghost use Rattle.outcome_counts.specs.NumberMarks.{AreNumberMarks, IsNumbered, with_peak};

@@ -2,8 +2,8 @@
 ghost use Rattle.std.specs.Prelude.{◌≡◌, ◌+◌, ◌-◌, ◌<◌, IfSome, ◌≤◌, ◌^◌, drop, length, nat_le};
 ghost use Rattle.std.specs.Prelude.{not, slice_index_or, take, true};
 ghost use Rattle.std.specs.List.{list_all};
-ghost use Rattle.outcome_check.specs.Sides.{is_past};
-ghost use Rattle.outcome_check.specs.Places.{Rises, is_earlier, is_in_front, is_up_to_own};
+ghost use Rattle.order_laws.specs.Sides.{is_past};
+ghost use Rattle.order_laws.specs.Places.{Rises, is_earlier, is_in_front, is_up_to_own};
 ghost use Rattle.std.specs.List.Sorted.{IsNonDecreasing, IsNonDecreasingBy};
 ghost use Rattle.outcome_counts.specs.Asked.{IsAsked, count_before, count_not_after, peak_before};
 ghost use Rattle.output_read.specs.Kept.{entries_of, entry_of};

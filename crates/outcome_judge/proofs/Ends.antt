@@ -3,7 +3,7 @@ use Rattle.std.proofs.Common.{◌≡◌, ℕ, ◌+◌, ◌-◌, ◌<◌, ◌≤�
 use Rattle.std.specs.List.{list_all}
 use Rattle.std.proofs.lemmas.List.{take-take}
 use Rattle.std.proofs.lemmas.Bool.{and_left, and_right, and_from}
-use Rattle.outcome_check.proofs.Pieces.{all-both, all-take, all-weaker}
+use Rattle.order_laws.proofs.Pieces.{all-both, all-take, all-weaker}
 use Rattle.outcome_counts.specs.Asked.{IsAsked, asked_at}
 use Rattle.outcome_counts.specs.declared.stretch.Stretch.{Stretch}
 use Rattle.outcome_spec.specs.Entries.{Entry}

@@ -8,7 +8,7 @@ use Rattle.outcome_spec.specs.Entries.{Entry}
 use Rattle.outcome_spec.specs.Numbers.{commit_numbers_hold, snapshot_numbers_hold}
 use Rattle.outcome_spec.specs.Runs.{Run}
 use Rattle.outcome_spec.specs.Upkeep.{exports_hold, freezing_holds, full_holds, upkeep_holds}
-use Rattle.outcome_conflicts.specs.Conflicts.{heights_hold, numbers_hold}
+use Rattle.outcome_judge.specs.Conflicts.{heights_hold, numbers_hold}
 use Rattle.outcome_counts.specs.Asked.{asked_at}
 use Rattle.output_read.specs.Kept.{entries_of}
 use Rattle.output_read.specs.declared.kept.KeptReply.{KeptReply}

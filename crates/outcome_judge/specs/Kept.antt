@@ -4,8 +4,8 @@ use Rattle.outcome_spec.specs.Entries.{Entry}
 use Rattle.outcome_counts.specs.BlockMarks.{AreBlockMarks}
 use Rattle.outcome_counts.specs.LaterCommits.{AreLater}
 use Rattle.outcome_counts.specs.NumberMarks.{AreNumberMarks}
-use Rattle.outcome_spans.specs.Prunes.{ArePrunes}
-use Rattle.outcome_spans.specs.Written.{AreSpans}
+use Rattle.outcome_counts.specs.Prunes.{ArePrunes}
+use Rattle.outcome_counts.specs.Written.{AreSpans}
 use Rattle.outcome_judge.specs.declared.counts.Counts.{Counts}
 use Rattle.outcome_judge.specs.declared.shared.Shared.{Shared}
 

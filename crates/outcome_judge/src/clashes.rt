@@ -1,19 +1,21 @@
 //! Who else writes what a reply's transaction writes.
 ghost use Rattle.std.specs.Prelude.{◌≤◌, List, length};
 ghost use Rattle.cell_model.specs.declared.table.TableDecl.{TableDecl};
-ghost use Rattle.outcome_check.specs.Opened.{OpensOutside};
-ghost use Rattle.outcome_check.specs.Places.{Rises};
-ghost use Rattle.outcome_conflicts.specs.Conflicts.{heights_hold, numbers_hold, sessions_hold};
-ghost use Rattle.outcome_conflicts.specs.Rivals.{AreRivals};
-ghost use Rattle.outcome_conflicts.specs.Writers.{AreHeights, AreNumbered};
-ghost use Rattle.outcome_spans.specs.Written.{AreSpans};
+ghost use Rattle.order_laws.specs.Opened.{OpensOutside};
+ghost use Rattle.order_laws.specs.Places.{Rises};
+ghost use Rattle.outcome_judge.specs.Conflicts.{heights_hold, numbers_hold, sessions_hold};
+ghost use Rattle.outcome_judge.specs.Rivals.{AreRivals};
+ghost use Rattle.outcome_judge.specs.Writers.{AreHeights, AreNumbered};
+ghost use Rattle.outcome_counts.specs.Written.{AreSpans};
 ghost use Rattle.outcome_spec.specs.Runs.{run_of};
 ghost use Rattle.output_read.specs.Kept.{entries_of};
 ghost use Rattle.outcome_judge.specs.Judged.{EndsAt};
 
-use outcome_conflicts::{Heights, Numbers, Rivals, transaction_at};
+use crate::commits::{Heights, Numbers};
+use crate::rivals::Rivals;
+use crate::transactions::transaction_at;
+use outcome_counts::spans::Spans;
 use outcome_counts::stretch_behind;
-use outcome_spans::spans::Spans;
 use output_read::KeptReply;
 
 /// Where the first reply stands, in front of a place, that passes over a session or names a false

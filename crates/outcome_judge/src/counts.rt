@@ -1,7 +1,7 @@
 //! What is counted about a reply.
 ghost use Rattle.std.specs.Prelude.{◌≡◌, IfOk, length};
-ghost use Rattle.outcome_check.specs.Opened.{OpensOutside};
-ghost use Rattle.outcome_check.specs.Places.{Rises};
+ghost use Rattle.order_laws.specs.Opened.{OpensOutside};
+ghost use Rattle.order_laws.specs.Places.{Rises};
 ghost use Rattle.outcome_counts.specs.Asked.{IsAsked, IsJudgedBy};
 ghost use Rattle.outcome_counts.specs.NumberMarks.{AreNumberMarks};
 ghost use Rattle.outcome_spec.specs.Runs.{run_of};
@@ -11,8 +11,8 @@ ghost use Rattle.outcome_judge.specs.Kept.{AreCounts, AreShared};
 
 use crate::shared::Shared;
 use cell_model::TableDecl;
+use outcome_counts::prunes::Prunes;
 use outcome_counts::{LaterCommits, NumberMarks, Stretch, stretch_behind};
-use outcome_spans::prunes::Prunes;
 use output_read::KeptReply;
 use std::alloc::{AllocError, Global};
 

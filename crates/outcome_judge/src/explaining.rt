@@ -6,8 +6,8 @@ ghost use Rattle.outcome_judge.specs.Verdicts.{Explains};
 
 use crate::fault::ExplainFault;
 use crate::judge::unsound_line;
+use order_laws::reading_laws::{replies_that_are_read_open_outside, replies_that_are_read_rise};
 use output_read::read_output;
-use reading_laws::laws::{replies_that_are_read_open_outside, replies_that_are_read_rise};
 use std::alloc::Global;
 use workload_spec::Script;
 

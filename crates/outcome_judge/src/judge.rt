@@ -1,13 +1,13 @@
 //! Which reply is the first that is not sound.
 ghost use Rattle.std.specs.Prelude.{◌≡◌, ◌≤◌, IfOk, List, length, true};
 ghost use Rattle.cell_model.specs.declared.table.TableDecl.{TableDecl as TableValue};
-ghost use Rattle.outcome_check.specs.Opened.{OpensOutside};
-ghost use Rattle.outcome_check.specs.Places.{Rises};
-ghost use Rattle.outcome_conflicts.specs.Conflicts.{sessions_hold};
-ghost use Rattle.outcome_conflicts.specs.Writers.{IsWritten};
-ghost use Rattle.outcome_history.specs.Commits.{AreCommits};
-ghost use Rattle.outcome_history.specs.Own.{AreChanges};
-ghost use Rattle.outcome_spans.specs.Openings.{openings_in};
+ghost use Rattle.order_laws.specs.Opened.{OpensOutside};
+ghost use Rattle.order_laws.specs.Places.{Rises};
+ghost use Rattle.outcome_judge.specs.Conflicts.{sessions_hold};
+ghost use Rattle.outcome_judge.specs.Writers.{IsWritten};
+ghost use Rattle.outcome_judge.specs.Commits.{AreCommits};
+ghost use Rattle.outcome_judge.specs.Own.{AreChanges};
+ghost use Rattle.outcome_counts.specs.Openings.{openings_in};
 ghost use Rattle.outcome_spec.specs.Explained.{is_sound, unsound_line};
 ghost use Rattle.outcome_spec.specs.Runs.{commit_count, run_of};
 ghost use Rattle.output_read.specs.Kept.{are_told, entries_of};
@@ -15,14 +15,19 @@ ghost use Rattle.outcome_judge.specs.Judged.{EndsAt, commits_hold, conflicts_and
 ghost use Rattle.outcome_judge.specs.Judged.{views_hold};
 ghost use Rattle.outcome_judge.specs.Kept.{AreShared};
 
+use crate::changes::Changes;
 use crate::clashes::{heights_end, numbers_end, sessions_end};
+use crate::commits::{Heights, Numbers};
+use crate::committed::{CommitPlaces, Committed};
 use crate::counts::Counts;
+use crate::exports::Exports;
+use crate::rivals::Rivals;
 use crate::shared::Shared;
+use crate::sights::Sights;
 use crate::views::{accesses_end, exports_end};
+use crate::writers::Written;
 use cell_model::TableDecl;
-use outcome_conflicts::{Heights, Numbers, Rivals, Written};
 use outcome_counts::NumberMarks;
-use outcome_history::{Changes, CommitPlaces, Committed, Exports, Sights};
 use output_read::KeptReply;
 use std::alloc::{AllocError, Global};
 

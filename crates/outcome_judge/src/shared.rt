@@ -1,12 +1,12 @@
 //! What every judgement of a reply asks.
 ghost use Rattle.std.specs.Prelude.{◌≡◌, IfOk, length};
-ghost use Rattle.outcome_check.specs.Opened.{OpensOutside};
-ghost use Rattle.outcome_check.specs.Places.{Rises};
+ghost use Rattle.order_laws.specs.Opened.{OpensOutside};
+ghost use Rattle.order_laws.specs.Places.{Rises};
 ghost use Rattle.output_read.specs.Kept.{entries_of};
 ghost use Rattle.outcome_judge.specs.Kept.{AreShared};
 
 use outcome_counts::BlockMarks;
-use outcome_spans::spans::Spans;
+use outcome_counts::spans::Spans;
 use output_read::KeptReply;
 use std::alloc::{AllocError, Global};
 

@@ -2,15 +2,16 @@
 ghost use Rattle.std.specs.Prelude.{◌≡◌, ◌<◌, ◌≤◌, IfOk, List, length, true};
 ghost use Rattle.cell_model.specs.declared.table.TableDecl.{TableDecl};
 ghost use Rattle.outcome_counts.specs.Asked.{IsJudgedBy};
-ghost use Rattle.outcome_history.specs.Exports.{AreExports};
-ghost use Rattle.outcome_history.specs.Seen.{AreSights, IsOutput};
+ghost use Rattle.outcome_judge.specs.Exports.{AreExports};
+ghost use Rattle.outcome_judge.specs.Seen.{AreSights, IsOutput};
 ghost use Rattle.outcome_spec.specs.Runs.{run_of};
 ghost use Rattle.outcome_spec.specs.Upkeep.{exports_hold};
 ghost use Rattle.output_read.specs.Kept.{are_told, entries_of};
 ghost use Rattle.outcome_judge.specs.Judged.{EndsAt, accesses_hold};
 
+use crate::exports::Exports;
+use crate::sights::Sights;
 use outcome_counts::stretch_behind;
-use outcome_history::{Exports, Sights};
 use output_read::KeptReply;
 use std::alloc::{AllocError, Global};
 

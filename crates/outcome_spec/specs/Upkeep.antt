@@ -1,12 +1,12 @@
 -- What may be said of blocks: freezing, full tables, exports and upkeep.
 use Rattle.std.specs.Prelude.{ℕ, ◌+◌, ◌*◌, Bool, true, false, ◌&&◌, ◌==◌, nat_lt, nat_le, List}
-use Rattle.std.specs.Prelude.{length, find, count_by, sum, if◌then◌else◌, ℤ, Option, None, Some}
-use Rattle.std.specs.Prelude.{is_none, option_map}
+use Rattle.std.specs.Prelude.{length, count_by, sum, if◌then◌else◌, Option, None, Some}
+use Rattle.std.specs.Prelude.{is_none}
 use Rattle.std.specs.List.{list_all, range_with_len}
 use Rattle.std.specs.Option.{option_map_or}
 use Rattle.std.specs.Ordering.{int_eq}
 use Rattle.cell_model.specs.declared.table.TableDecl.{TableDecl}
-use Rattle.isolation_spec.specs.Contents.{state_at, contents_of, WriteSet}
+use Rattle.isolation_spec.specs.Contents.{least_key, state_at, contents_of}
 use Rattle.workload_spec.specs.declared.command.Command.{Command}
 use Rattle.workload_spec.specs.declared.command.Command.TheVariants as command
 use Rattle.workload_spec.specs.declared.reply.Said.{Said}
@@ -126,11 +126,6 @@ full_reply_holds run entry said.Memory = true
 -- Full tables.
 abbrev pub full_holds : Run → Entry → Bool
 full_holds run entry = full_reply_holds run entry entry.reply.said
-
--- the least key of the table in a write set
-abbrev pub least_key : ℕ → WriteSet → Option ℤ
-least_key table writes = option_map (λ write. write.0.key)
-    (find (λ write. write.0.table == table) writes)
 
 -- how many of the table's blocks have a line `frozen` among these
 abbrev pub frozen_blocks : List TableDecl → ℕ → List Entry → ℕ

@@ -39,10 +39,6 @@ use Rattle.output_read.proofs.Answering.{Answered, IsListed, answer-reply, each-
 pub absurdly : {A : Type 0} {a : A} → Some a ≡ None → ⊥
 absurdly h = let n : ⊥ = cc in n
 
--- what two `Some` hold is the same
-pub same-said : {A : Type 0} (a b : A) → Some a ≡ Some b → a ≡ b
-same-said a b h = cc
-
 -- ---- whom is answered
 
 -- those who are tested as the same are the same

@@ -8,6 +8,7 @@ use Rattle.cell_model.specs.declared.table.TableDecl.{TableDecl}
 use Rattle.std.specs.Prelude.{codes}
 use Rattle.std.proofs.lemmas.List.{length-map, length_push, take_at}
 use Rattle.std.proofs.Common.{length-append}
+use Rattle.std.proofs.lemmas.Option.{same_Some}
 use Rattle.cell_model.specs.declared.cell.Cell.{Cell}
 use Rattle.cell_model.specs.declared.column.Column.{Column}
 use Rattle.cell_model.specs.Rows.{fits}
@@ -50,7 +51,7 @@ use Rattle.output_read.specs.Kept.{entry_of, is_told, said_of}
 use Rattle.output_read.specs.Readers.{IsReading, FailsAt, read_by, lines_left, is_of, next_index}
 use Rattle.output_read.specs.Threads.{IsThread, NoCount, ThreadGoes, session_due}
 use Rattle.output_read.proofs.Fitting.{never}
-use Rattle.output_read.proofs.Keys.{absurdly, same-said, who-same, said_there, may, next, IsNarrow, matches, misses, alone}
+use Rattle.output_read.proofs.Keys.{absurdly, who-same, said_there, may, next, IsNarrow, matches, misses, alone}
 use Rattle.output_read.proofs.Scans.{scan-misses, scan-unbegun, scan-matches, scan-begun, rows_of}
 use Rattle.output_read.proofs.Names.{names-plain, tables-valid, command-listed, IsNoScan}
 use Rattle.output_read.proofs.Keeping.{Kept, read-more, still-reading, passes, fails-anew, fails-at, fails-end, next-index, within-more, index-few}
@@ -100,7 +101,7 @@ pub record Scans (within : Bool) (asked : Command) (table : ℕ) : Type 0 where
 
 -- a table is scanned only by a scan in a transaction
 pub scans : (within : Bool) (asked : Command) (table : ℕ) → scanned_by within asked ≡ Some table → Scans within asked table
-scans true (command.Scan of) table h = record { is_within = refl; is_scan = ap command.Scan (same-said of table h) }
+scans true (command.Scan of) table h = record { is_within = refl; is_scan = ap command.Scan (same_Some of table h) }
 scans false (command.Scan of) table h = absurd (absurdly (sym h))
 scans within _ table h = absurd (absurdly (sym h))
 
@@ -252,7 +253,7 @@ module _ (old : Reader) (thread : Thread) (asked : Command) (are : are_tables ol
   -- something else is said
   pub other-fails : (told : Said) → Some told ≡ said_first T thread.round who heading (lines_left old) → NoCount (scanned_by thread.within asked) (count_first thread.round who heading (lines_left old))
       → answers T thread.within asked told ≡ false → FailsAt old (due ∷ []) old.line
-  other-fails told is no_count cannot = single-fails (lines_left old) refl no_count (λ other other_is can. never (sym cannot ∙ ap (answers T thread.within asked) (same-said told other (is ∙ sym other_is)) ∙ can))
+  other-fails told is no_count cannot = single-fails (lines_left old) refl no_count (λ other other_is can. never (sym cannot ∙ ap (answers T thread.within asked) (same_Some told other (is ∙ sym other_is)) ∙ can))
 
   -- ---- a reply of one line is kept
 
@@ -368,7 +369,7 @@ module _ (old : Reader) (thread : Thread) (asked : Command) (are : are_tables ol
             let at : reply_at T E scan_due line behind ≡ None =
             scan-misses T are plain E thread.round thread.session table in_transaction (narrow-of (command.Scan table)) line behind no-memory
             (λ n is whole.
-            let same : count ≡ n = same-said count n (sym counted-there ∙ is) in
+            let same : count ≡ n = same_Some count n (sym counted-there ∙ is) in
             let short : length (rows_of T are plain E thread.round thread.session table n behind) ≡ many = ap (λ (m : ℕ). length (rows_of T are plain E thread.round thread.session table m behind)) (sym same) ∙ rows-many in
             omega (arith, whole, same, short, few)) in
             let begun : lines_begun T E scan_due line behind ≡ 1 + many =

@@ -4,6 +4,7 @@ use Rattle.std.proofs.Common.{◌≡◌, ℕ, ◌+◌, ◌≤◌, Bool, true, fa
 use Rattle.std.specs.Prelude.{if◌then◌else◌}
 use Rattle.std.specs.List.{flat_map, range_with_len}
 use Rattle.std.proofs.lemmas.List.{map-append}
+use Rattle.std.proofs.lemmas.Option.{same_Some}
 use Rattle.cell_model.specs.declared.table.TableDecl.{TableDecl}
 use Rattle.workload_spec.specs.declared.command.Command.{Command}
 use Rattle.workload_spec.specs.declared.command.Command.TheVariants as command
@@ -11,7 +12,7 @@ use Rattle.workload_spec.specs.declared.reply.Who.TheVariants.{Worker}
 use Rattle.outcome_spec.specs.Entries.{Entry}
 use Rattle.outcome_spec.specs.Forms.{Due, dues_to, further, line_count, lines_begun, is_seal_or_gather, next_line, reading, reply_at, scanned_by}
 use Rattle.output_read.proofs.Answering.{IsListed}
-use Rattle.output_read.proofs.Keys.{absurdly, same-said}
+use Rattle.output_read.proofs.Keys.{absurdly}
 use Rattle.output_read.proofs.Walks.{Reading, Late, late, late-less, late-first, late-last, further-assoc, further-self, next-more, either, passed, silenced}
 
 -- what a worker's step is due
@@ -98,7 +99,7 @@ module _ (tables : List TableDecl) (round worker : ℕ) where
           → (first_hit test steps ≡ Some found → Covers (reading tables (worker_dues steps ++ rest) earlier lines) (reading tables (worker_dues found ++ rest) earlier lines))
           → Covers (reading tables (worker_dues (asked ∷ steps) ++ rest) earlier lines) (reading tables (worker_dues found ++ rest) earlier lines)
       by true t later =
-          let same : steps ≡ found = same-said steps found (ap (λ (b : Bool). cond b (Some steps) (first_hit test steps)) (sym t) ∙ is) in
+          let same : steps ≡ found = same_Some steps found (ap (λ (b : Bool). cond b (Some steps) (first_hit test steps)) (sym t) ∙ is) in
           subst (λ (s : List Command). Covers (reading tables (worker_dues (asked ∷ steps) ++ rest) earlier lines) (reading tables (worker_dues s ++ rest) earlier lines)) same
           (covers-next asked (worker_dues steps ++ rest) quiet.0.0 earlier lines)
       by false t later =

@@ -4,6 +4,7 @@ use Rattle.std.specs.Prelude.{◌==◌, nat_lt}
 use Rattle.std.specs.List.{list_all}
 use Rattle.std.proofs.lemmas.Bool.{and_parts, ltb-true}
 use Rattle.std.proofs.lemmas.Bool.Decides.{nat_tests}
+use Rattle.std.proofs.lemmas.Option.{same_Some}
 use Rattle.cell_model.specs.declared.table.TableDecl.{TableDecl}
 use Rattle.workload_spec.specs.declared.command.Command.{Command}
 use Rattle.workload_spec.specs.declared.command.Command.TheVariants as command
@@ -21,7 +22,7 @@ use Rattle.output_read.specs.declared.turns.NextSteps.{NextSteps}
 use Rattle.output_read.specs.Answers.{answers_within}
 use Rattle.output_read.specs.Turns.{begins_anew, next_steps}
 use Rattle.output_read.proofs.Fitting.{never}
-use Rattle.output_read.proofs.Keys.{absurdly, same-said, said_there, said-is, one-text, reply_of, misses, next}
+use Rattle.output_read.proofs.Keys.{absurdly, said_there, said-is, one-text, reply_of, misses, next}
 use Rattle.output_read.proofs.Walks.{Reading, Late, late, missing, silenced, passed}
 use Rattle.output_read.proofs.Silences.{step_due, AreQuiet, worker_dues, reaches, steps-stop}
 use Rattle.output_read.proofs.Placing.{InTurn, from_next, left-quiet, quiet-next, entries_at}
@@ -229,7 +230,7 @@ module _ (tables : List TableDecl) (are : are_tables tables ≡ true) (names : N
             ∙ ap (outcome (steps.until == length tables)) (sym (ends line behind told is kind))
         of-kind told is false kind =
             stop-line (λ asked up other other_is can which.
-            let same : other ≡ told = same-said other told (sym other_is ∙ is) in
+            let same : other ≡ told = same_Some other told (sym other_is ∙ is) in
             elim which [
               | inl quiet ↦ never (sym (other-quiet tables asked quiet other (ap is_step_said same ∙ kind)) ∙ can)
               | inr compact ↦ never (sym (ap (λ (a : Command). not (is_silent other) && answers_within tables a other) compact.1 ∙ other-compact tables compact.0 other (ap is_step_said same ∙ kind)) ∙ can)

@@ -3,6 +3,7 @@ use Rattle.std.proofs.Common.{◌≡◌, ℕ, ◌+◌, ◌-◌, ◌^◌, ◌<◌
 use Rattle.std.specs.Prelude.{◌==◌, nat_lt}
 use Rattle.std.specs.List.{list_all, enumerate_from}
 use Rattle.std.proofs.lemmas.Bool.{and_parts, eq-eqb, lt-ltb, ltb-true, ltb-false, ne_eqb}
+use Rattle.std.proofs.lemmas.Option.{same_Some}
 use Rattle.cell_model.specs.declared.table.TableDecl.{TableDecl}
 use Rattle.workload_spec.specs.declared.command.Command.TheVariants as command
 use Rattle.workload_spec.specs.declared.reply.Who.TheVariants.{Worker}
@@ -24,7 +25,7 @@ use Rattle.output_read.specs.Readers.{IsReading, FailsAt, read_by, lines_left, r
 use Rattle.output_read.specs.Turns.{begins_anew, next_steps, next_table, one_more, after_memory, may_seal, may_gather}
 use Rattle.output_read.specs.Work.{IsFew, IsShift, ShiftGoes, StepKept, steps_behind, work_dues}
 use Rattle.output_read.proofs.Fitting.{never}
-use Rattle.output_read.proofs.Keys.{absurdly, same-said}
+use Rattle.output_read.proofs.Keys.{absurdly}
 use Rattle.output_read.proofs.Names.{names-plain, tables-valid}
 use Rattle.output_read.proofs.Keeping.{Kept, read-more, index-few}
 use Rattle.output_read.proofs.Passing.{adds-append, adds-none}
@@ -72,7 +73,7 @@ module _ (tables : List TableDecl) (round worker : ℕ) (valid : list_all is_tab
       by : (b : Bool) → nat_lt (steps.table + 1) (length tables) ≡ b → cond b (Some (record { table = steps.table + 1; block = 0; sealed = false; until = one_more tables steps.until })) None ≡ Some after → In after
       by true t e =
           let few = ltb-true (steps.table + 1) (length tables) t in
-          subst In (same-said _ after e) (record {
+          subst In (same_Some _ after e) (record {
             table = few;
             behind = grows steps is few;
             until = more-until steps.until is.until;
@@ -89,7 +90,7 @@ module _ (tables : List TableDecl) (round worker : ℕ) (valid : list_all is_tab
           → cond b (Some (record { table = steps.table; block = steps.block + 1; sealed = false; until = one_more tables steps.until })) (next_table tables steps) ≡ Some after → In after
       by true t e =
           let few = ltb-true steps.block (blocks_at tables steps.table) t in
-          subst In (same-said _ after e) (record {
+          subst In (same_Some _ after e) (record {
             table = is.table;
             behind = let a = is.behind in let b = more-least steps.until in omega (arith, a, b);
             until = more-until steps.until is.until;
@@ -112,14 +113,14 @@ module _ (tables : List TableDecl) (round worker : ℕ) (valid : list_all is_tab
   seal-in : (steps after : NextSteps) (table block : ℕ) (b : Bool) → may_seal tables steps table block ≡ b → cond b (Some (record { table = table; block = block; sealed = true; until = table + 1 })) None ≡ Some after → In after
   seal-in steps after table block true t e =
       let few = ltb-true block (blocks_at tables table) (and_parts (nat_lt block (blocks_at tables table)) _ t).0 in
-      subst In (same-said _ after e) (one-in table block true block few (omega (arith, few)) (λ f. few))
+      subst In (same_Some _ after e) (one-in table block true block few (omega (arith, few)) (λ f. few))
   seal-in steps after table block false t e = absurd (absurdly (sym e))
 
   -- The steps behind a block's gathering are steps of the turn.
   gather-in : (steps after : NextSteps) (table block : ℕ) (b : Bool) → may_gather tables steps table block ≡ b → cond b (Some (record { table = table; block = block + 1; sealed = false; until = table + 1 })) None ≡ Some after → In after
   gather-in steps after table block true t e =
       let few = ltb-true block (blocks_at tables table) (and_parts (nat_lt block (blocks_at tables table)) _ t).0 in
-      subst In (same-said _ after e) (one-in table block false (block + 1) few (omega (arith, few)) (λ f. absurd (never f)))
+      subst In (same_Some _ after e) (one-in table block false (block + 1) few (omega (arith, few)) (λ f. absurd (never f)))
   gather-in steps after table block false t e = absurd (absurdly (sym e))
 
   -- the steps behind one that was said are steps of the turn

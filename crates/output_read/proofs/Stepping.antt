@@ -5,6 +5,7 @@ use Rattle.std.specs.List.{list_all}
 use Rattle.std.specs.Option.{option_map_or}
 use Rattle.std.proofs.lemmas.Bool.{eqb-true, eq-eqb, ne_eqb, ltb-true, ltb-false}
 use Rattle.std.proofs.lemmas.Slice.Eq.{bytes_eq-Decides}
+use Rattle.std.proofs.lemmas.Option.{same_Some}
 use Rattle.cell_model.specs.declared.table.TableDecl.{TableDecl}
 use Rattle.workload_spec.specs.declared.command.Command.{Command}
 use Rattle.workload_spec.specs.declared.command.Command.TheVariants as command
@@ -31,7 +32,7 @@ use Rattle.output_read.specs.Answers.{answers_within, answers_without}
 use Rattle.output_read.specs.Turns.{begins_turn, begins_anew}
 use Rattle.output_read.proofs.Fitting.{never}
 use Rattle.output_read.proofs.Answering.{IsListed}
-use Rattle.output_read.proofs.Keys.{same-said, said_there, may, next, IsNarrow, matches, misses}
+use Rattle.output_read.proofs.Keys.{said_there, may, next, IsNarrow, matches, misses}
 use Rattle.output_read.proofs.Walks.{Reading, failed}
 use Rattle.output_read.proofs.Scans.{scan_text}
 use Rattle.output_read.proofs.Silences.{step_due, first_hit, blocks_of, AllQuiet, from_steps, beyond, beyond-is, NoneHit, one-here, one-later, one-none, all-none}
@@ -178,7 +179,7 @@ module _ (tables : List TableDecl) (are : are_tables tables ≡ true) (names : N
       pub missed : (asked : Command) → ((words others : List (List ℕ)) → IsListed tables words others asked) → says asked ≡ false → reply_at tables earlier (due_of asked) line behind ≡ None
       missed asked listed h =
           misses tables are earlier (due_of asked) (narrow asked) line behind (λ up. listed (drop 3 (words_in line)) behind)
-          (λ other is can. never (sym h ∙ ap says_of (same-said told other (sym spoken ∙ is)) ∙ can))
+          (λ other is can. never (sym h ∙ ap says_of (same_Some told other (sym spoken ∙ is)) ∙ can))
         where
           says_of : Said → Bool
           says_of s = may tables are earlier (due_of asked) s

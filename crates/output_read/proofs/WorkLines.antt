@@ -3,6 +3,7 @@ use Rattle.std.proofs.Common.{◌≡◌, ℕ, ◌+◌, ◌^◌, ◌<◌, Bool, t
 use Rattle.std.specs.Prelude.{◌==◌}
 use Rattle.std.specs.Option.{option_map_or}
 use Rattle.std.proofs.lemmas.Bool.{and_from, and_parts, eq-eqb, lt-ltb}
+use Rattle.std.proofs.lemmas.Option.{same_Some}
 use Rattle.cell_model.specs.declared.table.TableDecl.{TableDecl}
 use Rattle.workload_spec.specs.declared.command.Command.{Command}
 use Rattle.workload_spec.specs.declared.command.Command.TheVariants as command
@@ -27,7 +28,7 @@ use Rattle.output_read.specs.Readers.{IsReading, FailsAll, read_by, lines_left, 
 use Rattle.output_read.specs.Work.{IsShift, IsSpoken, StepRead, work_dues}
 use Rattle.output_read.proofs.Fitting.{never}
 use Rattle.output_read.proofs.Answering.{IsListed}
-use Rattle.output_read.proofs.Keys.{absurdly, same-said, who-same, said_there, may, next, IsNarrow, matches, misses, alone, chosen-scanned}
+use Rattle.output_read.proofs.Keys.{absurdly, who-same, said_there, may, next, IsNarrow, matches, misses, alone, chosen-scanned}
 use Rattle.output_read.proofs.Names.{names-plain, tables-valid}
 use Rattle.output_read.proofs.Keeping.{Kept, read-more, still-reading, passes-all, fails-at, fails-end, next-index, index-few}
 use Rattle.output_read.proofs.Passing.{adds-one}
@@ -224,7 +225,7 @@ module _ (old : Reader) (shift : Shift) (are : are_tables old.tables.now ≡ tru
 
     -- a step that has a line in any case fails where the next line says what does not answer it
     pub work-other : (told : Said) → Some told ≡ said_first T shift.round who heading (lines_left old) → answers T true asked told ≡ false → FailsAll old (work_dues shift (asked ∷ [])) old.line
-    work-other told is cannot = work-fails (lines_left old) refl (λ other other_is can. never (sym cannot ∙ ap (answers T true asked) (same-said told other (is ∙ sym other_is)) ∙ can))
+    work-other told is cannot = work-fails (lines_left old) refl (λ other other_is can. never (sym cannot ∙ ap (answers T true asked) (same_Some told other (is ∙ sym other_is)) ∙ can))
 
     -- what answers a step stands on one line
     pub work-single : (told : Said) → answers T true asked told ≡ true → is_single told ≡ true

@@ -11,6 +11,8 @@ mod sessions;
 mod turns;
 mod workers;
 
+pub use answers::key_of;
 pub use fault::ReadFault;
 pub use kept::{Exported, KeptReply, Told, narrow};
 pub use rounds::read_output;
+pub use turns::blocks_at;

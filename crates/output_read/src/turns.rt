@@ -98,7 +98,7 @@ fn after_memory(tables: &[TableDecl], steps: NextSteps) -> Option<NextSteps>
 }
 
 /// How many blocks the table has.
-fn blocks_at(tables: &[TableDecl], table: u32) -> u32
+pub fn blocks_at(tables: &[TableDecl], table: u32) -> u32
     ensures { result ≡ blocks_at tables.now table }
 {
     match tables.get(table as usize) {

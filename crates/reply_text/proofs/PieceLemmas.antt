@@ -3,9 +3,9 @@ use Rattle.std.proofs.Common.{◌≡◌, ℕ, Bool, true, false, List, [], ◌�
 use Rattle.std.specs.Prelude.{◌==◌, not, Option, Some, None, option_map, bytes_eq, if◌then◌else◌}
 use Rattle.std.specs.List.{list_all}
 use Rattle.std.proofs.lemmas.List.{take-append-drop}
-use Rattle.std.proofs.lemmas.Bool.{eq-eqb, eqb-true, ltb-true, ne_eqb}
+use Rattle.std.proofs.lemmas.Bool.{eq-eqb, eqb-true, ltb-true, ne_eqb, and_parts, not-true}
 use Rattle.workload_spec.specs.Words.{space}
-use Rattle.workload_laws.proofs.Lists.{both, joined, not_true}
+use Rattle.workload_laws.proofs.Lists.{joined}
 use Rattle.workload_laws.proofs.Results.{eq_of}
 use Rattle.workload_laws.proofs.Apart.{is_plain}
 use Rattle.reply_text.specs.Readers.{◌>>=◌, where_true, behind, cut}
@@ -50,13 +50,13 @@ cut_is separator (byte ∷ bytes) parts e = by (byte == separator) refl (λ p at
 pub cut_back : (separator : ℕ) (word rest : List ℕ) → list_all (λ byte. not (byte == separator)) word ≡ true → cut separator (word ++ separator ∷ rest) ≡ Some (word, rest)
 cut_back separator [] rest all = rw (eq-eqb separator separator refl) refl
 cut_back separator (byte ∷ bytes) rest all =
-    let b = both (not (byte == separator)) (list_all (λ byte. not (byte == separator)) bytes) all in
-    rw (not_true (byte == separator) b.0, cut_back separator bytes rest b.1) refl
+    let b = and_parts (not (byte == separator)) (list_all (λ byte. not (byte == separator)) bytes) all in
+    rw (not-true (byte == separator) b.0, cut_back separator bytes rest b.1) refl
 
 -- no space stands among plain bytes
 pub plain_apart : (word : List ℕ) → list_all is_plain word ≡ true → list_all (λ byte. not (byte == space)) word ≡ true
 plain_apart [] all = refl
 plain_apart (byte ∷ bytes) all =
-    let b = both (is_plain byte) (list_all is_plain bytes) all in
+    let b = and_parts (is_plain byte) (list_all is_plain bytes) all in
     let n : byte == 32 ≡ false = ne_eqb byte 32 (λ e. omega (arith, e, ltb-true 34 byte b.0)) in
     joined (ap not n) (plain_apart bytes b.1)

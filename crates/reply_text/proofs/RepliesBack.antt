@@ -2,14 +2,13 @@
 use Rattle.std.proofs.Common.{◌≡◌, ℕ, true, false, List, [], ◌∷◌, ◌++◌, refl, sym, ap, ◌∙◌, arith, append_assoc}
 use Rattle.std.specs.Prelude.{◌&&◌, ◌==◌, Option, Some, None, option_map, codes, decimal}
 use Rattle.std.specs.List.{list_all}
-use Rattle.std.proofs.lemmas.Bool.{ne_eqb}
+use Rattle.std.proofs.lemmas.Bool.{ne_eqb, and_parts}
 use Rattle.cell_model.specs.declared.table.TableDecl.{TableDecl}
 use Rattle.workload_spec.specs.declared.reply.ReplyLine.{ReplyLine}
 use Rattle.workload_spec.specs.declared.reply.Who.{Who}
 use Rattle.workload_spec.specs.declared.reply.Who.TheVariants.{Session, Worker}
 use Rattle.workload_spec.specs.Words.{spaced, lines_text}
 use Rattle.workload_spec.specs.ReplyText.{said_words, lines_behind, who_text, reply_text}
-use Rattle.workload_laws.proofs.Lists.{both}
 use Rattle.workload_laws.proofs.Apart.{is_plain, is_whole, whole_append}
 use Rattle.workload_laws.proofs.Numbers.{Begins, decimal_begins}
 use Rattle.reply_text.specs.Shown.{is_u32, is_u64, is_who, is_said, is_reply, are_tables}
@@ -49,9 +48,9 @@ record AreReply (tables : List TableDecl) (reply : ReplyLine) : Type 0 where
 -- A reply over tables has a round, someone, an index and words that fit.
 reply_parts : (tables : List TableDecl) (reply : ReplyLine) → is_reply tables reply ≡ true → AreReply tables reply
 reply_parts tables reply fits =
-    let b = both (is_u32 reply.round && is_who reply.who && is_u64 reply.index) (is_said tables reply.said) fits in
-    let c = both (is_u32 reply.round && is_who reply.who) (is_u64 reply.index) b.0 in
-    let d = both (is_u32 reply.round) (is_who reply.who) c.0 in
+    let b = and_parts (is_u32 reply.round && is_who reply.who && is_u64 reply.index) (is_said tables reply.said) fits in
+    let c = and_parts (is_u32 reply.round && is_who reply.who) (is_u64 reply.index) b.0 in
+    let d = and_parts (is_u32 reply.round) (is_who reply.who) c.0 in
     record { round = d.0; who = d.1; index = c.1; told = b.1 }
 
 -- the line of a round, whom it answers, an index and words

@@ -3,13 +3,12 @@ use Rattle.std.proofs.Common.{◌≡◌, ℕ, ◌+◌, ◌^◌, true, false, Lis
 use Rattle.std.specs.Prelude.{nat_lt, ℤ, pos, negsuc, Some, codes}
 use Rattle.std.specs.Fmt.{signed_decimal}
 use Rattle.std.specs.List.{list_all}
-use Rattle.std.proofs.lemmas.Bool.{ltb-true}
+use Rattle.std.proofs.lemmas.Bool.{ltb-true, and_parts}
 use Rattle.cell_model.specs.declared.cell.Cell.{Cell}
 use Rattle.cell_model.specs.declared.cell.Cell.TheVariants.{Null, Num, Truth, Text, Blob}
 use Rattle.workload_spec.specs.Words.{line_feed, cell_text, cell_words, spaced, lines_text}
 use Rattle.workload_spec.specs.Reading.{parts}
 use Rattle.workload_spec.specs.ReplyText.{row_line}
-use Rattle.workload_laws.proofs.Lists.{both}
 use Rattle.workload_laws.proofs.Apart.{is_plain, is_whole, IsWord, AreWords, plain_word, words_apart, words_whole, line_first_part}
 use Rattle.workload_laws.proofs.Numbers.{signed_plain}
 use Rattle.workload_laws.proofs.TextsBack.{text_word, blob_word}
@@ -37,7 +36,7 @@ cell_word (Blob bytes) fits = blob_word bytes
 -- The texts of cells of replies are words.
 are_words : (cells : List Cell) → list_all is_cell cells ≡ true → AreWords (cell_words cells)
 are_words [] fit = tt
-are_words (cell ∷ cells) fit = let b = both (is_cell cell) (list_all is_cell cells) fit in (cell_word cell b.0, are_words cells b.1)
+are_words (cell ∷ cells) fit = let b = and_parts (is_cell cell) (list_all is_cell cells) fit in (cell_word cell b.0, are_words cells b.1)
 
 -- a row is read back from its words
 pub row_back : (row : List Cell) → is_row row ≡ true → row_in (spaced (cell_words row)) ≡ Some row
@@ -58,7 +57,7 @@ line_back (key ∷ cells) fits = row_back (key ∷ cells) fits
 rows_back : (rows : List (List Cell)) → list_all is_row rows ≡ true → rows_in (map row_line rows ++ [] ∷ []) ≡ Some rows
 rows_back [] fit = refl
 rows_back (row ∷ rows) fit =
-    let b = both (is_row row) (list_all is_row rows) fit in
+    let b = and_parts (is_row row) (list_all is_row rows) fit in
     let rest : List (List ℕ) = map row_line rows ++ [] ∷ [] in
     first_line (row_line row) rest (omega (arith, length-append (map row_line rows) ([] ∷ [])))
     ∙ gives (behind (codes "| ") (row_line row) >>= row_in) (λ one. rows_in rest >>= λ more. Some (one ∷ more)) (Some (row ∷ rows)) row (line_back row b.0)
@@ -68,7 +67,7 @@ rows_back (row ∷ rows) fit =
 parts_back : (rows : List (List Cell)) → list_all is_row rows ≡ true → parts line_feed (lines_text (map row_line rows)) ≡ map row_line rows ++ [] ∷ []
 parts_back [] fit = refl
 parts_back (row ∷ rows) fit =
-    let b = both (is_row row) (list_all is_row rows) fit in
+    let b = and_parts (is_row row) (list_all is_row rows) fit in
     ap (parts line_feed) (append_assoc (row_line row) (line_feed ∷ []) (lines_text (map row_line rows)))
     ∙ line_first_part (row_line row) (lines_text (map row_line rows)) (row_whole (codes "|") row (plain_word (codes "|") refl) b.0)
     ∙ ap (λ (lines : List (List ℕ)). row_line row ∷ lines) (parts_back rows b.1)

@@ -4,7 +4,7 @@ use Rattle.std.specs.Prelude.{◌&&◌, ◌==◌, Option, Some, None, option_map
 use Rattle.std.specs.Fmt.{signed_decimal}
 use Rattle.std.specs.Option.{option_map_or}
 use Rattle.std.specs.List.{list_all}
-use Rattle.std.proofs.lemmas.Bool.{ltb-true, ne_eqb, eq-eqb}
+use Rattle.std.proofs.lemmas.Bool.{ltb-true, ne_eqb, eq-eqb, and_parts}
 use Rattle.cell_model.specs.declared.cell.Cell.{Cell}
 use Rattle.cell_model.specs.declared.table.TableDecl.{TableDecl}
 use Rattle.workload_spec.specs.declared.reply.Said.{Said}
@@ -16,7 +16,6 @@ use Rattle.workload_spec.specs.Reading.{parts}
 use Rattle.workload_spec.specs.ScriptText.{name_of_table}
 use Rattle.workload_spec.specs.ReplyText.{said_words, lines_behind, row_line}
 use Rattle.workload_spec.specs.Valid.{is_table, have_own_names, is_table_place, is_key_number}
-use Rattle.workload_laws.proofs.Lists.{both}
 use Rattle.workload_laws.proofs.Results.{some_of}
 use Rattle.workload_laws.proofs.Apart.{is_plain, is_whole, plain_word, whole_append}
 use Rattle.workload_laws.proofs.Numbers.{Begins, decimal_begins, decimal_plain, signed_plain, key_small}
@@ -112,7 +111,7 @@ record IsNamed (tables : List TableDecl) (place : ℕ) : Type 0 where
 -- A table's name is plain, and is found at the table's place.
 name_back : (tables : List TableDecl) (place : ℕ) → are_tables tables ≡ true → is_table_place tables place ≡ true → IsNamed tables place
 name_back tables place are is =
-    let b = both (list_all is_table tables) (have_own_names tables) are in
+    let b = and_parts (list_all is_table tables) (have_own_names tables) are in
     let s = place_stands tables place b.0 b.1 is in
     let name : name_of_table tables place ≡ s.table.name = ap (λ (o : Option TableDecl). option_map_or (λ (t : TableDecl). t.name) o []) s.at in
     record {
@@ -128,8 +127,8 @@ record AreBlock (tables : List TableDecl) (table block number : ℕ) : Type 0 wh
 -- The table, block and number of a reply about a block fit where all together do.
 block_parts : (tables : List TableDecl) (table block number : ℕ) → (is_table_place tables table && is_u32 block && is_u32 number) ≡ true → AreBlock tables table block number
 block_parts tables table block number fits =
-    let b = both (is_table_place tables table && is_u32 block) (is_u32 number) fits in
-    let t = both (is_table_place tables table) (is_u32 block) b.0 in
+    let b = and_parts (is_table_place tables table && is_u32 block) (is_u32 number) fits in
+    let t = and_parts (is_table_place tables table) (is_u32 block) b.0 in
     record { table_fits = t.0; block_fits = t.1; number_fits = b.1 }
 
 -- the words of a block
@@ -156,9 +155,9 @@ record AreExport (number rows batches frozen : ℕ) : Type 0 where
 -- The four numbers of an export fit where all together do.
 export_parts : (number rows batches frozen : ℕ) → (is_u64 number && is_u64 rows && is_u32 batches && is_u32 frozen) ≡ true → AreExport number rows batches frozen
 export_parts number rows batches frozen fits =
-    let b = both (is_u64 number && is_u64 rows && is_u32 batches) (is_u32 frozen) fits in
-    let c = both (is_u64 number && is_u64 rows) (is_u32 batches) b.0 in
-    let d = both (is_u64 number) (is_u64 rows) c.0 in
+    let b = and_parts (is_u64 number && is_u64 rows && is_u32 batches) (is_u32 frozen) fits in
+    let c = and_parts (is_u64 number && is_u64 rows) (is_u32 batches) b.0 in
+    let d = and_parts (is_u64 number) (is_u64 rows) c.0 in
     record { number_fits = d.0; rows_fit = d.1; batches_fit = c.1; frozen_fit = b.1 }
 
 -- the words of an export behind its first number, its rows and its batches
@@ -199,7 +198,7 @@ row_said tables (key ∷ cells) fits =
 scan_said : (tables : List TableDecl) (rows : List (List Cell)) → (is_u64 (length rows) && list_all is_row rows) ≡ true
     → told_in tables (codes "rows " ++ decimal (length rows)) (lines_text (map row_line rows)) ≡ Some (said.Scanned rows)
 scan_said tables rows fits =
-    let b = both (is_u64 (length rows)) (list_all is_row rows) fits in
+    let b = and_parts (is_u64 (length rows)) (list_all is_row rows) fits in
     let told : Option Said = Some (said.Scanned rows) in
     let many : where_true (length rows == length rows) (said.Scanned rows) ≡ told = ap (λ (e : Bool). where_true e (said.Scanned rows)) (eq-eqb (length rows) (length rows) refl) in
     gives (u64_in (decimal (length rows))) (λ count. rows_in (parts line_feed (lines_text (map row_line rows))) >>= λ read. where_true (length read == count) (said.Scanned read)) told (length rows) (u64_back (length rows) b.0)
@@ -275,7 +274,7 @@ said_whole tables said.InTransaction are fits = refl
 said_whole tables said.NoTransaction are fits = refl
 said_whole tables (said.Found row) are fits = row_whole (codes "row") row (plain_word (codes "row") refl) fits
 said_whole tables said.Absent are fits = refl
-said_whole tables (said.Scanned rows) are fits = u64_whole (length rows) (both (is_u64 (length rows)) (list_all is_row rows) fits).0
+said_whole tables (said.Scanned rows) are fits = u64_whole (length rows) (and_parts (is_u64 (length rows)) (list_all is_row rows) fits).0
 said_whole tables said.Accepted are fits = refl
 said_whole tables (said.ConflictSession session) are fits = plain_whole (decimal session) (u32_plain session fits)
 said_whole tables (said.ConflictCommit number) are fits = u64_whole number fits

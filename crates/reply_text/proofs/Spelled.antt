@@ -3,14 +3,14 @@ use Rattle.std.proofs.Common.{◌≡◌, ℕ, ◌+◌, ◌-◌, ◌^◌, ◌<◌
 use Rattle.std.specs.Prelude.{◌==◌, nat_lt, nat_le, flat_map, ℤ, pos, negsuc, Option, Some, None, option_map, option_and_then, bytes_eq, codes, decimal, if◌then◌else◌}
 use Rattle.std.specs.Fmt.{signed_decimal}
 use Rattle.std.specs.List.{list_all}
-use Rattle.std.proofs.lemmas.Bool.{ltb-true, lt-ltb, leb-true, le-leb, ne_eqb}
+use Rattle.std.proofs.lemmas.Bool.{ltb-true, lt-ltb, leb-true, le-leb, ne_eqb, and_parts}
 use Rattle.cell_model.specs.declared.cell.Cell.{Cell}
 use Rattle.cell_model.specs.declared.cell.Cell.TheVariants.{Null, Num, Truth, Text, Blob}
 use Rattle.cell_model.specs.Values.{are_bytes}
 use Rattle.workload_spec.specs.Words.{quoted, hex_digits, cell_text, cell_words}
 use Rattle.workload_spec.specs.Valid.{is_within, is_key_number}
 use Rattle.workload_spec.specs.Reading.{spelled, value_of_digits, natural_of, integer_in, integer_of, text_in, blob_in, bytes_of_digits}
-use Rattle.workload_laws.proofs.Lists.{both, joined}
+use Rattle.workload_laws.proofs.Lists.{joined}
 use Rattle.workload_laws.proofs.Results.{eq_of, spelled_as}
 use Rattle.workload_laws.proofs.Numbers.{key_small, Begins, other_bytes, spelled_back, natural_back, within_back, integer_of_back, decimal_begins}
 use Rattle.workload_laws.proofs.TextsBack.{bytes_back, text_back}
@@ -57,7 +57,7 @@ within_by low high (Some v) n e = by (is_within low high v) refl e
 pub u32_is : (word : List ℕ) (n : ℕ) → u32_in word ≡ Some n → IsNumber n word (is_u32 n)
 u32_is word n e =
     let s = within_by 0 (2 ^ 32 - 1) (natural_of word) n e in
-    let most : n ≤ 2 ^ 32 - 1 = leb-true n (2 ^ 32 - 1) (both (nat_le 0 n) (nat_le n (2 ^ 32 - 1)) s.1).1 in
+    let most : n ≤ 2 ^ 32 - 1 = leb-true n (2 ^ 32 - 1) (and_parts (nat_le 0 n) (nat_le n (2 ^ 32 - 1)) s.1).1 in
     record { text = spelled_as decimal word (value_of_digits word) n s.0; fits = lt-ltb n (2 ^ 32) (omega (arith, most)) }
 
 -- and is read back from its digits
@@ -231,4 +231,4 @@ cells_are (word ∷ words) cells e =
 -- and are read back from their texts
 pub cells_back : (cells : List Cell) → list_all is_cell cells ≡ true → cells_in (cell_words cells) ≡ Some cells
 cells_back [] fit = refl
-cells_back (cell ∷ cells) fit = let b = both (is_cell cell) (list_all is_cell cells) fit in rw (cell_back cell b.0, cells_back cells b.1) refl
+cells_back (cell ∷ cells) fit = let b = and_parts (is_cell cell) (list_all is_cell cells) fit in rw (cell_back cell b.0, cells_back cells b.1) refl

@@ -1,1 +1,8 @@
-pub mod Laws
+pub mod Calls
+pub mod Moments
+pub mod Told
+pub mod Scans
+pub mod Counts
+pub mod Explained
+pub mod Rounds
+pub mod Exports

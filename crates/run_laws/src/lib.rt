@@ -1,4 +1,12 @@
-//! Laws of whole logs of the core's events.
+//! Laws of runs: from the definition of a run to its explained text and to what its exports send.
+//! Each function does nothing, and its contract is one of them.
 #![tactic(auto)]
 
-pub mod laws;
+pub mod call_laws;
+pub mod count_laws;
+pub mod explained_laws;
+pub mod export_laws;
+pub mod moment_laws;
+pub mod round_laws;
+pub mod scan_laws;
+pub mod told_laws;

@@ -3,12 +3,13 @@ use Rattle.std.proofs.Common.{◌≡◌, ℕ, ◌+◌, ◌-◌, ◌<◌, Bool, t
 use Rattle.std.specs.Prelude.{◌==◌, None, Some, bytes_eq}
 use Rattle.std.specs.List.{list_any, join_with_byte, position_from}
 use Rattle.std.proofs.lemmas.Iterator.Adapters.{position_from-zero}
+use Rattle.std.proofs.lemmas.Bool.{or_parts}
 use Rattle.workload_spec.specs.Words.{line_feed}
 use Rattle.workload_spec.specs.Reading.{onto_first, parted, parts}
 use Rattle.workload_spec.specs.Grammar.{parting, place_of_parting}
 use Rattle.script_text.specs.Partings.{IsParted}
 use Rattle.script_text.proofs.NextLines.{parts_some}
-use Rattle.workload_laws.proofs.Lists.{neither, none-behind}
+use Rattle.workload_laws.proofs.Lists.{none-behind}
 use Rattle.workload_laws.proofs.Apart.{is_whole, line_first_part}
 use Rattle.workload_laws.proofs.Parts.{parts_joined}
 
@@ -58,7 +59,7 @@ line_passed bytes rest line behind passed is whole other = record {
 found_from : (front more : List (List ℕ)) (line : List ℕ) (i : ℕ) → list_any (λ line. bytes_eq line parting) front ≡ false → bytes_eq line parting ≡ true → position_from (λ line. bytes_eq line parting) i (front ++ line ∷ more) ≡ Some (i + length front)
 found_from [] more line i none is = rw is (ap Some (omega arith))
 found_from (first ∷ front) more line i none is =
-    let n = neither (bytes_eq first parting) (list_any (λ l. bytes_eq l parting) front) none in
+    let n = or_parts (bytes_eq first parting) (list_any (λ l. bytes_eq l parting) front) none in
     let e : i + 1 + length front ≡ i + length (first ∷ front) = omega arith in
     rw (n.0) (found_from front more line (i + 1) n.1 is ∙ ap Some e)
 
@@ -66,7 +67,7 @@ found_from (first ∷ front) more line i none is =
 absent_from : (lines : List (List ℕ)) (i : ℕ) → list_any (λ line. bytes_eq line parting) lines ≡ false → position_from (λ line. bytes_eq line parting) i lines ≡ None
 absent_from [] i none = refl
 absent_from (first ∷ lines) i none =
-    let n = neither (bytes_eq first parting) (list_any (λ l. bytes_eq l parting) lines) none in
+    let n = or_parts (bytes_eq first parting) (list_any (λ l. bytes_eq l parting) lines) none in
     rw (n.0) (absent_from lines (i + 1) n.1)
 
 -- The first so many elements of a list are its front of that length.

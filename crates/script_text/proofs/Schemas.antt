@@ -1,30 +1,30 @@
 -- Columns that are read are a table's, and a table's line ends with its limits.
-use Rattle.std.proofs.Common.{◌≡◌, ℕ, ◌<◌, ◌≤◌, inl, inr, true, List, [], ◌∷◌, length, zero, suc, refl, arith}
-use Rattle.std.specs.Prelude.{◌&&◌, ◌||◌, ◌==◌, is_none, nat_le, nat_lt, slice_index, Option, None, Some, Ok}
+use Rattle.std.proofs.Common.{◌≡◌, ℕ, ◌<◌, ◌≤◌, inl, inr, true, List, [], ◌∷◌, length, refl, arith}
+use Rattle.std.specs.Prelude.{◌&&◌, ◌||◌, ◌==◌, is_none, nat_le, nat_lt, Option, None, Some, Ok}
 use Rattle.std.specs.List.{list_all, All}
 use Rattle.std.specs.Str.{IsAscii}
 use Rattle.std.proofs.lemmas.List.Elements.{All-nil, All-cons}
 use Rattle.std.proofs.lemmas.Str.{IsUtf8-from_ascii}
-use Rattle.std.proofs.lemmas.Bool.{ltb-true, leb-true, le-leb, le-ltb, eqb-true}
+use Rattle.std.proofs.lemmas.Bool.{ltb-true, leb-true, le-leb, le-ltb, eqb-true, and_parts, or_cases}
+use Rattle.std.proofs.lemmas.Str.Ascii.{IsAscii-cons}
 use Rattle.cell_model.specs.declared.column.Column.{Column}
 use Rattle.cell_model.specs.Schemas.{IsName, AreNamed, begins_with_key, first_twins, most_columns, schema_fault}
 use Rattle.workload_spec.specs.declared.extent.Extent.{Extent}
 use Rattle.workload_spec.specs.Extents.{is_extent}
 use Rattle.workload_spec.specs.Valid.{is_within, is_lower_case, is_digit, underscore, is_name_byte, is_name, are_columns}
 use Rattle.workload_spec.specs.Grammar.{key_column, columns_from}
-use Rattle.workload_laws.proofs.Lists.{both, either}
 use Rattle.workload_laws.proofs.Columns.{columns_are}
 use Rattle.workload_laws.proofs.NarrowTables.{narrow_columns}
 use Rattle.workload_laws.proofs.NarrowScripts.{bounds}
 
 -- A byte within a range below 128 is below 128.
 within_ascii : (low high byte : ℕ) → high < 128 → is_within low high byte ≡ true → byte < 128
-within_ascii low high byte few is = omega (arith, few, leb-true byte high (both (nat_le low byte) (nat_le byte high) is).1)
+within_ascii low high byte few is = omega (arith, few, leb-true byte high (and_parts (nat_le low byte) (nat_le byte high) is).1)
 
 -- A byte of a name is below 128.
 byte_ascii : (byte : ℕ) → is_name_byte byte ≡ true → byte < 128
-byte_ascii byte is = elim (either (is_lower_case byte || is_digit byte) (byte == underscore) is) [
-  | inl letter ↦ elim (either (is_lower_case byte) (is_digit byte) letter) [
+byte_ascii byte is = elim (or_cases (is_lower_case byte || is_digit byte) (byte == underscore) is) [
+  | inl letter ↦ elim (or_cases (is_lower_case byte) (is_digit byte) letter) [
     | inl lower ↦ within_ascii 97 122 byte (omega arith) lower
     | inr digit ↦ within_ascii 48 57 byte (omega arith) digit
   ]
@@ -35,29 +35,22 @@ byte_ascii byte is = elim (either (is_lower_case byte || is_digit byte) (byte ==
 bytes_ascii : (bytes : List ℕ) → list_all is_name_byte bytes ≡ true → IsAscii bytes
 bytes_ascii [] all = λ i. omega arith
 bytes_ascii (byte ∷ bytes) all =
-    let a = both (is_name_byte byte) (list_all is_name_byte bytes) all in
-    first byte bytes (byte_ascii byte a.0) (bytes_ascii bytes a.1)
-  where
-    first : (b : ℕ) (bs : List ℕ) → b < 128 → IsAscii bs → IsAscii (b ∷ bs)
-    first b bs small rest = λ i. by i
-      where
-        by : (i : ℕ) → slice_index (b ∷ bs) i < 128
-        by zero = small
-        by (suc i) = rest i
+    let a = and_parts (is_name_byte byte) (list_all is_name_byte bytes) all in
+    IsAscii-cons byte bytes (byte_ascii byte a.0) (bytes_ascii bytes a.1)
 
 -- A name has bytes of names alone, and not more than 32 of them.
 name_is : (name : List ℕ) → is_name name ≡ true → (list_all is_name_byte name ≡ true) × (length name ≤ 32)
 name_is [] is = absurd cc
-name_is (first ∷ rest) is =
-    let a = both (is_lower_case first && list_all is_name_byte rest) (nat_lt (length rest) 32) is in
-    let b = both (is_lower_case first) (list_all is_name_byte rest) a.0 in
+name_is (IsAscii-cons ∷ rest) is =
+    let a = and_parts (is_lower_case IsAscii-cons && list_all is_name_byte rest) (nat_lt (length rest) 32) is in
+    let b = and_parts (is_lower_case IsAscii-cons) (list_all is_name_byte rest) a.0 in
     (rw (b.0) b.1, omega (arith, ltb-true (length rest) 32 a.1))
 
 -- where all names pass the test, each is a name
 pub all_named : (columns : List Column) → list_all (λ column. is_name column.name) columns ≡ true → All IsName columns
 all_named [] all = All-nil IsName
 all_named (column ∷ columns) all =
-    let a = both (is_name column.name) (list_all (λ c. is_name c.name) columns) all in
+    let a = and_parts (is_name column.name) (list_all (λ c. is_name c.name) columns) all in
     let n = name_is column.name a.0 in
     All-cons IsName column columns (IsUtf8-from_ascii column.name (bytes_ascii column.name n.0), omega (arith, n.1)) (all_named columns a.1)
 
@@ -77,9 +70,9 @@ columns_make extent words read is e =
     let b = bounds extent is in
     let w = (narrow_columns extent words (key_column ∷ []) b.columns (le-leb 1 extent.columns b.some)).to read e in
     let are : are_columns read.0 ≡ true = (columns_are words (key_column ∷ []) read w.0).are refl in
-    let a = both (begins_with_key read.0 && nat_le (length read.0) most_columns && is_none (first_twins 0 read.0)) (list_all (λ c. is_name c.name) read.0) are in
-    let c = both (begins_with_key read.0 && nat_le (length read.0) most_columns) (is_none (first_twins 0 read.0)) a.0 in
-    let d = both (begins_with_key read.0) (nat_le (length read.0) most_columns) c.0 in
+    let a = and_parts (begins_with_key read.0 && nat_le (length read.0) most_columns && is_none (first_twins 0 read.0)) (list_all (λ c. is_name c.name) read.0) are in
+    let c = and_parts (begins_with_key read.0 && nat_le (length read.0) most_columns) (is_none (first_twins 0 read.0)) a.0 in
+    let d = and_parts (begins_with_key read.0) (nat_le (length read.0) most_columns) c.0 in
     record {
       named = record { each = all_named read.0 a.1 };
       sound = rw (d.0, le-ltb most_columns (length read.0) (leb-true (length read.0) most_columns d.1), none_is (first_twins 0 read.0) c.1) refl;

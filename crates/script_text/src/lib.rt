@@ -21,6 +21,7 @@ mod verbs;
 mod words;
 
 pub use checking::parse_checked;
+pub use commands::is_export;
 pub use fault::ScriptFault;
 pub use parsing::parse;
 pub use printing::print;

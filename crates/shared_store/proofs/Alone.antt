@@ -2,13 +2,14 @@
 -- back.
 use Rattle.std.proofs.Common.{◌≡◌, ℕ, false, List, Option, None, Some, set, refl, sym, ap, subst, ◌∙◌, true≢false}
 use Rattle.std.specs.Prelude.{slice_get}
+use Rattle.std.proofs.lemmas.Option.{slice_get_within}
 use Rattle.block_spec.specs.Slots.{Row}
 use Rattle.event_spec.specs.declared.own.OwnTransaction.{OwnTransaction}
 use Rattle.event_spec.specs.Parts.{CorePart, Shape}
 use Rattle.event_spec.specs.Replies.{CoreReply}
 use Rattle.hall_rule.proofs.Lists.{by_cases, get_set_else, get_set_here}
 use Rattle.hall_rule.specs.Hands.{Holds, SameRoom}
-use Rattle.hall_steps.proofs.Knowing.{get_below, same_holds}
+use Rattle.hall_steps.proofs.Knowing.{same_holds}
 use Rattle.hall_steps.specs.Hall.{first_of}
 use Rattle.shared_store.specs.Alone.{HoldsAlone, IsOnBody}
 use Rattle.shared_store.specs.Compacting.{looking}
@@ -57,7 +58,7 @@ module _ (hand later : List (Option CorePart)) (part : ℕ) where
     where
       gone : ¬ Holds later part
       gone there = part_is_none there.0
-          (sym (get_set_here hand part None (get_below hand part (Some alone.holds.0) alone.holds.1)) ∙ ap (λ (h : List (Option CorePart)). slice_get h part) (sym is) ∙ there.1)
+          (sym (get_set_here hand part None (slice_get_within hand part (Some alone.holds.0) alone.holds.1)) ∙ ap (λ (h : List (Option CorePart)). slice_get h part) (sym is) ∙ there.1)
 
 -- ---- a pass
 

@@ -11,7 +11,7 @@ use Rattle.block_spec.specs.Bodies.{is_imaged, rows_of}
 use Rattle.block_spec.specs.Slots.{Row, Slot, seen as seen_in}
 use Rattle.cell_model.specs.declared.column.Column.{Column}
 use Rattle.cell_model.specs.Rows.{Fits}
-use Rattle.event_laws.proofs.Fitting.{current_fits, seen_fits, versions_fit}
+use Rattle.core_laws.proofs.Events.Fitting.{current_fits, seen_fits, versions_fit}
 use Rattle.event_spec.specs.declared.event.Event.TheVariants as event
 use Rattle.event_spec.specs.declared.own.OwnTransaction.{OwnTransaction}
 use Rattle.event_spec.specs.declared.reply.Reply.TheVariants as reply
@@ -21,8 +21,8 @@ use Rattle.event_spec.specs.Replay.{IsLawfulFrom, IsLawfulLog, Made, after, colu
 use Rattle.event_spec.specs.Replies.{CoreReply, is_elsewhere, reply_to_read, row_read, rows_read}
 use Rattle.event_spec.specs.SlotSound.{VersionsFit}
 use Rattle.event_spec.specs.Sound.{Sound}
-use Rattle.frame_laws.proofs.Reached.{core_kept}
-use Rattle.frame_laws.specs.Shards.{CoreHolds}
+use Rattle.core_laws.proofs.Frames.Reached.{core_kept}
+use Rattle.core_laws.specs.Frames.Shards.{CoreHolds}
 use Rattle.isolation_spec.specs.Contents.{at_place, key_of, place_at}
 use Rattle.run_spec.specs.Occurrences.{Logged}
 use Rattle.run_spec.specs.Told.{rows_told}

@@ -23,8 +23,8 @@ use Rattle.event_spec.specs.Replies.{reply_to}
 use Rattle.event_spec.specs.declared.own.OwnKey.{OwnKey}
 use Rattle.hall_rule.specs.EventLog.{has}
 use Rattle.txn_desk.specs.declared.Snapshot.{Snapshot}
-use Rattle.own_laws.proofs.Going.{keys}
-use Rattle.own_laws.specs.Laws.{HasOpened}
+use Rattle.store_laws.proofs.Going.{keys}
+use Rattle.store_laws.specs.OwnLaws.{HasOpened}
 use Rattle.run_spec.specs.Opened.{own_behind, own_key}
 use Rattle.shared_store.specs.Making.{FitsEach, Makes, MayMake, parts_seen}
 use Rattle.shared_store.specs.Store.{Answers, HandsView, HasRoomFor, IsAt, IsSession, SeatView, StoreView, TookPartsOf, opened_at, own_of, seen, shape_in, taken_by}

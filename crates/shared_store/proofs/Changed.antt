@@ -3,7 +3,7 @@ use Rattle.std.proofs.Common.{◌≡◌, ◌⊎◌, ℕ, ℤ, Bool, true, false,
 use mathlib.Core.Logic.{inl, inr}
 use Rattle.std.specs.Prelude.{fold, option_and_then, option_to_list}
 use Rattle.engine_core.specs.Asks.{HasKeyParts, IsOfCore}
-use Rattle.event_laws.proofs.Lists.{in_right}
+use Rattle.core_laws.proofs.Events.Lists.{in_right}
 use Rattle.event_spec.specs.declared.event.Event.TheVariants as event
 use Rattle.event_spec.specs.declared.own.OwnTransaction.{OwnTransaction}
 use Rattle.event_spec.specs.declared.reply.Reply.TheVariants as reply
@@ -19,8 +19,8 @@ use Rattle.hall_rule.specs.declared.view.Entry.{Entry}
 use Rattle.hall_steps.specs.Hall.{first_of}
 use Rattle.isolation_spec.specs.Contents.{key_of, place_at, place_of}
 use Rattle.isolation_spec.specs.declared.place.Place.{Place}
-use Rattle.own_laws.proofs.Going.{keys}
-use Rattle.own_laws.specs.Laws.{HasOpened}
+use Rattle.store_laws.proofs.Going.{keys}
+use Rattle.store_laws.specs.OwnLaws.{HasOpened}
 use Rattle.run_spec.specs.Asked.{events_of, imaged_block, thaws}
 use Rattle.run_spec.specs.Calls.{Call, IsCallBy, IsPart, IsWhole, is_final, is_memory}
 use Rattle.run_spec.specs.Handed.{GoesOn, own_in}

@@ -12,7 +12,7 @@ use Rattle.block_spec.specs.Looks.{Look, looked}
 use Rattle.compact_plan.proofs.Lists.{range_rises}
 use Rattle.compact_plan.proofs.Planned.{plans_fit}
 use Rattle.compact_plan.specs.Laws.{AreAscending, IsFitting, IsLookAt}
-use Rattle.event_laws.proofs.Lists.{below_member, member_map}
+use Rattle.core_laws.proofs.Events.Lists.{below_member, member_map}
 use Rattle.event_spec.specs.declared.event.Event.TheVariants as event
 use Rattle.event_spec.specs.declared.event.MovePair.{MovePair}
 use Rattle.event_spec.specs.declared.reply.Reply.TheVariants as reply
@@ -21,7 +21,7 @@ use Rattle.event_spec.specs.Lawful.{Among, HasBlock, HasTable}
 use Rattle.event_spec.specs.Parts.{Parts, Shape, below, blocks_of, body_at, slots_of}
 use Rattle.event_spec.specs.Plans.{BlockLook, plan_of}
 use Rattle.event_spec.specs.Replies.{CoreReply}
-use Rattle.frame_laws.specs.Shards.{CoreHolds}
+use Rattle.core_laws.specs.Frames.Shards.{CoreHolds}
 use Rattle.run_spec.specs.Asked.{at_blocks, events_of, look_told, looks_in, moves}
 use Rattle.run_spec.specs.Calls.{is_cut_short, is_memory, is_refused}
 use Rattle.run_spec.specs.Occurrences.{Occurrence, events_in, replies_in}

@@ -9,7 +9,7 @@ use Rattle.event_spec.specs.declared.reply.Reply.TheVariants as reply
 use Rattle.event_spec.specs.Lawful.{HasBlock}
 use Rattle.event_spec.specs.Parts.{Shape}
 use Rattle.event_spec.specs.Replies.{CoreReply, reply_to_seal}
-use Rattle.frame_laws.proofs.Looks.{within}
+use Rattle.core_laws.proofs.Frames.Looks.{within}
 use Rattle.workload_spec.specs.Valid.{is_block_of}
 
 -- A number that is tested as below another is below it.

@@ -3,12 +3,13 @@
 use Rattle.std.proofs.Common.{◌≡◌, ℕ, ℤ, true, cond, List, [], ◌∷◌, ◌++◌, Option, None, Some, length, map, refl, sym, ap, ◌∙◌, arith}
 use Rattle.std.specs.Prelude.{option_to_list, slice_get}
 use Rattle.std.specs.Option.{option_or}
+use Rattle.std.proofs.lemmas.Bool.{or_left, or_right}
 use Rattle.event_spec.specs.declared.event.Event.TheVariants as event
 use Rattle.event_spec.specs.Effects.{CoreEvent}
 use Rattle.event_spec.specs.Judged.{next_place}
 use Rattle.event_spec.specs.Parts.{CorePart, HeadOf, Name, Parts, ShardOf, Shape, held_named, head_from, names, part_named, same_name, shard_from, shard_of, slots_of}
 use Rattle.event_spec.specs.Touched.{held_next, held_places, is_body_of, passes_test, touched, touched_by_insert, touched_by_key, touching}
-use Rattle.frame_laws.proofs.Looks.{look, name_self, or_left, or_right}
+use Rattle.core_laws.proofs.Frames.Looks.{look, name_self}
 use Rattle.hall_rule.specs.EventLog.{replay}
 use Rattle.hall_rule.specs.HallInvariant.{hands_of}
 use Rattle.hall_rule.specs.Hands.{Agrees, Covers, all_in}

@@ -7,7 +7,7 @@ use Rattle.block_spec.specs.Bodies.{Body, is_sealed, rows_of}
 use Rattle.block_spec.specs.Slots.{Row}
 use Rattle.core_parts.specs.Hands.{Has}
 use Rattle.engine_core.specs.Asks.{IsOfCore}
-use Rattle.event_laws.proofs.Naming.{at_name, body_named}
+use Rattle.core_laws.proofs.Events.Naming.{at_name, body_named}
 use Rattle.event_spec.specs.declared.own.OwnTransaction.{OwnTransaction}
 use Rattle.event_spec.specs.declared.reply.Reply.TheVariants as reply
 use Rattle.event_spec.specs.Effects.{CoreEvent}
@@ -16,8 +16,8 @@ use Rattle.event_spec.specs.Parts.{BodyOf, CorePart, Parts, Shape, body_at}
 use Rattle.event_spec.specs.Replies.{CoreReply, reply_to_image}
 use Rattle.event_spec.specs.Sound.{IsOfKind}
 use Rattle.event_spec.specs.Touched.{touching}
-use Rattle.frame_laws.proofs.Looks.{look, name_self}
-use Rattle.frame_laws.specs.Shards.{CoreHolds}
+use Rattle.core_laws.proofs.Frames.Looks.{look, name_self}
+use Rattle.core_laws.specs.Frames.Shards.{CoreHolds}
 use Rattle.hall_rule.specs.Hands.{Agrees, Covers}
 use Rattle.hall_steps.specs.Hall.{first_of}
 use Rattle.run_spec.specs.Asked.{rows_sealed}

@@ -3,19 +3,20 @@ use Rattle.std.proofs.Common.{◌≡◌, ◌≢◌, ◌⊎◌, ℕ, zero, suc, �
 use mathlib.Core.Logic.{inl, inr}
 use Rattle.std.specs.Prelude.{slice_get, slice_index}
 use Rattle.std.proofs.lemmas.List.{length-map}
+use Rattle.std.proofs.lemmas.Bool.{or_cases, or_left, or_right}
 use Rattle.cell_model.specs.declared.table.TableDecl.{TableDecl}
 use Rattle.core_parts.specs.Numbers.{first_bodies}
 use Rattle.core_parts.proofs.Numbering.{body_at_number, first_at, head_at_number, shard_at_number}
 use Rattle.core_parts.proofs.Placing.{named_once, number_less}
 use Rattle.core_parts.proofs.Telling.{block_of_body, table_of_head, table_of_shard}
-use Rattle.event_laws.proofs.States.{name_is}
+use Rattle.core_laws.proofs.Events.States.{name_is}
 use Rattle.event_spec.specs.declared.event.Event.TheVariants as event
 use Rattle.event_spec.specs.declared.own.OwnTransaction.{OwnTransaction}
 use Rattle.event_spec.specs.Effects.{CoreEvent}
 use Rattle.event_spec.specs.Parts.{BodyOf, CorePart, HeadOf, Name, ShardOf, Shape, TheDesk, held_named, names, same_name}
 use Rattle.event_spec.specs.Replay.{opening_part}
 use Rattle.event_spec.specs.Touched.{is_shard_in, passes_test, touched, touching}
-use Rattle.frame_laws.proofs.Looks.{got_among, name_self, or_left, or_right, true_false}
+use Rattle.core_laws.proofs.Frames.Looks.{got_among, name_self, true_false}
 use Rattle.hall_rule.proofs.Lists.{by_cases, get_set_else, get_set_here}
 use Rattle.hall_rule.specs.Hands.{Covers, Holds, IsAboveAll, SameRoom}
 use Rattle.hall_steps.specs.Hall.{EachHand, Knows, first_of, spares_of}
@@ -68,11 +69,6 @@ or_swap false true true = refl
 or_swap false true false = refl
 or_swap false false true = refl
 or_swap false false false = refl
-
--- Where one of two holds, the first or the second does.
-or_either : (a b : Bool) → (a || b) ≡ true → (a ≡ true) ⊎ (b ≡ true)
-or_either true b is = inl refl
-or_either false b is = inr is
 
 -- What a pruning touches beside a body is a head or a shard.
 prune_low : (t : ℕ) (name : Name) → beside_prune t name ≡ true → is_low name ≡ true
@@ -202,7 +198,7 @@ module _ (sh : Shape) (common : Name → Bool) (t b body : ℕ) (e : CoreEvent)
       where
         go : (o : Option Name) → slice_get (names sh) k ≡ o → (k ≡ body) ⊎ (passes_test common (slice_get (names sh) k) ≡ true)
         go None none' = absurd (true_false (sym is ∙ ap (passes_test (touched sh (held_named (names sh) hand) e)) none'))
-        go (Some n) some = by (or_either (common n) (same_name (BodyOf t b) n) (sym (named hand k n some) ∙ is))
+        go (Some n) some = by (or_cases (common n) (same_name (BodyOf t b) n) (sym (named hand k n some) ∙ is))
           where
             by : (common n ≡ true) ⊎ (same_name (BodyOf t b) n ≡ true) → (k ≡ body) ⊎ (passes_test common (slice_get (names sh) k) ≡ true)
             by (inl kept) = inr (ap (passes_test common) some ∙ kept)

@@ -1,7 +1,7 @@
 -- Rows that are laid in their places one after another.
 use Rattle.std.proofs.Common.{◌≡◌, ℕ, Bool, true, false, cond, ◌==◌, List, [], ◌∷◌, ◌++◌, refl, sym, ap, ◌∙◌, append-nil, arith}
 use Rattle.std.specs.Prelude.{Option, Some, None}
-use Rattle.event_laws.proofs.Slots.{num_refl}
+use Rattle.core_laws.proofs.Events.Slots.{num_refl}
 use Rattle.std.specs.BTreeMap.{insert_entry}
 use Rattle.std.specs.List.{cons_option}
 use Rattle.std.proofs.lemmas.List.Elements.{filter_map-append}

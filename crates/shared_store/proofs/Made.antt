@@ -12,7 +12,7 @@ use Rattle.event_spec.specs.Parts.{Parts, Shape, desk_at}
 use Rattle.event_spec.specs.Replies.{CoreReply, reply_to}
 use Rattle.event_spec.specs.Replay.{after, opening}
 use Rattle.event_spec.specs.Touched.{touching}
-use Rattle.hall_laws.proofs.Meets.{has_laws}
+use Rattle.core_laws.proofs.Hall.Meets.{has_laws}
 use Rattle.hall_rule.specs.EventLog.{LawfulFrom, has, replay}
 use Rattle.hall_rule.specs.HallInvariant.{hands_of}
 use Rattle.hall_rule.specs.Hands.{Holds}
@@ -36,7 +36,7 @@ use Rattle.store_laws.proofs.Calling.{goes_far, made_on}
 use Rattle.run_spec.specs.Handed.{GoesOn, own_in}
 use Rattle.run_spec.specs.Occurrences.{Logged}
 use Rattle.run_spec.specs.Opened.{own_after}
-use Rattle.own_laws.specs.Laws.{HasOpened}
+use Rattle.store_laws.specs.OwnLaws.{HasOpened}
 use Rattle.hall_rule.specs.Hands.{Agrees, Covers, SameRoom, all_in}
 use Rattle.shared_store.specs.Making.{FitsEach, Gives, IsFew, Makes, MakesHeld, MayMake, MayMakeHeld, OldestLasts, Takes, parts_seen}
 use Rattle.shared_store.specs.Store.{HandsView, IsStore, IsWithin, SeatView, StoreView, TookPartsOf, shape_in}

@@ -4,7 +4,7 @@ use Rattle.std.specs.Prelude.{find}
 use Rattle.std.specs.BTreeMap.{insert_entry}
 use Rattle.std.specs.Map.{remove_entry}
 use Rattle.std.specs.Ordering.{is_eq, match_ordering, ordering_reverse}
-use Rattle.event_laws.proofs.Slots.{num, num_refl}
+use Rattle.core_laws.proofs.Events.Slots.{num, num_refl}
 use Rattle.isolation_laws.proofs.Rows.{place_cmp-total}
 use Rattle.isolation_spec.specs.Contents.{PlaceMap, at_place, is_place, place_cmp}
 use Rattle.isolation_spec.specs.declared.place.Place.{Place}

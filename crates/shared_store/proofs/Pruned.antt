@@ -13,7 +13,7 @@ use Rattle.event_spec.specs.Lawful.{HasBlock, IsOldest}
 use Rattle.event_spec.specs.Parts.{Parts, Shape, below, desk_at}
 use Rattle.event_spec.specs.Replay.{after, opening}
 use Rattle.event_spec.specs.Replies.{CoreReply}
-use Rattle.part_laws.proofs.Lasting.{learns}
+use Rattle.core_laws.proofs.Parts.Lasting.{learns}
 use Rattle.run_spec.specs.Asked.{at_all_blocks, oldest_told, prunes}
 use Rattle.run_spec.specs.Occurrences.{Logged, Occurrence, replies_in}
 use Rattle.run_spec.specs.Told.{dropped_told}

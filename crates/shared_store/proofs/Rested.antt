@@ -16,7 +16,7 @@ use Rattle.hall_rule.specs.declared.view.Entry.{Entry}
 use Rattle.hall_rule.specs.declared.view.View.{View}
 use Rattle.hall_steps.proofs.Walking.{sees_on, sees_same}
 use Rattle.hall_steps.specs.Hall.{IsPass, Looks, first_of}
-use Rattle.own_laws.specs.Laws.{HasOpened}
+use Rattle.store_laws.specs.OwnLaws.{HasOpened}
 use Rattle.run_spec.specs.Handed.{GoesOn, own_in}
 use Rattle.run_spec.specs.Occurrences.{Occurrence}
 use Rattle.run_spec.specs.Opened.{own_after, own_behind}

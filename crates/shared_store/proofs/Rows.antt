@@ -11,7 +11,7 @@ use Rattle.event_spec.specs.Effects.{CoreEvent}
 use Rattle.event_spec.specs.Lawful.{transaction}
 use Rattle.event_spec.specs.Parts.{CorePart, Parts, Shape}
 use Rattle.event_spec.specs.Replay.{opening}
-use Rattle.hall_laws.specs.Hall.{core_meaning}
+use Rattle.core_laws.specs.Hall.Hall.{core_meaning}
 use Rattle.hall_rule.specs.EventLog.{has, is_unnamed, replay}
 use Rattle.hall_rule.specs.HallInvariant.{hands_of}
 use Rattle.hall_rule.specs.Hands.{Holds}

@@ -5,7 +5,7 @@ use Rattle.std.proofs.lemmas.List.Elements.{All-cons, All-nil}
 use Rattle.event_spec.specs.Effects.{CoreEvent}
 use Rattle.event_spec.specs.Parts.{CorePart, Parts}
 use Rattle.event_spec.specs.Replay.{opening}
-use Rattle.hall_laws.specs.Hall.{core_meaning}
+use Rattle.core_laws.specs.Hall.Hall.{core_meaning}
 use Rattle.hall_rule.specs.EventLog.{NamedTo}
 use Rattle.hall_rule.specs.Meaning.{Meaning}
 use Rattle.hall_rule.specs.declared.view.Entry.{Entry}

@@ -3,7 +3,7 @@ use Rattle.std.proofs.Common.{◌≡◌, ℕ, ◌+◌, false, List, [], ◌∷�
 use mathlib.Core.Logic.{inr}
 use Rattle.std.specs.Prelude.{flat_map}
 use Rattle.std.proofs.lemmas.List.{append_assoc, map-append}
-use Rattle.event_laws.proofs.Lists.{below_member, member_flat, member_map}
+use Rattle.core_laws.proofs.Events.Lists.{below_member, member_flat, member_map}
 use Rattle.event_spec.specs.Effects.{CoreEvent}
 use Rattle.event_spec.specs.Lawful.{Among, HasBlock, session_of}
 use Rattle.event_spec.specs.Parts.{Parts, Shape, below, blocks_of}

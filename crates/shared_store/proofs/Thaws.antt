@@ -5,9 +5,9 @@ use Rattle.block_layout.specs.Place.{block_of, slot_of}
 use Rattle.block_spec.specs.Bodies.{is_imaged, slot_in, thawed}
 use Rattle.block_spec.specs.Slots.{Slot}
 use Rattle.engine_core.specs.Asks.{HasKeyParts}
-use Rattle.event_laws.proofs.Naming.{at_name, body_named, shard_named}
-use Rattle.event_laws.proofs.Places.{shard_small}
-use Rattle.event_laws.proofs.States.{name_is, named_changed}
+use Rattle.core_laws.proofs.Events.Naming.{at_name, body_named, shard_named}
+use Rattle.core_laws.proofs.Events.Places.{shard_small}
+use Rattle.core_laws.proofs.Events.States.{name_is, named_changed}
 use Rattle.event_spec.specs.declared.event.Event.TheVariants as event
 use Rattle.event_spec.specs.declared.own.OwnKey.{OwnKey}
 use Rattle.event_spec.specs.declared.part.Part.TheVariants as part
@@ -17,13 +17,13 @@ use Rattle.event_spec.specs.Lawful.{Among, HasBlock, HasTable, IsThawed}
 use Rattle.event_spec.specs.Parts.{BodyOf, Changes, CorePart, Name, Parts, Shape, ShardOf, body_at, body_from, changed, held_named, names, nothing, part_at, part_named, places_at, same_name, shard_from, shard_of, slot_at}
 use Rattle.event_spec.specs.Sound.{IsOfKind}
 use Rattle.event_spec.specs.Touched.{held_places, passes_test, touched, touched_by_key, touching}
-use Rattle.frame_laws.proofs.Fitness.{body_touched, current_among, shard_touched}
-use Rattle.frame_laws.proofs.Looks.{look, name_self}
-use Rattle.frame_laws.specs.Shards.{CoreHolds}
+use Rattle.core_laws.proofs.Frames.Fitness.{body_touched, current_among, shard_touched}
+use Rattle.core_laws.proofs.Frames.Looks.{look, name_self}
+use Rattle.core_laws.specs.Frames.Shards.{CoreHolds}
 use Rattle.hall_rule.specs.Hands.{Agrees, Covers, Holds, SameRoom}
 use Rattle.key_index.specs.Candidates.{candidates_of}
 use Rattle.run_spec.specs.Asked.{imaged_block}
-use Rattle.sound_laws.proofs.Written.{filled_there}
+use Rattle.core_laws.proofs.Sound.Written.{filled_there}
 
 -- an event that touches what another does has its parts where that has them
 pub covers_same : (sh : Shape) (e other : CoreEvent) (hand : List (Option CorePart))

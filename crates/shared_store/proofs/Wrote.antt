@@ -13,7 +13,7 @@ use Rattle.event_spec.specs.declared.reply.WriteFault.{WriteFault}
 use Rattle.event_spec.specs.Lawful.{FitsTable, HasTable}
 use Rattle.event_spec.specs.Parts.{Shape}
 use Rattle.event_spec.specs.Replies.{CoreReply, reply_to_write}
-use Rattle.frame_laws.proofs.Looks.{within}
+use Rattle.core_laws.proofs.Frames.Looks.{within}
 use Rattle.isolation_spec.specs.Contents.{PlaceMap}
 use Rattle.isolation_spec.specs.declared.place.Place.{Place}
 use Rattle.run_spec.specs.Calls.{is_memory, may_lack_memory}

@@ -15,7 +15,7 @@ use Rattle.hall_rule.specs.Hands.{Covers}
 use Rattle.hall_rule.specs.declared.view.View.{View}
 use Rattle.hall_steps.specs.Hall.{first_of}
 use Rattle.isolation_spec.specs.declared.place.Place.{Place}
-use Rattle.own_laws.specs.Laws.{HasOpened}
+use Rattle.store_laws.specs.OwnLaws.{HasOpened}
 use Rattle.run_spec.specs.Asked.{events_of, thaws}
 use Rattle.run_spec.specs.Calls.{is_cut_short, is_memory, is_refused, may_lack_memory}
 use Rattle.run_spec.specs.Handed.{GoesOn, own_in}

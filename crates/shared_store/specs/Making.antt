@@ -9,7 +9,7 @@ use Rattle.event_spec.specs.Lawful.{FitsIn, IsOldest, Stands, takes_memory}
 use Rattle.event_spec.specs.Parts.{CorePart, Name, Parts, Shape, TheDesk, desk_at}
 use Rattle.event_spec.specs.Replies.{CoreReply, reply_to}
 use Rattle.event_spec.specs.Touched.{touched, touching}
-use Rattle.frame_laws.specs.Shards.{CoreHolds}
+use Rattle.core_laws.specs.Frames.Shards.{CoreHolds}
 use Rattle.hall_rule.specs.EventLog.{replay}
 use Rattle.hall_rule.specs.Hands.{Agrees, Covers, SameRoom}
 use Rattle.hall_rule.specs.declared.view.View.{View}

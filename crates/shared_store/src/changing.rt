@@ -18,7 +18,7 @@ use crate::faults::StoreFault;
 use crate::session::Session;
 use crate::store::Store;
 use cell_model::Row;
-use core_touches::KeyedEvent;
+use core_parts::KeyedEvent;
 use engine_core::{Core, CoreReply, imaged};
 use event_spec::{Event, Reply};
 use hall_steps::Pass;

@@ -18,7 +18,7 @@ use crate::session::Session;
 use crate::store::Store;
 use block_body::Look;
 use compact_plan::{BlockLook, plan};
-use core_touches::KeyedEvent;
+use core_parts::KeyedEvent;
 use event_spec::{Event, Moves, Reply};
 use std::alloc::AllocError;
 use std::sync::Wait;

@@ -9,7 +9,7 @@ ghost use Rattle.shared_store.specs.Told.{gathered_told, sealed_told};
 use crate::session::Session;
 use crate::store::Store;
 use block_spec::SealFault;
-use core_touches::KeyedEvent;
+use core_parts::KeyedEvent;
 use engine_core::{Core, CoreReply, image_of};
 use event_spec::{Event, Reply};
 use hall_steps::Pass;

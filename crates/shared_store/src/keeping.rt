@@ -9,7 +9,7 @@ ghost use Rattle.shared_store.specs.Keeping.{MayTakeBeside, TakesBeside, event_o
 ghost use Rattle.shared_store.specs.Store.{IsAnyWithin, shape_in};
 
 use crate::store::Store;
-use core_touches::KeyedEvent;
+use core_parts::KeyedEvent;
 use engine_core::{Core, CoreReply};
 use event_spec::Event;
 use hall_steps::Pass;

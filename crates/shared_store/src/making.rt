@@ -10,7 +10,7 @@ ghost use Rattle.shared_store.specs.Making.{MayMakeHeld, ReadsFew, TakesAny};
 ghost use Rattle.shared_store.specs.Store.{IsAnyAt, IsAnyWithin, shape_in};
 
 use crate::store::Store;
-use core_touches::KeyedEvent;
+use core_parts::KeyedEvent;
 use engine_core::{Core, CoreReply};
 use hall_rule::Steps;
 use hall_steps::Pass;

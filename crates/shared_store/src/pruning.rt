@@ -18,7 +18,7 @@ ghost use Rattle.shared_store.specs.Store.{
 use crate::keeping::OnBlocks;
 use crate::session::Session;
 use crate::store::Store;
-use core_touches::KeyedEvent;
+use core_parts::KeyedEvent;
 use event_spec::{Event, Reply};
 use std::sync::Wait;
 

@@ -7,8 +7,7 @@ ghost use Rattle.shared_store.specs.Store.{HasRoomFor, IsSession, own_of, shape_
 
 use crate::session::Session;
 use crate::store::Store;
-use core_images::{ReadRows, SharedRows};
-use core_touches::KeyedEvent;
+use core_parts::{KeyedEvent, ReadRows, SharedRows};
 use event_spec::{Event, Reply};
 use hall_rule::Steps;
 use std::alloc::AllocError;

@@ -3,7 +3,7 @@ ghost use Rattle.std.specs.Prelude.{◌≡◌, ◌<◌, ℕ, None, Some, true, i
 ghost use Rattle.std.specs.Prelude.{IsSome, flat_map, option_to_list, slice_index_or, take};
 ghost use Rattle.std.specs.BTreeMap.{insert_entry};
 ghost use Rattle.cell_model.specs.Rows.{Fits};
-ghost use Rattle.core_images.specs.Fronts.{rows_of_form};
+ghost use Rattle.core_parts.specs.Fronts.{rows_of_form};
 ghost use Rattle.event_spec.specs.Lawful.{HasBlock};
 ghost use Rattle.event_spec.specs.declared.own.OwnTransaction.{OwnTransaction as Own};
 ghost use Rattle.isolation_spec.specs.Contents.{contents_of, place_cmp};
@@ -26,7 +26,7 @@ use crate::store::Store;
 use crate::writing::place_of;
 use block_columns::Columns;
 use cell_model::{Row, Rows, Schema};
-use core_images::ReadForm;
+use core_parts::ReadForm;
 use hall_rule::Steps;
 use isolation_spec::Place;
 use std::alloc::{AllocError, Global};

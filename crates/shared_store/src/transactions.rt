@@ -9,7 +9,7 @@ use crate::faults::Busy;
 use crate::session::Session;
 use crate::store::Store;
 use cell_model::Row;
-use core_touches::KeyedEvent;
+use core_parts::KeyedEvent;
 use event_spec::{Event, Reply};
 use isolation_spec::Place;
 use std::alloc::AllocError;

@@ -9,6 +9,7 @@ use Rattle.std.specs.Option.{option_map_or}
 use Rattle.std.specs.declared.cmp.Ordering.TheVariants.{Less}
 use Rattle.std.proofs.lemmas.Map.Keys.{sorted_head}
 use Rattle.std.proofs.lemmas.Map.Made.{is_some-lookup}
+use Rattle.std.proofs.lemmas.Bool.{or_from, or_right}
 use Rattle.isolation_spec.specs.Contents.{place_cmp, is_place, at_place, WriteSet}
 use Rattle.isolation_spec.specs.declared.place.Place.{Place}
 use Rattle.isolation_spec.specs.Machine.{writes_place}
@@ -26,16 +27,11 @@ is_among place places = list_any (is_place place) places
 symmetric : (a b : Place) → is_place a b ≡ is_place b a
 symmetric = (eq_by_cmp_equiv place_cmp-total).symm
 
--- Where neither of two holds, their disjunction does not.
-either-false : (a b : Bool) → a ≡ false → b ≡ false → (a || b) ≡ false
-either-false true b h k = h
-either-false false b h k = k
-
 -- A place that is below all of some places is none of them.
 none-above : (place : Place) (places : List Place) → AllByRecursion (λ other. place_cmp place other ≡ Less) places → is_among place places ≡ false
 none-above place [] h = refl
 none-above place (other ∷ places) h =
-    either-false (is_place place other) (is_among place places) (symmetric place other ∙ unlike place other h.0) (none-above place places h.1)
+    or_from (is_place place other) (is_among place places) (symmetric place other ∙ unlike place other h.0) (none-above place places h.1)
 
 -- a write at one place
 pub record Wrote (before now : Writers) (place : Place) (was numbers : Vec ℕ Global) : Type 0 where
@@ -86,12 +82,7 @@ pub room-made : (before now : Writers) (place : Place) (was numbers : Vec ℕ Gl
 room-made before now place was numbers wrote room wanted rest had other want past =
     subst roomy (sym (wrote.after other))
     (room-by was numbers (is_place place other) (at_place before.places.entries other) (λ is. room)
-    (λ apart. had other want (either-false (is_place other place) (is_among other rest) (symmetric other place ∙ apart) past)))
-
--- where the second of two holds, one of them does
-pub or-right : (a b : Bool) → b ≡ true → (a || b) ≡ true
-or-right true b h = refl
-or-right false b h = h
+    (λ apart. had other want (or_from (is_place other place) (is_among other rest) (symmetric other place ∙ apart) past)))
 
 -- Room that is left for the places that are to come.
 pub room-left : (before now : Writers) (place : Place) (was numbers : Vec ℕ Global) → Wrote before now place was numbers
@@ -101,7 +92,7 @@ pub room-left : (before now : Writers) (place : Place) (was numbers : Vec ℕ Gl
 room-left before now place was numbers wrote rest sorted had other among = by (is_place place other) refl
   where
     earlier : HasRoom before other
-    earlier = had other (or-right (is_place other place) (is_among other rest) among)
+    earlier = had other (or_right (is_place other place) (is_among other rest) among)
 
     by : (b : Bool) → is_place place other ≡ b → HasRoom now other
     by true is =

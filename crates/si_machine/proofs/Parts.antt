@@ -116,12 +116,6 @@ missed-by p xs false is h = missed-past p xs (grind (arith, nat_tests, is))
 pub missed-at : {X : Type 0} (p : X → Bool) (xs : List X) → position p xs ≡ None → find p xs ≡ None
 missed-at p xs h = missed-by p xs (nat_lt (position_or_len p xs) (length xs)) refl (h)
 
--- within a list any default serves
-pub any-default : {X : Type 0} (xs : List X) (i : ℕ) (d e : X) → i < length xs → get_or xs i d ≡ get_or xs i e
-any-default [] i d e within = absurd (omega (arith, within))
-any-default (x ∷ xs) zero d e within = refl
-any-default (x ∷ xs) (suc i) d e within = any-default xs i d e (omega (arith, within))
-
 -- a list has as many images as elements
 pub length-kept : {X Y : Type 0} (f : X → Y) (xs : List X) → length (map f xs) ≡ length xs
 length-kept f [] = refl

@@ -13,7 +13,7 @@ use Rattle.std.specs.Ordering.{int_cmp, nat_cmp, is_le, is_lt, ordering_then}
 use Rattle.std.specs.declared.cmp.Ordering.{Ordering}
 use Rattle.std.specs.declared.cmp.Ordering.TheVariants.{Less, Equal, Greater}
 use Rattle.std.specs.declared.ops.Bound.TheVariants.{Included}
-use Rattle.std.proofs.lemmas.Bool.{and_parts, eqb-true}
+use Rattle.std.proofs.lemmas.Bool.{and_parts, eqb-true, and_from}
 use Rattle.std.proofs.lemmas.Int.{ints}
 use Rattle.cell_model.specs.declared.cell.Cell.{Cell}
 use Rattle.isolation_spec.specs.Contents.{at_place, contents_of, is_place, place_at, place_cmp, PlaceMap, State, state_at}
@@ -61,11 +61,6 @@ covered-by : (b : Bool) (o : Option (List Cell)) → (b ≡ false → o ≡ None
 covered-by true o h some = refl
 covered-by false o h some = let e : false ≡ true = sym (ap is_some (h refl)) ∙ some in absurd (let never : ⊥ = cc in never)
 
--- Where each of two holds, both do.
-both : (a b : Bool) → a ≡ true → b ≡ true → (a && b) ≡ true
-both true b h k = k
-both false b h k = h
-
 -- ---- the range of a table
 
 -- the least key, of 64 bits
@@ -107,7 +102,7 @@ in-range-by table q true is key =
     let tied : nat_cmp table q.table ≡ Equal = ap (nat_cmp table) same ∙ tied_itself nat_cmp_total table in
     let bounds = and_parts (int_le least_key q.key) (int_le q.key greatest_key) key in
     ap (λ (o : Ordering). is_le (ordering_then o (int_cmp least_key q.key)) && not (is_lt (ordering_then o (int_cmp greatest_key q.key)))) tied
-    ∙ both (is_le (int_cmp least_key q.key)) (not (is_lt (int_cmp greatest_key q.key)))
+    ∙ and_from (is_le (int_cmp least_key q.key)) (not (is_lt (int_cmp greatest_key q.key)))
     (first-not-above (int_lt least_key q.key) (int_lt q.key least_key) (not-under least_key q.key bounds.0))
     (last-not-below (int_lt greatest_key q.key) (int_lt q.key greatest_key) (not-under q.key greatest_key bounds.1))
 in-range-by table q false is key =

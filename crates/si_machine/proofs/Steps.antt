@@ -6,6 +6,7 @@ use Rattle.std.specs.List.{filter, last_or, slice_get}
 use Rattle.std.specs.Option.{option_map_or}
 use Rattle.std.specs.BTreeMap.{BTreeMap}
 use Rattle.std.proofs.lemmas.List.{get_or-take}
+use Rattle.std.proofs.lemmas.Option.{slice_get-get_or, slice_get_past}
 use Rattle.cell_model.specs.declared.cell.Cell.{Cell}
 use Rattle.isolation_spec.specs.Contents.{is_place, at_place, History, WriteSet, state_at}
 use Rattle.isolation_spec.specs.declared.place.Place.{Place}
@@ -239,24 +240,12 @@ state-kept ledger place n number h is =
     state-found place n number (machine_in ledger).history h.rise is
     ∙ ap (λ (w : WriteSet). unwrap_or (at_place w place) None) (got-map (λ writes. writes.entries) ledger.commits.items (number - 1) [])
 
--- Within a list the element at an index is there.
-got-within : {X : Type 0} (xs : List X) (i : ℕ) (x : X) → i < length xs → slice_get xs i ≡ Some (get_or xs i x)
-got-within [] i x within = absurd (omega (arith, within))
-got-within (y ∷ xs) zero x within = refl
-got-within (y ∷ xs) (suc i) x within = got-within xs i x (omega (arith, within))
-
--- Past the end of a list nothing is there.
-got-past : {X : Type 0} (xs : List X) (i : ℕ) → length xs ≤ i → slice_get xs i ≡ None
-got-past [] i past = refl
-got-past (y ∷ xs) zero past = absurd (omega (arith, past))
-got-past (y ∷ xs) (suc i) past = got-past xs i (omega (arith, past))
-
 -- where the newest commit of the place is not among those that are kept, there is no row
 pub state-past : (ledger : Ledger) (place : Place) (n number : ℕ) → Belongs (machine_in ledger) ledger.writers → last_writer place 1 (take n (machine_in ledger).history) ≡ Some number
     → length ledger.commits.items ≤ number - 1 → at_place (state_at (machine_in ledger).history n) place ≡ None
 state-past ledger place n number h is past =
     state-kept ledger place n number h is
-    ∙ ap (λ o. unwrap_or (at_place (option_map_or (λ writes. writes.entries) o []) place) None) (got-past ledger.commits.items (number - 1) past)
+    ∙ ap (λ o. unwrap_or (at_place (option_map_or (λ writes. writes.entries) o []) place) None) (slice_get_past ledger.commits.items (number - 1) past)
 
 -- where the newest commit of the place is kept, the state has what it left there
 pub state-read : (ledger : Ledger) (place : Place) (n number : ℕ) (none : BTreeMap Place (Option (List Cell))) → Belongs (machine_in ledger) ledger.writers
@@ -264,7 +253,7 @@ pub state-read : (ledger : Ledger) (place : Place) (n number : ℕ) (none : BTre
     → at_place (state_at (machine_in ledger).history n) place ≡ unwrap_or (at_place (get_or ledger.commits.items (number - 1) none).entries place) None
 state-read ledger place n number none h is within =
     state-kept ledger place n number h is
-    ∙ ap (λ o. unwrap_or (at_place (option_map_or (λ writes. writes.entries) o []) place) None) (got-within ledger.commits.items (number - 1) none within)
+    ∙ ap (λ o. unwrap_or (at_place (option_map_or (λ writes. writes.entries) o []) place) None) (slice_get-get_or ledger.commits.items (number - 1) none within)
 
 -- ---- what becomes of the transactions that are kept
 

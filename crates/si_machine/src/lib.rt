@@ -4,8 +4,6 @@
 
 mod ledger;
 mod machine;
-#[cfg(test)]
-mod tests;
 mod writers;
 
 pub use machine::Machine;

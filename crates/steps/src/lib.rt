@@ -47,6 +47,3 @@ impl<L: Ledger> Steps<L> {
         self.book.add(&mut self.share, u64::from(count));
     }
 }
-
-#[cfg(test)]
-mod tests;

@@ -9,6 +9,7 @@ use Rattle.std.proofs.lemmas.Grind.{flat_map-append}
 use Rattle.std.proofs.lemmas.List.{map-append, length-map}
 use Rattle.std.proofs.lemmas.List.FromFn.{length-range_with_len}
 use Rattle.std.proofs.lemmas.List.Sums.{count_by-le-length, sum_by-append}
+use Rattle.std.proofs.lemmas.Option.{same_Some}
 use Rattle.arrow_spec.specs.Streams.{end_word, schema_message, stream_of}
 use Rattle.block_spec.specs.Slots.{Row}
 use Rattle.byte_ports.specs.Calls.{AppendsFront, Rose}
@@ -431,14 +432,10 @@ refused store old t key before spent is written = record {
 
 -- ---- what the transaction wrote
 
--- Two options with a value are equal only where their values are.
-some_is : {X : Type 0} (a b : X) → Some a ≡ Some b → a ≡ b
-some_is a b h = cc
-
 -- where no written key of the table is found, the session's transaction wrote none
 pub clean_here : (s : Session) (own : OwnTransaction) (t : ℕ) (found : Option ℤ) → option_map (least_written t) (own_of s) ≡ Some found → own_of s ≡ Some own → found ≡ None → least_written t own ≡ None
-clean_here s own t found told is none' = some_is (least_written t own) found (sym (ap (option_map (least_written t)) is) ∙ told) ∙ none'
+clean_here s own t found told is none' = same_Some (least_written t own) found (sym (ap (option_map (least_written t)) is) ∙ told) ∙ none'
 
 -- the snapshot that is told is that of the session's transaction
 pub number_here : (s : Session) (own : OwnTransaction) (number : ℕ) → option_map (λ (own : OwnTransaction). own.snapshot.number) (own_of s) ≡ Some number → own_of s ≡ Some own → own.snapshot.number ≡ number
-number_here s own number told is = some_is own.snapshot.number number (sym (ap (option_map (λ (own : OwnTransaction). own.snapshot.number)) is) ∙ told)
+number_here s own number told is = same_Some own.snapshot.number number (sym (ap (option_map (λ (own : OwnTransaction). own.snapshot.number)) is) ∙ told)

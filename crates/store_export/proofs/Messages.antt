@@ -5,8 +5,8 @@ use Rattle.arrow_spec.specs.Streams.{batch_message}
 use Rattle.block_columns.specs.Images.{ImageValue, IsWhole, rows_of}
 use Rattle.block_spec.specs.Slots.{Row}
 use Rattle.cell_model.specs.declared.column.Column.{Column}
-use Rattle.core_images.specs.Kinds.{kinds_of}
-use Rattle.core_images.proofs.SameKinds.{same_message}
+use Rattle.core_parts.specs.Kinds.{kinds_of}
+use Rattle.core_parts.proofs.SameKinds.{same_message}
 use Rattle.ipc_write.specs.Calls.{MakesPiece, WriterView}
 use Rattle.ipc_write.specs.declared.faults.PieceFault.{PieceFault}
 use Rattle.ipc_write.specs.declared.faults.PieceFault.TheVariants.{Sink, Memory}

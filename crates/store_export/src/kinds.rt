@@ -1,6 +1,6 @@
 //! The kinds of columns, by which their buffers are laid out.
 ghost use Rattle.std.specs.Prelude.{◌≡◌, ◌↔◌, IsTrue};
-ghost use Rattle.core_images.specs.Kinds.{kinds_of};
+ghost use Rattle.core_parts.specs.Kinds.{kinds_of};
 
 use block_columns::Columns;
 use cell_model::Column;

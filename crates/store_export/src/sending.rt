@@ -2,7 +2,7 @@
 ghost use Rattle.std.specs.Prelude.{◌≡◌, ◌≤◌, ◌^◌, false, All, IfOk, length};
 ghost use Rattle.block_columns.specs.Images.{IsWhole, rows_of};
 ghost use Rattle.cell_model.specs.Rows.{Fits};
-ghost use Rattle.core_images.specs.FrontValues.{rows_of_front};
+ghost use Rattle.core_parts.specs.FrontValues.{rows_of_front};
 ghost use Rattle.ipc_write.specs.Calls.{MakesPiece};
 ghost use Rattle.store_export.specs.Groups.{group_message};
 
@@ -10,7 +10,7 @@ use crate::kinds::are_of_same_kinds;
 use block_columns::Image;
 use byte_ports::Sink;
 use cell_model::{Row, Schema};
-use core_images::{FrontColumns, ReadForm, ReadRows, SharedRows};
+use core_parts::{FrontColumns, ReadForm, ReadRows, SharedRows};
 use gather_core::gather_in_turn;
 use ipc_write::{PieceFault, Writer};
 use std::alloc::{AllocError, Global};

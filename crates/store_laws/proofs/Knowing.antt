@@ -11,7 +11,7 @@ use Rattle.hall_rule.specs.Views.{among}
 use Rattle.hall_rule.specs.declared.view.Entry.{Entry}
 use Rattle.hall_rule.specs.declared.view.View.{View}
 use Rattle.hall_rule.proofs.Logs.{has_head, own_append}
-use Rattle.own_laws.specs.Laws.{HasOpened}
+use Rattle.store_laws.specs.OwnLaws.{HasOpened}
 use Rattle.run_spec.specs.Handed.{own_in}
 use Rattle.run_spec.specs.Opened.{own_after}
 use Rattle.store_laws.specs.Laws.{JoinsGoOn, LooksGoOn}

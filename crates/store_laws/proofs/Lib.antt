@@ -1,3 +1,5 @@
+pub mod Owned
+pub mod Going
 pub mod Calling
 pub mod Entries
 pub mod Knowing

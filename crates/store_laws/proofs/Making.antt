@@ -3,6 +3,7 @@ use Rattle.std.proofs.Common.{◌≡◌, ◌≢◌, ℕ, Bool, true, false, List
 use mathlib.Core.Logic.{inl, inr}
 use Rattle.std.specs.Prelude.{MatchBool}
 use Rattle.std.proofs.lemmas.List.Sums.{fold-append}
+use Rattle.std.proofs.lemmas.Option.{none-some}
 use Rattle.event_spec.specs.declared.event.Event.TheVariants as event
 use Rattle.event_spec.specs.declared.own.OwnTransaction.{OwnTransaction}
 use Rattle.event_spec.specs.declared.reply.Reply.TheVariants.{Memory}
@@ -17,8 +18,8 @@ use Rattle.hall_rule.specs.Views.{entry_of as hall_entry}
 use Rattle.hall_rule.specs.declared.view.Entry.{Entry}
 use Rattle.hall_rule.specs.declared.view.View.{View}
 use Rattle.hall_rule.proofs.Logs.{has_head, lawful_rest, replay_append}
-use Rattle.own_laws.proofs.Going.{goes, stays}
-use Rattle.own_laws.specs.Laws.{HasOpened}
+use Rattle.store_laws.proofs.Going.{goes, stays}
+use Rattle.store_laws.specs.OwnLaws.{HasOpened}
 use Rattle.run_spec.specs.Calls.{is_memory}
 use Rattle.run_spec.specs.Handed.{own_in}
 use Rattle.run_spec.specs.Occurrences.{Occurrence}
@@ -28,10 +29,6 @@ use Rattle.store_laws.specs.Logs.{log_of, logged_of, store_meaning}
 use Rattle.store_laws.specs.Own.{KnowsOwn, MakesOne, entry_of, occurrence_at, parts_after}
 use Rattle.store_laws.proofs.Entries.{log_append, own_grows, own_stays, replay_same}
 use Rattle.store_laws.proofs.Knowing.{opened_moves}
-
--- An option without a value is not one that has a value.
-none_some : {A : Type 0} (a : A) → None ≡ Some a → ⊥
-none_some a e = cc
 
 -- An option that has a value is not one without a value.
 some_none : {A : Type 0} (a : A) → Some a ≡ None → ⊥
@@ -163,7 +160,7 @@ events_go_on shape session id old new hand held before own' e told is_shape k k'
     granted : IsOfSession session e → HasOpened shape (effect shape parts e) session (own_behind own' e (reply_to shape parts e))
     granted (inl named') = goes shape parts e session own' ends.learned.sound is_lawful named' at_event
     granted (inr unnamed) = subst (HasOpened shape (effect shape parts e) session) (sym (unnamed_keeps own' e (reply_to shape parts e) unnamed))
-        (stays shape parts e session own' ends.learned.sound is_lawful (λ is. none_some session (sym unnamed ∙ is)) at_event)
+        (stays shape parts e session own' ends.learned.sound is_lawful (λ is. none-some session (sym unnamed ∙ is)) at_event)
 
     opened_behind : (b : Bool) → is_memory told ≡ b → MatchBool b (told ≡ Memory) (told ≡ reply_to shape parts e)
         → HasOpened shape (after shape parts (record { event = e; refused = b })) session (own_behind own' e told)

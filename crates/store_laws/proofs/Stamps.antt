@@ -6,8 +6,8 @@ use Rattle.block_spec.specs.Bodies.{seal_fault, sealed}
 use Rattle.block_spec.specs.declared.change.Change.{Change}
 use Rattle.block_spec.specs.declared.change.Change.TheVariants as change
 use Rattle.block_spec.specs.Slots.{Row}
-use Rattle.event_laws.proofs.Naming.{desk_there}
-use Rattle.event_laws.proofs.States.{desk_at_after}
+use Rattle.core_laws.proofs.Events.Naming.{desk_there}
+use Rattle.core_laws.proofs.Events.States.{desk_at_after}
 use Rattle.event_spec.specs.declared.event.Event.TheVariants as event
 use Rattle.event_spec.specs.declared.event.MovePair.{MovePair}
 use Rattle.event_spec.specs.declared.own.OwnKey.{OwnKey}
@@ -16,10 +16,10 @@ use Rattle.event_spec.specs.Effects.{CoreEvent, after_change, after_insert, afte
 use Rattle.event_spec.specs.Judged.{differences}
 use Rattle.event_spec.specs.Parts.{Parts, Shape, nothing, body_at, desk_at, is_head}
 use Rattle.event_spec.specs.Replay.{IsLawfulFrom, Made, after, opening}
-use Rattle.frame_laws.proofs.Reached.{core_kept, core_opens}
-use Rattle.frame_laws.specs.Shards.{CoreHolds}
+use Rattle.core_laws.proofs.Frames.Reached.{core_kept, core_opens}
+use Rattle.core_laws.specs.Frames.Shards.{CoreHolds}
 use Rattle.isolation_spec.specs.Contents.{key_of}
-use Rattle.run_laws.proofs.Opening.{desk}
+use Rattle.core_laws.proofs.Logs.Opening.{desk}
 use Rattle.run_spec.specs.Occurrences.{Logged}
 use Rattle.store_laws.specs.Laws.{StampsAreFew}
 use Rattle.store_laws.specs.Logs.{made_in}

@@ -1,3 +1,4 @@
+pub mod OwnLaws
 pub mod Laws
 pub mod Logs
 pub mod Own

@@ -4,7 +4,7 @@ use Rattle.event_spec.specs.Effects.{CoreEvent}
 use Rattle.event_spec.specs.Lawful.{Opened}
 use Rattle.event_spec.specs.Parts.{CorePart, Shape}
 use Rattle.event_spec.specs.Replay.{Made, opening}
-use Rattle.hall_laws.specs.Hall.{core_meaning}
+use Rattle.core_laws.specs.Hall.Hall.{core_meaning}
 use Rattle.hall_rule.specs.Meaning.{Meaning}
 use Rattle.hall_rule.specs.declared.view.Entry.{Entry}
 use Rattle.run_spec.specs.Occurrences.{Logged}

@@ -8,7 +8,7 @@ use Rattle.event_spec.specs.Replay as core
 use Rattle.event_spec.specs.Replies.{CoreReply}
 use Rattle.hall_rule.specs.EventLog.{has, replay}
 use Rattle.hall_rule.specs.declared.view.View.{View}
-use Rattle.own_laws.specs.Laws.{HasOpened}
+use Rattle.store_laws.specs.OwnLaws.{HasOpened}
 use Rattle.run_spec.specs.Calls.{is_memory}
 use Rattle.run_spec.specs.Handed.{GoesOn, own_in}
 use Rattle.run_spec.specs.Occurrences.{Logged, Occurrence}

@@ -3,6 +3,8 @@
 //! laws.
 #![tactic(auto)]
 
+pub mod own_laws;
+
 ghost use Rattle.store_laws.specs.Laws.{EventsGoOn, JoinsGoOn, LooksGoOn, LogsAreRuns};
 ghost use Rattle.store_laws.specs.Laws.{SingleEventsAreCalls, StampsAreFew};
 

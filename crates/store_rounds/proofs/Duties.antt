@@ -13,7 +13,7 @@ use Rattle.workload_spec.specs.declared.command.Command.{Command}
 use Rattle.workload_spec.specs.declared.script.Line.{Line}
 use Rattle.shared_store.specs.Store.{IsSession, StoreView, shape_in}
 use Rattle.shared_store.specs.declared.session.Session.{Session}
-use Rattle.store_workers.specs.Turns.{most_of_turn}
+use Rattle.store_rounds.specs.Turns.{most_of_turn}
 use Rattle.store_rounds.specs.Answered.{IsServed, most_events}
 use Rattle.store_rounds.specs.Duties.{AreDuties, AreOfSessions, AreWithWorkers, IsNew, IsOfSession, asks_export, fault_of, has_export, is_cut, is_whole}
 use Rattle.store_rounds.specs.Rounds.{HaveRoomFor}

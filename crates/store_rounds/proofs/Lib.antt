@@ -1,3 +1,5 @@
+pub mod Kept
+pub mod Tended
 mod Answering
 mod Short
 mod Faults

@@ -3,8 +3,8 @@ use Rattle.std.proofs.Common.{◌≡◌, ℕ, true, nat_lt, List, [], ◌∷◌,
 use mathlib.Core.Logic.{inl}
 use Rattle.std.proofs.KnownBytes.{Appends-nil}
 use Rattle.std.proofs.lemmas.List.Elements.{All-nil}
-use Rattle.round_laws.proofs.Rounds.{nothing_ran}
-use Rattle.round_laws.specs.Texts.{AreCounted}
+use Rattle.run_laws.proofs.Rounds.Rounds.{nothing_ran}
+use Rattle.run_laws.specs.Rounds.Texts.{AreCounted}
 use Rattle.store_rounds.specs.Workloads.{GoesBefore, GoesStopped, WentBy}
 use Rattle.store_rounds.proofs.Scripts.{has_rounds}
 use Rattle.store_rounds.proofs.Sends.{nothing_sent}

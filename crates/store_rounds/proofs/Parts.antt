@@ -10,8 +10,8 @@ use Rattle.std.proofs.lemmas.List.Folds.{list_any-append}
 use Rattle.workload_spec.specs.Valid.{is_export}
 use Rattle.workload_spec.specs.declared.command.Command.{Command}
 use Rattle.run_spec.specs.Calls.{Call}
-use Rattle.round_laws.proofs.Working.{nothing_done}
-use Rattle.round_laws.specs.Texts.{IsCounted}
+use Rattle.run_laws.proofs.Rounds.Working.{nothing_done}
+use Rattle.run_laws.specs.Rounds.Texts.{IsCounted}
 use Rattle.shared_store.specs.Store.{StoreView, seen, shape_in}
 use Rattle.shared_store.specs.declared.session.Session.{Session}
 use Rattle.store_rounds.specs.Answered.{SentBy}

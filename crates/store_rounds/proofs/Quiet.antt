@@ -6,8 +6,8 @@ use Rattle.std.proofs.KnownBytes.{Appends-nil}
 use Rattle.std.proofs.lemmas.Bool.{and_from, and_parts}
 use Rattle.std.proofs.lemmas.List.Folds.{list_all-append, list_any-append}
 use Rattle.cell_model.specs.declared.table.TableDecl.{TableDecl}
-use Rattle.export_laws.proofs.Quiet.{upkeep_no_export}
-use Rattle.export_laws.proofs.Sending.{sendings_join}
+use Rattle.run_laws.proofs.Exports.Quiet.{upkeep_no_export}
+use Rattle.run_laws.proofs.Exports.Sending.{sendings_join}
 use Rattle.export_spec.specs.Calls.{CallsSend, SendsAs}
 use Rattle.outcome_spec.specs.Forms.{is_upkeep, turn_of}
 use Rattle.outcome_spec.specs.Tables.{blocks_at, columns_at}

@@ -113,11 +113,6 @@ flat_at {X} {Y} f t a (x ∷ xs) each =
     ∙ ap (λ (ys : List Y). t a ++ ys)
     (flat_at f t (a + 1) xs (λ k d within. each (suc k) d (omega (arith, within)) ∙ ap t (let e : a + suc k ≡ a + 1 + k = omega arith in e)))
 
--- lists joined over what was mapped are joined over what it was mapped from
-pub flat_of_map : {X Y Z : Type 0} (f : Y → List Z) (g : X → Y) (xs : List X) → flat_map f (map g xs) ≡ flat_map (λ x. f (g x)) xs
-flat_of_map f g [] = refl
-flat_of_map {X} {Y} {Z} f g (x ∷ xs) = ap (λ (zs : List Z). f (g x) ++ zs) (flat_of_map f g xs)
-
 -- a list that was written over as many places is what was written
 pub written_over : {X : Type 0} (new old : List X) (n : ℕ) → n ≡ length old → length new ≡ length old → take n (new ++ drop (length new) old) ≡ new
 written_over new old n size same = ap (λ k. take k (new ++ drop (length new) old)) (size ∙ sym same) ∙ all_of new old same

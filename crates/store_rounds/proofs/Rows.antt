@@ -4,7 +4,7 @@ use Rattle.std.proofs.lemmas.Bool.Decides.{nat_tests}
 use Rattle.std.proofs.lemmas.Grind.{elements}
 use Rattle.run_spec.specs.Handed.{GoesOn}
 use Rattle.run_spec.specs.Occurrences.{Logged}
-use Rattle.round_laws.proofs.Working.{further}
+use Rattle.run_laws.proofs.Rounds.Working.{further}
 use Rattle.shared_store.specs.Store.{IsSession, StoreView, seen}
 use Rattle.shared_store.specs.declared.session.Session.{Session}
 use Rattle.store_rounds.specs.Row.{AreSessions, LookOn, LooksOn, Meet, Met, SeeBack, ShowAlong}

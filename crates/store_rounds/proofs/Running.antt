@@ -22,15 +22,15 @@ use Rattle.event_spec.specs.Parts.{Shape}
 use Rattle.run_spec.specs.Calls.{Call}
 use Rattle.run_spec.specs.Occurrences.{Logged}
 use Rattle.run_spec.specs.Ran.{RoundRun, Share, shape_of}
-use Rattle.round_laws.proofs.Lines.{rounds_grow}
-use Rattle.round_laws.proofs.Rounds.{nothing_ran, rounds_go_on}
-use Rattle.round_laws.specs.Lines.{round_text, rounds_text}
-use Rattle.round_laws.specs.Rounds.{RanSoFar, round_behind}
-use Rattle.round_laws.specs.Texts.{AreCounted}
+use Rattle.run_laws.proofs.Rounds.Lines.{rounds_grow}
+use Rattle.run_laws.proofs.Rounds.Rounds.{nothing_ran, rounds_go_on}
+use Rattle.run_laws.specs.Rounds.Lines.{round_text, rounds_text}
+use Rattle.run_laws.specs.Rounds.Rounds.{RanSoFar, round_behind}
+use Rattle.run_laws.specs.Rounds.Texts.{AreCounted}
 use Rattle.shared_store.specs.Building.{IsNewRow, IsNewSession}
 use Rattle.shared_store.specs.Store.{StoreView, events_made, seen, shape_in}
 use Rattle.shared_store.specs.declared.session.Session.{Session}
-use Rattle.store_workers.specs.Turns.{most_of_turn}
+use Rattle.store_rounds.specs.Turns.{most_of_turn}
 use Rattle.store_rounds.specs.Answered.{IsServed, SentBy, most_events}
 use Rattle.store_rounds.specs.Crews.{calls_of, crew_calls, crew_of, crew_shares, shares_of}
 use Rattle.store_rounds.specs.Rounds.{AllTurned, AskedAll, HaveRoomFor, RanRound, RowRan}

@@ -17,13 +17,13 @@ use Rattle.run_spec.specs.Calls.{Call}
 use Rattle.run_spec.specs.Handed.{Brings, GoesOn, Works, own_in}
 use Rattle.run_spec.specs.Occurrences.{Logged}
 use Rattle.run_spec.specs.Ran.{Agenda, Share, agenda_of, agendas_in, session_of, shape_of, turns_of}
-use Rattle.round_laws.proofs.Working.{work_ends}
-use Rattle.round_laws.specs.Rounds.{IsNamedIn, RoundMet, made_in}
-use Rattle.round_laws.specs.Texts.{IsCounted}
-use Rattle.round_laws.specs.Working.{Ends, MeetsIn, StandsBehind}
+use Rattle.run_laws.proofs.Rounds.Working.{work_ends}
+use Rattle.run_laws.specs.Rounds.Rounds.{IsNamedIn, RoundMet, made_in}
+use Rattle.run_laws.specs.Rounds.Texts.{IsCounted}
+use Rattle.run_laws.specs.Rounds.Working.{Ends, MeetsIn, StandsBehind}
 use Rattle.shared_store.specs.Store.{IsNamed, IsSession, StoreView, seen, shape_in}
 use Rattle.shared_store.specs.declared.session.Session.{Session}
-use Rattle.store_workers.specs.Turns.{most_of_turn}
+use Rattle.store_rounds.specs.Turns.{most_of_turn}
 use Rattle.store_rounds.specs.Answered.{most_events}
 use Rattle.store_rounds.specs.Crews.{crew_of, crew_shares, shares_of}
 use Rattle.store_rounds.specs.Rounds.{AllTurned, AskedAll, OneRan, RowRan}

@@ -7,9 +7,9 @@ use Rattle.cell_model.specs.declared.column.Column.{Column}
 use Rattle.cell_model.specs.declared.table.TableDecl.{TableDecl}
 use Rattle.event_spec.specs.Parts.{Shape, blocks_of}
 use Rattle.event_spec.specs.Replay.{columns_in}
-use Rattle.explained_laws.proofs.Counting.{blocks_same}
-use Rattle.export_laws.proofs.Sending.{sending_goes_on, sendings_join}
-use Rattle.export_laws.proofs.Tables.{columns_same}
+use Rattle.run_laws.proofs.Explained.Counting.{blocks_same}
+use Rattle.run_laws.proofs.Exports.Sending.{sending_goes_on, sendings_join}
+use Rattle.run_laws.proofs.Exports.Tables.{columns_same}
 use Rattle.export_spec.specs.Calls.{CallSends, SendsAs}
 use Rattle.outcome_spec.specs.Forms.{is_upkeep}
 use Rattle.outcome_spec.specs.Tables.{blocks_at, columns_at}
@@ -22,7 +22,7 @@ use Rattle.store_export.specs.Exports.{Exports, exported_told}
 use Rattle.store_export.specs.declared.exporting.ExportFault.{ExportFault}
 use Rattle.store_export.specs.declared.exporting.ExportFault.TheVariants as fault
 use Rattle.store_export.specs.declared.exporting.Summary.{Summary}
-use Rattle.store_workers.specs.Keeping.{Counts}
+use Rattle.store_rounds.specs.Keeping.{Counts}
 use Rattle.store_rounds.specs.Answered.{Answered, SentBy, most_events}
 use Rattle.workload_spec.specs.Valid.{is_export}
 use Rattle.workload_spec.specs.declared.command.Command.{Command}

@@ -16,9 +16,9 @@ use Rattle.workload_spec.specs.declared.script.Line.{Line}
 use Rattle.workload_spec.specs.declared.script.Script.{Script}
 use Rattle.run_spec.specs.Calls.{Call}
 use Rattle.run_spec.specs.Ran.{Share}
-use Rattle.round_laws.proofs.Fronts.{first_lines_are_so, first_lines_ask, fronts_are_valid}
-use Rattle.round_laws.specs.Fronts.{AreFirstLines, first_lines, lines_of}
-use Rattle.round_laws.specs.Lines.{round_text, rounds_text}
+use Rattle.run_laws.proofs.Rounds.Fronts.{first_lines_are_so, first_lines_ask, fronts_are_valid}
+use Rattle.run_laws.specs.Rounds.Fronts.{AreFirstLines, first_lines, lines_of}
+use Rattle.run_laws.specs.Rounds.Lines.{round_text, rounds_text}
 use Rattle.shared_store.specs.Store.{StoreView}
 use Rattle.shared_store.specs.declared.session.Session.{Session}
 use Rattle.store_rounds.specs.Crews.{crew_of, crew_shares, shares_of}

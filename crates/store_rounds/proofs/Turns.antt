@@ -11,10 +11,10 @@ use Rattle.workload_spec.specs.declared.reply.Said.TheVariants as said
 use Rattle.workload_spec.specs.declared.reply.Who.TheVariants.{Session as TheSession}
 use Rattle.run_spec.specs.Calls.{Call}
 use Rattle.run_spec.specs.Handed.{Called}
-use Rattle.round_laws.proofs.Lines.{shares_grow}
-use Rattle.round_laws.proofs.Working.{nothing_done, work_goes_on}
-use Rattle.round_laws.specs.Lines.{line_behind, line_of, share_text, told_by}
-use Rattle.round_laws.specs.Texts.{IsCounted}
+use Rattle.run_laws.proofs.Rounds.Lines.{shares_grow}
+use Rattle.run_laws.proofs.Rounds.Working.{nothing_done, work_goes_on}
+use Rattle.run_laws.specs.Rounds.Lines.{line_behind, line_of, share_text, told_by}
+use Rattle.run_laws.specs.Rounds.Texts.{IsCounted}
 use Rattle.shared_store.specs.Store.{HasRoomFor, IsSession, MakesAtMost, StoreView, seen, shape_in}
 use Rattle.shared_store.specs.declared.session.Session.{Session}
 use Rattle.store_rounds.specs.Answered.{Answered, SentBy, most_events}

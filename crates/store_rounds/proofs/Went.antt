@@ -1,17 +1,17 @@
 -- What ran is a run, and its lines say all that was sent.
 use Rattle.std.proofs.Common.{◌≡◌, ℕ, true, List, [], ◌∷◌, ◌++◌, map, Option, refl, sym, subst}
 use Rattle.std.specs.Prelude.{All}
-use Rattle.explained_laws.specs.Timelines.{PruningsFit}
-use Rattle.export_laws.proofs.Sending.{nothing_says_nothing, runs_say_all_sent}
+use Rattle.run_laws.specs.Explained.Timelines.{PruningsFit}
+use Rattle.run_laws.proofs.Exports.Sending.{nothing_says_nothing, runs_say_all_sent}
 use Rattle.export_spec.specs.Calls.{CallsSend, calls_in}
 use Rattle.export_spec.specs.Sent.{SaysAllSent}
 use Rattle.outcome_spec.specs.Explained.{Explained}
-use Rattle.round_laws.proofs.Fronts.{first_rounds_are_valid}
-use Rattle.round_laws.proofs.Texts.{counts_fit, nothing_is_explained, rounds_are_explained, rounds_ran}
-use Rattle.round_laws.specs.Fronts.{with_rounds}
-use Rattle.round_laws.specs.Lines.{rounds_text}
-use Rattle.round_laws.specs.Rounds.{RanSoFar}
-use Rattle.round_laws.specs.Texts.{AreCounted}
+use Rattle.run_laws.proofs.Rounds.Fronts.{first_rounds_are_valid}
+use Rattle.run_laws.proofs.Rounds.Texts.{counts_fit, nothing_is_explained, rounds_are_explained, rounds_ran}
+use Rattle.run_laws.specs.Rounds.Fronts.{with_rounds}
+use Rattle.run_laws.specs.Rounds.Lines.{rounds_text}
+use Rattle.run_laws.specs.Rounds.Rounds.{RanSoFar}
+use Rattle.run_laws.specs.Rounds.Texts.{AreCounted}
 use Rattle.run_spec.specs.Occurrences.{Logged}
 use Rattle.run_spec.specs.Ran.{RoundRun, agenda_of, agendas_in, told_in}
 use Rattle.store_rounds.specs.Answered.{SentBy}

@@ -4,8 +4,9 @@ use mathlib.Core.Logic.{inl, inr}
 use Rattle.std.specs.Prelude.{◌⊎◌, OnOk, Result, not}
 use Rattle.std.specs.List.{flat_map, list_any, range_with_len}
 use Rattle.std.proofs.lemmas.Grind.{flat_map-append}
-use Rattle.std.proofs.lemmas.List.Folds.{list_any-append}
+use Rattle.std.proofs.lemmas.List.Folds.{list_any-append, flat_map-map}
 use Rattle.std.proofs.lemmas.List.{map-append}
+use Rattle.std.proofs.lemmas.Bool.{not-false}
 use Rattle.cell_model.specs.declared.table.TableDecl.{TableDecl}
 use Rattle.outcome_spec.specs.Forms.{commands_of}
 use Rattle.workload_spec.specs.Valid.{is_export}
@@ -14,10 +15,10 @@ use Rattle.workload_spec.specs.declared.reply.Who.{Who}
 use Rattle.workload_spec.specs.declared.reply.Who.TheVariants.{Session as TheSession, Worker as TheWorker}
 use Rattle.workload_spec.specs.declared.script.Line.{Line}
 use Rattle.run_spec.specs.Calls.{Call}
-use Rattle.round_laws.specs.Lines.{round_text, share_text}
+use Rattle.run_laws.specs.Rounds.Lines.{round_text, share_text}
 use Rattle.shared_store.specs.Store.{StoreView, shape_in}
 use Rattle.shared_store.specs.declared.session.Session.{Session}
-use Rattle.store_workers.specs.Turns.{most_of_turn}
+use Rattle.store_rounds.specs.Turns.{most_of_turn}
 use Rattle.store_rounds.specs.Answered.{SentBy, most_events}
 use Rattle.store_rounds.specs.Crews.{calls_of, crew_calls, crew_shares, shares_of, turns_in}
 use Rattle.store_rounds.specs.Duties.{AreDuties, IsNew, duties_text, is_cut, is_whole, is_whole_end}
@@ -33,7 +34,7 @@ use Rattle.store_rounds.specs.declared.fault.RunFault.{RunFault}
 use Rattle.store_rounds.specs.declared.fault.RunFault.TheVariants as fault
 use Rattle.store_rounds.proofs.Duties.{Stopped, Whole, by_memory, by_outlet, duties_size, of_session_at, of_worker_at}
 use Rattle.store_rounds.proofs.Quiet.{asks_none, none_at, none_of_both}
-use Rattle.store_rounds.proofs.Ranges.{any_default, any_of, flat_at, flat_of_map, flat_split, joined, joined_back, joined_flat, joined_front, shifted, some_place}
+use Rattle.store_rounds.proofs.Ranges.{any_default, any_of, flat_at, flat_split, joined, joined_back, joined_flat, joined_front, shifted, some_place}
 use Rattle.store_rounds.proofs.Runs.{Place, of_session, of_worker, place}
 
 -- ---- ends
@@ -55,11 +56,6 @@ ends_exports calls ends =
 whole_text : {T : Type 0} (r : Result T RunFault) (P : Type 0) → is_whole_end r ≡ true → OnOk r P → P
 whole_text (Ok value) P whole text = text
 whole_text (Err failed) P whole text = absurd (true≢false (sym whole))
-
--- Where the negation of a test is false, the test is true.
-not_false : (b : Bool) → not b ≡ false → b ≡ true
-not_false true e = refl
-not_false false e = absurd (let never : ⊥ = cc e in never)
 
 module _ (store : StoreView) (crew : Crew) (round : ℕ) (lines : List Line) (old ended new : List Session) (before after : List Duty) (exported exported_now : Option (List ℕ))
     (size : length old ≡ crew.sessions + crew.workers) (some : 0 < crew.sessions) (numbers : AreNumbered old)
@@ -217,13 +213,13 @@ module _ (store : StoreView) (crew : Crew) (round : ℕ) (lines : List Line) (ol
       ∙ ap (λ n. flat_map (joined crew.sessions first second) (range_with_len 1 n)) (served.duties ∙ sizes)
       ∙ joined_flat crew.sessions crew.workers first second
       ∙ ap (λ (text : List ℕ). text ++ flat_map second (range_with_len 1 crew.workers))
-      (sym (flat_of_map (share_text tables round) (λ n. share_of (TheSession n) (served.calls n)) (range_with_len 1 crew.sessions)))
+      (sym (flat_map-map (share_text tables round) (λ n. share_of (TheSession n) (served.calls n)) (range_with_len 1 crew.sessions)))
       ∙ ap (λ (text : List ℕ). flat_map (share_text tables round) (shares_of TheSession crew.sessions served.calls) ++ text)
-      (sym (flat_of_map (share_text tables round) (λ n. share_of (TheWorker n) (served.calls (crew.sessions + n))) (range_with_len 1 crew.workers)))
+      (sym (flat_map-map (share_text tables round) (λ n. share_of (TheWorker n) (served.calls (crew.sessions + n))) (range_with_len 1 crew.workers)))
       ∙ sym (flat_map-append (share_text tables round) (shares_of TheSession crew.sessions served.calls) (shares_of TheWorker crew.workers (λ n. served.calls (crew.sessions + n))))
     where
       whole_at : (k : ℕ) (e : Duty) → k < length after → is_whole (get_or after k e) ≡ true
-      whole_at k e within = not_false (is_whole (get_or after k e)) (none_at (λ (duty : Duty). not (is_whole duty)) after whole.none_lost k e within)
+      whole_at k e within = not-false (is_whole (get_or after k e)) (none_at (λ (duty : Duty). not (is_whole duty)) after whole.none_lost k e within)
 
       each : (k : ℕ) (e : Duty) → k < length after
           → (get_or after k e).lines.text.items

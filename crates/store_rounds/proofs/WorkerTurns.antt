@@ -19,13 +19,13 @@ use Rattle.workload_spec.specs.declared.reply.Who.TheVariants.{Worker as TheWork
 use Rattle.run_spec.specs.Calls.{Call}
 use Rattle.run_spec.specs.Handed.{Works}
 use Rattle.run_spec.specs.Occurrences.{Logged}
-use Rattle.round_laws.proofs.Lines.{enumerate_append}
-use Rattle.round_laws.proofs.Working.{further, nothing_done, work_goes_on}
-use Rattle.round_laws.specs.Lines.{line_of, share_text, told_by}
-use Rattle.round_laws.specs.Texts.{IsCounted}
+use Rattle.run_laws.proofs.Rounds.Lines.{enumerate_append}
+use Rattle.run_laws.proofs.Rounds.Working.{further, nothing_done, work_goes_on}
+use Rattle.run_laws.specs.Rounds.Lines.{line_of, share_text, told_by}
+use Rattle.run_laws.specs.Rounds.Texts.{IsCounted}
 use Rattle.shared_store.specs.Store.{HasRoomFor, IsSession, StoreView, seen, shape_in}
 use Rattle.shared_store.specs.declared.session.Session.{Session}
-use Rattle.store_workers.specs.Turns.{MadeTurn, most_of_turn}
+use Rattle.store_rounds.specs.Turns.{MadeTurn, most_of_turn}
 use Rattle.store_rounds.specs.Crews.{turns_in}
 use Rattle.store_rounds.specs.Turned.{PutTurn, TurnsMade, lines_behind}
 use Rattle.store_rounds.specs.Worked.{Worked, asked_in, share_of}

@@ -8,7 +8,7 @@ use Rattle.outcome_spec.specs.Forms.{is_upkeep}
 use Rattle.run_spec.specs.Calls.{Call}
 use Rattle.shared_store.specs.Store.{Answers, IsSession, MakesAtMost, StoreView, shape_in}
 use Rattle.shared_store.specs.declared.session.Session.{Session}
-use Rattle.store_workers.specs.Keeping.{Counts, most_upkeep}
+use Rattle.store_rounds.specs.Keeping.{Counts, most_upkeep}
 use Rattle.workload_spec.specs.Valid.{is_command}
 use Rattle.workload_spec.specs.declared.command.Command.{Command}
 use Rattle.workload_spec.specs.declared.reply.Said.{Said}

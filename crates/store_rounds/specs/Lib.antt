@@ -1,3 +1,5 @@
+pub mod Keeping
+pub mod Turns
 pub mod Answered
 pub mod Worked
 pub mod Served

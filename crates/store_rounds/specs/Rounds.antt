@@ -11,11 +11,11 @@ use Rattle.workload_spec.specs.declared.reply.Who.TheVariants.{Worker as TheWork
 use Rattle.workload_spec.specs.declared.script.Line.{Line}
 use Rattle.run_spec.specs.Calls.{Call}
 use Rattle.run_spec.specs.Occurrences.{Logged}
-use Rattle.round_laws.specs.Lines.{round_text}
-use Rattle.round_laws.specs.Rounds.{made_in}
+use Rattle.run_laws.specs.Rounds.Lines.{round_text}
+use Rattle.run_laws.specs.Rounds.Rounds.{made_in}
 use Rattle.shared_store.specs.Store.{HasRoomFor, IsNamed, StoreView, shape_in}
 use Rattle.shared_store.specs.declared.session.Session.{Session}
-use Rattle.store_workers.specs.Turns.{most_of_turn}
+use Rattle.store_rounds.specs.Turns.{most_of_turn}
 use Rattle.store_rounds.specs.declared.crew.Crew.{Crew}
 use Rattle.store_rounds.specs.declared.fault.RunFault.{RunFault}
 use Rattle.store_rounds.specs.declared.fault.RunFault.TheVariants as fault

@@ -3,7 +3,7 @@ use Rattle.std.specs.Prelude.{◌≡◌, ℕ, ◌-◌, ◌<◌, List, All, get_o
 use Rattle.event_spec.specs.Replay.{IsLawfulLog}
 use Rattle.run_spec.specs.Handed.{GoesOn, own_in}
 use Rattle.run_spec.specs.Occurrences.{Logged}
-use Rattle.round_laws.specs.Rounds.{made_in}
+use Rattle.run_laws.specs.Rounds.Rounds.{made_in}
 use Rattle.shared_store.specs.Store.{IsNamed, IsSession, StoreView, events_made, seen, shape_in}
 use Rattle.shared_store.specs.declared.session.Session.{Session}
 

@@ -4,8 +4,8 @@ use Rattle.workload_spec.specs.declared.script.Line.{Line}
 use Rattle.workload_spec.specs.declared.script.Script.{Script}
 use Rattle.run_spec.specs.Occurrences.{Logged}
 use Rattle.run_spec.specs.Ran.{shape_of}
-use Rattle.round_laws.specs.Fronts.{with_rounds}
-use Rattle.round_laws.specs.Working.{StandsBehind}
+use Rattle.run_laws.specs.Rounds.Fronts.{with_rounds}
+use Rattle.run_laws.specs.Rounds.Working.{StandsBehind}
 use Rattle.shared_store.specs.Store.{StoreView, seen, shape_in}
 use Rattle.shared_store.specs.declared.session.Session.{Session}
 use Rattle.store_rounds.specs.Row.{AreSessions}

@@ -10,10 +10,10 @@ use Rattle.workload_spec.specs.declared.reply.Who.{Who}
 use Rattle.workload_spec.specs.declared.reply.Who.TheVariants.{Session as TheSession}
 use Rattle.workload_spec.specs.declared.reply.Who.TheVariants.{Worker as TheWorker}
 use Rattle.run_spec.specs.Calls.{Call}
-use Rattle.round_laws.specs.Lines.{share_text}
+use Rattle.run_laws.specs.Rounds.Lines.{share_text}
 use Rattle.shared_store.specs.Store.{HasRoomFor, IsSession, StoreView, shape_in}
 use Rattle.shared_store.specs.declared.session.Session.{Session}
-use Rattle.store_workers.specs.Turns.{most_of_turn}
+use Rattle.store_rounds.specs.Turns.{most_of_turn}
 use Rattle.store_rounds.specs.Answered.{IsServed, SentBy, most_events}
 use Rattle.store_rounds.specs.Crews.{calls_of, turns_in}
 use Rattle.store_rounds.specs.Duties.{asks_export, is_cut, is_cut_end, is_whole}

@@ -9,10 +9,10 @@ use Rattle.workload_spec.specs.declared.reply.Said.{Said}
 use Rattle.workload_spec.specs.declared.reply.Who.{Who}
 use Rattle.workload_spec.specs.declared.reply.Who.TheVariants.{Worker as TheWorker}
 use Rattle.run_spec.specs.Calls.{Call}
-use Rattle.round_laws.specs.Lines.{line_of, share_text}
+use Rattle.run_laws.specs.Rounds.Lines.{line_of, share_text}
 use Rattle.shared_store.specs.Store.{StoreView, shape_in}
 use Rattle.shared_store.specs.declared.session.Session.{Session}
-use Rattle.store_workers.specs.Turns.{most_of_turn}
+use Rattle.store_rounds.specs.Turns.{most_of_turn}
 use Rattle.store_rounds.specs.Crews.{turns_in}
 use Rattle.store_rounds.specs.Worked.{Worked, asked_in, share_of}
 use Rattle.store_rounds.specs.declared.fault.RunFault.{RunFault}

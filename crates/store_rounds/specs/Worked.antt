@@ -7,7 +7,7 @@ use Rattle.workload_spec.specs.declared.reply.Who.{Who}
 use Rattle.run_spec.specs.Calls.{Call}
 use Rattle.run_spec.specs.Handed.{Works}
 use Rattle.run_spec.specs.Ran.{Share}
-use Rattle.round_laws.specs.Texts.{IsCounted}
+use Rattle.run_laws.specs.Rounds.Texts.{IsCounted}
 use Rattle.shared_store.specs.Store.{IsSession, MakesAtMost, StoreView, seen, shape_in}
 use Rattle.shared_store.specs.declared.session.Session.{Session}
 

@@ -10,8 +10,8 @@ use Rattle.workload_spec.specs.declared.script.Line.{Line}
 use Rattle.workload_spec.specs.declared.script.Script.{Script}
 use Rattle.run_spec.specs.Occurrences.{Logged}
 use Rattle.run_spec.specs.Ran.{Ran, Share}
-use Rattle.round_laws.specs.Fronts.{AreFirstLines, lines_of, with_rounds}
-use Rattle.round_laws.specs.Lines.{round_text}
+use Rattle.run_laws.specs.Rounds.Fronts.{AreFirstLines, lines_of, with_rounds}
+use Rattle.run_laws.specs.Rounds.Lines.{round_text}
 use Rattle.store_rounds.specs.Worked.{EndsAtExport}
 use Rattle.workload_spec.specs.declared.reply.Who.TheVariants.{Session as TheSession}
 use Rattle.store_rounds.specs.declared.fault.RunFault.{RunFault}

@@ -5,10 +5,11 @@ ghost use Rattle.outcome_spec.specs.Forms.{is_upkeep};
 ghost use Rattle.run_spec.specs.Told.{refusal_of};
 ghost use Rattle.shared_store.specs.Store.{Answers, HasRoomFor, IsSession, MakesAtMost};
 ghost use Rattle.shared_store.specs.Store.{shape_in};
-ghost use Rattle.store_workers.specs.Keeping.{Counts};
+ghost use Rattle.store_rounds.specs.Keeping.{Counts};
 ghost use Rattle.store_rounds.specs.Answered.{Answered, IsServed, most_events, told_in};
 ghost use Rattle.workload_spec.specs.Valid.{is_export};
 
+use crate::keeping::keep_up;
 use crate::sending::send;
 use crate::spent::Spent;
 use crate::told::{begun, found, scanned, written};
@@ -16,7 +17,6 @@ use byte_ports::{Failed, Sink};
 use shared_store::{Session, Store};
 use std::sync::Wait;
 use std::thread::Threads;
-use store_workers::keep_up;
 use workload_spec::{Command, Said};
 
 /// Carries out a session's command, and gives the line that it is told. An export goes to the

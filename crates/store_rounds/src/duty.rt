@@ -20,6 +20,7 @@ use crate::crew::Crew;
 use crate::fault::RunFault;
 use crate::lines::Lines;
 use crate::spent::Spent;
+use script_text::is_export;
 use std::alloc::{AllocError, Global};
 use workload_spec::{Command, Round};
 
@@ -106,33 +107,11 @@ impl Duty {
     }
 }
 
-/// Whether a command exports a table.
-pub fn is_export(command: &Command) -> bool
-    ensures { result ≡ is_export command.now }
-{
-    match command {
-        Command::Export { .. } => true,
-        Command::Begin
-        | Command::Get { .. }
-        | Command::Scan { .. }
-        | Command::Insert { .. }
-        | Command::Update { .. }
-        | Command::Delete { .. }
-        | Command::Commit
-        | Command::Abort
-        | Command::Observe
-        | Command::Prune
-        | Command::Compact { .. }
-        | Command::Seal { .. }
-        | Command::Gather { .. } => false,
-    }
-}
-
 /// Whether one of the commands exports a table.
 fn any_is_export(commands: &[Command]) -> bool
     ensures { result ≡ list_any is_export commands.now }
 {
-    commands.iter().any(is_export)
+    commands.iter().any(|command| is_export(command))
 }
 
 /// The duties of a crew in a round, its sessions' first. `at_once` tells whether the machine runs

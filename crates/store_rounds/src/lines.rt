@@ -1,7 +1,7 @@
 //! The lines of a round, as they are told.
 ghost use Rattle.std.specs.Prelude.{◌≡◌, ◌+◌, ◌++◌, ◌<◌, ◌^◌, Err, IfErr, IfOk, OnOk, length};
 ghost use Rattle.workload_spec.specs.ReplyText.{replies_text, reply_text};
-ghost use Rattle.round_laws.specs.Lines.{line_of};
+ghost use Rattle.run_laws.specs.Rounds.Lines.{line_of};
 ghost use Rattle.store_rounds.specs.Turned.{PutTurn, lines_behind};
 
 use crate::fault::RunFault;

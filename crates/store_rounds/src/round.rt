@@ -6,7 +6,7 @@ ghost use Rattle.std.specs.List.{list_all};
 ghost use Rattle.workload_spec.specs.Valid.{is_export, is_within, most_sessions, most_turns};
 ghost use Rattle.workload_spec.specs.Valid.{most_workers};
 ghost use Rattle.shared_store.specs.Store.{shape_in};
-ghost use Rattle.store_workers.specs.Turns.{most_of_turn};
+ghost use Rattle.store_rounds.specs.Turns.{most_of_turn};
 ghost use Rattle.store_rounds.specs.Answered.{IsServed, most_events};
 ghost use Rattle.store_rounds.specs.Rounds.{AreNumbered, HaveRoomFor, RanRound, RoundStops};
 ghost use Rattle.store_rounds.specs.Row.{AreSessions};

@@ -2,17 +2,17 @@
 ghost use Rattle.std.specs.Prelude.{◌≡◌, ◌*◌, ◌≤◌, IfErr};
 ghost use Rattle.workload_spec.specs.Valid.{most_turns, most_workers};
 ghost use Rattle.shared_store.specs.Store.{HasRoomFor, IsSession};
-ghost use Rattle.store_workers.specs.Turns.{most_of_turn};
+ghost use Rattle.store_rounds.specs.Turns.{most_of_turn};
 ghost use Rattle.store_rounds.specs.Turned.{TurnsMade};
 
 use crate::fault::RunFault;
 use crate::lines::Lines;
+use crate::worker_turning::turn;
 use byte_ports::Gate;
 use shared_store::{Session, Store};
 use std::alloc::Global;
 use std::sync::Wait;
 use std::thread::Threads;
-use store_workers::turn;
 
 /// At the gate the workers' numbers come behind those of the most sessions.
 const MOST_SESSIONS: u32 = 64;

@@ -6,6 +6,3 @@ mod lines;
 mod shown;
 
 pub use shown::{Shown, show};
-
-#[cfg(test)]
-mod tests;

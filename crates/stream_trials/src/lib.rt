@@ -2,4 +2,18 @@
 #![tactic(auto)]
 
 #[cfg(test)]
-mod tests;
+mod arrays;
+#[cfg(test)]
+mod building;
+#[cfg(test)]
+mod flat_reads;
+#[cfg(test)]
+mod metadata;
+#[cfg(test)]
+mod ports;
+#[cfg(test)]
+mod reading;
+#[cfg(test)]
+mod shown;
+#[cfg(test)]
+mod streams;

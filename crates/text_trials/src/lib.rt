@@ -2,4 +2,10 @@
 #![tactic(auto)]
 
 #[cfg(test)]
+mod cells;
+#[cfg(test)]
+mod printing;
+#[cfg(test)]
 mod tests;
+#[cfg(test)]
+mod words;

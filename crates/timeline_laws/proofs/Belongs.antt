@@ -5,6 +5,7 @@ use Rattle.std.specs.Option.{option_or}
 use Rattle.std.specs.List.{filter, find, list_any, cons_option}
 use Rattle.std.proofs.lemmas.List.Folds.{list_any-append, find-append}
 use Rattle.std.proofs.lemmas.List.Elements.{filter-append}
+use Rattle.std.proofs.lemmas.Bool.{or_right}
 use Rattle.workload_spec.specs.declared.reply.Who.{Who}
 use Rattle.outcome_spec.specs.Entries.{Entry, is_same, is_reply, snapshot_in, is_end}
 use Rattle.outcome_spec.specs.Runs.{Span, up_to_end, span_from, transactions_of, transaction_with}
@@ -102,16 +103,11 @@ cut-has : (entry : Entry) (ends : Bool) (others : List Entry) → list_any (is_r
 cut-has entry true others = rw (itself entry) refl
 cut-has entry false others = rw (itself entry) refl
 
--- Where the second part holds, so does the disjunction.
-or-true : (a b : Bool) → b ≡ true → (a || b) ≡ true
-or-true true b h = refl
-or-true false b h = h
-
 -- a reply is among those before it and those from it up to the first end
 pub has-itself : (entry : Entry) (replies rest : List Entry) → list_any (is_reply entry) (replies ++ up_to_end (entry ∷ rest)) ≡ true
 has-itself entry replies rest =
     list_any-append (is_reply entry) replies (up_to_end (entry ∷ rest))
-    ∙ or-true (list_any (is_reply entry) replies) (list_any (is_reply entry) (up_to_end (entry ∷ rest))) (cut-has entry (is_end entry.reply.said) (up_to_end rest))
+    ∙ or_right (list_any (is_reply entry) replies) (list_any (is_reply entry) (up_to_end (entry ∷ rest))) (cut-has entry (is_end entry.reply.said) (up_to_end rest))
 
 -- Where the first list has none, what is found is found in the second.
 find-behind : (test : Span → Bool) (a b : List Span) → find test a ≡ None → find test (a ++ b) ≡ find test b

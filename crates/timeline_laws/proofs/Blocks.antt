@@ -6,7 +6,7 @@ use Rattle.std.specs.Ordering.{int_eq}
 use Rattle.std.specs.Cmp.{int_eq_equiv}
 use Rattle.std.specs.List.{list_all, sum_by, cons_option, range_with_len}
 use Rattle.std.proofs.lemmas.Bool.Decides.{nat_tests}
-use Rattle.std.proofs.lemmas.Bool.{eqb-true}
+use Rattle.std.proofs.lemmas.Bool.{eqb-true, and_from}
 use Rattle.std.proofs.lemmas.List.{length_push}
 use Rattle.std.proofs.lemmas.List.Elements.{filter_map-append}
 use Rattle.std.proofs.Math.Nat.{le_trans}
@@ -24,8 +24,8 @@ use Rattle.workload_spec.specs.declared.reply.Said.TheVariants as said
 use Rattle.outcome_spec.specs.Entries.{Entry, is_before, is_not_after, before, not_after, shown_in}
 use Rattle.outcome_spec.specs.Runs.{Span, Run, writes_in}
 use Rattle.outcome_spec.specs.Tables.{slots_at, blocks_at}
-use Rattle.outcome_spec.specs.Upkeep.{stamp_in, rows_in, seals_in, freezes_in, stamp_count, freezing_reply_holds, freezing_holds, is_accepted_insert, full_reply_holds, full_holds, least_key, frozen_blocks, summary_holds, exports_hold, seal_holds, freeze_holds, pruned_in, moved_in, prune_holds, most_moved, upkeep_reply_holds, upkeep_holds, export_reply_holds, exported_table, inserted_table, inserts_in, capacity_at, gathered_block}
-use Rattle.outcome_spec.proofs.Conditions.{both}
+use Rattle.outcome_spec.specs.Upkeep.{stamp_in, rows_in, seals_in, freezes_in, stamp_count, freezing_reply_holds, freezing_holds, is_accepted_insert, full_reply_holds, full_holds, frozen_blocks, summary_holds, exports_hold, seal_holds, freeze_holds, pruned_in, moved_in, prune_holds, most_moved, upkeep_reply_holds, upkeep_holds, export_reply_holds, exported_table, inserted_table, inserts_in, capacity_at, gathered_block}
+use Rattle.isolation_spec.specs.Contents.{least_key}
 use Rattle.timeline_laws.proofs.Threads.{same-of}
 use Rattle.timeline_spec.specs.Timeline.{open_of, Timeline, Runs, Counts, FindsUnsealed, Exports, ExportsWithin, ExportsBy, Aside, request_of, TakesAs, FindsFull}
 use Rattle.outcome_spec.specs.Entries.{thread}
@@ -321,7 +321,7 @@ module _ (tables : List TableDecl) (printed timeline : List Entry) (t : Timeline
 
     export-told : (table : ℕ) (told : Said) → ExportsWithin tables cut.front cut.machine o table told → export_reply_holds the_run its entry table told ≡ true
     export-told table (said.Exported number rows batches frozen) h =
-        both (is_none (least_key table (writes_in (before its.replies entry)))) (summary_holds the_run its entry table number rows batches frozen)
+        and_from (is_none (least_key table (writes_in (before its.replies entry)))) (summary_holds the_run its entry table number rows batches frozen)
         (ap (λ (own : WriteSet). is_none (least_key table own)) own-is ∙ ap is_none h.clean) (summary-at table number rows batches frozen h)
     export-told table (said.Dirty key) h =
         ap (λ (own : WriteSet). option_map_or (int_eq key) (least_key table own) false) own-is ∙ ap (λ (found : Option ℤ). option_map_or (int_eq key) found false) h ∙ int_eq_equiv.refl key

@@ -6,7 +6,7 @@ use Rattle.std.specs.BTreeMap.{insert_entry}
 use Rattle.std.specs.Cmp.{eq_by_cmp_equiv}
 use Rattle.std.specs.List.{filter, filter_map, find, list_all, list_any, cons_option, range_with_len}
 use Rattle.std.proofs.lemmas.Bool.Decides.{nat_tests}
-use Rattle.std.proofs.lemmas.Bool.{eqb-true}
+use Rattle.std.proofs.lemmas.Bool.{eqb-true, or_right, and_from}
 use Rattle.cell_model.specs.declared.cell.Cell.{Cell}
 use Rattle.isolation_spec.specs.Contents.{place_cmp, is_place, WriteSet}
 use Rattle.isolation_spec.specs.declared.place.Place.{Place}
@@ -18,9 +18,8 @@ use Rattle.workload_spec.specs.declared.reply.Said.TheVariants as said
 use Rattle.outcome_spec.specs.Entries.{Entry, is_same, before, shown_in, commit_in, is_end}
 use Rattle.outcome_spec.specs.Runs.{Span, accepted_write, writes_in, commits_as}
 use Rattle.outcome_spec.specs.Conflicts.{has_write}
-use Rattle.outcome_spec.proofs.Conditions.{both}
 use Rattle.timeline_spec.specs.Timeline.{Each}
-use Rattle.timeline_laws.proofs.Tests.{or-holds, or-left, or-right}
+use Rattle.timeline_laws.proofs.Tests.{or-left, or-right}
 use Rattle.timeline_laws.proofs.Order.{same-is, same-itself}
 use Rattle.timeline_laws.proofs.Spans.{EachSpan}
 use Rattle.timeline_laws.proofs.Writers.{writes-more}
@@ -31,7 +30,7 @@ use Rattle.timeline_laws.proofs.Histories.{last}
 
 -- One more number that passes where it is kept keeps that all pass.
 filter-all-step : (p : ℕ → Bool) (b : Bool) (x : ℕ) (kept : List ℕ) → (b ≡ true → p x ≡ true) → list_all p kept ≡ true → list_all p (cond b (x ∷ kept) kept) ≡ true
-filter-all-step p true x kept h k = both (p x) (list_all p kept) (h refl) k
+filter-all-step p true x kept h k = and_from (p x) (list_all p kept) (h refl) k
 filter-all-step p false x kept h k = k
 
 -- all that a test keeps pass one that it implies
@@ -46,7 +45,7 @@ filter-any-here k false kept h = absurd (let never : ⊥ = cc in never)
 
 -- A number among those kept is so with one more in front, kept or not.
 filter-any-later : (k x : ℕ) (b : Bool) (kept : List ℕ) → list_any (λ y. eqb y k) kept ≡ true → list_any (λ y. eqb y k) (cond b (x ∷ kept) kept) ≡ true
-filter-any-later k x true kept h = or-holds (eqb x k) (list_any (λ y. eqb y k) kept) h
+filter-any-later k x true kept h = or_right (eqb x k) (list_any (λ y. eqb y k) kept) h
 filter-any-later k x false kept h = h
 
 -- A number that is no less than another, and not equal, is above it.
@@ -143,11 +142,6 @@ kept-pass who (t ∷ ts) = kept-pass-step (is_same t.who who) who t (filter (λ 
 pub filter-each : (p : Entry → Bool) (entries : List Entry) → Each (λ entry. p entry ≡ true) entries → filter p entries ≡ entries
 filter-each p [] h = refl
 filter-each p (entry ∷ entries) h = rw h.0 (ap (λ es. entry ∷ es) (filter-each p entries h.1))
-
--- Where the first part holds, so does the disjunction.
-pub or-first : (a b : Bool) → a ≡ true → (a || b) ≡ true
-or-first true b h = refl
-or-first false b h = absurd (let never : ⊥ = cc in never)
 
 -- some transaction passes where one of those that pass another test does
 any-kept-step : (a b : Bool) (rest : Bool) (t : Span) (kept : List Span) (test : Span → Bool) → test t ≡ b → list_any test (cond a (t ∷ kept) kept) ≡ true → (list_any test kept ≡ true → rest ≡ true) → (b || rest) ≡ true

@@ -4,12 +4,12 @@ use Rattle.std.proofs.Common.{◌≡◌, ℕ, Bool, true, false, cond, ◌&&◌,
 use Rattle.std.specs.List.{filter, list_all, cons_option}
 use Rattle.std.specs.Option.{option_map_or}
 use Rattle.std.proofs.lemmas.Bool.Decides.{nat_tests}
-use Rattle.std.proofs.lemmas.Bool.{eqb-true}
+use Rattle.std.proofs.lemmas.Bool.{eqb-true, and_from}
 use Rattle.workload_spec.specs.declared.reply.Who.{Who}
 use Rattle.workload_spec.specs.declared.reply.Who.TheVariants.{Session, Worker}
 use Rattle.workload_spec.specs.declared.reply.Said.{Said}
 use Rattle.outcome_spec.specs.Entries.{Entry, is_same, is_before, shown_in}
-use Rattle.outcome_spec.proofs.Conditions.{both, both-left, both-right}
+use Rattle.outcome_spec.proofs.Conditions.{both-left, both-right}
 use Rattle.timeline_spec.specs.Timeline.{Each, Follows, InOrder}
 use Rattle.outcome_spec.specs.Entries.{thread}
 use Rattle.timeline_laws.proofs.Tests.{and-false}
@@ -142,7 +142,7 @@ module _ (printed timeline front : List Entry) (entry : Entry) (rest : List Entr
 -- tests of those that pass another test
 all-filter-step : (test choice : Bool) (entry : Entry) (p : Entry → Bool) (entries : List Entry) → p entry ≡ test → (choice ≡ true → test ≡ true) → list_all p entries ≡ true
     → list_all p (cond choice (entry ∷ entries) entries) ≡ true
-all-filter-step test true entry p entries is h k = both (p entry) (list_all p entries) (is ∙ h refl) k
+all-filter-step test true entry p entries is h k = and_from (p entry) (list_all p entries) (is ∙ h refl) k
 all-filter-step test false entry p entries is h k = k
 
 -- all that are chosen pass, where each passes if it is chosen
@@ -153,7 +153,7 @@ all-filter p choice (entry ∷ entries) h = all-filter-step (p entry) (choice en
 -- where each passes, all pass
 pub each-all : (p : Entry → Bool) (entries : List Entry) → Each (λ entry. p entry ≡ true) entries → list_all p entries ≡ true
 each-all p [] h = refl
-each-all p (entry ∷ entries) h = both (p entry) (list_all p entries) h.0 (each-all p entries h.1)
+each-all p (entry ∷ entries) h = and_from (p entry) (list_all p entries) h.0 (each-all p entries h.1)
 
 -- the number that a reply shows, if it shows one, passes
 abbrev pub shows_only : (ℕ → Bool) → (Said → Option ℕ) → Entry → Bool
@@ -167,7 +167,7 @@ shown-head p (Some n) others h = (both-left (p n) (list_all p others) h, both-ri
 -- One or none that passes, in front of others that pass, passes with them.
 shown-put : (p : ℕ → Bool) (o : Option ℕ) (others : List ℕ) → option_map_or p o true ≡ true → list_all p others ≡ true → list_all p (cons_option o others) ≡ true
 shown-put p None others h k = k
-shown-put p (Some n) others h k = both (p n) (list_all p others) h k
+shown-put p (Some n) others h k = and_from (p n) (list_all p others) h k
 
 -- where all shown numbers pass, the number of each reply passes
 pub shown-each : (p : ℕ → Bool) (shown : Said → Option ℕ) (entries : List Entry) → list_all p (shown_in shown entries) ≡ true → Each (λ entry. shows_only p shown entry ≡ true) entries

@@ -6,7 +6,7 @@ use Rattle.std.specs.BTreeMap.{insert_entry}
 use Rattle.std.specs.Cmp.{eq_by_cmp_equiv}
 use Rattle.std.specs.List.{filter, find, list_all, list_any, cons_option, range_with_len}
 use Rattle.std.proofs.lemmas.Bool.Decides.{nat_tests}
-use Rattle.std.proofs.lemmas.Bool.{and_parts, eqb-true, leb-true}
+use Rattle.std.proofs.lemmas.Bool.{and_parts, eqb-true, leb-true, or_right, or_left, and_from}
 use Rattle.std.proofs.lemmas.List.{get_or-drop, get_or_append_left, length_push, length-drop}
 use Rattle.std.proofs.lemmas.List.Folds.{find-append, list_any-append}
 use Rattle.std.proofs.lemmas.List.Elements.{filter-append}
@@ -25,10 +25,9 @@ use Rattle.outcome_spec.specs.Entries.{Entry, is_same, is_before, is_not_after, 
 use Rattle.outcome_spec.specs.Runs.{Span, Run, up_to_end, ending_of, write_of, commit_line, commits_as}
 use Rattle.outcome_spec.specs.Answers.{is_acceptable}
 use Rattle.outcome_spec.specs.Conflicts.{is_committed_before, is_committed_not_after, has_write, names_commit, names_session, passes_no_commit, passes_no_session, is_clear, is_first_updater, conflict_holds, conflicts_hold}
-use Rattle.outcome_spec.proofs.Conditions.{both}
 use Rattle.timeline_spec.specs.Timeline.{open_of, Each, Follows, Timeline, Runs, request_of, TakesAs}
 use Rattle.outcome_spec.specs.Entries.{thread}
-use Rattle.timeline_laws.proofs.Tests.{or-holds, all-three, all-four}
+use Rattle.timeline_laws.proofs.Tests.{all-three, all-four}
 use Rattle.timeline_laws.proofs.Ranges.{all-below, all-above}
 use Rattle.timeline_laws.proofs.Order.{Each-first, Each-second, Each-weaker, Each-filter, Each-timeline, before-each, after-each, before-itself, same-is, same-itself}
 use Rattle.timeline_laws.proofs.Spans.{span, spans, EachSpan, Ended, spans-is}
@@ -43,7 +42,7 @@ use Rattle.timeline_laws.proofs.Agrees.{others-open}
 use Rattle.timeline_laws.proofs.Cuts.{Cut, Grows, last_of, change-of, all-grow}
 use Rattle.timeline_laws.proofs.Histories.{run, last, at-cut, history-shown, find-each, find-fails, find-passes, below-other, above-other}
 use Rattle.timeline_laws.proofs.Views.{belongs, by-transaction, front-follows, rest-follows}
-use Rattle.timeline_laws.proofs.Chosen.{filter-all, range-any, writes_it, has-writes, no-write-filter, kept-pass, filter-each, or-first, any-kept, none-any, none-spans, found-end, some-end, unshown, range-has}
+use Rattle.timeline_laws.proofs.Chosen.{filter-all, range-any, writes_it, has-writes, no-write-filter, kept-pass, filter-each, any-kept, none-any, none-spans, found-end, some-end, unshown, range-has}
 
 -- A reply does not make the history shorter.
 grown : {who : Who} {asked : Command} {told : Said} {machine after : IsolationMachine} → Change who asked told machine after → length machine.history ≤ length after.history
@@ -169,7 +168,7 @@ module _ (tables : List TableDecl) (printed timeline : List Entry) (t : Timeline
       let never : true ≡ false = sym parts.1 ∙ ap (writes_place place) (set-is k (omega (arith, low)) high) ∙ lacks in
       absurd (let impossible : ⊥ = cc in impossible)
   last-by n place number k bound at h false false is is_c =
-      or-holds (nat_le k number) (not (is_committed_before the_run entry k)) (ap not (not-before k (let e : length so_far < k = grind (arith, nat_tests, is_c) in e)))
+      or_right (nat_le k number) (not (is_committed_before the_run entry k)) (ap not (not-before k (let e : length so_far < k = grind (arith, nat_tests, is_c) in e)))
 
   -- the last commit behind the snapshot that has the place may be named
   pub commit-named : (u : Span) (place : Place) (number : ℕ) → u.snapshot ≤ length so_far → last_writer place (u.snapshot + 1) (drop u.snapshot so_far) ≡ Some number → names_commit the_run u place entry number ≡ true
@@ -187,7 +186,7 @@ module _ (tables : List TableDecl) (printed timeline : List Entry) (t : Timeline
       let long : length (the_run).history ≡ length so_far + length cut.grows.more = ap length (history-shown tables printed timeline t ∙ cut.grows.is) ∙ length-append so_far cut.grows.more in
       all-three (list_any (λ later. eqb later number) (later_writers (the_run).history u.snapshot place)) (is_committed_not_after the_run entry number)
       (list_all (λ later. nat_le later number || not (is_committed_before the_run entry later)) (later_writers (the_run).history u.snapshot place))
-      (range-any (is_later n place) number 1 (length (the_run).history) (omega (arith, low)) (omega (arith, high, long)) (both (nat_lt n number) (writes_place place (write_set_at (the_run).history number)) above has))
+      (range-any (is_later n place) number 1 (length (the_run).history) (omega (arith, low)) (omega (arith, high, long)) (and_from (nat_lt n number) (writes_place place (write_set_at (the_run).history number)) above has))
       (not-after-line number (omega (arith, low)) high)
       (filter-all (λ k. nat_le k number || not (is_committed_before the_run entry k)) (is_later n place)
       (λ k h. last-by n place number k bound at h (nat_le k number) (nat_le k (length so_far)) refl refl) (range_with_len 1 (length (the_run).history)))
@@ -348,7 +347,7 @@ module _ (tables : List TableDecl) (printed timeline : List Entry) (t : Timeline
       let wrote : has_write place within.replies ≡ true = sym (has-writes place within.replies) ∙ ap (writes_place place) within.writes_are ∙ has in
       let its_write : has_write place (not_after (within.replies ++ later_ones) entry) ≡ true =
       ap (has_write place) (filter-append (λ other. is_not_after other entry) within.replies later_ones ∙ ap (λ (es : List Entry). es ++ not_after later_ones entry) kept)
-      ∙ list_any-append (writes_it place) within.replies (not_after later_ones entry) ∙ or-first (has_write place within.replies) (has_write place (not_after later_ones entry)) wrote in
+      ∙ list_any-append (writes_it place) within.replies (not_after later_ones entry) ∙ or_left (has_write place within.replies) (has_write place (not_after later_ones entry)) wrote in
       let goes_on : option_map_or (λ ending. not (is_before ending entry)) (find (λ e. is_end e.reply.said) (within.replies ++ later_ones)) true ≡ true =
       ap (λ (o : Option Entry). option_map_or (λ ending. not (is_before ending entry)) o true) (find-append (λ e. is_end e.reply.said) within.replies later_ones ∙ ap (λ (o : Option Entry). option_or o (find (λ e. is_end e.reply.said) later_ones)) within.on)
       ∙ some-end (λ ending. not (is_before ending entry)) later_ones
@@ -367,8 +366,8 @@ module _ (tables : List TableDecl) (printed timeline : List Entry) (t : Timeline
       (any-kept (named r.session (Session s) place) (λ v. is_same v.who who) (the_run).transactions
       (ap (list_any (named r.session (Session s) place)) (spans-of who ∙ past.parts (rest_of who))
       ∙ list_any-append (named r.session (Session s) place) past.done (open_one ∷ spans who (rest_of who))
-      ∙ or-holds (list_any (named r.session (Session s) place) past.done) (named r.session (Session s) place open_one || list_any (named r.session (Session s) place) (spans who (rest_of who)))
-      (or-first (named r.session (Session s) place open_one) (list_any (named r.session (Session s) place) (spans who (rest_of who))) (rival-named r s place rivals.at rivals.other rivals.has within))))
+      ∙ or_right (list_any (named r.session (Session s) place) past.done) (named r.session (Session s) place open_one || list_any (named r.session (Session s) place) (spans who (rest_of who)))
+      (or_left (named r.session (Session s) place open_one) (list_any (named r.session (Session s) place) (spans who (rest_of who))) (rival-named r s place rivals.at rivals.other rivals.has within))))
 
 -- ---- the first updater
 
@@ -579,19 +578,19 @@ module _ (tables : List TableDecl) (printed timeline : List Entry) (t : Timeline
   -- nobody is passed over where the place is clear
   clear-holds : Clear cut.machine o place → is_clear all_run its_own place entry ≡ true
   clear-holds clear =
-      both (passes_no_commit all_run its_own place entry) (passes_no_session all_run its_own place entry)
+      and_from (passes_no_commit all_run its_own place entry) (passes_no_session all_run its_own place entry)
       (no-commit tables printed timeline t entry only cut its_own place low clear.last) (no-session tables printed timeline t entry only cut its_own s place who_is (free clear))
 
   -- By each verdict on a write, what its reply tells of conflicts holds.
   pub conflict-by : (acceptable : Bool) → Verdict cut.machine o place acceptable entry.reply.said → conflict_holds all_run its_own place entry entry.reply.said ≡ true
   conflict-by acceptable (accepted clear can is) =
-      ap (conflict_holds all_run its_own place entry) is ∙ both (is_clear all_run its_own place entry) (is_first_updater all_run its_own place) (clear-holds clear) (first-updater is)
+      ap (conflict_holds all_run its_own place entry) is ∙ and_from (is_clear all_run its_own place entry) (is_first_updater all_run its_own place) (clear-holds clear) (first-updater is)
   conflict-by acceptable (rival r found is) =
       let rivals = subst (λ (x : ℕ). Rival x place (cut.machine).open_transactions r) session_is (rival-some o.session place (cut.machine).open_transactions r cut.shown.sane.apart found) in
       ap (conflict_holds all_run its_own place entry) is ∙ session-named tables printed timeline t entry only cut its_own s place r who_is rivals
   conflict-by acceptable (later k none found is) =
       ap (conflict_holds all_run its_own place entry) is
-      ∙ both (names_commit all_run its_own place entry k) (passes_no_session all_run its_own place entry) (commit-named tables printed timeline t entry only cut its_own place k low found)
+      ∙ and_from (names_commit all_run its_own place entry k) (passes_no_session all_run its_own place entry) (commit-named tables printed timeline t entry only cut its_own place k low found)
       (no-session tables printed timeline t entry only cut its_own s place who_is (subst (λ (x : ℕ). Free x place (cut.machine).open_transactions) session_is (free-none o.session place (cut.machine).open_transactions none)))
   conflict-by acceptable (refused clear can (inl is)) = ap (conflict_holds all_run its_own place entry) is ∙ clear-holds clear
   conflict-by acceptable (refused clear can (inr is)) = ap (conflict_holds all_run its_own place entry) is ∙ clear-holds clear

@@ -5,6 +5,7 @@ use Rattle.std.specs.Prelude.{bytes_eq, codes, decimal, find, drop, slice_index_
 use Rattle.std.specs.List.{filter, list_all, starts_with}
 use Rattle.std.proofs.lemmas.Bool.{and_parts}
 use Rattle.std.proofs.lemmas.Slice.Eq.{bytes_eq-Decides}
+use Rattle.std.proofs.lemmas.Fmt.{decimal_injective}
 use Rattle.cell_model.specs.declared.table.TableDecl.{TableDecl}
 use Rattle.workload_spec.specs.Valid.{is_table_place}
 use Rattle.workload_spec.specs.Words.{spaced, lines_text}
@@ -26,7 +27,7 @@ use Rattle.outcome_spec.specs.Forms.{Due, begins_with, entry_behind, is_silent, 
 use Rattle.timeline_spec.specs.Forms.{IsReplyWithin}
 use Rattle.timeline_laws.proofs.Tests.{or-last}
 use Rattle.timeline_laws.proofs.ReadLines.{words_of_line, BeginsLine, text-begins}
-use Rattle.timeline_laws.proofs.ReadNumbers.{is_digit_byte, digits_decimal, decimal_apart, plain_decimal, u32_small, u64_small}
+use Rattle.timeline_laws.proofs.ReadNumbers.{is_digit_byte, digits_decimal, plain_decimal, u32_small, u64_small}
 use Rattle.timeline_laws.proofs.Lines.{ended, lines-alone, reply-unbroken, first_line, IsSaid, is_said, all-words, said-words, a-word}
 use Rattle.timeline_laws.proofs.ReadBack.{NamesPlain, memory-said, cooling-said, pruned-said, moved-said, sealed-said, frozen-said}
 
@@ -87,7 +88,7 @@ differ test a b same is is_not =
 
 -- what steps say is told apart by its words
 pub said-apart : (tables : List TableDecl) → Named tables → (a b : Said) → StepSaid tables a → StepSaid tables b → said_words tables a ≡ said_words tables b → a ≡ b
-said-apart tables named (said.Moved n) (said.Moved m) h k e = let same : decimal n ≡ decimal m = cc in ap said.Moved (decimal_apart n m h k same)
+said-apart tables named (said.Moved n) (said.Moved m) h k e = let same : decimal n ≡ decimal m = cc in ap said.Moved (decimal_injective n m h k same)
 said-apart tables named (said.Moved n) said.Memory h k e = absurd (differ (is_word_first (codes "moved")) _ _ e refl refl)
 said-apart tables named (said.Moved n) (said.Sealed t b g) h k e = absurd (differ (is_word_first (codes "moved")) _ _ e refl refl)
 said-apart tables named (said.Moved n) (said.Frozen t b g) h k e = absurd (differ (is_word_first (codes "moved")) _ _ e refl refl)
@@ -101,7 +102,7 @@ said-apart tables named (said.Sealed t b g) (said.Sealed u c k) h i e =
     let name : name_of_table tables t ≡ name_of_table tables u = cc in
     let block : decimal b ≡ decimal c = cc in
     let stamp : decimal g ≡ decimal k = cc in
-    ap (λ (x : ℕ). said.Sealed x b g) (named t u h.0 i.0 name) ∙ ap (λ (x : ℕ). said.Sealed u x g) (decimal_apart b c h.1 i.1 block) ∙ ap (said.Sealed u c) (decimal_apart g k h.2 i.2 stamp)
+    ap (λ (x : ℕ). said.Sealed x b g) (named t u h.0 i.0 name) ∙ ap (λ (x : ℕ). said.Sealed u x g) (decimal_injective b c h.1 i.1 block) ∙ ap (said.Sealed u c) (decimal_injective g k h.2 i.2 stamp)
 said-apart tables named (said.Sealed t b g) (said.Moved m) h k e = absurd (differ (is_word_first (codes "sealed")) _ _ e refl refl)
 said-apart tables named (said.Sealed t b g) said.Memory h k e = absurd (differ (is_word_first (codes "sealed")) _ _ e refl refl)
 said-apart tables named (said.Sealed t b g) (said.Frozen u c r) h k e = absurd (differ (is_word_first (codes "sealed")) _ _ e refl refl)
@@ -110,7 +111,7 @@ said-apart tables named (said.Frozen t b g) (said.Frozen u c k) h i e =
     let name : name_of_table tables t ≡ name_of_table tables u = cc in
     let block : decimal b ≡ decimal c = cc in
     let rows : decimal g ≡ decimal k = cc in
-    ap (λ (x : ℕ). said.Frozen x b g) (named t u h.0 i.0 name) ∙ ap (λ (x : ℕ). said.Frozen u x g) (decimal_apart b c h.1 i.1 block) ∙ ap (said.Frozen u c) (decimal_apart g k h.2 i.2 rows)
+    ap (λ (x : ℕ). said.Frozen x b g) (named t u h.0 i.0 name) ∙ ap (λ (x : ℕ). said.Frozen u x g) (decimal_injective b c h.1 i.1 block) ∙ ap (said.Frozen u c) (decimal_injective g k h.2 i.2 rows)
 said-apart tables named (said.Frozen t b g) (said.Moved m) h k e = absurd (differ (is_word_first (codes "frozen")) _ _ e refl refl)
 said-apart tables named (said.Frozen t b g) said.Memory h k e = absurd (differ (is_word_first (codes "frozen")) _ _ e refl refl)
 said-apart tables named (said.Frozen t b g) (said.Sealed u c r) h k e = absurd (differ (is_word_first (codes "frozen")) _ _ e refl refl)

@@ -9,6 +9,7 @@ use Rattle.std.specs.List.{filter}
 use Rattle.std.proofs.lemmas.Slice.Eq.{bytes_eq-Decides}
 use Rattle.std.proofs.lemmas.List.{take-append-le}
 use Rattle.std.proofs.lemmas.List.Elements.{filter-append}
+use Rattle.std.proofs.lemmas.Bool.{and_from}
 use Rattle.cell_model.specs.declared.cell.Cell.{Cell}
 use Rattle.cell_model.specs.declared.cell.Cell.TheVariants.{Null, Num, Truth, Text, Blob}
 use Rattle.cell_model.specs.declared.table.TableDecl.{TableDecl}
@@ -30,7 +31,6 @@ use Rattle.outcome_spec.specs.Entries.{Entry, is_same, is_before, before, snapsh
 use Rattle.outcome_spec.specs.Runs.{Span, Run, up_to_end, writes_in, seen_at}
 use Rattle.outcome_spec.specs.Runs.{transaction_of as belongs_to}
 use Rattle.outcome_spec.specs.Answers.{is_cell, is_row, read_holds, reads_hold, is_acceptable, write_holds, writes_hold, got_place, scanned_table}
-use Rattle.outcome_spec.proofs.Conditions.{both}
 use Rattle.timeline_spec.specs.Timeline.{open_of, Each, Follows, InOrder, Timeline, said_of, Tells, request_of, TakesAs, Aside, ExportsBy, is_of_upkeep}
 use Rattle.outcome_spec.specs.Entries.{thread}
 use Rattle.timeline_laws.proofs.Order.{Each-second, Each-weaker, Each-filter, before-itself, order-front, order-rest, same-is, same-itself}
@@ -62,12 +62,12 @@ cell-itself (Blob bytes) = bytes-itself bytes
 -- a row is the same as itself
 pub row-itself : (row : List Cell) → is_row row row ≡ true
 row-itself [] = refl
-row-itself (cell ∷ row) = both (is_cell cell cell) (is_row row row) (cell-itself cell) (row-itself row)
+row-itself (cell ∷ row) = and_from (is_cell cell cell) (is_row row row) (cell-itself cell) (row-itself row)
 
 -- so are the rows of a list
 pub rows-themselves : (rows : List (List Cell)) → pointwise is_row rows rows ≡ true
 rows-themselves [] = refl
-rows-themselves (row ∷ rows) = both (is_row row row) (pointwise is_row rows rows) (row-itself row) (rows-themselves rows)
+rows-themselves (row ∷ rows) = and_from (is_row row row) (pointwise is_row rows rows) (row-itself row) (rows-themselves rows)
 
 -- ---- what is before a reply in its transaction
 

@@ -6,7 +6,7 @@ use Rattle.std.specs.Option.{option_or, option_map_or}
 use Rattle.std.specs.BTreeMap.{insert_entry}
 use Rattle.std.specs.List.{filter_map, find, list_all, cons_option, range_with_len}
 use Rattle.std.proofs.lemmas.Bool.Decides.{nat_tests}
-use Rattle.std.proofs.lemmas.Bool.{and_parts}
+use Rattle.std.proofs.lemmas.Bool.{and_parts, and_from}
 use Rattle.std.proofs.lemmas.List.{length_push}
 use Rattle.std.proofs.lemmas.List.Folds.{find-append, list_all-append}
 use Rattle.std.proofs.lemmas.List.Elements.{filter-append, filter_map-append}
@@ -22,7 +22,6 @@ use Rattle.workload_spec.specs.declared.reply.Said.TheVariants as said
 use Rattle.outcome_spec.specs.Entries.{Entry, is_same, shown_in, snapshot_in, commit_in, is_end}
 use Rattle.outcome_spec.specs.Runs.{accepted_write, writes_in}
 use Rattle.outcome_spec.specs.Numbers.{number_shown}
-use Rattle.outcome_spec.proofs.Conditions.{both}
 use Rattle.timeline_spec.specs.Timeline.{open_of}
 use Rattle.outcome_spec.specs.Entries.{thread}
 use Rattle.timeline_laws.proofs.Ranges.{range-push}
@@ -232,7 +231,7 @@ all-more n (x ∷ xs) h =
     let parts = and_parts (nat_le x n) (list_all (λ y. nat_le y n) xs) h in
     let first : nat_le x n ≡ true = parts.0 in
     let more : nat_le x (n + 1) ≡ true = grind (arith, nat_tests) in
-    both (nat_le x (n + 1)) (list_all (λ y. nat_le y (n + 1)) xs) more (all-more n xs parts.1)
+    and_from (nat_le x (n + 1)) (list_all (λ y. nat_le y (n + 1)) xs) more (all-more n xs parts.1)
 
 module _ (front : List Entry) (machine after : IsolationMachine) (entry : Entry) (h : Shown front machine) where
   -- Behind one more reply, everyone's replies have open what the machine has.

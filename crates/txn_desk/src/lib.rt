@@ -160,6 +160,3 @@ impl Desk {
         oldest
     }
 }
-
-#[cfg(test)]
-mod tests;

@@ -8,6 +8,3 @@ mod undo;
 
 pub use chain::{Chain, Newer};
 pub use undo::{Undo, UndoKind};
-
-#[cfg(test)]
-mod tests;

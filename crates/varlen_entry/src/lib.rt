@@ -177,6 +177,3 @@ impl Span {
         value
     }
 }
-
-#[cfg(test)]
-mod tests;

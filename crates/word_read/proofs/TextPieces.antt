@@ -2,12 +2,11 @@
 use Rattle.std.proofs.Common.{◌≡◌, ℕ, ◌+◌, ◌*◌, ◌<◌, ◌≤◌, Bool, true, false, List, [], ◌∷◌, ◌++◌, length, take, drop, get_or, refl, sym, ap, ◌∙◌, arith, append_assoc, append-nil, take-append-drop}
 use Rattle.std.specs.Prelude.{◌&&◌, ◌||◌, ◌==◌, not, bytes_eq, Option, None, Some, option_map, if◌then◌else◌}
 use Rattle.std.specs.List.{list_all}
-use Rattle.std.proofs.lemmas.Bool.{eqb-true, ne_eqb}
+use Rattle.std.proofs.lemmas.Bool.{eqb-true, ne_eqb, and_parts, or_parts, not-true}
 use Rattle.std.specs.Char.{digit_value}
 use Rattle.workload_spec.specs.Words.{quote, backslash, is_control}
 use Rattle.workload_spec.specs.Reading.{Itself, Escape, FirstDigit}
 use Rattle.word_read.specs.Spellings.{is_hex, is_plain, closed, text_from, pairs_of}
-use Rattle.workload_laws.proofs.Lists.{both, neither, not_true}
 
 -- No text, where none can be read.
 abbrev text_none : Option (List ℕ)
@@ -26,15 +25,15 @@ map_nothing (Some text) = refl
 -- A byte that stands for itself comes first in the text.
 plain_first : (byte : ℕ) (bytes : List ℕ) → is_plain byte ≡ true → text_from Itself (byte ∷ bytes) ≡ option_map (λ text. byte ∷ text) (text_from Itself bytes)
 plain_first byte bytes is =
-    let n = neither (byte == quote || byte == backslash) (is_control byte) (not_true (byte == quote || byte == backslash || is_control byte) is) in
-    let m = neither (byte == quote) (byte == backslash) n.0 in
+    let n = or_parts (byte == quote || byte == backslash) (is_control byte) (not-true (byte == quote || byte == backslash || is_control byte) is) in
+    let m = or_parts (byte == quote) (byte == backslash) n.0 in
     rw (m.0, m.1, n.1) refl
 
 -- bytes that stand for themselves come first
 pub plain_read : (plain behind : List ℕ) → list_all is_plain plain ≡ true → text_from Itself (plain ++ behind) ≡ option_map (λ text. plain ++ text) (text_from Itself behind)
 plain_read [] behind all = map_nothing (text_from Itself behind)
 plain_read (byte ∷ plain) behind all =
-    let a = both (is_plain byte) (list_all is_plain plain) all in
+    let a = and_parts (is_plain byte) (list_all is_plain plain) all in
     plain_first byte (plain ++ behind) a.0 ∙ ap (option_map (λ text. byte ∷ text)) (plain_read plain behind a.1) ∙ map_twice byte plain (text_from Itself behind)
 
 -- behind a mark two digits of no control byte are no text

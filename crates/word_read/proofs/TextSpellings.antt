@@ -5,13 +5,13 @@ use Rattle.std.specs.List.{list_all}
 use Rattle.std.proofs.lemmas.List.{append_assoc}
 use Rattle.std.specs.Char.{digit_value, digit_char}
 use Rattle.std.proofs.lemmas.Str.{digit_value-digit_char}
-use Rattle.std.proofs.lemmas.Bool.{eq-eqb, eqb-true, ltb-true, ltb-false, lt-ltb, le-ltb, leb-true, le-leb, ne_eqb}
+use Rattle.std.proofs.lemmas.Bool.{eq-eqb, eqb-true, ltb-true, ltb-false, lt-ltb, le-ltb, leb-true, le-leb, ne_eqb, and_parts, or_cases, or_parts, or_left, or_right}
 use Rattle.std.proofs.lemmas.Slice.Eq.{bytes_eq-Decides}
 use Rattle.workload_spec.specs.Words.{quote, backslash, is_control, hex_digits, escaped, quoted}
 use Rattle.workload_spec.specs.Valid.{is_within}
 use Rattle.workload_spec.specs.Reading.{spelled, Spelling, Itself, Escape, FirstDigit, SecondDigit, hex_mark, text_in, blob_in, bytes_of_digits}
 use Rattle.word_read.specs.Spellings.{is_hex, closed, text_from, text_of, pairs_of, blob_of}
-use Rattle.workload_laws.proofs.Lists.{both, joined, either, neither}
+use Rattle.workload_laws.proofs.Lists.{joined}
 use Rattle.workload_laws.proofs.Results.{spelled_as}
 use Rattle.workload_laws.proofs.BlobBytes.{digits_small, found_is}
 use Rattle.workload_laws.proofs.TextsBack.{text_back}
@@ -55,9 +55,9 @@ pub record IsHex (c : ℕ) : Type 0 where
 
 -- a hexadecimal digit spells its value
 pub hex_is : (c : ℕ) → is_hex c ≡ true → IsHex c
-hex_is c is = elim (either (is_within 48 57 c) (is_within 97 102 c) is) [
+hex_is c is = elim (or_cases (is_within 48 57 c) (is_within 97 102 c) is) [
   | inl d ↦
-      let w = both (nat_le 48 c) (nat_le c 57) d in
+      let w = and_parts (nat_le 48 c) (nat_le c 57) d in
       let v = digit_by c (leb-true 48 c w.0) (leb-true c 57 w.1) in
       let l = leb-true 48 c w.0 in
       let h = leb-true c 57 w.1 in
@@ -66,7 +66,7 @@ hex_is c is = elim (either (is_within 48 57 c) (is_within 97 102 c) is) [
         back = rw v (let t : nat_lt (c - 48) 10 ≡ true = lt-ltb (c - 48) 10 (omega (arith, l, h)) in rw t (omega (arith, l)));
       }
   | inr d ↦
-      let w = both (nat_le 97 c) (nat_le c 102) d in
+      let w = and_parts (nat_le 97 c) (nat_le c 102) d in
       let v = letter_by c (leb-true 97 c w.0) (leb-true c 102 w.1) in
       let l = leb-true 97 c w.0 in
       let h = leb-true c 102 w.1 in
@@ -75,16 +75,6 @@ hex_is c is = elim (either (is_within 48 57 c) (is_within 97 102 c) is) [
         back = rw v (let t : nat_lt (c - 87) 10 ≡ false = le-ltb (c - 87) 10 (omega (arith, l, h)) in rw t (omega (arith, l)));
       }
 ]
-
--- Where the first part holds, so does the disjunction.
-or_left : (s t : Bool) → s ≡ true → (s || t) ≡ true
-or_left true t e = refl
-or_left false t e = absurd cc
-
--- Where the second part holds, so does the disjunction.
-or_right : (s t : Bool) → t ≡ true → (s || t) ≡ true
-or_right true t e = refl
-or_right false t e = e
 
 -- the digit of a value below 16 is hexadecimal
 pub digit_hex : (d : ℕ) → d < 16 → is_hex (digit_char d) ≡ true
@@ -134,13 +124,13 @@ pairs_sound [] bytes e = let same : [] ≡ bytes = cc in subst (λ (bs : List �
 pairs_sound (digit ∷ []) bytes e = absurd cc
 pairs_sound (high ∷ low ∷ rest) bytes e =
     pairs_by (is_hex high && is_hex low) high low (digit_value high * 16 + digit_value low) rest bytes (pairs_of rest)
-    (λ is. let b = both (is_hex high) (is_hex low) is in pair_of high low b.0 b.1) (λ bs f. pairs_sound rest bs f) e
+    (λ is. let b = and_parts (is_hex high) (is_hex low) is in pair_of high low b.0 b.1) (λ bs f. pairs_sound rest bs f) e
 
 -- Bytes are read back from the pairs of their digits.
 pairs_complete : (bytes : List ℕ) → list_all (λ byte. nat_lt byte 256) bytes ≡ true → pairs_of (flat_map hex_digits bytes) ≡ Some bytes
 pairs_complete [] all = refl
 pairs_complete (byte ∷ bytes) all =
-    let a = both (nat_lt byte 256) (list_all (λ byte. nat_lt byte 256) bytes) all in
+    let a = and_parts (nat_lt byte 256) (list_all (λ byte. nat_lt byte 256) bytes) all in
     let h : is_hex (digit_char (byte / 16 % 16)) ≡ true = digit_hex (byte / 16 % 16) (omega arith) in
     let l : is_hex (digit_char (byte % 16)) ≡ true = digit_hex (byte % 16) (omega arith) in
     rw (h, l, pairs_complete bytes a.1, value_back byte (ltb-true byte 256 a.0)) refl
@@ -165,11 +155,11 @@ closing text = flat_map escaped text ++ quote ∷ []
 
 -- A control byte is below 128.
 control_small : (byte : ℕ) → is_control byte ≡ true → byte < 128
-control_small byte is = elim (either (nat_lt byte 0x20) (byte == 0x7f) is) [ inl e ↦ omega (arith, ltb-true byte 32 e) | inr e ↦ omega (arith, eqb-true byte 127 e) ]
+control_small byte is = elim (or_cases (nat_lt byte 0x20) (byte == 0x7f) is) [ inl e ↦ omega (arith, ltb-true byte 32 e) | inr e ↦ omega (arith, eqb-true byte 127 e) ]
 
 -- A control byte is neither a quote nor a backslash.
 control_apart : (byte : ℕ) → is_control byte ≡ true → (byte == quote || byte == backslash) ≡ false
-control_apart byte is = elim (either (nat_lt byte 0x20) (byte == 0x7f) is) [
+control_apart byte is = elim (or_cases (nat_lt byte 0x20) (byte == 0x7f) is) [
   | inl e ↦ let lt = ltb-true byte 32 e in
       let q : byte == 34 ≡ false = ne_eqb byte 34 (λ s. omega (arith, s, lt)) in
       let k : byte == 92 ≡ false = ne_eqb byte 92 (λ s. omega (arith, s, lt)) in
@@ -249,7 +239,7 @@ first_by false byte bytes text is second e = absurd cc
 second_by : (passes : Bool) (digit byte : ℕ) (bytes text : List ℕ) → is_hex digit ≡ true → (is_hex byte && is_control (digit_value digit * 16 + digit_value byte)) ≡ passes → Sound Outside bytes
     → (if passes then option_map (λ t. (digit_value digit * 16 + digit_value byte) ∷ t) (text_from Itself bytes) else None) ≡ Some text → closing text ≡ 92 ∷ 120 ∷ digit ∷ byte ∷ bytes
 second_by true digit byte bytes text is passes itself e =
-    let p = both (is_hex byte) (is_control (digit_value digit * 16 + digit_value byte)) passes in
+    let p = and_parts (is_hex byte) (is_control (digit_value digit * 16 + digit_value byte)) passes in
     let spelling : escaped (digit_value digit * 16 + digit_value byte) ≡ 92 ∷ 120 ∷ digit ∷ byte ∷ [] =
     rw (control_apart (digit_value digit * 16 + digit_value byte) p.1, p.1) (ap (λ (ds : List ℕ). 92 ∷ 120 ∷ ds) (pair_of digit byte is p.0)) in
     grown (digit_value digit * 16 + digit_value byte) (92 ∷ 120 ∷ digit ∷ byte ∷ []) bytes text (text_from Itself bytes) spelling (itself tt) e
@@ -276,7 +266,7 @@ text_complete_by false true byte text m c later =
     let v = value_back byte (omega (arith, small)) in
     rw (m, c, h, l, v, c, later) refl
 text_complete_by false false byte text m c later =
-    let n = neither (byte == quote) (byte == backslash) m in
+    let n = or_parts (byte == quote) (byte == backslash) m in
     rw (m, c, n.0, n.1, c, later) refl
 
 -- A text is read back from its spelling behind the opening quote.

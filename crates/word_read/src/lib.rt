@@ -13,6 +13,3 @@ pub use numbers::{integer, natural, natural_within};
 pub use texts::{blob_of, text_of};
 pub use truths::truth_of;
 pub use words::{split_word, word_behind, word_count};
-
-#[cfg(test)]
-mod tests;

@@ -2,11 +2,11 @@
 use Rattle.std.proofs.Common.{◌≡◌, ℕ, Bool, true, false, List, [], ◌∷◌, ◌++◌, refl, ap, ◌∙◌, arith}
 use Rattle.std.specs.Prelude.{◌&&◌, ◌==◌, not, nat_lt}
 use Rattle.std.specs.List.{list_all}
-use Rattle.std.proofs.lemmas.Bool.{ltb-true, ne_eqb}
+use Rattle.std.proofs.lemmas.Bool.{ltb-true, ne_eqb, and_parts, not-true}
 use Rattle.std.proofs.lemmas.List.Folds.{list_all-append}
 use Rattle.workload_spec.specs.Words.{space, line_feed, spaced}
 use Rattle.workload_spec.specs.Reading.{Position, AtStart, WithinText, BehindBackslash, WithinWord, parts, position_after, is_outside, words_from, words_of}
-use Rattle.workload_laws.proofs.Lists.{both, joined, not_true}
+use Rattle.workload_laws.proofs.Lists.{joined}
 
 -- no byte from this position on ends the word, which may end behind them
 abbrev pub Stays : Position → List ℕ → Type 0
@@ -72,7 +72,7 @@ is_plain byte = nat_lt 34 byte
 plain_within : (word : List ℕ) → list_all is_plain word ≡ true → Stays WithinWord word
 plain_within [] all = refl
 plain_within (byte ∷ bytes) all =
-    let b = both (is_plain byte) (list_all is_plain bytes) all in
+    let b = and_parts (is_plain byte) (list_all is_plain bytes) all in
     let n : byte == 32 ≡ false = ne_eqb byte 32 (λ e. omega (arith, e, ltb-true 34 byte b.0)) in
     rw n (refl, plain_within bytes b.1)
 
@@ -80,7 +80,7 @@ plain_within (byte ∷ bytes) all =
 pub plain_stays : (word : List ℕ) → list_all is_plain word ≡ true → Stays AtStart word
 plain_stays [] all = refl
 plain_stays (byte ∷ bytes) all =
-    let b = both (is_plain byte) (list_all is_plain bytes) all in
+    let b = and_parts (is_plain byte) (list_all is_plain bytes) all in
     let n : byte == 32 ≡ false = ne_eqb byte 32 (λ e. omega (arith, e, ltb-true 34 byte b.0)) in
     let m : byte == 34 ≡ false = ne_eqb byte 34 (λ e. omega (arith, e, ltb-true 34 byte b.0)) in
     rw (n, m) (refl, plain_within bytes b.1)
@@ -89,7 +89,7 @@ plain_stays (byte ∷ bytes) all =
 plain_whole : (word : List ℕ) → list_all is_plain word ≡ true → is_whole word ≡ true
 plain_whole [] all = refl
 plain_whole (byte ∷ bytes) all =
-    let b = both (is_plain byte) (list_all is_plain bytes) all in
+    let b = and_parts (is_plain byte) (list_all is_plain bytes) all in
     let n : byte == 10 ≡ false = ne_eqb byte 10 (λ e. omega (arith, e, ltb-true 34 byte b.0)) in
     joined (ap not n) (plain_whole bytes b.1)
 
@@ -101,6 +101,6 @@ plain_word word all = record { stays = plain_stays word all; whole = plain_whole
 pub line_first_part : (line rest : List ℕ) → is_whole line ≡ true → parts line_feed (line ++ line_feed ∷ rest) ≡ line ∷ parts line_feed rest
 line_first_part [] rest whole = refl
 line_first_part (byte ∷ bytes) rest whole =
-    let b = both (not (byte == line_feed)) (is_whole bytes) whole in
-    let n : byte == line_feed ≡ false = not_true (byte == line_feed) b.0 in
+    let b = and_parts (not (byte == line_feed)) (is_whole bytes) whole in
+    let n : byte == line_feed ≡ false = not-true (byte == line_feed) b.0 in
     rw (n, line_first_part bytes rest b.1) refl

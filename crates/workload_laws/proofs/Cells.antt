@@ -3,7 +3,7 @@ use Rattle.std.proofs.Common.{◌≡◌, ℕ, ◌+◌, Bool, true, false, List, 
 use Rattle.std.specs.Prelude.{◌==◌, not, nat_lt, Option, None, Some, option_and_then, is_none, if◌then◌else◌, ℤ, Ok}
 use Rattle.std.specs.Option.{option_map_or}
 use Rattle.std.specs.List.{list_all}
-use Rattle.std.proofs.lemmas.Bool.{eq-eqb}
+use Rattle.std.proofs.lemmas.Bool.{eq-eqb, and_parts}
 use Rattle.cell_model.specs.declared.cell.Cell.{Cell}
 use Rattle.cell_model.specs.declared.cell.Cell.TheVariants.{Num}
 use Rattle.cell_model.specs.declared.kind.Kind.{Kind}
@@ -22,7 +22,7 @@ use Rattle.workload_spec.specs.Grammar.{or_cause, cells_of}
 use Rattle.workload_laws.specs.Bytes.{has_only_bytes}
 use Rattle.workload_laws.proofs.BlobBytes.{cell_bytes}
 use Rattle.workload_laws.proofs.Results.{step, some_of, spelled_as}
-use Rattle.workload_laws.proofs.Lists.{both, joined}
+use Rattle.workload_laws.proofs.Lists.{joined}
 
 -- A cell that is read behind a test for faults is itself, without a fault.
 kept_by : (fault : Option RowFault) (cell read : Cell) → option_map_or (λ f. None) fault (Some cell) ≡ Some read → (cell ≡ read) × (is_none fault ≡ true)
@@ -107,7 +107,7 @@ i64_is kind.Binary e = absurd cc
 -- A number that a key may be fits the column of the key.
 key_fits : (column : Column) (key : ℤ) → is_key column ≡ true → is_key_number key ≡ true → is_none (cell_fault 0 column (Num key)) ≡ true
 key_fits column key is number =
-    let k : column.kind ≡ kind.I64 = i64_is column.kind (both _ (is_i64 column.kind) (both _ (not column.nullable) is).0).1 in
+    let k : column.kind ≡ kind.I64 = i64_is column.kind (and_parts _ (is_i64 column.kind) (and_parts _ (not column.nullable) is).0).1 in
     let v : is_integer_of column.kind key ≡ true = rw k number in
     rw v refl
 

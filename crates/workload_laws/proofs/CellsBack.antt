@@ -5,7 +5,7 @@ use Rattle.std.specs.Fmt.{signed_decimal}
 use Rattle.std.specs.Str.{is_utf8}
 use Rattle.std.specs.Option.{option_map_or}
 use Rattle.std.specs.List.{list_all}
-use Rattle.std.proofs.lemmas.Bool.{leb-true}
+use Rattle.std.proofs.lemmas.Bool.{leb-true, and_parts}
 use Rattle.cell_model.specs.declared.cell.Cell.{Cell}
 use Rattle.cell_model.specs.declared.cell.Cell.TheVariants.{Null, Num, Truth, Text, Blob}
 use Rattle.cell_model.specs.declared.kind.Kind.{Kind}
@@ -21,7 +21,6 @@ use Rattle.workload_spec.specs.Reading.{integer_in, value_in, cell_in, cell_of, 
 use Rattle.workload_spec.specs.Grammar.{or_cause, cells_of}
 use Rattle.workload_laws.specs.Bytes.{has_only_bytes}
 use Rattle.workload_laws.proofs.Results.{gives}
-use Rattle.workload_laws.proofs.Lists.{both}
 use Rattle.workload_laws.proofs.Cells.{fault_at}
 use Rattle.workload_laws.proofs.Apart.{IsWord, AreWords, plain_word}
 use Rattle.workload_laws.proofs.Numbers.{magnitude, integer_back, signed_plain, other_bytes, spelled_back, decimal_begins}
@@ -29,12 +28,12 @@ use Rattle.workload_laws.proofs.TextsBack.{text_back, text_word, bytes_back, blo
 
 -- An integer within bounds of 63 bits and a sign has a magnitude below 2^64.
 signed_small : (low high : ℕ) (z : ℤ) → low < 2 ^ 63 → high < 2 ^ 63 → is_between (negsuc low) (pos high) z ≡ true → magnitude z < 2 ^ 64
-signed_small low high (pos n) l h e = omega (arith, leb-true n high (both (int_le (negsuc low) (pos n)) (nat_le n high) e).1, h)
-signed_small low high (negsuc n) l h e = omega (arith, leb-true n low (both (nat_le n low) (int_le (negsuc n) (pos high)) e).0, l)
+signed_small low high (pos n) l h e = omega (arith, leb-true n high (and_parts (int_le (negsuc low) (pos n)) (nat_le n high) e).1, h)
+signed_small low high (negsuc n) l h e = omega (arith, leb-true n low (and_parts (nat_le n low) (int_le (negsuc n) (pos high)) e).0, l)
 
 -- An integer from zero to a bound below 2^64 has a magnitude below 2^64.
 unsigned_small : (high : ℕ) (z : ℤ) → high < 2 ^ 64 → is_between (pos 0) (pos high) z ≡ true → magnitude z < 2 ^ 64
-unsigned_small high (pos n) h e = omega (arith, leb-true n high (both (int_le (pos 0) (pos n)) (nat_le n high) e).1, h)
+unsigned_small high (pos n) h e = omega (arith, leb-true n high (and_parts (int_le (pos 0) (pos n)) (nat_le n high) e).1, h)
 unsigned_small high (negsuc n) h e = absurd cc
 
 -- An integer that a kind takes has a magnitude below 2^64.
@@ -121,8 +120,8 @@ value_back k Null is bytes = absurd cc
 value_back k (Num z) is bytes = (number_not_null z (small_of k z is), number_in k z (signed_decimal z) is ∙ ap Num (integer_back z (small_of k z is)))
 value_back k (Truth true) is bytes = (refl, truth_in k (codes "true") is)
 value_back k (Truth false) is bytes = (refl, truth_in k (codes "false") is)
-value_back k (Text text) is bytes = (refl, a_text_in k (quoted text) (both (is_utf8_kind k) (is_utf8 text) is).0 ∙ ap Text (text_back text))
-value_back k (Blob bytes) is all = (refl, a_blob_in k (cell_text (Blob bytes)) (both (is_binary_kind k) (are_bytes bytes) is).0 ∙ ap Blob (bytes_back bytes all))
+value_back k (Text text) is bytes = (refl, a_text_in k (quoted text) (and_parts (is_utf8_kind k) (is_utf8 text) is).0 ∙ ap Text (text_back text))
+value_back k (Blob bytes) is all = (refl, a_blob_in k (cell_text (Blob bytes)) (and_parts (is_binary_kind k) (are_bytes bytes) is).0 ∙ ap Blob (bytes_back bytes all))
 
 -- An option that is tested to be none is none.
 none_is : {X : Type 0} (o : Option X) → is_none o ≡ true → o ≡ None
@@ -195,7 +194,7 @@ cells_back (column ∷ columns) [] at many fit bytes = absurd (omega (arith, man
 cells_back (column ∷ columns) (cell ∷ cells) at many fit bytes =
     let f = first_fits (cell_fault at column cell) (first_fault (at + 1) columns cells) fit in
     let here : is_none (cell_fault 0 column cell) ≡ true = sym (fault_at column cell at) ∙ f.0 in
-    let b = both (has_only_bytes cell) (list_all has_only_bytes cells) bytes in
+    let b = and_parts (has_only_bytes cell) (list_all has_only_bytes cells) bytes in
     let rest = cells_back columns cells (at + 1) (omega (arith, many)) f.1 b.1 in
     record {
       back = gives (or_cause cause.Cell (cell_of column (cell_text cell))) _ (Ok (cell ∷ cells)) cell (ap (or_cause cause.Cell) (cell_back column cell here b.0))

@@ -3,7 +3,7 @@ use Rattle.std.proofs.Common.{◌≡◌, ℕ, ◌+◌, Bool, true, false, cond, 
 use Rattle.std.specs.Prelude.{◌==◌, not, Some, None, Option, is_none, is_some, option_map, bytes_eq, nat_le, nat_lt, codes, Result, Ok, find, if◌then◌else◌}
 use Rattle.std.specs.List.{list_all, list_any, prefix_len}
 use Rattle.std.specs.Option.{option_or}
-use Rattle.std.proofs.lemmas.Bool.{eqb-true, ltb-true, le-leb}
+use Rattle.std.proofs.lemmas.Bool.{eqb-true, ltb-true, le-leb, and_parts, not-true}
 use Rattle.std.proofs.lemmas.List.{append-nil}
 use Rattle.cell_model.specs.declared.column.Column.{Column}
 use Rattle.cell_model.specs.declared.kind.Kind.{Kind}
@@ -16,7 +16,7 @@ use Rattle.workload_spec.specs.ScriptText.{kind_text, column_text}
 use Rattle.workload_spec.specs.Extents.{whole}
 use Rattle.workload_spec.specs.Grammar.{◌>>=◌, or_cause, rule, kind_of, colon, has_colon, before_colon, after_colon, column_of, columns_from}
 use Rattle.workload_laws.proofs.Results.{step, some_of, rule_of, eq_of}
-use Rattle.workload_laws.proofs.Lists.{both, joined, not_true, all-behind, own_names, own_names-behind, find_is, position_none, none_position}
+use Rattle.workload_laws.proofs.Lists.{joined, all-behind, own_names, own_names-behind, find_is, position_none, none_position}
 
 -- a word with a colon is what stands before its first, the colon, and what stands behind it
 colon_by : (b : Bool) (byte : ℕ) (bytes : List ℕ) (n : ℕ) → byte == 58 ≡ b → (b ≡ false → take n bytes ++ 58 ∷ drop (length (take n bytes) + 1) bytes ≡ bytes)
@@ -109,8 +109,8 @@ pub twins_from : (columns : List Column) (at : ℕ) → own_names (λ (column : 
 unfolding own_names
 twins_from [] at e = refl
 twins_from (column ∷ columns) at e =
-    let parts = both _ (own_names (λ (column : Column). column.name) columns) e in
-    twins_by (place_of_name column.name columns) (first_twins (at + 1) columns) at true (none_position (λ (other : Column). bytes_eq other.name column.name) columns (not_true _ parts.0)) (twins_from columns (at + 1) parts.1)
+    let parts = and_parts _ (own_names (λ (column : Column). column.name) columns) e in
+    twins_by (place_of_name column.name columns) (first_twins (at + 1) columns) at true (none_position (λ (other : Column). bytes_eq other.name column.name) columns (not-true _ parts.0)) (twins_from columns (at + 1) parts.1)
 
 -- Columns that begin with the key do so with one more behind them.
 begins_behind : (columns : List Column) (column : Column) → begins_with_key columns ≡ true → begins_with_key (columns ++ column ∷ []) ≡ true
@@ -124,9 +124,9 @@ few_behind columns column room = le-leb _ _ (omega (arith, ltb-true (length colu
 -- columns of a table and one that is read behind them are a table's
 pub columns_behind : (columns : List Column) (word : List ℕ) (column : Column) → are_columns columns ≡ true → Reads columns word column → are_columns (columns ++ column ∷ []) ≡ true
 columns_behind columns word column are reads =
-    let a = both _ (list_all (λ c. is_name c.name) columns) are in
-    let b = both _ (is_none (first_twins 0 columns)) a.0 in
-    let c = both (begins_with_key columns) (nat_le (length columns) most_columns) b.0 in
+    let a = and_parts _ (list_all (λ c. is_name c.name) columns) are in
+    let b = and_parts _ (is_none (first_twins 0 columns)) a.0 in
+    let c = and_parts (begins_with_key columns) (nat_le (length columns) most_columns) b.0 in
     joined (joined (joined (begins_behind columns column c.0) (few_behind columns column reads.room))
     (twins_from (columns ++ column ∷ []) 0 (own_names-behind (λ (other : Column). other.name) columns column (own_from columns 0 b.1) reads.own)))
     (all-behind (λ (other : Column). is_name other.name) columns column a.1 reads.named)

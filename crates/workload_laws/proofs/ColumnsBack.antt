@@ -2,7 +2,7 @@
 use Rattle.std.proofs.Common.{◌≡◌, ℕ, ◌+◌, ◌<◌, ◌⊎◌, inl, inr, Bool, true, false, List, [], ◌∷◌, ◌++◌, drop, length, suc, map, refl, sym, ap, ◌∙◌, arith, add-one, subst, append_assoc, length-append}
 use Rattle.std.specs.Prelude.{◌&&◌, ◌||◌, ◌==◌, not, Some, is_none, bytes_eq, nat_le, nat_lt, codes, Ok, if◌then◌else◌}
 use Rattle.std.specs.List.{list_all, list_any, prefix_len}
-use Rattle.std.proofs.lemmas.Bool.{eqb-true, lt-ltb, leb-true, ne_eqb}
+use Rattle.std.proofs.lemmas.Bool.{eqb-true, lt-ltb, leb-true, ne_eqb, and_parts, or_cases, or_right}
 use Rattle.std.proofs.lemmas.List.{append-nil}
 use Rattle.std.proofs.lemmas.List.Folds.{list_all-append}
 use Rattle.cell_model.specs.declared.column.Column.{Column}
@@ -15,7 +15,7 @@ use Rattle.workload_spec.specs.ScriptText.{kind_text, column_text}
 use Rattle.workload_spec.specs.Extents.{whole}
 use Rattle.workload_spec.specs.Grammar.{◌>>=◌, or_cause, rule, kind_of, colon, has_colon, before_colon, after_colon, column_of, columns_from}
 use Rattle.workload_laws.proofs.Results.{gives, rule_back, chosen, passed}
-use Rattle.workload_laws.proofs.Lists.{both, either, joined, own_names-before, none_position}
+use Rattle.workload_laws.proofs.Lists.{joined, own_names-before, none_position}
 use Rattle.workload_laws.proofs.Columns.{own_from}
 use Rattle.workload_laws.proofs.Apart.{is_plain}
 
@@ -26,7 +26,7 @@ NoColon byte = (is_plain byte ≡ true) × (not (byte == 58) ≡ true)
 -- A byte within bounds above the quote, without the colon, is plain and no colon.
 within_no_colon : (low high byte : ℕ) → 34 < low → (58 < low) ⊎ (high < 58) → is_within low high byte ≡ true → NoColon byte
 within_no_colon low high byte above beside within =
-    let w = both (nat_le low byte) (nat_le byte high) within in
+    let w = and_parts (nat_le low byte) (nat_le byte high) within in
     let l = leb-true low byte w.0 in
     let h = leb-true byte high w.1 in
     let n : byte == 58 ≡ false = ne_eqb byte 58 (λ e. elim beside [ inl b ↦ omega (arith, b, l, e) | inr b ↦ omega (arith, b, h, e) ]) in
@@ -34,8 +34,8 @@ within_no_colon low high byte above beside within =
 
 -- A byte that a name may have is plain, and no colon.
 name_byte : (byte : ℕ) → is_name_byte byte ≡ true → NoColon byte
-name_byte byte is = elim (either (is_lower_case byte || is_digit byte) (byte == underscore) is) [
-  | inl letter ↦ elim (either (is_lower_case byte) (is_digit byte) letter) [
+name_byte byte is = elim (or_cases (is_lower_case byte || is_digit byte) (byte == underscore) is) [
+  | inl letter ↦ elim (or_cases (is_lower_case byte) (is_digit byte) letter) [
     | inl lower ↦ within_no_colon 97 122 byte (omega arith) (inl (omega arith)) lower
     | inr digit ↦ within_no_colon 48 57 byte (omega arith) (inr (omega arith)) digit
   ]
@@ -51,7 +51,7 @@ pub record NameBytes (name : List ℕ) : Type 0 where
 rest_bytes : (name : List ℕ) → list_all is_name_byte name ≡ true → NameBytes name
 rest_bytes [] all = record { plain = refl; no_colon = refl }
 rest_bytes (byte ∷ bytes) all =
-    let b = both (is_name_byte byte) (list_all is_name_byte bytes) all in
+    let b = and_parts (is_name_byte byte) (list_all is_name_byte bytes) all in
     let one = name_byte byte b.0 in
     let rest = rest_bytes bytes b.1 in
     record { plain = joined one.0 rest.plain; no_colon = joined one.1 rest.no_colon }
@@ -60,7 +60,7 @@ rest_bytes (byte ∷ bytes) all =
 pub name_bytes : (name : List ℕ) → is_name name ≡ true → NameBytes name
 name_bytes [] is = absurd cc
 name_bytes (first ∷ rest) is =
-    let parts = both (is_lower_case first) (list_all is_name_byte rest) (both (is_lower_case first && list_all is_name_byte rest) (nat_lt (length rest) 32) is).0 in
+    let parts = and_parts (is_lower_case first) (list_all is_name_byte rest) (and_parts (is_lower_case first && list_all is_name_byte rest) (nat_lt (length rest) 32) is).0 in
     let one = within_no_colon 97 122 first (omega arith) (inl (omega arith)) parts.0 in
     let others = rest_bytes rest parts.1 in
     record { plain = joined one.0 others.plain; no_colon = joined one.1 others.no_colon }
@@ -69,7 +69,7 @@ name_bytes (first ∷ rest) is =
 pub before_back : (name after : List ℕ) → list_all (λ byte. not (byte == 58)) name ≡ true → before_colon (name ++ colon ∷ after) ≡ name
 before_back [] after none = refl
 before_back (byte ∷ bytes) after none =
-    let n = both (not (byte == 58)) (list_all (λ b. not (b == 58)) bytes) none in
+    let n = and_parts (not (byte == 58)) (list_all (λ b. not (b == 58)) bytes) none in
     let one : 1 + prefix_len (λ b. not (b == 58)) (bytes ++ 58 ∷ after) ≡ suc (prefix_len (λ b. not (b == 58)) (bytes ++ 58 ∷ after)) = omega arith in
     rw (n.0, one) (ap (λ (bs : List ℕ). byte ∷ bs) (before_back bytes after n.1))
 
@@ -86,10 +86,6 @@ after_back name after none = ap (λ (n : List ℕ). drop (length n + 1) (name ++
 pub has_back : (name after : List ℕ) → has_colon (name ++ colon ∷ after) ≡ true
 has_back [] after = refl
 has_back (byte ∷ bytes) after = or_right (byte == 58) (has_colon (bytes ++ colon ∷ after)) (has_back bytes after)
-  where
-    or_right : (s t : Bool) → t ≡ true → (s || t) ≡ true
-    or_right true t e = refl
-    or_right false t e = e
 
 -- a kind and its mark for nulls are read back from their text
 pub kind_back : (k : Kind) (nullable : Bool) → kind_of (kind_text k ++ (if nullable then codes "?" else [])) ≡ Some (k, nullable)
@@ -142,12 +138,12 @@ column_back columns column may =
 -- of a table's columns each may follow those before it
 pub may_follow : (columns : List Column) (column : Column) (more : List Column) → are_columns (columns ++ column ∷ more) ≡ true → MayFollow columns column
 may_follow columns column more are =
-    let a = both (begins_with_key (columns ++ column ∷ more) && nat_le (length (columns ++ column ∷ more)) most_columns && is_none (first_twins 0 (columns ++ column ∷ more))) (list_all (λ c. is_name c.name) (columns ++ column ∷ more)) are in
-    let b = both (begins_with_key (columns ++ column ∷ more) && nat_le (length (columns ++ column ∷ more)) most_columns) (is_none (first_twins 0 (columns ++ column ∷ more))) a.0 in
-    let c = both (begins_with_key (columns ++ column ∷ more)) (nat_le (length (columns ++ column ∷ more)) most_columns) b.0 in
-    let n = both (list_all (λ c. is_name c.name) columns) (list_all (λ c. is_name c.name) (column ∷ more)) (sym (list_all-append (λ (c : Column). is_name c.name) columns (column ∷ more)) ∙ a.1) in
+    let a = and_parts (begins_with_key (columns ++ column ∷ more) && nat_le (length (columns ++ column ∷ more)) most_columns && is_none (first_twins 0 (columns ++ column ∷ more))) (list_all (λ c. is_name c.name) (columns ++ column ∷ more)) are in
+    let b = and_parts (begins_with_key (columns ++ column ∷ more) && nat_le (length (columns ++ column ∷ more)) most_columns) (is_none (first_twins 0 (columns ++ column ∷ more))) a.0 in
+    let c = and_parts (begins_with_key (columns ++ column ∷ more)) (nat_le (length (columns ++ column ∷ more)) most_columns) b.0 in
+    let n = and_parts (list_all (λ c. is_name c.name) columns) (list_all (λ c. is_name c.name) (column ∷ more)) (sym (list_all-append (λ (c : Column). is_name c.name) columns (column ∷ more)) ∙ a.1) in
     record {
-      named = (both (is_name column.name) (list_all (λ c. is_name c.name) more) n.1).0;
+      named = (and_parts (is_name column.name) (list_all (λ c. is_name c.name) more) n.1).0;
       own = own_names-before (λ (c : Column). c.name) columns column more (own_from (columns ++ column ∷ more) 0 b.1);
       room = lt-ltb (length columns) 32 (omega (arith, leb-true (length (columns ++ column ∷ more)) 32 c.1, length-append columns (column ∷ more)));
     }

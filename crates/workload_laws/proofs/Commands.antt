@@ -4,7 +4,7 @@ use Rattle.std.specs.Prelude.{◌&&◌, ◌==◌, not, Option, None, Some, optio
 use Rattle.std.specs.Fmt.{signed_decimal}
 use Rattle.std.specs.Option.{option_map_or}
 use Rattle.std.specs.List.{list_all}
-use Rattle.std.proofs.lemmas.Bool.{eqb-true}
+use Rattle.std.proofs.lemmas.Bool.{eqb-true, and_parts, not-true}
 use Rattle.cell_model.specs.declared.cell.Cell.{Cell}
 use Rattle.cell_model.specs.declared.cell.Cell.TheVariants.{Num}
 use Rattle.cell_model.specs.declared.column.Column.{Column}
@@ -23,7 +23,7 @@ use Rattle.workload_spec.specs.Extents.{whole}
 use Rattle.workload_spec.specs.Grammar.{or_cause, rule, word, no_word, number, Form, Alone, OfTable, OfKey, OfRow, OfBlock, forms, form_of, table_named, key_in, schema_at, cells_of, formed, line_of}
 use Rattle.workload_laws.specs.Bytes.{has_only_bytes, written_row}
 use Rattle.workload_laws.proofs.Results.{step, some_of, rule_of, word_is, no_word_is, number_is, eq_of, spelled_as}
-use Rattle.workload_laws.proofs.Lists.{both, joined, not_true, find_is, position_is}
+use Rattle.workload_laws.proofs.Lists.{joined, find_is, position_is}
 use Rattle.workload_laws.proofs.Cells.{cells_are, row_fits}
 
 -- the table of a name stands at its place
@@ -128,16 +128,16 @@ of_block tables name make text is bytes words command e =
 -- each of the tables is a table within its limits
 pub table_at : (tables : List TableDecl) (place : ℕ) (table : TableDecl) → list_all is_table tables ≡ true → slice_get tables place ≡ Some table → is_table table ≡ true
 table_at [] place table all e = absurd cc
-table_at (first ∷ tables) zero table all e = let same : first ≡ table = cc in ap is_table (sym same) ∙ (both (is_table first) (list_all is_table tables) all).0
-table_at (first ∷ tables) (suc place) table all e = table_at tables place table (both (is_table first) (list_all is_table tables) all).1 e
+table_at (first ∷ tables) zero table all e = let same : first ≡ table = cc in ap is_table (sym same) ∙ (and_parts (is_table first) (list_all is_table tables) all).0
+table_at (first ∷ tables) (suc place) table all e = table_at tables place table (and_parts (is_table first) (list_all is_table tables) all).1 e
 
 -- a table's columns begin with the key
 pub begins : (table : TableDecl) → is_table table ≡ true → begins_with_key table.schema ≡ true
 begins table is =
-    let a = both (is_name table.name && are_columns table.schema && are_slots table.schema table.slots) (are_blocks table.blocks) is in
-    let b = both (is_name table.name && are_columns table.schema) (are_slots table.schema table.slots) a.0 in
-    let c = both (is_name table.name) (are_columns table.schema) b.0 in
-    (both _ _ (both _ _ (both _ _ c.1).0).0).0
+    let a = and_parts (is_name table.name && are_columns table.schema && are_slots table.schema table.slots) (are_blocks table.blocks) is in
+    let b = and_parts (is_name table.name && are_columns table.schema) (are_slots table.schema table.slots) a.0 in
+    let c = and_parts (is_name table.name) (are_columns table.schema) b.0 in
+    (and_parts _ _ (and_parts _ _ (and_parts _ _ c.1).0).0).0
 
 -- the cells of a row behind its key, which fits with it
 record ReadsRow (schema : List Column) (key : ℤ) (cells : List Cell) (words : List (List ℕ)) : Type 0 where
@@ -254,7 +254,7 @@ form_by (Some entry) form e = (entry, refl, cc)
 pub command_is : (tables : List TableDecl) (name : List ℕ) (form : Form) (words : List (List ℕ)) (read : Command) → list_all is_table tables ≡ true → form_of whole name ≡ Some form → formed tables form words ≡ Ok read → ReadsCommand tables name words read
 command_is tables name form words read all known e =
     let f = form_by (find (λ entry. bytes_eq entry.0 name && entry.2) (forms whole.commands)) form known in
-    let same = eq_of f.0.0 name (both (bytes_eq f.0.0 name) f.0.2 (find_is (λ (entry : List ℕ × Form × Bool). bytes_eq entry.0 name && entry.2) (forms whole.commands) f.0 f.1)).0 in
+    let same = eq_of f.0.0 name (and_parts (bytes_eq f.0.0 name) f.0.2 (find_is (λ (entry : List ℕ × Form × Bool). bytes_eq entry.0 name && entry.2) (forms whole.commands) f.0 f.1)).0 in
     subst (λ (first : List ℕ). ReadsCommand tables first words read) same
     (each_found (FormReads tables) (λ (entry : List ℕ × Form × Bool). bytes_eq entry.0 name && entry.2) (forms whole.commands) f.0 (each_form tables all) f.1 words read (ap (λ (g : Form). formed tables g words) f.2 ∙ e))
 
@@ -282,5 +282,5 @@ line_is tables sessions exported words line all e =
       session = n.1;
       is = c.is;
       bytes = c.bytes;
-      once = not_true (exported && is_export read) (rule_of cause.Export (not (exported && is_export read)) u is5);
+      once = not-true (exported && is_export read) (rule_of cause.Export (not (exported && is_export read)) u is5);
     }))))))

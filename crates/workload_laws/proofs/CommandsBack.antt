@@ -5,7 +5,7 @@ use Rattle.std.specs.Fmt.{signed_decimal}
 use Rattle.std.specs.Option.{option_map_or}
 use Rattle.std.specs.List.{list_all, list_any, position_from}
 use Rattle.std.proofs.lemmas.List.{length-map}
-use Rattle.std.proofs.lemmas.Bool.{eqb-true, eq-eqb, ltb-true}
+use Rattle.std.proofs.lemmas.Bool.{eqb-true, eq-eqb, ltb-true, and_parts, or_parts, not-true}
 use Rattle.std.proofs.lemmas.Iterator.Adapters.{position_from-zero}
 use Rattle.cell_model.specs.declared.cell.Cell.{Cell}
 use Rattle.cell_model.specs.declared.cell.Cell.TheVariants.{Null, Num, Truth, Text, Blob}
@@ -30,7 +30,7 @@ use Rattle.workload_spec.specs.Extents.{whole}
 use Rattle.workload_spec.specs.Grammar.{or_cause, rule, word, no_word, number, Form, Alone, OfTable, OfKey, OfRow, OfBlock, form_of, table_named, key_in, schema_at, cells_of, formed, line_of}
 use Rattle.workload_laws.specs.Bytes.{has_only_bytes, written_row}
 use Rattle.workload_laws.proofs.Results.{gives, rule_back}
-use Rattle.workload_laws.proofs.Lists.{both, neither, not_true, own_names}
+use Rattle.workload_laws.proofs.Lists.{own_names}
 use Rattle.workload_laws.proofs.Cells.{i64_is}
 use Rattle.workload_laws.proofs.Commands.{table_at, begins}
 use Rattle.workload_laws.proofs.Heads.{own_tables}
@@ -42,8 +42,8 @@ use Rattle.workload_laws.proofs.TablesBack.{table_parts, within_high, name_word,
 -- Where none of a list passes, the one at a place fails.
 none_at : {X : Type 0} (p : X → Bool) (xs : List X) (k : ℕ) (x : X) → slice_get xs k ≡ Some x → list_any p xs ≡ false → p x ≡ false
 none_at p [] k x e none = absurd cc
-none_at p (y ∷ ys) zero x e none = let same : y ≡ x = cc in ap p (sym same) ∙ (neither (p y) (list_any p ys) none).0
-none_at p (y ∷ ys) (suc k) x e none = none_at p ys k x e (neither (p y) (list_any p ys) none).1
+none_at p (y ∷ ys) zero x e none = let same : y ≡ x = cc in ap p (sym same) ∙ (or_parts (p y) (list_any p ys) none).0
+none_at p (y ∷ ys) (suc k) x e none = none_at p ys k x e (or_parts (p y) (list_any p ys) none).1
 
 -- an element with a name of its own is the first of its name
 first_from : {X : Type 0} (name : X → List ℕ) (xs : List X) (k i : ℕ) (x : X) → own_names name xs ≡ true → slice_get xs k ≡ Some x → position_from (λ y. bytes_eq (name y) (name x)) i xs ≡ Some (i + k)
@@ -55,8 +55,8 @@ first_from name (y ∷ ys) zero i x own e =
     let z : i ≡ i + 0 = omega arith in
     rw b (ap Some z)
 first_from name (y ∷ ys) (suc k) i x own e =
-    let o = both (not (list_any (λ z. bytes_eq (name z) (name y)) ys)) (own_names name ys) own in
-    let n = none_at (λ z. bytes_eq (name z) (name y)) ys k x e (not_true _ o.0) in
+    let o = and_parts (not (list_any (λ z. bytes_eq (name z) (name y)) ys)) (own_names name ys) own in
+    let n = none_at (λ z. bytes_eq (name z) (name y)) ys k x e (not-true _ o.0) in
     let b : bytes_eq (name y) (name x) ≡ false = other_bytes (name y) (name x) (λ same. let f : bytes_eq (name x) (name y) ≡ true = rw same (same_bytes (name x)) in cc) in
     let z : (i + 1) + k ≡ i + suc k = omega arith in
     rw b (first_from name ys k (i + 1) x o.1 e ∙ ap Some z)
@@ -154,13 +154,13 @@ pub key_cell : (column : Column) (cell : Cell) → is_key column ≡ true → is
 key_cell column cell is fit = by cell fit
   where
     key_kind : column.kind ≡ kind.I64
-    key_kind = i64_is column.kind (both (bytes_eq column.name (codes "key")) (is_i64 column.kind) (both _ (not column.nullable) is).0).1
+    key_kind = i64_is column.kind (and_parts (bytes_eq column.name (codes "key")) (is_i64 column.kind) (and_parts _ (not column.nullable) is).0).1
 
     value : (c : Cell) → is_value_of column.kind c ≡ true → is_value_of kind.I64 c ≡ true
     value c e = ap (λ k. is_value_of k c) (sym key_kind) ∙ e
 
     by : (c : Cell) → is_none (cell_fault 0 column c) ≡ true → (key : ℤ) × (c ≡ Num key) × (is_key_number key ≡ true)
-    by Null f = absurd (no_null column.nullable (both (bytes_eq column.name (codes "key") && is_i64 column.kind) (not column.nullable) is).1 f)
+    by Null f = absurd (no_null column.nullable (and_parts (bytes_eq column.name (codes "key") && is_i64 column.kind) (not column.nullable) is).1 f)
     by (Num z) f = (z, refl, value (Num z) (value_of_fit column (Num z) refl f))
     by (Truth truth) f = absurd (let v = value (Truth truth) (value_of_fit column (Truth truth) refl f) in cc)
     by (Text text) f = absurd (let v = value (Text text) (value_of_fit column (Text text) refl f) in cc)
@@ -186,7 +186,7 @@ row_back (column ∷ columns) (cell ∷ cells) begins fit bytes =
       is = ap (λ (c : Cell). c ∷ cells) k.1;
       number = k.2;
       many = eq-eqb (length (column ∷ columns)) (length cells + 1) (omega (arith, n));
-      others = cells_back columns cells (0 + 1) n g.1 (both (has_only_bytes cell) (list_all has_only_bytes cells) bytes).1;
+      others = cells_back columns cells (0 + 1) n g.1 (and_parts (has_only_bytes cell) (list_all has_only_bytes cells) bytes).1;
     }
 
 -- a command is read back from its words
@@ -283,7 +283,7 @@ block_at tables name make place block all own text known is there =
 key_at : (tables : List TableDecl) (name : List ℕ) (make : ℕ → ℤ → Command) (place : ℕ) (key : ℤ) → list_all is_table tables ≡ true → have_own_names tables ≡ true → command_words tables (make place key) ≡ name ∷ name_of_table tables place ∷ signed_decimal key ∷ []
     → form_of whole name ≡ Some (OfKey make) → IsWord name → (is_table_place tables place && is_key_number key) ≡ true → CommandBack tables (make place key)
 key_at tables name make place key all own text known is fits =
-    let f = both (is_table_place tables place) (is_key_number key) fits in
+    let f = and_parts (is_table_place tables place) (is_key_number key) fits in
     key_command tables name make place key text known is (place_stands tables place all own f.0) f.1
 
 -- a command is read back from its words

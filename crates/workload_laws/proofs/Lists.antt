@@ -1,35 +1,16 @@
 -- Lists whose elements all pass a test, and that have names of their own.
-use Rattle.std.proofs.Common.{◌≡◌, ◌⊎◌, inl, inr, ℕ, ◌+◌, Bool, true, false, cond, List, [], ◌∷◌, ◌++◌, suc, refl, sym, ap, ◌∙◌, arith, subst}
+use Rattle.std.proofs.Common.{◌≡◌, ℕ, ◌+◌, Bool, true, false, cond, List, [], ◌∷◌, ◌++◌, suc, refl, sym, ap, ◌∙◌, arith, subst}
 use Rattle.std.specs.Prelude.{◌&&◌, ◌||◌, not, Some, None, Option, is_none, slice_get, bytes_eq, find, position}
 use Rattle.std.specs.List.{list_all, list_any, position_from}
 use Rattle.std.proofs.lemmas.Iterator.Adapters.{position_from-zero}
 use Rattle.std.proofs.lemmas.Slice.Eq.{bytes_eq-Decides}
 use Rattle.std.proofs.lemmas.List.Folds.{list_any-append}
+use Rattle.std.proofs.lemmas.Bool.{and_parts, or_parts, not-true}
 use Rattle.workload_laws.proofs.Results.{eq_of}
-
--- two tests that pass together pass each
-pub both : (s t : Bool) → (s && t) ≡ true → (s ≡ true) × (t ≡ true)
-both true t e = (refl, e)
-both false t e = absurd cc
 
 -- two tests that pass each pass together
 pub joined : {s t : Bool} → s ≡ true → t ≡ true → (s && t) ≡ true
 joined p q = rw (p, q) refl
-
--- where one of two tests passes, the first or the second does
-pub either : (s t : Bool) → (s || t) ≡ true → (s ≡ true) ⊎ (t ≡ true)
-either true t e = inl refl
-either false t e = inr e
-
--- where neither of two tests passes, each fails
-pub neither : (s t : Bool) → (s || t) ≡ false → (s ≡ false) × (t ≡ false)
-neither true t e = absurd cc
-neither false t e = (refl, e)
-
--- what is not true is false
-pub not_true : (b : Bool) → not b ≡ true → b ≡ false
-not_true true e = absurd cc
-not_true false e = refl
 
 -- Two tests of which each passes where the other does are one.
 same : (s t : Bool) → (s ≡ true → t ≡ true) → (t ≡ true → s ≡ true) → s ≡ t
@@ -46,12 +27,12 @@ bytes_eq-sym a b = same (bytes_eq a b) (bytes_eq b a)
 -- one more that passes behind those that all do
 pub all-behind : {X : Type 0} (p : X → Bool) (xs : List X) (x : X) → list_all p xs ≡ true → p x ≡ true → list_all p (xs ++ x ∷ []) ≡ true
 all-behind p [] x all this = joined this refl
-all-behind p (y ∷ ys) x all this = let parts = both (p y) (list_all p ys) all in joined parts.0 (all-behind p ys x parts.1 this)
+all-behind p (y ∷ ys) x all this = let parts = and_parts (p y) (list_all p ys) all in joined parts.0 (all-behind p ys x parts.1 this)
 
 -- one more that fails behind those that all do
 pub none-behind : {X : Type 0} (p : X → Bool) (xs : List X) (x : X) → list_any p xs ≡ false → p x ≡ false → list_any p (xs ++ x ∷ []) ≡ false
 none-behind p [] x none this = rw this refl
-none-behind p (y ∷ ys) x none this = let parts = neither (p y) (list_any p ys) none in rw (parts.0) (none-behind p ys x parts.1 this)
+none-behind p (y ∷ ys) x none this = let parts = or_parts (p y) (list_any p ys) none in rw (parts.0) (none-behind p ys x parts.1 this)
 
 -- no two elements have one name
 unfoldable pub own_names : {X : Type 0} (name : X → List ℕ) → List X → Bool
@@ -63,9 +44,9 @@ pub own_names-behind : {X : Type 0} (name : X → List ℕ) (xs : List X) (x : X
 unfolding own_names
 own_names-behind name [] x own none = refl
 own_names-behind name (y ∷ ys) x own none =
-    let o = both (not (list_any (λ z. bytes_eq (name z) (name y)) ys)) (own_names name ys) own in
-    let n = neither (bytes_eq (name y) (name x)) (list_any (λ z. bytes_eq (name z) (name x)) ys) none in
-    joined (ap not (none-behind (λ z. bytes_eq (name z) (name y)) ys x (not_true _ o.0) (bytes_eq-sym (name x) (name y) ∙ n.0))) (own_names-behind name ys x o.1 n.1)
+    let o = and_parts (not (list_any (λ z. bytes_eq (name z) (name y)) ys)) (own_names name ys) own in
+    let n = or_parts (bytes_eq (name y) (name x)) (list_any (λ z. bytes_eq (name z) (name x)) ys) none in
+    joined (ap not (none-behind (λ z. bytes_eq (name z) (name y)) ys x (not-true _ o.0) (bytes_eq-sym (name x) (name y) ∙ n.0))) (own_names-behind name ys x o.1 n.1)
 
 -- What is found first or behind passes, where what is found behind does.
 found : {X : Type 0} (p : X → Bool) (y x : X) (rest : Option X) (b : Bool) → p y ≡ b → (rest ≡ Some x → p x ≡ true) → cond b (Some y) rest ≡ Some x → p x ≡ true
@@ -94,7 +75,7 @@ position_none p xs e = from_none p xs 0 (ap is_none (sym (position_from-zero p x
 -- Where none passes, no place is found, counted from a number on.
 from_absent : {X : Type 0} (p : X → Bool) (xs : List X) (i : ℕ) → list_any p xs ≡ false → position_from p i xs ≡ None
 from_absent p [] i e = refl
-from_absent p (x ∷ xs) i e = let parts = neither (p x) (list_any p xs) e in rw (parts.0) (from_absent p xs (i + 1) parts.1)
+from_absent p (x ∷ xs) i e = let parts = or_parts (p x) (list_any p xs) e in rw (parts.0) (from_absent p xs (i + 1) parts.1)
 
 -- where none passes, there is no place of one
 pub none_position : {X : Type 0} (p : X → Bool) (xs : List X) → list_any p xs ≡ false → is_none (position p xs) ≡ true
@@ -127,7 +108,7 @@ pub own_names-before : {X : Type 0} (name : X → List ℕ) (xs : List X) (x : X
 unfolding own_names
 own_names-before name [] x ys own = refl
 own_names-before name (y ∷ xs) x ys own =
-    let o = both (not (list_any (λ z. bytes_eq (name z) (name y)) (xs ++ x ∷ ys))) (own_names name (xs ++ x ∷ ys)) own in
-    let n = neither (list_any (λ z. bytes_eq (name z) (name y)) xs) (bytes_eq (name x) (name y) || list_any (λ z. bytes_eq (name z) (name y)) ys) (sym (list_any-append (λ z. bytes_eq (name z) (name y)) xs (x ∷ ys)) ∙ not_true _ o.0) in
-    let here = neither (bytes_eq (name x) (name y)) (list_any (λ z. bytes_eq (name z) (name y)) ys) n.1 in
+    let o = and_parts (not (list_any (λ z. bytes_eq (name z) (name y)) (xs ++ x ∷ ys))) (own_names name (xs ++ x ∷ ys)) own in
+    let n = or_parts (list_any (λ z. bytes_eq (name z) (name y)) xs) (bytes_eq (name x) (name y) || list_any (λ z. bytes_eq (name z) (name y)) ys) (sym (list_any-append (λ z. bytes_eq (name z) (name y)) xs (x ∷ ys)) ∙ not-true _ o.0) in
+    let here = or_parts (bytes_eq (name x) (name y)) (list_any (λ z. bytes_eq (name z) (name y)) ys) n.1 in
     rw (bytes_eq-sym (name y) (name x), here.0) (own_names-before name xs x ys o.1)

@@ -3,7 +3,7 @@ use Rattle.std.proofs.Common.{◌≡◌, ℕ, ◌+◌, ◌<◌, ◌≤◌, Bool,
 use Rattle.std.specs.Prelude.{◌&&◌, ◌||◌, ◌==◌, not, Option, Some, None, option_map, find, bytes_eq, nat_le, codes, ℤ, Result, Ok, Err}
 use Rattle.std.specs.Fmt.{digits}
 use Rattle.std.specs.List.{list_all}
-use Rattle.std.proofs.lemmas.Bool.{leb-true}
+use Rattle.std.proofs.lemmas.Bool.{leb-true, and_parts, or_right}
 use Rattle.cell_model.specs.declared.cell.Cell.{Cell}
 use Rattle.cell_model.specs.declared.cell.Cell.TheVariants.{Num}
 use Rattle.cell_model.specs.declared.table.TableDecl.{TableDecl}
@@ -17,7 +17,7 @@ use Rattle.workload_spec.specs.Valid.{is_block_of, is_export}
 use Rattle.workload_spec.specs.Reading.{natural_of, onto_first, words_of}
 use Rattle.workload_spec.specs.Grammar.{◌>>=◌, or_cause, rule, word, no_word, number, Form, Alone, OfTable, OfKey, OfRow, OfBlock, forms, form_of, table_named, key_in, schema_at, cells_of, formed, line_of, Fault, on_line, rounds_from}
 use Rattle.workload_laws.proofs.Results.{step, some_of, eq_of}
-use Rattle.workload_laws.proofs.Lists.{both, joined, find_is}
+use Rattle.workload_laws.proofs.Lists.{joined, find_is}
 use Rattle.workload_laws.proofs.Rounds.{lines_of}
 use Rattle.workload_laws.proofs.Commands.{Each, each_found}
 use Rattle.workload_laws.proofs.Narrows.{Narrows, alike, behind, joint, narrow_on_line}
@@ -133,7 +133,7 @@ stands_for first entry = bytes_eq entry.0 first && entry.2
 form_narrow : (extent : Extent) (first : List ℕ) (form : Form) → form_of extent first ≡ Some form → (form_of whole first ≡ Some form) × TakenAs extent.commands true form
 form_narrow extent first form e =
     let f = form_by (find (stands_for first) (forms extent.commands)) form e in
-    let passes = both (bytes_eq f.0.0 first) f.0.2 (find_is (stands_for first) (forms extent.commands) f.0 f.1) in
+    let passes = and_parts (bytes_eq f.0.0 first) f.0.2 (find_is (stands_for first) (forms extent.commands) f.0 f.1) in
     let is = each_found (IsForm extent) (stands_for first) (forms extent.commands) f.0 (each_form extent) f.1 in
     let same = eq_of f.0.0 first passes.0 in (
       subst (λ (text : List ℕ). form_of whole text ≡ Some form) same (is.known ∙ ap Some f.2),
@@ -196,7 +196,7 @@ form_back : (extent : Extent) (tables : List TableDecl) (first : List ℕ) (form
     → form_of extent first ≡ Some form
 form_back extent tables first form words made e read is =
     let f = form_by (find (stands_for first) (forms whole.commands)) form e in
-    let same = eq_of f.0.0 first (both (bytes_eq f.0.0 first) f.0.2 (find_is (stands_for first) (forms whole.commands) f.0 f.1)).0 in
+    let same = eq_of f.0.0 first (and_parts (bytes_eq f.0.0 first) f.0.2 (find_is (stands_for first) (forms whole.commands) f.0 f.1)).0 in
     let b = each_found (Beside extent) (stands_for first) (forms whole.commands) f.0 (each_beside extent) f.1 in
     let taken = formed_taken extent.commands b.0 tables form words made (subst (TakenAs extent.commands b.0) f.2 b.1) read in
     subst (λ (text : List ℕ). form_of extent text ≡ Some form) same (b.2 (sym taken ∙ is) ∙ ap Some f.2)
@@ -229,11 +229,6 @@ narrow_line extent tables sessions exported words =
 pub record RoundsTaken (extent : Extent) (rounds : List (List Line)) : Type 0 where
   pub few : (extent.parts_rounds || nat_le (length rounds) 1) ≡ true
   pub each : list_all (λ line. is_taken extent.commands line.command) (lines_of rounds) ≡ true
-
--- Where the second part holds, so does the disjunction.
-or_right : (s t : Bool) → t ≡ true → (s || t) ≡ true
-or_right true t e = refl
-or_right false t e = e
 
 -- One round without a line is within each extent.
 end_taken : (extent : Extent) → RoundsTaken extent ([] ∷ [])
@@ -299,7 +294,7 @@ onto_taken extent line (round ∷ rounds) some is are = record { few = are.few; 
 onto_was : (extent : Extent) (line : Line) (rounds : List (List Line)) → 0 < length rounds → RoundsTaken extent (onto_first line rounds) → LineTaken extent line × RoundsTaken extent rounds
 onto_was extent line [] some are = absurd (omega (arith, some))
 onto_was extent line (round ∷ rounds) some are =
-    let b = both (is_taken extent.commands line.command) (list_all (λ line. is_taken extent.commands line.command) (lines_of (round ∷ rounds))) are.each in
+    let b = and_parts (is_taken extent.commands line.command) (list_all (λ line. is_taken extent.commands line.command) (lines_of (round ∷ rounds))) are.each in
     (b.0, record { few = are.few; each = b.1 })
 
 -- What is read behind a line is narrower where what is read of the rest is.

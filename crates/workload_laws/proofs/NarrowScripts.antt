@@ -3,7 +3,7 @@
 use Rattle.std.proofs.Common.{◌≡◌, ◌↔◌, ℕ, ◌+◌, ◌≤◌, Bool, true, false, List, [], length, refl, sym, ap, ◌∙◌, subst, arith}
 use Rattle.std.specs.Prelude.{◌&&◌, ◌||◌, nat_le, bytes_eq, codes, Ok}
 use Rattle.std.specs.List.{list_all}
-use Rattle.std.proofs.lemmas.Bool.{leb-true, le-leb}
+use Rattle.std.proofs.lemmas.Bool.{leb-true, le-leb, and_parts}
 use Rattle.cell_model.specs.Schemas.{most_columns}
 use Rattle.cell_model.specs.declared.table.TableDecl.{TableDecl}
 use Rattle.workload_spec.specs.declared.extent.Extent.{Extent}
@@ -16,7 +16,7 @@ use Rattle.workload_spec.specs.Words.{line_feed}
 use Rattle.workload_spec.specs.Reading.{parts, words_of}
 use Rattle.workload_spec.specs.Grammar.{rule, on_line, next_line, is_table_line, sessions_of, workers_of, tables_from, rounds_from, script_in, read_with, script_of}
 use Rattle.workload_laws.proofs.Results.{step, rule_of, on_line_is}
-use Rattle.workload_laws.proofs.Lists.{both, joined}
+use Rattle.workload_laws.proofs.Lists.{joined}
 use Rattle.workload_laws.proofs.ScriptsBack.{assembled}
 use Rattle.workload_laws.proofs.Narrows.{Narrows, FewWorkers, narrow_sessions, narrow_workers}
 use Rattle.workload_laws.proofs.NarrowTables.{FewTables, narrow_tables}
@@ -34,11 +34,11 @@ pub record Bounds (extent : Extent) : Type 0 where
 -- an extent has at most what the whole format has of each, and at least one column
 pub bounds : (extent : Extent) → is_extent extent ≡ true → Bounds extent
 bounds extent is =
-    let d = both (nat_le extent.tables most_tables && is_within 1 most_columns extent.columns && nat_le extent.sessions most_sessions && nat_le extent.workers most_workers) (nat_le extent.turns most_turns) is in
-    let c = both (nat_le extent.tables most_tables && is_within 1 most_columns extent.columns && nat_le extent.sessions most_sessions) (nat_le extent.workers most_workers) d.0 in
-    let b = both (nat_le extent.tables most_tables && is_within 1 most_columns extent.columns) (nat_le extent.sessions most_sessions) c.0 in
-    let a = both (nat_le extent.tables most_tables) (is_within 1 most_columns extent.columns) b.0 in
-    let w = both (nat_le 1 extent.columns) (nat_le extent.columns most_columns) a.1 in
+    let d = and_parts (nat_le extent.tables most_tables && is_within 1 most_columns extent.columns && nat_le extent.sessions most_sessions && nat_le extent.workers most_workers) (nat_le extent.turns most_turns) is in
+    let c = and_parts (nat_le extent.tables most_tables && is_within 1 most_columns extent.columns && nat_le extent.sessions most_sessions) (nat_le extent.workers most_workers) d.0 in
+    let b = and_parts (nat_le extent.tables most_tables && is_within 1 most_columns extent.columns) (nat_le extent.sessions most_sessions) c.0 in
+    let a = and_parts (nat_le extent.tables most_tables) (is_within 1 most_columns extent.columns) b.0 in
+    let w = and_parts (nat_le 1 extent.columns) (nat_le extent.columns most_columns) a.1 in
     record {
       tables = leb-true extent.tables most_tables a.0;
       some = leb-true 1 extent.columns w.0;
@@ -60,12 +60,12 @@ keeps : (extent : Extent) (script : Script) → runs_within extent script ≡ tr
 keeps extent script is =
     let t : TableDecl → Bool = λ table. nat_le (length table.schema) extent.columns in
     let l : Line → Bool = λ line. is_taken extent.commands line.command in
-    let f = both (nat_le (length script.tables) extent.tables && list_all t script.tables && nat_le script.sessions extent.sessions && nat_le script.workers extent.workers && nat_le script.turns extent.turns && (extent.parts_rounds || nat_le (length script.rounds) 1)) (list_all l (all_lines script)) is in
-    let e = both (nat_le (length script.tables) extent.tables && list_all t script.tables && nat_le script.sessions extent.sessions && nat_le script.workers extent.workers && nat_le script.turns extent.turns) (extent.parts_rounds || nat_le (length script.rounds) 1) f.0 in
-    let d = both (nat_le (length script.tables) extent.tables && list_all t script.tables && nat_le script.sessions extent.sessions && nat_le script.workers extent.workers) (nat_le script.turns extent.turns) e.0 in
-    let c = both (nat_le (length script.tables) extent.tables && list_all t script.tables && nat_le script.sessions extent.sessions) (nat_le script.workers extent.workers) d.0 in
-    let b = both (nat_le (length script.tables) extent.tables && list_all t script.tables) (nat_le script.sessions extent.sessions) c.0 in
-    let a = both (nat_le (length script.tables) extent.tables) (list_all t script.tables) b.0 in
+    let f = and_parts (nat_le (length script.tables) extent.tables && list_all t script.tables && nat_le script.sessions extent.sessions && nat_le script.workers extent.workers && nat_le script.turns extent.turns && (extent.parts_rounds || nat_le (length script.rounds) 1)) (list_all l (all_lines script)) is in
+    let e = and_parts (nat_le (length script.tables) extent.tables && list_all t script.tables && nat_le script.sessions extent.sessions && nat_le script.workers extent.workers && nat_le script.turns extent.turns) (extent.parts_rounds || nat_le (length script.rounds) 1) f.0 in
+    let d = and_parts (nat_le (length script.tables) extent.tables && list_all t script.tables && nat_le script.sessions extent.sessions && nat_le script.workers extent.workers) (nat_le script.turns extent.turns) e.0 in
+    let c = and_parts (nat_le (length script.tables) extent.tables && list_all t script.tables && nat_le script.sessions extent.sessions) (nat_le script.workers extent.workers) d.0 in
+    let b = and_parts (nat_le (length script.tables) extent.tables && list_all t script.tables) (nat_le script.sessions extent.sessions) c.0 in
+    let a = and_parts (nat_le (length script.tables) extent.tables) (list_all t script.tables) b.0 in
     record {
       tables = record { few = a.0; each = a.1 };
       sessions = b.1;

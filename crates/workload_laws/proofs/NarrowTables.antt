@@ -2,7 +2,7 @@
 use Rattle.std.proofs.Common.{◌≡◌, ℕ, ◌+◌, ◌≤◌, Bool, true, false, List, [], ◌∷◌, ◌++◌, length, refl, sym, ap, ◌∙◌, subst, arith, length-append}
 use Rattle.std.specs.Prelude.{◌%◌, ◌==◌, not, is_none, nat_le, nat_lt, codes, Result, Ok}
 use Rattle.std.specs.List.{list_all}
-use Rattle.std.proofs.lemmas.Bool.{ltb-true, lt-ltb, leb-true, le-leb}
+use Rattle.std.proofs.lemmas.Bool.{ltb-true, lt-ltb, leb-true, le-leb, and_parts}
 use Rattle.std.proofs.lemmas.List.Folds.{list_all-append}
 use Rattle.cell_model.specs.declared.column.Column.{Column}
 use Rattle.cell_model.specs.declared.table.TableDecl.{TableDecl}
@@ -15,7 +15,7 @@ use Rattle.workload_spec.specs.Valid.{is_name, is_declared, least_slots, most_bl
 use Rattle.workload_spec.specs.Reading.{words_of}
 use Rattle.workload_spec.specs.Grammar.{◌>>=◌, or_cause, rule, word, no_word, keyword, number, kind_of, has_colon, before_colon, after_colon, column_of, columns_from, key_column, table_of, Fault, on_line, is_table_line, tables_from}
 use Rattle.workload_laws.proofs.Results.{step}
-use Rattle.workload_laws.proofs.Lists.{both, joined}
+use Rattle.workload_laws.proofs.Lists.{joined}
 use Rattle.workload_laws.proofs.Columns.{columns_are}
 use Rattle.workload_laws.proofs.Heads.{tables_are}
 use Rattle.workload_laws.proofs.Narrows.{Narrows, alike, behind, joint, narrow_rule, narrow_on_line}
@@ -146,9 +146,9 @@ had_table_room extent tables more table read e are =
 was_narrow : (extent : Extent) (tables more : List TableDecl) (table : TableDecl) (read : List TableDecl) → read ≡ (tables ++ table ∷ []) ++ more → FewTables extent read → IsNarrow extent table
 was_narrow extent tables more table read e are =
     let all : list_all (narrow_test extent) ((tables ++ table ∷ []) ++ more) ≡ true = subst (λ (ts : List TableDecl). list_all (narrow_test extent) ts ≡ true) e are.each in
-    let first = both (list_all (narrow_test extent) (tables ++ table ∷ [])) (list_all (narrow_test extent) more) (sym (list_all-append (narrow_test extent) (tables ++ table ∷ []) more) ∙ all) in
-    let last = both (list_all (narrow_test extent) tables) (list_all (narrow_test extent) (table ∷ [])) (sym (list_all-append (narrow_test extent) tables (table ∷ [])) ∙ first.0) in
-    (both (narrow_test extent table) true last.1).0
+    let first = and_parts (list_all (narrow_test extent) (tables ++ table ∷ [])) (list_all (narrow_test extent) more) (sym (list_all-append (narrow_test extent) (tables ++ table ∷ []) more) ∙ all) in
+    let last = and_parts (list_all (narrow_test extent) tables) (list_all (narrow_test extent) (table ∷ [])) (sym (list_all-append (narrow_test extent) tables (table ∷ [])) ∙ first.0) in
+    (and_parts (narrow_test extent table) true last.1).0
 
 -- the tables behind others, where the first line is a table's
 abbrev declared : Extent → ℕ → List TableDecl → List ℕ → List (List ℕ) → Result (List TableDecl × List (List ℕ)) Fault

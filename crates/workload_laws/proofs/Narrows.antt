@@ -2,7 +2,7 @@
 -- keeps the extent's bounds.
 use Rattle.std.proofs.Common.{◌≡◌, ℕ, ◌≤◌, Bool, true, false, List, refl, sym, ap, ◌∙◌, subst, arith}
 use Rattle.std.specs.Prelude.{Option, Some, None, nat_le, Result, Ok, Err, option_and_then, if◌then◌else◌}
-use Rattle.std.proofs.lemmas.Bool.{leb-true, le-leb}
+use Rattle.std.proofs.lemmas.Bool.{leb-true, le-leb, and_parts}
 use Rattle.workload_spec.specs.declared.extent.Extent.{Extent}
 use Rattle.workload_spec.specs.declared.script.Cause.{Cause}
 use Rattle.workload_spec.specs.declared.script.Cause.TheVariants as cause
@@ -11,7 +11,7 @@ use Rattle.workload_spec.specs.Valid.{is_within, most_sessions, most_workers, mo
 use Rattle.workload_spec.specs.Reading.{natural_of, natural_within}
 use Rattle.workload_spec.specs.Grammar.{◌>>=◌, or_cause, rule, word, no_word, keyword, number, on_line, sessions_of, workers_of}
 use Rattle.workload_laws.proofs.Results.{step, gives}
-use Rattle.workload_laws.proofs.Lists.{both, joined}
+use Rattle.workload_laws.proofs.Lists.{joined}
 
 -- the first reading gives what the second gives and that keeps the bounds, and nothing else
 pub record Narrows {A E : Type 0} (first second : Result A E) (keeps : A → Type 0) : Type 0 where
@@ -73,7 +73,7 @@ Within low high o = option_and_then (λ value. if is_within low high value then 
 -- A number within two bounds is so with a higher upper one.
 within_test : (low high most value : ℕ) → high ≤ most → is_within low high value ≡ true → is_within low most value ≡ true
 within_test low high most value le within =
-    let w = both (nat_le low value) (nat_le value high) within in
+    let w = and_parts (nat_le low value) (nat_le value high) within in
     let h = leb-true value high w.1 in
     joined w.0 (le-leb value most (omega arith))
 
@@ -95,8 +95,8 @@ narrow_within : (cause : Cause) (low high most : ℕ) (o : Option ℕ) → high 
 narrow_within cause low high most None le = record { to = λ a is. absurd cc; back = λ a is kept. absurd cc }
 narrow_within cause low high most (Some value) le =
     narrow_test cause value high (is_within low high value) (is_within low most value) (within_test low high most value le)
-    (λ within. (both (nat_le low value) (nat_le value high) within).1)
-    (λ within kept. joined (both (nat_le low value) (nat_le value most) within).0 kept)
+    (λ within. (and_parts (nat_le low value) (nat_le value high) within).1)
+    (λ within kept. joined (and_parts (nat_le low value) (nat_le value most) within).0 kept)
 
 -- a number with a lower limit is one of the whole format's up to that limit
 pub narrow_number : (cause : Cause) (low high most : ℕ) (words : List (List ℕ)) → high ≤ most → Narrows (number cause low high words) (number cause low most words) (λ read. nat_le read.0 high ≡ true)

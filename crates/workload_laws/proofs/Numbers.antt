@@ -4,7 +4,7 @@ use Rattle.std.specs.Prelude.{◌&&◌, ◌==◌, nat_le, int_le, fold, Some, by
 use Rattle.std.specs.Char.{digit_value}
 use Rattle.std.specs.Fmt.{signed_decimal}
 use Rattle.std.specs.List.{list_all}
-use Rattle.std.proofs.lemmas.Bool.{leb-true, lt-ltb, ne_eqb}
+use Rattle.std.proofs.lemmas.Bool.{leb-true, lt-ltb, ne_eqb, and_parts}
 use Rattle.std.proofs.lemmas.Str.Parse.{IsNumeralModel, numerals_by_fold}
 use Rattle.std.proofs.lemmas.Fmt.{digits_decimal, digits_value-decimal, decimal_nonempty}
 use Rattle.std.proofs.lemmas.Slice.Eq.{bytes_eq-Decides}
@@ -13,7 +13,7 @@ use Rattle.workload_spec.specs.Valid.{is_within, is_key_number}
 use Rattle.workload_spec.specs.Reading.{minus, spelled, value_of_digits, natural_of, natural_within, integer_in, integer_of}
 use Rattle.workload_spec.specs.Grammar.{or_cause, rule, word, number, keyword}
 use Rattle.workload_laws.proofs.Results.{gives, rule_back}
-use Rattle.workload_laws.proofs.Lists.{both, joined}
+use Rattle.workload_laws.proofs.Lists.{joined}
 use Rattle.workload_laws.proofs.Apart.{is_plain}
 
 -- each byte is a decimal digit
@@ -65,8 +65,8 @@ pub record Begins (word : List ℕ) : Type 0 where
 begins_by : (word : List ℕ) → are_digits word ≡ true → 0 < length word → Begins word
 begins_by [] digits some = absurd (omega (arith, some))
 begins_by (first ∷ rest) digits some =
-    let d = both (is_within 48 57 first) (are_digits rest) digits in
-    let w = both (nat_le 48 first) (nat_le first 57) d.0 in
+    let d = and_parts (is_within 48 57 first) (are_digits rest) digits in
+    let w = and_parts (nat_le 48 first) (nat_le first 57) d.0 in
     record { first = first; rest = rest; is = refl; least = leb-true 48 first w.0; most = leb-true first 57 w.1 }
 
 -- the digits of a number begin with a digit
@@ -77,8 +77,8 @@ decimal_begins n small = begins_by (decimal n) (digits_decimal own n small) (dec
 digits_plain : (word : List ℕ) → are_digits word ≡ true → list_all is_plain word ≡ true
 digits_plain [] digits = refl
 digits_plain (byte ∷ bytes) digits =
-    let d = both (is_within 48 57 byte) (are_digits bytes) digits in
-    let w = both (nat_le 48 byte) (nat_le byte 57) d.0 in
+    let d = and_parts (is_within 48 57 byte) (are_digits bytes) digits in
+    let w = and_parts (nat_le 48 byte) (nat_le byte 57) d.0 in
     joined (lt-ltb 34 byte (omega (arith, leb-true 48 byte w.0))) (digits_plain bytes d.1)
 
 -- and are all plain bytes
@@ -112,8 +112,8 @@ signed_plain (negsuc n) small = decimal_plain (suc n) (omega arith)
 
 -- a key's number has at most 64 bits
 pub key_small : (z : ℤ) → is_key_number z ≡ true → magnitude z < 2 ^ 64
-key_small (pos n) is = omega (arith, leb-true n (2 ^ 63 - 1) (both (int_le (negsuc (2 ^ 63 - 1)) (pos n)) (nat_le n (2 ^ 63 - 1)) is).1)
-key_small (negsuc n) is = omega (arith, leb-true n (2 ^ 63 - 1) (both (int_le (negsuc (2 ^ 63 - 1)) (negsuc n)) _ is).0)
+key_small (pos n) is = omega (arith, leb-true n (2 ^ 63 - 1) (and_parts (int_le (negsuc (2 ^ 63 - 1)) (pos n)) (nat_le n (2 ^ 63 - 1)) is).1)
+key_small (negsuc n) is = omega (arith, leb-true n (2 ^ 63 - 1) (and_parts (int_le (negsuc (2 ^ 63 - 1)) (negsuc n)) _ is).0)
 
 -- an integer is read back from its spelling
 pub integer_of_back : (z : ℤ) → magnitude z < 2 ^ 64 → integer_of (signed_decimal z) ≡ Some z

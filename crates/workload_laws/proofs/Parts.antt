@@ -2,10 +2,9 @@
 use Rattle.std.proofs.Common.{◌≡◌, ℕ, ◌<◌, Bool, true, false, List, [], ◌∷◌, length, refl, sym, ap, ◌∙◌, arith}
 use Rattle.std.specs.Prelude.{◌&&◌, ◌==◌}
 use Rattle.std.specs.List.{join_with_byte}
-use Rattle.std.proofs.lemmas.Bool.{eqb-true}
+use Rattle.std.proofs.lemmas.Bool.{eqb-true, and_parts}
 use Rattle.workload_spec.specs.Words.{space, spaced}
 use Rattle.workload_spec.specs.Reading.{Position, AtStart, parted, parts, position_after, is_outside, words_from, words_of}
-use Rattle.workload_laws.proofs.Lists.{both}
 
 -- Parts with one more byte in front, parted by it or not, are at least one.
 some_part : (b : Bool) (byte : ℕ) (ps : List (List ℕ)) → 0 < length (parted b byte ps)
@@ -30,7 +29,7 @@ pub words_joined : (position : Position) (bytes : List ℕ) → spaced (words_fr
 words_joined position [] = refl
 words_joined position (byte ∷ bytes) =
     joined_by space byte (byte == space && is_outside position) (words_from (position_after position byte) bytes) (words_some (position_after position byte) bytes)
-    (λ e. eqb-true byte space (both (byte == space) (is_outside position) e).0)
+    (λ e. eqb-true byte space (and_parts (byte == space) (is_outside position) e).0)
     ∙ ap (λ (bs : List ℕ). byte ∷ bs) (words_joined (position_after position byte) bytes)
 
 -- a line is its words with one space between each two

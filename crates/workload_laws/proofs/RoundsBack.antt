@@ -4,6 +4,7 @@ use Rattle.std.specs.Prelude.{◌&&◌, ◌||◌, bytes_eq, codes, Ok}
 use Rattle.std.specs.List.{list_all}
 use Rattle.std.proofs.lemmas.List.Sums.{sum_by-cons}
 use Rattle.std.proofs.lemmas.List.Folds.{list_all-append}
+use Rattle.std.proofs.lemmas.Bool.{and_parts}
 use Rattle.cell_model.specs.declared.table.TableDecl.{TableDecl}
 use Rattle.workload_spec.specs.declared.script.Line.{Line}
 use Rattle.workload_spec.specs.Words.{line_feed, lines_text}
@@ -14,7 +15,7 @@ use Rattle.workload_spec.specs.Extents.{whole}
 use Rattle.workload_spec.specs.Grammar.{◌>>=◌, on_line, line_of, rounds_from}
 use Rattle.workload_laws.specs.Bytes.{has_only_bytes, written_row}
 use Rattle.workload_laws.proofs.Results.{gives, chosen, passed}
-use Rattle.workload_laws.proofs.Lists.{both, joined}
+use Rattle.workload_laws.proofs.Lists.{joined}
 use Rattle.workload_laws.proofs.Apart.{is_whole, line_first_part}
 use Rattle.workload_laws.proofs.Rounds.{is_line_of, lines_of, exports_of, round_first, line_first}
 use Rattle.workload_laws.proofs.CommandsBack.{LineBack, line_back}
@@ -50,9 +51,9 @@ record FirstFine (tables : List TableDecl) (sessions : ℕ) (exported : Bool) (l
 first_fine : (tables : List TableDecl) (sessions : ℕ) (exported : Bool) (line : Line) (lines : List Line) → Head tables sessions → AreFine tables sessions exported (line ∷ lines) → FirstFine tables sessions exported line lines
 first_fine tables sessions exported line lines head fine =
     let o = once_by exported (is_export line.command) (exports_of lines) (subst (λ (n : ℕ). cond exported 1 0 + n ≤ 1) (sum_by-cons (λ (l : Line). cond (is_export l.command) 1 0) line lines) fine.once) in
-    let e = both (is_fine tables sessions line) (list_all (is_fine tables sessions) lines) fine.each in
-    let f = both (is_line_of tables sessions line) (list_all has_only_bytes (written_row line.command)) e.0 in
-    let l = both (is_within 1 sessions line.session) (is_command tables line.command) f.0 in
+    let e = and_parts (is_fine tables sessions line) (list_all (is_fine tables sessions) lines) fine.each in
+    let f = and_parts (is_line_of tables sessions line) (list_all has_only_bytes (written_row line.command)) e.0 in
+    let l = and_parts (is_within 1 sessions line.session) (is_command tables line.command) f.0 in
     record {
       back = line_back tables sessions exported line head.each head.own head.few l.0 l.1 f.1 o.0;
       others = record { each = e.1; once = o.1 };
@@ -110,9 +111,9 @@ rounds_back tables sessions head (next ∷ others) first = round_back tables ses
 round_whole : (tables : List TableDecl) (sessions : ℕ) → Head tables sessions → (lines : List Line) → list_all (is_fine tables sessions) lines ≡ true → list_all is_whole (map (line_text tables) lines) ≡ true
 round_whole tables sessions head [] fine = refl
 round_whole tables sessions head (line ∷ lines) fine =
-    let e = both (is_fine tables sessions line) (list_all (is_fine tables sessions) lines) fine in
-    let f = both (is_line_of tables sessions line) (list_all has_only_bytes (written_row line.command)) e.0 in
-    let l = both (is_within 1 sessions line.session) (is_command tables line.command) f.0 in
+    let e = and_parts (is_fine tables sessions line) (list_all (is_fine tables sessions) lines) fine in
+    let f = and_parts (is_line_of tables sessions line) (list_all has_only_bytes (written_row line.command)) e.0 in
+    let l = and_parts (is_within 1 sessions line.session) (is_command tables line.command) f.0 in
     let one = line_back tables sessions false line head.each head.own head.few l.0 l.1 f.1 refl in
     joined one.whole (round_whole tables sessions head lines e.1)
 
@@ -120,14 +121,14 @@ round_whole tables sessions head (line ∷ lines) fine =
 pub rounds_whole : (tables : List TableDecl) (sessions : ℕ) → Head tables sessions → (rounds : List (List Line)) → list_all (is_fine tables sessions) (lines_of rounds) ≡ true → list_all is_whole (round_lines tables rounds) ≡ true
 rounds_whole tables sessions head [] fine = refl
 rounds_whole tables sessions head (round ∷ []) fine =
-    round_whole tables sessions head round (both (list_all (is_fine tables sessions) round) true (sym (list_all-append (is_fine tables sessions) round []) ∙ fine)).0
+    round_whole tables sessions head round (and_parts (list_all (is_fine tables sessions) round) true (sym (list_all-append (is_fine tables sessions) round []) ∙ fine)).0
 rounds_whole tables sessions head (round ∷ next ∷ rounds) fine =
-    let f = both (list_all (is_fine tables sessions) round) (list_all (is_fine tables sessions) (lines_of (next ∷ rounds))) (sym (list_all-append (is_fine tables sessions) round (lines_of (next ∷ rounds))) ∙ fine) in
+    let f = and_parts (list_all (is_fine tables sessions) round) (list_all (is_fine tables sessions) (lines_of (next ∷ rounds))) (sym (list_all-append (is_fine tables sessions) round (lines_of (next ∷ rounds))) ∙ fine) in
     list_all-append is_whole (map (line_text tables) round) (codes "--" ∷ round_lines tables (next ∷ rounds)) ∙ joined (round_whole tables sessions head round f.0) (rounds_whole tables sessions head (next ∷ rounds) f.1)
 
 -- whole lines are parted again
 pub lines_apart : (lines : List (List ℕ)) → list_all is_whole lines ≡ true → parts line_feed (lines_text lines) ≡ ended lines
 lines_apart [] are = refl
 lines_apart (line ∷ lines) are =
-    let w = both (is_whole line) (list_all is_whole lines) are in
+    let w = and_parts (is_whole line) (list_all is_whole lines) are in
     ap (parts line_feed) (line_first line lines) ∙ line_first_part line (lines_text lines) w.0 ∙ ap (λ (ls : List (List ℕ)). line ∷ ls) (lines_apart lines w.1)

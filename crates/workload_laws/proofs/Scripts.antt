@@ -2,7 +2,7 @@
 use Rattle.std.proofs.Common.{◌≡◌, ℕ, ◌+◌, ◌<◌, true, false, List, [], ◌∷◌, ◌++◌, length, map, refl, sym, ap, ◌∙◌, subst, arith}
 use Rattle.std.specs.Prelude.{nat_le, bytes_eq, codes, decimal, Ok}
 use Rattle.std.specs.List.{list_all}
-use Rattle.std.proofs.lemmas.Bool.{lt-ltb, le-leb}
+use Rattle.std.proofs.lemmas.Bool.{lt-ltb, le-leb, and_parts}
 use Rattle.std.proofs.lemmas.Grind.{flat_map-append}
 use Rattle.std.proofs.lemmas.Fmt.{decimal_digit}
 use Rattle.cell_model.specs.declared.table.TableDecl.{TableDecl}
@@ -17,7 +17,7 @@ use Rattle.workload_spec.specs.Extents.{whole}
 use Rattle.workload_spec.specs.Grammar.{rule, no_word, keyword, number, on_line, next_line, is_table_line, tables_from, rounds_from, sessions_of, workers_of, script_in, script_of}
 use Rattle.workload_laws.specs.Bytes.{writes_only_bytes}
 use Rattle.workload_laws.proofs.Results.{step, rule_of, on_line_is, no_word_is, keyword_is, number_is, eq_of}
-use Rattle.workload_laws.proofs.Lists.{both, joined}
+use Rattle.workload_laws.proofs.Lists.{joined}
 use Rattle.workload_laws.proofs.Parts.{line_joined, parts_joined}
 use Rattle.workload_laws.proofs.Rounds.{rest_text, line_first, ReadsRounds, rounds_are}
 use Rattle.workload_laws.proofs.Heads.{next_is, tables_are, tables_some}
@@ -66,7 +66,7 @@ valid : (tables : List TableDecl) (sessions workers turns : ℕ) (rounds : List 
     → is_valid (record { version = 1; tables = tables; sessions = sessions; workers = workers; turns = turns; rounds = rounds }) ≡ true
 valid tables sessions workers turns rounds lines some few each own in_sessions in_workers in_turns all =
     joined (joined (joined
-    (joined (joined (joined (joined (joined (joined refl (joined (le-leb 1 (length tables) some) few)) each) own) in_sessions) (both (nat_le 0 workers) _ in_workers).1) (both (nat_le 0 turns) _ in_turns).1)
+    (joined (joined (joined (joined (joined (joined refl (joined (le-leb 1 (length tables) some) few)) each) own) in_sessions) (and_parts (nat_le 0 workers) _ in_workers).1) (and_parts (nat_le 0 turns) _ in_turns).1)
     (lt-ltb 0 (length rounds) all.some)) all.each) (le-leb _ 1 (omega (arith, all.once)))
 
 -- the lines that are read as a script are its text, and it is a workload

@@ -2,7 +2,7 @@
 use Rattle.std.proofs.Common.{◌≡◌, ℕ, ◌+◌, ◌^◌, ◌<◌, ◌≤◌, Bool, true, false, List, [], ◌∷◌, ◌++◌, length, map, refl, sym, ap, ◌∙◌, arith, append_assoc, length-append}
 use Rattle.std.specs.Prelude.{◌&&◌, ◌==◌, nat_le, nat_lt, bytes_eq, codes, decimal, count_by, Result, Ok}
 use Rattle.std.specs.List.{list_all}
-use Rattle.std.proofs.lemmas.Bool.{eqb-true, ltb-true, leb-true, le-leb}
+use Rattle.std.proofs.lemmas.Bool.{eqb-true, ltb-true, leb-true, le-leb, and_parts}
 use Rattle.std.proofs.lemmas.List.Folds.{list_all-append}
 use Rattle.cell_model.specs.declared.table.TableDecl.{TableDecl}
 use Rattle.workload_spec.specs.declared.extent.Extent.{Extent}
@@ -18,7 +18,7 @@ use Rattle.workload_spec.specs.Extents.{whole}
 use Rattle.workload_spec.specs.Grammar.{rule, no_word, keyword, number, Fault, on_line, next_line, is_table_line, tables_from, rounds_from, sessions_of, workers_of, script_in, script_of}
 use Rattle.workload_laws.specs.Bytes.{has_only_bytes, written_row, writes_only_bytes}
 use Rattle.workload_laws.proofs.Results.{gives, rule_back}
-use Rattle.workload_laws.proofs.Lists.{both, joined}
+use Rattle.workload_laws.proofs.Lists.{joined}
 use Rattle.workload_laws.proofs.Scripts.{store_line}
 use Rattle.workload_laws.proofs.Tables.{table_words}
 use Rattle.workload_laws.proofs.Apart.{AreWords, plain_word, words_apart, words_whole, is_whole}
@@ -111,18 +111,18 @@ pub record ScriptParts (script : Script) : Type 0 where
 -- a valid workload keeps the limits of each of its parts
 pub script_parts : (script : Script) → is_valid script ≡ true → ScriptParts script
 script_parts script valid =
-    let a = both (has_head script && nat_lt 0 (length script.rounds) && list_all (is_line script) (all_lines script)) (nat_le (count_by (λ line. is_export line.command) (all_lines script)) 1) valid in
-    let b = both (has_head script && nat_lt 0 (length script.rounds)) (list_all (is_line script) (all_lines script)) a.0 in
-    let c = both (has_head script) (nat_lt 0 (length script.rounds)) b.0 in
-    let h6 = both (script.version == 1 && is_within 1 most_tables (length script.tables) && list_all is_table script.tables && have_own_names script.tables && is_within 1 most_sessions script.sessions && nat_le script.workers most_workers) (nat_le script.turns most_turns) c.0 in
-    let h5 = both (script.version == 1 && is_within 1 most_tables (length script.tables) && list_all is_table script.tables && have_own_names script.tables && is_within 1 most_sessions script.sessions) (nat_le script.workers most_workers) h6.0 in
-    let h4 = both (script.version == 1 && is_within 1 most_tables (length script.tables) && list_all is_table script.tables && have_own_names script.tables) (is_within 1 most_sessions script.sessions) h5.0 in
-    let h3 = both (script.version == 1 && is_within 1 most_tables (length script.tables) && list_all is_table script.tables) (have_own_names script.tables) h4.0 in
-    let h2 = both (script.version == 1 && is_within 1 most_tables (length script.tables)) (list_all is_table script.tables) h3.0 in
-    let h1 = both (script.version == 1) (is_within 1 most_tables (length script.tables)) h2.0 in
+    let a = and_parts (has_head script && nat_lt 0 (length script.rounds) && list_all (is_line script) (all_lines script)) (nat_le (count_by (λ line. is_export line.command) (all_lines script)) 1) valid in
+    let b = and_parts (has_head script && nat_lt 0 (length script.rounds)) (list_all (is_line script) (all_lines script)) a.0 in
+    let c = and_parts (has_head script) (nat_lt 0 (length script.rounds)) b.0 in
+    let h6 = and_parts (script.version == 1 && is_within 1 most_tables (length script.tables) && list_all is_table script.tables && have_own_names script.tables && is_within 1 most_sessions script.sessions && nat_le script.workers most_workers) (nat_le script.turns most_turns) c.0 in
+    let h5 = and_parts (script.version == 1 && is_within 1 most_tables (length script.tables) && list_all is_table script.tables && have_own_names script.tables && is_within 1 most_sessions script.sessions) (nat_le script.workers most_workers) h6.0 in
+    let h4 = and_parts (script.version == 1 && is_within 1 most_tables (length script.tables) && list_all is_table script.tables && have_own_names script.tables) (is_within 1 most_sessions script.sessions) h5.0 in
+    let h3 = and_parts (script.version == 1 && is_within 1 most_tables (length script.tables) && list_all is_table script.tables) (have_own_names script.tables) h4.0 in
+    let h2 = and_parts (script.version == 1 && is_within 1 most_tables (length script.tables)) (list_all is_table script.tables) h3.0 in
+    let h1 = and_parts (script.version == 1) (is_within 1 most_tables (length script.tables)) h2.0 in
     record {
       version = eqb-true script.version 1 h1.0;
-      some = leb-true 1 (length script.tables) (both (nat_le 1 (length script.tables)) (nat_le (length script.tables) most_tables) h1.1).0;
+      some = leb-true 1 (length script.tables) (and_parts (nat_le 1 (length script.tables)) (nat_le (length script.tables) most_tables) h1.1).0;
       tables = within_high 1 most_tables (length script.tables) h1.1;
       head = record { each = h2.1; own = h3.1; few = within_high 1 most_sessions script.sessions h4.1 };
       sessions = h4.1;
@@ -136,7 +136,7 @@ script_parts script valid =
 -- Where all of a list pass each of two tests, all pass both.
 all_and : {X : Type 0} (p q : X → Bool) (xs : List X) → list_all p xs ≡ true → list_all q xs ≡ true → list_all (λ x. p x && q x) xs ≡ true
 all_and p q [] ps qs = refl
-all_and p q (x ∷ xs) ps qs = let a = both (p x) (list_all p xs) ps in let b = both (q x) (list_all q xs) qs in joined (joined a.0 b.0) (all_and p q xs a.1 b.1)
+all_and p q (x ∷ xs) ps qs = let a = and_parts (p x) (list_all p xs) ps in let b = and_parts (q x) (list_all q xs) qs in joined (joined a.0 b.0) (all_and p q xs a.1 b.1)
 
 -- The lines of a workload that writes only bytes are fine.
 fine : (script : Script) → ScriptParts script → writes_only_bytes script ≡ true → AreFine script.tables script.sessions false (all_lines script)
@@ -179,7 +179,7 @@ parts_back table more sessions workers turns round others few head in_sessions i
     let at : ℕ = length (table ∷ more) + 2 in
     assembled whole (codes "store 1" ∷ tables) (codes "store 1", tables) (table_text table, map table_text more ++ tail) (table ∷ more, tail) (sessions_line, workers_line ∷ go) sessions (workers_line, go) (workers, turns) (codes "go", rounds) (round ∷ others)
     (next_back 1 cause.Version (codes "store 1") tables (omega arith)) refl
-    (next_back 2 cause.Table (table_text table) (map table_text more ++ tail) (omega (arith, length-append (map table_text more) tail))) (first_table table (both (is_table table) (list_all is_table more) head.each).0)
+    (next_back 2 cause.Table (table_text table) (map table_text more ++ tail) (omega (arith, length-append (map table_text more) tail))) (first_table table (and_parts (is_table table) (list_all is_table more) head.each).0)
     (tables_back (table ∷ more) [] 2 sessions_line workers_line go (no_table sessions small) few head.each head.own)
     refl (sessions_back sessions small in_sessions) refl (workers_back workers turns few_workers few_turns in_workers in_turns)
     (next_back (at + 2) cause.Go (codes "go") rounds (end_some (round_lines (table ∷ more) (round ∷ others)))) refl
@@ -216,7 +216,7 @@ lines_back script parts are =
 tables_whole : (tables : List TableDecl) → list_all is_table tables ≡ true → list_all is_whole (map table_text tables) ≡ true
 tables_whole [] each = refl
 tables_whole (table ∷ tables) each =
-    let e = both (is_table table) (list_all is_table tables) each in
+    let e = and_parts (is_table table) (list_all is_table tables) each in
     joined (words_whole (table_words table) (table_are_words table e.0)) (tables_whole tables e.1)
 
 -- The lines of a workload have no line feed in them.

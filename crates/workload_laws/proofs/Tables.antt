@@ -1,6 +1,7 @@
 -- A table's line that is read is the table's line, and the table keeps its limits.
 use Rattle.std.proofs.Common.{◌≡◌, ℕ, ◌%◌, true, false, List, [], ◌∷◌, ◌++◌, map, refl, subst}
 use Rattle.std.specs.Prelude.{◌==◌, not, codes, decimal, Ok}
+use Rattle.std.proofs.lemmas.Bool.{not-true}
 use Rattle.cell_model.specs.declared.column.Column.{Column}
 use Rattle.cell_model.specs.declared.table.TableDecl.{TableDecl}
 use Rattle.cell_model.specs.Schemas.{most_slots_of}
@@ -10,7 +11,7 @@ use Rattle.workload_spec.specs.ScriptText.{column_text}
 use Rattle.workload_spec.specs.Extents.{whole}
 use Rattle.workload_spec.specs.Grammar.{rule, word, no_word, keyword, number, key_column, columns_from, table_of}
 use Rattle.workload_laws.proofs.Results.{step, rule_of, word_is, no_word_is, keyword_is, number_is}
-use Rattle.workload_laws.proofs.Lists.{joined, not_true}
+use Rattle.workload_laws.proofs.Lists.{joined}
 use Rattle.workload_laws.proofs.Columns.{columns_are, ReadsAll}
 
 -- the words of a table's line
@@ -57,7 +58,7 @@ table_is tables words table e =
     (keyword_is cause.Table (codes "table") words line is1)
     (word_is cause.Name line name is2)
     (rule_of cause.Name (is_name name.0) u is3)
-    (not_true (is_declared name.0 tables) (rule_of cause.Twice (not (is_declared name.0 tables)) v is4))
+    (not-true (is_declared name.0 tables) (rule_of cause.Twice (not (is_declared name.0 tables)) v is4))
     (keyword_is cause.Key (codes "key:i64") name.1 key is5)
     (columns_are key (key_column ∷ []) columns is6)
     (keyword_is cause.Slots (codes "slots") columns.1 slots_word is7)

@@ -3,7 +3,7 @@ use Rattle.std.proofs.Common.{◌≡◌, ℕ, ◌+◌, ◌*◌, ◌/◌, ◌%◌
 use Rattle.std.specs.Prelude.{◌&&◌, ◌==◌, not, min, nat_le, nat_lt, bytes_eq, codes, decimal, slice_get, Result, Ok, if◌then◌else◌}
 use Rattle.std.specs.Option.{option_map_or}
 use Rattle.std.specs.List.{list_all}
-use Rattle.std.proofs.lemmas.Bool.{leb-true, lt-ltb}
+use Rattle.std.proofs.lemmas.Bool.{leb-true, lt-ltb, and_parts, not-true}
 use Rattle.std.proofs.lemmas.List.{append-nil}
 use Rattle.std.proofs.lemmas.List.Folds.{list_all-append}
 use Rattle.cell_model.specs.declared.column.Column.{Column}
@@ -19,7 +19,7 @@ use Rattle.workload_spec.specs.Valid.{is_within, is_name, are_columns, are_slots
 use Rattle.workload_spec.specs.Extents.{whole}
 use Rattle.workload_spec.specs.Grammar.{◌>>=◌, rule, word, no_word, keyword, number, key_column, columns_from, table_of, on_line, is_table_line, tables_from}
 use Rattle.workload_laws.proofs.Results.{gives, rule_back, chosen, passed, eq_of}
-use Rattle.workload_laws.proofs.Lists.{both, joined, not_true, own_names-before}
+use Rattle.workload_laws.proofs.Lists.{joined, own_names-before}
 use Rattle.workload_laws.proofs.Cells.{i64_is}
 use Rattle.workload_laws.proofs.Tables.{table_words}
 use Rattle.workload_laws.proofs.Heads.{own_tables}
@@ -38,15 +38,15 @@ pub record TableParts (table : TableDecl) : Type 0 where
 -- a table keeps its limits part by part
 pub table_parts : (table : TableDecl) → is_table table ≡ true → TableParts table
 table_parts table is =
-    let a = both (is_name table.name && are_columns table.schema && are_slots table.schema table.slots) (are_blocks table.blocks) is in
-    let b = both (is_name table.name && are_columns table.schema) (are_slots table.schema table.slots) a.0 in
-    let c = both (is_name table.name) (are_columns table.schema) b.0 in
-    let s = both (is_within least_slots (most_slots_of table.schema) table.slots) (table.slots % 8 == 0) b.1 in
+    let a = and_parts (is_name table.name && are_columns table.schema && are_slots table.schema table.slots) (are_blocks table.blocks) is in
+    let b = and_parts (is_name table.name && are_columns table.schema) (are_slots table.schema table.slots) a.0 in
+    let c = and_parts (is_name table.name) (are_columns table.schema) b.0 in
+    let s = and_parts (is_within least_slots (most_slots_of table.schema) table.slots) (table.slots % 8 == 0) b.1 in
     record { named = c.0; columns = c.1; slots = s.0; eighths = s.1; blocks = a.1 }
 
 -- what is within bounds is at most the upper one
 pub within_high : (low high n : ℕ) → is_within low high n ≡ true → n ≤ high
-within_high low high n within = leb-true n high (both (nat_le low n) (nat_le n high) within).1
+within_high low high n within = leb-true n high (and_parts (nat_le low n) (nat_le n high) within).1
 
 -- A column with the name and the kind of the key and no nulls is the key's.
 key_by : (name : List ℕ) (k : Kind) (nullable : Bool) → name ≡ codes "key" → k ≡ kind.I64 → nullable ≡ false → key_column ≡ record { name = name; kind = k; nullable = nullable }
@@ -55,9 +55,9 @@ key_by name k nullable e f g = rw (e, f, g) refl
 -- A column that is tested to be the key is the key's column.
 key_is : (column : Column) → is_key column ≡ true → key_column ≡ column
 key_is column is =
-    let a = both (bytes_eq column.name (codes "key") && is_i64 column.kind) (not column.nullable) is in
-    let b = both (bytes_eq column.name (codes "key")) (is_i64 column.kind) a.0 in
-    key_by column.name column.kind column.nullable (eq_of column.name (codes "key") b.0) (i64_is column.kind b.1) (not_true column.nullable a.1)
+    let a = and_parts (bytes_eq column.name (codes "key") && is_i64 column.kind) (not column.nullable) is in
+    let b = and_parts (bytes_eq column.name (codes "key")) (is_i64 column.kind) a.0 in
+    key_by column.name column.kind column.nullable (eq_of column.name (codes "key") b.0) (i64_is column.kind b.1) (not-true column.nullable a.1)
 
 -- a table's columns are the key and others
 key_first : (schema : List Column) → begins_with_key schema ≡ true → (more : List Column) × (key_column ∷ more ≡ schema)
@@ -66,7 +66,7 @@ key_first (column ∷ more) begins = (more, ap (λ (c : Column). c ∷ more) (ke
 
 -- a table's columns begin with the key
 pub columns_begin : (columns : List Column) → are_columns columns ≡ true → begins_with_key columns ≡ true
-columns_begin columns are = (both (begins_with_key columns) _ (both _ _ (both _ (list_all (λ c. is_name c.name) columns) are).0).0).0
+columns_begin columns are = (and_parts (begins_with_key columns) _ (and_parts _ _ (and_parts _ (list_all (λ c. is_name c.name) columns) are).0).0).0
 
 -- a table read back behind others
 abbrev pub IsReadBack : List TableDecl → TableDecl → Type 0
@@ -157,7 +157,7 @@ column_plain column named =
 columns_words : (columns : List Column) → list_all (λ column. is_name column.name) columns ≡ true → AreWords (map column_text columns)
 columns_words [] named = tt
 columns_words (column ∷ columns) named =
-    let n = both (is_name column.name) (list_all (λ c. is_name c.name) columns) named in
+    let n = and_parts (is_name column.name) (list_all (λ c. is_name c.name) columns) named in
     (plain_word (column_text column) (column_plain column n.0), columns_words columns n.1)
 
 -- a name is a word
@@ -176,7 +176,7 @@ table_are_words table is =
       (
         name_word table.name parts.named,
         words_append (map column_text table.schema) (codes "slots" ∷ decimal table.slots ∷ codes "blocks" ∷ decimal table.blocks ∷ [])
-            (columns_words table.schema (both _ (list_all (λ c. is_name c.name) table.schema) parts.columns).1) (
+            (columns_words table.schema (and_parts _ (list_all (λ c. is_name c.name) table.schema) parts.columns).1) (
               plain_word (codes "slots") refl,
               (
                 number_word table.slots (small_slots table.slots (8 * (2 ^ 20 / row_bits table.schema)) (within_high least_slots (most_slots_of table.schema) table.slots parts.slots)),
@@ -215,7 +215,7 @@ pub tables_back : (more tables : List TableDecl) (at : ℕ) (line next : List �
     → tables_from whole at tables (map table_text more ++ line ∷ next ∷ rest) ≡ Ok (tables ++ more, line ∷ next ∷ rest)
 tables_back [] tables at line next rest none few each own = tables_none at tables line next rest none ∙ ap (λ (ts : List TableDecl). Ok (ts, line ∷ next ∷ rest)) (sym (append-nil tables))
 tables_back (table ∷ more) tables at line next rest none few each own =
-    let e = both (is_table table) (list_all is_table more) each in
+    let e = and_parts (is_table table) (list_all is_table more) each in
     let declared : is_declared table.name tables ≡ false = own_names-before (λ (t : TableDecl). t.name) tables table more (sym (own_tables (tables ++ table ∷ more)) ∙ own) in
     let apart = table_apart table e.0 in
     let same = append_assoc tables (table ∷ []) more in

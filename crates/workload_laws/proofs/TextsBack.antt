@@ -4,11 +4,11 @@ use Rattle.std.specs.Prelude.{◌||◌, ◌==◌, not, nat_lt, codes, flat_map}
 use Rattle.std.specs.List.{list_all}
 use Rattle.std.specs.Char.{digit_value, digit_char}
 use Rattle.std.proofs.lemmas.Str.{digit_value-digit_char}
-use Rattle.std.proofs.lemmas.Bool.{eqb-true, lt-ltb, ltb-true, ltb-false, ne_eqb, eqb-false}
+use Rattle.std.proofs.lemmas.Bool.{eqb-true, lt-ltb, ltb-true, ltb-false, ne_eqb, eqb-false, and_parts, or_cases, or_parts}
 use Rattle.std.proofs.Math.Bool.{and-false}
 use Rattle.workload_spec.specs.Words.{space, line_feed, quote, backslash, is_control, hex_digits, escaped, quoted}
 use Rattle.workload_spec.specs.Reading.{WithinText, BehindBackslash, Spelling, Itself, Escape, SecondDigit, spelling_after, unescaped_at, unescaped_from, text_in, bytes_of_digits}
-use Rattle.workload_laws.proofs.Lists.{both, either, joined, neither}
+use Rattle.workload_laws.proofs.Lists.{joined}
 use Rattle.workload_laws.proofs.Apart.{Stays, is_plain, is_whole, whole_append, IsWord, plain_word}
 
 -- a hexadecimal digit of a value below 16
@@ -53,7 +53,7 @@ digits_back byte small = let h = high_of byte in let l = low_of byte in rw (h.ba
 pub bytes_back : (bytes : List ℕ) → list_all (λ byte. nat_lt byte 256) bytes ≡ true → bytes_of_digits (flat_map hex_digits bytes) ≡ bytes
 bytes_back [] all = refl
 bytes_back (byte ∷ bytes) all =
-    let b = both (nat_lt byte 256) (list_all (λ byte. nat_lt byte 256) bytes) all in
+    let b = and_parts (nat_lt byte 256) (list_all (λ byte. nat_lt byte 256) bytes) all in
     let one : digit_value (digit_char (byte / 16 % 16)) * 16 + digit_value (digit_char (byte % 16)) ≡ byte = digits_back byte (ltb-true byte 256 b.0) in
     rw (one, bytes_back bytes b.1) refl
 
@@ -85,11 +85,11 @@ spells : (byte : ℕ) → Spells byte
 spells byte = by (byte == quote || byte == backslash) (is_control byte) refl refl
   where
     by : (marked control : Bool) → (byte == quote || byte == backslash) ≡ marked → is_control byte ≡ control → Spells byte
-    by true control m c = Behind (elim (either (byte == quote) (byte == backslash) m) [ inl e ↦ inl (eqb-true byte 34 e) | inr e ↦ inr (eqb-true byte 92 e) ]) (rw m refl)
-    by false true m c = Digits (elim (either (nat_lt byte 0x20) (byte == 0x7f) c) [ inl e ↦ omega (arith, ltb-true byte 32 e) | inr e ↦ omega (arith, eqb-true byte 127 e) ]) (rw (m, c) refl)
+    by true control m c = Behind (elim (or_cases (byte == quote) (byte == backslash) m) [ inl e ↦ inl (eqb-true byte 34 e) | inr e ↦ inr (eqb-true byte 92 e) ]) (rw m refl)
+    by false true m c = Digits (elim (or_cases (nat_lt byte 0x20) (byte == 0x7f) c) [ inl e ↦ omega (arith, ltb-true byte 32 e) | inr e ↦ omega (arith, eqb-true byte 127 e) ]) (rw (m, c) refl)
     by false false m c =
-        let n = neither (byte == quote) (byte == backslash) m in
-        let k = neither (nat_lt byte 0x20) (byte == 0x7f) c in
+        let n = or_parts (byte == quote) (byte == backslash) m in
+        let k = or_parts (nat_lt byte 0x20) (byte == 0x7f) c in
         Alone (ltb-false byte 32 k.0) (eqb-false byte 34 n.0) (eqb-false byte 92 n.1) (rw (m, c) refl)
 
 -- A byte behind a backslash that is no mark of digits is read as itself.

@@ -2,7 +2,7 @@
 use Rattle.std.proofs.Common.{◌≡◌, ℕ, ◌+◌, Bool, true, false, List, [], ◌∷◌, length, refl, arith}
 use Rattle.std.specs.Prelude.{not, ◌&&◌, ◌==◌, nat_lt, None, Some, is_none, slice_get, if◌then◌else◌}
 use Rattle.std.specs.List.{list_all}
-use Rattle.std.proofs.lemmas.Bool.{eqb-true}
+use Rattle.std.proofs.lemmas.Bool.{eqb-true, and_parts}
 use Rattle.cell_model.specs.declared.cell.Cell.{Cell}
 use Rattle.cell_model.specs.declared.cell.Cell.TheVariants.{Null, Num, Truth, Text, Blob}
 use Rattle.cell_model.specs.declared.column.Column.{Column}
@@ -16,7 +16,7 @@ use Rattle.workload_spec.specs.declared.script.Line.{Line}
 use Rattle.workload_spec.specs.declared.script.Script.{Script}
 use Rattle.workload_spec.specs.Valid.{is_within, is_command, all_lines, is_valid}
 use Rattle.workload_laws.specs.Bytes.{has_only_bytes, written_row, writes_only_bytes}
-use Rattle.workload_laws.proofs.Lists.{both, joined}
+use Rattle.workload_laws.proofs.Lists.{joined}
 use Rattle.workload_laws.proofs.Rounds.{is_line_of}
 use Rattle.workload_laws.proofs.CommandsBack.{fit_by, holds_some}
 use Rattle.workload_laws.proofs.CellsBack.{first_fits}
@@ -69,8 +69,8 @@ lines_bytes : (tables : List TableDecl) (sessions : ℕ) (lines : List Line) →
     → list_all (λ line. list_all has_only_bytes (written_row line.command)) lines ≡ true
 lines_bytes tables sessions [] are = refl
 lines_bytes tables sessions (line ∷ lines) are =
-    let first = both (is_line_of tables sessions line) (list_all (is_line_of tables sessions) lines) are in
-    let parts = both (is_within 1 sessions line.session) (is_command tables line.command) first.0 in
+    let first = and_parts (is_line_of tables sessions line) (list_all (is_line_of tables sessions) lines) are in
+    let parts = and_parts (is_within 1 sessions line.session) (is_command tables line.command) first.0 in
     joined (command_bytes tables line.command parts.1) (lines_bytes tables sessions lines first.1)
 
 -- the cells of bytes that a valid workload writes have bytes

@@ -1,7 +1,7 @@
 //! The text of a core's reply, by which the tests compare it.
 use super::{Cell, CoreReply, Fail, Global, Phase, Reply, Row, SealFault, WriteFault};
 use block_body::Look;
-use core_images::{FrontColumns, ReadForm, ReadRows};
+use core_parts::{FrontColumns, ReadForm, ReadRows};
 
 fn value_of(row: &Row) -> (i128, Option<&[u8]>) {
     match row.as_slice() {

@@ -1,13 +1,14 @@
 use Rattle.std.proofs.Common.{◌==◌, false, ap, ◌∙◌, sym}
+use Rattle.std.proofs.lemmas.Bool.{or_left, or_right}
 use Rattle.block_spec.specs.Bodies.{observed, turns}
 use Rattle.core_events.proofs.Alone.{head_told, one_body, room_taken}
 use Rattle.core_parts.proofs.Changing.{body_change}
 use Rattle.core_parts.proofs.Telling.{body_is, has_body, has_head}
-use Rattle.event_laws.proofs.Slots.{num_refl}
+use Rattle.core_laws.proofs.Events.Slots.{num_refl}
 use Rattle.event_spec.specs.declared.event.Event.TheVariants as event
 use Rattle.event_spec.specs.declared.reply.Reply.TheVariants as reply
 use Rattle.event_spec.specs.Parts.{BodyOf, body_at}
-use Rattle.frame_laws.proofs.Looks.{name_self, or_left, or_right}
+use Rattle.core_laws.proofs.Frames.Looks.{name_self}
 use Rattle.core_events.proofs.blocks.observe.Goals as goal
 
 pub head-requires : goal.head-requires

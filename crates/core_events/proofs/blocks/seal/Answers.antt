@@ -1,12 +1,13 @@
 use Rattle.std.proofs.Common.{◌≡◌, ◌+◌, ◌==◌, IfErr, IfOk, OnErr, OnOk, false, Some, None, subst}
+use Rattle.std.proofs.lemmas.Bool.{or_left, or_right}
 use Rattle.block_spec.specs.Bodies.{Body, seal_fault, sealed}
 use Rattle.core_events.proofs.Alone.{seal_makes, room_taken}
 use Rattle.core_parts.proofs.Telling.{has_body, has_head}
-use Rattle.event_laws.proofs.Slots.{num_refl}
+use Rattle.core_laws.proofs.Events.Slots.{num_refl}
 use Rattle.event_spec.specs.declared.event.Event.TheVariants as event
 use Rattle.event_spec.specs.declared.reply.Reply.TheVariants as reply
 use Rattle.event_spec.specs.Parts.{BodyOf}
-use Rattle.frame_laws.proofs.Looks.{name_self, or_left, or_right}
+use Rattle.core_laws.proofs.Frames.Looks.{name_self}
 use Rattle.core_events.proofs.blocks.seal.Goals as goal
 
 pub head-requires : goal.head-requires

@@ -5,7 +5,7 @@ use Rattle.core_parts.proofs.Telling.{body_is, has_body}
 use Rattle.event_spec.specs.declared.event.Event.TheVariants as event
 use Rattle.event_spec.specs.declared.reply.Reply.TheVariants as reply
 use Rattle.event_spec.specs.Parts.{BodyOf}
-use Rattle.frame_laws.proofs.Looks.{name_self}
+use Rattle.core_laws.proofs.Frames.Looks.{name_self}
 use Rattle.core_events.proofs.blocks.thaw.Goals as goal
 
 pub take_body-body-requires : goal.take_body-body-requires

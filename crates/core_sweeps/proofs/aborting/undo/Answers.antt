@@ -5,7 +5,7 @@ use Rattle.block_spec.specs.Bodies.{is_empty, rolled_back_in, slot_in}
 use Rattle.block_spec.specs.Slots.{is_bare}
 use Rattle.core_parts.specs.Hands.{Has, after}
 use Rattle.core_sweeps.proofs.Handing.{has_still, room_still, undone_by}
-use Rattle.core_sweeps.specs.Steps.{body_changed, body_in, head_changed, shard_changed, with_gain, without_bare}
+use Rattle.core_sweeps.specs.SweepSteps.{body_changed, body_in, head_changed, shard_changed, with_gain, without_bare}
 use Rattle.event_spec.specs.Parts.{HeadOf, ShardOf, BodyOf, shard_of}
 use Rattle.core_sweeps.proofs.aborting.undo.Goals as goal
 

@@ -7,7 +7,7 @@ use Rattle.block_layout.specs.Place.{block_of}
 use Rattle.block_spec.specs.Bodies.{rolled_back_in}
 use Rattle.core_parts.specs.Hands.{Has, after}
 use Rattle.core_sweeps.proofs.Aborts.{begins, goes_on, has_its_body, has_its_head, has_its_shard, room_now, still, there_by}
-use Rattle.core_sweeps.specs.Steps.{IsUndone, body_in, undone}
+use Rattle.core_sweeps.specs.SweepSteps.{IsUndone, body_in, undone}
 use Rattle.event_spec.specs.Parts.{HeadOf, ShardOf, BodyOf, shard_of}
 use Rattle.isolation_laws.proofs.Rows.{place_cmp-total}
 use Rattle.isolation_spec.specs.Contents.{PlaceMap}

@@ -1,5 +1,5 @@
 use Rattle.std.proofs.Common.{◌-◌, length}
-use Rattle.core_sweeps.specs.Steps.{IsDropped, body_in}
+use Rattle.core_sweeps.specs.SweepSteps.{IsDropped, body_in}
 use Rattle.core_sweeps.proofs.pruning.drop_left.Given as goal
 
 abbrev pub invariant-loop-slot : goal.invariant-loop-slot

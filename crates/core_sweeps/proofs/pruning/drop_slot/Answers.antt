@@ -5,9 +5,9 @@ use Rattle.block_spec.specs.Bodies.{Body, slot_in}
 use Rattle.core_parts.proofs.Changing.{after_nothing}
 use Rattle.core_parts.specs.Hands.{after}
 use Rattle.core_sweeps.proofs.Handing.{body_is_in}
-use Rattle.core_sweeps.specs.Steps.{body_in, dropped_at, shard_changed}
+use Rattle.core_sweeps.specs.SweepSteps.{body_in, dropped_at, shard_changed}
 use Rattle.event_spec.specs.Parts.{shard_of}
-use Rattle.part_changes.specs.Shards.{without_place}
+use Rattle.core_parts.specs.Shards.{without_place}
 use Rattle.core_sweeps.proofs.pruning.drop_slot.Goals as goal
 
 pub returns-in-Some : goal.returns-in-Some

@@ -3,7 +3,7 @@ use Rattle.block_spec.specs.Bodies.{pruned_in}
 use Rattle.core_sweeps.proofs.Handing.{has_still, room_still}
 use Rattle.core_sweeps.proofs.Prunes.{ends, has_body_mid, has_head_mid, has_the_body, room_mid, slots_mid}
 use Rattle.core_sweeps.proofs.Quiet.{quiet_prune}
-use Rattle.core_sweeps.specs.Steps.{body_changed}
+use Rattle.core_sweeps.specs.SweepSteps.{body_changed}
 use Rattle.event_spec.specs.Parts.{BodyOf, HeadOf}
 use Rattle.core_sweeps.proofs.pruning.prune.Goals as goal
 

@@ -5,9 +5,9 @@ use Rattle.block_spec.specs.Bodies.{slot_in}
 use Rattle.block_spec.specs.Slots.{is_bare}
 use Rattle.core_parts.specs.Hands.{after}
 use Rattle.core_sweeps.proofs.Handing.{bare_told, lost_if, lost_not}
-use Rattle.core_sweeps.specs.Steps.{body_in, shard_changed}
+use Rattle.core_sweeps.specs.SweepSteps.{body_in, shard_changed}
 use Rattle.event_spec.specs.Parts.{shard_of}
-use Rattle.part_changes.specs.Shards.{without_place}
+use Rattle.core_parts.specs.Shards.{without_place}
 use Rattle.core_sweeps.proofs.sweeping.drop_bare.Goals as goal
 
 pub returns-then-bare : goal.returns-then-bare

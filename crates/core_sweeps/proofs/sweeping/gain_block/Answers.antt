@@ -2,7 +2,7 @@ use Rattle.std.proofs.Common.{None, ap, ◌∙◌}
 use Rattle.core_parts.proofs.Telling.{head_there}
 use Rattle.core_sweeps.proofs.Handing.{head_back, room_taken}
 use Rattle.event_spec.specs.Parts.{HeadOf}
-use Rattle.part_changes.specs.Heads.{gained}
+use Rattle.core_parts.specs.Heads.{gained}
 use Rattle.core_sweeps.proofs.sweeping.gain_block.Goals as goal
 
 pub lay_head-requires-clause-table : goal.lay_head-requires-clause-table

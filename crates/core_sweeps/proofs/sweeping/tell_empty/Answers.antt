@@ -2,7 +2,7 @@ use Rattle.std.proofs.Common.{ap, ◌∙◌, sym, arith}
 use Rattle.block_spec.specs.Bodies.{is_empty}
 use Rattle.core_parts.proofs.Telling.{body_there, head_there}
 use Rattle.core_sweeps.proofs.Handing.{body_is_in, told_not}
-use Rattle.core_sweeps.specs.Steps.{body_in}
+use Rattle.core_sweeps.specs.SweepSteps.{body_in}
 use Rattle.core_sweeps.proofs.sweeping.tell_empty.Goals as goal
 
 pub blocks-requires : goal.blocks-requires

@@ -2,7 +2,7 @@ use Rattle.std.proofs.Common.{◌∙◌, List, Option, None, Some, take, get_or,
 use Rattle.std.specs.Prelude.{IsSome, flat_map, option_to_list}
 use mathlib.Core.Logic.{inl, inr}
 use Rattle.block_spec.specs.Slots.{Row}
-use Rattle.core_images.proofs.Front.{front_held}
+use Rattle.core_parts.proofs.Front.{front_held}
 use Rattle.engine_core.proofs.Asked.{few_slots, front_is, image_imaged, image_loose, image_sealed, image_there, rows_few, sealed_front}
 use Rattle.engine_core.proofs.asks.image_of.Goals as goal
 

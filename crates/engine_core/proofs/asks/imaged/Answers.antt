@@ -6,8 +6,8 @@ use Rattle.engine_core.proofs.Asked.{candidates_are, imaged_by, imaged_told, slo
 use Rattle.engine_core.specs.Asks.{imaged_block}
 use Rattle.event_spec.specs.Parts.{Parts}
 use Rattle.hall_rule.specs.Hands.{Agrees}
-use Rattle.key_events.specs.Candidates.{candidates_in}
-use Rattle.key_judge.specs.Slots.{HasSlots}
+use Rattle.core_events.specs.Candidates.{candidates_in}
+use Rattle.core_events.specs.Slots.{HasSlots}
 use Rattle.engine_core.proofs.asks.imaged.Goals as goal
 
 pub current-requires : goal.current-requires

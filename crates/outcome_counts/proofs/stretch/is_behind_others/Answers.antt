@@ -1,8 +1,8 @@
 use Rattle.std.proofs.Common.{◌≡◌, ◌-◌, suc, ℕ, List, Bool, true, take, subst, arith}
 use Rattle.std.specs.List.{list_all}
-use Rattle.outcome_check.specs.Sides.{is_past}
-use Rattle.outcome_check.proofs.Pieces.{Parted}
-use Rattle.outcome_check.proofs.Places.{past-parts}
+use Rattle.order_laws.specs.Sides.{is_past}
+use Rattle.order_laws.proofs.Pieces.{Parted}
+use Rattle.order_laws.proofs.Places.{past-parts}
 use Rattle.output_read.specs.Kept.{entries_of, entry_of}
 use Rattle.output_read.specs.declared.kept.KeptReply.{KeptReply as Kept}
 use Rattle.outcome_counts.proofs.Near.{front-passes}

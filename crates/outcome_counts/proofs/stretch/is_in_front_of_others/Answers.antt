@@ -1,7 +1,7 @@
 use Rattle.std.proofs.Common.{◌≡◌, ◌<◌, ℕ, List, Bool, false, nat_le, length, get_or, arith}
 use Rattle.std.proofs.lemmas.Bool.Decides.{nat_tests}
-use Rattle.outcome_check.proofs.Pieces.{Parted}
-use Rattle.outcome_check.proofs.Places.{round-parts}
+use Rattle.order_laws.proofs.Pieces.{Parted}
+use Rattle.order_laws.proofs.Places.{round-parts}
 use Rattle.outcome_spec.specs.Entries.{Entry}
 use Rattle.output_read.specs.Kept.{entries_of, entry_of}
 use Rattle.output_read.specs.declared.kept.KeptReply.{KeptReply as Kept}

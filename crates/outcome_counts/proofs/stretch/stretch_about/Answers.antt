@@ -5,11 +5,11 @@ use Rattle.std.specs.List.Sorted.{IsPartitionedBy}
 use Rattle.std.proofs.lemmas.List.Sorted.{IsPartitionPoint-from_clause}
 use Rattle.std.proofs.lemmas.List.{get_or_read}
 use Rattle.outcome_spec.specs.Entries.{Entry}
-use Rattle.outcome_check.specs.Sides.{is_past}
-use Rattle.outcome_check.specs.Places.{is_among, is_earlier, is_in_front, is_up_to, is_up_to_own}
-use Rattle.outcome_check.proofs.Pieces.{Parted, all-weaker}
+use Rattle.order_laws.specs.Sides.{is_past}
+use Rattle.order_laws.specs.Places.{is_among, is_earlier, is_in_front, is_up_to, is_up_to_own}
+use Rattle.order_laws.proofs.Pieces.{Parted, all-weaker}
 use Rattle.workload_spec.specs.declared.reply.Who.{Who}
-use Rattle.outcome_check.proofs.Places.{past-parts, front-parts, own-parts, round-parts}
+use Rattle.order_laws.proofs.Places.{past-parts, front-parts, own-parts, round-parts}
 use Rattle.mark_index.proofs.Parted.{passed-count}
 use Rattle.output_read.specs.Kept.{entries_of, entry_of}
 use Rattle.output_read.specs.declared.kept.KeptReply.{KeptReply as Kept}

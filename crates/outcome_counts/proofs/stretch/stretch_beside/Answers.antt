@@ -3,8 +3,8 @@ use Rattle.std.specs.List.{count_by}
 use Rattle.std.specs.List.Sorted.{IsPartitionedBy}
 use Rattle.std.proofs.lemmas.List.{get_or_read}
 use Rattle.std.proofs.lemmas.List.Sorted.{IsPartitionPoint-from_clause}
-use Rattle.outcome_check.specs.Places.{is_up_to_own}
-use Rattle.outcome_check.proofs.Places.{own-parts}
+use Rattle.order_laws.specs.Places.{is_up_to_own}
+use Rattle.order_laws.proofs.Places.{own-parts}
 use Rattle.mark_index.proofs.Parted.{passed-count}
 use Rattle.output_read.specs.Kept.{entries_of, entry_of}
 use Rattle.output_read.specs.declared.kept.KeptReply.{KeptReply as Kept}

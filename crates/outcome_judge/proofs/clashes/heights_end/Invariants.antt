@@ -1,7 +1,7 @@
 use Rattle.std.proofs.Common.{◌≡◌, ◌-◌, IfSome, true, take, List}
 use Rattle.std.specs.List.{list_all}
 use Rattle.cell_model.specs.declared.table.TableDecl.{TableDecl}
-use Rattle.outcome_conflicts.specs.Conflicts.{heights_hold}
+use Rattle.outcome_judge.specs.Conflicts.{heights_hold}
 use Rattle.outcome_spec.specs.Runs.{run_of}
 use Rattle.output_read.specs.Kept.{entries_of}
 use Rattle.outcome_counts.specs.Asked.{IsAsked}

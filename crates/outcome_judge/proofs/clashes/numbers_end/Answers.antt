@@ -1,5 +1,5 @@
 use Rattle.std.proofs.Common.{◌<◌, ◌≤◌, length, arith}
-use Rattle.outcome_conflicts.specs.Conflicts.{numbers_hold}
+use Rattle.outcome_judge.specs.Conflicts.{numbers_hold}
 use Rattle.outcome_spec.specs.Runs.{run_of}
 use Rattle.output_read.specs.Kept.{entries_of}
 use Rattle.outcome_judge.proofs.Ends.{goes-through, stops-at}

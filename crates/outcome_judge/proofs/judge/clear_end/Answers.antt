@@ -1,5 +1,5 @@
 use Rattle.std.proofs.Common.{[], arith}
-use Rattle.outcome_conflicts.specs.Conflicts.{heights_hold, numbers_hold}
+use Rattle.outcome_judge.specs.Conflicts.{heights_hold, numbers_hold}
 use Rattle.outcome_spec.specs.Runs.{run_of}
 use Rattle.output_read.specs.Kept.{entries_of}
 use Rattle.outcome_judge.proofs.Ends.{both-end}

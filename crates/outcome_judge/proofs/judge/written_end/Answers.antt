@@ -1,6 +1,6 @@
 use Rattle.std.proofs.Common.{◌≡◌, ◌∙◌, ◌&&◌, arith}
-use Rattle.outcome_conflicts.specs.Conflicts.{heights_hold, numbers_hold, sessions_hold}
-use Rattle.outcome_conflicts.proofs.Whole.{in-parts}
+use Rattle.outcome_judge.specs.Conflicts.{heights_hold, numbers_hold, sessions_hold}
+use Rattle.outcome_judge.proofs.Whole.{in-parts}
 use Rattle.outcome_spec.specs.Conflicts.{conflicts_hold}
 use Rattle.outcome_spec.specs.Entries.{Entry}
 use Rattle.outcome_spec.specs.Runs.{run_of}

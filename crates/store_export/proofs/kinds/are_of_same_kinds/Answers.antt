@@ -4,8 +4,8 @@ use Rattle.std.proofs.lemmas.List.{length-map, take_more_same}
 use Rattle.std.proofs.lemmas.Option.{slice_get_read}
 use Rattle.cell_model.specs.contracts.kind.Kind.{the_type}
 use Rattle.cell_model.specs.declared.column.Column.{Column}
-use Rattle.core_images.proofs.SameKinds.{kind_at}
-use Rattle.core_images.specs.Kinds.{kinds_of}
+use Rattle.core_parts.proofs.SameKinds.{kind_at}
+use Rattle.core_parts.specs.Kinds.{kinds_of}
 use Rattle.store_export.proofs.kinds.are_of_same_kinds.Goals as goal
 
 pub returns-then-ne : goal.returns-then-ne

@@ -5,7 +5,7 @@ use Rattle.std.specs.Vec.Iter.{into_iter_items}
 use Rattle.shared_store.specs.Building.{IsNewRow}
 use Rattle.workload_spec.specs.Valid.{is_within}
 use Rattle.workload_spec.specs.declared.script.Line.{Line}
-use Rattle.store_workers.specs.Turns.{most_of_turn}
+use Rattle.store_rounds.specs.Turns.{most_of_turn}
 use Rattle.store_rounds.specs.Answered.{most_events}
 use Rattle.store_rounds.specs.Rounds.{HaveRoomFor, RanRound, RoundStops}
 use Rattle.store_rounds.specs.Runs.{RunsIn}

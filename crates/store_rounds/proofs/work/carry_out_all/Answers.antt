@@ -6,7 +6,7 @@ use Rattle.workload_spec.specs.declared.command.Command.{Command}
 use Rattle.workload_spec.specs.ReplyText.{reply_text}
 use Rattle.workload_spec.specs.declared.reply.Said.TheVariants as said
 use Rattle.workload_spec.specs.declared.reply.Who.TheVariants.{Session as TheSession}
-use Rattle.round_laws.specs.Lines.{line_of}
+use Rattle.run_laws.specs.Rounds.Lines.{line_of}
 use Rattle.shared_store.specs.Store.{shape_in}
 use Rattle.store_rounds.proofs.Answering.{few_events}
 use Rattle.store_rounds.proofs.Turns.{none_left, turn_begins, turn_ends, turn_goes_on, turn_has_room, turn_stops}

@@ -2,13 +2,13 @@ use Rattle.std.proofs.Common.{◌≡◌, ℕ, ◌<◌, ◌≤◌, List, length, 
 use Rattle.std.specs.Prelude.{Some, slice_get}
 use Rattle.std.specs.Int.{Width}
 use Rattle.std.specs.List.{flat_map}
+use Rattle.std.proofs.lemmas.List.Folds.{flat_map-map}
 use Rattle.cell_model.specs.declared.cell.Cell.{Cell}
 use Rattle.cell_model.specs.declared.column.Column.{Column}
 use Rattle.arrow_spec.specs.Arrays.{layout_of, number_of}
 use Rattle.arrow_spec.specs.Bytes.{number_bytes}
 use Rattle.block_columns.specs.Cells.{ColumnValue}
 use Rattle.block_columns.specs.Columns.{ColumnsValue, cell_of, rows_in}
-use Rattle.block_columns.proofs.Lent.{flat_map-map}
 use Rattle.block_columns.proofs.Rowed.{column_there, first_cells, columns_long}
 use Rattle.block_columns.proofs.columns.Columns.fixed_bytes.Goals as goal
 

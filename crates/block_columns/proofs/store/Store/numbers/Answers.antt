@@ -2,6 +2,7 @@ use Rattle.std.proofs.Common.{ℤ, List, take, ap, ◌∙◌, subst}
 use Rattle.std.specs.Int.{Width}
 use Rattle.std.specs.List.{flat_map}
 use Rattle.std.proofs.lemmas.List.{take-map}
+use Rattle.std.proofs.lemmas.List.Folds.{flat_map-map}
 use Rattle.cell_model.specs.declared.cell.Cell.{Cell}
 use Rattle.cell_model.specs.declared.kind.Kind.{Kind}
 use Rattle.cell_model.specs.Kinds.{values_of}
@@ -9,7 +10,7 @@ use Rattle.arrow_spec.specs.Arrays.{number_of}
 use Rattle.arrow_spec.specs.Bytes.{number_bytes}
 use Rattle.block_columns.specs.declared.store.Store.{Store}
 use Rattle.block_columns.specs.Cells.{IsStoreOf, Stores}
-use Rattle.block_columns.proofs.Lent.{width_of, flat_map-map}
+use Rattle.block_columns.proofs.Lent.{width_of}
 use Rattle.block_columns.proofs.store.Store.numbers.Goals as goal
 
 pub returns-in-Numbers : goal.returns-in-Numbers

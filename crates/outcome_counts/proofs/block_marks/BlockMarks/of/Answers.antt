@@ -1,7 +1,7 @@
 use Rattle.std.proofs.Common.{◌≡◌, ◌∙◌, ◌≤◌, ap, sym, subst, ℕ, length, arith}
 use Rattle.output_read.specs.Kept.{entries_of, entry_of}
 use Rattle.output_read.specs.declared.kept.KeptReply.{KeptReply}
-use Rattle.outcome_check.specs.Places.{own_start}
+use Rattle.order_laws.specs.Places.{own_start}
 use Rattle.outcome_counts.specs.BlockMarks.{AreBlockMarks, IsNoted, starts_in}
 use Rattle.outcome_counts.specs.declared.stretch.Stretch.{Stretch}
 use Rattle.outcome_counts.proofs.Behind.{known-behind}

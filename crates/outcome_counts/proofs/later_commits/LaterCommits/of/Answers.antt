@@ -4,7 +4,7 @@ use Rattle.std.proofs.lemmas.List.{length-reverse, length-append, length-map}
 use Rattle.outcome_spec.specs.Entries.{commit_in}
 use Rattle.output_read.specs.Kept.{entries_of, entry_of}
 use Rattle.output_read.specs.declared.kept.KeptReply.{KeptReply}
-use Rattle.outcome_check.specs.Places.{own_end}
+use Rattle.order_laws.specs.Places.{own_end}
 use Rattle.mark_index.proofs.Noted.{peaks-next}
 use Rattle.outcome_counts.specs.Asked.{IsAsked}
 use Rattle.outcome_counts.specs.LaterCommits.{below_commit, ends_in, with_low}

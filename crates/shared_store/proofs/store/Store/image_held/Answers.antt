@@ -5,7 +5,7 @@ use Rattle.event_spec.specs.Effects.{CoreEvent}
 use Rattle.event_spec.specs.Lawful.{IsImageOf}
 use Rattle.event_spec.specs.Parts.{BodyOf, Parts, Shape, body_at}
 use Rattle.event_spec.specs.Replay.{IsLawfulLog}
-use Rattle.frame_laws.specs.Shards.{CoreHolds}
+use Rattle.core_laws.specs.Frames.Shards.{CoreHolds}
 use Rattle.hall_rule.specs.Hands.{Agrees}
 use Rattle.hall_steps.specs.Hall.{first_of}
 use Rattle.store_laws.proofs.Entries.{lawful_same}

@@ -1,9 +1,10 @@
 use Rattle.std.proofs.Common.{◌≡◌, ◌∙◌, true, false, true≢false, ap, sym, subst, refl, IsSome, is_some, arith}
+use Rattle.std.proofs.lemmas.Bool.{or_right}
 use Rattle.isolation_spec.specs.Contents.{at_place, is_place}
 use Rattle.isolation_spec.specs.Machine.{writes_place}
 use Rattle.si_machine.specs.Kept.{has_place}
 use Rattle.si_machine.specs.declared.writers.Writers.{Writers}
-use Rattle.si_machine.proofs.Marks.{is_among, among-written, first-among, has-same, or-right, numbers-same, room-made, Wrote}
+use Rattle.si_machine.proofs.Marks.{is_among, among-written, first-among, has-same, numbers-same, room-made, Wrote}
 use Rattle.si_machine.proofs.writers.Writers.reserve_each.Goals as goal
 
 pub loop-place-init : goal.loop-place-init
@@ -26,7 +27,7 @@ loop-place-preserved-in-Continue-1 c =
     record {
       numbers = λ place. numbers-same c.loop-place.self now c.in-Some.place.now c.in-Some-get_mut.numbers.now c.reserve.new.self wrote c.in_ok-reserve.ensures.items place ∙ inv.numbers place;
       same = λ place. has-same c.loop-place.self now c.in-Some.place.now c.in-Some-get_mut.numbers.now c.reserve.new.self wrote place ∙ inv.same place;
-      written = λ place among. inv.written place (ap (is_among place) c.in-Some.ensures.steps ∙ or-right (is_place place c.in-Some.place.now) (is_among place c.next.new.self) among);
+      written = λ place among. inv.written place (ap (is_among place) c.in-Some.ensures.steps ∙ or_right (is_place place c.in-Some.place.now) (is_among place c.next.new.self) among);
       room = room-made c.loop-place.self now c.in-Some.place.now c.in-Some-get_mut.numbers.now c.reserve.new.self wrote
           (let room = c.in_ok-reserve.ensures.ok in omega (arith, room))
           (λ place. writes_place place c.args.writes.now.entries) c.next.new.self

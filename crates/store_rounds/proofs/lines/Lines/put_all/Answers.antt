@@ -4,7 +4,7 @@ use Rattle.std.proofs.lemmas.List.{length_push}
 use Rattle.workload_spec.specs.ReplyText.{replies_text, reply_text}
 use Rattle.workload_spec.specs.declared.reply.Said.{Said}
 use Rattle.workload_spec.specs.declared.reply.Who.TheVariants.{Worker as TheWorker}
-use Rattle.round_laws.specs.Lines.{line_of}
+use Rattle.run_laws.specs.Rounds.Lines.{line_of}
 use Rattle.store_rounds.specs.Turned.{lines_behind}
 use Rattle.store_rounds.proofs.Turns.{none_left}
 use Rattle.store_rounds.proofs.WorkerTurns.{line_more}

@@ -1,4 +1,0 @@
-pub mod Kinds
-pub mod Gathered
-pub mod FrontValues
-pub mod Fronts

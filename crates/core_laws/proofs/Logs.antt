@@ -1,0 +1,3 @@
+pub mod Opening
+pub mod Logs
+pub mod Refusals

@@ -1,0 +1,124 @@
+-- What each event is to the snapshot-isolation machine.
+use Rattle.std.specs.Prelude.{◌≡◌, ℕ, ℤ, Option, None, Some, IsSomeAnd, length}
+use Rattle.core_laws.specs.Events.Named.{FollowsMachine}
+use Rattle.event_spec.specs.declared.event.Event.TheVariants as event
+use Rattle.event_spec.specs.declared.reply.Reply.TheVariants as reply
+use Rattle.event_spec.specs.declared.reply.WriteFault.{WriteFault}
+use Rattle.event_spec.specs.declared.reply.WriteFault.TheVariants as fault
+use Rattle.event_spec.specs.Effects.{CoreEvent, effect}
+use Rattle.event_spec.specs.declared.own.OwnTransaction.{OwnTransaction}
+use Rattle.event_spec.specs.Lawful.{IsLawful, OwnsAll}
+use Rattle.event_spec.specs.Parts.{Parts, Shape, desk_at, places_at, slot_at}
+use Rattle.event_spec.specs.Replies.{CoreReply, reply_to}
+use Rattle.event_spec.specs.Sound.{Sound, IsShape}
+use Rattle.core_laws.specs.Following.Laws.{command_of}
+use Rattle.core_laws.specs.Following.Owned.{HasOpen, OwnSlot}
+use Rattle.isolation_spec.specs.Contents.{at_place, place_at}
+use Rattle.isolation_spec.specs.declared.command.Act.TheVariants as act
+use Rattle.isolation_spec.specs.declared.command.Answer.TheVariants as answer
+use Rattle.isolation_spec.specs.declared.command.Command.{Command}
+use Rattle.isolation_spec.specs.Machine.{IsolationMachine}
+use Rattle.isolation_spec.specs.Store.{Outcome, Allows}
+use Rattle.isolation_spec.specs.Store as store
+
+-- ---- the machine's words
+
+-- what a write's fault is to a store over the machine
+abbrev pub outcome_of_fault : WriteFault → Outcome
+outcome_of_fault (fault.ConflictSession session) = store.Answered (answer.ConflictSession session)
+outcome_of_fault (fault.ConflictCommit number) = store.Answered (answer.ConflictCommit number)
+outcome_of_fault fault.Exists = store.Answered answer.Exists
+outcome_of_fault fault.Missing = store.Answered answer.Missing
+outcome_of_fault (fault.Freezing block stamp) = store.Freezing
+outcome_of_fault (fault.Full inserts) = store.Full
+
+-- What a reply to a session's command is to a store over the machine. A reply to any other event is
+-- nothing to it.
+abbrev pub outcome_of : CoreReply → Option Outcome
+outcome_of (reply.Begun snapshot) = Some (store.Answered (answer.At snapshot.number))
+outcome_of (reply.Found row) = Some (store.Answered (answer.Found row))
+outcome_of (reply.Written place) = Some (store.Answered answer.Accepted)
+outcome_of (reply.Refused refusal) = Some (outcome_of_fault refusal)
+outcome_of (reply.Rows rows) = None
+outcome_of (reply.Shared rows) = None
+outcome_of (reply.Committed number) = Some (store.Answered (answer.Committed number))
+outcome_of reply.Aborted = Some (store.Answered answer.Aborted)
+outcome_of (reply.Oldest oldest) = None
+outcome_of (reply.Turned turned) = None
+outcome_of (reply.Dropped count) = None
+outcome_of (reply.Looked look) = None
+outcome_of (reply.Moved count) = None
+outcome_of (reply.Sealed stamp) = None
+outcome_of (reply.NotSealed cause) = None
+outcome_of (reply.Imaged rows) = None
+outcome_of reply.NoSeal = None
+outcome_of reply.Thawed = None
+outcome_of reply.Memory = Some store.Memory
+
+-- The command that an event is to the machine. A read of one block is none, nor is upkeep.
+abbrev pub command_in : CoreEvent → Option Command
+command_in (event.Begin session) = Some (command_of session act.Begin)
+command_in (event.Get own table key) = Some (command_of own.session (act.Get table key))
+command_in (event.Insert own table row) = Some (command_of own.session (act.Insert table row))
+command_in (event.Update own table row) = Some (command_of own.session (act.Update table row))
+command_in (event.Delete own table key) = Some (command_of own.session (act.Delete table key))
+command_in (event.Read own table block) = None
+command_in (event.Commit own) = Some (command_of own.session act.Commit)
+command_in (event.Abort own) = Some (command_of own.session act.Abort)
+command_in event.Oldest = None
+command_in (event.Observe table block) = None
+command_in (event.Prune table block oldest) = None
+command_in (event.Look table block) = None
+command_in (event.Move table moves) = None
+command_in (event.Seal table block) = None
+command_in (event.Image table block image) = None
+command_in (event.Thaw table block) = None
+
+-- ---- what an event is to the machine
+
+-- A reply to a command is one that a store over the machine may give, which leaves the machine like
+-- this.
+abbrev pub IsTold : IsolationMachine → Command → CoreReply → IsolationMachine → Type 0
+IsTold machine command said next = IsSomeAnd (outcome_of said)
+    (λ outcome. Allows machine command outcome next)
+
+-- A command's event is answered by the machine, and any other leaves it as it is.
+abbrev pub IsStep : Option Command → IsolationMachine → CoreReply → IsolationMachine → Type 0
+IsStep None machine said next = next ≡ machine
+IsStep (Some command) machine said next = IsTold machine command said next
+
+-- The event answers a command as the machine may, and the parts after it follow the machine after
+-- it.
+abbrev pub Serves : Shape → Parts → CoreEvent → Command → Type 0
+Serves shape parts event command = (machine : IsolationMachine) → FollowsMachine shape parts machine
+    → (next : IsolationMachine)
+    × IsTold machine command (reply_to shape parts event) next
+    × FollowsMachine shape (effect shape parts event) next
+
+-- An event keeps how many parts there are.
+abbrev pub KeepsRoom : Type 0
+KeepsRoom = (shape : Shape) (event : CoreEvent) (parts : Parts) → length (effect shape parts event)
+    ≡ length parts
+
+-- A lawful event of a sound state is answered as the machine may, and the parts after it follow the
+-- machine after it.
+abbrev pub Steps : Type 0
+Steps = (shape : Shape) (parts : Parts) (event : CoreEvent) → IsShape shape → Sound shape parts
+    → IsLawful shape event parts
+    → (machine : IsolationMachine) → FollowsMachine shape parts machine
+    → (next : IsolationMachine)
+    × IsStep (command_in event) machine (reply_to shape parts event) next
+    × FollowsMachine shape (effect shape parts event) next
+
+-- In a sound state the transaction that an event is handed has the slots on which its session's
+-- entries stand.
+pub record IsHandedIn (shape : Shape) (parts : Parts) (own : OwnTransaction) : Type 0 where
+  pub is_open : HasOpen (desk_at shape parts) own.session own.snapshot
+  pub slots : (table : ℕ) (key : ℤ)
+      → OwnSlot (slot_at shape parts) (places_at shape parts) own.session table key
+      (at_place own.writes (place_at table key))
+
+abbrev pub HandsInWhatIsWritten : Type 0
+HandsInWhatIsWritten = (shape : Shape) (parts : Parts) (own : OwnTransaction) → Sound shape parts
+    → OwnsAll shape own parts
+    → IsHandedIn shape parts own

@@ -1,0 +1,10 @@
+pub mod Slots
+pub mod Following
+pub mod Events
+pub mod Sound
+pub mod Logs
+pub mod Snapshots
+pub mod Frozen
+pub mod Parts
+pub mod Frames
+pub mod Hall

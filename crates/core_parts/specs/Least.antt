@@ -1,0 +1,27 @@
+-- The least number from one on, of those that were offered.
+use Rattle.std.specs.Prelude.{ℕ, ◌+◌, ◌&&◌, nat_le, nat_lt, true, List, [], ◌∷◌, Option, None, Some}
+use Rattle.std.specs.Prelude.{option_map, fold, if◌then◌else◌}
+use Rattle.std.specs.Option.{option_map_or}
+use Rattle.core_parts.specs.declared.least.Least.{Least}
+use Rattle.event_spec.specs.Parts.{Name, Shape, names, same_name}
+
+-- a number takes the seat where it is from the first one on, and below what sits there
+abbrev pub offered : ℕ → Least → Least
+offered number least =
+    if nat_le least.from number && option_map_or (λ best. nat_lt number best) least.best true
+    then record least { best = Some number } else least
+
+-- the place of a name among names, if it stands there
+abbrev pub number_among : List Name → Name → Option ℕ
+number_among [] name = None
+number_among (n ∷ ns) name = if same_name n name then Some 0
+    else option_map (λ k. k + 1) (number_among ns name)
+
+-- a part's number is offered, where there is such a part
+abbrev pub offered_name : Shape → Least → Name → Least
+offered_name shape least name = option_map_or (λ number. offered number least)
+    (number_among (names shape) name) least
+
+-- the numbers of parts are offered one after another
+abbrev pub offered_all : Shape → List Name → Least → Least
+offered_all shape offers least = fold (offered_name shape) least offers

@@ -1,4 +1,0 @@
-pub mod Bodies
-pub mod Replying
-pub mod Rows
-pub mod Shares

@@ -1,6 +1,0 @@
-pub mod Founds
-pub mod Held
-pub mod Names
-pub mod Nexts
-pub mod Numbered
-pub mod Spots

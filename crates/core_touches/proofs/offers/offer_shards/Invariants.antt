@@ -1,7 +1,0 @@
-use Rattle.std.proofs.Common.{◌≡◌, map}
-use Rattle.core_touches.specs.Least.{offered_all}
-use Rattle.event_spec.specs.Parts.{ShardOf, below}
-use Rattle.core_touches.proofs.offers.offer_shards.Given as goal
-
-abbrev pub invariant-loop-shard : goal.invariant-loop-shard
-invariant-loop-shard l = l.least ≡ offered_all l.shape (map (ShardOf l.fn.table) (below l.shard)) l.fn.least

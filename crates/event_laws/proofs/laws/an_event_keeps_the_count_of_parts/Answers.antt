@@ -1,7 +1,0 @@
-use Rattle.event_laws.proofs.States.{length-changed}
-use Rattle.event_spec.specs.Effects.{changes_of}
-use Rattle.event_spec.specs.Parts.{names}
-use Rattle.event_laws.proofs.laws.an_event_keeps_the_count_of_parts.Goals as goal
-
-pub returns : goal.returns
-returns c = λ shape event parts. length-changed (changes_of shape parts event) (names shape) parts

@@ -1,5 +1,0 @@
-use Rattle.export_laws.proofs.Permuted.{ordered_rows_are_the_rows}
-use Rattle.export_laws.proofs.laws.ordered_rows_are_the_rows.Goals as goal
-
-pub returns : goal.returns
-returns c = ordered_rows_are_the_rows

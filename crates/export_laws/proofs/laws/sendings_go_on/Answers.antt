@@ -1,8 +1,0 @@
-use Rattle.export_laws.proofs.Sending.{sending_goes_on, sendings_join}
-use Rattle.export_laws.proofs.laws.sendings_go_on.Goals as goal
-
-pub returns-clause-next : goal.returns-clause-next
-returns-clause-next c = sending_goes_on
-
-pub returns-clause-join : goal.returns-clause-join
-returns-clause-join c = sendings_join

@@ -1,8 +1,0 @@
-use Rattle.frozen_laws.proofs.Stamps.{seals_are_new, stamps_rise}
-use Rattle.frozen_laws.proofs.laws.each_stamp_comes_once.Goals as goal
-
-pub returns-clause-rises : goal.returns-clause-rises
-returns-clause-rises c = stamps_rise
-
-pub returns-clause-seals : goal.returns-clause-seals
-returns-clause-seals c = seals_are_new

@@ -1,8 +1,0 @@
-use Rattle.frozen_laws.proofs.Frozen.{frozen_is_settled, frozen_stays}
-use Rattle.frozen_laws.proofs.laws.frozen_blocks_are_settled.Goals as goal
-
-pub returns-clause-settled : goal.returns-clause-settled
-returns-clause-settled c = frozen_is_settled
-
-pub returns-clause-stays : goal.returns-clause-stays
-returns-clause-stays c = frozen_stays

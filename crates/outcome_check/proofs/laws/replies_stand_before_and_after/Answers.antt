@@ -1,5 +1,0 @@
-use Rattle.outcome_check.proofs.Order.{sides-before, sides-not_after, sides-after}
-use Rattle.outcome_check.proofs.laws.replies_stand_before_and_after.Goals as goal
-
-pub returns : goal.returns
-returns c = λ entries entry sides. (sides-before entries entry sides, sides-not_after entries entry sides, sides-after entries entry sides)

@@ -1,4 +1,0 @@
-pub mod Examples
-pub mod Opened
-pub mod Places
-pub mod Sides

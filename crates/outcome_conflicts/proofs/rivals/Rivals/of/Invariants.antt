@@ -1,6 +1,0 @@
-use Rattle.output_read.specs.Kept.{entries_of}
-use Rattle.outcome_conflicts.specs.Rivals.{AreRivals}
-use Rattle.outcome_conflicts.proofs.rivals.Rivals.of.Given as goal
-
-abbrev pub invariant-loop-place : goal.invariant-loop-place
-invariant-loop-place l = AreRivals (entries_of l.replies) l.place l.rivals

@@ -1,6 +1,0 @@
-use Rattle.output_read.specs.Kept.{entries_of}
-use Rattle.outcome_history.specs.Commits.{AreCommits}
-use Rattle.outcome_history.proofs.committed.Committed.of.Given as goal
-
-abbrev pub invariant-loop-at : goal.invariant-loop-at
-invariant-loop-at l = AreCommits l.openings (entries_of l.replies) l.at l.committed.writes

@@ -1,6 +1,0 @@
-use Rattle.output_read.specs.Kept.{entries_of}
-use Rattle.outcome_history.specs.Seen.{AreSights}
-use Rattle.outcome_history.proofs.sights.Sights.of.Given as goal
-
-abbrev pub invariant-loop-place : goal.invariant-loop-place
-invariant-loop-place l = AreSights l.openings (entries_of l.replies) l.place l.sights

@@ -1,0 +1,71 @@
+-- What the words ask for, by what `clap` makes of them.
+use Rattle.std.proofs.Common.{◌≡◌, ◌≢◌, Bool, true, bytes_eq, codes, if◌then◌else◌, List, [], ◌∷◌, Option, None, Some, Result, Ok, Err, Box, refl, ap, ap₂, sym, ◌∙◌, subst, option_map, ⊎_elim}
+use Rattle.std.specs.Box.{box_value}
+use Rattle.clap.specs.Words.{App, FailsBy, IsAmong, Kinds, Row, Text, fault_of, first_of, found_of, is_simple, is_simple_and_free, kind_of, rows_of, subcommand_name_of, subcommand_of, subcommand_rows, subcommand_rows_of}
+use Rattle.clap.specs.declared.parser.matches.ArgMatches.{ArgMatches}
+use Rattle.clap.specs.declared.parser.matches.ArgMatches.TheViews.{out-ArgMatches, out-SubCommand}
+use Rattle.clap.specs.declared.parser.matches.SubCommand.{SubCommand}
+use Rattle.clap.specs.declared.error.Error.{Error}
+use Rattle.clap.specs.declared.error.kind.ErrorKind.{ErrorKind}
+use Rattle.clap.specs.declared.error.kind.ErrorKind.TheVariants as kind
+use Rattle.program.specs.Words.{Asked, ToRun, ToShow, ToCheck, asked_by, asked_of, bench_asks, command_asks, mainline_app, unless_faulty}
+
+-- the command is one whose meaning `clap` tells
+pub mainline_is_free : is_simple_and_free mainline_app ≡ true
+mainline_is_free = refl
+
+-- the app is a simple one
+pub mainline_is_simple : is_simple mainline_app ≡ true
+mainline_is_simple = refl
+
+-- where there is a fault, nothing is asked for
+some_fault : (e : ErrorKind) (kinds : Kinds) (asked : Option Asked) → IsAmong e kinds → unless_faulty kinds asked ≡ None
+some_fault e [] asked among = absurd among
+some_fault e (k ∷ kinds) asked among = refl
+
+-- words that a parse refuses, and not for want of memory
+pub refused_ask_nothing : {T : Type 0} (app : App) (words : List Text) (result : Result T Error) (fault : Error)
+    → app ≡ mainline_app → (is_simple_and_free app ≡ true → FailsBy (fault_of app words) result) → result ≡ Err fault
+    → kind_of fault ≢ kind.OutOfMemory → asked_by words ≡ None
+refused_ask_nothing {T = T} app words result fault app_is fails is free =
+    let kinds : FailsBy {T = T} (fault_of app words) (Err fault) =
+    subst (FailsBy (fault_of app words)) is (fails (ap is_simple_and_free app_is ∙ mainline_is_free)) in
+    ⊎_elim (λ memory. absurd (free memory))
+    (λ among. ap (λ (a : App). unless_faulty (fault_of a words) (asked_of (subcommand_of mainline_app words))) (sym app_is)
+    ∙ some_fault (kind_of fault) (fault_of app words) (asked_of (subcommand_of mainline_app words)) among) kinds
+
+-- words that it takes ask for what the subcommand asks for that they name
+pub taken_ask : {T : Type 0} (app : App) (words : List Text) (result : Result T Error) (matches : T) (named : Option (Text × List Row))
+    → app ≡ mainline_app → (is_simple_and_free app ≡ true → FailsBy (fault_of app words) result) → result ≡ Ok matches
+    → named ≡ subcommand_of app words → asked_by words ≡ asked_of named
+taken_ask {T = T} app words result matches named app_is fails is named_is =
+    let none : FailsBy {T = T} (fault_of app words) (Ok matches) =
+    subst (FailsBy (fault_of app words)) is (fails (ap is_simple_and_free app_is ∙ mainline_is_free)) in
+    ap (λ (a : App). unless_faulty (fault_of a words) (asked_of (subcommand_of a words))) (sym app_is)
+    ∙ ap₂ unless_faulty none (ap asked_of (sym named_is))
+
+-- the subcommand that a parse met, by its name and by the rows of its matches
+met : {Z : Type 0} (sub : Option (Box SubCommand Z)) (name : Text) (rows : List Row)
+    → Some name ≡ option_map (λ b. (out-SubCommand (box_value b)).name.now) sub
+    → Some rows ≡ option_map (λ p. p.1) (subcommand_rows sub) → subcommand_rows sub ≡ Some (name, rows)
+met None name rows named has = cc
+met (Some b) name rows named has =
+    let name_is : name ≡ (out-SubCommand (box_value b)).name.now = cc in
+    let rows_are : rows ≡ rows_of (found_of (out-SubCommand (box_value b)).matches) = cc in
+    ap₂ (λ (n : Text) (r : List Row). Some (n, r)) (sym name_is) (sym rows_are)
+
+-- a subcommand that is met with its name and its rows is the one that the words name
+pub subcommand_met : (matches : ArgMatches) (name : Text) (rows : List Row)
+    → Some name ≡ subcommand_name_of matches → Some rows ≡ option_map (λ p. p.1) (subcommand_rows (out-ArgMatches matches).subcommand)
+    → subcommand_rows_of matches ≡ Some (name, rows)
+subcommand_met matches name rows named has = met (out-ArgMatches matches).subcommand name rows named has
+
+-- the words name a run, with this value of its option
+pub run_asked : (name : Text) (rows : List Row) (value : Option Text)
+    → bytes_eq name (codes "run") ≡ true → value ≡ first_of (codes "export") rows → Some (ToRun value) ≡ command_asks name rows
+run_asked name rows value is same =
+    ap (λ (v : Option Text). Some (ToRun v)) same
+    ∙ ap (λ (b : Bool). if b then Some (ToRun (first_of (codes "export") rows))
+    else (if bytes_eq name (codes "show") then Some ToShow
+    else (if bytes_eq name (codes "check") then Some ToCheck
+    else (if bytes_eq name (codes "bench") then bench_asks rows else None)))) (sym is)

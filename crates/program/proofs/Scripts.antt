@@ -1,0 +1,69 @@
+-- How the input of a run is read.
+use Rattle.std.proofs.Common.{◌≡◌, ℕ, true, ◌^◌, ◌<◌, Option, List, length, refl, Err, inl, inr}
+use Rattle.std.specs.Prelude.{IfOk, Ok, Result}
+use Rattle.std.specs.Io.KnownBytes.{Appends, Consumes, IsAtEnd}
+use Rattle.byte_ports.specs.Calls.{AppendsFront}
+use Rattle.script_text.specs.Answers.{LineFails, LineGives}
+use Rattle.script_text.specs.declared.fault.ScriptFault.{ScriptFault}
+use Rattle.script_text.specs.declared.fault.ScriptFault.TheVariants as fault
+use Rattle.workload_laws.proofs.OneGrammar.{read_is_text}
+use Rattle.workload_spec.specs.declared.script.Script.{Script}
+use Rattle.workload_spec.specs.Extents.{whole}
+use Rattle.workload_spec.specs.Grammar.{read_with}
+use Rattle.workload_spec.specs.ScriptText.{script_text}
+use Rattle.workload_spec.specs.Valid.{is_valid}
+use Rattle.program.specs.Outcome.{IsRefused, IsWorkload, Outside, Reads, RunEnds, ScriptEnds, outside}
+use Rattle.program.specs.Played.{RefusalEnds, TellsFault}
+use Rattle.program.specs.declared.status.Status.{Status}
+use Rattle.program.specs.declared.status.Status.TheVariants as status
+
+-- ---- what is read
+
+-- bytes are the text of the workload that they are read as
+pub text_is : (bytes : List ℕ) (script : Script) → IsWorkload bytes script → script_text script ≡ bytes
+text_is bytes script read = (read_is_text whole bytes script refl read).0
+
+-- what bytes are read as is a workload
+pub read_valid : (bytes : List ℕ) (script : Script) → IsWorkload bytes script → is_valid script ≡ true
+read_valid bytes script read = (read_is_text whole bytes script refl read).1.valid
+
+-- so is what was read of them
+pub valid_read : (bytes : List ℕ) (read : Result Script ScriptFault) → LineGives (λ script. script) read (read_with whole bytes) → IfOk read (λ script. is_valid script ≡ true)
+valid_read bytes (Ok script) gives = read_valid bytes script gives
+valid_read bytes (Err bad) gives = tt
+
+-- a fault that is told is a bad line, the first of the bytes, which are refused
+told_fault : (Prints : Option (List ℕ) → Option (List ℕ) → List ℕ → Type 0) (bad : ScriptFault) (bytes : List ℕ) (left_old left_new printed_old printed_new exported : Option (List ℕ)) (started : Option (List (List ℕ)))
+    → Consumes left_old left_new bytes → IsAtEnd left_new → length bytes < 2 ^ 32 → LineFails bad (read_with whole bytes) → TellsFault Prints bad printed_old printed_new
+    → IsRefused Prints (outside left_old printed_old exported started) (outside left_new printed_new exported started)
+told_fault Prints (fault.Bad line cause) bytes left_old left_new printed_old printed_new exported started consumes ended short first printed = record {
+  bytes = bytes;
+  input = record { read = consumes; ended = ended; short = short };
+  fault = record { line = line; cause = cause };
+  first = first;
+  printed = printed;
+  outlet = record { exported = refl; started = refl };
+}
+told_fault Prints (fault.Memory refused) bytes left_old left_new printed_old printed_new exported started consumes ended short first printed = absurd printed
+
+-- how a run ends whose input was refused
+pub refusal_ends : (path : Option (List ℕ)) (ended : Status) (bad : ScriptFault) (bytes : List ℕ) (left_old left_new printed_old printed_new exported : Option (List ℕ)) (started : Option (List (List ℕ)))
+    → Consumes left_old left_new bytes → IsAtEnd left_new → length bytes < 2 ^ 32
+    → LineFails bad (read_with whole bytes) → RefusalEnds bad ended printed_old printed_new
+    → RunEnds path ended (outside left_old printed_old exported started) (outside left_new printed_new exported started)
+refusal_ends path status.Refused bad bytes left_old left_new printed_old printed_new exported started consumes ended short first told =
+    told_fault Appends bad bytes left_old left_new printed_old printed_new exported started consumes ended short first told
+refusal_ends path status.OutFault bad bytes left_old left_new printed_old printed_new exported started consumes ended short first told =
+    inl (told_fault AppendsFront bad bytes left_old left_new printed_old printed_new exported started consumes ended short first told)
+refusal_ends path status.Memory bad bytes left_old left_new printed_old printed_new exported started consumes ended short first told =
+    inl (record { printed = told; outlet = record { exported = refl; started = refl } })
+refusal_ends path _ bad bytes left_old left_new printed_old printed_new exported started consumes ended short first told = absurd told
+
+-- how a run ends whose input is a workload
+pub run_ends : (path : Option (List ℕ)) (ended : Status) (script : Script) (before now : Outside)
+    → Reads script before now → ScriptEnds path script ended before now → RunEnds path ended before now
+run_ends path status.Done script before now input end = (script, input, end)
+run_ends path status.OutFault script before now input end = inr (script, input, end)
+run_ends path status.ExportFault script before now input end = (script, input, end)
+run_ends path status.Memory script before now input end = inr (script, input, end)
+run_ends path _ script before now input end = absurd end

@@ -1,0 +1,32 @@
+use Rattle.std.proofs.Common.{◌≡◌, List, Some, ap, ◌∙◌, sym, map, string_bytes}
+use Rattle.clap.specs.Words.{Row, Text, app_of, found_of, is_simple, rows_of, subcommand_of}
+use Rattle.program.specs.declared.words.WordsFault.TheVariants as words_fault
+use Rattle.program.proofs.Asking.{mainline_is_simple, refused_ask_nothing, subcommand_met, taken_ask}
+use Rattle.program.proofs.words.work_of.Goals as goal
+
+pub returns-in-Some-named-clause-ok : goal.returns-in-Some-named-clause-ok
+returns-in-Some-named-clause-ok c =
+    let rows : List Row = rows_of (found_of c.in-Some.inner.now) in
+    let words : List Text = map string_bytes c.args.words.now in
+    let named : Some (c.in-Some.name.now, rows) ≡ subcommand_of (app_of c.in-Ok.command) words =
+    sym (subcommand_met c.in-Ok-try_get_matches_from.matches c.in-Some.name.now rows c.in-Some.ensures.name c.in-Some.ensures.rows)
+    ∙ (c.in-Ok-try_get_matches_from.ensures.matches (ap is_simple c.in-Ok.ensures ∙ mainline_is_simple)).1 in
+    taken_ask (app_of c.in-Ok.command) words c.try_get_matches_from.result c.in-Ok-try_get_matches_from.matches (Some (c.in-Some.name.now, rows))
+    c.in-Ok.ensures c.try_get_matches_from.ensures.kinds c.in-Ok-try_get_matches_from.is named
+    ∙ sym c.in-Some-named.ensures.asked
+
+pub returns-in-Some-clause-usage : goal.returns-in-Some-clause-usage
+returns-in-Some-clause-usage c = λ _.
+    let rows : List Row = rows_of (found_of c.in-Some.inner.now) in
+    let words : List Text = map string_bytes c.args.words.now in
+    let named : Some (c.in-Some.name.now, rows) ≡ subcommand_of (app_of c.in-Ok.command) words =
+    sym (subcommand_met c.in-Ok-try_get_matches_from.matches c.in-Some.name.now rows c.in-Some.ensures.name c.in-Some.ensures.rows)
+    ∙ (c.in-Ok-try_get_matches_from.ensures.matches (ap is_simple c.in-Ok.ensures ∙ mainline_is_simple)).1 in
+    taken_ask (app_of c.in-Ok.command) words c.try_get_matches_from.result c.in-Ok-try_get_matches_from.matches (Some (c.in-Some.name.now, rows))
+    c.in-Ok.ensures c.try_get_matches_from.ensures.kinds c.in-Ok-try_get_matches_from.is named
+    ∙ sym c.in-None-named.ensures.asked
+
+pub returns-clause-usage : goal.returns-clause-usage
+returns-clause-usage c = λ is.
+    refused_ask_nothing (app_of c.in-Ok.command) (map string_bytes c.args.words.now) c.try_get_matches_from.result c.in-Err.fault
+    c.in-Ok.ensures c.try_get_matches_from.ensures.kinds c.in-Err.is (c.words_fault.ensures (let same : c.words_fault.result ≡ words_fault.Usage = cc in same))

@@ -1,0 +1,319 @@
+-- How a run of the program ends: what each status says of what was read, printed and sent.
+use Rattle.std.specs.Prelude.{◌≡◌, ◌≢◌, ◌<◌, ◌^◌, ◌⊎◌, ℕ, true, length, List, [], ◌∷◌, ◌++◌, Option}
+use Rattle.std.specs.Prelude.{None, Some, option_map, codes, decimal, Ok, Err, IsSome}
+use Rattle.std.specs.Prelude.{if◌then◌else◌}
+use Rattle.std.specs.Io.KnownBytes.{Appends, Consumes, IsAtEnd}
+use Rattle.byte_ports.specs.Calls.{AppendsFront, ConsumesAtLeast, Rose}
+use Rattle.stream_spec.specs.Streams.{reading_of}
+use Rattle.stream_spec.specs.declared.fault.StreamFault.{StreamFault}
+use Rattle.stream_text.specs.Shown.{shown_text}
+use Rattle.export_spec.specs.Sent.{SaysAllSent, has_export}
+use Rattle.workload_spec.specs.declared.script.Line.{Line}
+use Rattle.workload_spec.specs.declared.script.Script.{Script}
+use Rattle.workload_spec.specs.Extents.{whole}
+use Rattle.workload_spec.specs.Grammar.{Fault, checked_of, read_with, refused_text}
+use Rattle.workload_spec.specs.Words.{line_feed}
+use Rattle.outcome_spec.specs.Explained.{Explained, failing_line}
+use Rattle.run_spec.specs.Occurrences.{Logged}
+use Rattle.run_spec.specs.Ran.{Ran}
+use Rattle.run_laws.specs.Rounds.Fronts.{with_rounds}
+use Rattle.store_rounds.specs.Workloads.{GoesCutOff, GoesStopped, GoesToExport, GoesWhole}
+use Rattle.bench_spec.specs.Counted.{counts_text}
+use Rattle.bench_spec.specs.declared.counts.Counts.{Counts}
+use Rattle.program.specs.Bench.{RanGenerated}
+use Rattle.program.specs.Words.{Asked, ToRun, ToShow, ToCheck, ToBench, usage_line}
+use Rattle.program.specs.declared.status.Status.{Status}
+use Rattle.program.specs.declared.status.Status.TheVariants as status
+
+-- ---- what an export sends
+
+-- An outlet grew by what the replies of this output say; by nothing where the workload has no
+-- export.
+pub record Sends (script : Script) (output : List ℕ) (before now : Option (List ℕ)) : Type 0 where
+  pub sent : List ℕ
+  pub grown : Appends before now sent
+  pub says : SaysAllSent script output sent
+
+-- ---- the outside
+
+-- What is told of the outside at one moment: the bytes left to read, those written to the output
+-- and to the outlet, and the names that the outlet was started with.
+pub record Outside : Type 0 where
+  pub left : Option (List ℕ)
+  pub printed : Option (List ℕ)
+  pub exported : Option (List ℕ)
+  pub started : Option (List (List ℕ))
+
+abbrev pub outside : Option (List ℕ) → Option (List ℕ) → Option (List ℕ) → Option (List (List ℕ))
+    → Outside
+outside left printed exported started = record {
+  left = left;
+  printed = printed;
+  exported = exported;
+  started = started;
+}
+
+-- nothing was written to the outlet, and it was not started
+pub record LeavesOutlet (before now : Outside) : Type 0 where
+  pub exported : now.exported ≡ before.exported
+  pub started : now.started ≡ before.started
+
+-- nothing was printed either
+pub record IsSilent (before now : Outside) : Type 0 where
+  pub printed : now.printed ≡ before.printed
+  pub outlet : LeavesOutlet before now
+
+-- the names with which an outlet was started, after a run with this path: once, where the workload
+-- has an export
+abbrev pub started_by : List ℕ → Script → Option (List (List ℕ)) → Option (List (List ℕ))
+started_by path script names =
+    if has_export script then option_map (λ before. before ++ path ∷ []) names else names
+
+-- The outlet after the workload `ran`, a front of the workload: started once, with the path, where
+-- the workload has an export, and sent what the replies say. Without a path the export is dropped.
+abbrev pub Delivers : Option (List ℕ) → Script → Script → List ℕ → Outside → Outside → Type 0
+Delivers None script ran output before now = LeavesOutlet before now
+Delivers (Some path) script ran output before now =
+    (now.started ≡ started_by path script before.started)
+    × Sends ran output before.exported now.exported
+
+-- ---- the input
+
+-- The bytes are read as this workload.
+abbrev pub IsWorkload : List ℕ → Script → Type 0
+IsWorkload bytes script = read_with whole bytes ≡ Ok script
+
+-- The bytes were read, to the end of the input, and are fewer than 2^32.
+pub record IsRead (bytes : List ℕ) (before now : Outside) : Type 0 where
+  pub read : Consumes before.left now.left bytes
+  pub ended : IsAtEnd now.left
+  pub short : length bytes < 2 ^ 32
+
+-- The input was read, and is this workload.
+pub record Reads (script : Script) (before now : Outside) : Type 0 where
+  pub bytes : List ℕ
+  pub input : IsRead bytes before now
+  pub workload : IsWorkload bytes script
+
+-- ---- the ends
+
+-- A text that was due is printed whole (`Appends`), or only a front of it where the output failed
+-- (`AppendsFront`).
+
+-- The words ask for nothing that runs: nothing is read or sent, and the line that tells how the
+-- program is used is printed.
+pub record IsUsage (Prints : Option (List ℕ) → Option (List ℕ) → List ℕ → Type 0) (before now : Outside) : Type 0 where
+  pub left : now.left ≡ before.left
+  pub printed : Prints before.printed now.printed usage_line
+  pub outlet : LeavesOutlet before now
+
+-- The input is no workload, and the line of its first fault is printed.
+pub record IsRefused (Prints : Option (List ℕ) → Option (List ℕ) → List ℕ → Type 0) (before now : Outside) : Type 0 where
+  pub bytes : List ℕ
+  pub input : IsRead bytes before now
+  pub fault : Fault
+  pub first : read_with whole bytes ≡ Err fault
+  pub printed : Prints before.printed now.printed (refused_text fault)
+  pub outlet : LeavesOutlet before now
+
+-- Rounds of these lines of the workload ran with some log of events and had this text, which
+-- snapshot isolation explains; the outlet has what the text's lines say.
+pub record RanRounds
+    (path : Option (List ℕ)) (script : Script) (before now : Outside) (asked : List (List Line))
+    (text : List ℕ)
+    : Type 0 where
+  pub log : List Logged
+  pub ran : Ran (with_rounds asked script) log text
+  pub explained : Explained (with_rounds asked script) text
+  pub outlet : Delivers path script (with_rounds asked script) text before now
+
+-- All rounds ran, and their text was printed.
+abbrev pub IsRun : Option (List ℕ) → Script → Outside → Outside → Type 0
+IsRun path script before now =
+    GoesWhole (RanRounds path script before now) script before.printed now.printed
+
+-- Some first rounds ran, and only a front of their text was printed, since the output failed.
+abbrev pub IsCutOff : Option (List ℕ) → Script → Outside → Outside → Type 0
+IsCutOff path script before now =
+    GoesCutOff (RanRounds path script before now) script before.printed now.printed
+
+-- The run stopped for want of memory: where a round was to begin, or behind a round that ran whole
+-- and whose text was not shown. The text of the rounds before it was printed.
+abbrev pub IsStopped : Option (List ℕ) → Script → Outside → Outside → Type 0
+IsStopped path script before now =
+    GoesStopped (RanRounds path script before now) script before.printed now.printed
+
+-- The run stopped behind a round in which the outlet failed at an export, which counts as answered
+-- `memory`: a front of its stream was sent, its session stopped there, and the others ended their
+-- lines. The text of the round was not shown; that of the rounds before it was printed.
+abbrev pub StopsAtExport : Option (List ℕ) → Script → Outside → Outside → Type 0
+StopsAtExport path script before now =
+    GoesToExport (RanRounds path script before now) script before.printed now.printed
+
+-- The workload has an export and the outlet failed: at its start, and then nothing was run, or at
+-- the export.
+pub record FailsExport (path : Option (List ℕ)) (script : Script) (before now : Outside) : Type 0 where
+  pub named : IsSome path
+  pub asked : has_export script ≡ true
+  pub failed : IsSilent before now ⊎ StopsAtExport path script before now
+
+-- How the run of a workload ends.
+abbrev pub ScriptEnds : Option (List ℕ) → Script → Status → Outside → Outside → Type 0
+ScriptEnds path script status.Done before now = IsRun path script before now
+ScriptEnds path script status.Usage before now = ⊥
+ScriptEnds path script status.Refused before now = ⊥
+ScriptEnds path script status.ReadFault before now = ⊥
+ScriptEnds path script status.OutFault before now = IsCutOff path script before now
+ScriptEnds path script status.ExportFault before now = FailsExport path script before now
+ScriptEnds path script status.Memory before now = IsStopped path script before now
+ScriptEnds path script status.NotAStream before now = ⊥
+ScriptEnds path script status.TooLong before now = ⊥
+
+-- The input is a workload, whose run ended so.
+abbrev pub IsRunOf : Option (List ℕ) → Status → Outside → Outside → Type 0
+IsRunOf path ended before now =
+    (script : Script) × Reads script before now × ScriptEnds path script ended before now
+
+-- How the program ends where the words ask for a run, with this path for its export.
+abbrev pub RunEnds : Option (List ℕ) → Status → Outside → Outside → Type 0
+RunEnds path status.Done before now = IsRunOf path status.Done before now
+RunEnds path status.Usage before now = ⊥
+RunEnds path status.Refused before now = IsRefused Appends before now
+RunEnds path status.ReadFault before now = IsSilent before now
+RunEnds path status.OutFault before now = IsRefused AppendsFront before now
+    ⊎ IsRunOf path status.OutFault before now
+RunEnds path status.ExportFault before now = IsRunOf path status.ExportFault before now
+RunEnds path status.Memory before now = IsSilent before now ⊎ IsRunOf path status.Memory before now
+RunEnds path status.NotAStream before now = ⊥
+RunEnds path status.TooLong before now = ConsumesAtLeast before.left now.left (2 ^ 32)
+    × IsSilent before now
+
+-- The input was read to its end, and the text of what it reads as is printed: the columns, the rows
+-- and their count, or what stands in front of the first fault, and that fault.
+pub record IsShown
+    (Prints : Option (List ℕ) → Option (List ℕ) → List ℕ → Type 0)
+    (Faults : Option StreamFault → Type 0)
+    (before now : Outside) : Type 0 where
+  pub bytes : List ℕ
+  pub input : IsRead bytes before now
+  pub judged : Faults (reading_of bytes).fault
+  pub printed : Prints before.printed now.printed (shown_text (reading_of bytes))
+  pub outlet : LeavesOutlet before now
+
+-- the bytes are a stream, or are none, or may be either
+abbrev pub IsStream : Option StreamFault → Type 0
+IsStream fault = fault ≡ None
+
+abbrev pub IsNoStream : Option StreamFault → Type 0
+IsNoStream fault = IsSome fault
+
+abbrev pub IsEither : Option StreamFault → Type 0
+IsEither fault = Unit {0}
+
+-- How the program ends where the words ask for a stream to be shown.
+abbrev pub ShowEnds : Status → Outside → Outside → Type 0
+ShowEnds status.Done before now = IsShown Appends IsStream before now
+ShowEnds status.Usage before now = ⊥
+ShowEnds status.Refused before now = ⊥
+ShowEnds status.ReadFault before now = IsSilent before now
+ShowEnds status.OutFault before now = IsShown AppendsFront IsEither before now
+ShowEnds status.ExportFault before now = ⊥
+ShowEnds status.Memory before now = IsSilent before now
+ShowEnds status.NotAStream before now = IsShown Appends IsNoStream before now
+ShowEnds status.TooLong before now =
+    ConsumesAtLeast before.left now.left (2 ^ 32) × IsSilent before now
+
+-- ---- an output that is checked
+
+-- the line that tells whether an output is explained, or the first line at which it is not
+abbrev pub verdict_text : Option ℕ → List ℕ
+verdict_text None = codes "explained" ++ line_feed ∷ []
+verdict_text (Some line) = codes "not explained " ++ decimal line ++ line_feed ∷ []
+
+-- The input was read to its end and is a workload of the whole format with an output behind it, and
+-- it is printed whether the output is explained.
+pub record IsJudged (Prints : Option (List ℕ) → Option (List ℕ) → List ℕ → Type 0) (before now : Outside) : Type 0 where
+  pub bytes : List ℕ
+  pub input : IsRead bytes before now
+  pub script : Script
+  pub output : List ℕ
+  pub checked : checked_of bytes ≡ Ok (script, output)
+  pub printed : Prints before.printed now.printed (verdict_text (failing_line script output))
+  pub outlet : LeavesOutlet before now
+
+-- The input is no workload with an output behind it, and the line of its first fault is printed.
+pub record IsNoneToCheck (Prints : Option (List ℕ) → Option (List ℕ) → List ℕ → Type 0) (before now : Outside) : Type 0 where
+  pub bytes : List ℕ
+  pub input : IsRead bytes before now
+  pub fault : Fault
+  pub first : checked_of bytes ≡ Err fault
+  pub printed : Prints before.printed now.printed (refused_text fault)
+  pub outlet : LeavesOutlet before now
+
+-- How the program ends where the words ask for an output to be checked.
+abbrev pub CheckEnds : Status → Outside → Outside → Type 0
+CheckEnds status.Done before now = IsJudged Appends before now
+CheckEnds status.Usage before now = ⊥
+CheckEnds status.Refused before now = IsNoneToCheck Appends before now
+CheckEnds status.ReadFault before now = IsSilent before now
+CheckEnds status.OutFault before now = IsJudged AppendsFront before now
+    ⊎ IsNoneToCheck AppendsFront before now
+CheckEnds status.ExportFault before now = ⊥
+CheckEnds status.Memory before now = IsSilent before now
+CheckEnds status.NotAStream before now = ⊥
+CheckEnds status.TooLong before now =
+    ConsumesAtLeast before.left now.left (2 ^ 32) × IsSilent before now
+
+-- ---- a generated workload
+
+-- The workload that the seed and the size generate ran, and what was counted of its replies is
+-- printed. Nothing is read, and its export is dropped.
+pub record IsBenched
+    (Prints : Option (List ℕ) → Option (List ℕ) → List ℕ → Type 0) (seed size : ℕ)
+    (before now : Outside)
+    : Type 0 where
+  pub left : now.left ≡ before.left
+  pub counts : Counts
+  pub ran : RanGenerated seed size counts
+  pub printed : Prints before.printed now.printed (counts_text counts)
+  pub outlet : LeavesOutlet before now
+
+-- How the program ends where the words ask for a generated workload. Where one of its replies was
+-- refused memory nothing is printed, and the status is Memory.
+abbrev pub BenchEnds : ℕ → ℕ → Status → Outside → Outside → Type 0
+BenchEnds seed size status.Done before now = IsBenched Appends seed size before now
+BenchEnds seed size status.Usage before now = ⊥
+BenchEnds seed size status.Refused before now = ⊥
+BenchEnds seed size status.ReadFault before now = ⊥
+BenchEnds seed size status.OutFault before now = IsBenched AppendsFront seed size before now
+BenchEnds seed size status.ExportFault before now = ⊥
+BenchEnds seed size status.Memory before now = now ≡ before
+BenchEnds seed size status.NotAStream before now = ⊥
+BenchEnds seed size status.TooLong before now = ⊥
+
+-- How the program ends where the words ask for nothing that runs. Before they are judged there may
+-- be no memory.
+abbrev pub UsageEnds : Status → Outside → Outside → Type 0
+UsageEnds status.Done before now = ⊥
+UsageEnds status.Usage before now = IsUsage Appends before now
+UsageEnds status.Refused before now = ⊥
+UsageEnds status.ReadFault before now = ⊥
+UsageEnds status.OutFault before now = IsUsage AppendsFront before now
+UsageEnds status.ExportFault before now = ⊥
+UsageEnds status.Memory before now = now ≡ before
+UsageEnds status.NotAStream before now = ⊥
+UsageEnds status.TooLong before now = ⊥
+
+-- How the program ends, by what the words ask for.
+abbrev pub Ends : Option Asked → Status → Outside → Outside → Type 0
+Ends None ended before now = UsageEnds ended before now
+Ends (Some (ToRun path)) ended before now = RunEnds path ended before now
+Ends (Some ToShow) ended before now = ShowEnds ended before now
+Ends (Some ToCheck) ended before now = CheckEnds ended before now
+Ends (Some (ToBench seed size)) ended before now = BenchEnds seed size ended before now
+
+-- A run ends with this status only where a count of faults rose, and with any other the count is as
+-- before.
+pub record TellsFaults (of ended : Status) (before now : ℕ) : Type 0 where
+  pub told : ended ≡ of → Rose before now
+  pub kept : ended ≢ of → now ≡ before

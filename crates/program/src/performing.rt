@@ -1,0 +1,288 @@
+//! What the program does with its words, its input, its output and its outlet.
+ghost use Rattle.std.specs.Prelude.{◌≡◌, ◌≢◌, ◌<◌, ◌^◌, ℕ, List, Option, None, IsSome, length, map};
+ghost use Rattle.std.specs.Prelude.{true, string_bytes, option_map, IfOk, OnOk, OnErr};
+ghost use Rattle.std.specs.Prelude.{if◌then◌else◌};
+ghost use Rattle.std.specs.List.{list_any};
+ghost use Rattle.byte_ports.specs.Calls.{Rose};
+ghost use Rattle.workload_spec.specs.Valid.{is_valid, is_export};
+ghost use Rattle.workload_spec.specs.Extents.{whole};
+ghost use Rattle.workload_spec.specs.Grammar.{read_with};
+ghost use Rattle.script_text.specs.Answers.{LineGives};
+ghost use Rattle.export_spec.specs.Sent.{has_export};
+ghost use Rattle.workload_spec.specs.ScriptText.{script_text};
+ghost use Rattle.store_rounds.specs.Workloads.{WentBy};
+ghost use Rattle.program.specs.Outcome.{Ends, RunEnds, ScriptEnds, ShowEnds, UsageEnds};
+ghost use Rattle.program.specs.Outcome.{TellsFaults, outside, started_by};
+ghost use Rattle.program.specs.Played.{RefusalEnds, PlayEnds};
+ghost use Rattle.program.specs.Words.{asked_by};
+
+use crate::benching::bench;
+use crate::checking::check;
+use crate::status::Status;
+use crate::words::{WordsFault, Work, work_of};
+use byte_ports::{
+    Failed, Gate, InputFault, Outlet, PureOutlet, Sink, Source, read_to_end, write_all,
+};
+use reply_text::put_refusal;
+use script_text::{ScriptFault, is_export, parse};
+use std::alloc::{AllocError, Global};
+use std::sync::Wait;
+use std::thread::Threads;
+use store_rounds::{RunFault, run_workload};
+use stream_spec::StreamFault;
+use workload_spec::{Extent, Round, Script};
+
+/// As many bytes of input, or more, are too long.
+pub(crate) const MOST_BYTES: usize = 1 << 32;
+
+const USAGE: &[u8] = b"usage: mainline run [--export PATH] | show | check | bench SEED SIZE\n";
+
+/// Runs the program: the words ask for the run of a workload, which is read from the source to its
+/// end; the replies go to `out`, and the export to the outlet, which is started with the words'
+/// path. Without a path the export is dropped. Or they ask for a stream to be shown, which is read
+/// from the source to its end; its rows go to `out`. Or they ask for an output to be checked, which
+/// stands behind its workload in the source; whether it is explained goes to `out`. Or they ask for
+/// a generated workload, whose replies are counted; the counts go to `out`, and its export is
+/// dropped.
+///
+/// The words are judged first, then the reading of the input, its grammar, the start of the outlet
+/// and the rounds. Where the line that tells of a fault can't be printed, the status is `OutFault`.
+pub fn perform<R: Wait + Threads + Sync, S: Source, O: Sink, X: Outlet + Send, G: Gate + Sync>(
+    rt: &R,
+    alloc: Global,
+    words: Vec<String>,
+    source: &mut S,
+    out: &mut O,
+    export: &mut X,
+    gate: &G,
+) -> Status
+    ensures ends { Ends (asked_by (map string_bytes words.items)) result
+        (outside (S.left source.old) (O.written out.old) (X.written export.old)
+        (X.started export.old))
+        (outside (S.left source.new) (O.written out.new) (X.written export.new)
+        (X.started export.new)) }
+    ensures read_faults { TellsFaults Status.ReadFault result (S.faults source.old)
+        (S.faults source.new) }
+    ensures out_faults { TellsFaults Status.OutFault result (O.faults out.old) (O.faults out.new) }
+    ensures export_faults { TellsFaults Status.ExportFault result (X.faults export.old)
+        (X.faults export.new) }
+{
+    match work_of(alloc, &words) {
+        Ok(Work::Run(path)) => run(rt, alloc, path, source, out, export, gate),
+        Ok(Work::Show) => show(alloc, source, out),
+        Ok(Work::Check) => check(alloc, source, out),
+        Ok(Work::Bench { seed, size }) => bench(rt, alloc, seed, size, out, gate),
+        Err(WordsFault::Usage) => tell_usage(out),
+        Err(WordsFault::Memory) => Status::Memory,
+    }
+}
+
+/// Prints how the program is used.
+fn tell_usage<O: Sink>(out: &mut O) -> Status
+    ensures ends { (left exported : Option (List ℕ)) (started : Option (List (List ℕ)))
+        → UsageEnds result
+        (outside left (O.written out.old) exported started)
+        (outside left (O.written out.new) exported started) }
+    ensures read_faults { result ≢ Status.ReadFault }
+    ensures out_faults { TellsFaults Status.OutFault result (O.faults out.old) (O.faults out.new) }
+    ensures export_faults { result ≢ Status.ExportFault }
+{
+    match write_all(out, USAGE) {
+        Ok(()) => Status::Usage,
+        Err(Failed) => Status::OutFault,
+    }
+}
+
+/// Shows the stream that is read from the source to its end.
+fn show<S: Source, O: Sink>(alloc: Global, source: &mut S, out: &mut O) -> Status
+    ensures ends { (exported : Option (List ℕ)) (started : Option (List (List ℕ))) → ShowEnds result
+        (outside (S.left source.old) (O.written out.old) exported started)
+        (outside (S.left source.new) (O.written out.new) exported started) }
+    ensures read_faults { TellsFaults Status.ReadFault result (S.faults source.old)
+        (S.faults source.new) }
+    ensures out_faults { TellsFaults Status.OutFault result (O.faults out.old) (O.faults out.new) }
+    ensures export_faults { result ≢ Status.ExportFault }
+{
+    let bytes = match read_to_end(alloc, source, MOST_BYTES) {
+        Ok(bytes) => bytes,
+        Err(InputFault::Failed) => return Status::ReadFault,
+        Err(InputFault::TooLong) => return Status::TooLong,
+        Err(InputFault::Memory) => return Status::Memory,
+    };
+    let Ok(shown) = stream_text::show(alloc, &bytes) else {
+        return Status::Memory;
+    };
+    match write_all(out, shown.text.as_slice()) {
+        Ok(()) => shown_status(&shown.fault),
+        Err(Failed) => Status::OutFault,
+    }
+}
+
+/// The status of bytes that were shown, by their first fault.
+fn shown_status(fault: &Option<StreamFault>) -> Status
+    ensures stream { fault.now ≡ None → result ≡ Status.Done }
+    ensures fault { IsSome fault.now → result ≡ Status.NotAStream }
+{
+    match fault {
+        None => Status::Done,
+        Some(_) => Status::NotAStream,
+    }
+}
+
+/// Runs the workload that is read from the source to its end.
+fn run<R: Wait + Threads + Sync, S: Source, O: Sink, X: Outlet, G: Gate + Sync>(
+    rt: &R,
+    alloc: Global,
+    path: Option<&str>,
+    source: &mut S,
+    out: &mut O,
+    export: &mut X,
+    gate: &G,
+) -> Status
+    ensures ends { RunEnds (option_map (λ p. p.now) path.entry) result
+        (outside (S.left source.old) (O.written out.old) (X.written export.old)
+        (X.started export.old))
+        (outside (S.left source.new) (O.written out.new) (X.written export.new)
+        (X.started export.new)) }
+    ensures read_faults { TellsFaults Status.ReadFault result (S.faults source.old)
+        (S.faults source.new) }
+    ensures out_faults { TellsFaults Status.OutFault result (O.faults out.old) (O.faults out.new) }
+    ensures export_faults { TellsFaults Status.ExportFault result (X.faults export.old)
+        (X.faults export.new) }
+{
+    let bytes = match read_to_end(alloc, source, MOST_BYTES) {
+        Ok(bytes) => bytes,
+        Err(InputFault::Failed) => return Status::ReadFault,
+        Err(InputFault::TooLong) => return Status::TooLong,
+        Err(InputFault::Memory) => return Status::Memory,
+    };
+    let parsed = parse_script(alloc, &bytes);
+    // The run needs the memory of the text more than the text.
+    drop(bytes);
+    match parsed {
+        Ok(script) => run_script(rt, alloc, script, path, out, export, gate),
+        Err(fault) => refuse(alloc, fault, out),
+    }
+}
+
+/// The workload that the bytes are.
+fn parse_script(alloc: Global, bytes: &[u8]) -> Result<Script, ScriptFault>
+    ensures read { LineGives (λ script. script) result (read_with whole bytes.now) }
+    ensures valid { IfOk result (λ script. is_valid script ≡ true) }
+{
+    parse(alloc, &Extent::whole(), bytes)
+}
+
+/// Prints at which line and for which cause the input is refused.
+pub(crate) fn refuse<O: Sink>(alloc: Global, fault: ScriptFault, out: &mut O) -> Status
+    ensures ends { RefusalEnds fault result (O.written out.old) (O.written out.new) }
+    ensures out_faults { TellsFaults Status.OutFault result (O.faults out.old) (O.faults out.new) }
+{
+    let ScriptFault::Bad { line, cause } = fault else {
+        return Status::Memory;
+    };
+    let mut text = Vec::new(alloc);
+    if let Err(AllocError) = put_refusal(&mut text, line, cause) {
+        return Status::Memory;
+    }
+    match write_all(out, text.as_slice()) {
+        Ok(()) => Status::Refused,
+        Err(Failed) => Status::OutFault,
+    }
+}
+
+/// Runs a workload: its replies go to `out`, its export to the outlet,
+/// which is started with the path where the workload has an export. Without a path the export is
+/// dropped, and the outlet left alone.
+fn run_script<R: Wait + Threads + Sync, O: Sink, X: Outlet, G: Gate + Sync>(
+    rt: &R,
+    alloc: Global,
+    script: Script,
+    path: Option<&str>,
+    out: &mut O,
+    export: &mut X,
+    gate: &G,
+) -> Status
+    requires valid { is_valid script ≡ true }
+    requires short { length (script_text script) < 2 ^ 32 }
+    ensures ends { (left_old left_new : Option (List ℕ))
+        → ScriptEnds (option_map (λ p. p.now) path.entry) script result
+        (outside left_old (O.written out.old) (X.written export.old) (X.started export.old))
+        (outside left_new (O.written out.new) (X.written export.new) (X.started export.new)) }
+    ensures out_faults { TellsFaults Status.OutFault result (O.faults out.old) (O.faults out.new) }
+    ensures export_faults { TellsFaults Status.ExportFault result (X.faults export.old)
+        (X.faults export.new) }
+{
+    let Some(path) = path else {
+        return play(rt, alloc, script, out, &mut PureOutlet, gate);
+    };
+    if let Err(Failed) = start_export(&script, path, export) {
+        return Status::ExportFault;
+    }
+    play(rt, alloc, script, out, export, gate)
+}
+
+/// Runs the rounds of a workload, and prints their text. The export goes to the sink.
+fn play<R: Wait + Threads + Sync, O: Sink, X: Outlet, G: Gate + Sync>(
+    rt: &R,
+    alloc: Global,
+    script: Script,
+    out: &mut O,
+    export: &mut X,
+    gate: &G,
+) -> Status
+    requires valid { is_valid script ≡ true }
+    requires short { length (script_text script) < 2 ^ 32 }
+    ensures ends { PlayEnds (WentBy script (X.written export.old) (X.written export.new))
+        script result (O.written out.old) (O.written out.new) }
+    ensures started { X.started export.new ≡ X.started export.old }
+    ensures out_faults { TellsFaults Status.OutFault result (O.faults out.old) (O.faults out.new) }
+    ensures export_faults { TellsFaults Status.ExportFault result (X.faults export.old)
+        (X.faults export.new) }
+{
+    match run_workload(rt, alloc, gate, script, out, export) {
+        Ok(()) => Status::Done,
+        Err(RunFault::Out) => Status::OutFault,
+        Err(RunFault::Export) => Status::ExportFault,
+        Err(RunFault::Memory) => Status::Memory,
+    }
+}
+
+/// Starts the outlet with the path where the workload has an export.
+fn start_export<X: Outlet>(script: &Script, path: &str, export: &mut X) -> Result<(), Failed>
+    ensures written { X.written export.new ≡ X.written export.old }
+    ensures started { OnOk result
+        (X.started export.new ≡ started_by path.now script.now (X.started export.old)) }
+    ensures left { OnErr result (X.started export.new ≡ X.started export.old) }
+    ensures cause { OnErr result (Rose (X.faults export.old) (X.faults export.new)) }
+    ensures kept { OnOk result (X.faults export.new ≡ X.faults export.old) }
+    ensures asked { OnErr result (has_export script.now ≡ true) }
+{
+    if has_export(script) {
+        export.start(path)
+    } else {
+        Ok(())
+    }
+}
+
+/// Whether a line of the workload exports a table.
+fn has_export(script: &Script) -> bool
+    ensures { result ≡ has_export script.now }
+{
+    any_exports(script.rounds.as_slice())
+}
+
+/// Whether a line of the rounds exports a table.
+fn any_exports(rounds: &[Round]) -> bool
+    ensures { result ≡ list_any (λ lines. list_any (λ line. is_export line.command) lines)
+        rounds.now }
+{
+    rounds.iter().any(exports)
+}
+
+/// Whether a line of the round exports a table.
+fn exports(round: &Round) -> bool
+    ensures { result ≡ list_any (λ line. is_export line.command) round.now }
+{
+    round.as_slice().iter().any(|line| is_export(&line.command))
+}

@@ -1,4 +1,0 @@
-//! Laws of the replies that are read from an output.
-#![tactic(auto)]
-
-pub mod laws;

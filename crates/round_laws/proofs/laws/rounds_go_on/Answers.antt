@@ -1,8 +1,0 @@
-use Rattle.round_laws.proofs.Rounds.{nothing_ran, rounds_go_on}
-use Rattle.round_laws.proofs.laws.rounds_go_on.Goals as goal
-
-pub returns-clause-first : goal.returns-clause-first
-returns-clause-first c = nothing_ran
-
-pub returns-clause-next : goal.returns-clause-next
-returns-clause-next c = rounds_go_on

@@ -1,8 +1,0 @@
-use Rattle.round_laws.proofs.Lines.{rounds_grow, shares_grow}
-use Rattle.round_laws.proofs.laws.texts_grow.Goals as goal
-
-pub returns-clause-shares : goal.returns-clause-shares
-returns-clause-shares c = shares_grow
-
-pub returns-clause-rounds : goal.returns-clause-rounds
-returns-clause-rounds c = rounds_grow

@@ -1,0 +1,358 @@
+-- A line comes about at its call's last event.
+use Rattle.std.proofs.Common.{◌≡◌, ◌⊎◌, ℕ, zero, suc, ◌-◌, ◌<◌, ◌≤◌, nat_lt, Bool, true, false, cond, List, [], ◌∷◌, ◌++◌, length, map, Option, None, Some, option_map, is_some, is_none, refl, sym, ap, ◌∙◌, subst, arith, append_assoc}
+use mathlib.Core.Logic.{inl, inr}
+use Rattle.std.specs.Prelude.{IfSome, IsSome, fold, slice_get}
+use Rattle.std.specs.List.{flat_map, list_all, list_any, range_with_len}
+use Rattle.std.proofs.lemmas.Bool.Decides.{nat_tests}
+use Rattle.std.proofs.lemmas.List.Sums.{fold-append}
+use Rattle.std.proofs.lemmas.Option.{slice_get_past}
+use Rattle.std.proofs.lemmas.Bool.{and_from}
+use Rattle.block_spec.specs.Slots.{Row}
+use Rattle.cell_model.specs.declared.table.TableDecl.{TableDecl}
+use Rattle.run_laws.specs.Counts.Numbers.{IsNarrow}
+use Rattle.core_laws.specs.Events.Laws.{IsStep, command_in}
+use Rattle.core_laws.specs.Events.Named.{FollowsMachine}
+use Rattle.event_spec.specs.declared.event.Event.TheVariants as event
+use Rattle.event_spec.specs.declared.own.OwnTransaction.{OwnTransaction}
+use Rattle.event_spec.specs.Lawful.{Among, OwnsAll}
+use Rattle.event_spec.specs.Parts.{Parts, Shape, below, blocks_of, desk_at}
+use Rattle.event_spec.specs.Sound.{Sound}
+use Rattle.isolation_spec.specs.Contents.{contents_of}
+use Rattle.isolation_spec.specs.Machine.{IsolationMachine, Transaction, seen_rows, step, step_of, transaction_of}
+use Rattle.isolation_spec.specs.Store.{Answered, Memory}
+use Rattle.isolation_spec.specs.declared.command.Act.TheVariants as act
+use Rattle.isolation_spec.specs.declared.command.Answer.TheVariants as answer
+use Rattle.isolation_spec.specs.declared.command.Command.{Command as Request}
+use Rattle.outcome_spec.specs.Entries.{Entry}
+use Rattle.outcome_spec.specs.Forms.{is_upkeep, is_worker}
+use Rattle.timeline_spec.specs.Timeline.{Answers, ExportsBy, Takes, is_of_upkeep, request_of}
+use Rattle.workload_spec.specs.declared.command.Command.{Command}
+use Rattle.workload_spec.specs.declared.command.Command.TheVariants as command
+use Rattle.workload_spec.specs.declared.reply.Said.{Said}
+use Rattle.workload_spec.specs.declared.reply.Said.TheVariants as said
+use Rattle.workload_spec.specs.declared.reply.Who.{Who}
+use Rattle.workload_spec.specs.declared.reply.Who.TheVariants.{Session, Worker}
+use Rattle.workload_spec.specs.declared.script.Script.{Script}
+use Rattle.workload_spec.specs.Valid.{is_command, is_valid}
+use Rattle.run_spec.specs.Asked.{at_blocks}
+use Rattle.run_spec.specs.Calls.{Call, IsCall, IsCallBy, IsPart, IsWhole, is_refused}
+use Rattle.run_spec.specs.Occurrences.{Occurrence, events_in, replies_in, under}
+use Rattle.run_spec.specs.Opened.{own_after, own_behind}
+use Rattle.run_spec.specs.Ran.{shape_of}
+use Rattle.run_spec.specs.Told.{in_key_order, refusal_of, rows_told}
+use Rattle.run_laws.proofs.Calls.Along.{and_first, and_second}
+use Rattle.run_laws.proofs.Calls.Asking.{others_ask_nothing}
+use Rattle.run_laws.proofs.Calls.Coming.{lines_come_about}
+use Rattle.run_laws.proofs.Calls.Upkeep.{upkeep_is_told_so}
+use Rattle.run_laws.specs.Calls.Asking.{asks_nothing}
+use Rattle.run_laws.specs.Calls.Coming.{EndsAt, is_single}
+use Rattle.run_laws.specs.Calls.Open.{OpenAs}
+use Rattle.run_laws.specs.Calls.Upkeep.{AreReplied}
+use Rattle.run_laws.proofs.Scans.Scans.{reads_are_the_scan}
+use Rattle.run_laws.proofs.Told.Tells.{calls_go_on_quietly}
+use Rattle.run_laws.specs.Told.Laws.{is_quiet}
+use Rattle.run_laws.specs.Moments.Laws.{IsAsked, command_told}
+use Rattle.run_laws.specs.Moments.Moments.{who_at}
+use Rattle.run_laws.proofs.Moments.Seats.{either, session_at, worker_at}
+use Rattle.run_laws.specs.Explained.Reads.{ReadsStandIn, Stands, is_read}
+use Rattle.run_laws.proofs.Explained.Keys.{SameKeys, quiet_own}
+use Rattle.run_laws.proofs.Explained.Rereading.{read_together}
+use Rattle.run_laws.proofs.Explained.Scripts.{is_shape, session_asked, worker_upkeep}
+
+-- What is true is not false.
+true_false : true ≡ false → ⊥
+true_false e = cc
+
+-- What is told as one of two lines and as the other is one line.
+same_line : (a b : Said) → Some a ≡ Some b → a ≡ b
+same_line a b e = cc
+
+-- ---- what a session has open when a call ends
+
+-- Quiet events one after another leave what was open in front of them.
+quiet_after : (own : Option OwnTransaction) (xs : List Occurrence) → list_all is_quiet (events_in xs) ≡ true
+    → fold (λ own (o : Occurrence). own_behind own o.event o.reply) own xs ≡ own
+quiet_after own [] q = refl
+quiet_after own (x ∷ xs) q =
+    ap (λ o. fold (λ own (o : Occurrence). own_behind own o.event o.reply) o xs) (quiet_own own x.event x.reply (and_first (is_quiet x.event) (list_all is_quiet (events_in xs)) q))
+    ∙ quiet_after own xs (and_second (is_quiet x.event) (list_all is_quiet (events_in xs)) q)
+
+-- quiet events leave what a session has open
+pub own_same : (began done : List Occurrence) → list_all is_quiet (events_in done) ≡ true → own_after (began ++ done) ≡ own_after began
+own_same began done q = fold-append (λ own (o : Occurrence). own_behind own o.event o.reply) None began done ∙ quiet_after (own_after began) done q
+
+-- a call's events but the last are quiet
+pub front_quiet : (shape : Shape) (worker : Bool) (seat : ℕ) (began : List Occurrence) (call : Call) (pre xs : List Occurrence) (last : Occurrence)
+    → IsCall shape worker seat began call → call.made ≡ pre ++ (xs ++ last ∷ []) → list_all is_quiet (events_in xs) ≡ true
+front_quiet shape worker seat began call pre [] last is all = refl
+front_quiet shape worker seat began call pre (x ∷ xs) last is all = and_from (is_quiet x.event) (list_all is_quiet (events_in xs)) (here xs all)
+    (front_quiet shape worker seat began call (pre ++ x ∷ []) xs last is (all ∙ sym (append_assoc pre (x ∷ []) (xs ++ last ∷ []))))
+  where
+    here : (xs : List Occurrence) → call.made ≡ pre ++ (x ∷ xs ++ last ∷ []) → is_quiet x.event ≡ true
+    here [] all = calls_go_on_quietly shape worker seat began call pre x last [] is all
+    here (y ∷ ys) all = calls_go_on_quietly shape worker seat began call pre x y (ys ++ last ∷ []) is all
+
+-- a call ends with its last event's step of the machine
+pub ends_at : (done : List Occurrence) (last : Occurrence) (at next : IsolationMachine) → IsStep (command_in last.event) at last.reply next → EndsAt (done ++ last ∷ []) at next
+ends_at [] last at next step = step
+ends_at (x ∷ []) last at next step = step
+ends_at (x ∷ y ∷ done) last at next step = ends_at (y ∷ done) last at next step
+
+-- where its events ask nothing, the machine stays
+pub stays_at : (made : List Occurrence) (at next : IsolationMachine) → list_all asks_nothing (events_in made) ≡ true → EndsAt made at next → next ≡ at
+stays_at [] at next asks ends = ends
+stays_at (x ∷ []) at next asks ends = go (command_in x.event) (and_first (asks_nothing x.event) true asks) ends
+  where
+    go : (o : Option Request) → is_none o ≡ true → IsStep o at x.reply next → next ≡ at
+    go None e h = h
+    go (Some c) e h = absurd (true_false (sym e))
+stays_at (x ∷ y ∷ made) at next asks ends = stays_at (y ∷ made) at next (and_second (asks_nothing x.event) (list_all asks_nothing (events_in (y ∷ made))) asks) ends
+
+-- ---- a call that ended
+
+-- A call ended at a moment, between two states of the machine; behind it its session's reads stand.
+pub record Ended (script : Script) (seat : ℕ) (parts : Parts) (front : List Occurrence) (at next : IsolationMachine) (call : Call) : Type 0 where
+  pub began : List Occurrence
+  pub is_call : IsCall (shape_of script) (is_worker (who_at script seat)) seat began call
+  pub replied : AreReplied (shape_of script) call.made
+  pub ends : EndsAt call.made at next
+  pub open' : OpenAs seat (own_after began) (transaction_of seat at)
+  pub asked : IsAsked script seat call.command
+  -- behind it
+  pub ok : Sound (shape_of script) parts
+  pub follows : FollowsMachine (shape_of script) parts next
+  pub reads : ReadsStandIn (shape_of script) parts front
+  pub whole : under seat front ≡ began ++ call.made
+  pub narrow : IsNarrow (desk_at (shape_of script) parts)
+  -- what it had open
+  pub keys : SameKeys (own_after began) (transaction_of seat at)
+
+-- where a session has a transaction open, so has the machine for it
+pub one_open : (seat : ℕ) (m : IsolationMachine) (own : OwnTransaction) → OpenAs seat (Some own) (transaction_of seat m)
+    → (t : Transaction) × (transaction_of seat m ≡ Some t)
+one_open seat m own open' = go (transaction_of seat m) open'.snapshot refl
+  where
+    go : (o : Option Transaction) → Some own.snapshot.number ≡ option_map (λ (t : Transaction). t.snapshot) o
+        → transaction_of seat m ≡ o → (t : Transaction) × (transaction_of seat m ≡ Some t)
+    go None e is = absurd (let never : ⊥ = cc e in never)
+    go (Some t) e is = (t, is)
+
+-- and where it has none, the machine has none
+pub none_open : (seat : ℕ) (m : IsolationMachine) → OpenAs seat None (transaction_of seat m) → transaction_of seat m ≡ None
+none_open seat m open' = go (transaction_of seat m) open'.snapshot
+  where
+    go : (o : Option Transaction) → None ≡ option_map (λ (t : Transaction). t.snapshot) o → o ≡ None
+    go None e = refl
+    go (Some t) e = absurd (let never : ⊥ = cc e in never)
+
+-- a place at which a table stands is below their count
+pub has_table : (tables : List TableDecl) (t : ℕ) → is_some (slice_get tables t) ≡ true → t < length tables
+has_table tables t e = go (nat_lt t (length tables)) refl
+  where
+    go : (b : Bool) → nat_lt t (length tables) ≡ b → t < length tables
+    go true f = grind (arith, nat_tests, f)
+    go false f = absurd (true_false (sym e ∙ ap is_some (slice_get_past tables t (grind (arith, nat_tests, f)))))
+
+module _ (script : Script) (valid : is_valid script ≡ true) (seat : ℕ) (parts : Parts) (front : List Occurrence) (at next : IsolationMachine) (call : Call)
+    (ended : Ended script seat parts front at next call) where
+  -- a call that asks nothing of the machine leaves it as it is
+  pub stays : is_single call.command ≡ false → next ≡ at
+  stays other = stays_at call.made at next (others_ask_nothing (shape_of script) (is_worker (who_at script seat)) seat ended.began call other ended.is_call) ended.ends
+
+  -- ---- a scan of a session
+
+  -- A call whose events read blocks one after another has only reads.
+  all_reads : (own : OwnTransaction) (table : ℕ) (blocks : List ℕ) → events_in call.made ≡ map (event.Read own table) blocks → list_all is_read (events_in call.made) ≡ true
+  all_reads own table blocks e = ap (list_all is_read) e ∙ go blocks
+    where
+      go : (bs : List ℕ) → list_all is_read (map (event.Read own table) bs) ≡ true
+      go [] = refl
+      go (b ∷ bs) = go bs
+
+  -- each read of a call of reads alone stands
+  pub stand : (own : OwnTransaction) (table : ℕ) (blocks : List ℕ) → events_in call.made ≡ map (event.Read own table) blocks → (o : Occurrence) → Among o call.made → Stands (shape_of script) parts seat o
+  stand own table blocks e o a = ended.reads seat ended.began call.made ended.whole (all_reads own table blocks e) o a
+
+  -- so, where there is a block to read, the core has the transaction open that the call reads with
+  pub owns_it : (own : OwnTransaction) (table : ℕ) → (0 < blocks_of (shape_of script) table) → events_in call.made ≡ at_blocks (shape_of script) table (event.Read own table) → OwnsAll (shape_of script) own parts
+  owns_it own table some e = go (blocks_of (shape_of script) table) refl some
+    where
+      go : (n : ℕ) → blocks_of (shape_of script) table ≡ n → 0 < n → OwnsAll (shape_of script) own parts
+      go zero is less = absurd (let never : ⊥ = omega (arith, less) in never)
+      go (suc n) is less = first call.made refl
+        where
+          events : events_in call.made ≡ event.Read own table 0 ∷ map (event.Read own table) (range_with_len 1 n)
+          events = e ∙ ap (λ n. map (event.Read own table) (below n)) is
+
+          first : (made : List Occurrence) → call.made ≡ made → OwnsAll (shape_of script) own parts
+          first [] m = absurd (Rattle.run_laws.proofs.Told.Splits.none_some (event.Read own table 0) (map (event.Read own table) (range_with_len 1 n)) (ap events_in (sym m) ∙ events))
+          first (x ∷ made) m =
+              (stand own table (below (blocks_of (shape_of script) table)) e x (subst (Among x) (sym m) (inl refl)) own table 0
+              (Rattle.run_laws.proofs.Told.Splits.heads x.event (event.Read own table 0) (events_in made) (map (event.Read own table) (range_with_len 1 n)) (ap events_in (sym m) ∙ events))).owns
+
+  -- what reads of all blocks told, and the machine's transaction
+  pub record Scanned (own : OwnTransaction) (table : ℕ) : Type 0 where
+    pub t : Transaction
+    pub is : transaction_of seat next ≡ Some t
+    pub rows : in_key_order table (flat_map rows_told (replies_in call.made)) ≡ contents_of table (seen_rows next t)
+    pub count : length (flat_map rows_told (replies_in call.made)) ≡ length (contents_of table (seen_rows next t))
+
+  -- reads of all blocks told what the machine's transaction sees
+  pub scanned : (own : OwnTransaction) (table : ℕ) → own_after ended.began ≡ Some own → is_single call.command ≡ false → is_some (slice_get script.tables table) ≡ true
+      → events_in call.made ≡ at_blocks (shape_of script) table (event.Read own table) → list_any is_refused call.made ≡ false → Scanned own table
+  scanned own table mine other has e granted =
+      let session : own.session ≡ seat = subst (λ o. IfSome o (λ (t : OwnTransaction). t.session ≡ seat)) mine ended.open'.session_is in
+      let t = one_open seat at own (subst (λ o. OpenAs seat o (transaction_of seat at)) mine ended.open') in
+      let t_next : transaction_of seat next ≡ Some t.0 = ap (transaction_of seat) (stays other) ∙ t.1 in
+      let table_is = has_table script.tables table has in
+      let blocks = (is_shape script valid).blocks table table_is in
+      let together = read_together (shape_of script) parts seat own table call.made (below (blocks_of (shape_of script) table)) e granted (stand own table (below (blocks_of (shape_of script) table)) e) in
+      let law = reads_are_the_scan (shape_of script) parts own table next t.0 (is_shape script valid) ended.ok
+      (owns_it own table (omega (arith, blocks)) e) ended.follows (ap (λ q. transaction_of q next) session ∙ t_next) in
+      record {
+        t = t.0;
+        is = t_next;
+        rows = ap (in_key_order table) together ∙ law.rows;
+        count = ap (λ (rows : List Row). length rows) together ∙ law.count;
+      }
+
+  -- What the session asks by a scan of the table.
+  abbrev asks : ℕ → Request
+  asks table = record { session = seat; act = act.Scan table }
+
+  -- A session's scan that told a line is answered so by the machine.
+  scan_by : (table : ℕ) (line : Said) → call.command ≡ command.Scan table → is_worker (who_at script seat) ≡ false → seat ≤ script.sessions → call.told ≡ Some line
+      → Answers at (record { session = seat; act = act.Scan table }) line next
+  scan_by table line is session low tells = go (own_after ended.began) refl
+      (subst (λ w. IsCall (shape_of script) w seat ended.began call) session ended.is_call)
+    where
+      other : is_single call.command ≡ false
+      other = ap is_single is
+
+      keeps : next ≡ at
+      keeps = stays (ap is_single is)
+
+      go : (o : Option OwnTransaction) → own_after ended.began ≡ o → IsCallBy (shape_of script) false seat (own_after ended.began) (refusal_of call.command (own_after ended.began)) call
+          → Answers at (record { session = seat; act = act.Scan table }) line next
+      go None mine h =
+          let r : (call.made ≡ []) × (call.told ≡ Some said.NoTransaction) =
+          subst (λ r. IsCallBy (shape_of script) false seat (own_after ended.began) r call) (ap (λ c. refusal_of c (own_after ended.began)) is ∙ ap (refusal_of (command.Scan table)) mine) h in
+          let none = none_open seat at (subst (λ o. OpenAs seat o (transaction_of seat at)) mine ended.open') in
+          record {
+            outcome = Answered answer.NoTransaction;
+            tells = same_line line said.NoTransaction (sym tells ∙ r.1);
+            allows = ap (λ o. step_of at (record { session = seat; act = act.Scan table }) o) none ∙ ap (λ m. (answer.NoTransaction, m)) (sym keeps);
+          }
+      go (Some own) mine h = made (subst (λ r. IsCallBy (shape_of script) false seat (own_after ended.began) r call) (ap (λ c. refusal_of c (own_after ended.began)) is ∙ ap (refusal_of (command.Scan table)) mine) h)
+        where
+          made : IsWhole (shape_of script) false seat (own_after ended.began) call ⊎ IsPart (shape_of script) seat (own_after ended.began) call
+              → Answers at (record { session = seat; act = act.Scan table }) line next
+          made (inl w) =
+              let e : events_in call.made ≡ at_blocks (shape_of script) table (event.Read own table) =
+              w.events ∙ ap (λ c. Rattle.run_spec.specs.Asked.events_of (shape_of script) (own_after ended.began) seat c call.made) is
+              ∙ ap (λ o. Rattle.run_spec.specs.Asked.events_of (shape_of script) o seat (command.Scan table) call.made) mine in
+              let has : is_some (slice_get script.tables table) ≡ true = ap (is_command script.tables) (sym is) ∙ session_asked script valid seat call.command low ended.asked in
+              let s = scanned own table mine (ap is_single is) has e w.granted in
+              let told : call.told ≡ Some (said.Scanned (in_key_order table (flat_map rows_told (replies_in call.made)))) =
+              w.line ∙ ap (λ c. Rattle.run_spec.specs.Told.line_of (own_after ended.began) c (replies_in call.made)) is in
+              record {
+                outcome = Answered (answer.Rows (contents_of table (seen_rows at s.t)));
+                tells = same_line line (said.Scanned (in_key_order table (flat_map rows_told (replies_in call.made)))) (sym tells ∙ told)
+                    ∙ ap said.Scanned (s.rows ∙ ap (λ m. contents_of table (seen_rows m s.t)) keeps);
+                allows = ap (λ o. step_of at (record { session = seat; act = act.Scan table }) o) (ap (transaction_of seat) (sym keeps) ∙ s.is)
+                    ∙ ap (λ m. (answer.Rows (contents_of table (seen_rows at s.t)), m)) (sym keeps);
+              }
+          made (inr p) =
+              let t = one_open seat at own (subst (λ o. OpenAs seat o (transaction_of seat at)) mine ended.open') in
+              record {
+                outcome = Memory;
+                tells = same_line line said.Memory (sym tells ∙ p.line);
+                allows = (inl tt, subst (λ (o : Option Transaction). IsSome o) (sym t.1) refl, keeps);
+              }
+
+-- ---- a line
+
+-- a line, by whose it is, what it was asked and what it told
+abbrev pub entry_as : Entry → Who → Command → Said → Entry
+entry_as entry who asked line = record {
+  number = entry.number;
+  command = asked;
+  reply = record { round = entry.reply.round; who = who; index = entry.reply.index; said = line };
+}
+
+-- Whatever a session is asked, its line comes about where each kind of command's does.
+session_takes : (tables : List TableDecl) (lines : List Entry) (at next : IsolationMachine) (entry : Entry) (seat : ℕ) (asked : Command) (line : Said)
+    → (is_single asked ≡ true → IfSome (request_of (Session seat) asked) (λ request. Answers at request line next))
+    → ((table : ℕ) → asked ≡ command.Scan table → Answers at (record { session = seat; act = act.Scan table }) line next)
+    → ((table : ℕ) → asked ≡ command.Export table → ExportsBy tables lines at (transaction_of seat at) table line × (next ≡ at))
+    → (is_upkeep asked ≡ true → (is_of_upkeep line ≡ true) × (next ≡ at))
+    → Takes tables lines at (entry_as entry (Session seat) asked line) next
+session_takes tables lines at next entry seat command.Begin line come scan export upkeep = come refl
+session_takes tables lines at next entry seat (command.Get table key) line come scan export upkeep = come refl
+session_takes tables lines at next entry seat (command.Scan table) line come scan export upkeep = scan table refl
+session_takes tables lines at next entry seat (command.Insert table row) line come scan export upkeep = come refl
+session_takes tables lines at next entry seat (command.Update table row) line come scan export upkeep = come refl
+session_takes tables lines at next entry seat (command.Delete table key) line come scan export upkeep = come refl
+session_takes tables lines at next entry seat command.Commit line come scan export upkeep = come refl
+session_takes tables lines at next entry seat command.Abort line come scan export upkeep = come refl
+session_takes tables lines at next entry seat command.Observe line come scan export upkeep = let u = upkeep refl in ((refl, u.0), u.1)
+session_takes tables lines at next entry seat command.Prune line come scan export upkeep = let u = upkeep refl in ((refl, u.0), u.1)
+session_takes tables lines at next entry seat (command.Compact table) line come scan export upkeep = let u = upkeep refl in ((refl, u.0), u.1)
+session_takes tables lines at next entry seat (command.Seal table block) line come scan export upkeep = let u = upkeep refl in ((refl, u.0), u.1)
+session_takes tables lines at next entry seat (command.Gather table block) line come scan export upkeep = let u = upkeep refl in ((refl, u.0), u.1)
+session_takes tables lines at next entry seat (command.Export table) line come scan export upkeep = export table refl
+
+-- A command of upkeep is none that is a single request of the machine.
+upkeep_other : (asked : Command) → is_upkeep asked ≡ true → is_single asked ≡ false
+upkeep_other command.Begin e = absurd (true_false (sym e))
+upkeep_other (command.Get table key) e = absurd (true_false (sym e))
+upkeep_other (command.Scan table) e = refl
+upkeep_other (command.Insert table row) e = absurd (true_false (sym e))
+upkeep_other (command.Update table row) e = absurd (true_false (sym e))
+upkeep_other (command.Delete table key) e = absurd (true_false (sym e))
+upkeep_other command.Commit e = absurd (true_false (sym e))
+upkeep_other command.Abort e = absurd (true_false (sym e))
+upkeep_other command.Observe e = refl
+upkeep_other command.Prune e = refl
+upkeep_other (command.Compact table) e = refl
+upkeep_other (command.Seal table block) e = refl
+upkeep_other (command.Gather table block) e = refl
+upkeep_other (command.Export table) e = refl
+
+-- A line of a call that ended comes about there.
+pub takes : (script : Script) (valid : is_valid script ≡ true) (seat : ℕ) (parts : Parts) (front : List Occurrence) (at next : IsolationMachine) (call : Call) (lines : List Entry) (entry : Entry)
+    → Ended script seat parts front at next call
+    → call.told ≡ Some entry.reply.said → entry.reply.who ≡ who_at script seat → entry.command ≡ command_told (who_at script seat) call.command
+    → ((table : ℕ) → call.command ≡ command.Export table → ExportsBy script.tables lines at (transaction_of seat at) table entry.reply.said)
+    → Takes script.tables lines at entry next
+takes script valid seat parts front at next call lines entry ended tells who asked export = go (either script seat)
+  where
+    line : Said
+    line = entry.reply.said
+
+    as_is : (w : Who) (c : Command) → entry.reply.who ≡ w → entry.command ≡ c → Takes script.tables lines at (entry_as entry w c entry.reply.said) next → Takes script.tables lines at entry next
+    as_is w c who asked h = subst (λ w. Takes script.tables lines at (entry_as entry w entry.command entry.reply.said) next) (sym who)
+        (subst (λ c. Takes script.tables lines at (entry_as entry w c entry.reply.said) next) (sym asked) h)
+
+    upkeep : is_upkeep call.command ≡ true → (is_of_upkeep entry.reply.said ≡ true) × (next ≡ at)
+    upkeep up = (
+      upkeep_is_told_so (shape_of script) (is_worker (who_at script seat)) seat ended.began call entry.reply.said up ended.replied ended.is_call tells,
+      stays script valid seat parts front at next call ended (upkeep_other call.command up),
+    )
+
+    go : (seat ≤ script.sessions) ⊎ (script.sessions < seat) → Takes script.tables lines at entry next
+    go (inl low) =
+        let session = session_at script seat low in
+        let is_session : is_worker (who_at script seat) ≡ false = ap is_worker session in
+        as_is (Session seat) call.command (who ∙ session) (asked ∙ ap (λ b. cond b command.Observe call.command) is_session)
+        (session_takes script.tables lines at next entry seat call.command entry.reply.said
+        (λ single. lines_come_about (shape_of script) seat ended.began call entry.reply.said at next single
+        (subst (λ w. IsCall (shape_of script) w seat ended.began call) is_session ended.is_call) tells ended.open' ended.ends)
+        (λ table is. scan_by script valid seat parts front at next call ended table entry.reply.said is is_session low tells)
+        (λ table is. (export table is, stays script valid seat parts front at next call ended (ap is_single is)))
+        upkeep)
+    go (inr high) =
+        let w = worker_at script seat high in
+        let up = upkeep (worker_upkeep script seat call.command high ended.asked) in
+        as_is (Worker (seat - script.sessions)) command.Observe (who ∙ w) (asked ∙ ap (λ b. cond b command.Observe call.command) (ap is_worker w))
+        ((refl, up.0), up.1)

@@ -1,4 +1,0 @@
-//! Laws of the core's invariant: a lawful event keeps it.
-#![tactic(auto)]
-
-pub mod laws;

@@ -1,0 +1,225 @@
+//! Turns over a table whose first block fills, cools, freezes, is thawed and is compacted.
+ghost use Rattle.std.specs.Prelude.{◌≡◌, ◌≤◌, ◌^◌, IfOk, OnOk, length, true};
+ghost use Rattle.engine_core.specs.Core.{MayOpen};
+ghost use Rattle.shared_store.specs.Store.{HasRoomFor, IsSession, MakesAtMost, shape_in};
+ghost use Rattle.workload_spec.specs.Valid.{fits_table};
+
+use cell_model::{Bytes, Cell, Column, Kind, Row, Schema, TableDecl};
+use shared_store::{Built, Session, Store, StoreFault};
+use std::alloc::Global;
+use std::process::Abort;
+use std::sync::Wait;
+use std::test::Fail;
+use std::thread::Threads;
+use store_rounds::turn;
+
+/// A write of a key.
+#[derive(Clone, Copy)]
+enum Change {
+    Insert(i64),
+    Update(i64),
+    Delete(i64),
+}
+
+use Change::{Delete, Insert, Update};
+
+/// What is written and committed before a turn, and the lines that the turn tells.
+struct Case {
+    writes: &'static [Change],
+    told: &'static str,
+}
+
+/// The most writes of a case.
+const MOST: usize = 16;
+
+const CASES: [Case; 9] = [
+    // An empty table.
+    Case {
+        writes: &[],
+        told: "[Cooling(0), Pruned(0), Moved(0)]",
+    },
+    // The first block is full, and the second is the head.
+    Case {
+        writes: &[
+            Insert(1),
+            Insert(2),
+            Insert(3),
+            Insert(4),
+            Insert(5),
+            Insert(6),
+            Insert(7),
+            Insert(8),
+            Insert(9),
+        ],
+        told: "[Cooling(0), Pruned(9), Moved(0)]",
+    },
+    // A second round in which it was not modified.
+    Case {
+        writes: &[],
+        told: "[Cooling(1), Pruned(0), Moved(0), Sealed { table: 0, block: 0, stamp: 1 }, \
+            Frozen { table: 0, block: 0, rows: 8 }]",
+    },
+    // An update thaws it.
+    Case {
+        writes: &[Update(1)],
+        told: "[Cooling(0), Pruned(1), Moved(0)]",
+    },
+    Case {
+        writes: &[],
+        told: "[Cooling(1), Pruned(0), Moved(0), Sealed { table: 0, block: 0, stamp: 2 }, \
+            Frozen { table: 0, block: 0, rows: 8 }]",
+    },
+    // Two deletes thaw it and leave gaps.
+    Case {
+        writes: &[Delete(2), Delete(4)],
+        told: "[Cooling(0), Pruned(2), Moved(0)]",
+    },
+    // Two rows move into the gaps, and each leaves two versions.
+    Case {
+        writes: &[],
+        told: "[Cooling(1), Pruned(0), Moved(2)]",
+    },
+    Case {
+        writes: &[],
+        told: "[Cooling(0), Pruned(4), Moved(0)]",
+    },
+    Case {
+        writes: &[],
+        told: "[Cooling(1), Pruned(0), Moved(0), Sealed { table: 0, block: 0, stamp: 3 }, \
+            Frozen { table: 0, block: 0, rows: 6 }]",
+    },
+];
+
+/// A table of keys alone, of two blocks of eight rows.
+fn tables(alloc: Global) -> Result<Vec<TableDecl>, Fail>
+    ensures may_open { IfOk result (λ tables. MayOpen tables.items 2) }
+    ensures one { IfOk result (λ tables. length tables.items ≡ 1) }
+{
+    let key = Column {
+        name: Bytes::from_slice(alloc, b"key".as_slice())?,
+        kind: Kind::I64,
+        nullable: false,
+    };
+    let schema = Schema::new(vec![in alloc; key]?)?;
+    let _columns = schema.columns();
+    let table = TableDecl {
+        name: Bytes::from_slice(alloc, b"a".as_slice())?,
+        schema,
+        slots: 8,
+        blocks: 2,
+    };
+    Ok(vec![in alloc; table]?)
+}
+
+/// The row of a key, which fits the table.
+fn row_of(alloc: Global, store: &Store, key: i64) -> Result<Row, Fail>
+    ensures { IfOk result (λ row. fits_table (shape_in store.now).tables 0 row ≡ true) }
+{
+    let row = Row::from(vec![in alloc; Cell::Num(i128::from(key))]?);
+    let Some(table) = store.tables().first() else {
+        return Err(Fail::from("no table"));
+    };
+    match table.schema.fits(&row) {
+        Ok(()) => Ok(row),
+        Err(_) => Err(Fail::from("the row does not fit")),
+    }
+}
+
+/// An answer to a write, which is to be accepted.
+fn accepted(answer: Result<(), StoreFault>) -> Result<(), Fail> {
+    match answer {
+        Ok(()) => Ok(()),
+        Err(_) => Err(Fail::from("a write is refused")),
+    }
+}
+
+/// Carries out a write in the open transaction.
+fn write<R: Wait>(
+    rt: &R,
+    alloc: Global,
+    store: &Store,
+    session: &mut Session,
+    change: Change,
+) -> Result<(), Fail>
+    requires session { IsSession store.now session.old }
+    requires room { HasRoomFor 2 session.old }
+    requires table { 1 ≤ length (shape_in store.now).tables }
+    ensures session { OnOk result (IsSession store.now session.new) }
+    ensures few { OnOk result (MakesAtMost 2 session.old session.new) }
+{
+    if !session.busy() {
+        return Err(Fail::from("no transaction"));
+    }
+    match change {
+        Insert(key) => {
+            let row = row_of(alloc, store, key)?;
+            accepted(store.insert(rt, session, 0, row))
+        }
+        Update(key) => {
+            let row = row_of(alloc, store, key)?;
+            accepted(store.update(rt, session, 0, row))
+        }
+        Delete(key) => accepted(store.delete(rt, session, 0, key)),
+    }
+}
+
+/// Carries out some writes in a transaction, and commits it.
+fn write_all<R: Wait>(
+    rt: &R,
+    alloc: Global,
+    store: &Store,
+    session: &mut Session,
+    writes: &[Change],
+) -> Result<(), Fail>
+    requires session { IsSession store.now session.old }
+    requires room { HasRoomFor (2 ^ 10) session.old }
+    requires table { 1 ≤ length (shape_in store.now).tables }
+    ensures session { OnOk result (IsSession store.now session.new) }
+    ensures few { OnOk result (MakesAtMost (2 ^ 10) session.old session.new) }
+{
+    if writes.len() > MOST {
+        return Err(Fail::from("too many writes"));
+    }
+    store.begin(rt, session).ok();
+    for change in writes {
+        write(rt, alloc, store, session, *change)?;
+    }
+    if !session.busy() {
+        return Err(Fail::from("no transaction"));
+    }
+    store.commit(rt, session);
+    Ok(())
+}
+
+/// Writes what each case writes, and lets the worker make a turn, whose lines are the case's.
+fn live<R: Abort + Wait + Threads + Sync>(
+    rt: &R,
+    alloc: Global,
+    store: &Store,
+    session: &mut Session,
+    worker: &mut Session,
+) -> Result<(), Fail>
+    requires session { IsSession store.now session.old }
+    requires worker { IsSession store.now worker.old }
+    requires room { HasRoomFor (2 ^ 40) session.old }
+    requires room_to_work { HasRoomFor (2 ^ 40) worker.old }
+    requires table { 1 ≤ length (shape_in store.now).tables }
+{
+    for case in &CASES {
+        write_all(rt, alloc, store, session, case.writes)?;
+        let told = format!(in alloc; "{:?}", turn(rt, alloc, store, worker)?)?;
+        assert_eq!(rt; told.as_str(), case.told);
+    }
+    Ok(())
+}
+
+#[test]
+fn a_block_lives_turn_by_turn(rt: HostRuntime) -> Result<(), Fail> {
+    let alloc = rt.alloc();
+    let Built {
+        store,
+        mut sessions,
+    } = Store::build(alloc, tables(alloc)?, 2)?;
+    let (front, back) = sessions.split_at_mut(1);
+    live(&rt, alloc, &store, &mut front[0], &mut back[0])
+}

@@ -1,0 +1,5 @@
+pub mod Stays
+pub mod GoesOn
+pub mod Long
+pub mod Messages
+pub mod SoFar

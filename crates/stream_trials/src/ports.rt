@@ -1,0 +1,259 @@
+//! Tests of the ports: doubles that fail where their lists say so, the ports over std with short
+//! and failed writes, and an outlet that is a file.
+use byte_ports::{
+    Failed, FileOutlet, Gate, InputFault, ListOutlet, ListSink, ListSource, OpenGate, Outlet,
+    PureOutlet, PureSink, PureSource, Sink, Source, StdSink, StdSource, read_to_end, write_all,
+};
+use std::alloc::Global;
+use std::fs::{self, File};
+use std::io::{self, ErrorKind, Write};
+use std::process::Abort;
+use std::sync::Wait;
+use std::test::Fail;
+
+struct Case {
+    failing: &'static [u64],
+    reads: &'static [Option<usize>],
+    limit: usize,
+    input: Result<usize, InputFault>,
+    writes: [Option<usize>; 3],
+    is_last_written: bool,
+    written: &'static [u8],
+    starts: [bool; 2],
+    started: usize,
+}
+
+static CASES: [Case; 4] = [
+    Case {
+        failing: &[],
+        reads: &[Some(2), Some(2), Some(1), Some(0), Some(0)],
+        limit: 6,
+        input: Ok(5),
+        writes: [Some(2), Some(0), Some(3)],
+        is_last_written: true,
+        written: b"abcdefg",
+        starts: [true, true],
+        started: 2,
+    },
+    Case {
+        failing: &[1],
+        reads: &[None, Some(2), Some(2), Some(1), Some(0)],
+        limit: 6,
+        input: Err(InputFault::Failed),
+        writes: [None, Some(0), Some(3)],
+        is_last_written: true,
+        written: b"cdefg",
+        starts: [false, true],
+        started: 1,
+    },
+    Case {
+        failing: &[3, 2],
+        reads: &[Some(2), None, None, Some(2), Some(1)],
+        limit: 5,
+        input: Err(InputFault::TooLong),
+        writes: [Some(2), None, None],
+        is_last_written: true,
+        written: b"abfg",
+        starts: [true, false],
+        started: 1,
+    },
+    Case {
+        failing: &[4],
+        reads: &[Some(2), Some(2), Some(1), None, Some(0)],
+        limit: 0,
+        input: Err(InputFault::TooLong),
+        writes: [Some(2), Some(0), Some(3)],
+        is_last_written: false,
+        written: b"abcde",
+        starts: [true, true],
+        started: 2,
+    },
+];
+
+fn read_two<S: Source>(source: &mut S) -> Option<usize> {
+    let mut buf = [0u8; 2];
+    source.read(&mut buf).ok()
+}
+
+fn write_once<S: Sink>(sink: &mut S, piece: &[u8]) -> Option<usize> {
+    sink.write(piece).ok()
+}
+
+fn is_started<X: Outlet>(outlet: &mut X, name: &str) -> bool {
+    outlet.start(name).is_ok()
+}
+
+fn sent<T: Send>(value: T) -> T {
+    value
+}
+
+fn passed<R: Wait, G: Gate + Sync>(rt: &R, gate: &G) {
+    gate.pass(rt, 1, 1);
+}
+
+fn check_source<R: Abort>(rt: &R, alloc: Global, case: &Case) -> Result<(), Fail> {
+    let mut source = ListSource::new(alloc, b"abcde", case.failing)?;
+    for want in case.reads {
+        assert_eq!(rt; read_two(&mut source), *want);
+    }
+    let mut source = ListSource::new(alloc, b"abcde", case.failing)?;
+    let input = read_to_end(alloc, &mut source, case.limit);
+    assert_eq!(rt; input.map(|bytes| bytes.len()), case.input);
+    Ok(())
+}
+
+fn check_writes<R: Abort, S: Sink>(rt: &R, sink: &mut S, case: &Case) {
+    let [first, second, third] = case.writes;
+    assert_eq!(rt; write_once(sink, b"ab"), first);
+    assert_eq!(rt; write_once(sink, b""), second);
+    assert_eq!(rt; write_once(sink, b"cde"), third);
+    assert_eq!(rt;
+        write_all(&mut &mut *sink, b"fg").is_ok(),
+        case.is_last_written
+    );
+}
+
+fn check_sinks<R: Abort>(rt: &R, alloc: Global, case: &Case) -> Result<(), Fail> {
+    let mut sink = ListSink::new(alloc, case.failing)?;
+    check_writes(rt, &mut sink, case);
+    assert_eq!(rt; sink.written(), case.written);
+    let mut outlet = ListOutlet::new(alloc, case.failing)?;
+    check_writes(rt, &mut outlet, case);
+    assert_eq!(rt; outlet.written(), case.written);
+    Ok(())
+}
+
+fn are_all(names: &[String], name: &str) -> bool {
+    names.iter().all(|one| one.as_str() == name)
+}
+
+fn check_starts<R: Abort>(rt: &R, alloc: Global, case: &Case) -> Result<(), Fail> {
+    let mut outlet = sent(ListOutlet::new(alloc, case.failing)?);
+    let [first, second] = case.starts;
+    assert_eq!(rt; is_started(&mut outlet, "e"), first);
+    assert_eq!(rt; is_started(&mut outlet, "e"), second);
+    assert_eq!(rt; outlet.started().len(), case.started);
+    assert!(rt; are_all(outlet.started(), "e"));
+    Ok(())
+}
+
+#[test]
+fn list_doubles_fail_where_their_lists_say_so(rt: HostRuntime) -> Result<(), Fail> {
+    for case in &CASES {
+        check_source(&rt, rt.alloc(), case)?;
+        check_sinks(&rt, rt.alloc(), case)?;
+        check_starts(&rt, rt.alloc(), case)?;
+    }
+    Ok(())
+}
+
+#[test]
+fn std_source_reads_what_its_reader_reads(rt: HostRuntime) -> Result<(), Fail> {
+    let bytes = vec![in rt.alloc(); 7u8; 200_000]?;
+    let mut source = StdSource::new(bytes.as_slice());
+    let read = read_to_end(rt.alloc(), &mut source, 200_001)?;
+    assert!(rt; read.as_slice() == bytes.as_slice());
+    let mut pure = PureSource::new(bytes.as_slice());
+    let read = read_to_end(rt.alloc(), &mut &mut pure, 200_001)?;
+    assert!(rt; read.as_slice() == bytes.as_slice());
+
+    let mut folder = StdSource::new(File::open(&rt, ".")?);
+    assert_eq!(rt; read_two(&mut folder), None);
+    Ok(())
+}
+
+#[test]
+fn std_sink_writes_until_its_writer_takes_nothing(rt: HostRuntime) -> Result<(), Fail> {
+    let mut room = [0u8; 3];
+    let mut sink = StdSink::new(room.as_mut_slice());
+    assert_eq!(rt; write_all(&mut sink, b"abcde"), Err(Failed));
+    drop(sink);
+    assert_eq!(rt; room.as_slice(), b"abc".as_slice());
+
+    let mut taken = PureSink;
+    assert_eq!(rt; write_all(&mut taken, b"abcde"), Ok(()));
+    Ok(())
+}
+
+/// A writer that takes two bytes a call, and of whose calls, counted from 1, this one fails.
+#[derive(Drop)]
+struct Slow {
+    taken: [u8; 8],
+    count: usize,
+    calls: u32,
+    failing: u32,
+}
+
+impl Write for Slow {
+    fn write(&mut self, buf: &[u8]) -> io::Result<usize> {
+        self.calls = self.calls.saturating_add(1);
+        if self.calls == self.failing {
+            return Err(io::Error::from(ErrorKind::Other));
+        }
+        let count = buf.len().min(2);
+        for byte in buf.iter().take(count) {
+            if let Some(place) = self.taken.get_mut(self.count) {
+                *place = *byte;
+            }
+            self.count = self.count.saturating_add(1);
+        }
+        Ok(count)
+    }
+
+    fn flush(&mut self) -> io::Result<()> {
+        Ok(())
+    }
+}
+
+struct SlowCase {
+    failing: u32,
+    written: Result<(), Failed>,
+    taken: &'static [u8],
+}
+
+static SLOW_CASES: [SlowCase; 2] = [
+    SlowCase {
+        failing: 0,
+        written: Ok(()),
+        taken: b"abcde",
+    },
+    SlowCase {
+        failing: 2,
+        written: Err(Failed),
+        taken: b"ab",
+    },
+];
+
+#[test]
+fn std_sink_writes_on_after_a_short_write_and_stops_at_a_failed_one(rt: HostRuntime) {
+    for case in &SLOW_CASES {
+        let mut writer = Slow {
+            taken: [0; 8],
+            count: 0,
+            calls: 0,
+            failing: case.failing,
+        };
+        let mut sink = StdSink::new(&mut writer);
+        assert_eq!(rt; write_all(&mut sink, b"abcde"), case.written);
+        drop(sink);
+        assert_eq!(rt; writer.taken.get(..writer.count), Some(case.taken));
+    }
+}
+
+#[test]
+fn file_outlet_writes_to_the_file_of_its_name(rt: HostRuntime) -> Result<(), Fail> {
+    let path = "file_outlet_test";
+    let mut outlet = sent(FileOutlet::new(rt));
+    assert_eq!(rt; write_once(&mut outlet, b"a"), None);
+    assert_eq!(rt; is_started(&mut outlet, "no/such/folder"), false);
+    assert_eq!(rt; is_started(&mut outlet, path), true);
+    assert_eq!(rt; write_all(&mut outlet, b"abcde"), Ok(()));
+    let bytes = fs::read(&rt, path)?;
+    fs::remove_file(&rt, path)?;
+    assert_eq!(rt; bytes.as_slice(), b"abcde".as_slice());
+
+    let mut pure = sent(PureOutlet);
+    assert_eq!(rt; is_started(&mut pure, path), true);
+    passed(&rt, &OpenGate);
+    Ok(())
+}

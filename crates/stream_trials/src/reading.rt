@@ -1,0 +1,165 @@
+//! Tests of the reading of streams: a worked one, the same cut or changed by a byte, and the same
+//! message by message.
+ghost use Rattle.std.specs.Prelude.{◌<◌, ◌^◌, length};
+
+use arrow_meta::{batch_message, schema_message};
+use cell_model::{Bytes, Cell, Column, Kind, Row, Schema, are_named};
+use ipc_read::{Next, first_schema, next_batch, read};
+use std::alloc::{AllocError, Global};
+use std::process::Abort;
+use std::test::Fail;
+use stream_spec::{Cause, StreamFault};
+
+/// How many of the bytes there are, which of them is another, whether the columns are read, how
+/// many batches are, and the fault.
+#[derive(Drop)]
+struct Case {
+    kept: usize,
+    place: usize,
+    byte: u8,
+    columns: bool,
+    batches: usize,
+    fault: Option<StreamFault>,
+}
+
+const fn cut(kept: usize, columns: bool, batches: usize, fault: Option<StreamFault>) -> Case {
+    Case {
+        kept,
+        place: 0,
+        byte: 0xff,
+        columns,
+        batches,
+        fault,
+    }
+}
+
+const fn at(place: u64, cause: Cause) -> Option<StreamFault> {
+    Some(StreamFault { place, cause })
+}
+
+const fn changed(place: usize, byte: u8, in_place: u64, cause: Cause) -> Case {
+    Case {
+        kept: 344,
+        place,
+        byte,
+        columns: in_place > 0,
+        batches: 0,
+        fault: at(in_place, cause),
+    }
+}
+
+/// The schema of the column `key:i64`.
+fn key_schema(alloc: Global) -> Result<Schema, Fail> {
+    let columns = vec![in alloc;
+        Column {
+            name: Bytes::from_slice(alloc, b"key")?,
+            kind: Kind::I64,
+            nullable: false,
+        },
+    ]?;
+    if are_named(&columns) {
+        Ok(Schema::new(columns)?)
+    } else {
+        Err(Fail::from("a name is no text"))
+    }
+}
+
+/// Adds a message's marker, its size and its metadata, which has a multiple of 8 bytes. Without
+/// metadata this is the word that ends a stream.
+fn add_message(bytes: &mut Vec<u8>, metadata: &[u8]) -> Result<(), AllocError>
+    requires { length metadata.now < 2 ^ 32 }
+{
+    bytes.extend_from_slice(&[0xff; 4])?;
+    bytes.extend_from_slice(&(metadata.len() as u32).to_le_bytes())?;
+    bytes.extend_from_slice(metadata)
+}
+
+/// The keys 1, 2 and 3 of a table of that one column: the schema at 0, the batch at 160, its body
+/// at 312, and the end word at 336.
+fn three_keys(alloc: Global) -> Result<Vec<u8>, Fail> {
+    let mut bytes = Vec::new(alloc);
+    let schema = schema_message(alloc, &key_schema(alloc)?)?;
+    add_message(&mut bytes, schema.as_slice())?;
+    let batch = batch_message(alloc, 3, &[(3, 0)], &[(0, 0), (0, 24)], 24)?;
+    add_message(&mut bytes, batch.as_slice())?;
+    for key in [1u64, 2, 3] {
+        bytes.extend_from_slice(&key.to_le_bytes())?;
+    }
+    add_message(&mut bytes, &[])?;
+    Ok(bytes)
+}
+
+fn is_the_key(columns: &[Column]) -> bool {
+    match columns {
+        [column] => {
+            column.name.as_slice() == b"key".as_slice()
+                && column.kind == Kind::I64
+                && !column.nullable
+        }
+        _ => false,
+    }
+}
+
+fn is_key(row: &Row, key: i128) -> bool {
+    match row.as_slice() {
+        [Cell::Num(number)] => *number == key,
+        _ => false,
+    }
+}
+
+#[test]
+fn a_stream_is_read_up_to_its_end_or_its_first_fault(rt: HostRuntime) -> Result<(), Fail> {
+    let cases = [
+        cut(344, true, 1, None),
+        cut(343, true, 1, at(336, Cause::Short)),
+        cut(336, true, 1, None),
+        cut(335, true, 0, at(160, Cause::Short)),
+        cut(160, true, 0, None),
+        cut(159, false, 0, at(0, Cause::Short)),
+        cut(0, false, 0, at(0, Cause::Short)),
+        changed(7, 0x80, 0, Cause::Flat),
+        changed(50, 0x03, 0, Cause::Shape),
+        changed(72, 0x01, 0, Cause::Endian),
+        changed(160, 0x00, 160, Cause::Marker),
+        changed(210, 0x01, 160, Cause::Shape),
+        changed(240, 0x02, 160, Cause::Shape),
+        changed(256, 0x02, 160, Cause::Shape),
+        changed(264, 0x02, 160, Cause::NullCount),
+        changed(304, 0x10, 160, Cause::Buffer),
+    ];
+    for case in &cases {
+        let mut bytes = three_keys(rt.alloc())?;
+        if case.place < bytes.len() {
+            bytes[case.place] = case.byte;
+        }
+        bytes.truncate(case.kept);
+        let reading = read(rt.alloc(), bytes.as_slice())?;
+        assert_eq!(rt; reading.columns().is_some(), case.columns);
+        assert_eq!(rt; reading.batches().len(), case.batches);
+        assert_eq!(rt; reading.fault(), case.fault);
+    }
+    Ok(())
+}
+
+#[test]
+fn three_keys_are_read_message_by_message(rt: HostRuntime) -> Result<(), Fail> {
+    let bytes = three_keys(rt.alloc())?;
+    assert_eq!(rt; bytes.len(), 344);
+    let Ok(schema) = first_schema(rt.alloc(), &bytes) else {
+        return Err(Fail::from("no schema"));
+    };
+    assert_eq!(rt; schema.size(), 160);
+    assert!(rt; is_the_key(schema.columns()));
+    let Next::Batch(batch) = next_batch(rt.alloc(), schema.columns(), &bytes[160..])? else {
+        return Err(Fail::from("no batch"));
+    };
+    assert_eq!(rt; batch.size(), 176);
+    assert!(rt; !batch.is_empty());
+    assert_eq!(rt; batch.len(), 3);
+    assert!(rt; is_key(&batch.row(rt.alloc(), 2)?, 3));
+    assert_eq!(rt; batch.rows(rt.alloc())?.len(), 3);
+    let last = next_batch(rt.alloc(), schema.columns(), &bytes[336..])?;
+    assert!(rt; matches!(last, Next::End));
+    assert!(rt; is_the_key(schema.into_columns().as_slice()));
+    Ok(())
+}
