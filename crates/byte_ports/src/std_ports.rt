@@ -9,12 +9,16 @@ ghost use Rattle.byte_ports.specs.Calls.{Rose, faults_after};
 use crate::faults::FaultCount;
 use crate::{Failed, Outlet, Sink, Source};
 use std::fs::File;
-use std::io::{self, Read, Write};
+use std::io::{self, ErrorKind, Read, Write};
 use std::marker::Model;
 use std::rt::Files;
 
+/// How often a call that signals interrupt is made before it fails.
+const MOST_TRIES: u64 = u64::MAX;
+
 /// A source over a reader of std. Contracts see it as the reader and its count of faults: each
-/// error of the reader is one. It reads what the reader reads; what is left is not told.
+/// error of the reader is one, but for an interruption, behind which the read is tried again. It
+/// reads what the reader reads; what is left is not told.
 #[derive(Drop)]
 pub struct StdSource<R: Read> {
     reader: R,
@@ -46,7 +50,8 @@ impl<R: Read> Source for StdSource<R> {
 
     ghost faults = { λ s. s.faults };
 
-    /// Reads by the reader; an error of it is counted as a fault.
+    /// Reads by the reader, again where it is interrupted; another error of it is counted as a
+    /// fault.
     fn read(&mut self, buf: &mut [u8]) -> Result<usize, Failed>
         requires room { 0 < length buf.old }
         ensures bound { ReadsAtMost result buf.new }
@@ -58,7 +63,7 @@ impl<R: Read> Source for StdSource<R> {
         ensures inner { ReadConsumes (R.remaining self.old.inner) (R.remaining self.new.inner)
             result buf.new }
     {
-        match self.reader.read(buf) {
+        match read_through(&mut self.reader, buf) {
             Ok(count) => Ok(count),
             Err(_) => Err(self.faults.fail()),
         }
@@ -66,8 +71,9 @@ impl<R: Read> Source for StdSource<R> {
 }
 
 /// A sink over a writer of std. Contracts see it as the writer and its count of faults: each error
-/// of the writer is one, and so is that it takes nothing of a piece. It writes what the writer
-/// takes; what it has written is not told.
+/// of the writer is one, but for an interruption, behind which the write is tried again, and so is
+/// that it takes nothing of a piece. It writes what the writer takes; what it has written is not
+/// told.
 #[derive(Drop)]
 pub struct StdSink<W: Write> {
     writer: W,
@@ -99,8 +105,8 @@ impl<W: Write> Sink for StdSink<W> {
 
     ghost faults = { λ s. s.faults };
 
-    /// Writes by the writer; an error of it, or that it takes nothing of a piece, is counted as a
-    /// fault.
+    /// Writes by the writer, again where it is interrupted; another error of it, or that it takes
+    /// nothing of a piece, is counted as a fault.
     fn write(&mut self, piece: &[u8]) -> Result<usize, Failed>
         ensures bound { WritesAtMost result piece.now }
         ensures some { IfOk result (λ count. 0 < length piece.now → 0 < count) }
@@ -117,9 +123,10 @@ impl<W: Write> Sink for StdSink<W> {
 }
 
 /// An outlet that is started with the path of a file, which it makes or empties, and writes there.
-/// Contracts see it as the file, if there is one, and its count of faults: each error is one, and
-/// so is a write before a start. It writes what the file takes; what it has written, and the names
-/// that it was started with, are not told.
+/// Contracts see it as the file, if there is one, and its count of faults: each error is one, but
+/// for an interruption, behind which the call is tried again, and so is a write before a start. It
+/// writes what the file takes; what it has written, and the names that it was started with, are not
+/// told. The file is closed when the outlet is dropped, and what the system says then is not told.
 #[derive(Drop)]
 pub struct FileOutlet<F: Files> {
     rt: F,
@@ -206,6 +213,34 @@ fn create_apart<F: Files>(rt: &F, name: &str) -> io::Result<F::File> {
     File::create(rt, name)
 }
 
+/// Reads once, and again as long as a signal interrupts it.
+fn read_through<R: Read>(reader: &mut R, buf: &mut [u8]) -> io::Result<usize>
+    ensures bound { ReadsAtMost result buf.new }
+    ensures inner { ReadConsumes (R.remaining reader.old) (R.remaining reader.new) result buf.new }
+{
+    for _ in 0..MOST_TRIES {
+        match reader.read(buf) {
+            Err(fault) if fault.kind() == ErrorKind::Interrupted => {}
+            told => return told,
+        }
+    }
+    Err(io::Error::from(ErrorKind::Interrupted))
+}
+
+/// Writes once, and again as long as a signal interrupts it.
+fn write_through<W: Write>(writer: &mut W, piece: &[u8]) -> io::Result<usize>
+    ensures bound { WritesAtMost result piece.now }
+    ensures inner { WriteAppends (W.contents writer.old) (W.contents writer.new) result piece.now }
+{
+    for _ in 0..MOST_TRIES {
+        match writer.write(piece) {
+            Err(fault) if fault.kind() == ErrorKind::Interrupted => {}
+            told => return told,
+        }
+    }
+    Err(io::Error::from(ErrorKind::Interrupted))
+}
+
 /// Writes once. An error is counted, and so is that nothing was taken of a piece that has bytes.
 fn write_counted<W: Write>(
     writer: &mut W,
@@ -219,7 +254,7 @@ fn write_counted<W: Write>(
     ensures cause { OnErr result (Rose faults.old faults.new) }
     ensures faults { faults.new ≡ faults_after faults.old (is_err result) }
 {
-    match writer.write(piece) {
+    match write_through(writer, piece) {
         Ok(0) if !piece.is_empty() => Err(faults.fail()),
         Ok(count) => Ok(count),
         Err(_) => Err(faults.fail()),

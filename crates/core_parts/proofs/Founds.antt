@@ -72,18 +72,18 @@ again n least =
     ∙ sym (offered_is n least)
 
 -- To offer a number before the first one changes nothing.
-low_none : (n : ℕ) (least : Least) → n < least.from → offered n least ≡ least
+pub low_none : (n : ℕ) (least : Least) → n < least.from → offered n least ≡ least
 low_none n least low = offered_is n least ∙ ap (λ o. record { from = least.from; best = o }) (seated_low least.from n least.best low)
 
 -- To offer a number not below one that was offered changes nothing.
-behind_none : (m n : ℕ) (least : Least) → least.from ≤ m → m ≤ n → offered n (offered m least) ≡ offered m least
+pub behind_none : (m n : ℕ) (least : Least) → least.from ≤ m → m ≤ n → offered n (offered m least) ≡ offered m least
 behind_none m n least low le =
     ap (offered n) (offered_is m least) ∙ offered_is n (record { from = least.from; best = seated least.from m least.best })
     ∙ ap (λ o. record { from = least.from; best = o }) (seated_behind least.from m n least.best low le)
     ∙ sym (offered_is m least)
 
 -- To offer one before the first changes nothing behind another either.
-outside_none : (m n : ℕ) (least : Least) → n < least.from → offered n (offered m least) ≡ offered m least
+pub outside_none : (m n : ℕ) (least : Least) → n < least.from → offered n (offered m least) ≡ offered m least
 outside_none m n least low = turned n m least ∙ ap (offered m) (low_none n least low)
 
 -- a number that is offered, if there is one
@@ -116,7 +116,7 @@ module _ (sh : Shape) where
   all_after (v ∷ ws) least w = ap (offered_all sh ws) (name_turned least w v) ∙ all_after ws (offered_name sh least v) w
 
   -- a name among those that are offered may be offered before them
-  absorbed : (ws : List Name) (least : Least) (w : Name) → Among w ws → offered_all sh ws (offered_name sh least w) ≡ offered_all sh ws least
+  pub absorbed : (ws : List Name) (least : Least) (w : Name) → Among w ws → offered_all sh ws (offered_name sh least w) ≡ offered_all sh ws least
   absorbed [] least w a = absurd a
   absorbed (v ∷ ws) least w (inl e) =
       ap (λ x. offered_all sh ws (offered_name sh (offered_name sh least x) v)) e ∙ ap (offered_all sh ws) (name_again least v)
@@ -173,7 +173,7 @@ module _ (sh : Shape) where
   among_mapped kind (x ∷ xs) (suc k) l = inr (among_mapped kind xs k (omega (arith, l)))
 
   -- an offer of a name changes nothing if one of its number would not
-  unless : (w : Name) (least : Least) → ((n : ℕ) → slice_get (names sh) n ≡ Some w → offered n least ≡ least) → offered_name sh least w ≡ least
+  pub unless : (w : Name) (least : Least) → ((n : ℕ) → slice_get (names sh) n ≡ Some w → offered n least ≡ least) → offered_name sh least w ≡ least
   unless w least each = go (number_among (names sh) w) refl
     where
       go : (o : Option ℕ) → number_among (names sh) w ≡ o → offered_name sh least w ≡ least

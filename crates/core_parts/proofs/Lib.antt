@@ -8,6 +8,7 @@ pub mod Front
 pub mod SameKinds
 pub mod Places
 pub mod Founds
+pub mod Ascending
 pub mod Held
 pub mod Names
 pub mod Nexts

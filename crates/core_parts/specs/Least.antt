@@ -1,9 +1,9 @@
 -- The least number from one on, of those that were offered.
-use Rattle.std.specs.Prelude.{ℕ, ◌+◌, ◌&&◌, nat_le, nat_lt, true, List, [], ◌∷◌, Option, None, Some}
-use Rattle.std.specs.Prelude.{option_map, fold, if◌then◌else◌}
+use Rattle.std.specs.Prelude.{◌≡◌, ℕ, ◌+◌, ◌<◌, ◌≤◌, ◌&&◌, nat_le, nat_lt, true, List, [], ◌∷◌, Option}
+use Rattle.std.specs.Prelude.{None, Some, option_map, fold, slice_get, if◌then◌else◌}
 use Rattle.std.specs.Option.{option_map_or}
 use Rattle.core_parts.specs.declared.least.Least.{Least}
-use Rattle.event_spec.specs.Parts.{Name, Shape, names, same_name}
+use Rattle.event_spec.specs.Parts.{Name, BodyOf, Shape, names, same_name}
 
 -- a number takes the seat where it is from the first one on, and below what sits there
 abbrev pub offered : ℕ → Least → Least
@@ -25,3 +25,10 @@ offered_name shape least name = option_map_or (λ number. offered number least)
 -- the numbers of parts are offered one after another
 abbrev pub offered_all : Shape → List Name → Least → Least
 offered_all shape offers least = fold (offered_name shape) least offers
+
+-- A table's bodies of the blocks before this one have numbers below `from`, and the others have
+-- not.
+abbrev pub IsFirstBlock : Shape → ℕ → ℕ → ℕ → Type 0
+IsFirstBlock shape table from first = (block number : ℕ)
+    → slice_get (names shape) number ≡ Some (BodyOf table block)
+    → (block < first → number < from) × (first ≤ block → from ≤ number)

@@ -1,6 +1,7 @@
 //! Parts whose numbers are offered.
 ghost use Rattle.std.specs.Prelude.{◌≡◌, ◌<◌, IfSome, map, option_to_list};
-ghost use Rattle.core_parts.specs.Least.{offered_all, offered_name};
+ghost use Rattle.std.specs.List.Sorted.{IsNonDecreasing};
+ghost use Rattle.core_parts.specs.Least.{IsFirstBlock, offered_all, offered_name};
 ghost use Rattle.core_parts.specs.Touched.{bodies_at, bodies_written, shards_in, shards_moved};
 ghost use Rattle.core_parts.specs.Touched.{shards_written, sources_moved, targets_moved};
 ghost use Rattle.core_parts.specs.Written.{AreWritten, names_written};
@@ -73,12 +74,26 @@ pub(crate) fn offer_place(shape: &Shape, least: &mut Least, table: u32, place: O
     }
 }
 
-/// Offers the bodies of places.
-pub(crate) fn offer_places(shape: &Shape, least: &mut Least, table: u32, places: &[SlotId])
+/// A block such that a table's bodies from it on are those whose numbers are at least `from`.
+fn first_block(shape: &Shape, table: u32, from: u32) -> u32
+    ensures { IsFirstBlock shape.now table from result }
+{
+    if (table as usize) < shape.tables().len() && shape.blocks(table) > 0 {
+        from.saturating_sub(shape.body(table, 0))
+    } else {
+        0
+    }
+}
+
+/// Offers the bodies of places in ascending order: the first that may be taken stands for all.
+pub(crate) fn offer_ascending(shape: &Shape, least: &mut Least, table: u32, places: &[SlotId])
+    requires { IsNonDecreasing places.now }
     ensures { least.new ≡ offered_all shape.now (bodies_at table places.now) least.old }
 {
-    for place in places {
-        offer_body(shape, least, table, place.block());
+    let first = first_block(shape, table, least.from);
+    let start = places.partition_point(|place| place.block() < first);
+    if start < places.len() {
+        offer_body(shape, least, table, places[start].block());
     }
 }
 

@@ -12,14 +12,15 @@ ghost use Rattle.event_spec.specs.Judged.{next_place};
 ghost use Rattle.event_spec.specs.Parts.{HeadOf, TheDesk, head_from, shard_from, tables_of};
 ghost use Rattle.event_spec.specs.Touched.{held_next, held_places, touching};
 ghost use Rattle.hall_rule.specs.Hands.{IsNext};
+ghost use Rattle.key_index.specs.Candidates.{IsInOrder};
 
 use crate::head_changes::TableHead;
 use crate::kept::CorePart;
 use crate::keyed::KeyedEvent;
 use crate::least::Least;
 use crate::offers::{
-    offer_body, offer_desk, offer_found, offer_head, offer_heads, offer_moved_keys, offer_place,
-    offer_places, offer_shard, offer_shards, offer_sources, offer_targets,
+    offer_ascending, offer_body, offer_desk, offer_found, offer_head, offer_heads,
+    offer_moved_keys, offer_place, offer_shard, offer_shards, offer_sources, offer_targets,
 };
 use crate::shape::{Shape, shard_of};
 use crate::written::{PartKind, Spots};
@@ -114,7 +115,7 @@ fn offer_on_key(
 {
     offer_shard(shape, least, table, shard_of(key));
     offer_place(shape, least, table, place);
-    offer_places(shape, least, table, candidates(shape, held, table, key));
+    offer_ascending(shape, least, table, candidates(shape, held, table, key));
 }
 
 /// Offers the parts of an abort, of which the shards and the bodies may have been found.
@@ -149,9 +150,9 @@ fn offer_moved(shape: &Shape, least: &mut Least, table: u32, pairs: &[MovePair])
     offer_desk(shape, least);
 }
 
-/// The candidates of a key, where its shard is held, and else none.
+/// The candidates of a key in ascending order, where its shard is held, and else none.
 fn candidates<'a>(shape: &Shape, held: &'a Hand<CorePart>, table: u32, key: i64) -> &'a [SlotId]
-    ensures { result.now ≡ held_places shape.now (in_hand shape.now held.now) table key }
+    ensures { IsInOrder (held_places shape.now (in_hand shape.now held.now) table key) result.now }
 {
     if table as usize >= shape.tables().len() {
         return &[];
@@ -161,7 +162,7 @@ fn candidates<'a>(shape: &Shape, held: &'a Hand<CorePart>, table: u32, key: i64)
         return &[];
     }
     match shard_in(held.get(number)) {
-        Some(index) => index.candidates(key),
+        Some(index) => index.ascending(key),
         None => &[],
     }
 }

@@ -1,5 +1,7 @@
 -- The index of a table: the places at which a key may stand.
-use Rattle.std.specs.Prelude.{◌==◌, ℕ, ℤ, List, [], ◌∷◌, option_map, unwrap_or, remove, position}
+use Rattle.std.specs.Prelude.{◌≡◌, ◌==◌, ℕ, ℤ, Bool, List, [], ◌∷◌, option_map, unwrap_or, remove}
+use Rattle.std.specs.Prelude.{count_by, position}
+use Rattle.std.specs.List.Sorted.{IsNonDecreasing}
 use Rattle.std.specs.Ordering.{int_cmp}
 use Rattle.std.specs.FinMap as map
 
@@ -20,3 +22,8 @@ with_candidates index key (place ∷ places) = map.insert index key (place ∷ p
 abbrev pub without : ℕ → List ℕ → List ℕ
 without place places = unwrap_or
     (option_map (remove places) (position (λ other. other == place) places)) places
+
+-- Places that ascend, each as often as among the others.
+pub record IsInOrder (places ascending : List ℕ) : Type 0 where
+  pub same : (test : ℕ → Bool) → count_by test ascending ≡ count_by test places
+  pub rises : IsNonDecreasing ascending

@@ -6,4 +6,4 @@ use Rattle.key_index.specs.declared.candidates.Kept.TheVariants.{One, Many}
 -- the places, in the order in which they were added
 abbrev pub places_of : Kept → List ℕ
 places_of (One place) = place ∷ []
-places_of (Many places) = places.items
+places_of (Many places) = places

@@ -1,8 +1,8 @@
 //! The candidates of one key. Most keys have just one, which then stands in the map's entry.
-ghost use Rattle.std.specs.Prelude.{◌≡◌, ◌<◌, ◌==◌, ◌∷◌, ◌++◌, ◌↔◌, [], IfSome, IsTrue, OnOk};
-ghost use Rattle.std.specs.Prelude.{OnErr, length, position};
-ghost use Rattle.key_index.specs.Candidates.{without};
+ghost use Rattle.std.specs.Prelude.{◌≡◌, ◌==◌, ◌∷◌, ◌++◌, ◌↔◌, [], IsTrue, OnOk, OnErr};
+ghost use Rattle.key_index.specs.Candidates.{IsInOrder, without};
 
+use crate::several::Several;
 use block_layout::SlotId;
 use std::alloc::{AllocError, Global};
 use std::marker::Model;
@@ -22,7 +22,7 @@ enum Kept {
     /// One place, which takes no memory of its own.
     One(SlotId),
     /// Any number of places: none, too, after the last was dropped.
-    Many(Vec<SlotId>),
+    Many(Several),
 }
 
 impl Model for Candidates {
@@ -58,6 +58,16 @@ impl Candidates {
         }
     }
 
+    /// The places in ascending order.
+    pub(crate) fn ascending(&self) -> &[SlotId]
+        ensures { IsInOrder self.now result.now }
+    {
+        match &self.kept {
+            Kept::One(place) => slice::from_ref(place),
+            Kept::Many(places) => places.ascending(),
+        }
+    }
+
     /// Whether there is no place.
     pub(crate) fn is_empty(&self) -> bool
         ensures { IsTrue result ↔ (self.now ≡ []) }
@@ -72,7 +82,7 @@ impl Candidates {
     {
         match &mut self.kept {
             Kept::One(first) => {
-                let places = vec![in self.alloc; *first, place]?;
+                let places = Several::two(self.alloc, *first, place)?;
                 self.kept = Kept::Many(places);
             }
             Kept::Many(places) => places.push(place)?,
@@ -84,22 +94,13 @@ impl Candidates {
     pub(crate) fn drop_first(&mut self, place: SlotId)
         ensures { self.new ≡ without place self.old }
     {
-        let Some(at) = position_of(self.as_slice(), place) else {
-            return;
-        };
         match &mut self.kept {
-            Kept::One(_) => self.kept = Kept::Many(Vec::new(self.alloc)),
-            Kept::Many(places) => {
-                places.remove(at);
+            Kept::One(first) => {
+                if *first == place {
+                    self.kept = Kept::Many(Several::none(self.alloc));
+                }
             }
+            Kept::Many(places) => places.drop_first(place),
         }
     }
-}
-
-/// Where the first of the places that is a given one stands.
-fn position_of(places: &[SlotId], place: SlotId) -> Option<usize>
-    ensures place { result ≡ position (λ other. other == place) places.now }
-    ensures range { IfSome result (λ at. at < length places.now) }
-{
-    places.iter().position(|other| *other == place)
 }

@@ -2,10 +2,11 @@
 #![tactic(auto)]
 
 mod candidates;
+mod several;
 
 ghost use Rattle.std.specs.Prelude.{◌≡◌, ◌∷◌, ◌++◌, [], OnOk, OnErr};
 ghost use Rattle.std.specs.FinMap as map;
-ghost use Rattle.key_index.specs.Candidates.{candidates_of, with_candidates, without};
+ghost use Rattle.key_index.specs.Candidates.{IsInOrder, candidates_of, with_candidates, without};
 
 use crate::candidates::Candidates;
 use block_layout::SlotId;
@@ -53,6 +54,16 @@ impl Index {
     {
         match self.by_key.get(&key) {
             Some(candidates) => candidates.as_slice(),
+            None => &[],
+        }
+    }
+
+    /// The candidates of a key, in ascending order.
+    pub fn ascending(&self, key: i64) -> &[SlotId]
+        ensures { IsInOrder (candidates_of self.now key) result.now }
+    {
+        match self.by_key.get(&key) {
+            Some(candidates) => candidates.ascending(),
             None => &[],
         }
     }

@@ -1,5 +1,6 @@
 pub mod Pairs
 pub mod Order
+pub mod Stamps
 pub mod Views
 pub mod Ends
 pub mod Numbers

@@ -167,13 +167,27 @@ impl<D> Chain<D> {
         }
     }
 
+    /// The entries that have a stamp, oldest first. Those without one, which are an open
+    /// transaction's and may be many, stand above them and are not gone through.
+    fn stamped(&self) -> &[Undo<D>]
+        requires { IsLawful self.now.entries }
+        ensures lawful { IsLawful (reverse result.now) }
+        ensures numbers { (stamp : ℕ) → numbers_above (reverse result.now) stamp
+            ≡ numbers_above self.now.entries stamp }
+    {
+        let entries = self.oldest_first.as_slice();
+        let count = entries.partition_point(|undo| undo.stamp.is_some());
+        let (stamped, _) = entries.split_at(count);
+        stamped
+    }
+
     /// The largest number of a commit above the stamp.
     fn number_above(&self, stamp: u64) -> Option<u64>
         requires { IsLawful self.now.entries }
         ensures { result ≡ largest (numbers_above self.now.entries stamp) }
     {
         let mut number = None;
-        let mut older = self.oldest_first.as_slice();
+        let mut older = self.stamped();
         // No entry below one that was stamped by then is above the stamp.
         while let Some((newest, rest)) = older.split_last()
             && !newest.is_stamped_by(stamp)
