@@ -1,4 +1,3 @@
 pub mod Stamps
-pub mod Room
 pub mod Versions
 pub mod Numbers

@@ -1,6 +1,5 @@
 //! Laws of counts: each function does nothing, and its contract is one of them.
 ghost use Rattle.run_laws.specs.Counts.Numbers.{NumbersAreNarrow, OpensNarrow};
-ghost use Rattle.run_laws.specs.Counts.Room.{FullIsFull, OpensEmpty, RoomIsCounted};
 ghost use Rattle.run_laws.specs.Counts.Stamps.{ImagesAreTold, OpensLoose, SealsAreTold};
 ghost use Rattle.run_laws.specs.Counts.Stamps.{StampsAreCounted};
 ghost use Rattle.run_laws.specs.Counts.Versions.{IdleOwnNone, OpensWithout, VersionsAreCounted};
@@ -12,15 +11,6 @@ pub fn stamps_are_counted()
     ensures next { StampsAreCounted }
     ensures seals { SealsAreTold }
     ensures images { ImagesAreTold }
-{}
-
-/// The slots of a table that are in use are no more than its inserts that took one, which are no
-/// more
-/// than those that were granted; without room for an insert they are all its slots.
-pub fn room_is_counted()
-    ensures opens { OpensEmpty }
-    ensures next { RoomIsCounted }
-    ensures full { FullIsFull }
 {}
 
 /// Commits are no more than stamps, which end below 2^63.

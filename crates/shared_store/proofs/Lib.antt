@@ -5,6 +5,7 @@ pub mod Calls
 pub mod Changed
 pub mod Compacted
 pub mod Freezes
+pub mod Full
 pub mod Hands
 pub mod Imagings
 pub mod Kept

@@ -6,7 +6,8 @@ ghost use Rattle.std.specs.Map.{remove_entry};
 ghost use Rattle.isolation_spec.specs.Contents.{PlaceMap, at_place, is_place, place_cmp};
 ghost use Rattle.run_spec.specs.Told.{told_by};
 ghost use Rattle.shared_store.specs.Told.{written_told};
-ghost use Rattle.shared_store.specs.Writing.{IsRoomed, IsWriteReply, roomed, settled};
+ghost use Rattle.shared_store.specs.Writing.{IsRoomed, IsWriteReply, fault_answered, fault_replied};
+ghost use Rattle.shared_store.specs.Writing.{roomed, settled};
 
 use crate::faults::StoreFault;
 use block_layout::SlotId;
@@ -180,6 +181,7 @@ impl Writes {
         ensures writes { (before : PlaceMap ℕ) → is_some (at_place before place) ≡ had
             → self.old ≡ roomed before place had → self.new ≡ settled before place told }
         ensures tells { (table : ℕ) → told_by table 0 told ≡ Some (written_told table result) }
+        ensures fault { fault_answered result ≡ fault_replied told }
     {
         match told {
             Reply::Written(slot) => {

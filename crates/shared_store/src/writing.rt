@@ -1,11 +1,15 @@
 //! Writing rows.
-ghost use Rattle.std.specs.Prelude.{◌≡◌, true, is_some};
+ghost use Rattle.std.specs.Prelude.{◌≡◌, ℕ, true, is_some};
 ghost use Rattle.block_body.specs.Keys.{HasKey};
+ghost use Rattle.event_spec.specs.Sound.{IsShape};
+ghost use Rattle.event_spec.specs.declared.reply.WriteFault.TheVariants as fault;
 ghost use Rattle.isolation_spec.specs.Contents.{place_of};
 ghost use Rattle.workload_spec.specs.Valid.{fits_table};
 ghost use Rattle.workload_spec.specs.declared.command.Command.TheVariants as command;
-ghost use Rattle.shared_store.specs.Store.{Answers, HasRoomFor, IsSession, own_of, shape_in};
+ghost use Rattle.shared_store.specs.Store.{Answers, HasRoomFor, IsSession, own_of, seen, shape_in};
 ghost use Rattle.shared_store.specs.Told.{written_told};
+ghost use Rattle.shared_store.specs.Writing.{FoundFull};
+ghost use Rattle.shared_store.specs.declared.faults.StoreFault.TheVariants as refused;
 
 use crate::faults::StoreFault;
 use crate::session::Session;
@@ -29,11 +33,12 @@ pub(crate) fn place_of(table: u32, row: &Row) -> Place
 }
 
 impl Store {
-    /// The place of a row that fits its table, which has a key.
+    /// The place of a row that fits its table, which has a key. The store's measures are sound.
     pub(crate) fn place_in(&self, table: u32, row: &Row) -> Place
         requires { fits_table (shape_in self.now).tables table row.now ≡ true }
         ensures has_key { HasKey row.now }
         ensures place { result ≡ place_of table row.now }
+        ensures measures { IsShape (shape_in self.now) }
     {
         // The table's columns begin with the key.
         let _columns = self.hall.shape().schema(table).columns();
@@ -61,6 +66,8 @@ impl Store {
         ensures same { session.new.session ≡ session.old.session }
         ensures answers { Answers self.now
             session.old session.new (command.Insert table row) (written_told table result) }
+        ensures full { (inserts : ℕ) → result ≡ Err (refused.Write (fault.Full inserts))
+            → FoundFull (shape_in self.now) (seen session.old) (seen session.new) table inserts }
     {
         let place = self.place_in(table, &row);
         let own = session.own_key(place);

@@ -5,3 +5,5 @@ pub mod Entries
 pub mod Knowing
 pub mod Making
 pub mod Stamps
+pub mod Room
+pub mod Spent

@@ -7,6 +7,7 @@ pub mod own_laws;
 
 ghost use Rattle.store_laws.specs.Laws.{EventsGoOn, JoinsGoOn, LooksGoOn, LogsAreRuns};
 ghost use Rattle.store_laws.specs.Laws.{SingleEventsAreCalls, StampsAreFew};
+ghost use Rattle.store_laws.specs.Room.{FullIsFull, FullIsSpent, OpensEmpty, RoomIsCounted};
 
 /// The log of a store's hall is a lawful log of a run, and leaves the same parts.
 pub fn a_halls_log_is_a_runs_log()
@@ -32,4 +33,14 @@ pub fn stamps_are_few()
 /// A command that is one event is carried out by it.
 pub fn a_single_event_is_a_call()
     ensures { SingleEventsAreCalls }
+{}
+
+/// The slots of a table that are in use are no more than its inserts that took one, which are no
+/// more than those that were granted; without room for an insert they are all its slots, and the
+/// insert is refused with a count of at least so many.
+pub fn room_is_counted()
+    ensures opens { OpensEmpty }
+    ensures next { RoomIsCounted }
+    ensures full { FullIsFull }
+    ensures spent { FullIsSpent }
 {}

@@ -37,7 +37,7 @@ use Rattle.core_laws.proofs.Sound.Kept.{body_after, in_block}
 use Rattle.undo_chain.specs.declared.undo.Undo.{Undo}
 use Rattle.undo_chain.specs.Entry.{is_at_most, is_own, is_stamped_by}
 use Rattle.undo_chain.specs.Stamped.{stamped}
-use Rattle.run_laws.specs.Counts.Room.{writes_told}
+use Rattle.store_laws.specs.Room.{writes_told}
 use Rattle.run_laws.specs.Counts.Versions.{CountsVersions, OpensWithout, VersionsAreCounted, IdleOwnNone, dropped_by, entries_at, entries_in, is_of, is_stamped, own_entries, stamped_by, stamped_entries, total, written_by}
 
 -- Numbers that are tested to be equal are.

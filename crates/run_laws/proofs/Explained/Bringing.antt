@@ -8,7 +8,7 @@ use Rattle.block_spec.specs.declared.phase.Phase.{Phase}
 use Rattle.block_spec.specs.declared.phase.Phase.TheVariants.{Loose, Sealed, Imaged}
 use Rattle.block_spec.specs.declared.phase.SealFault.{SealFault}
 use Rattle.block_spec.specs.Bodies.{Body, seal_fault}
-use Rattle.run_laws.specs.Counts.Room.{writes_told}
+use Rattle.store_laws.specs.Room.{writes_told}
 use Rattle.run_laws.specs.Counts.Versions.{drops_told, dropped_by, moves_told, stamped_by, written_by}
 use Rattle.event_spec.specs.declared.event.Event.TheVariants as event
 use Rattle.event_spec.specs.declared.own.OwnTransaction.{OwnTransaction}

@@ -15,7 +15,7 @@ use Rattle.block_spec.specs.declared.phase.SealFault.{SealFault}
 use Rattle.block_spec.specs.Slots.{Row}
 use Rattle.cell_model.specs.declared.table.TableDecl.{TableDecl}
 use Rattle.run_laws.specs.Counts.Stamps.{sealed_now}
-use Rattle.run_laws.proofs.Counts.Room.{full_is_full}
+use Rattle.store_laws.proofs.Room.{full_is_full}
 use Rattle.run_laws.proofs.Counts.Stamps.{images_are_told, seals_are_told}
 use Rattle.core_laws.specs.Events.Laws.{IsStep, command_in}
 use Rattle.event_spec.specs.declared.event.Event.TheVariants as event

@@ -4,11 +4,11 @@ use mathlib.Core.Logic.{inl, inr}
 use Rattle.block_spec.specs.Bodies.{is_imaged, is_loose, is_sealed}
 use Rattle.block_spec.specs.declared.phase.Phase.{Phase}
 use Rattle.block_spec.specs.declared.phase.Phase.TheVariants.{Loose, Sealed, Imaged}
-use Rattle.run_laws.specs.Counts.Room.{inserted_by, used}
+use Rattle.store_laws.specs.Room.{inserted_by, used}
 use Rattle.run_laws.specs.Counts.Stamps.{imaged_by, sealed_by, sealed_now}
 use Rattle.run_laws.specs.Counts.Numbers.{IsNarrow}
 use Rattle.run_laws.proofs.Counts.Numbering.{numbers_are_narrow, opens_narrow}
-use Rattle.run_laws.proofs.Counts.Room.{opens_empty, room_is_counted}
+use Rattle.store_laws.proofs.Room.{opens_empty, room_is_counted}
 use Rattle.run_laws.proofs.Counts.Stamps.{opens_loose, stamps_are_counted}
 use Rattle.core_laws.proofs.Events.Lists.{split}
 use Rattle.core_laws.specs.Events.Laws.{IsStep, command_in}

@@ -28,7 +28,7 @@ use Rattle.workload_spec.specs.declared.reply.Said.TheVariants as said
 use Rattle.run_spec.specs.Calls.{line_to}
 use Rattle.run_spec.specs.Occurrences.{Occurrence}
 use Rattle.run_spec.specs.Told.{cause_told, told_by}
-use Rattle.run_laws.specs.Counts.Room.{inserted_by}
+use Rattle.store_laws.specs.Room.{inserted_by}
 use Rattle.run_laws.specs.Counts.Stamps.{imaged_by, sealed_by}
 use Rattle.run_laws.specs.Told.Laws.{TellsAt, TellsMove, TellsQuietly, is_plain, is_quiet}
 use Rattle.run_laws.proofs.Told.Tells.{not_silent}
@@ -253,10 +253,10 @@ module _ (shape : Shape) (parts : Parts) (t b : ℕ) (worker : Bool) (asked : Co
   insert_adds (event.Insert own table row) false h = go (insert_judged shape parts own table (key_of row)) refl
     where
       go : (r : Result ℕ WriteFault) → insert_judged shape parts own table (key_of row) ≡ r
-          → cond (t == table) (Rattle.run_laws.specs.Counts.Room.writes_told (reply_to_write (insert_judged shape parts own table (key_of row)))) 0 ≤ accepted t asked told
-      go (Err fault) e = subst (λ r. cond (t == table) (Rattle.run_laws.specs.Counts.Room.writes_told (reply_to_write r)) 0 ≤ accepted t asked told) (sym e)
+          → cond (t == table) (Rattle.store_laws.specs.Room.writes_told (reply_to_write (insert_judged shape parts own table (key_of row)))) 0 ≤ accepted t asked told
+      go (Err fault) e = subst (λ r. cond (t == table) (Rattle.store_laws.specs.Room.writes_told (reply_to_write r)) 0 ≤ accepted t asked told) (sym e)
           (let none = zero_if (t == table) in omega (arith, none))
-      go (Ok p) e = subst (λ r. cond (t == table) (Rattle.run_laws.specs.Counts.Room.writes_told (reply_to_write r)) 0 ≤ accepted t asked told) (sym e)
+      go (Ok p) e = subst (λ r. cond (t == table) (Rattle.store_laws.specs.Room.writes_told (reply_to_write r)) 0 ≤ accepted t asked told) (sym e)
           (let is : told ≡ Some said.Accepted = h.1 ∙ ap (λ r. line_to worker (told_by table 0 (reply_to_write r))) e ∙ not_silent worker said.Accepted refl in
           let counts : accepted t asked told ≡ cond {A = ℕ} (t == table) 1 0 =
           ap (accepted t asked) is ∙ ap (λ c. accepted t c (Some said.Accepted)) h.0 ∙ last (table == t) (t == table) (turn table t) in

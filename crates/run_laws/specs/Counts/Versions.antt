@@ -14,7 +14,7 @@ use Rattle.event_spec.specs.Sound.{IsShape, Sound}
 use Rattle.txn_desk.specs.Oldest.{snapshot_of}
 use Rattle.undo_chain.specs.declared.undo.Undo.{Undo}
 use Rattle.undo_chain.specs.Entry.{is_own}
-use Rattle.run_laws.specs.Counts.Room.{writes_told}
+use Rattle.store_laws.specs.Room.{writes_told}
 
 -- how many entries of a body pass a test
 abbrev pub entries_in : (Undo Before → Bool) → Body → ℕ

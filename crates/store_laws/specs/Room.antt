@@ -1,15 +1,18 @@
 -- The room of a table, by the inserts that were granted.
-use Rattle.std.specs.Prelude.{◌≡◌, ℕ, ◌+◌, ◌*◌, ◌≤◌, ◌==◌, sum_by, if◌then◌else◌}
+use Rattle.std.specs.Prelude.{◌≡◌, ℕ, ◌+◌, ◌*◌, ◌≤◌, ◌==◌, Bool, List, [], ◌∷◌, ◌++◌, sum_by}
+use Rattle.std.specs.Prelude.{if◌then◌else◌}
 use Rattle.block_spec.specs.Bodies.{is_empty}
+use Rattle.block_spec.specs.Slots.{Row}
 use Rattle.event_spec.specs.declared.event.Event.TheVariants as event
 use Rattle.event_spec.specs.declared.own.OwnKey.{OwnKey}
 use Rattle.event_spec.specs.declared.reply.Reply.TheVariants as reply
+use Rattle.event_spec.specs.declared.reply.WriteFault.TheVariants as fault
 use Rattle.event_spec.specs.Effects.{CoreEvent}
 use Rattle.event_spec.specs.Lawful.{HasTable, IsLawful}
 use Rattle.event_spec.specs.Parts.{Parts, Shape, below, blocks_of, body_at, head_at, is_head}
 use Rattle.event_spec.specs.Parts.{slots_of}
-use Rattle.event_spec.specs.Replay.{Made, after, opening, reply_after}
-use Rattle.event_spec.specs.Replies.{CoreReply}
+use Rattle.event_spec.specs.Replay.{IsLawfulLog, Made, after, opening, replay, reply_after}
+use Rattle.event_spec.specs.Replies.{CoreReply, reply_to}
 use Rattle.event_spec.specs.Sound.{IsShape, Sound}
 use Rattle.core_laws.specs.Logs.Laws.{HasNoRoom}
 
@@ -71,3 +74,19 @@ abbrev pub FullIsFull : Type 0
 FullIsFull = (shape : Shape) (parts : Parts) (own : OwnKey) (table : ℕ)
     → HasNoRoom shape parts own table
     → blocks_of shape table * slots_of shape table ≤ used shape parts table
+
+-- The table was found full with so many slots that its inserts had taken: at least all that it has.
+pub record IsSpent (shape : Shape) (parts : Parts) (table inserts : ℕ) : Type 0 where
+  pub counted : inserts ≡ (head_at shape parts table).inserts
+  pub all : blocks_of shape table * slots_of shape table ≤ inserts
+
+-- An insert of a lawful log that is refused as full found its table so.
+abbrev pub FullIsSpent : Type 0
+FullIsSpent = (shape : Shape) (before : List Made) (refused : Bool) (own : OwnKey) (table : ℕ)
+    (row : Row) (inserts : ℕ)
+    → IsShape shape
+    → IsLawfulLog
+    shape (before ++ record { event = event.Insert own table row; refused = refused } ∷ [])
+    → (reply_to shape (replay shape before) (event.Insert own table row)
+    ≡ reply.Refused (fault.Full inserts))
+    → IsSpent shape (replay shape before) table inserts

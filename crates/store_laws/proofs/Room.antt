@@ -41,7 +41,7 @@ use Rattle.core_laws.proofs.Sound.Keeps.{shaped}
 use Rattle.core_laws.proofs.Sound.Kept.{body_after, head_after}
 use Rattle.core_laws.proofs.Sound.Written.{change_goes, judged_ok}
 use Rattle.undo_chain.specs.declared.undo.Undo.{Undo}
-use Rattle.run_laws.specs.Counts.Room.{CountsRoom, FullIsFull, OpensEmpty, RoomIsCounted, inserted_by, used, used_in, writes_told}
+use Rattle.store_laws.specs.Room.{CountsRoom, FullIsFull, OpensEmpty, RoomIsCounted, inserted_by, used, used_in, writes_told}
 
 -- Numbers that are tested to be equal are.
 num : (a b : ℕ) → (a == b) ≡ true → a ≡ b
