@@ -13,21 +13,21 @@ use Rattle.stream_pieces.specs.declared.stand.Stand.TheVariants as stand
 use Rattle.stream_pieces.specs.Pieces.{IsWaiting, Known, behind, is_waiting, known_by, still_read}
 use Rattle.stream_pieces.specs.Pieces.{tells_end}
 use Rattle.stream_pieces.proofs.GoesOn.{early-end-goes-on, no-schema-goes-on, schema-goes-on}
-use Rattle.ipc_read.specs.Looks.{Looks, TakesWhole, stands}
+use Rattle.ipc_read.specs.Looks.{Looks, NoRows, TakesWhole, stands}
 
 -- the schema, and then the batches behind it
 pub look-schema : (bytes : List ℕ) (schema : SchemaRead) → first_schema bytes ≡ Ok schema
     → schema.size ≤ length bytes
-    → (rows : List (List Cell)) (count : ℕ) (stand : Stand)
-    → TakesWhole (known_by schema) schema.size (drop schema.size bytes) rows count stand
-    → Looks None 0 bytes (Some (known_by schema)) rows (schema.size + count) stand
-look-schema bytes schema is inside rows count stand takes =
+    → (Took : List (List Cell) → Type 0) (count : ℕ) (stand : Stand)
+    → TakesWhole Took (known_by schema) schema.size (drop schema.size bytes) count stand
+    → Looks Took None 0 bytes (Some (known_by schema)) (schema.size + count) stand
+look-schema bytes schema is inside Took count stand takes =
     let from_0 : schema.size + count ≡ 0 + (schema.size + count) = omega arith in
     let at : drop count (drop schema.size bytes)
     ≡ drop (schema.size + count) bytes = drop-drop count schema.size bytes in
     record {
       batches = takes.batches;
-      rows_are = takes.rows_are;
+      taken = takes.taken;
       within = omega (arith, inside, takes.within, length-drop schema.size bytes);
       goes_on = λ more. schema-goes-on bytes more schema is ∙ takes.goes_on more
           ∙ ap (λ (b : List ℕ). behind takes.batches
@@ -43,12 +43,24 @@ look-schema bytes schema is inside rows count stand takes =
           (stands (Some (known_by schema)) (schema.size + count) b stand)) at takes.waits);
     }
 
+-- nothing was taken
+pub with-none : (Took : List (List Cell) → Type 0) → Took [] → (bytes : List ℕ)
+    (found : Option Known) (count : ℕ) (stand : Stand)
+    → Looks NoRows None 0 bytes found count stand → Looks Took None 0 bytes found count stand
+with-none Took none bytes found count stand looks = record {
+  batches = looks.batches;
+  taken = subst Took (sym looks.taken) none;
+  within = looks.within;
+  goes_on = looks.goes_on;
+  waits = looks.waits;
+}
+
 -- the schema's message is not whole
 pub look-waits : (bytes : List ℕ) → first_schema bytes ≡ Err cause.Short → tells_end bytes ≡ false
-    → Looks None 0 bytes None [] 0 stand.Going
+    → Looks NoRows None 0 bytes None 0 stand.Going
 look-waits bytes is going = record {
   batches = [];
-  rows_are = refl;
+  taken = refl;
   within = omega arith;
   goes_on = λ more. refl;
   waits = record { first = refl; short = is; going = going };
@@ -79,12 +91,12 @@ first-some (byte ∷ rest) cause is done = (byte, rest, refl)
 -- the bytes are no stream, and that is decided
 pub look-fails : (bytes : List ℕ) (cause : Cause) → first_schema bytes ≡ Err cause
     → (is_waiting {A = List ℕ} (Err cause) ≡ false)
-    → Looks None 0 bytes None [] (length bytes) (stand.Stopped (fault_at 0 cause))
+    → Looks NoRows None 0 bytes None (length bytes) (stand.Stopped (fault_at 0 cause))
 look-fails bytes cause is done =
     let s = first-some bytes cause is done in
     record {
       batches = [];
-      rows_are = refl;
+      taken = refl;
       within = omega arith;
       goes_on = λ more. ap (λ (b : List ℕ). reading_of (b ++ more)) s.2
           ∙ no-schema-goes-on s.0 s.1 more cause (ap first_schema (sym s.2) ∙ is) done;
@@ -97,12 +109,12 @@ early-some [] end = absurd (true≢false (sym end))
 early-some (byte ∷ rest) end = (byte, rest, refl)
 
 pub look-ends : (bytes : List ℕ) → first_schema bytes ≡ Err cause.Short → tells_end bytes ≡ true
-    → Looks None 0 bytes None [] (length bytes) (stand.Stopped (fault_at 0 cause.Short))
+    → Looks NoRows None 0 bytes None (length bytes) (stand.Stopped (fault_at 0 cause.Short))
 look-ends bytes is end =
     let s = early-some bytes end in
     record {
       batches = [];
-      rows_are = refl;
+      taken = refl;
       within = omega arith;
       goes_on = λ more. ap (λ (b : List ℕ). reading_of (b ++ more)) s.2
           ∙ early-end-goes-on s.0 s.1 more (ap first_schema (sym s.2) ∙ is) (ap tells_end (sym s.2)
@@ -127,13 +139,11 @@ is-short cause.NullCount is = absurd (true≢false (sym is))
 is-short cause.Offsets is = absurd (true≢false (sym is))
 
 -- the same in other words
-pub found-by : (bytes : List ℕ) (found found' : Option Known) (rows rows' : List (List Cell))
+pub found-by : (Took : List (List Cell) → Type 0) (bytes : List ℕ) (found found' : Option Known)
     (count count' : ℕ) (stand stand' : Stand)
-    → found' ≡ found → rows' ≡ rows → count' ≡ count → stand' ≡ stand
-    → Looks None 0 bytes found rows count stand → Looks None 0 bytes found' rows' count' stand'
-found-by bytes found found' rows rows' count count' stand stand' found-is rows-are count-is stand-is
-    looks =
-    subst (λ (f : Option Known). Looks None 0 bytes f rows' count' stand') (sym found-is)
-    (subst (λ (r : List (List Cell)). Looks None 0 bytes found r count' stand') (sym rows-are)
-    (subst (λ (n : ℕ). Looks None 0 bytes found rows n stand') (sym count-is)
-    (subst (λ (s : Stand). Looks None 0 bytes found rows count s) (sym stand-is) looks)))
+    → found' ≡ found → count' ≡ count → stand' ≡ stand
+    → Looks Took None 0 bytes found count stand → Looks Took None 0 bytes found' count' stand'
+found-by Took bytes found found' count count' stand stand' found-is count-is stand-is looks =
+    subst (λ (f : Option Known). Looks Took None 0 bytes f count' stand') (sym found-is)
+    (subst (λ (n : ℕ). Looks Took None 0 bytes found n stand') (sym count-is)
+    (subst (λ (s : Stand). Looks Took None 0 bytes found count s) (sym stand-is) looks))

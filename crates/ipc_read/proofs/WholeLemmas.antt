@@ -19,34 +19,38 @@ use Rattle.stream_pieces.specs.Pieces.{Known, MessageRead, behind, is_waiting, m
 use Rattle.stream_pieces.specs.Pieces.{next_message, read_from, rows_of}
 use Rattle.ipc_read.specs.Looks.{TakesWhole}
 
--- So many bytes are done with, their rows are these, and behind them this is known.
-pub record Left (known : Known) (place : ℕ) (bytes : List ℕ) (now : Known) (count : ℕ)
-    (rows : List (List Cell)) : Type 0 where
+-- So many bytes are done with, of their rows this is so, and behind them this is known.
+pub record Left (Took : List (List Cell) → Type 0) (known : Known) (place : ℕ) (bytes : List ℕ)
+    (now : Known) (count : ℕ) : Type 0 where
   pub batches : List (List (List Cell))
-  pub rows_are : rows ≡ rows_of batches
+  pub taken : Took (rows_of batches)
   pub within : count ≤ length bytes
   pub goes_on : (more : List ℕ) → read_from (Some known) place (bytes ++ more)
       ≡ behind batches (read_from (Some now) (place + count) (drop count bytes ++ more))
 
 -- nothing is taken
-pub left_first : (known : Known) (place : ℕ) (bytes : List ℕ) → Left known place bytes known 0 []
-left_first known place bytes = record {
+pub left_first : (Took : List (List Cell) → Type 0) → Took [] → (known : Known) (place : ℕ)
+    (bytes : List ℕ) → Left Took known place bytes known 0
+left_first Took none known place bytes = record {
   batches = [];
-  rows_are = refl;
+  taken = none;
   within = omega arith;
   goes_on = λ more. ap (λ (p : ℕ). read_from (Some known) p (bytes ++ more)) (omega arith);
 }
 
 -- a message more
-pub left_next : (law : MessageGoesOn) (known : Known) (place : ℕ) (bytes : List ℕ) (now : Known)
-    (count : ℕ) (rows : List (List Cell)) (left : Left known place bytes now count rows)
-    (message : MessageRead) → next_message now (drop count bytes) ≡ Ok (Some message)
+pub left_next : (law : MessageGoesOn) (Took Took' : List (List Cell) → Type 0) (known : Known)
+    (place : ℕ) (bytes : List ℕ) (now : Known) (count : ℕ)
+    (left : Left Took known place bytes now count) (message : MessageRead)
+    → next_message now (drop count bytes) ≡ Ok (Some message)
     → message.size ≤ length (drop count bytes)
-    → Left known place bytes message.known (count + message.size) (rows ++ rows_of message.batches)
-left_next law known place bytes now count rows left message is inside = record {
+    → ((rows : List (List Cell)) → Took rows → Took' (rows ++ rows_of message.batches))
+    → Left Took' known place bytes message.known (count + message.size)
+left_next law Took Took' known place bytes now count left message is inside step = record {
   batches = left.batches ++ message.batches;
-  rows_are = ap (λ (r : List (List Cell)). r ++ rows_of message.batches) left.rows_are
-      ∙ sym (flat_map-append (λ (r : List (List Cell)). r) left.batches message.batches);
+  taken = subst Took'
+      (sym (flat_map-append (λ (r : List (List Cell)). r) left.batches message.batches))
+      (step (rows_of left.batches) left.taken);
   within = omega (arith, inside, length-drop count bytes, left.within);
   goes_on = λ more.
       let rest : Reading = read_from (Some message.known) (place + (count + message.size))
@@ -63,17 +67,19 @@ left_next law known place bytes now count rows left message is inside = record {
 }
 
 -- a batch more
-pub left_batch : (law : MessageGoesOn) (known : Known) (place : ℕ) (bytes : List ℕ) (now : Known)
-    (count : ℕ) (rows : List (List Cell)) (left : Left known place bytes now count rows)
-    (batch : BatchRead) → next_batch now.columns (drop count bytes) ≡ Ok (Some batch)
+pub left_batch : (law : MessageGoesOn) (Took Took' : List (List Cell) → Type 0) (known : Known)
+    (place : ℕ) (bytes : List ℕ) (now : Known) (count : ℕ)
+    (left : Left Took known place bytes now count) (batch : BatchRead)
+    → next_batch now.columns (drop count bytes) ≡ Ok (Some batch)
     → batch.size ≤ length (drop count bytes)
-    → Left known place bytes now (count + batch.size) (rows ++ batch.rows)
-left_batch law known place bytes now count rows left batch is inside =
-    subst (λ (r : List (List Cell)). Left known place bytes now (count + batch.size) (rows ++ r))
-    (append-nil batch.rows)
-    (left_next law known place bytes now count rows left (message_of now batch)
+    → ((rows : List (List Cell)) → Took rows → Took' (rows ++ batch.rows))
+    → Left Took' known place bytes now (count + batch.size)
+left_batch law Took Took' known place bytes now count left batch is inside step =
+    left_next law Took Took' known place bytes now count left (message_of now batch)
     (ap (λ (read : Result (Option BatchRead) Cause).
-    read >>= λ b. Ok (option_map (message_of now) b)) is) inside)
+    read >>= λ b. Ok (option_map (message_of now) b)) is) inside
+    (λ rows took. subst (λ (r : List (List Cell)). Took' (rows ++ r)) (sym (append-nil batch.rows))
+    (step rows took))
 
 -- what the next batch, the end or a fault makes of what is known
 pub next-is : (known : Known) (bytes : List ℕ) (read : Result (Option BatchRead) Cause)
@@ -90,33 +96,33 @@ some-left zero (byte ∷ rest) less = (byte, rest, refl)
 some-left (suc n) [] less = absurd (omega (arith, less))
 some-left (suc n) (byte ∷ rest) less = some-left n rest (omega (arith, less))
 
-module _ (known : Known) (place : ℕ) (bytes : List ℕ) (count : ℕ) (rows : List (List Cell))
-    (left : Left known place bytes known count rows) where
+module _ (Took : List (List Cell) → Type 0) (known : Known) (place : ℕ) (bytes : List ℕ)
+    (count : ℕ) (left : Left Took known place bytes known count) where
   -- all is taken, or the next message is not whole
   pub left_waits : (drop count bytes ≡ [])
       ⊎ (next_message known (drop count bytes) ≡ Err cause.Short)
-      → TakesWhole known place bytes rows count stand.Going
+      → TakesWhole Took known place bytes count stand.Going
   left_waits waits = record {
     batches = left.batches;
-    rows_are = left.rows_are;
+    taken = left.taken;
     within = left.within;
     goes_on = left.goes_on;
     waits = waits;
   }
 
-  pub left_all : length bytes ≤ count → TakesWhole known place bytes rows count stand.Going
+  pub left_all : length bytes ≤ count → TakesWhole Took known place bytes count stand.Going
   left_all all = left_waits (inl (drop_all count bytes all))
 
   pub left_ends : (law : EndGoesOn) → count < length bytes
       → next_message known (drop count bytes) ≡ Ok None
-      → TakesWhole known place bytes rows (length bytes) stand.Ended
+      → TakesWhole Took known place bytes (length bytes) stand.Ended
   left_ends law less is =
       let s = some-left count bytes less in
       let here : next_message known (s.0 ∷ s.1) ≡ Ok None =
       ap (next_message known) (sym s.2) ∙ is in
       record {
         batches = left.batches;
-        rows_are = left.rows_are;
+        taken = left.taken;
         within = omega arith;
         goes_on = λ more. left.goes_on more ∙ ap (behind left.batches)
             (ap (λ (b : List ℕ). read_from (Some known) (place + count) (b ++ more)) s.2
@@ -127,7 +133,7 @@ module _ (known : Known) (place : ℕ) (bytes : List ℕ) (count : ℕ) (rows : 
   pub left_fails : (law : FaultGoesOn) (cause : Cause) → count < length bytes
       → next_message known (drop count bytes) ≡ Err cause
       → is_waiting {A = List ℕ} (Err cause) ≡ false
-      → TakesWhole known place bytes rows (length bytes)
+      → TakesWhole Took known place bytes (length bytes)
       (stand.Stopped (fault_at (place + count) cause))
   left_fails law cause less is done =
       let s = some-left count bytes less in
@@ -135,7 +141,7 @@ module _ (known : Known) (place : ℕ) (bytes : List ℕ) (count : ℕ) (rows : 
       ap (next_message known) (sym s.2) ∙ is in
       record {
         batches = left.batches;
-        rows_are = left.rows_are;
+        taken = left.taken;
         within = omega arith;
         goes_on = λ more. left.goes_on more ∙ ap (behind left.batches)
             (ap (λ (b : List ℕ). read_from (Some known) (place + count) (b ++ more)) s.2
@@ -151,10 +157,9 @@ row-more rows i row is =
     ∙ ap (λ (r : List Cell). take i rows ++ r ∷ []) (get_or_from_slice_get rows i row [] is))
 
 -- the same in other words
-pub taken-by : (known : Known) (place : ℕ) (bytes : List ℕ) (rows rows' : List (List Cell))
-    (count count' : ℕ) (s s' : Stand) → rows' ≡ rows → count' ≡ count → s' ≡ s
-    → TakesWhole known place bytes rows count s → TakesWhole known place bytes rows' count' s'
-taken-by known place bytes rows rows' count count' s s' rows-are count-is s-is takes =
-    subst (λ (r : List (List Cell)). TakesWhole known place bytes r count' s') (sym rows-are)
-    (subst (λ (n : ℕ). TakesWhole known place bytes rows n s') (sym count-is)
-    (subst (λ (t : Stand). TakesWhole known place bytes rows count t) (sym s-is) takes))
+pub taken-by : (Took : List (List Cell) → Type 0) (known : Known) (place : ℕ) (bytes : List ℕ)
+    (count count' : ℕ) (s s' : Stand) → count' ≡ count → s' ≡ s
+    → TakesWhole Took known place bytes count s → TakesWhole Took known place bytes count' s'
+taken-by Took known place bytes count count' s s' count-is s-is takes =
+    subst (λ (n : ℕ). TakesWhole Took known place bytes n s') (sym count-is)
+    (subst (λ (t : Stand). TakesWhole Took known place bytes count t) (sym s-is) takes)

@@ -1,5 +1,5 @@
 -- What a reader finds in the bytes that have come.
-use Rattle.std.specs.Prelude.{◌≡◌, ◌≤◌, ℕ, ◌+◌, List, ◌++◌, length, drop, Option, None, Some}
+use Rattle.std.specs.Prelude.{◌≡◌, ◌≤◌, ℕ, ◌+◌, List, [], ◌++◌, length, drop, Option, None, Some}
 use Rattle.cell_model.specs.declared.cell.Cell.{Cell}
 use Rattle.stream_pieces.specs.declared.stand.Stand.{Stand}
 use Rattle.stream_pieces.specs.Pieces.{IsWaiting, Known, Standing, behind, read_from, rows_of}
@@ -18,13 +18,14 @@ abbrev pub newest : Option Known → Option Known → Option Known
 newest before None = before
 newest before (Some known) = Some known
 
--- In front of what is still read stand the batches of these rows, and so many bytes are done with.
+-- In front of what is still read stand batches, of whose rows this is so, and so many bytes are done
+-- with.
 pub record Looks
-    (before : Option Known) (place : ℕ) (bytes : List ℕ) (found : Option Known)
-    (rows : List (List Cell)) (count : ℕ) (stand : Stand)
+    (Took : List (List Cell) → Type 0) (before : Option Known) (place : ℕ) (bytes : List ℕ)
+    (found : Option Known) (count : ℕ) (stand : Stand)
     : Type 0 where
   pub batches : List (List (List Cell))
-  pub rows_are : rows ≡ rows_of batches
+  pub taken : Took (rows_of batches)
   pub within : count ≤ length bytes
   pub goes_on : (more : List ℕ) → read_from before place (bytes ++ more)
       ≡ behind batches
@@ -32,5 +33,10 @@ pub record Looks
   pub waits : IsWaiting (stands (newest before found) (place + count) (drop count bytes) stand)
 
 -- The same behind a schema that was read before.
-abbrev pub TakesWhole : Known → ℕ → List ℕ → List (List Cell) → ℕ → Stand → Type 0
-TakesWhole known place bytes rows count stand = Looks (Some known) place bytes None rows count stand
+abbrev pub TakesWhole
+    : (List (List Cell) → Type 0) → Known → ℕ → List ℕ → ℕ → Stand → Type 0
+TakesWhole Took known place bytes count stand = Looks Took (Some known) place bytes None count stand
+
+-- There are no rows.
+abbrev pub NoRows : List (List Cell) → Type 0
+NoRows rows = rows ≡ []

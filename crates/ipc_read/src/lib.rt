@@ -14,6 +14,7 @@ mod pieces;
 mod reader;
 mod reading;
 mod schema;
+mod taking;
 mod views;
 mod whole;
 
@@ -25,3 +26,4 @@ pub use pieces::{Whole, read_pieces};
 pub use reader::{Fed, Reader};
 pub use reading::{Reading, read};
 pub use schema::{SchemaMessage, first_schema};
+pub use taking::TakeBatches;

@@ -3,13 +3,14 @@ ghost use Rattle.std.specs.Prelude.{◌≡◌, ◌+◌, ◌<◌, ◌^◌, [], If
 ghost use Rattle.std.specs.Prelude.{Some, length, IsTrue, ◌↔◌};
 ghost use Rattle.std.specs.Option.{option_copied};
 ghost use Rattle.ipc_read.specs.Looks.{newest};
-ghost use Rattle.stream_pieces.specs.Pieces.{Feeds, IsWaiting, end_fault, fault_of, opening};
+ghost use Rattle.stream_pieces.specs.Pieces.{Feeds, FeedsTo, IsWaiting, end_fault, fault_of, opening};
 ghost use Rattle.stream_pieces.specs.Pieces.{no_more, schema_of, still_read};
 ghost use Rattle.stream_pieces.specs.declared.stand.Stand.TheVariants as stand;
 
 use crate::known::Known;
 use crate::looking::{Found, Looked, look_on};
-use cell_model::{Column, Rows};
+use crate::taking::TakeBatches;
+use cell_model::{Column, Row, Rows};
 use std::alloc::{AllocError, Global};
 use std::marker::Model;
 use stream_pieces::Stand;
@@ -76,32 +77,56 @@ impl Reader {
         ensures err { OnErr result (self.new ≡ self.old) }
         ensures waits { IsWaiting self.new }
     {
+        let mut rows: Vec<Row> = Vec::new(self.alloc);
+        let stand = self.feed_to(piece, &mut rows)?;
+        Ok(Fed {
+            rows: Rows::from(rows),
+            fault: fault_of(stand),
+        })
+    }
+
+    /// Reads the next piece of the stream as [`Reader::feed`] does, hands the batches that it makes
+    /// whole on, one after another, and answers how far the stream has come. Where memory is
+    /// refused, the piece is not taken, but some of its rows may have been handed on.
+    pub fn feed_to<T: TakeBatches>(
+        &mut self,
+        piece: &[u8],
+        taker: &mut T,
+    ) -> Result<Stand, AllocError>
+        requires { self.old.place + length self.old.begun + length piece.now < 2 ^ 63 }
+        ensures ok { IfOk result (λ stand. FeedsTo (λ rows. T.took taker.old rows taker.new)
+            self.old self.new piece.now (fault_of stand)) }
+        ensures stand { IfOk result (λ stand. stand ≡ self.new.stand) }
+        ensures err { OnErr result (self.new ≡ self.old) }
+        ensures waits { IsWaiting self.new }
+    {
         match self.stand {
-            Stand::Going => self.go_on(piece),
-            Stand::Ended => Ok(Fed {
-                rows: Rows::from(Vec::new(self.alloc)),
-                fault: None,
-            }),
-            Stand::Stopped(fault) => Ok(Fed {
-                rows: Rows::from(Vec::new(self.alloc)),
-                fault: Some(fault),
-            }),
+            Stand::Going => self.go_on(piece, taker),
+            Stand::Ended | Stand::Stopped(_) => Ok(self.stand),
         }
     }
 
     /// The same where more may come.
-    fn go_on(&mut self, piece: &[u8]) -> Result<Fed, AllocError>
+    fn go_on<T: TakeBatches>(&mut self, piece: &[u8], taker: &mut T) -> Result<Stand, AllocError>
         requires going { self.old.stand ≡ stand.Going }
         requires few { self.old.place + length self.old.begun + length piece.now < 2 ^ 63 }
-        ensures ok { IfOk result (λ fed. Feeds self.old self.new piece.now fed.rows fed.fault) }
+        ensures ok { IfOk result (λ stand. FeedsTo (λ rows. T.took taker.old rows taker.new)
+            self.old self.new piece.now (fault_of stand)) }
+        ensures stand { IfOk result (λ stand. stand ≡ self.new.stand) }
         ensures err { OnErr result (self.new ≡ self.old) }
         ensures waits { IsWaiting self.new }
     {
-        let looked = look_on(self.alloc, &self.known, self.place, &mut self.begun, piece)?;
+        let looked = look_on(
+            self.alloc,
+            &self.known,
+            self.place,
+            &mut self.begun,
+            piece,
+            taker,
+        )?;
         let Looked { found, begun } = looked;
         let Found {
             known,
-            rows,
             count,
             stand,
         } = found;
@@ -109,10 +134,7 @@ impl Reader {
         self.known = newest(self.known.take(), known);
         self.place += count as u64;
         self.stand = stand;
-        Ok(Fed {
-            rows: Rows::from(rows),
-            fault: fault_of(stand),
-        })
+        Ok(stand)
     }
 
     /// Where the stream ends here, the first fault, if there is one: a message that has begun is

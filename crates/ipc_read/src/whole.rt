@@ -1,93 +1,75 @@
 //! The messages that are whole at the front of bytes that have come.
-ghost use Rattle.std.specs.Prelude.{◌≡◌, ◌+◌, ◌<◌, ◌^◌, ◌++◌, IfOk, OnOk, length};
-ghost use Rattle.std.specs.Prelude.{Err, List, ℕ};
+ghost use Rattle.std.specs.Prelude.{◌≡◌, ◌+◌, ◌<◌, ◌^◌, IfOk, length, Err, List, ℕ};
 ghost use Rattle.stream_pieces.specs.Pieces.{is_waiting};
 ghost use Rattle.ipc_read.specs.Looks.{TakesWhole};
 
-use crate::batch::Batch;
 use crate::known::Known;
 use crate::message::{Next, next_batch};
-use cell_model::Row;
+use crate::taking::TakeBatches;
 use std::alloc::{AllocError, Global};
 use stream_pieces::Stand;
 use stream_spec::{Cause, StreamFault};
 
-/// The rows of the messages that are whole, how many bytes are done with, and how far the stream has
-/// come by them.
-#[derive(Drop)]
+/// How many bytes are done with, and how far the stream has come by them.
 pub struct Taken {
-    pub rows: Vec<Row>,
     pub count: usize,
     pub stand: Stand,
 }
 
-/// Adds the rows of a batch.
-fn add_rows(alloc: Global, rows: &mut Vec<Row>, batch: &Batch<'_>) -> Result<(), AllocError>
-    ensures { OnOk result (rows.new.items ≡ rows.old.items ++ batch.now.rows) }
-{
-    for i in 0..batch.len() {
-        rows.push(batch.row(alloc, i)?)?;
-    }
-    Ok(())
-}
-
-/// The messages that are whole at the front of the bytes, which begin at this place of the stream.
-pub fn take_whole(
+/// Takes the messages that are whole at the front of the bytes, which begin at this place of the
+/// stream.
+pub fn take_whole<T: TakeBatches>(
     alloc: Global,
     known: &Known,
     place: u64,
     bytes: &[u8],
+    taker: &mut T,
 ) -> Result<Taken, AllocError>
     requires { place + length bytes.now < 2 ^ 63 }
-    ensures { IfOk result (λ t. TakesWhole known.now place bytes.now t.rows.items t.count
-        t.stand) }
+    ensures { IfOk result (λ t. TakesWhole (λ rows. T.took taker.old rows taker.new) known.now place
+        bytes.now t.count t.stand) }
 {
-    let mut rows = Vec::new(alloc);
     let mut count = 0;
     while count < bytes.len() {
         let next = next_batch(alloc, known.columns(), &bytes[count..])?;
         match next {
             Next::Batch(batch) => {
-                add_rows(alloc, &mut rows, &batch)?;
+                taker.take(alloc, &batch)?;
                 count += batch.size() as usize;
             }
-            Next::End => return Ok(done(rows, bytes, Stand::Ended)),
+            Next::End => return Ok(done(bytes, Stand::Ended)),
             Next::Fault(cause) => {
                 if is_short(cause) {
-                    return Ok(going(rows, count));
+                    return Ok(going(count));
                 }
                 let fault = StreamFault {
                     place: place + count as u64,
                     cause,
                 };
-                return Ok(done(rows, bytes, Stand::Stopped(fault)));
+                return Ok(done(bytes, Stand::Stopped(fault)));
             }
         }
     }
-    Ok(going(rows, count))
+    Ok(going(count))
 }
 
 /// So many bytes are done with, and more may come.
-fn going(rows: Vec<Row>, count: usize) -> Taken
-    ensures rows { result.rows.items ≡ rows.items }
+fn going(count: usize) -> Taken
     ensures count { result.count ≡ count }
     ensures stand { result.stand ≡ Stand.Going }
 {
     Taken {
-        rows,
         count,
         stand: Stand::Going,
     }
 }
 
 /// All bytes are done with.
-fn done(rows: Vec<Row>, bytes: &[u8], stand: Stand) -> Taken
-    ensures rows { result.rows.items ≡ rows.items }
+fn done(bytes: &[u8], stand: Stand) -> Taken
     ensures count { result.count ≡ length bytes.now }
     ensures stand { result.stand ≡ stand }
 {
     Taken {
-        rows,
         count: bytes.len(),
         stand,
     }

@@ -3,3 +3,5 @@ pub mod GoesOn
 pub mod Long
 pub mod Messages
 pub mod SoFar
+pub mod Schemas
+pub mod Over

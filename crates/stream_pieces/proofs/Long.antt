@@ -277,10 +277,10 @@ batch-decided columns byte bytes long =
     (sized-long (number_from (byte ∷ bytes) 4 4) (drop 8 (byte ∷ bytes))
     (omega (arith, long, length-drop 8 (byte ∷ bytes)))))
 
-zeros : List ℕ
+pub zeros : List ℕ
 zeros = replicate (2 ^ 64) 0
 
-length-zeros : length zeros ≡ 2 ^ 64
+pub length-zeros : length zeros ≡ 2 ^ 64
 unfolding zeros
 length-zeros = length-replicate {A = ℕ} (2 ^ 64) 0
 

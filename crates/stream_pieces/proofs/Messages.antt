@@ -39,7 +39,8 @@ an-end known (Ok (Some batch)) is = cc
 an-end known (Ok None) is = refl
 an-end known (Err cause) is = cc
 
-pub a-fault : (known : Known) (read : Result (Option BatchRead) Cause) (cause : Cause) → made known read
+pub a-fault : (known : Known) (read : Result (Option BatchRead) Cause) (cause : Cause)
+    → made known read
     ≡ Err cause → read ≡ Err cause
 a-fault known (Ok (Some batch)) cause is = cc
 a-fault known (Ok None) cause is = cc

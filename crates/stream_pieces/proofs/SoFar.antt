@@ -1,12 +1,11 @@
 -- Pieces one after another.
-use Rattle.std.proofs.Common.{◌≡◌, ℕ, ◌+◌, ◌≤◌, List, [], ◌∷◌, ◌++◌, length, refl, sym, ap, ◌∙◌}
+use Rattle.std.proofs.Common.{◌≡◌, ℕ, List, [], ◌∷◌, ◌++◌, refl, sym, ap, ◌∙◌}
 use Rattle.std.proofs.Common.{arith, append_assoc, append-nil, length-append, Option, None, Some}
 use Rattle.std.proofs.Common.{inl, inr}
-use Rattle.std.proofs.Common.{◌⊎◌, Ok, Err, Result, subst}
+use Rattle.std.proofs.Common.{◌⊎◌, Err}
 use Rattle.std.proofs.lemmas.Grind.{flat_map-append}
 use Rattle.cell_model.specs.declared.cell.Cell.{Cell}
-use Rattle.stream_spec.specs.declared.fault.Cause.{Cause}
-use Rattle.stream_spec.specs.Streams.{Reading, SchemaRead, fault_at, first_schema, next_batch}
+use Rattle.stream_spec.specs.Streams.{Reading, fault_at, first_schema, next_batch}
 use Rattle.stream_spec.specs.Streams.{reading_of}
 use Rattle.stream_spec.specs.declared.fault.Cause.TheVariants as cause
 use Rattle.stream_spec.specs.declared.fault.StreamFault.{StreamFault}
@@ -33,7 +32,7 @@ pub a-piece-so-far : (fed piece : List ℕ) (old new : Standing) (rows more_rows
 a-piece-so-far fed piece old new rows more_rows fault so feeds = record {
   batches = so.batches ++ feeds.batches;
   rows_are = ap (λ (r : List (List Cell)). r ++ more_rows) so.rows_are
-      ∙ ap (λ (r : List (List Cell)). rows_of so.batches ++ r) feeds.rows_are
+      ∙ ap (λ (r : List (List Cell)). rows_of so.batches ++ r) feeds.taken
       ∙ sym (flat_map-append (λ (rows : List (List Cell)). rows) so.batches feeds.batches);
   goes_on = λ more.
       let rest : Reading = still_read new more in

@@ -32,7 +32,7 @@ longer : (n : ℕ) (bytes more : List ℕ) → nat_le n (length bytes) ≡ true
 longer n bytes more is = le-leb n (length (bytes
     ++ more)) (omega (arith, leb-true n (length bytes) is, length-append bytes more))
 
-number-stays : (bytes more : List ℕ) (place width : ℕ) → place + width ≤ length bytes
+pub number-stays : (bytes more : List ℕ) (place width : ℕ) → place + width ≤ length bytes
     → number_from (bytes ++ more) place width ≡ number_from bytes place width
 number-stays bytes more place width within =
     ap (λ (rest : List ℕ). number_from rest 0 width) (drop-append-le place bytes more (omega arith))

@@ -8,7 +8,9 @@ use Rattle.stream_spec.specs.declared.fault.Cause.{Cause}
 use Rattle.stream_spec.specs.declared.fault.Cause.TheVariants as cause
 use Rattle.stream_pieces.specs.Pieces.{Known, MessageRead, behind, is_waiting, known_by}
 use Rattle.stream_spec.specs.declared.fault.StreamFault.{StreamFault}
-use Rattle.stream_pieces.specs.Pieces.{Feeds, IsReadingOf, IsWaiting, ReadSoFar, Standing}
+use Rattle.stream_pieces.specs.Pieces.{Feeds, IsOver, IsReadingOf, IsWaiting}
+use Rattle.stream_pieces.specs.Pieces.{ReadSoFar, Standing}
+use Rattle.stream_pieces.specs.declared.stand.Stand.TheVariants as stand
 use Rattle.stream_pieces.specs.Pieces.{end_fault, next_message, schema_of}
 use Rattle.stream_pieces.specs.Pieces.{no_more, opening, read_from, still_read, tells_end}
 
@@ -106,3 +108,29 @@ AllIsReadSoFar = (fed : List ℕ) (reader : Standing) (rows : List (List Cell))
     (fault : Option StreamFault)
     → ReadSoFar fed reader rows → still_read reader [] ≡ no_more reader.known fault
     → IsReadingOf (reading_of fed) (schema_of reader.known) rows fault
+
+-- ---- what is over, and what is not
+
+-- Behind the end word, and behind a fault that is decided, the reading is over.
+abbrev pub DoneIsOver : Type 0
+DoneIsOver = (fed : List ℕ) (reader : Standing) (rows : List (List Cell))
+    → ReadSoFar fed reader rows → (reader.stand ≡ stand.Going → ⊥) → IsOver fed
+
+-- While more may come, it is not.
+abbrev pub GoingIsOpen : Type 0
+GoingIsOpen = (fed : List ℕ) (reader : Standing) (rows : List (List Cell))
+    → ReadSoFar fed reader rows → IsWaiting reader → reader.stand ≡ stand.Going → IsOver fed → ⊥
+
+-- ---- the schema
+
+-- No rows are read while no schema is.
+abbrev pub SchemaIsFirst : Type 0
+SchemaIsFirst = (fed : List ℕ) (reader : Standing) (rows : List (List Cell))
+    → ReadSoFar fed reader rows → IsWaiting reader → reader.known ≡ None → rows ≡ []
+
+-- A schema that is known stays.
+abbrev pub SchemaIsKept : Type 0
+SchemaIsKept = (old new : Standing) (piece : List ℕ) (rows : List (List Cell))
+    (fault : Option StreamFault) (known : Known)
+    → Feeds old new piece rows fault → IsWaiting new → old.known ≡ Some known
+    → schema_of new.known ≡ Some known.columns

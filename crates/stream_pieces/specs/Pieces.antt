@@ -150,17 +150,21 @@ end_fault (stand.Stopped fault) known place begun = Some fault
 abbrev pub rows_of : List (List (List Cell)) → List (List Cell)
 rows_of batches = flat_map (λ rows. rows) batches
 
--- A piece was read: the rows of the batches that it made whole, and behind them what is still read,
--- whatever comes; and the fault, if it is decided. The bytes that are kept are some of those that
--- came.
-pub record Feeds (old new : Standing) (piece : List ℕ) (rows : List (List Cell))
+-- A piece was read: of the rows of the batches that it made whole this is so, and behind them stands
+-- what is still read, whatever comes; and the fault is told, if it is decided. The bytes that are
+-- kept are some of those that came.
+pub record FeedsTo (Took : List (List Cell) → Type 0) (old new : Standing) (piece : List ℕ)
     (fault : Option StreamFault) : Type 0 where
   pub batches : List (List (List Cell))
-  pub rows_are : rows ≡ rows_of batches
+  pub taken : Took (rows_of batches)
   pub goes_on : (more : List ℕ) → still_read old (piece ++ more)
       ≡ behind batches (still_read new more)
   pub told : fault ≡ fault_of new.stand
   pub counted : new.place + length new.begun ≤ old.place + length old.begun + length piece
+
+-- A piece was read, with these rows.
+abbrev pub Feeds : Standing → Standing → List ℕ → List (List Cell) → Option StreamFault → Type 0
+Feeds old new piece rows fault = FeedsTo (λ taken. rows ≡ taken) old new piece fault
 
 -- These columns, rows and this fault are what is read.
 pub record IsReadingOf (reading : Reading) (schema : Option (List Column)) (rows : List (List Cell))
@@ -176,3 +180,8 @@ pub record ReadSoFar (fed : List ℕ) (reader : Standing) (rows : List (List Cel
   pub rows_are : rows ≡ rows_of batches
   pub goes_on : (more : List ℕ) → reading_of (fed ++ more) ≡ behind batches (still_read reader more)
   pub counted : reader.place + length reader.begun ≤ length fed
+
+-- Whatever comes behind these bytes, they read as they do: the end word has come, or a fault that no
+-- bytes mend.
+abbrev pub IsOver : List ℕ → Type 0
+IsOver bytes = (more : List ℕ) → reading_of (bytes ++ more) ≡ reading_of bytes

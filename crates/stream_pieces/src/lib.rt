@@ -8,6 +8,7 @@ pub mod examples;
 pub mod stand;
 
 ghost use Rattle.stream_pieces.specs.Laws.{EarlyEndGoesOn, EndGoesOn, EndIsTold, EndStays};
+ghost use Rattle.stream_pieces.specs.Laws.{DoneIsOver, GoingIsOpen, SchemaIsFirst, SchemaIsKept};
 ghost use Rattle.stream_pieces.specs.Laws.{FaultGoesOn, LongIsDecided, MessageGoesOn, MessageStays};
 ghost use Rattle.stream_pieces.specs.Laws.{AllIsReadSoFar, APieceIsReadSoFar, NoSchemaGoesOn};
 ghost use Rattle.stream_pieces.specs.Laws.{NothingIsReadSoFar, OpeningReadsAll, SchemaGoesOn, SchemaStays, ShortIsOpen};
@@ -58,4 +59,17 @@ pub fn pieces_go_on()
     ensures first { NothingIsReadSoFar }
     ensures next { APieceIsReadSoFar }
     ensures last { AllIsReadSoFar }
+{}
+
+/// Behind the end word and a fault that is decided whatever comes is not looked at; while more may
+/// come, there are bytes with which something else is read.
+pub fn what_is_over_is_decided()
+    ensures over { DoneIsOver }
+    ensures going { GoingIsOpen }
+{}
+
+/// The schema comes in front of all rows, and stays.
+pub fn the_schema_comes_first()
+    ensures first { SchemaIsFirst }
+    ensures kept { SchemaIsKept }
 {}

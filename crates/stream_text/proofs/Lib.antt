@@ -1,1 +1,2 @@
-mod ShownLemmas
+pub mod RowLemmas
+pub mod ShowingLemmas

@@ -1,2 +1,4 @@
 pub mod Shown
+pub mod Added
+pub mod Showing
 pub mod Examples

@@ -52,6 +52,10 @@ last_line count (Some fault) = spaced
 abbrev pub all_rows : List (List (List Cell)) → List (List Cell)
 all_rows batches = flat_map (λ rows. rows) batches
 
+-- the text of all lines but the last
+abbrev pub front_text : Reading → List ℕ
+front_text reading = lines_text (front_lines reading.schema (all_rows reading.batches))
+
 -- the text of what is read of a stream
 abbrev pub shown_text : Reading → List ℕ
 shown_text reading = lines_text

@@ -3,6 +3,7 @@
 
 pub mod examples;
 mod lines;
-mod shown;
+mod row_lines;
+mod showing;
 
-pub use shown::{Shown, show};
+pub use showing::Showing;

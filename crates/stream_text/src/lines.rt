@@ -1,10 +1,11 @@
 //! The lines of a stream's text: its columns, its rows, and its count of rows or its first fault.
-ghost use Rattle.std.specs.Prelude.{◌≡◌, ◌++◌, ◌∷◌, [], None, Some, OnOk, map};
+ghost use Rattle.std.specs.Prelude.{◌≡◌, ◌++◌, ◌∷◌, [], None, Some, OnOk, decimal, map};
 ghost use Rattle.stream_text.specs.Shown.{cause_text, column_text, last_line, schema_line};
 ghost use Rattle.word_text.specs.Words.{behind_spaces};
 ghost use Rattle.workload_spec.specs.ReplyText.{row_line};
 
 use cell_model::{Column, Row};
+use itoa::Buffer;
 use std::alloc::AllocError;
 use stream_spec::{Cause, StreamFault};
 use word_text::{kind_text, put_cells, put_number, put_quoted, put_word};
@@ -75,12 +76,21 @@ pub fn put_row(out: &mut Vec<u8>, row: &Row) -> Result<(), AllocError>
     Ok(())
 }
 
+/// A number behind a space.
+fn put_wide(out: &mut Vec<u8>, number: u128) -> Result<(), AllocError>
+    ensures { OnOk result (out.new.items ≡ out.old.items ++ 32 ∷ decimal number) }
+{
+    let mut buffer = Buffer::new();
+    out.push(b' ')?;
+    out.extend_from_slice(buffer.format(number).as_bytes())
+}
+
 /// The last line: how many rows there are.
-pub fn put_count(out: &mut Vec<u8>, count: u64) -> Result<(), AllocError>
+pub fn put_count(out: &mut Vec<u8>, count: u128) -> Result<(), AllocError>
     ensures { OnOk result (out.new.items ≡ out.old.items ++ (last_line count None ++ 10 ∷ [])) }
 {
     out.extend_from_slice(b"rows")?;
-    put_number(out, count)?;
+    put_wide(out, count)?;
     out.push(b'\n')?;
     Ok(())
 }

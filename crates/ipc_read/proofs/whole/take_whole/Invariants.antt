@@ -4,7 +4,8 @@ use Rattle.ipc_read.proofs.whole.take_whole.Given as goal
 
 -- what is left behind the messages so far
 abbrev pub invariant-loop-count : goal.invariant-loop-count
-invariant-loop-count l = Left l.known l.place l.bytes l.known l.count l.rows.items
+invariant-loop-count g l = Left (λ rows. g.T.TakeBatches.took l.initial.taker rows l.taker) l.known
+    l.place l.bytes l.known l.count
 
 abbrev pub decreases-loop-count : goal.decreases-loop-count
-decreases-loop-count l = length l.bytes - l.count
+decreases-loop-count g l = length l.bytes - l.count

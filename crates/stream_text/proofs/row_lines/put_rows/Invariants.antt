@@ -1,7 +1,7 @@
 use Rattle.std.proofs.Common.{◌≡◌, ◌++◌, drop, map}
 use Rattle.workload_spec.specs.ReplyText.{row_line}
 use Rattle.workload_spec.specs.Words.{lines_text}
-use Rattle.stream_text.proofs.shown.put_rows.Given as goal
+use Rattle.stream_text.proofs.row_lines.put_rows.Given as goal
 
 -- the rows so far, and then those that are left
 abbrev pub invariant-loop-i : goal.invariant-loop-i
