@@ -3,9 +3,3 @@
 
 #[cfg(test)]
 mod counted;
-#[cfg(test)]
-mod machine;
-#[cfg(test)]
-mod marks;
-#[cfg(test)]
-mod scripts;

@@ -7,7 +7,7 @@ use std::test::Fail;
 use stream_spec::{Cause, StreamFault};
 
 /// Nine rows: the schema at 0, the batches at 224 and 552, the end word at 792.
-const NINE: &[u8; 800] = b"\
+pub(crate) const NINE: &[u8; 800] = b"\
     \xff\xff\xff\xff\xd8\x00\x00\x00\
     \x18\x00\x00\x00\x00\x00\x00\x00\
     \x0c\x00\x14\x00\x10\x00\x12\x00\

@@ -1,5 +1,5 @@
 -- What the words ask for, by what `clap` makes of them.
-use Rattle.std.proofs.Common.{◌≡◌, ◌≢◌, Bool, true, bytes_eq, codes, if◌then◌else◌, List, [], ◌∷◌, Option, None, Some, Result, Ok, Err, Box, refl, ap, ap₂, sym, ◌∙◌, subst, option_map, ⊎_elim}
+use Rattle.std.proofs.Common.{◌≡◌, ◌≢◌, Bool, true, bytes_eq, codes, if◌then◌else◌, List, [], ◌∷◌, Option, None, Some, Result, Ok, Err, Box, refl, ap, ap₂, sym, ◌∙◌, subst, option_map, ⊎_elim, IfOk, IsErrOf}
 use Rattle.std.specs.Box.{box_value}
 use Rattle.clap.specs.Words.{App, FailsBy, IsAmong, Kinds, Row, Text, fault_of, first_of, found_of, is_simple, is_simple_and_free, kind_of, rows_of, subcommand_name_of, subcommand_of, subcommand_rows, subcommand_rows_of}
 use Rattle.clap.specs.declared.parser.matches.ArgMatches.{ArgMatches}
@@ -8,7 +8,11 @@ use Rattle.clap.specs.declared.parser.matches.SubCommand.{SubCommand}
 use Rattle.clap.specs.declared.error.Error.{Error}
 use Rattle.clap.specs.declared.error.kind.ErrorKind.{ErrorKind}
 use Rattle.clap.specs.declared.error.kind.ErrorKind.TheVariants as kind
-use Rattle.program.specs.Words.{Asked, ToRun, ToShow, ToCheck, asked_by, asked_of, bench_asks, command_asks, mainline_app, unless_faulty}
+use Rattle.program.specs.declared.words.Work.{Work}
+use Rattle.program.specs.declared.words.WordsFault.{WordsFault}
+use Rattle.program.specs.declared.words.WordsFault.TheVariants as words_fault
+use Rattle.program.specs.Words.{Asked, ToRun, ToShow, ToCheck, asked_by, asked_of, bench_asks, command_asks, help_asks, mainline_app, meaning, stopped_asks, unless_stopped}
+use Rattle.program.proofs.Alike.{AreAlike, stops_alike}
 
 -- the command is one whose meaning `clap` tells
 pub mainline_is_free : is_simple_and_free mainline_app ≡ true
@@ -18,21 +22,35 @@ mainline_is_free = refl
 pub mainline_is_simple : is_simple mainline_app ≡ true
 mainline_is_simple = refl
 
--- where there is a fault, nothing is asked for
-some_fault : (e : ErrorKind) (kinds : Kinds) (asked : Option Asked) → IsAmong e kinds → unless_faulty kinds asked ≡ None
-some_fault e [] asked among = absurd among
-some_fault e (k ∷ kinds) asked among = refl
+-- what words ask for at which a parse stops, for a reason of one of the kinds that it may have
+stopped_among : (e : ErrorKind) (kinds : Kinds) (asked : Option Asked) → AreAlike kinds → IsAmong e kinds → unless_stopped kinds asked ≡ stopped_asks e
+stopped_among e [] asked alike among = absurd among
+stopped_among e (k ∷ kinds) asked alike among = sym (alike e among)
 
--- words that a parse refuses, and not for want of memory
-pub refused_ask_nothing : {T : Type 0} (app : App) (words : List Text) (result : Result T Error) (fault : Error)
+-- words at which a parse stops, and not for want of memory
+pub stopped_ask : {T : Type 0} (app : App) (words : List Text) (result : Result T Error) (fault : Error)
     → app ≡ mainline_app → (is_simple_and_free app ≡ true → FailsBy (fault_of app words) result) → result ≡ Err fault
-    → kind_of fault ≢ kind.OutOfMemory → asked_by words ≡ None
-refused_ask_nothing {T = T} app words result fault app_is fails is free =
+    → kind_of fault ≢ kind.OutOfMemory → asked_by words ≡ stopped_asks (kind_of fault)
+stopped_ask {T = T} app words result fault app_is fails is free =
     let kinds : FailsBy {T = T} (fault_of app words) (Err fault) =
     subst (FailsBy (fault_of app words)) is (fails (ap is_simple_and_free app_is ∙ mainline_is_free)) in
     ⊎_elim (λ memory. absurd (free memory))
-    (λ among. ap (λ (a : App). unless_faulty (fault_of a words) (asked_of (subcommand_of mainline_app words))) (sym app_is)
-    ∙ some_fault (kind_of fault) (fault_of app words) (asked_of (subcommand_of mainline_app words)) among) kinds
+    (λ among. stopped_among (kind_of fault) (fault_of mainline_app words) (asked_of (subcommand_of mainline_app words)) (stops_alike words)
+    (subst (λ (a : App). IsAmong (kind_of fault) (fault_of a words)) app_is among)) kinds
+
+-- What is answered for such words is what they ask for, and `Usage` is answered where that is
+-- nothing.
+module _ (words : List Text) (stop : ErrorKind) (asks : stop ≢ kind.OutOfMemory → asked_by words ≡ stopped_asks stop) where
+  pub stopped_well : (result : Result Work WordsFault) → (stop ≡ kind.OutOfMemory → IsErrOf result words_fault.Memory)
+      → IfOk result (λ work. stopped_asks stop ≡ Some (meaning work)) → IfOk result (λ work. asked_by words ≡ Some (meaning work))
+  stopped_well (Ok work) memory well = asks (λ full. let both : Ok work ≡ Err words_fault.Memory = memory full in let no : ⊥ = cc in no) ∙ well
+  stopped_well (Err fault) memory well = well
+
+  pub stopped_ill : (result : Result Work WordsFault) → (stop ≡ kind.OutOfMemory → IsErrOf result words_fault.Memory)
+      → (IsErrOf result words_fault.Usage → stopped_asks stop ≡ None) → IsErrOf result words_fault.Usage → asked_by words ≡ None
+  stopped_ill (Ok work) memory ill is = absurd (let no : ⊥ = cc in no)
+  stopped_ill (Err fault) memory ill is =
+      asks (λ full. let other = memory full in let no : ⊥ = cc in no) ∙ ill is
 
 -- words that it takes ask for what the subcommand asks for that they name
 pub taken_ask : {T : Type 0} (app : App) (words : List Text) (result : Result T Error) (matches : T) (named : Option (Text × List Row))
@@ -41,8 +59,8 @@ pub taken_ask : {T : Type 0} (app : App) (words : List Text) (result : Result T 
 taken_ask {T = T} app words result matches named app_is fails is named_is =
     let none : FailsBy {T = T} (fault_of app words) (Ok matches) =
     subst (FailsBy (fault_of app words)) is (fails (ap is_simple_and_free app_is ∙ mainline_is_free)) in
-    ap (λ (a : App). unless_faulty (fault_of a words) (asked_of (subcommand_of a words))) (sym app_is)
-    ∙ ap₂ unless_faulty none (ap asked_of (sym named_is))
+    ap (λ (a : App). unless_stopped (fault_of a words) (asked_of (subcommand_of a words))) (sym app_is)
+    ∙ ap₂ unless_stopped none (ap asked_of (sym named_is))
 
 -- the subcommand that a parse met, by its name and by the rows of its matches
 met : {Z : Type 0} (sub : Option (Box SubCommand Z)) (name : Text) (rows : List Row)
@@ -68,4 +86,5 @@ run_asked name rows value is same =
     ∙ ap (λ (b : Bool). if b then Some (ToRun (first_of (codes "export") rows))
     else (if bytes_eq name (codes "show") then Some ToShow
     else (if bytes_eq name (codes "check") then Some ToCheck
-    else (if bytes_eq name (codes "bench") then bench_asks rows else None)))) (sym is)
+    else (if bytes_eq name (codes "bench") then bench_asks rows
+    else (if bytes_eq name (codes "help") then help_asks rows else None))))) (sym is)

@@ -1,3 +1,4 @@
+pub mod Alike
 pub mod Asking
 pub mod Numbers
 pub mod Benched
@@ -5,3 +6,5 @@ pub mod Exports
 pub mod Scripts
 pub mod Played
 pub mod Judged
+pub mod Shown
+pub mod Unjudged

@@ -4,3 +4,4 @@ pub mod Words
 pub mod Codes
 pub mod Outcome
 pub mod Played
+pub mod Pieces

@@ -1,12 +1,14 @@
 -- How a run of the program ends: what each status says of what was read, printed and sent.
-use Rattle.std.specs.Prelude.{◌≡◌, ◌≢◌, ◌<◌, ◌^◌, ◌⊎◌, ℕ, true, length, List, [], ◌∷◌, ◌++◌, Option}
+use Rattle.std.specs.Prelude.{◌≡◌, ◌≢◌, ◌<◌, ◌≤◌, ◌+◌, ◌^◌, ◌⊎◌, ℕ, true, length, List, [], ◌∷◌}
+use Rattle.std.specs.Prelude.{◌++◌, Option}
 use Rattle.std.specs.Prelude.{None, Some, option_map, codes, decimal, Ok, Err, IsSome}
 use Rattle.std.specs.Prelude.{if◌then◌else◌}
 use Rattle.std.specs.Io.KnownBytes.{Appends, Consumes, IsAtEnd}
 use Rattle.byte_ports.specs.Calls.{AppendsFront, ConsumesAtLeast, Rose}
 use Rattle.stream_spec.specs.Streams.{reading_of}
 use Rattle.stream_spec.specs.declared.fault.StreamFault.{StreamFault}
-use Rattle.stream_text.specs.Shown.{shown_text}
+use Rattle.stream_pieces.specs.Pieces.{IsOver}
+use Rattle.stream_text.specs.Shown.{front_text, shown_text}
 use Rattle.export_spec.specs.Sent.{SaysAllSent, has_export}
 use Rattle.workload_spec.specs.declared.script.Line.{Line}
 use Rattle.workload_spec.specs.declared.script.Script.{Script}
@@ -21,7 +23,8 @@ use Rattle.store_rounds.specs.Workloads.{GoesCutOff, GoesStopped, GoesToExport, 
 use Rattle.bench_spec.specs.Counted.{counts_text}
 use Rattle.bench_spec.specs.declared.counts.Counts.{Counts}
 use Rattle.program.specs.Bench.{RanGenerated}
-use Rattle.program.specs.Words.{Asked, ToRun, ToShow, ToCheck, ToBench, usage_line}
+use Rattle.program.specs.Words.{Asked, ToRun, ToShow, ToCheck, ToBench, ToHelp, ToVersion}
+use Rattle.program.specs.Words.{help_text, usage_line, version_line}
 use Rattle.program.specs.declared.status.Status.{Status}
 use Rattle.program.specs.declared.status.Status.TheVariants as status
 
@@ -100,11 +103,13 @@ pub record Reads (script : Script) (before now : Outside) : Type 0 where
 -- A text that was due is printed whole (`Appends`), or only a front of it where the output failed
 -- (`AppendsFront`).
 
--- The words ask for nothing that runs: nothing is read or sent, and the line that tells how the
--- program is used is printed.
-pub record IsUsage (Prints : Option (List ℕ) → Option (List ℕ) → List ℕ → Type 0) (before now : Outside) : Type 0 where
+-- A text of the program's own is printed: nothing is read or sent.
+pub record IsTold
+    (Prints : Option (List ℕ) → Option (List ℕ) → List ℕ → Type 0) (text : List ℕ)
+    (before now : Outside)
+    : Type 0 where
   pub left : now.left ≡ before.left
-  pub printed : Prints before.printed now.printed usage_line
+  pub printed : Prints before.printed now.printed text
   pub outlet : LeavesOutlet before now
 
 -- The input is no workload, and the line of its first fault is printed.
@@ -188,40 +193,77 @@ RunEnds path status.NotAStream before now = ⊥
 RunEnds path status.TooLong before now = ConsumesAtLeast before.left now.left (2 ^ 32)
     × IsSilent before now
 
--- The input was read to its end, and the text of what it reads as is printed: the columns, the rows
--- and their count, or what stands in front of the first fault, and that fault.
-pub record IsShown
-    (Prints : Option (List ℕ) → Option (List ℕ) → List ℕ → Type 0)
-    (Faults : Option StreamFault → Type 0)
-    (before now : Outside) : Type 0 where
+-- ---- a stream that is shown
+
+-- These bytes were read in pieces, and no piece behind the one that decided how they end: in front
+-- of the last piece more could come, with which something else is read.
+pub record AreReadSoon (bytes : List ℕ) : Type 0 where
+  pub front : List ℕ
+  pub last : List ℕ
+  pub parts : bytes ≡ front ++ last
+  pub small : length last ≤ 2 ^ 16
+  pub going : IsOver front → ⊥
+
+-- The bytes were read: to the end of the input, or to where what comes behind them is not looked at.
+pub record IsReadThrough (bytes : List ℕ) (before now : Outside) : Type 0 where
+  pub read : Consumes before.left now.left bytes
+  pub ended : IsAtEnd now.left ⊎ IsOver bytes
+  pub soon : AreReadSoon bytes
+  pub short : length bytes < 2 ^ 32 + 2 ^ 16
+
+-- The text of what they read as is printed: the columns, the rows and their count, or what stands in
+-- front of the first fault, and that fault.
+pub record IsShown (Faults : Option StreamFault → Type 0) (before now : Outside) : Type 0 where
   pub bytes : List ℕ
-  pub input : IsRead bytes before now
+  pub input : IsReadThrough bytes before now
   pub judged : Faults (reading_of bytes).fault
-  pub printed : Prints before.printed now.printed (shown_text (reading_of bytes))
+  pub printed : Appends before.printed now.printed (shown_text (reading_of bytes))
   pub outlet : LeavesOutlet before now
 
--- the bytes are a stream, or are none, or may be either
+-- the bytes are a stream, or are none
 abbrev pub IsStream : Option StreamFault → Type 0
 IsStream fault = fault ≡ None
 
 abbrev pub IsNoStream : Option StreamFault → Type 0
 IsNoStream fault = IsSome fault
 
-abbrev pub IsEither : Option StreamFault → Type 0
-IsEither fault = Unit {0}
+-- The text that is due of what was read: all lines in front of the last, or all.
+abbrev pub IsDue : List ℕ → Outside → Outside → List ℕ → Type 0
+IsDue bytes before now text = (text ≡ front_text (reading_of bytes))
+    ⊎ (IsReadThrough bytes before now × (text ≡ shown_text (reading_of bytes)))
+
+-- Only a front of what was due is printed, since the output failed.
+pub record IsShownInPart (before now : Outside) : Type 0 where
+  pub bytes : List ℕ
+  pub read : Consumes before.left now.left bytes
+  pub soon : AreReadSoon bytes
+  pub short : length bytes < 2 ^ 32 + 2 ^ 16
+  pub due : List ℕ
+  pub is_due : IsDue bytes before now due
+  pub printed : AppendsFront before.printed now.printed due
+  pub outlet : LeavesOutlet before now
+
+-- The lines in front of the last are printed, of the schema and of each row of a batch that is whole,
+-- and more may come. Of bytes behind them, no more than a piece, nothing is shown.
+pub record IsShownSoFar (shown lost : List ℕ) (before now : Outside) : Type 0 where
+  pub read : Consumes before.left now.left (shown ++ lost)
+  pub going : IsOver shown → ⊥
+  pub small : length lost ≤ 2 ^ 16
+  pub printed : Appends before.printed now.printed (front_text (reading_of shown))
+  pub outlet : LeavesOutlet before now
 
 -- How the program ends where the words ask for a stream to be shown.
 abbrev pub ShowEnds : Status → Outside → Outside → Type 0
-ShowEnds status.Done before now = IsShown Appends IsStream before now
+ShowEnds status.Done before now = IsShown IsStream before now
 ShowEnds status.Usage before now = ⊥
 ShowEnds status.Refused before now = ⊥
-ShowEnds status.ReadFault before now = IsSilent before now
-ShowEnds status.OutFault before now = IsShown AppendsFront IsEither before now
+ShowEnds status.ReadFault before now = (shown : List ℕ) × IsShownSoFar shown [] before now
+ShowEnds status.OutFault before now = IsShownInPart before now
 ShowEnds status.ExportFault before now = ⊥
-ShowEnds status.Memory before now = IsSilent before now
-ShowEnds status.NotAStream before now = IsShown Appends IsNoStream before now
-ShowEnds status.TooLong before now =
-    ConsumesAtLeast before.left now.left (2 ^ 32) × IsSilent before now
+ShowEnds status.Memory before now = (shown lost : List ℕ) × IsShownSoFar shown lost before now
+ShowEnds status.NotAStream before now = IsShown IsNoStream before now
+ShowEnds status.TooLong before now = (shown : List ℕ) × (2 ^ 32 ≤ length shown)
+    × IsShownSoFar shown [] before now
 
 -- ---- an output that is checked
 
@@ -291,14 +333,27 @@ BenchEnds seed size status.Memory before now = now ≡ before
 BenchEnds seed size status.NotAStream before now = ⊥
 BenchEnds seed size status.TooLong before now = ⊥
 
--- How the program ends where the words ask for nothing that runs. Before they are judged there may
--- be no memory.
+-- How the program ends where the words ask for a text of its own: what it does, or its version.
+-- Before they are judged there may be no memory.
+abbrev pub TextEnds : List ℕ → Status → Outside → Outside → Type 0
+TextEnds text status.Done before now = IsTold Appends text before now
+TextEnds text status.Usage before now = ⊥
+TextEnds text status.Refused before now = ⊥
+TextEnds text status.ReadFault before now = ⊥
+TextEnds text status.OutFault before now = IsTold AppendsFront text before now
+TextEnds text status.ExportFault before now = ⊥
+TextEnds text status.Memory before now = now ≡ before
+TextEnds text status.NotAStream before now = ⊥
+TextEnds text status.TooLong before now = ⊥
+
+-- How the program ends where the words ask for nothing that it does: the line that tells how it is
+-- used is printed.
 abbrev pub UsageEnds : Status → Outside → Outside → Type 0
 UsageEnds status.Done before now = ⊥
-UsageEnds status.Usage before now = IsUsage Appends before now
+UsageEnds status.Usage before now = IsTold Appends usage_line before now
 UsageEnds status.Refused before now = ⊥
 UsageEnds status.ReadFault before now = ⊥
-UsageEnds status.OutFault before now = IsUsage AppendsFront before now
+UsageEnds status.OutFault before now = IsTold AppendsFront usage_line before now
 UsageEnds status.ExportFault before now = ⊥
 UsageEnds status.Memory before now = now ≡ before
 UsageEnds status.NotAStream before now = ⊥
@@ -311,6 +366,8 @@ Ends (Some (ToRun path)) ended before now = RunEnds path ended before now
 Ends (Some ToShow) ended before now = ShowEnds ended before now
 Ends (Some ToCheck) ended before now = CheckEnds ended before now
 Ends (Some (ToBench seed size)) ended before now = BenchEnds seed size ended before now
+Ends (Some ToHelp) ended before now = TextEnds help_text ended before now
+Ends (Some ToVersion) ended before now = TextEnds version_line ended before now
 
 -- A run ends with this status only where a count of faults rose, and with any other the count is as
 -- before.

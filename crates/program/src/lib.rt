@@ -5,7 +5,9 @@ mod benching;
 mod checking;
 mod output;
 mod performing;
+mod showing;
 mod status;
+mod texts;
 mod words;
 
 pub use performing::perform;

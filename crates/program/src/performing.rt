@@ -1,5 +1,5 @@
 //! What the program does with its words, its input, its output and its outlet.
-ghost use Rattle.std.specs.Prelude.{◌≡◌, ◌≢◌, ◌<◌, ◌^◌, ℕ, List, Option, None, IsSome, length, map};
+ghost use Rattle.std.specs.Prelude.{◌≡◌, ◌≢◌, ◌<◌, ◌^◌, ℕ, List, Option, None, length, map};
 ghost use Rattle.std.specs.Prelude.{true, string_bytes, option_map, IfOk, OnOk, OnErr};
 ghost use Rattle.std.specs.Prelude.{if◌then◌else◌};
 ghost use Rattle.std.specs.List.{list_any};
@@ -11,14 +11,16 @@ ghost use Rattle.script_text.specs.Answers.{LineGives};
 ghost use Rattle.export_spec.specs.Sent.{has_export};
 ghost use Rattle.workload_spec.specs.ScriptText.{script_text};
 ghost use Rattle.store_rounds.specs.Workloads.{WentBy};
-ghost use Rattle.program.specs.Outcome.{Ends, RunEnds, ScriptEnds, ShowEnds, UsageEnds};
+ghost use Rattle.program.specs.Outcome.{Ends, RunEnds, ScriptEnds};
 ghost use Rattle.program.specs.Outcome.{TellsFaults, outside, started_by};
 ghost use Rattle.program.specs.Played.{RefusalEnds, PlayEnds};
 ghost use Rattle.program.specs.Words.{asked_by};
 
 use crate::benching::bench;
 use crate::checking::check;
+use crate::showing::show;
 use crate::status::Status;
+use crate::texts::{tell_help, tell_usage, tell_version};
 use crate::words::{WordsFault, Work, work_of};
 use byte_ports::{
     Failed, Gate, InputFault, Outlet, PureOutlet, Sink, Source, read_to_end, write_all,
@@ -29,21 +31,19 @@ use std::alloc::{AllocError, Global};
 use std::sync::Wait;
 use std::thread::Threads;
 use store_rounds::{RunFault, run_workload};
-use stream_spec::StreamFault;
 use workload_spec::{Extent, Round, Script};
 
 /// As many bytes of input, or more, are too long.
 pub(crate) const MOST_BYTES: usize = 1 << 32;
 
-const USAGE: &[u8] = b"usage: mainline run [--export PATH] | show | check | bench SEED SIZE\n";
-
 /// Runs the program: the words ask for the run of a workload, which is read from the source to its
 /// end; the replies go to `out`, and the export to the outlet, which is started with the words'
 /// path. Without a path the export is dropped. Or they ask for a stream to be shown, which is read
-/// from the source to its end; its rows go to `out`. Or they ask for an output to be checked, which
-/// stands behind its workload in the source; whether it is explained goes to `out`. Or they ask for
-/// a generated workload, whose replies are counted; the counts go to `out`, and its export is
-/// dropped.
+/// from the source in pieces, up to its end word or its first fault; its lines go to `out` as soon
+/// as they are decided. Or they ask for an output to be checked, which stands behind its workload in
+/// the source; whether it is explained goes to `out`. Or they ask for a generated workload, whose
+/// replies are counted; the counts go to `out`, and its export is dropped. Or they ask for help or
+/// for the version, which go to `out`.
 ///
 /// The words are judged first, then the reading of the input, its grammar, the start of the outlet
 /// and the rounds. Where the line that tells of a fault can't be printed, the status is `OutFault`.
@@ -72,60 +72,10 @@ pub fn perform<R: Wait + Threads + Sync, S: Source, O: Sink, X: Outlet + Send, G
         Ok(Work::Show) => show(alloc, source, out),
         Ok(Work::Check) => check(alloc, source, out),
         Ok(Work::Bench { seed, size }) => bench(rt, alloc, seed, size, out, gate),
+        Ok(Work::Help) => tell_help(out),
+        Ok(Work::Version) => tell_version(out),
         Err(WordsFault::Usage) => tell_usage(out),
         Err(WordsFault::Memory) => Status::Memory,
-    }
-}
-
-/// Prints how the program is used.
-fn tell_usage<O: Sink>(out: &mut O) -> Status
-    ensures ends { (left exported : Option (List ℕ)) (started : Option (List (List ℕ)))
-        → UsageEnds result
-        (outside left (O.written out.old) exported started)
-        (outside left (O.written out.new) exported started) }
-    ensures read_faults { result ≢ Status.ReadFault }
-    ensures out_faults { TellsFaults Status.OutFault result (O.faults out.old) (O.faults out.new) }
-    ensures export_faults { result ≢ Status.ExportFault }
-{
-    match write_all(out, USAGE) {
-        Ok(()) => Status::Usage,
-        Err(Failed) => Status::OutFault,
-    }
-}
-
-/// Shows the stream that is read from the source to its end.
-fn show<S: Source, O: Sink>(alloc: Global, source: &mut S, out: &mut O) -> Status
-    ensures ends { (exported : Option (List ℕ)) (started : Option (List (List ℕ))) → ShowEnds result
-        (outside (S.left source.old) (O.written out.old) exported started)
-        (outside (S.left source.new) (O.written out.new) exported started) }
-    ensures read_faults { TellsFaults Status.ReadFault result (S.faults source.old)
-        (S.faults source.new) }
-    ensures out_faults { TellsFaults Status.OutFault result (O.faults out.old) (O.faults out.new) }
-    ensures export_faults { result ≢ Status.ExportFault }
-{
-    let bytes = match read_to_end(alloc, source, MOST_BYTES) {
-        Ok(bytes) => bytes,
-        Err(InputFault::Failed) => return Status::ReadFault,
-        Err(InputFault::TooLong) => return Status::TooLong,
-        Err(InputFault::Memory) => return Status::Memory,
-    };
-    let Ok(shown) = stream_text::show(alloc, &bytes) else {
-        return Status::Memory;
-    };
-    match write_all(out, shown.text.as_slice()) {
-        Ok(()) => shown_status(&shown.fault),
-        Err(Failed) => Status::OutFault,
-    }
-}
-
-/// The status of bytes that were shown, by their first fault.
-fn shown_status(fault: &Option<StreamFault>) -> Status
-    ensures stream { fault.now ≡ None → result ≡ Status.Done }
-    ensures fault { IsSome fault.now → result ≡ Status.NotAStream }
-{
-    match fault {
-        None => Status::Done,
-        Some(_) => Status::NotAStream,
     }
 }
 

@@ -1,10 +1,12 @@
 //! The words of the command line.
-ghost use Rattle.std.specs.Prelude.{◌≡◌, ◌≢◌, ◌≤◌, None, IsErrOf, IfOk, IfSome, Some, false, map};
-ghost use Rattle.std.specs.Prelude.{option_map, string_bytes};
+ghost use Rattle.std.specs.Prelude.{◌≡◌, ◌≤◌, None, IsErrOf, IfOk, IfSome, Some, false, map};
+ghost use Rattle.std.specs.Prelude.{option_map, string_bytes, true};
+ghost use Rattle.std.specs.Option.{option_map_or};
 ghost use Rattle.clap.specs.Words.{app_of, found_of, kind_of, rows_of};
 ghost use Rattle.clap.specs.declared.builder.command.Command.TheViews.{out-Command};
 ghost use Rattle.program.specs.Words.{IsSized, asked_by, bench_app, bench_asks, command_asks};
-ghost use Rattle.program.specs.Words.{mainline_app, meaning, number_at, number_in, run_app};
+ghost use Rattle.program.specs.Words.{help_app, help_asks, is_command, mainline_app, meaning};
+ghost use Rattle.program.specs.Words.{named_app, number_at, number_in, run_app, stopped_asks};
 
 use clap::error::ErrorKind;
 use clap::{Arg, ArgMatches, Command, Error};
@@ -24,6 +26,10 @@ pub enum Work<'a> {
     Check,
     /// To run the workload that a seed and a size generate.
     Bench { seed: u64, size: u32 },
+    /// To tell what the program does.
+    Help,
+    /// To tell the program's version.
+    Version,
 }
 
 /// Why the words are not judged to ask for some work.
@@ -54,17 +60,22 @@ pub fn work_of<'a>(alloc: Global, words: &'a [String]) -> Result<Work<'a>, Words
             },
             None => Err(WordsFault::Usage),
         },
-        Err(fault) => Err(words_fault(&fault)),
+        Err(fault) => stopped(&fault),
     }
 }
 
-/// Whether words were refused for want of memory or for what they are.
-fn words_fault(fault: &Error) -> WordsFault
-    ensures { result ≡ WordsFault.Usage → kind_of fault.now ≢ ErrorKind.OutOfMemory }
+/// What words ask for at which the parse stopped: for help, for the version, or for nothing.
+fn stopped<'a>(fault: &Error) -> Result<Work<'a>, WordsFault>
+    ensures ok { IfOk result (λ work. stopped_asks (kind_of fault.now) ≡ Some (meaning work)) }
+    ensures sized { IfOk result IsSized }
+    ensures usage { IsErrOf result WordsFault.Usage → stopped_asks (kind_of fault.now) ≡ None }
+    ensures memory { kind_of fault.now ≡ ErrorKind.OutOfMemory → IsErrOf result WordsFault.Memory }
 {
     match fault.kind() {
-        ErrorKind::OutOfMemory => WordsFault::Memory,
-        _ => WordsFault::Usage,
+        ErrorKind::DisplayHelp => Ok(Work::Help),
+        ErrorKind::DisplayVersion => Ok(Work::Version),
+        ErrorKind::OutOfMemory => Err(WordsFault::Memory),
+        _ => Err(WordsFault::Usage),
     }
 }
 
@@ -82,9 +93,37 @@ fn named<'a>(name: &str, matches: &ArgMatches<'a>) -> Option<Work<'a>>
         Some(Work::Check)
     } else if name == "bench" {
         bench_of(matches)
+    } else if name == "help" {
+        help_of(matches)
     } else {
         None
     }
+}
+
+/// Help, where the words name a command of the program or none.
+fn help_of<'a>(matches: &ArgMatches<'a>) -> Option<Work<'a>>
+    ensures asked { option_map meaning result ≡ help_asks (rows_of (found_of matches.now)) }
+    ensures sized { IfSome result IsSized }
+{
+    let has_help = is_command_or_none(matches.get_str("command"));
+    if has_help { Some(Work::Help) } else { None }
+}
+
+/// Whether there is no word, or one that is a command of the program.
+fn is_command_or_none(word: Option<&str>) -> bool
+    ensures { result ≡ option_map_or is_command (option_map (λ w. w.now) word.entry) true }
+{
+    match word {
+        Some(word) => is_command(word),
+        None => true,
+    }
+}
+
+/// Whether a word is a command of the program.
+fn is_command(word: &str) -> bool
+    ensures { result ≡ is_command word.now }
+{
+    word == "run" || word == "show" || word == "check" || word == "bench" || word == "help"
 }
 
 /// The seed and the size that the words give.
@@ -126,11 +165,29 @@ fn number_in(word: &str, low: u64, high: u64) -> Option<u64>
 fn command<'a>(alloc: Global) -> Result<Command<'a>, AllocError>
     ensures { IfOk result (λ command. app_of command ≡ mainline_app) }
 {
-    Command::new(alloc, "mainline")
+    named_command(alloc)
         .subcommand(run_command(alloc)?)?
         .subcommand(Command::new(alloc, "show"))?
         .subcommand(Command::new(alloc, "check"))?
-        .subcommand(bench_command(alloc)?)
+        .subcommand(bench_command(alloc)?)?
+        .subcommand(help_command(alloc)?)
+}
+
+/// The program's command without its subcommands. `help` is one of them, so none is added.
+fn named_command<'a>(alloc: Global) -> Command<'a>
+    ensures { app_of result ≡ named_app }
+{
+    Command::new(alloc, "mainline")
+        .version("0.1.0")
+        .disable_help_subcommand(true)
+}
+
+/// The command to tell what the program does, of one of its commands if it is given one.
+fn help_command<'a>(alloc: Global) -> Result<Command<'a>, AllocError>
+    ensures app { IfOk result (λ command. app_of command ≡ help_app) }
+    ensures plain { IfOk result (λ command. (out-Command command).has_globals ≡ false) }
+{
+    Command::new(alloc, "help").arg(Arg::new(alloc, "command"))
 }
 
 /// The command to run a workload, with the path of its export if it is given one.

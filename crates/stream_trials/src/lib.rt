@@ -1,19 +1,11 @@
-//! Tests of the streams that are written of rows and of images.
+//! Tests of the ports, of arrays, and of streams that are written and read.
 #![tactic(auto)]
 
 #[cfg(test)]
 mod arrays;
 #[cfg(test)]
-mod building;
-#[cfg(test)]
-mod flat_reads;
-#[cfg(test)]
-mod metadata;
-#[cfg(test)]
 mod ports;
 #[cfg(test)]
 mod reading;
-#[cfg(test)]
-mod shown;
 #[cfg(test)]
 mod streams;

@@ -6,7 +6,7 @@ use byte_ports::{
 };
 use std::alloc::Global;
 use std::fs::{self, File};
-use std::io::{self, ErrorKind, Write};
+use std::io::{self, ErrorKind, Read, Write};
 use std::process::Abort;
 use std::sync::Wait;
 use std::test::Fail;
@@ -162,19 +162,6 @@ fn std_source_reads_what_its_reader_reads(rt: HostRuntime) -> Result<(), Fail> {
     Ok(())
 }
 
-#[test]
-fn std_sink_writes_until_its_writer_takes_nothing(rt: HostRuntime) -> Result<(), Fail> {
-    let mut room = [0u8; 3];
-    let mut sink = StdSink::new(room.as_mut_slice());
-    assert_eq!(rt; write_all(&mut sink, b"abcde"), Err(Failed));
-    drop(sink);
-    assert_eq!(rt; room.as_slice(), b"abc".as_slice());
-
-    let mut taken = PureSink;
-    assert_eq!(rt; write_all(&mut taken, b"abcde"), Ok(()));
-    Ok(())
-}
-
 /// A writer that takes two bytes a call, and of whose calls, counted from 1, this one fails.
 #[derive(Drop)]
 struct Slow {
@@ -182,13 +169,14 @@ struct Slow {
     count: usize,
     calls: u32,
     failing: u32,
+    kind: ErrorKind,
 }
 
 impl Write for Slow {
     fn write(&mut self, buf: &[u8]) -> io::Result<usize> {
         self.calls = self.calls.saturating_add(1);
         if self.calls == self.failing {
-            return Err(io::Error::from(ErrorKind::Other));
+            return Err(io::Error::from(self.kind));
         }
         let count = buf.len().min(2);
         for byte in buf.iter().take(count) {
@@ -205,38 +193,75 @@ impl Write for Slow {
     }
 }
 
+/// A reader of zeros without end, whose first call fails.
+#[derive(Drop)]
+struct Late {
+    kind: ErrorKind,
+    calls: u32,
+}
+
+impl Read for Late {
+    fn read(&mut self, buf: &mut [u8]) -> io::Result<usize> {
+        self.calls = self.calls.saturating_add(1);
+        if self.calls == 1 {
+            return Err(io::Error::from(self.kind));
+        }
+        Ok(buf.len())
+    }
+}
+
 struct SlowCase {
     failing: u32,
+    kind: ErrorKind,
     written: Result<(), Failed>,
     taken: &'static [u8],
 }
 
-static SLOW_CASES: [SlowCase; 2] = [
+static SLOW_CASES: [SlowCase; 3] = [
     SlowCase {
         failing: 0,
+        kind: ErrorKind::Other,
         written: Ok(()),
         taken: b"abcde",
     },
     SlowCase {
         failing: 2,
+        kind: ErrorKind::Other,
         written: Err(Failed),
         taken: b"ab",
+    },
+    SlowCase {
+        failing: 2,
+        kind: ErrorKind::Interrupted,
+        written: Ok(()),
+        taken: b"abcde",
     },
 ];
 
 #[test]
-fn std_sink_writes_on_after_a_short_write_and_stops_at_a_failed_one(rt: HostRuntime) {
+fn std_sink_writes_on_after_a_short_or_interrupted_write_and_stops_at_a_failed_one(
+    rt: HostRuntime,
+) {
     for case in &SLOW_CASES {
         let mut writer = Slow {
             taken: [0; 8],
             count: 0,
             calls: 0,
             failing: case.failing,
+            kind: case.kind,
         };
         let mut sink = StdSink::new(&mut writer);
         assert_eq!(rt; write_all(&mut sink, b"abcde"), case.written);
         drop(sink);
         assert_eq!(rt; writer.taken.get(..writer.count), Some(case.taken));
+    }
+}
+
+#[test]
+fn std_source_reads_on_after_an_interrupted_read(rt: HostRuntime) {
+    for (kind, read) in [(ErrorKind::Interrupted, Some(2)), (ErrorKind::Other, None)] {
+        let mut source = StdSource::new(Late { kind, calls: 0 });
+        assert_eq!(rt; read_two(&mut source), read);
     }
 }
 

@@ -1,52 +1,11 @@
-//! Tests of the reading of streams: a worked one, the same cut or changed by a byte, and the same
-//! message by message.
+//! A test of the reading of a stream, message by message.
 ghost use Rattle.std.specs.Prelude.{◌<◌, ◌^◌, length};
 
 use arrow_meta::{batch_message, schema_message};
 use cell_model::{Bytes, Cell, Column, Kind, Row, Schema, are_named};
-use ipc_read::{Next, first_schema, next_batch, read};
+use ipc_read::{Next, first_schema, next_batch};
 use std::alloc::{AllocError, Global};
-use std::process::Abort;
 use std::test::Fail;
-use stream_spec::{Cause, StreamFault};
-
-/// How many of the bytes there are, which of them is another, whether the columns are read, how
-/// many batches are, and the fault.
-#[derive(Drop)]
-struct Case {
-    kept: usize,
-    place: usize,
-    byte: u8,
-    columns: bool,
-    batches: usize,
-    fault: Option<StreamFault>,
-}
-
-const fn cut(kept: usize, columns: bool, batches: usize, fault: Option<StreamFault>) -> Case {
-    Case {
-        kept,
-        place: 0,
-        byte: 0xff,
-        columns,
-        batches,
-        fault,
-    }
-}
-
-const fn at(place: u64, cause: Cause) -> Option<StreamFault> {
-    Some(StreamFault { place, cause })
-}
-
-const fn changed(place: usize, byte: u8, in_place: u64, cause: Cause) -> Case {
-    Case {
-        kept: 344,
-        place,
-        byte,
-        columns: in_place > 0,
-        batches: 0,
-        fault: at(in_place, cause),
-    }
-}
 
 /// The schema of the column `key:i64`.
 fn key_schema(alloc: Global) -> Result<Schema, Fail> {
@@ -105,40 +64,6 @@ fn is_key(row: &Row, key: i128) -> bool {
         [Cell::Num(number)] => *number == key,
         _ => false,
     }
-}
-
-#[test]
-fn a_stream_is_read_up_to_its_end_or_its_first_fault(rt: HostRuntime) -> Result<(), Fail> {
-    let cases = [
-        cut(344, true, 1, None),
-        cut(343, true, 1, at(336, Cause::Short)),
-        cut(336, true, 1, None),
-        cut(335, true, 0, at(160, Cause::Short)),
-        cut(160, true, 0, None),
-        cut(159, false, 0, at(0, Cause::Short)),
-        cut(0, false, 0, at(0, Cause::Short)),
-        changed(7, 0x80, 0, Cause::Flat),
-        changed(50, 0x03, 0, Cause::Shape),
-        changed(72, 0x01, 0, Cause::Endian),
-        changed(160, 0x00, 160, Cause::Marker),
-        changed(210, 0x01, 160, Cause::Shape),
-        changed(240, 0x02, 160, Cause::Shape),
-        changed(256, 0x02, 160, Cause::Shape),
-        changed(264, 0x02, 160, Cause::NullCount),
-        changed(304, 0x10, 160, Cause::Buffer),
-    ];
-    for case in &cases {
-        let mut bytes = three_keys(rt.alloc())?;
-        if case.place < bytes.len() {
-            bytes[case.place] = case.byte;
-        }
-        bytes.truncate(case.kept);
-        let reading = read(rt.alloc(), bytes.as_slice())?;
-        assert_eq!(rt; reading.columns().is_some(), case.columns);
-        assert_eq!(rt; reading.batches().len(), case.batches);
-        assert_eq!(rt; reading.fault(), case.fault);
-    }
-    Ok(())
 }
 
 #[test]

@@ -4,8 +4,4 @@
 #[cfg(test)]
 mod cells;
 #[cfg(test)]
-mod printing;
-#[cfg(test)]
 mod tests;
-#[cfg(test)]
-mod words;

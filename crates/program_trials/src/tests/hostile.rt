@@ -1,6 +1,6 @@
-//! Devices that fail at each of their calls in turn, and streams and workloads that are false: the
-//! export of a frozen block and a loose one, cut at each byte and changed at some.
-use super::{Ended, Failing, NOTHING_FAILS, RUN, run, run_on};
+//! Devices that fail at each of their calls in turn, over the export of a frozen block and a loose one,
+//! and a source that fails while that export is shown.
+use super::{Ended, Failing, NOTHING_FAILS, RUN, run};
 use program::Status;
 use std::alloc::{AllocError, Global};
 use std::sync::Wait;
@@ -58,12 +58,12 @@ fn failed_at<R: Wait + Threads + Sync>(
             ..NOTHING_FAILS
         },
     };
-    run(rt, alloc, &RUN, FROZEN, failing)
+    run(rt, alloc, &RUN, FROZEN.as_bytes(), failing)
 }
 
 #[test]
 fn each_call_of_a_device_fails_in_turn(rt: HostRuntime) -> Result<(), Fail> {
-    let whole = run(&rt, rt.alloc(), &RUN, FROZEN, NOTHING_FAILS)?;
+    let whole = run(&rt, rt.alloc(), &RUN, FROZEN.as_bytes(), NOTHING_FAILS)?;
     assert_eq!(rt; whole.status, Status::Done);
     assert_eq!(rt; whole.out.written(), PRINTED.as_bytes());
     assert_eq!(rt; whole.outlet.written().len(), 800);
@@ -103,166 +103,37 @@ const EIGHT: &str = "| 1 \"x\"\n| 2 \"x\"\n| 3 \"x\"\n| 4 \"x\"\n| 5 \"x\"\n| 6 
 
 const NINTH: &str = "| 9 \"x\"\n";
 
-/// How many bytes of the stream are shown from the first number to the last, the pieces of text in
-/// front of the last line, and that.
-struct Cut {
-    from: usize,
-    to: usize,
-    front: &'static [&'static str],
-    last: &'static str,
-}
+/// How many bytes of the stream are shown, the call of the source that fails, the status, and the
+/// pieces of text that are printed.
+type Unread = (usize, u64, Status, &'static [&'static str]);
 
-/// The schema ends at 224, the batches at 552 and 792, and the end word at 800.
-const CUTS: [Cut; 8] = [
-    Cut {
-        from: 0,
-        to: 223,
-        front: &[],
-        last: "not a stream at 0 Short\n",
-    },
-    Cut {
-        from: 224,
-        to: 224,
-        front: &[SCHEMA],
-        last: "rows 0\n",
-    },
-    Cut {
-        from: 225,
-        to: 551,
-        front: &[SCHEMA],
-        last: "not a stream at 224 Short\n",
-    },
-    Cut {
-        from: 552,
-        to: 552,
-        front: &[SCHEMA, EIGHT],
-        last: "rows 8\n",
-    },
-    Cut {
-        from: 553,
-        to: 791,
-        front: &[SCHEMA, EIGHT],
-        last: "not a stream at 552 Short\n",
-    },
-    Cut {
-        from: 792,
-        to: 792,
-        front: &[SCHEMA, EIGHT, NINTH],
-        last: "rows 9\n",
-    },
-    Cut {
-        from: 793,
-        to: 799,
-        front: &[SCHEMA, EIGHT, NINTH],
-        last: "not a stream at 792 Short\n",
-    },
-    Cut {
-        from: 800,
-        to: 800,
-        front: &[SCHEMA, EIGHT, NINTH],
-        last: "rows 9\n",
-    },
-];
-
-/// Whether `show` prints these pieces and this last line, and ends as that says.
-fn shows<R: Wait + Threads + Sync>(
-    rt: &R,
-    alloc: Global,
-    bytes: &[u8],
-    front: &[&'static str],
-    last: &str,
-) -> Result<bool, AllocError> {
-    let ended = run_on(rt, alloc, &["mainline", "show"], bytes, NOTHING_FAILS)?;
-    let mut text = Vec::new(alloc);
-    for piece in front {
-        text.extend_from_slice(piece.as_bytes())?;
-    }
-    text.extend_from_slice(last.as_bytes())?;
-    let status = if last.starts_with("rows") {
-        Status::Done
-    } else {
-        Status::NotAStream
-    };
-    Ok(ended.status == status && ended.out.written() == text.as_slice())
-}
-
-#[test]
-fn a_frozen_blocks_export_is_short_but_between_messages(rt: HostRuntime) -> Result<(), Fail> {
-    let whole = run(&rt, rt.alloc(), &RUN, FROZEN, NOTHING_FAILS)?;
-    let bytes = whole.outlet.written();
-    assert_eq!(rt; bytes.len(), 800);
-    for cut in &CUTS {
-        for kept in cut.from..=cut.to {
-            let Some(piece) = bytes.get(..kept) else {
-                return Err(Fail::from("the stream is too short"));
-            };
-            let is_shown = shows(&rt, rt.alloc(), piece, cut.front, cut.last)?;
-            assert!(rt; is_shown, "cut to {kept}");
-        }
-    }
-    Ok(())
-}
-
-/// The place of a byte, another there, the pieces of text in front of the last line, and that.
-type Changed = (usize, u8, &'static [&'static str], &'static str);
-
-const CHANGED: [Changed; 14] = [
-    (0, 0x00, &[], "not a stream at 0 Marker\n"),
-    (50, 0x02, &[], "not a stream at 0 Dictionary\n"),
-    (50, 0x03, &[], "not a stream at 0 Shape\n"),
-    (72, 0x01, &[], "not a stream at 0 Endian\n"),
-    (121, 0x03, &[], "not a stream at 0 Kind\n"),
-    (128, 0xff, &[], "not a stream at 0 Utf8\n"),
-    (148, 0x18, &[], "not a stream at 0 Kind\n"),
-    (264, 0x80, &[SCHEMA, EIGHT], "not a stream at 568 Marker\n"),
-    (272, 0x02, &[SCHEMA], "not a stream at 224 Version\n"),
-    (274, 0x01, &[SCHEMA], "not a stream at 224 Shape\n"),
-    (274, 0x04, &[SCHEMA], "not a stream at 224 Kind\n"),
-    (384, 0x38, &[SCHEMA], "not a stream at 224 Buffer\n"),
-    (384, 0x80, &[SCHEMA], "not a stream at 224 Buffer\n"),
-    (544, 0xff, &[SCHEMA], "not a stream at 224 Utf8\n"),
+/// The first call brings all bytes, and the next, where one is made, the end.
+const UNREAD: [Unread; 4] = [
+    (600, 1, Status::ReadFault, &[]),
+    (600, 2, Status::ReadFault, &[SCHEMA, EIGHT]),
+    (792, 2, Status::ReadFault, &[SCHEMA, EIGHT, NINTH]),
+    (800, 2, Status::Done, &[SCHEMA, EIGHT, NINTH, "rows 9\n"]),
 ];
 
 #[test]
-fn each_changed_byte_of_a_frozen_blocks_export_has_its_fault(rt: HostRuntime) -> Result<(), Fail> {
-    let whole = run(&rt, rt.alloc(), &RUN, FROZEN, NOTHING_FAILS)?;
-    for (place, byte, front, last) in &CHANGED {
-        let mut bytes = whole.outlet.written().to_vec(rt.alloc())?;
-        let Some(it) = bytes.get_mut(*place) else {
+fn what_was_read_before_a_fault_is_shown(rt: HostRuntime) -> Result<(), Fail> {
+    let whole = run(&rt, rt.alloc(), &RUN, FROZEN.as_bytes(), NOTHING_FAILS)?;
+    for (kept, call, status, printed) in &UNREAD {
+        let Some(bytes) = whole.outlet.written().get(..*kept) else {
             return Err(Fail::from("the stream is too short"));
         };
-        *it = *byte;
-        let is_shown = shows(&rt, rt.alloc(), bytes.as_slice(), front, last)?;
-        assert!(rt; is_shown, "{byte} at {place}");
-    }
-    Ok(())
-}
-
-const HEAD: &str = "store 1\ntable a key:i64 v:utf8? slots 8 blocks 2\nsessions 2\nworkers 0 0\ngo";
-
-/// What stands behind `go`, and the refusal.
-const FALSE_WORKLOADS: [(&str, &str); 8] = [
-    ("", "refused 5 line\n"),
-    ("\n1 insert a 01 \"x\"\n", "refused 6 number\n"),
-    (
-        "\n1 insert a 9223372036854775808 \"x\"\n",
-        "refused 6 number\n",
-    ),
-    ("\n1 insert a 1 \"\\x41\"\n", "refused 6 cell\n"),
-    ("\n1 insert a 1 \"x\" 7\n", "refused 6 command\n"),
-    ("\n1 get z 1\n", "refused 6 unknown\n"),
-    ("\n1 seal a 2\n", "refused 6 block\n"),
-    ("\n1 export a\n1 export a\n", "refused 7 export\n"),
-];
-
-#[test]
-fn false_workloads_are_refused_at_their_line(rt: HostRuntime) -> Result<(), Fail> {
-    for (behind, refusal) in &FALSE_WORKLOADS {
-        let mut input = String::from_str(rt.alloc(), HEAD)?;
-        input.push_str(behind)?;
-        let ended = run(&rt, rt.alloc(), &RUN, input.as_str(), NOTHING_FAILS)?;
-        assert_eq!(rt; ended.status, Status::Refused, "{behind}");
-        assert_eq!(rt; ended.out.written(), refusal.as_bytes(), "{behind}");
+        let calls = [*call];
+        let failing = Failing {
+            source: calls.as_slice(),
+            ..NOTHING_FAILS
+        };
+        let ended = run(&rt, rt.alloc(), &["mainline", "show"], bytes, failing)?;
+        let mut text: Vec<u8> = Vec::new(rt.alloc());
+        for piece in printed.iter() {
+            text.extend_from_slice(piece.as_bytes())?;
+        }
+        assert!(rt; ended.status == *status, "{kept} at {call}");
+        assert!(rt; ended.out.written() == text.as_slice(), "{kept} at {call}");
     }
     Ok(())
 }

@@ -1,7 +1,6 @@
 use Rattle.std.proofs.Common.{◌≡◌, List, Some, ap, ◌∙◌, sym, map, string_bytes}
-use Rattle.clap.specs.Words.{Row, Text, app_of, found_of, is_simple, rows_of, subcommand_of}
-use Rattle.program.specs.declared.words.WordsFault.TheVariants as words_fault
-use Rattle.program.proofs.Asking.{mainline_is_simple, refused_ask_nothing, subcommand_met, taken_ask}
+use Rattle.clap.specs.Words.{Row, Text, app_of, found_of, is_simple, kind_of, rows_of, subcommand_of}
+use Rattle.program.proofs.Asking.{mainline_is_simple, stopped_ask, stopped_ill, stopped_well, subcommand_met, taken_ask}
 use Rattle.program.proofs.words.work_of.Goals as goal
 
 pub returns-in-Some-named-clause-ok : goal.returns-in-Some-named-clause-ok
@@ -26,7 +25,16 @@ returns-in-Some-clause-usage c = λ _.
     c.in-Ok.ensures c.try_get_matches_from.ensures.kinds c.in-Ok-try_get_matches_from.is named
     ∙ sym c.in-None-named.ensures.asked
 
+pub returns-clause-ok : goal.returns-clause-ok
+returns-clause-ok c =
+    stopped_well (map string_bytes c.args.words.now) (kind_of c.in-Err.fault)
+    (stopped_ask (app_of c.in-Ok.command) (map string_bytes c.args.words.now) c.try_get_matches_from.result c.in-Err.fault
+    c.in-Ok.ensures c.try_get_matches_from.ensures.kinds c.in-Err.is)
+    c.stopped.result c.stopped.ensures.memory c.stopped.ensures.ok
+
 pub returns-clause-usage : goal.returns-clause-usage
-returns-clause-usage c = λ is.
-    refused_ask_nothing (app_of c.in-Ok.command) (map string_bytes c.args.words.now) c.try_get_matches_from.result c.in-Err.fault
-    c.in-Ok.ensures c.try_get_matches_from.ensures.kinds c.in-Err.is (c.words_fault.ensures (let same : c.words_fault.result ≡ words_fault.Usage = cc in same))
+returns-clause-usage c =
+    stopped_ill (map string_bytes c.args.words.now) (kind_of c.in-Err.fault)
+    (stopped_ask (app_of c.in-Ok.command) (map string_bytes c.args.words.now) c.try_get_matches_from.result c.in-Err.fault
+    c.in-Ok.ensures c.try_get_matches_from.ensures.kinds c.in-Err.is)
+    c.stopped.result c.stopped.ensures.memory c.stopped.ensures.usage
