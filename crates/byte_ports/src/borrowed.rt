@@ -21,11 +21,18 @@ impl<S: Sink> Sink for &mut S {
 
     ghost loan = { λ s. Some s.ghost_name };
 
+    ghost flushed = { λ s. S.flushed s.now };
+
     ghost faults = { λ s. S.faults s.now };
 
     /// Writes to the sink that is lent.
     fn write(&mut self, piece: &[u8]) -> Result<usize, Failed> {
         Sink::write(&mut **self, piece)
+    }
+
+    /// Flushes the sink that is lent.
+    fn flush(&mut self) -> Result<(), Failed> {
+        Sink::flush(&mut **self)
     }
 }
 

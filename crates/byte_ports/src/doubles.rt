@@ -112,6 +112,8 @@ impl ListSink {
 impl Sink for ListSink {
     ghost written = { λ s. Some s.written };
 
+    ghost flushed = { λ s. Some s.written };
+
     ghost faults = { λ s. s.plan.faults };
 
     /// Takes the whole piece. Besides a call in the list of failing calls, only one fails that
@@ -137,6 +139,19 @@ impl Sink for ListSink {
             Ok(()) => Ok(piece.len()),
             Err(AllocError) => Err(self.plan.fail()),
         }
+    }
+
+    /// Holds nothing back. Only a call in the list of failing calls fails.
+    fn flush(&mut self) -> Result<(), Failed>
+        ensures bytes { Some self.new.written ≡ Some self.old.written }
+        ensures counted { self.old.plan.faults ≤ self.new.plan.faults }
+        ensures kept { OnOk result (self.new.plan.faults ≡ self.old.plan.faults) }
+        ensures cause { OnErr result (Rose self.old.plan.faults self.new.plan.faults) }
+
+        ensures fails { is_err result ≡ fails_next self.old.plan }
+        ensures plan { self.new.plan ≡ after_call self.old.plan (is_err result) }
+    {
+        self.plan.count_call()
     }
 }
 
@@ -206,6 +221,8 @@ impl Sink for ListOutlet {
 
     ghost started = { λ s. Some s.started };
 
+    ghost flushed = { λ s. Some s.written };
+
     ghost faults = { λ s. s.plan.faults };
 
     /// Takes the whole piece. Besides a call in the list of failing calls, only one fails that
@@ -226,6 +243,20 @@ impl Sink for ListOutlet {
         ensures plan { self.new.plan ≡ after_call self.old.plan (is_err result) }
     {
         self.sink.write(piece)
+    }
+
+    /// Holds nothing back. Only a call in the list of failing calls fails.
+    fn flush(&mut self) -> Result<(), Failed>
+        ensures bytes { Some self.new.written ≡ Some self.old.written }
+        ensures started { Some self.new.started ≡ Some self.old.started }
+        ensures counted { self.old.plan.faults ≤ self.new.plan.faults }
+        ensures kept { OnOk result (self.new.plan.faults ≡ self.old.plan.faults) }
+        ensures cause { OnErr result (Rose self.old.plan.faults self.new.plan.faults) }
+
+        ensures fails { is_err result ≡ fails_next self.old.plan }
+        ensures plan { self.new.plan ≡ after_call self.old.plan (is_err result) }
+    {
+        self.sink.flush()
     }
 }
 

@@ -57,6 +57,9 @@ pub trait Sink {
     // written by whatever held the `&mut`.
     ghost loan: { Self → Option GName } = { λ _. None };
 
+    // The bytes that were written and flushed so far, where they are told.
+    ghost flushed: { Self → Option (List ℕ) };
+
     // How many calls have failed so far, where a counter holds at its last value.
     ghost faults: { Self → ℕ };
 
@@ -67,6 +70,17 @@ pub trait Sink {
         ensures some { IfOk result (λ count. 0 < length piece.now → 0 < count) }
         ensures bytes { WriteAppends (written self.old) (written self.new) result piece.now }
         ensures told { TellsAlike (written self.old) (written self.new) }
+        ensures started { started self.new ≡ started self.old }
+        ensures loan { loan self.new ≡ loan self.old }
+        ensures counted { faults self.old ≤ faults self.new }
+        ensures kept { OnOk result (faults self.new ≡ faults self.old) }
+        ensures cause { OnErr result (Rose (faults self.old) (faults self.new)) };
+
+    /// Hands on what was written and is held back. What was written stays so, also where this
+    /// fails.
+    fn flush(&mut self) -> Result<(), Failed>
+        ensures bytes { written self.new ≡ written self.old }
+        ensures flushed { OnOk result (flushed self.new ≡ written self.new) }
         ensures started { started self.new ≡ started self.old }
         ensures loan { loan self.new ≡ loan self.old }
         ensures counted { faults self.old ≤ faults self.new }

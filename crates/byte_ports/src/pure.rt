@@ -56,6 +56,8 @@ pub struct PureSink;
 impl Sink for PureSink {
     ghost written = { λ _. None };
 
+    ghost flushed = { λ _. None };
+
     ghost faults = { λ _. 0 };
 
     /// Takes the whole piece.
@@ -63,6 +65,13 @@ impl Sink for PureSink {
         ensures { result ≡ Ok (length piece.now) }
     {
         Ok(piece.len())
+    }
+
+    /// Nothing is held back.
+    fn flush(&mut self) -> Result<(), Failed>
+        ensures { result ≡ Ok tt }
+    {
+        Ok(())
     }
 }
 
@@ -73,6 +82,8 @@ pub struct PureOutlet;
 impl Sink for PureOutlet {
     ghost written = { λ _. None };
 
+    ghost flushed = { λ _. None };
+
     ghost faults = { λ _. 0 };
 
     /// Takes the whole piece.
@@ -80,6 +91,13 @@ impl Sink for PureOutlet {
         ensures { result ≡ Ok (length piece.now) }
     {
         Ok(piece.len())
+    }
+
+    /// Nothing is held back.
+    fn flush(&mut self) -> Result<(), Failed>
+        ensures { result ≡ Ok tt }
+    {
+        Ok(())
     }
 }
 

@@ -1,17 +1,13 @@
-//! Ports over the readers, writers and files of std.
-ghost use Rattle.std.specs.Prelude.{◌≡◌, ◌<◌, ◌≤◌, None, IfOk, IsSome, OnErr, OnOk, length, is_err};
-ghost use Rattle.std.specs.Prelude.{refl};
+//! Ports over the readers and writers of std.
+ghost use Rattle.std.specs.Prelude.{◌≡◌, ◌<◌, ◌≤◌, None, IfOk, OnErr, OnOk, length, is_err};
 ghost use Rattle.std.specs.Io.{ReadsAtMost, WritesAtMost};
-ghost use Rattle.std.specs.Io.KnownBytes.{ReadConsumes, WriteAppends};
-ghost use Rattle.byte_ports.specs.Adapters.{held};
+ghost use Rattle.std.specs.Io.KnownBytes.{Keeps, ReadConsumes, WriteAppends};
 ghost use Rattle.byte_ports.specs.Calls.{Rose, faults_after};
 
 use crate::faults::FaultCount;
-use crate::{Failed, Outlet, Sink, Source};
-use std::fs::File;
+use crate::{Failed, Sink, Source};
 use std::io::{self, ErrorKind, Read, Write};
 use std::marker::Model;
-use std::rt::Files;
 
 /// How often a call that signals interrupt is made before it fails.
 const MOST_TRIES: u64 = u64::MAX;
@@ -72,8 +68,8 @@ impl<R: Read> Source for StdSource<R> {
 
 /// A sink over a writer of std. Contracts see it as the writer and its count of faults: each error
 /// of the writer is one, but for an interruption, behind which the write is tried again, and so is
-/// that it takes nothing of a piece. It writes what the writer takes; what it has written is not
-/// told.
+/// that it takes nothing of a piece. It writes what the writer takes, and flushes it where it is
+/// flushed; what it has written is not told.
 #[derive(Drop)]
 pub struct StdSink<W: Write> {
     writer: W,
@@ -89,7 +85,7 @@ impl<W: Write> Model for StdSink<W> {
 }
 
 impl<W: Write> StdSink<W> {
-    /// A sink that writes by the writer, which is never flushed.
+    /// A sink that writes by the writer.
     pub fn new(writer: W) -> Self
         ensures { result ≡ record { inner = writer; faults = 0 } }
     {
@@ -102,6 +98,8 @@ impl<W: Write> StdSink<W> {
 
 impl<W: Write> Sink for StdSink<W> {
     ghost written = { λ _. None };
+
+    ghost flushed = { λ _. None };
 
     ghost faults = { λ s. s.faults };
 
@@ -120,97 +118,19 @@ impl<W: Write> Sink for StdSink<W> {
     {
         write_counted(&mut self.writer, &mut self.faults, piece)
     }
-}
 
-/// An outlet that is started with the path of a file, which it makes or empties, and writes there.
-/// Contracts see it as the file, if there is one, and its count of faults: each error is one, but
-/// for an interruption, behind which the call is tried again, and so is a write before a start. It
-/// writes what the file takes; what it has written, and the names that it was started with, are not
-/// told. The file is closed when the outlet is dropped, and what the system says then is not told.
-#[derive(Drop)]
-pub struct FileOutlet<F: Files> {
-    rt: F,
-    file: Option<F::File>,
-    faults: FaultCount,
-}
-
-impl<F: Files> Model for FileOutlet<F> {
-    ghost use Rattle.std.specs.Prelude.{Option};
-    ghost use Rattle.byte_ports.specs.Adapters.{Adapter};
-
-    ghost Value = { Adapter (Option F.File) };
-
-    ghost view = { λ s. record { inner = s.file; faults = s.faults } };
-}
-
-impl<F: Files> FileOutlet<F> {
-    /// An outlet without a file yet.
-    pub fn new(rt: F) -> Self
-        ensures { result ≡ record { inner = None; faults = 0 } }
-    {
-        FileOutlet {
-            rt,
-            file: None,
-            faults: FaultCount::new(),
-        }
-    }
-}
-
-impl<F: Files> Sink for FileOutlet<F> {
-    ghost written = { λ _. None };
-
-    ghost faults = { λ s. s.faults };
-
-    /// Writes to the file; before the first start there is none, and the call fails.
-    fn write(&mut self, piece: &[u8]) -> Result<usize, Failed>
-        ensures bound { WritesAtMost result piece.now }
-        ensures some { IfOk result (λ count. 0 < length piece.now → 0 < count) }
+    /// Flushes the writer, again where it is interrupted; another error of it is counted as a
+    /// fault.
+    fn flush(&mut self) -> Result<(), Failed>
         ensures counted { self.old.faults ≤ self.new.faults }
         ensures kept { OnOk result (self.new.faults ≡ self.old.faults) }
         ensures cause { OnErr result (Rose self.old.faults self.new.faults) }
 
         ensures faults { self.new.faults ≡ faults_after self.old.faults (is_err result) }
-        ensures inner { WriteAppends (held F.File.contents self.old.inner)
-            (held F.File.contents self.new.inner) result piece.now }
+        ensures inner { Keeps (W.contents self.old.inner) (W.contents self.new.inner) }
     {
-        match &mut self.file {
-            Some(file) => write_counted(file, &mut self.faults, piece),
-            None => Err(self.faults.fail()),
-        }
+        flush_counted(&mut self.writer, &mut self.faults)
     }
-}
-
-impl<F: Files> Outlet for FileOutlet<F> {
-    /// Makes the file at the path `name`, or empties it. A start that fails leaves the file that
-    /// was written to before. The file is none of the standard streams, also where one of these is
-    /// closed.
-    fn start(&mut self, name: &str) -> Result<(), Failed>
-        ensures counted { self.old.faults ≤ self.new.faults }
-        ensures kept { OnOk result (self.new.faults ≡ self.old.faults) }
-        ensures cause { OnErr result (Rose self.old.faults self.new.faults) }
-
-        ensures faults { self.new.faults ≡ faults_after self.old.faults (is_err result) }
-        ensures started { OnOk result (IsSome self.new.inner) }
-        ensures left { OnErr result (self.new.inner ≡ self.old.inner) }
-    {
-        let Ok(file) = create_apart(&self.rt, name) else {
-            return Err(self.faults.fail());
-        };
-        self.file = Some(file);
-        Ok(())
-    }
-
-    ghost names_told = { λ _. refl };
-}
-
-/// Makes or empties a file. The system gives a file the least number that is free, which is that of
-/// a standard stream where one is closed, so three files are held open until this one has its
-/// number.
-fn create_apart<F: Files>(rt: &F, name: &str) -> io::Result<F::File> {
-    let _first = File::open(rt, "/")?;
-    let _second = File::open(rt, "/")?;
-    let _third = File::open(rt, "/")?;
-    File::create(rt, name)
 }
 
 /// Reads once, and again as long as a signal interrupts it.
@@ -241,8 +161,34 @@ fn write_through<W: Write>(writer: &mut W, piece: &[u8]) -> io::Result<usize>
     Err(io::Error::from(ErrorKind::Interrupted))
 }
 
+/// Flushes once, and again as long as a signal interrupts it.
+fn flush_through<W: Write>(writer: &mut W) -> io::Result<()>
+    ensures inner { Keeps (W.contents writer.old) (W.contents writer.new) }
+{
+    for _ in 0..MOST_TRIES {
+        match writer.flush() {
+            Err(fault) if fault.kind() == ErrorKind::Interrupted => {}
+            told => return told,
+        }
+    }
+    Err(io::Error::from(ErrorKind::Interrupted))
+}
+
+/// Flushes once. An error is counted.
+pub(crate) fn flush_counted<W: Write>(writer: &mut W, faults: &mut FaultCount) -> Result<(), Failed>
+    ensures inner { Keeps (W.contents writer.old) (W.contents writer.new) }
+    ensures counted { faults.old ≤ faults.new }
+    ensures cause { OnErr result (Rose faults.old faults.new) }
+    ensures faults { faults.new ≡ faults_after faults.old (is_err result) }
+{
+    let Ok(()) = flush_through(writer) else {
+        return Err(faults.fail());
+    };
+    Ok(())
+}
+
 /// Writes once. An error is counted, and so is that nothing was taken of a piece that has bytes.
-fn write_counted<W: Write>(
+pub(crate) fn write_counted<W: Write>(
     writer: &mut W,
     faults: &mut FaultCount,
     piece: &[u8],

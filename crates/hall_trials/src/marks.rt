@@ -1,8 +1,10 @@
-//! Tests of a hall over marks: one pass alone, two threads that raise one mark, and an event on a
-//! part while another is held.
+//! Tests of a hall over marks: one pass alone, two threads that raise one mark, an event on a part
+//! while another is held, and a thread that sleeps at a latch and is woken.
 mod scenarios;
+mod sleeping;
 
 use scenarios::{Turn, marks_after, raised_by_two, raised_while_held};
+use sleeping::{is_read_asleep, sleeps_until_given};
 use std::test::Fail;
 
 struct Case {
@@ -51,5 +53,21 @@ fn two_threads_raise_one_mark(rt: HostRuntime) -> Result<(), Fail> {
 #[test]
 fn a_part_is_raised_while_another_is_held(rt: HostRuntime) -> Result<(), Fail> {
     assert!(rt; raised_while_held(&rt, rt.alloc())?);
+    Ok(())
+}
+
+/// A thread that waits for a part sleeps, and is woken when the part is given back: one that nobody
+/// wakes never ends.
+#[test]
+fn who_waits_for_a_part_sleeps_and_is_woken(rt: HostRuntime) -> Result<(), Fail> {
+    for (stat, asleep) in [
+        ("7 (hall) S 1 7", true),
+        ("7 (hall) R 1 7", false),
+        ("7 (a) b) S 1 7", true),
+        ("", false),
+    ] {
+        assert!(rt; is_read_asleep(stat) == asleep);
+    }
+    assert!(rt; sleeps_until_given(&rt, &rt, rt.alloc())?);
     Ok(())
 }

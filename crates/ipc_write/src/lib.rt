@@ -3,7 +3,9 @@
 #![tactic(auto)]
 
 mod faults;
+mod lent;
 mod writer;
 
 pub use faults::{PieceFault, SinkFault};
+pub use lent::LentImage;
 pub use writer::Writer;

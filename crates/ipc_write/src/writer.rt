@@ -11,11 +11,11 @@ ghost use Rattle.block_columns.specs.Images.{IsWhole, rows_of};
 ghost use Rattle.ipc_write.specs.Calls.{WritesPiece, MakesPiece};
 
 use crate::faults::{PieceFault, SinkFault};
+use crate::lent::LentImage;
 use arrow_array::{Batch, build};
-use block_columns::Image;
 use byte_ports::{Failed, Sink, write_all};
 use cell_model::{Bytes, Row, Schema};
-use ipc_message::{Body, LentArray, are_small, batch_head, framed, of_batch, of_columns, put_body};
+use ipc_message::{Body, LentArray, are_small, batch_head, framed, of_batch, put_body};
 use std::alloc::{AllocError, Global};
 use std::marker::Model;
 
@@ -130,7 +130,7 @@ impl<W: Sink> Writer<W> {
     ///
     /// Where the image has the message, this goes to the sink as it lies there, in one piece; else
     /// the buffers go from where they lie.
-    pub fn image(&mut self, alloc: Global, image: &Image) -> Result<(), PieceFault>
+    pub fn image(&mut self, alloc: Global, image: &LentImage<'_>) -> Result<(), PieceFault>
         requires whole { IsWhole image.now }
         requires few { length image.now.columns ≤ 32 }
         ensures answer { MakesPiece
@@ -151,7 +151,7 @@ impl<W: Sink> Writer<W> {
         if let Some(message) = image.message() {
             return self.ready(message);
         }
-        let arrays = of_columns(alloc, image.columns(), image.rows(), image.buffers())?;
+        let arrays = image.columns(alloc)?;
         self.arrays(alloc, image.rows(), arrays.as_slice())
     }
 

@@ -2,7 +2,7 @@
 //! prints the replies, and writes the export as an Arrow stream to the path.
 #![tactic(auto)]
 
-use byte_ports::{FileOutlet, OpenGate, StdSink, StdSource};
+use byte_ports::{FileOutlet, OpenGate, StdSink, StdSource, SystemFiles};
 use program::{Status, perform};
 use std::alloc::AllocError;
 use std::env;
@@ -17,7 +17,7 @@ fn main(rt: HostRuntime) -> ExitCode {
     };
     let mut source = StdSource::new(rt.stdin());
     let mut out = StdSink::new(rt.stdout());
-    let mut export = FileOutlet::new(rt);
+    let mut export = FileOutlet::new(SystemFiles::new(rt));
     let status = perform(
         &rt,
         alloc,

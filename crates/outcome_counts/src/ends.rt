@@ -1,5 +1,6 @@
 //! Where the transaction of each reply ends.
-ghost use Rattle.std.specs.Prelude.{◌≡◌, ◌+◌, ◌<◌, ◌++◌, ◌∷◌, IfOk, List, OnOk, false, length};
+ghost use Rattle.std.specs.Prelude.{◌≡◌, ◌+◌, ◌<◌, ◌^◌, ◌++◌, ◌∷◌, IfOk, List, OnOk, false};
+ghost use Rattle.std.specs.Prelude.{length};
 ghost use Rattle.outcome_spec.specs.Entries.{Entry as Reply};
 ghost use Rattle.outcome_spec.specs.Forms.{is_worker};
 ghost use Rattle.output_read.specs.Kept.{entries_of, entry_of};
@@ -7,7 +8,7 @@ ghost use Rattle.outcome_counts.specs.Ends.{AreEnds, ended_next, ended_of, next_
 ghost use Rattle.workload_spec.specs.declared.reply.Who.{Who as Whom};
 
 use crate::openings::is_end;
-use output_read::{KeptReply, narrow};
+use output_read::KeptReply;
 use std::alloc::{AllocError, Global};
 use std::collections::BTreeMap;
 use workload_spec::Who;
@@ -31,6 +32,7 @@ impl Ended {
 
     /// Enters a reply at a place in front of those that were entered.
     fn enter(&mut self, reply: &KeptReply<'_>, place: usize) -> Result<(), AllocError>
+        requires { place < 2 ^ 32 }
         ensures { OnOk result ((who : Whom) → ended_of self.new who
             ≡ ended_next (entry_of reply.now) place (ended_of self.old) who) }
     {
@@ -38,7 +40,7 @@ impl Ended {
             return Ok(());
         };
         if is_end(reply) {
-            self.sessions.insert(session, narrow(place as u64)?)?;
+            self.sessions.insert(session, place as u32)?;
         }
         Ok(())
     }
@@ -54,10 +56,11 @@ pub struct Ends {
 impl Ends {
     /// Those of all replies.
     pub fn of(alloc: Global, replies: &[KeptReply<'_>]) -> Result<Ends, AllocError>
+        requires { length replies.now < 2 ^ 32 }
         ensures { IfOk result (λ ends. AreEnds (entries_of replies.now) (length replies.now)
             ends.backs.items) }
     {
-        let count = narrow(replies.len() as u64)?;
+        let count = replies.len() as u32;
         let mut ended = Ended {
             sessions: BTreeMap::new(alloc),
         };

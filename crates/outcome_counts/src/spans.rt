@@ -1,6 +1,6 @@
 //! The transactions of an output, by the places of their replies.
-ghost use Rattle.std.specs.Prelude.{◌≡◌, ◌+◌, ◌<◌, IfOk, IfSome, List, Some, false, length, min};
-ghost use Rattle.std.specs.Prelude.{option_and_then, ℕ};
+ghost use Rattle.std.specs.Prelude.{◌≡◌, ◌+◌, ◌<◌, ◌^◌, IfOk, IfSome, List, Some, false, length};
+ghost use Rattle.std.specs.Prelude.{min, option_and_then, ℕ};
 ghost use Rattle.std.specs.Ordering.{nat_cmp};
 ghost use Rattle.cell_model.specs.declared.table.TableDecl.{TableDecl as Table};
 ghost use Rattle.mark_index.specs.Lists.{marks_at};
@@ -72,6 +72,7 @@ fn writes_by(alloc: Global, replies: &[KeptReply<'_>]) -> Result<MarkIndex<u32, 
 impl Spans {
     /// Those of all replies.
     pub fn of(alloc: Global, replies: &[KeptReply<'_>]) -> Result<Spans, AllocError>
+        requires few { length replies.now < 2 ^ 32 }
         requires rises { Rises (entries_of replies.now) }
         requires outside { OpensOutside (entries_of replies.now) }
         ensures { IfOk result (λ spans. AreSpans (entries_of replies.now) (length replies.now)

@@ -1,5 +1,5 @@
 //! Which reply is the first that is not sound.
-ghost use Rattle.std.specs.Prelude.{◌≡◌, ◌≤◌, IfOk, List, length, true};
+ghost use Rattle.std.specs.Prelude.{◌≡◌, ◌<◌, ◌≤◌, ◌^◌, IfOk, List, length, true};
 ghost use Rattle.cell_model.specs.declared.table.TableDecl.{TableDecl as TableValue};
 ghost use Rattle.order_laws.specs.Opened.{OpensOutside};
 ghost use Rattle.order_laws.specs.Places.{Rises};
@@ -159,6 +159,7 @@ fn sound_end(
     tables: &[TableDecl],
     replies: &[KeptReply<'_>],
 ) -> Result<usize, AllocError>
+    requires few { length replies.now < 2 ^ 32 }
     requires rises { Rises (entries_of replies.now) }
     requires outside { OpensOutside (entries_of replies.now) }
     requires told { are_told replies.now ≡ true }
@@ -181,6 +182,7 @@ pub(crate) fn unsound_line(
     tables: &[TableDecl],
     replies: &[KeptReply<'_>],
 ) -> Result<Option<u64>, AllocError>
+    requires few { length replies.now < 2 ^ 32 }
     requires rises { Rises (entries_of replies.now) }
     requires outside { OpensOutside (entries_of replies.now) }
     requires told { are_told replies.now ≡ true }

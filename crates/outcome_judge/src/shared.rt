@@ -1,5 +1,5 @@
 //! What every judgement of a reply asks.
-ghost use Rattle.std.specs.Prelude.{◌≡◌, IfOk, length};
+ghost use Rattle.std.specs.Prelude.{◌≡◌, ◌<◌, ◌^◌, IfOk, length};
 ghost use Rattle.order_laws.specs.Opened.{OpensOutside};
 ghost use Rattle.order_laws.specs.Places.{Rises};
 ghost use Rattle.output_read.specs.Kept.{entries_of};
@@ -20,6 +20,7 @@ pub(crate) struct Shared {
 impl Shared {
     /// Those of all replies.
     pub(crate) fn of(alloc: Global, replies: &[KeptReply<'_>]) -> Result<Shared, AllocError>
+        requires few { length replies.now < 2 ^ 32 }
         requires rises { Rises (entries_of replies.now) }
         requires outside { OpensOutside (entries_of replies.now) }
         ensures { IfOk result (λ shared. AreShared (entries_of replies.now) (length replies.now)

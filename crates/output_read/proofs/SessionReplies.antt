@@ -138,6 +138,10 @@ module _ (old : Reader) (thread : Thread) (asked : Command) (are : are_tables ol
   pub heading-small : heading < 2 ^ 64
   heading-small = let a = few-index in let b = is_thread.index in omega (arith, a, b)
 
+  -- the next index is not above the number of the line
+  pub heading-low : heading ≤ old.line
+  heading-low = let a = index-few old thread.round who reading in let b = is_thread.index in omega (arith, a, b)
+
   -- The numbers of what is due to the session have their widths.
   narrow-of : (d : Command) → IsNarrow T are E (session_due thread d)
   narrow-of d = record { round = lt-ltb thread.round (2 ^ 32) is_thread.round; who = lt-ltb thread.session (2 ^ 32) is_thread.session; index = lt-ltb (next T are E (session_due thread d)) (2 ^ 64) few-index }

@@ -1,5 +1,5 @@
 -- A worker's lines, by what the next line says.
-use Rattle.std.proofs.Common.{◌≡◌, ℕ, ◌+◌, ◌^◌, ◌<◌, Bool, true, false, cond, ◌&&◌, ◌||◌, not, List, [], ◌∷◌, ◌++◌, length, drop, Option, None, Some, Err, refl, sym, ap, ◌∙◌, arith, suc}
+use Rattle.std.proofs.Common.{◌≡◌, ℕ, ◌+◌, ◌^◌, ◌<◌, ◌≤◌, Bool, true, false, cond, ◌&&◌, ◌||◌, not, List, [], ◌∷◌, ◌++◌, length, drop, Option, None, Some, Err, refl, sym, ap, ◌∙◌, arith, suc}
 use Rattle.std.specs.Prelude.{◌==◌}
 use Rattle.std.specs.Option.{option_map_or}
 use Rattle.std.proofs.lemmas.Bool.{and_from, and_parts, eq-eqb, lt-ltb}
@@ -120,6 +120,10 @@ module _ (old : Reader) (shift : Shift) (are : are_tables old.tables.now ≡ tru
   -- the next index fits 64 bits
   pub heading-small : heading < 2 ^ 64
   heading-small = let a = few-index in let b = is_shift.index in omega (arith, a, b)
+
+  -- the next index is not above the number of the line
+  pub heading-low : heading ≤ old.line
+  heading-low = let a = index-few old shift.round who reading_is in let b = is_shift.index in omega (arith, a, b)
 
   -- The round of the shift fits 32 bits.
   small_round : is_u32 shift.round ≡ true

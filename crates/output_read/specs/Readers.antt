@@ -27,7 +27,7 @@ reads reader dues = reading reader.tables.now dues (read_by reader) (lines_left 
 pub record IsReading (reader : Reader) : Type 0 where
   pub line : reader.line ≡ next_line reader.tables.now (read_by reader)
   pub told : are_told reader.replies.items ≡ true
-  pub room : reader.line + length reader.rest.now ≤ 2 ^ 63
+  pub room : reader.line + length reader.rest.now ≤ 2 ^ 32
   pub few : length reader.replies.items < reader.line
 
 -- What was due was read: from here on the rest is read as from there with it, if the rest begins

@@ -1,7 +1,4 @@
 //! Replies that were read, compact: their rows stay in the text.
-ghost use Rattle.std.specs.Prelude.{◌≡◌, IfOk};
-
-use std::alloc::AllocError;
 use workload_spec::{Command, SealCause, Who};
 
 /// What is told of an export: the snapshot, the rows, the batches, and how many of these are images
@@ -57,15 +54,4 @@ pub struct KeptReply<'a> {
     pub who: Who,
     pub index: u32,
     pub told: Told<'a>,
-}
-
-/// A count of lines or of what stands on them, in half its width: an output that has 2^32 of them
-/// is answered as refused memory.
-pub fn narrow(count: u64) -> Result<u32, AllocError>
-    ensures { IfOk result (λ narrow. narrow ≡ count) }
-{
-    match u32::try_from(count) {
-        Ok(narrow) => Ok(narrow),
-        Err(_) => Err(AllocError),
-    }
 }

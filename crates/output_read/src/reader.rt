@@ -7,7 +7,7 @@ ghost use Rattle.output_read.specs.Fronts.{IsSaidBy, count_first, is_of_block, i
 ghost use Rattle.output_read.specs.Fronts.{said_first, words_behind, words_first};
 ghost use Rattle.output_read.specs.Kept.{is_told, said_of};
 
-use crate::kept::{Exported, KeptReply, Told, narrow};
+use crate::kept::{Exported, KeptReply, Told};
 use cell_model::TableDecl;
 use reply_text::{behind, head_in, told_in};
 use std::alloc::{AllocError, Global};
@@ -156,7 +156,7 @@ fn block_told<'a>(said: &Said) -> Told<'a>
             block: *block,
             rows: *rows,
         },
-        _ => Told::Memory,
+        _ => unreachable!(),
     }
 }
 
@@ -228,6 +228,8 @@ impl<'a> Reader<'a> {
         behind: &'a [u8],
     ) -> Result<(), AllocError>
         requires room { self.old.line + lines < 2 ^ 64 }
+        requires number { self.old.line < 2 ^ 32 }
+        requires index { heading.index < 2 ^ 32 }
         ensures tables { self.new.tables.now ≡ self.old.tables.now }
         ensures rest { OnOk result (self.new.rest.now ≡ behind.now) }
         ensures line { OnOk result (self.new.line ≡ self.old.line + lines) }
@@ -242,11 +244,11 @@ impl<'a> Reader<'a> {
             } ∷ []) }
     {
         self.replies.push(KeptReply {
-            number: narrow(self.line)?,
+            number: self.line as u32,
             command,
             round: heading.round,
             who: heading.who,
-            index: narrow(heading.index)?,
+            index: heading.index as u32,
             told,
         })?;
         self.line += lines;

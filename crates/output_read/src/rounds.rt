@@ -19,7 +19,8 @@ use std::alloc::{AllocError, Global};
 use workload_spec::{Line, Script};
 
 /// The replies that the output's lines are, or the first line, counted from 1, at which they fail
-/// to be those that are due. A script of 2^32 rounds or more is answered as refused memory.
+/// to be those that are due. An output of 2^32 bytes or more, or one to a script of 2^32 rounds or
+/// more, is answered as refused memory.
 pub fn read_output<'a>(
     alloc: Global,
     script: &'a Script,
@@ -29,9 +30,10 @@ pub fn read_output<'a>(
     ensures read { IfOk result (λ kept. replies_of script.now text.now
         ≡ Ok (entries_of kept.items)) }
     ensures told { IfOk result (λ kept. are_told kept.items ≡ true) }
+    ensures few { IfOk result (λ kept. length kept.items < 2 ^ 32) }
     ensures failed { OnLine result (λ line. replies_of script.now text.now ≡ Err line) }
 {
-    if script.rounds.len() > u32::MAX as usize || text.len() >= isize::MAX as usize {
+    if script.rounds.len() > u32::MAX as usize || text.len() > u32::MAX as usize {
         return Err(ReadFault::Memory(AllocError));
     }
     let mut reader = Reader {

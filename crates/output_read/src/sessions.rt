@@ -14,7 +14,7 @@ ghost use Rattle.std.specs.List.{list_all};
 
 use crate::answers::answers;
 use crate::fault::ReadFault;
-use crate::kept::{Told, narrow};
+use crate::kept::Told;
 use crate::reader::{Heading, Reader, count_first, said_first, told_of};
 use crate::rows::rows_above;
 use std::alloc::Global;
@@ -163,8 +163,10 @@ impl<'a> Reader<'a> {
             return Err(ReadFault::Line(self.line + 1 + rows));
         }
         let (lines, _) = lines.split_at(lines.len() - behind.len());
-        let many = narrow(count)?;
-        let told = Told::Scanned { count: many, lines };
+        let told = Told::Scanned {
+            count: count as u32,
+            lines,
+        };
         self.keep(heading, Some(command), told, 1 + count, behind)?;
         Ok(Thread {
             index: heading.index,

@@ -1,7 +1,8 @@
 -- How a run ends, by how its rounds ended.
 use Rattle.std.proofs.Common.{◌≡◌, ℕ, List, [], ◌∷◌, ◌++◌, Option, None, Some, refl, sym, subst, inl, inr, arith}
 use Rattle.std.specs.Prelude.{IsSome}
-use Rattle.store_rounds.specs.Workloads.{GoesCutOff, GoesStopped, GoesTo, GoesToExport, GoesWhole, WentBy}
+use Rattle.run_spec.specs.Ran.{RoundRun}
+use Rattle.store_rounds.specs.Workloads.{GoesCutOff, GoesStopped, GoesTo, GoesToExport, GoesWhole, OfRounds, WentBy}
 use Rattle.run_laws.specs.Rounds.Fronts.{with_rounds}
 use Rattle.workload_spec.specs.declared.script.Line.{Line}
 use Rattle.workload_spec.specs.declared.script.Script.{Script}
@@ -11,19 +12,16 @@ use Rattle.program.specs.declared.status.Status.{Status}
 use Rattle.program.specs.declared.status.Status.TheVariants as status
 use Rattle.program.proofs.Exports.{export_asked}
 
--- what is told of rounds
-abbrev OfRounds : Type 1
-OfRounds = List (List Line) → List ℕ → Type 0
-
 -- whatever is told in these words can be told in those
 abbrev TellsBy : OfRounds → OfRounds → Type 0
-TellsBy Goes Told = (asked : List (List Line)) (text : List ℕ) → Goes asked text → Told asked text
+TellsBy Goes Told = (asked : List (List Line)) (ran : List RoundRun) (text : List ℕ) → Goes asked ran text → Told asked ran text
 
 -- A run that went whole is told so in other words too.
 whole_told : (Goes Told : OfRounds) (script : Script) (before now : Option (List ℕ)) → TellsBy Goes Told → GoesWhole Goes script before now → GoesWhole Told script before now
 whole_told Goes Told script before now told goes = record {
+  ran = goes.ran;
   text = goes.text;
-  went = told script.rounds goes.text goes.went;
+  went = told script.rounds goes.ran goes.text goes.went;
   printed = goes.printed;
 }
 
@@ -33,8 +31,9 @@ cut_told Goes Told script before now told goes = record {
   whole = goes.whole;
   rest = goes.rest;
   rounds = goes.rounds;
+  ran = goes.ran;
   text = goes.text;
-  went = told goes.whole goes.text goes.went;
+  went = told goes.whole goes.ran goes.text goes.went;
   printed = goes.printed;
 }
 
@@ -46,12 +45,13 @@ to_told Goes Told script lines before now told goes = record {
   rest = goes.rest;
   rounds = goes.rounds;
   first = goes.first;
+  ran = goes.ran;
+  last = goes.last;
   shown = goes.shown;
   hidden = goes.hidden;
-  shares = goes.shares;
   of_round = goes.of_round;
   explained_shown = goes.explained_shown;
-  went = told (goes.whole ++ lines ∷ []) (goes.shown ++ goes.hidden) goes.went;
+  went = told (goes.whole ++ lines ∷ []) (goes.ran ++ goes.last ∷ []) (goes.shown ++ goes.hidden) goes.went;
   printed = goes.printed;
 }
 
@@ -62,8 +62,9 @@ stopped_told Goes Told script before now told (inl goes) = inl (record {
   round = goes.round;
   rest = goes.rest;
   rounds = goes.rounds;
+  ran = goes.ran;
   text = goes.text;
-  went = told goes.whole goes.text goes.went;
+  went = told goes.whole goes.ran goes.text goes.went;
   printed = goes.printed;
 })
 stopped_told Goes Told script before now told (inr goes) = inr (record {
@@ -87,9 +88,10 @@ export_told Goes Told script before now told goes = record {
 ran_rounds : (path : Option (List ℕ)) (script : Script) (before now : Outside) (exported exported_now : Option (List ℕ))
     → ((ran : Script) (text : List ℕ) → Sends ran text exported exported_now → Delivers path script ran text before now)
     → TellsBy (WentBy script exported exported_now) (RanRounds path script before now)
-ran_rounds path script before now exported exported_now delivers = λ asked text went. record {
+ran_rounds path script before now exported exported_now delivers = λ asked rounds text went. record {
   log = went.log;
   ran = went.ran;
+  rounds_are = went.rounds_are;
   explained = went.explained;
   outlet = delivers (with_rounds asked script) text (record { sent = went.bytes; grown = went.sent; says = went.says });
 }

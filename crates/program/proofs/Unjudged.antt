@@ -1,13 +1,13 @@
 -- Where memory is refused before the words are judged.
 use Rattle.std.proofs.Common.{ℕ, List, Option, None, Some, inl, refl}
-use Rattle.program.specs.Outcome.{Ends, outside}
+use Rattle.program.specs.Outcome.{WorkEnds, outside}
 use Rattle.program.specs.Words.{Asked, ToBench, ToCheck, ToHelp, ToRun, ToShow, ToVersion}
 use Rattle.program.specs.declared.status.Status.TheVariants as status
 use Rattle.program.proofs.Shown.{ends-at-once}
 
 -- Whatever the words ask for, nothing has changed.
 pub ends-unjudged : (asked : Option Asked) (left printed exported : Option (List ℕ))
-    (started : Option (List (List ℕ))) → Ends asked status.Memory
+    (started : Option (List (List ℕ))) → WorkEnds asked status.Memory
     (outside left printed exported started) (outside left printed exported started)
 ends-unjudged None left printed exported started = refl
 ends-unjudged (Some (ToRun path)) left printed exported started = inl record { printed = refl; outlet = record { exported = refl; started = refl } }

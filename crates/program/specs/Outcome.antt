@@ -1,6 +1,6 @@
 -- How a run of the program ends: what each status says of what was read, printed and sent.
-use Rattle.std.specs.Prelude.{◌≡◌, ◌≢◌, ◌<◌, ◌≤◌, ◌+◌, ◌^◌, ◌⊎◌, ℕ, true, length, List, [], ◌∷◌}
-use Rattle.std.specs.Prelude.{◌++◌, Option}
+use Rattle.std.specs.Prelude.{◌≡◌, ◌≢◌, ◌<◌, ◌≤◌, ◌+◌, ◌^◌, ◌⊎◌, ℕ, Bool, true, false, length, List}
+use Rattle.std.specs.Prelude.{[], ◌∷◌, ◌++◌, Option}
 use Rattle.std.specs.Prelude.{None, Some, option_map, codes, decimal, Ok, Err, IsSome}
 use Rattle.std.specs.Prelude.{if◌then◌else◌}
 use Rattle.std.specs.Io.KnownBytes.{Appends, Consumes, IsAtEnd}
@@ -17,7 +17,7 @@ use Rattle.workload_spec.specs.Grammar.{Fault, checked_of, read_with, refused_te
 use Rattle.workload_spec.specs.Words.{line_feed}
 use Rattle.outcome_spec.specs.Explained.{Explained, failing_line}
 use Rattle.run_spec.specs.Occurrences.{Logged}
-use Rattle.run_spec.specs.Ran.{Ran}
+use Rattle.run_spec.specs.Ran.{Ran, RoundRun}
 use Rattle.run_laws.specs.Rounds.Fronts.{with_rounds}
 use Rattle.store_rounds.specs.Workloads.{GoesCutOff, GoesStopped, GoesToExport, GoesWhole}
 use Rattle.bench_spec.specs.Counted.{counts_text}
@@ -121,14 +121,15 @@ pub record IsRefused (Prints : Option (List ℕ) → Option (List ℕ) → List 
   pub printed : Prints before.printed now.printed (refused_text fault)
   pub outlet : LeavesOutlet before now
 
--- Rounds of these lines of the workload ran with some log of events and had this text, which
--- snapshot isolation explains; the outlet has what the text's lines say.
+-- Rounds of these lines of the workload ran with some log of events, as these rounds, and had this
+-- text, which snapshot isolation explains; the outlet has what the text's lines say.
 pub record RanRounds
     (path : Option (List ℕ)) (script : Script) (before now : Outside) (asked : List (List Line))
-    (text : List ℕ)
+    (rounds : List RoundRun) (text : List ℕ)
     : Type 0 where
   pub log : List Logged
   pub ran : Ran (with_rounds asked script) log text
+  pub rounds_are : ran.rounds ≡ rounds
   pub explained : Explained (with_rounds asked script) text
   pub outlet : Delivers path script (with_rounds asked script) text before now
 
@@ -359,15 +360,45 @@ UsageEnds status.Memory before now = now ≡ before
 UsageEnds status.NotAStream before now = ⊥
 UsageEnds status.TooLong before now = ⊥
 
--- How the program ends, by what the words ask for.
+-- How the work ends that the words ask for.
+abbrev pub WorkEnds : Option Asked → Status → Outside → Outside → Type 0
+WorkEnds None ended before now = UsageEnds ended before now
+WorkEnds (Some (ToRun path)) ended before now = RunEnds path ended before now
+WorkEnds (Some ToShow) ended before now = ShowEnds ended before now
+WorkEnds (Some ToCheck) ended before now = CheckEnds ended before now
+WorkEnds (Some (ToBench seed size)) ended before now = BenchEnds seed size ended before now
+WorkEnds (Some ToHelp) ended before now = TextEnds help_text ended before now
+WorkEnds (Some ToVersion) ended before now = TextEnds version_line ended before now
+
+-- ---- the flush behind it
+
+-- whether the output is flushed behind a work that ended so: where it tells of no failed call
+abbrev pub is_flushed : Status → Bool
+is_flushed status.Done = true
+is_flushed status.Usage = true
+is_flushed status.Refused = true
+is_flushed status.ReadFault = false
+is_flushed status.OutFault = false
+is_flushed status.ExportFault = false
+is_flushed status.Memory = true
+is_flushed status.NotAStream = true
+is_flushed status.TooLong = true
+
+-- The work ended, with a status that tells of no failed call, and the flush behind it failed: all that
+-- was due is printed, and how much of it was handed on is not told.
+pub record FailsFlush (asked : Option Asked) (ended : Status) (before now : Outside) : Type 0 where
+  pub told : ended ≡ status.OutFault
+  pub worked : Status
+  pub well : is_flushed worked ≡ true
+  pub work : WorkEnds asked worked before now
+
+-- How the program ends, by what the words ask for: as the work does, or at the flush behind it.
 abbrev pub Ends : Option Asked → Status → Outside → Outside → Type 0
-Ends None ended before now = UsageEnds ended before now
-Ends (Some (ToRun path)) ended before now = RunEnds path ended before now
-Ends (Some ToShow) ended before now = ShowEnds ended before now
-Ends (Some ToCheck) ended before now = CheckEnds ended before now
-Ends (Some (ToBench seed size)) ended before now = BenchEnds seed size ended before now
-Ends (Some ToHelp) ended before now = TextEnds help_text ended before now
-Ends (Some ToVersion) ended before now = TextEnds version_line ended before now
+Ends asked ended before now = WorkEnds asked ended before now ⊎ FailsFlush asked ended before now
+
+-- With a status that tells of no failed call, all that was written to the output was flushed.
+abbrev pub IsFlushed : Status → Option (List ℕ) → Option (List ℕ) → Type 0
+IsFlushed ended flushed written = is_flushed ended ≡ true → flushed ≡ written
 
 -- A run ends with this status only where a count of faults rose, and with any other the count is as
 -- before.

@@ -4,18 +4,15 @@ use Rattle.std.specs.Io.KnownBytes.{Appends}
 use Rattle.byte_ports.specs.Calls.{AppendsFront}
 use Rattle.script_text.specs.declared.fault.ScriptFault.{ScriptFault}
 use Rattle.script_text.specs.declared.fault.ScriptFault.TheVariants as script_fault
-use Rattle.store_rounds.specs.Workloads.{GoesCutOff, GoesStopped, GoesToExport, GoesWhole}
+use Rattle.store_rounds.specs.Workloads.{GoesCutOff, GoesStopped, GoesToExport, GoesWhole, OfRounds}
 use Rattle.workload_spec.specs.Grammar.{refused_text}
-use Rattle.workload_spec.specs.declared.script.Line.{Line}
 use Rattle.workload_spec.specs.declared.script.Script.{Script}
 use Rattle.program.specs.declared.status.Status.{Status}
 use Rattle.program.specs.declared.status.Status.TheVariants as status
 
--- How the rounds of a workload end, where `Goes asked text` says that rounds of these lines ran and
--- had this text.
-abbrev pub PlayEnds
-    : (List (List Line) → List ℕ → Type 0) → Script → Status → Option (List ℕ) → Option (List ℕ)
-    → Type 0
+-- How the rounds of a workload end, where `Goes asked ran text` says that rounds of these lines ran,
+-- as these rounds, and had this text.
+abbrev pub PlayEnds : OfRounds → Script → Status → Option (List ℕ) → Option (List ℕ) → Type 0
 PlayEnds Goes script status.Done before now = GoesWhole Goes script before now
 PlayEnds Goes script status.Usage before now = ⊥
 PlayEnds Goes script status.Refused before now = ⊥

@@ -33,6 +33,8 @@ impl KeptOutput {
 impl Sink for KeptOutput {
     ghost written = { λ s. Some s.bytes.items };
 
+    ghost flushed = { λ s. Some s.bytes.items };
+
     ghost faults = { λ s. s.faults };
 
     /// Keeps the whole piece.
@@ -44,5 +46,10 @@ impl Sink for KeptOutput {
                 Err(Failed)
             }
         }
+    }
+
+    /// Nothing is held back.
+    fn flush(&mut self) -> Result<(), Failed> {
+        Ok(())
     }
 }

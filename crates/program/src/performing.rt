@@ -11,8 +11,9 @@ ghost use Rattle.script_text.specs.Answers.{LineGives};
 ghost use Rattle.export_spec.specs.Sent.{has_export};
 ghost use Rattle.workload_spec.specs.ScriptText.{script_text};
 ghost use Rattle.store_rounds.specs.Workloads.{WentBy};
-ghost use Rattle.program.specs.Outcome.{Ends, RunEnds, ScriptEnds};
-ghost use Rattle.program.specs.Outcome.{TellsFaults, outside, started_by};
+ghost use Rattle.program.specs.Flushed.{FlushEnds};
+ghost use Rattle.program.specs.Outcome.{Ends, IsFlushed, RunEnds, ScriptEnds, WorkEnds};
+ghost use Rattle.program.specs.Outcome.{TellsFaults, is_flushed, outside, started_by};
 ghost use Rattle.program.specs.Played.{RefusalEnds, PlayEnds};
 ghost use Rattle.program.specs.Words.{asked_by};
 
@@ -47,6 +48,8 @@ pub(crate) const MOST_BYTES: usize = 1 << 32;
 ///
 /// The words are judged first, then the reading of the input, its grammar, the start of the outlet
 /// and the rounds. Where the line that tells of a fault can't be printed, the status is `OutFault`.
+/// Behind a work in which no call failed `out` is flushed; where that fails, the status is
+/// `OutFault` too.
 pub fn perform<R: Wait + Threads + Sync, S: Source, O: Sink, X: Outlet + Send, G: Gate + Sync>(
     rt: &R,
     alloc: Global,
@@ -57,6 +60,32 @@ pub fn perform<R: Wait + Threads + Sync, S: Source, O: Sink, X: Outlet + Send, G
     gate: &G,
 ) -> Status
     ensures ends { Ends (asked_by (map string_bytes words.items)) result
+        (outside (S.left source.old) (O.written out.old) (X.written export.old)
+        (X.started export.old))
+        (outside (S.left source.new) (O.written out.new) (X.written export.new)
+        (X.started export.new)) }
+    ensures read_faults { TellsFaults Status.ReadFault result (S.faults source.old)
+        (S.faults source.new) }
+    ensures out_faults { TellsFaults Status.OutFault result (O.faults out.old) (O.faults out.new) }
+    ensures export_faults { TellsFaults Status.ExportFault result (X.faults export.old)
+        (X.faults export.new) }
+    ensures flushed { IsFlushed result (O.flushed out.new) (O.written out.new) }
+{
+    let worked = carry_out(rt, alloc, words, source, out, export, gate);
+    flush_behind(worked, out)
+}
+
+/// Does what the words ask for.
+fn carry_out<R: Wait + Threads + Sync, S: Source, O: Sink, X: Outlet + Send, G: Gate + Sync>(
+    rt: &R,
+    alloc: Global,
+    words: Vec<String>,
+    source: &mut S,
+    out: &mut O,
+    export: &mut X,
+    gate: &G,
+) -> Status
+    ensures ends { WorkEnds (asked_by (map string_bytes words.items)) result
         (outside (S.left source.old) (O.written out.old) (X.written export.old)
         (X.started export.old))
         (outside (S.left source.new) (O.written out.new) (X.written export.new)
@@ -77,6 +106,36 @@ pub fn perform<R: Wait + Threads + Sync, S: Source, O: Sink, X: Outlet + Send, G
         Err(WordsFault::Usage) => tell_usage(out),
         Err(WordsFault::Memory) => Status::Memory,
     }
+}
+
+/// Whether the output is flushed behind a work that ended so: where it tells of no failed call.
+fn is_flushed(worked: Status) -> bool
+    ensures { result ≡ is_flushed worked }
+{
+    match worked {
+        Status::Done
+        | Status::Usage
+        | Status::Refused
+        | Status::Memory
+        | Status::NotAStream
+        | Status::TooLong => true,
+        Status::ReadFault | Status::OutFault | Status::ExportFault => false,
+    }
+}
+
+/// Flushes the output behind a work that tells of no failed call, and tells how the program ends.
+fn flush_behind<O: Sink>(worked: Status, out: &mut O) -> Status
+    ensures written { O.written out.new ≡ O.written out.old }
+    ensures ends { FlushEnds worked result (O.faults out.old) (O.faults out.new) }
+    ensures flushed { IsFlushed result (O.flushed out.new) (O.written out.new) }
+{
+    if !is_flushed(worked) {
+        return worked;
+    }
+    if let Err(Failed) = out.flush() {
+        return Status::OutFault;
+    }
+    worked
 }
 
 /// Runs the workload that is read from the source to its end.

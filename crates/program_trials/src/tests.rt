@@ -48,7 +48,8 @@ struct Fault {
     exported: usize,
 }
 
-const FAULTS: [Fault; 10] = [
+/// The text of a run is written by one call of the output, and flushed by the next.
+const FAULTS: [Fault; 12] = [
     Fault {
         words: &["mainline", "--help"],
         commands: EXPORT,
@@ -130,6 +131,30 @@ const FAULTS: [Fault; 10] = [
         },
         status: Status::OutFault,
         printed: "",
+        started: 0,
+        exported: 0,
+    },
+    Fault {
+        words: &RUN,
+        commands: EXPORT,
+        failing: Failing {
+            out: &[2],
+            ..NOTHING_FAILS
+        },
+        status: Status::OutFault,
+        printed: EXPORTED,
+        started: 1,
+        exported: 168,
+    },
+    Fault {
+        words: &["mainline"],
+        commands: EXPORT,
+        failing: Failing {
+            out: &[2],
+            ..NOTHING_FAILS
+        },
+        status: Status::OutFault,
+        printed: USAGE,
         started: 0,
         exported: 0,
     },

@@ -6,3 +6,4 @@ pub mod Counts
 pub mod Explained
 pub mod Rounds
 pub mod Exports
+pub mod Logs

@@ -6,6 +6,7 @@ pub mod call_laws;
 pub mod count_laws;
 pub mod explained_laws;
 pub mod export_laws;
+pub mod log_laws;
 pub mod moment_laws;
 pub mod round_laws;
 pub mod scan_laws;

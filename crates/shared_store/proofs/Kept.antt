@@ -169,7 +169,7 @@ module _ (store : StoreView) (session : ℕ) (seat : SeatView) (hands : HandsVie
         places = rested_places (length (store_meaning (shape_in store)).start) hands is.pass.places;
         spares = rested_spares hands;
       };
-      knows = record { sessions = is.knows.sessions; sole = is.knows.sole; own_is = is.knows.own_is; opened = is.knows.opened };
+      knows = record { sessions = is.knows.sessions; sole = is.knows.sole; under = is.knows.under; own_is = is.knows.own_is; opened = is.knows.opened };
     };
     empty = none_in_first hands;
   }

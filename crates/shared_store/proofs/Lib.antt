@@ -23,3 +23,4 @@ pub mod Shown
 pub mod Swept
 pub mod Thaws
 pub mod Wrote
+pub mod Open

@@ -25,7 +25,7 @@ use Rattle.run_spec.specs.Calls.{is_memory as lacks_memory}
 use Rattle.run_spec.specs.Opened.{own_behind}
 use Rattle.store_laws.specs.Laws.{IsOfSession, Replied, SeesOn}
 use Rattle.store_laws.specs.Logs.{log_of, logged_of, store_meaning}
-use Rattle.store_laws.specs.Own.{KnowsOwn, MakesOne}
+use Rattle.store_laws.specs.Own.{StandsUnder, KnowsOwn, MakesOne}
 use Rattle.store_laws.proofs.Calling.{saw_and_made}
 use Rattle.store_laws.proofs.Entries.{lawful_same, log_append, replay_same}
 use Rattle.store_laws.proofs.Knowing.{looks_go_on}
@@ -302,6 +302,7 @@ gave_back store session u w hands later own within left view empty =
           knows = record {
             sessions = ap (λ (v : View CoreEvent). v.sessions) view ∙ within.knows.sessions;
             sole = ap (λ (v : View CoreEvent). has session v.sole) view ∙ within.knows.sole;
+            under = subst (λ (l : List (Entry CoreEvent)). StandsUnder session (log_of l)) (sym log) within.knows.under;
             own_is = within.knows.own_is ∙ ap (λ (l : List (Entry CoreEvent)). own_after (own_in (shape_in store) session (log_of l))) (sym log);
             opened = subst (λ (l : List (Entry CoreEvent)). HasOpened (shape_in store) (replay (store_meaning (shape_in store)) l) session own) (sym log) within.knows.opened;
           };

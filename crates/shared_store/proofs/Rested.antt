@@ -21,7 +21,7 @@ use Rattle.run_spec.specs.Handed.{GoesOn, own_in}
 use Rattle.run_spec.specs.Occurrences.{Occurrence}
 use Rattle.run_spec.specs.Opened.{own_after, own_behind}
 use Rattle.store_laws.specs.Logs.{log_of, store_meaning}
-use Rattle.store_laws.specs.Own.{parts_after}
+use Rattle.store_laws.specs.Own.{StandsUnder, parts_after}
 use Rattle.shared_store.specs.Keeping.{GivesPart, IsKeeping, IsOnBlock, Keeps, MakesAnyKeeping, MakesKeeping, rested, rested_hands, rested_seat}
 use Rattle.shared_store.specs.Making.{Gives, Makes, MakesHeld, Takes}
 use Rattle.shared_store.specs.Store.{EndsWithLast, HandsView, IsAt, IsSession, IsWithin, SeatView, StoreView, TookPartsOf, own_of, seen, shape_in, taken_by}
@@ -87,6 +87,7 @@ gave_part store session part u w hands later own within left view =
         knows = record {
           sessions = ap (λ (v : View CoreEvent). v.sessions) view ∙ within.knows.sessions;
           sole = ap (λ (v : View CoreEvent). has session v.sole) view ∙ within.knows.sole;
+          under = subst (λ (l : List (Entry CoreEvent)). StandsUnder session (log_of l)) (sym log) within.knows.under;
           own_is = within.knows.own_is ∙ ap (λ (l : List (Entry CoreEvent)). own_after (own_in (shape_in store) session (log_of l))) (sym log);
           opened = subst (λ (l : List (Entry CoreEvent)). HasOpened (shape_in store) (replay (store_meaning (shape_in store)) l) session own) (sym log) within.knows.opened;
         };

@@ -27,8 +27,9 @@ use Rattle.hall_steps.specs.Hall.{IsNew, IsPass, Knows, first_of}
 use Rattle.run_spec.specs.Handed.{own_in}
 use Rattle.run_spec.specs.Opened.{own_after}
 use Rattle.store_laws.specs.Logs.{log_of, store_meaning}
-use Rattle.store_laws.specs.Own.{KnowsOwn}
+use Rattle.store_laws.specs.Own.{KnowsOwn, StandsUnder}
 use Rattle.store_laws.proofs.Entries.{own_stays}
+use Rattle.store_laws.proofs.Knowing.{under_on}
 use Rattle.shared_store.specs.Building.{HasSessions, IsNewRow, IsNewSession}
 use Rattle.shared_store.specs.Store.{HandsView, IsAt, IsStore, SeatView, StoreView, opened_at, own_of, shape_in}
 use Rattle.shared_store.specs.declared.session.Session.{Session}
@@ -76,6 +77,7 @@ module _ (shape : Shape) (session id : ℕ) (me : Me (Option CorePart) (View Cor
     (sessions : me.0.sessions ≡ session ∷ [])
     (sole : has session me.0.sole ≡ true)
     (mine : me.0.mine ≡ [])
+    (under : StandsUnder session (log_of me.0.log))
     (rests : transaction shape (replay (store_meaning shape) me.0.log) session ≡ None)
   where
     no_events : own_in shape session (log_of me.0.log) ≡ []
@@ -86,6 +88,7 @@ module _ (shape : Shape) (session id : ℕ) (me : Me (Option CorePart) (View Cor
     knows_rest = record {
       sessions = sessions;
       sole = sole;
+      under = under;
       own_is = sym (ap own_after no_events);
       opened = rests;
     }
@@ -102,18 +105,19 @@ pub record IsNewPass (store : StoreView) (session : ℕ) (seat : SeatView) (hand
 new_pass : (store : StoreView) (session : ℕ) (seat : SeatView) (hands : HandsView)
     → IsPass (store_meaning (shape_in store)) store.id seat hands → ((part : ℕ) → ¬ Holds (first_of hands) part)
     → seat.me.0.sessions ≡ session ∷ [] → has session seat.me.0.sole ≡ true → seat.me.0.mine ≡ [] → seat.me.0.taken ≡ []
+    → StandsUnder session (log_of seat.me.0.log)
     → transaction (shape_in store) (replay (store_meaning (shape_in store)) seat.me.0.log) session ≡ None
     → IsNewPass store session seat hands
-new_pass store session seat hands pass empty sessions sole mine taken rests = record {
+new_pass store session seat hands pass empty sessions sole mine taken under rests = record {
   stands = record {
     within = record {
       pass = pass;
-      knows = knows_rest (shape_in store) session seat.id seat.me (first_of hands) pass.of.1 sessions sole mine rests;
+      knows = knows_rest (shape_in store) session seat.id seat.me (first_of hands) pass.of.1 sessions sole mine under rests;
     };
     empty = empty;
   };
   mine = mine;
-  none = no_events (shape_in store) session seat.id seat.me (first_of hands) pass.of.1 sessions sole mine rests;
+  none = no_events (shape_in store) session seat.id seat.me (first_of hands) pass.of.1 sessions sole mine under rests;
   taken = taken;
 }
 
@@ -146,6 +150,7 @@ module _ (store : StoreView) (number n : ℕ) (s t u : SeatView) (hands held giv
       few = let few = before.few in omega (arith, few, is);
       mine = ap (λ (v : View CoreEvent). v.mine) deal ∙ before.mine;
       taken = ap (λ (v : View CoreEvent). v.taken) deal ∙ before.taken;
+      under = λ session. subst (λ (v : View CoreEvent). StandsUnder session (log_of v.log)) (sym deal) (before.under session);
       rests = λ session. ap (λ (v : View CoreEvent). transaction (shape_in store) (replay (store_meaning (shape_in store)) v.log) session) deal ∙ before.rests session;
     }
 
@@ -163,6 +168,8 @@ module _ (store : StoreView) (number n : ℕ) (s t u : SeatView) (hands held giv
     given_is_new = new_pass store number u given pass empty is_new.hands
         (ap (has number) is_new.sole ∙ fresh_has s.me.0 number had before.mine)
         is_new.mine is_new.taken
+        (under_on (shape_in store) number s.me.0.log u.me.0.log is_new.stays.goes_on (before.under number)
+        (is_new.stays.spared number (has_head number [])))
         (is_new.stays.transactions number (has_head number []) ∙ before.rests number)
 
 -- the first pass has a hand for each of its sessions
@@ -173,7 +180,7 @@ hands_are store count seat hands is = ap (λ (qs : List ℕ). length qs) is.sess
 pub first_is_new : (store : StoreView) (seat : SeatView) (hands : HandsView) → HasSessions store 1 seat hands → IsNewPass store 1 seat hands
 first_is_new store seat hands is = new_pass store 1 seat hands is.pass is.empty is.sessions
     (ap (has 1) is.sole ∙ has_to (shape_in store).passes 1 (omega arith) is.few)
-    is.mine is.taken (is.rests 1)
+    is.mine is.taken (is.under 1) (is.rests 1)
 
 -- ---- sessions
 
@@ -289,6 +296,7 @@ module _ (hall : StoreView) (core : CoreState) (tables : List TableDecl) (sessio
       few = let many = passes_are in omega (arith, many);
       mine = ap (λ (v : View CoreEvent). v.mine) view;
       taken = ap (λ (v : View CoreEvent). v.taken) view;
+      under = λ session. subst (λ (v : View CoreEvent). StandsUnder session (log_of v.log)) (sym view) tt;
       rests = λ session.
           ap (λ (x : CoreState). transaction x.shape (replay (store_meaning (shape_in hall)) seat.me.0.log) session) of.0
           ∙ ap (λ M. transaction core.shape (replay M seat.me.0.log) session) (sym built_meaning)

@@ -19,8 +19,9 @@ use Rattle.store_laws.proofs.Calling.{goes_far}
 use Rattle.store_laws.proofs.Entries.{log_append}
 use Rattle.store_laws.proofs.Knowing.{joins_go_on}
 use Rattle.shared_store.specs.Meeting.{Meets, Sees}
-use Rattle.shared_store.specs.Store.{HandsView, IsAt, IsStore, SeatView, StoreView, own_of, shape_in}
+use Rattle.shared_store.specs.Store.{IsSession, HandsView, IsAt, IsStore, SeatView, StoreView, own_of, shape_in}
 use Rattle.shared_store.specs.declared.session.Session.{Session}
+use Rattle.shared_store.proofs.Open.{sees_on}
 use Rattle.shared_store.proofs.Sessions.{hall_meaning, is_meaning, session_is}
 
 -- what holds by what the core means to the hall, and what by what it means to the laws
@@ -115,12 +116,16 @@ saw_and_stays store session old mid new held later own saw same stands = record 
 pub meets : (store : StoreView) (old new : Session) → Sees store old.session old.pass.seat.me.0 new.pass.seat new.pass.hands (own_of old)
     → new.session ≡ old.session → own_of new ≡ own_of old → Meets store old new
 meets store old new saw same opened = record {
-  session = session_is store new (subst (λ q. IsAt store q new.pass.seat new.pass.hands (own_of new)) (sym same)
-      (subst (IsAt store old.session new.pass.seat new.pass.hands) (sym opened) saw.stands));
+  session = later;
   same = same;
   opened = opened;
   sees = saw.sees.goes_on;
   own = saw.sees.same;
   made = saw.count;
   taken = saw.taken;
+  is_open = sees_on store old new later same opened saw.sees.goes_on saw.sees.same;
 }
+  where
+    later : IsSession store new
+    later = session_is store new (subst (λ q. IsAt store q new.pass.seat new.pass.hands (own_of new)) (sym same)
+        (subst (IsAt store old.session new.pass.seat new.pass.hands) (sym opened) saw.stands))

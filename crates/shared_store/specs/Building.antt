@@ -5,14 +5,15 @@ use Rattle.hall_rule.specs.Hands.{Holds}
 use Rattle.hall_rule.specs.Opening.{sessions_to}
 use Rattle.hall_steps.specs.Hall.{IsPass, first_of}
 use Rattle.run_spec.specs.Handed.{own_in}
-use Rattle.store_laws.specs.Logs.{store_meaning}
+use Rattle.store_laws.specs.Logs.{log_of, store_meaning}
+use Rattle.store_laws.specs.Own.{StandsUnder}
 use Rattle.shared_store.specs.Making.{parts_seen}
 use Rattle.shared_store.specs.Store.{HandsView, IsSession, SeatView, StoreView, events_made, own_of}
 use Rattle.shared_store.specs.Store.{seen, shape_in, taken_by}
 use Rattle.shared_store.specs.declared.session.Session.{Session}
 
--- The first pass, while it has the sessions 1 to `count`: it made no event and took no part, and no
--- session has anything open as far as it saw.
+-- The first pass, while it has the sessions 1 to `count`: it made no event and took no part, and as
+-- far as it saw each event stands under its session, and no session has anything open.
 pub record HasSessions (store : StoreView) (count : ℕ) (seat : SeatView) (hands : HandsView)
     : Type 0 where
   pub pass : IsPass (store_meaning (shape_in store)) store.id seat hands
@@ -22,6 +23,7 @@ pub record HasSessions (store : StoreView) (count : ℕ) (seat : SeatView) (hand
   pub few : count ≤ (shape_in store).passes
   pub mine : seat.me.0.mine ≡ []
   pub taken : seat.me.0.taken ≡ []
+  pub under : (session : ℕ) → StandsUnder session (log_of seat.me.0.log)
   pub rests : (session : ℕ)
       → transaction (shape_in store) (parts_seen (shape_in store) seat.me.0) session ≡ None
 

@@ -14,3 +14,4 @@ pub mod Store
 pub mod Sweeping
 pub mod Told
 pub mod Writing
+pub mod Open

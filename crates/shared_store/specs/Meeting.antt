@@ -5,6 +5,7 @@ use Rattle.event_spec.specs.Effects.{CoreEvent}
 use Rattle.hall_rule.specs.declared.view.View.{View}
 use Rattle.run_spec.specs.Handed.{GoesOn, own_in}
 use Rattle.store_laws.specs.Laws.{SeesOn}
+use Rattle.shared_store.specs.Open.{StaysOpen}
 use Rattle.shared_store.specs.Store.{HandsView, IsAt, IsSession, SeatView, StoreView, events_made}
 use Rattle.shared_store.specs.Store.{own_of, seen, shape_in, taken_by}
 use Rattle.shared_store.specs.declared.session.Session.{Session}
@@ -44,3 +45,4 @@ pub record Meets (store : StoreView) (old new : Session) : Type 0 where
       ≡ own_in (shape_in store) old.session (seen old)
   pub made : events_made new ≡ events_made old
   pub taken : taken_by new ≡ taken_by old
+  pub is_open : StaysOpen store old new

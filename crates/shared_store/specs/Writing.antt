@@ -53,6 +53,11 @@ IsWriteReply reply.NoSeal = ⊥
 IsWriteReply reply.Thawed = ⊥
 IsWriteReply reply.Memory = ⊤
 
+-- the write was accepted
+abbrev pub is_written : CoreReply → Bool
+is_written (reply.Written slot) = true
+is_written _ = false
+
 -- The fault for which a write's event was refused, and the one that the write answers.
 abbrev pub fault_replied : CoreReply → Option WriteFault
 fault_replied (reply.Begun snapshot) = None

@@ -8,6 +8,7 @@ pub mod changing;
 pub mod compacting;
 pub mod faults;
 pub mod freezing;
+mod frozen;
 pub mod keeping;
 pub mod making;
 pub mod meeting;
@@ -23,6 +24,7 @@ pub mod writing;
 
 pub use building::Built;
 pub use faults::{Busy, StoreFault};
+pub use frozen::FrozenRows;
 pub use reading::BlockRows;
 pub use session::Session;
 pub use store::Store;

@@ -2,7 +2,9 @@
 ghost use Rattle.std.specs.Prelude.{◌≡◌};
 ghost use Rattle.run_spec.specs.Handed.{GoesOn};
 ghost use Rattle.store_laws.specs.Logs.{log_of};
+ghost use Rattle.store_laws.specs.Machines.{HasMore};
 ghost use Rattle.shared_store.specs.Meeting.{Meets, SeesAny, StaysAny};
+ghost use Rattle.shared_store.specs.Open.{commits_seen};
 ghost use Rattle.shared_store.specs.Store.{IsAnyAt, IsSession, seen};
 
 use crate::session::Session;
@@ -35,6 +37,8 @@ impl Store {
         ensures b { Meets self.now b.old b.new }
         ensures shows_a { GoesOn (seen a.old) (seen b.new) }
         ensures shows_b { GoesOn (seen b.new) (seen a.new) }
+        ensures commits_a { HasMore (commits_seen self.now a.old) (commits_seen self.now b.new) }
+        ensures commits_b { HasMore (commits_seen self.now b.new) (commits_seen self.now a.new) }
     {
         self.show(&mut a.pass, &mut b.pass);
         self.show(&mut b.pass, &mut a.pass);

@@ -5,9 +5,10 @@ ghost use Rattle.event_spec.specs.declared.own.OwnTransaction.{OwnTransaction as
 ghost use Rattle.shared_store.specs.Reading.{ReadsBlock, most_read, reply_of};
 ghost use Rattle.shared_store.specs.Store.{HasRoomFor, IsSession, own_of, shape_in};
 
+use crate::frozen::FrozenRows;
 use crate::session::Session;
 use crate::store::Store;
-use core_parts::{KeyedEvent, ReadRows, SharedRows};
+use core_parts::{KeyedEvent, ReadRows};
 use event_spec::{Event, Reply};
 use hall_rule::Steps;
 use std::alloc::AllocError;
@@ -15,11 +16,11 @@ use std::sync::Wait;
 use std::sync::ledger::Ledger;
 
 /// What a read of a block tells: the rows that the session's transaction sees there, in the order
-/// of their slots, or, where the block is frozen, its shared image, which has just these rows.
+/// of their slots, or, where the block is frozen, its rows as an Arrow form, which are just these.
 #[derive(Drop)]
 pub enum BlockRows {
     Rows(ReadRows),
-    Shared(SharedRows),
+    Shared(FrozenRows),
 }
 
 impl Store {
@@ -49,7 +50,7 @@ impl Store {
         let event = KeyedEvent::new(Event::Read { own, table, block });
         match self.make_counted(rt, &mut session.pass, event, steps) {
             Reply::Rows(rows) => Ok(BlockRows::Rows(rows)),
-            Reply::Shared(shared) => Ok(BlockRows::Shared(shared)),
+            Reply::Shared(rows) => Ok(BlockRows::Shared(FrozenRows::new(rows))),
             Reply::Memory => Err(AllocError),
             _ => unreachable!(),
         }

@@ -2,7 +2,9 @@
 ghost use Rattle.std.specs.Prelude.{◌≡◌, ◌<◌, true, is_some, length};
 ghost use Rattle.workload_spec.specs.declared.command.Command.TheVariants as command;
 ghost use Rattle.workload_spec.specs.declared.reply.Said.TheVariants as said;
-ghost use Rattle.shared_store.specs.Store.{Answers, HasRoomFor, IsSession, own_of, shape_in};
+ghost use Rattle.shared_store.specs.Open.{Begins, Commits, FindsRow, IsAtRest};
+ghost use Rattle.shared_store.specs.Store.{Answers, HasRoomFor, IsSession, MakesAtMost, own_of};
+ghost use Rattle.shared_store.specs.Store.{shape_in};
 ghost use Rattle.shared_store.specs.Told.{begun_told, found_told};
 
 use crate::faults::Busy;
@@ -28,6 +30,8 @@ impl Store {
         ensures same { session.new.session ≡ session.old.session }
         ensures answers { Answers self.now
             session.old session.new command.Begin (begun_told result) }
+        ensures opens { Begins self.now session.old session.new result }
+        ensures few { MakesAtMost 1 session.old session.new }
     {
         if session.snapshot.is_some() {
             return Err(Busy);
@@ -53,6 +57,9 @@ impl Store {
         ensures same { session.new.session ≡ session.old.session }
         ensures answers { Answers self.now
             session.old session.new command.Commit (said.Committed result) }
+        ensures rests { IsAtRest session.new }
+        ensures commits { Commits self.now session.old session.new result }
+        ensures few { MakesAtMost 1 session.old session.new }
     {
         let own = session.own_all(rt);
         let event = KeyedEvent::ending(self.shape().alloc(), Event::Commit { own });
@@ -71,6 +78,8 @@ impl Store {
         ensures session { IsSession self.now session.new }
         ensures same { session.new.session ≡ session.old.session }
         ensures answers { Answers self.now session.old session.new command.Abort said.Aborted }
+        ensures rests { IsAtRest session.new }
+        ensures few { MakesAtMost 1 session.old session.new }
     {
         let own = session.own_all(rt);
         let event = KeyedEvent::ending(self.shape().alloc(), Event::Abort { own });
@@ -100,6 +109,8 @@ impl Store {
         ensures same { session.new.session ≡ session.old.session }
         ensures answers { Answers self.now
             session.old session.new (command.Get table key) (found_told result) }
+        ensures finds { FindsRow self.now session.old session.new table key result }
+        ensures few { MakesAtMost 1 session.old session.new }
     {
         let own = session.own_key(Place { table, key });
         let event = KeyedEvent::new(Event::Get { own, table, key });

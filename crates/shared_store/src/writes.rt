@@ -1,13 +1,13 @@
 //! The rows that a transaction wrote.
 ghost use Rattle.std.specs.Prelude.{◌≡◌, ◌≢◌, ℕ, true, false, [], None, Some};
-ghost use Rattle.std.specs.Prelude.{◌==◌, IfOk, OnErr, OnOk, find, is_some, option_map};
+ghost use Rattle.std.specs.Prelude.{◌==◌, IfOk, OnErr, OnOk, find, is_ok, is_some, option_map};
 ghost use Rattle.std.specs.BTreeMap.{insert_entry};
 ghost use Rattle.std.specs.Map.{remove_entry};
 ghost use Rattle.isolation_spec.specs.Contents.{PlaceMap, at_place, is_place, place_cmp};
 ghost use Rattle.run_spec.specs.Told.{told_by};
 ghost use Rattle.shared_store.specs.Told.{written_told};
 ghost use Rattle.shared_store.specs.Writing.{IsRoomed, IsWriteReply, fault_answered, fault_replied};
-ghost use Rattle.shared_store.specs.Writing.{roomed, settled};
+ghost use Rattle.shared_store.specs.Writing.{is_written, roomed, settled};
 
 use crate::faults::StoreFault;
 use block_layout::SlotId;
@@ -182,6 +182,7 @@ impl Writes {
             → self.old ≡ roomed before place had → self.new ≡ settled before place told }
         ensures tells { (table : ℕ) → told_by table 0 told ≡ Some (written_told table result) }
         ensures fault { fault_answered result ≡ fault_replied told }
+        ensures accepted { is_ok result ≡ is_written told }
     {
         match told {
             Reply::Written(slot) => {

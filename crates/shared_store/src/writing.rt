@@ -1,12 +1,14 @@
 //! Writing rows.
-ghost use Rattle.std.specs.Prelude.{◌≡◌, ℕ, true, is_some};
+ghost use Rattle.std.specs.Prelude.{◌≡◌, ℕ, Some, true, is_some};
 ghost use Rattle.block_body.specs.Keys.{HasKey};
 ghost use Rattle.event_spec.specs.Sound.{IsShape};
 ghost use Rattle.event_spec.specs.declared.reply.WriteFault.TheVariants as fault;
 ghost use Rattle.isolation_spec.specs.Contents.{place_of};
 ghost use Rattle.workload_spec.specs.Valid.{fits_table};
 ghost use Rattle.workload_spec.specs.declared.command.Command.TheVariants as command;
-ghost use Rattle.shared_store.specs.Store.{Answers, HasRoomFor, IsSession, own_of, seen, shape_in};
+ghost use Rattle.shared_store.specs.Open.{WritesRow};
+ghost use Rattle.shared_store.specs.Store.{Answers, HasRoomFor, IsSession, MakesAtMost, own_of};
+ghost use Rattle.shared_store.specs.Store.{seen, shape_in};
 ghost use Rattle.shared_store.specs.Told.{written_told};
 ghost use Rattle.shared_store.specs.Writing.{FoundFull};
 ghost use Rattle.shared_store.specs.declared.faults.StoreFault.TheVariants as refused;
@@ -66,6 +68,9 @@ impl Store {
         ensures same { session.new.session ≡ session.old.session }
         ensures answers { Answers self.now
             session.old session.new (command.Insert table row) (written_told table result) }
+        ensures writes { WritesRow self.now
+            session.old session.new (place_of table row) (Some row) result }
+        ensures few { MakesAtMost 1 session.old session.new }
         ensures full { (inserts : ℕ) → result ≡ Err (refused.Write (fault.Full inserts))
             → FoundFull (shape_in self.now) (seen session.old) (seen session.new) table inserts }
     {

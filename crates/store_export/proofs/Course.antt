@@ -2,7 +2,7 @@
 use Rattle.std.proofs.Common.{◌≡◌, ◌⊎◌, ℕ, ℤ, ◌+◌, ◌*◌, ◌-◌, ◌<◌, ◌≤◌, ◌^◌, Bool, true, false, cond, List, [], ◌∷◌, ◌++◌, Option, None, Some, Ok, Err, length, map, refl, sym, ap, subst, ◌∙◌, append-nil, length-append, arith}
 use mathlib.Core.Logic.{inl, inr}
 use native.Mathlib.Nat.{mul-add}
-use Rattle.std.specs.Prelude.{count_by, flat_map, option_map}
+use Rattle.std.specs.Prelude.{Result, count_by, flat_map, option_map}
 use Rattle.std.specs.Io.KnownBytes.{Appends}
 use Rattle.std.proofs.KnownBytes.{Appends-nil}
 use Rattle.std.proofs.lemmas.Grind.{flat_map-append}
@@ -39,8 +39,12 @@ use Rattle.shared_store.proofs.Scanned.{below_more, is_asked, plain_added, plain
 use Rattle.workload_spec.specs.declared.command.Command.TheVariants as command
 use Rattle.workload_spec.specs.declared.reply.Said.{Said}
 use Rattle.workload_spec.specs.declared.reply.Said.TheVariants as said
-use Rattle.store_export.specs.Exports.{CountsPiece, Exports, SendsBlock, counted}
+use Rattle.store_export.specs.Exports.{ExportsCounted, SendsBlock, counted}
 use Rattle.store_export.specs.Groups.{group_message}
+use Rattle.store_export.specs.Writers.{LeavesByPiece, SinkFailed as LeavesSink}
+use Rattle.store_export.specs.declared.exporting.ExportFault.{ExportFault}
+use Rattle.store_export.specs.declared.exporting.ExportFault.TheVariants as export_fault
+use Rattle.store_export.specs.declared.exporting.Summary.{Summary}
 use Rattle.store_export.specs.declared.sent.Sent.{Sent}
 use Rattle.store_export.proofs.Breaking.{HasBroken, HasSent, breaks_before, breaks_first, breaks_last, breaks_nowhere, breaks_within, sending_begins, sending_ends, sending_goes_on}
 
@@ -117,12 +121,58 @@ sink_fails : {W : Type 0} (written : W → Option (List ℕ)) (faults : W → �
 sink_fails written faults old new piece true fresh failed = absurd (let both : true ≡ false = sym failed.0 ∙ fresh in let never : ⊥ = cc in never)
 sink_fails written faults old new piece false fresh failed = (failed.3, failed.2)
 
--- the fault is counted, and want of memory is none
-pub piece_counts : {W : Type 0} (T S : Type 0) (written : W → Option (List ℕ)) (faults : W → ℕ) (start old new : WriterView W) (piece : List ℕ) (fault : PieceFault)
-    → old.failed ≡ false → faults old.sink ≡ faults start.sink → MakesPiece {T = T} written faults old new piece (Err fault) → CountsPiece {T = S} (Err fault) (faults start.sink) (faults new.sink)
-piece_counts T S written faults start old new piece (Sink fault) fresh kept failed =
-    rose_since (faults start.sink) (faults old.sink) (faults new.sink) kept (sink_fails written faults old new piece fault.earlier fresh failed).0
-piece_counts {W} T S written faults start old new piece (Memory refused) fresh kept failed = ap (λ (now : WriterView W). faults now.sink) failed.1 ∙ kept
+-- of a writer that had not failed at the start or since
+module _ {W : Type 0} (written : W → Option (List ℕ)) (faults : W → ℕ) (start old new : WriterView W) (piece : List ℕ)
+    (first : start.failed ≡ false) (fresh : old.failed ≡ false) (kept : faults old.sink ≡ faults start.sink) where
+  -- the sink failed now
+  broke_now : (earlier : Bool) → SinkFailed written faults old new piece earlier → LeavesSink faults start new earlier
+  broke_now true failed = absurd (let both : true ≡ false = sym failed.0 ∙ fresh in let never : ⊥ = cc in never)
+  broke_now false failed = record { before = first; after = failed.1; rose = rose_since (faults start.sink) (faults old.sink) (faults new.sink) kept failed.3 }
+
+  -- a piece that failed leaves the writer so
+  pub piece_leaves : (T S : Type 0) (fault : PieceFault) → MakesPiece {T = T} written faults old new piece (Err fault) → LeavesByPiece {T = S} faults start new (Err fault)
+  piece_leaves T S (Sink fault) failed = broke_now fault.earlier failed
+  piece_leaves T S (Memory refused) failed = record { before = first; after = ap (λ (w : WriterView W). w.failed) failed.1 ∙ fresh; kept = ap (λ (w : WriterView W). faults w.sink) failed.1 ∙ kept }
+
+  -- so does the end that failed
+  pub end_leaves : (T S : Type 0) (fault : SinkFault) → WritesPiece {T = T} written faults old new piece (Err fault) → LeavesByPiece {T = S} faults start new (Err (Sink fault))
+  end_leaves T S fault failed = broke_now fault.earlier failed
+
+  -- its fault is no earlier one
+  pub piece_is_now : (T : Type 0) (fault : PieceFault) → MakesPiece {T = T} written faults old new piece (Err fault) → fault ≡ Sink (record { earlier = true }) → ⊥
+  piece_is_now T (Sink fault) failed is =
+      let same : fault.earlier ≡ true = is_earlier fault is in
+      let both : true ≡ false = sym (subst (SinkFailed written faults old new piece) same failed).0 ∙ fresh in cc
+    where
+      is_earlier : (fault : SinkFault) → Sink fault ≡ Sink (record { earlier = true }) → fault.earlier ≡ true
+      is_earlier fault is = let same : fault ≡ record { earlier = true } = cc in ap (λ (f : SinkFault). f.earlier) same
+  piece_is_now T (Memory refused) failed is = cc
+
+-- A table that was not sent for this fault, and an export that was not.
+abbrev pub of_piece : PieceFault → Result Sent PieceFault
+of_piece fault = Err fault
+
+abbrev pub of_sink : SinkFault → Result Summary ExportFault
+of_sink fault = Err (export_fault.Sink fault)
+
+-- Results that are the same error have the same fault.
+pub same_fault : (a b : PieceFault) → of_piece a ≡ of_piece b → a ≡ b
+same_fault a b is = cc
+
+-- The fault of a sink that an export tells is that of its pieces.
+pub piece_fault : (a b : SinkFault) → of_sink a ≡ of_sink b → of_piece (Sink a) ≡ of_piece (Sink b)
+piece_fault a b is = let same : a ≡ b = cc in ap (λ (f : SinkFault). of_piece (Sink f)) same
+
+-- The first piece of a writer, which had failed or not, leaves it so where it fails.
+pub first_leaves : {W : Type 0} (T S : Type 0) (written : W → Option (List ℕ)) (faults : W → ℕ) (old new : WriterView W) (piece : List ℕ) (fault : PieceFault)
+    → MakesPiece {T = T} written faults old new piece (Err fault) → LeavesByPiece {T = S} faults old new (Err fault)
+first_leaves {W} T S written faults old new piece (Sink fault) failed = go fault.earlier failed
+  where
+    go : (earlier : Bool) → SinkFailed written faults old new piece earlier → LeavesSink faults old new earlier
+    go true failed = record { failed = failed.0; same = failed.1 }
+    go false failed = record { before = failed.0; after = failed.1; rose = failed.3 }
+first_leaves {W} T S written faults old new piece (Memory refused) failed =
+    record { before = failed.0; after = ap (λ (w : WriterView W). w.failed) failed.1 ∙ failed.0; kept = ap (λ (w : WriterView W). faults w.sink) failed.1 }
 
 -- ---- reads and messages
 
@@ -307,36 +357,42 @@ module _ (store : StoreView) (own : OwnTransaction) (t : ℕ) where
 
     broke : (new : Session) (n : ℕ) (made : List Occurrence) (before now : Option (List ℕ)) (spent steps : ℕ) → n ≤ blocks_of sh t → Went store old new asked made
         → events_in made ≡ map (event.Read own t) (below n) → is_cut_short made ≡ true → HasBroken columns (blocks_of sh t) made before now
-        → steps ≤ spent + slots_of sh t * (n - count_by is_shared (replies_in made)) → Exports store old new t said.Memory before now spent steps
+        → steps ≤ spent + slots_of sh t * (n - count_by is_shared (replies_in made)) → ExportsCounted store old new t said.Memory before now spent steps
     broke new n made before now spent steps le w events cut broken few =
         let a = part_call new n made le w events cut in
         record {
-          session = w.session;
-          same = w.same;
-          opened = w.opened;
-          answers = a.0;
-          bytes = broken.bytes;
-          sent = broken.sent;
-          sends = subst (λ (os : List Occurrence). BreaksOff columns (blocks_of sh t) os broken.bytes) (sym a.1) broken.breaks;
+          exports = record {
+            session = w.session;
+            same = w.same;
+            opened = w.opened;
+            answers = a.0;
+            bytes = broken.bytes;
+            sent = broken.sent;
+            sends = subst (λ (os : List Occurrence). BreaksOff columns (blocks_of sh t) os broken.bytes) (sym a.1) broken.breaks;
+          };
           few = subst (λ (os : List Occurrence). steps ≤ spent + slots_of sh t * (blocks_of sh t - count_by is_shared (replies_in os))) (sym a.1)
               (steps_rest (slots_of sh t) spent steps n (blocks_of sh t) (count_by is_shared (replies_in made)) le few);
         }
 
     -- the schema's message failed
     pub schema_broke : {W : Type 0} (T : Type 0) (written : W → Option (List ℕ)) (faults : W → ℕ) (start now : WriterView W) (spent : ℕ) (fault : PieceFault)
-        → start.failed ≡ false → MakesPiece {T = T} written faults start now (schema_message columns) (Err fault)
-        → Exports store old old t said.Memory (written start.sink) (written now.sink) spent spent
-    schema_broke {W} T written faults start now spent fault fresh failed =
+        → MakesPiece {T = T} written faults start now (schema_message columns) (Err fault)
+        → ExportsCounted store old old t said.Memory (written start.sink) (written now.sink) spent spent
+    schema_broke {W} T written faults start now spent fault failed =
         broke old 0 [] (written start.sink) (written now.sink) spent spent (omega arith) (went_nowhere store old asked is) refl refl (go fault failed) (le_more spent (slots_of sh t * (0 - 0)))
       where
         go : (fault : PieceFault) → MakesPiece {T = T} written faults start now (schema_message columns) (Err fault) → HasBroken columns (blocks_of sh t) [] (written start.sink) (written now.sink)
-        go (Sink sink) failed = breaks_first columns (blocks_of sh t) (written start.sink) (written now.sink) (sink_fails written faults start now (schema_message columns) sink.earlier fresh failed).1
+        go (Sink sink) failed = by sink.earlier failed
+          where
+            by : (earlier : Bool) → SinkFailed written faults start now (schema_message columns) earlier → HasBroken columns (blocks_of sh t) [] (written start.sink) (written now.sink)
+            by true failed = subst (λ (w : WriterView W). HasBroken columns (blocks_of sh t) [] (written start.sink) (written w.sink)) (sym failed.1) (breaks_nowhere columns (blocks_of sh t) (written start.sink))
+            by false failed = breaks_first columns (blocks_of sh t) (written start.sink) (written now.sink) failed.2
         go (Memory refused) failed = subst (λ (w : WriterView W). HasBroken columns (blocks_of sh t) [] (written start.sink) (written w.sink)) (sym failed.1) (breaks_nowhere columns (blocks_of sh t) (written start.sink))
 
     -- a read found no memory, or a block's message failed
     pub block_broke : {W : Type 0} (written : W → Option (List ℕ)) (faults : W → ℕ) (mid new : Session) (k : ℕ) (before : Option (List ℕ)) (between now : WriterView W) (sent : Sent) (spent steps later : ℕ)
         (fault : PieceFault) → Sending store old mid own t k before (written between.sink) sent spent steps → between.failed ≡ false → k < blocks_of sh t
-        → SendsBlock store mid new own t k written faults between now steps later (Err fault) → Exports store old new t said.Memory before (written now.sink) spent later
+        → SendsBlock store mid new own t k written faults between now steps later (Err fault) → ExportsCounted store old new t said.Memory before (written now.sink) spent later
     block_broke {W} written faults mid new k before between now sent spent steps later fault s fresh lt b =
         let last = read_at store old mid new own t k b.told b.reads in
         let few = steps_more (slots_of sh t) spent steps later k sent.frozen (count_by is_shared (b.told ∷ [])) s.frozen_few (count_one is_shared b.told) s.steps_few b.few in
@@ -362,7 +418,7 @@ module _ (store : StoreView) (own : OwnTransaction) (t : ℕ) where
     -- the word that ends the stream failed
     pub end_broke : {W : Type 0} (T : Type 0) (written : W → Option (List ℕ)) (faults : W → ℕ) (new : Session) (before : Option (List ℕ)) (between now : WriterView W) (sent : Sent) (spent steps : ℕ) (fault : SinkFault)
         → Sending store old new own t (blocks_of sh t) before (written between.sink) sent spent steps → between.failed ≡ false
-        → WritesPiece {T = T} written faults between now end_word (Err fault) → Exports store old new t said.Memory before (written now.sink) spent steps
+        → WritesPiece {T = T} written faults between now end_word (Err fault) → ExportsCounted store old new t said.Memory before (written now.sink) spent steps
     end_broke T written faults new before between now sent spent steps fault s fresh failed =
         broke new (blocks_of sh t) s.made before (written now.sink) spent steps (omega arith) s.went s.events (plain_cut s.made s.plain)
         (breaks_last columns (blocks_of sh t) s.made before (written between.sink) (written now.sink) (all_read new before (written between.sink) sent spent steps s) s.gone
@@ -383,17 +439,19 @@ module _ (store : StoreView) (own : OwnTransaction) (t : ℕ) where
 
     -- behind all blocks the end word is sent, and the export tells what it sent
     pub ended : (new : Session) (before between now : Option (List ℕ)) (sent : Sent) (spent steps : ℕ) → Sending store old new own t (blocks_of sh t) before between sent spent steps
-        → Appends between now end_word → Exports store old new t (said.Exported own.snapshot.number sent.rows sent.batches sent.frozen) before now spent steps
+        → Appends between now end_word → ExportsCounted store old new t (said.Exported own.snapshot.number sent.rows sent.batches sent.frozen) before now spent steps
     ended new before between now sent spent steps s last =
         let a = whole_call new before between sent spent steps s in
         record {
-          session = s.went.session;
-          same = s.went.same;
-          opened = s.went.opened;
-          answers = a.0;
-          bytes = stream_of columns (groups_told s.made);
-          sent = sending_ends columns s.made before between now s.gone last;
-          sends = ap (λ (os : List Occurrence). stream_of columns (groups_told os)) (sym a.1);
+          exports = record {
+            session = s.went.session;
+            same = s.went.same;
+            opened = s.went.opened;
+            answers = a.0;
+            bytes = stream_of columns (groups_told s.made);
+            sent = sending_ends columns s.made before between now s.gone last;
+            sends = ap (λ (os : List Occurrence). stream_of columns (groups_told os)) (sym a.1);
+          };
           few = subst (λ (os : List Occurrence). steps ≤ spent + slots_of sh t * (blocks_of sh t - count_by is_shared (replies_in os))) (sym a.1)
               (subst (λ n. steps ≤ spent + slots_of sh t * (blocks_of sh t - n)) s.frozen_are s.steps_few);
         }
@@ -402,15 +460,17 @@ module _ (store : StoreView) (own : OwnTransaction) (t : ℕ) where
 
 -- The transaction wrote the table: nothing was read and nothing sent.
 pub refused : (store : StoreView) (old : Session) (t : ℕ) (key : ℤ) (before : Option (List ℕ)) (spent : ℕ) → IsSession store old
-    → option_map (least_written t) (own_of old) ≡ Some (Some key) → Exports store old old t (said.Dirty key) before before spent spent
+    → option_map (least_written t) (own_of old) ≡ Some (Some key) → ExportsCounted store old old t (said.Dirty key) before before spent spent
 refused store old t key before spent is written = record {
-  session = is;
-  same = refl;
-  opened = refl;
-  answers = a.0;
-  bytes = [];
-  sent = Appends-nil before;
-  sends = refl;
+  exports = record {
+    session = is;
+    same = refl;
+    opened = refl;
+    answers = a.0;
+    bytes = [];
+    sent = Appends-nil before;
+    sends = refl;
+  };
   few = le_more spent (slots_of (shape_in store) t * (blocks_of (shape_in store) t - count_by is_shared (replies_in a.0.made)));
 }
   where

@@ -2,7 +2,6 @@
 use Rattle.std.specs.Prelude.{◌≡◌, ℕ, ◌+◌, ◌*◌, ◌-◌, ◌≤◌, ◌^◌, List, [], ◌∷◌, false, count_by}
 use Rattle.std.specs.Prelude.{flat_map, length, Option, Result, Ok, Err, IfOk}
 use Rattle.std.specs.Io.KnownBytes.{Appends}
-use Rattle.byte_ports.specs.Calls.{Rose}
 use Rattle.event_spec.specs.declared.own.OwnTransaction.{OwnTransaction}
 use Rattle.event_spec.specs.declared.reply.Reply.TheVariants as reply
 use Rattle.event_spec.specs.Parts.{blocks_of, slots_of}
@@ -11,7 +10,6 @@ use Rattle.event_spec.specs.Replies.{CoreReply}
 use Rattle.export_spec.specs.Calls.{SendsAs}
 use Rattle.ipc_write.specs.Calls.{MakesPiece, WriterView}
 use Rattle.ipc_write.specs.declared.faults.PieceFault.{PieceFault}
-use Rattle.ipc_write.specs.declared.faults.PieceFault.TheVariants as piece
 use Rattle.run_spec.specs.Calls.{is_memory}
 use Rattle.run_spec.specs.Occurrences.{replies_in}
 use Rattle.run_spec.specs.Told.{is_shared, is_some_row, rows_told}
@@ -38,19 +36,6 @@ exported_told (Ok summary) =
 exported_told (Err (fault.Dirty key)) = said.Dirty key
 exported_told (Err (fault.Sink failed)) = said.Memory
 exported_told (Err fault.Memory) = said.Memory
-
--- The sink's count of faults rose just where the export tells its fault.
-abbrev pub CountsFaults : {T : Type 0} → Result T ExportFault → ℕ → ℕ → Type 0
-CountsFaults (Ok summary) before now = now ≡ before
-CountsFaults (Err (fault.Dirty key)) before now = now ≡ before
-CountsFaults (Err (fault.Sink failed)) before now = Rose before now
-CountsFaults (Err fault.Memory) before now = now ≡ before
-
--- the same of a part of it
-abbrev pub CountsPiece : {T : Type 0} → Result T PieceFault → ℕ → ℕ → Type 0
-CountsPiece (Ok sent) before now = now ≡ before
-CountsPiece (Err (piece.Sink failed)) before now = Rose before now
-CountsPiece (Err (piece.Memory refused)) before now = now ≡ before
 
 -- ---- what is sent
 
@@ -83,11 +68,10 @@ pub record SendsBlock
   pub few : steps ≤ spent + slots_of (shape_in store) table * (1 - count_by is_shared (told ∷ []))
   pub slots : slots_of (shape_in store) table ≤ 2 ^ 15
 
--- The session carried out an export that tells this line, and sent what it says. It looked at no
--- row of a block that was frozen when it was read.
+-- The session carried out an export that tells this line, and sent what it says.
 pub record Exports
     (store : StoreView) (old new : Session) (table : ℕ) (told : Said)
-    (before now : Option (List ℕ)) (spent steps : ℕ)
+    (before now : Option (List ℕ))
     : Type 0 where
   pub session : IsSession store new
   pub same : new.session ≡ old.session
@@ -101,9 +85,16 @@ pub record Exports
       answers.made
       told
       bytes
+
+-- It did so by these steps: it looked at no row of a block that was frozen when it was read.
+pub record ExportsCounted
+    (store : StoreView) (old new : Session) (table : ℕ) (told : Said)
+    (before now : Option (List ℕ)) (spent steps : ℕ)
+    : Type 0 where
+  pub exports : Exports store old new table told before now
   pub few : steps ≤ spent
       + slots_of (shape_in store) table
-      * (blocks_of (shape_in store) table - count_by is_shared (replies_in answers.made))
+      * (blocks_of (shape_in store) table - count_by is_shared (replies_in exports.answers.made))
 
 -- the line of an export that was not refused
 abbrev pub sent_told : OwnTransaction → Result Sent PieceFault → Said

@@ -1,7 +1,9 @@
 //! The export of a table.
-ghost use Rattle.std.specs.Prelude.{◌≡◌, ◌<◌, ◌^◌, true, false, is_some, length};
+ghost use Rattle.std.specs.Prelude.{◌≡◌, ◌<◌, ◌^◌, true, is_some, length};
 ghost use Rattle.shared_store.specs.Store.{HasRoomFor, IsSession, own_of, shape_in};
-ghost use Rattle.store_export.specs.Exports.{CountsFaults, Exports, exported_told};
+ghost use Rattle.store_export.specs.Exports.{Exports, ExportsCounted, exported_told};
+ghost use Rattle.store_export.specs.Writers.{LeavesWriter};
+ghost use Rattle.store_export.specs.declared.exporting.ExportFault.TheVariants as fault;
 
 use crate::table::send_table;
 use byte_ports::Sink;
@@ -9,8 +11,9 @@ use hall_rule::Steps;
 use ipc_write::{PieceFault, SinkFault, Writer};
 use shared_store::{Session, Store};
 use std::alloc::AllocError;
+use std::marker::Brand;
 use std::sync::Wait;
-use std::sync::ledger::Ledger;
+use std::sync::ledger::{Blank, Ledger};
 use thiserror::Error;
 
 /// What an export sent.
@@ -32,7 +35,8 @@ pub enum ExportFault {
     /// The transaction wrote the table, and this is the least key that it wrote. Nothing was sent.
     #[error("the transaction wrote the key {0} of the table")]
     Dirty(i64),
-    /// The sink failed. A front of the stream was sent.
+    /// The sink failed: in this export, and a front of the stream was sent; or before it, and
+    /// nothing was.
     #[error("the sink failed")]
     Sink(SinkFault),
     /// There was no memory. A front of the stream was sent.
@@ -47,7 +51,9 @@ pub enum ExportFault {
 ///
 /// # Errors
 ///
-/// The transaction wrote the table, the sink failed, or there is no memory.
+/// The transaction wrote the table, the sink failed, or there is no memory. A writer of which a
+/// call has failed is answered `earlier: true` at once: no block is read and nothing is written.
+/// Any other fault of the sink is one of this export.
 pub fn export<R: Wait, L: Ledger, W: Sink>(
     store: &Store,
     rt: &R,
@@ -60,11 +66,14 @@ pub fn export<R: Wait, L: Ledger, W: Sink>(
     requires room { HasRoomFor (2 ^ 10) session.old }
     requires busy { is_some (own_of session.old) ≡ true }
     requires table { table < length (shape_in store.now).tables }
-    requires fresh { writer.old.failed ≡ false }
-    ensures exports { Exports store.now
+    ensures exports { ExportsCounted store.now
         session.old session.new table (exported_told result)
         (W.written writer.old.sink) (W.written writer.new.sink) steps.old steps.new }
-    ensures faults { CountsFaults result (W.faults writer.old.sink) (W.faults writer.new.sink) }
+    ensures writer { LeavesWriter W.faults writer.old writer.new result }
+    ensures at_once { result ≡ Err (fault.Sink (record { earlier = true }))
+        → session.new ≡ session.old }
+    ensures unread { result ≡ Err (fault.Sink (record { earlier = true }))
+        → steps.new ≡ steps.old }
     ensures started { W.started writer.new.sink ≡ W.started writer.old.sink }
     ensures loan { W.loan writer.new.sink ≡ W.loan writer.old.sink }
 {
@@ -82,4 +91,61 @@ pub fn export<R: Wait, L: Ledger, W: Sink>(
         Err(PieceFault::Sink(fault)) => Err(ExportFault::Sink(fault)),
         Err(PieceFault::Memory(AllocError)) => Err(ExportFault::Memory),
     }
+}
+
+/// Exports a table as [`export`] does, for a caller that counts no steps.
+///
+/// # Errors
+///
+/// Those of [`export`].
+pub fn export_uncounted<R: Wait, W: Sink>(
+    store: &Store,
+    rt: &R,
+    session: &mut Session,
+    table: u32,
+    writer: &mut Writer<W>,
+) -> Result<Summary, ExportFault>
+    requires session { IsSession store.now session.old }
+    requires room { HasRoomFor (2 ^ 10) session.old }
+    requires busy { is_some (own_of session.old) ≡ true }
+    requires table { table < length (shape_in store.now).tables }
+    ensures exports { Exports store.now
+        session.old session.new table (exported_told result)
+        (W.written writer.old.sink) (W.written writer.new.sink) }
+    ensures writer { LeavesWriter W.faults writer.old writer.new result }
+    ensures at_once { result ≡ Err (fault.Sink (record { earlier = true }))
+        → session.new ≡ session.old }
+    ensures started { W.started writer.new.sink ≡ W.started writer.old.sink }
+    ensures loan { W.loan writer.new.sink ≡ W.loan writer.old.sink }
+{
+    export_on::<R, Brand, W>(store, rt, session, table, writer, Blank::new(1))
+}
+
+/// The same, with a count of steps of its own, on this blank.
+fn export_on<R: Wait, L: Ledger, W: Sink>(
+    store: &Store,
+    rt: &R,
+    session: &mut Session,
+    table: u32,
+    writer: &mut Writer<W>,
+    blank: Blank,
+) -> Result<Summary, ExportFault>
+    requires session { IsSession store.now session.old }
+    requires room { HasRoomFor (2 ^ 10) session.old }
+    requires busy { is_some (own_of session.old) ≡ true }
+    requires table { table < length (shape_in store.now).tables }
+    requires name { blank.name ≡ L.name }
+    requires parts { blank.parts ≡ L.parts }
+    requires some { 0 < L.parts }
+    ensures exports { Exports store.now
+        session.old session.new table (exported_told result)
+        (W.written writer.old.sink) (W.written writer.new.sink) }
+    ensures writer { LeavesWriter W.faults writer.old writer.new result }
+    ensures at_once { result ≡ Err (fault.Sink (record { earlier = true }))
+        → session.new ≡ session.old }
+    ensures started { W.started writer.new.sink ≡ W.started writer.old.sink }
+    ensures loan { W.loan writer.new.sink ≡ W.loan writer.old.sink }
+{
+    let mut steps = Steps::<L>::new(blank);
+    export(store, rt, session, table, writer, &mut steps)
 }

@@ -8,4 +8,4 @@ mod sending;
 mod sent;
 mod table;
 
-pub use exporting::{ExportFault, Summary, export};
+pub use exporting::{ExportFault, Summary, export, export_uncounted};

@@ -10,9 +10,10 @@ use crate::kinds::are_of_same_kinds;
 use block_columns::Image;
 use byte_ports::Sink;
 use cell_model::{Row, Schema};
-use core_parts::{FrontColumns, ReadForm, ReadRows, SharedRows};
+use core_parts::{FrontColumns, ReadForm, ReadRows};
 use gather_core::gather_in_turn;
-use ipc_write::{PieceFault, Writer};
+use ipc_write::{LentImage, PieceFault, Writer};
+use shared_store::FrozenRows;
 use std::alloc::{AllocError, Global};
 
 /// Writes the batch of a block's rows, if it has one, and answers how many rows there are.
@@ -70,7 +71,7 @@ pub fn write_found<W: Sink>(
     match found.into_form() {
         ReadForm::Listed(rows) => write_rows(alloc, schema, rows.as_slice(), writer),
         ReadForm::Columns(front) => match image_of(alloc, front) {
-            Ok(image) => write_whole(alloc, schema, &image, writer),
+            Ok(image) => write_whole(alloc, schema, &LentImage::of(&image), writer),
             Err(AllocError) => Err(PieceFault::Memory(AllocError)),
         },
     }
@@ -86,12 +87,12 @@ fn image_of(alloc: Global, front: FrontColumns) -> Result<Image, AllocError>
     Ok(Image::of(front.into_columns(), rows, form))
 }
 
-/// Writes the batch of a frozen block's image, from where it lies, and answers how many rows it
-/// has.
+/// Writes the batch of a frozen block's rows, from where they lie, and answers how many there
+/// are. What it is lent has their Arrow form and no row to read.
 pub fn write_image<W: Sink>(
     alloc: Global,
     schema: &Schema,
-    shared: &SharedRows,
+    frozen: &FrozenRows,
     writer: &mut Writer<W>,
 ) -> Result<usize, PieceFault>
     requires fresh { writer.old.failed ≡ false }
@@ -100,13 +101,13 @@ pub fn write_image<W: Sink>(
         W.faults
         writer.old
         writer.new
-        (group_message schema.now shared.now)
+        (group_message schema.now frozen.now)
         result }
-    ensures rows { IfOk result (λ count. count ≡ length shared.now) }
+    ensures rows { IfOk result (λ count. count ≡ length frozen.now) }
     ensures started { W.started writer.new.sink ≡ W.started writer.old.sink }
     ensures loan { W.loan writer.new.sink ≡ W.loan writer.old.sink }
 {
-    write_whole(alloc, schema, shared.image(), writer)
+    write_whole(alloc, schema, &frozen.lent(), writer)
 }
 
 /// Writes the batch of an image, if it has a row, and answers how many it has.
@@ -116,7 +117,7 @@ pub fn write_image<W: Sink>(
 fn write_whole<W: Sink>(
     alloc: Global,
     schema: &Schema,
-    image: &Image,
+    image: &LentImage<'_>,
     writer: &mut Writer<W>,
 ) -> Result<usize, PieceFault>
     requires fresh { writer.old.failed ≡ false }
@@ -135,7 +136,7 @@ fn write_whole<W: Sink>(
     if image.rows() == 0 {
         return Ok(0);
     }
-    if !are_of_same_kinds(image.columns(), schema.columns()) {
+    if !are_of_same_kinds(image, schema.columns()) {
         return Err(PieceFault::Memory(AllocError));
     }
     match writer.image(alloc, image) {

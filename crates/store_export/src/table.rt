@@ -5,12 +5,14 @@ ghost use Rattle.cell_model.specs.Rows.{Fits};
 ghost use Rattle.event_spec.specs.Lawful.{HasBlock};
 ghost use Rattle.event_spec.specs.declared.own.OwnTransaction.{OwnTransaction as Own};
 ghost use Rattle.ipc_write.specs.Calls.{MakesPiece};
+ghost use Rattle.ipc_write.specs.declared.faults.PieceFault.TheVariants as piece;
 ghost use Rattle.run_spec.specs.Opened.{least_written};
 ghost use Rattle.shared_store.specs.Reading.{rows_in};
 ghost use Rattle.shared_store.specs.Store.{HasRoomFor, IsSession, own_of, shape_in};
-ghost use Rattle.store_export.specs.Exports.{CountsPiece, Exports, SendsBlock};
+ghost use Rattle.store_export.specs.Exports.{ExportsCounted, SendsBlock};
 ghost use Rattle.store_export.specs.Exports.{counted, reply_in, sent_told};
 ghost use Rattle.store_export.specs.Groups.{group_message};
+ghost use Rattle.store_export.specs.Writers.{LeavesByPiece};
 
 use crate::sending::{write_found, write_image};
 use crate::sent::Sent;
@@ -99,12 +101,15 @@ pub(crate) fn send_table<R: Wait, L: Ledger, W: Sink>(
     requires room { HasRoomFor (2 ^ 10) session.old }
     requires busy { is_some (own_of session.old) ≡ true }
     requires table { table < length (shape_in store.now).tables }
-    requires fresh { writer.old.failed ≡ false }
     ensures exports { (own : Own) → own_of session.old ≡ Some own
         → least_written table own ≡ None
-        → Exports store.now session.old session.new table (sent_told own result)
+        → ExportsCounted store.now session.old session.new table (sent_told own result)
         (W.written writer.old.sink) (W.written writer.new.sink) steps.old steps.new }
-    ensures faults { CountsPiece result (W.faults writer.old.sink) (W.faults writer.new.sink) }
+    ensures writer { LeavesByPiece W.faults writer.old writer.new result }
+    ensures at_once { result ≡ Err (piece.Sink (record { earlier = true }))
+        → session.new ≡ session.old }
+    ensures unread { result ≡ Err (piece.Sink (record { earlier = true }))
+        → steps.new ≡ steps.old }
     ensures started { W.started writer.new.sink ≡ W.started writer.old.sink }
     ensures loan { W.loan writer.new.sink ≡ W.loan writer.old.sink }
 {

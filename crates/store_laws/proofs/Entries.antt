@@ -38,8 +38,8 @@ module _ (shape : Shape) where
   abbrev pub left_by : Parts → List Logged → Parts
   left_by parts log = fold (after shape) parts (made_in log)
 
-  -- The occurrences of a log are its front's, then the rest's from the parts left there.
-  occurrences_append : (parts : Parts) (log more : List Logged) → occurrences_from shape parts (log ++ more) ≡ occurrences_from shape parts log ++ occurrences_from shape (left_by parts log) more
+  -- the occurrences of a log are its front's, then the rest's from the parts left there
+  pub occurrences_append : (parts : Parts) (log more : List Logged) → occurrences_from shape parts (log ++ more) ≡ occurrences_from shape parts log ++ occurrences_from shape (left_by parts log) more
   occurrences_append parts [] more = refl
   occurrences_append parts (entry ∷ log) more = ap (λ (made : List Occurrence). occurrence_of shape parts entry ∷ made) (occurrences_append (after shape parts entry.made) log more)
 

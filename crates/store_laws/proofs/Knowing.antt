@@ -6,16 +6,18 @@ use Rattle.event_spec.specs.declared.own.OwnTransaction.{OwnTransaction}
 use Rattle.event_spec.specs.Effects.{CoreEvent}
 use Rattle.event_spec.specs.Lawful.{IsOwn, Opened, transaction}
 use Rattle.event_spec.specs.Parts.{Parts, Shape}
-use Rattle.hall_rule.specs.EventLog.{OnlyBy, has, own, replay}
+use Rattle.hall_rule.specs.EventLog.{OnlyBy, Spares, has, own, replay}
 use Rattle.hall_rule.specs.Views.{among}
 use Rattle.hall_rule.specs.declared.view.Entry.{Entry}
 use Rattle.hall_rule.specs.declared.view.View.{View}
 use Rattle.hall_rule.proofs.Logs.{has_head, own_append}
 use Rattle.store_laws.specs.OwnLaws.{HasOpened}
 use Rattle.run_spec.specs.Handed.{own_in}
+use Rattle.run_spec.specs.Occurrences.{Logged}
 use Rattle.run_spec.specs.Opened.{own_after}
 use Rattle.store_laws.specs.Laws.{JoinsGoOn, LooksGoOn}
 use Rattle.store_laws.specs.Logs.{log_of, store_meaning}
+use Rattle.store_laws.specs.Own.{StandsUnder}
 use Rattle.store_laws.proofs.Entries.{log_append, own_stays}
 
 -- what is open hangs on the transaction alone
@@ -31,6 +33,23 @@ opened_moves shape earlier later session (Some own) same opened = (opened.0, (op
     go None is = absurd is
     go (Some has) is = record { snapshot = is.snapshot; writes = is.writes }
 
+-- entries that are not of a session stand behind those of its own
+spared_under : (shape : Shape) (session : ℕ) (log : List (Entry CoreEvent)) → Spares (store_meaning shape) session log → StandsUnder session (log_of log)
+spared_under shape session [] spared = tt
+spared_under shape session (e ∷ log) spared = ((λ is. absurd (spared.0 is)), spared_under shape session log spared.1)
+
+-- two parts of a log in turn
+pub under_append : (session : ℕ) (log more : List Logged) → StandsUnder session log → StandsUnder session more → StandsUnder session (log ++ more)
+under_append session [] more first rest = rest
+under_append session (entry ∷ log) more first rest = (first.0, under_append session log more first.1 rest)
+
+-- a log that goes on by none of the session's
+pub under_on : (shape : Shape) (session : ℕ) (earlier later : List (Entry CoreEvent)) → later ≡ earlier ++ drop (length earlier) later
+    → StandsUnder session (log_of earlier) → Spares (store_meaning shape) session (drop (length earlier) later) → StandsUnder session (log_of later)
+under_on shape session earlier later goes first spared =
+    subst (StandsUnder session) (sym (ap log_of goes ∙ log_append shape earlier (drop (length earlier) later)))
+    (under_append session (log_of earlier) (log_of (drop (length earlier) later)) first (spared_under shape session (drop (length earlier) later) spared))
+
 -- a session that sees more has the same of its own
 pub looks_go_on : LooksGoOn
 looks_go_on shape session id old new hand held own' k k' sees knows = record {
@@ -39,6 +58,8 @@ looks_go_on shape session id old new hand held own' k k' sees knows = record {
   knows = record {
     sessions = sees.sessions ∙ knows.sessions;
     sole = has_sole;
+    under = under_on shape session v.log w.log goes knows.under
+        (sees.stays.spared session (ap (has session) knows.sessions ∙ has_head session []));
     own_is = knows.own_is ∙ ap own_after (sym same);
     opened = opened_moves shape (replay (store_meaning shape) v.log) (replay (store_meaning shape) w.log) session own'
         (sees.stays.transactions session (ap (has session) knows.sessions ∙ has_head session [])) knows.opened;
@@ -135,6 +156,7 @@ joins_go_on shape session id other old new note hand held own' k k' no_hands no_
   knows = record {
     sessions = sessions_are;
     sole = has_sole;
+    under = under_on shape session v.log w.log goes knows.under (joined.stood.spared session among_old);
     own_is = knows.own_is ∙ ap own_after (sym same);
     opened = opened_moves shape (replay (store_meaning shape) v.log) (replay (store_meaning shape) w.log) session own'
         (joined.stood.transactions session among_old) knows.opened;

@@ -7,3 +7,5 @@ pub mod Making
 pub mod Stamps
 pub mod Room
 pub mod Spent
+pub mod Machines
+pub mod Stepping

@@ -26,9 +26,9 @@ use Rattle.run_spec.specs.Occurrences.{Occurrence}
 use Rattle.run_spec.specs.Opened.{own_after, own_behind}
 use Rattle.store_laws.specs.Laws.{EventsGoOn, IsOfSession}
 use Rattle.store_laws.specs.Logs.{log_of, logged_of, store_meaning}
-use Rattle.store_laws.specs.Own.{KnowsOwn, MakesOne, entry_of, occurrence_at, parts_after}
+use Rattle.store_laws.specs.Own.{KnowsOwn, MakesOne, StandsUnder, entry_of, occurrence_at, parts_after}
 use Rattle.store_laws.proofs.Entries.{log_append, own_grows, own_stays, replay_same}
-use Rattle.store_laws.proofs.Knowing.{opened_moves}
+use Rattle.store_laws.proofs.Knowing.{opened_moves, under_append, under_on}
 
 -- An option that has a value is not one without a value.
 some_none : {A : Type 0} (a : A) → Some a ≡ None → ⊥
@@ -173,6 +173,9 @@ events_go_on shape session id old new hand held before own' e told is_shape k k'
     knows' = record {
       sessions = ends.sessions ∙ knows.sessions;
       sole = ap (has session) ends.sole ∙ knows.sole;
+      under = subst (StandsUnder session) (sym log_is)
+          (under_append session (log_of before) (entry_of session e told ∷ [])
+          (under_on shape session v.log before goes_to knows.under (ends.learned.spared session in_sessions)) ((λ is. refl), tt));
       own_is =
           ap (λ o. own_behind o e told) knows.own_is
           ∙ sym (ap own_after own_is_more ∙ fold-append (λ (o : Option OwnTransaction) (x : Occurrence). own_behind o x.event x.reply) None (own_in shape session (log_of v.log)) (occurrence_at session (parts_after shape (log_of before)) e told ∷ []));

@@ -1,5 +1,6 @@
 pub mod OwnLaws
 pub mod Laws
 pub mod Logs
+pub mod Machines
 pub mod Own
 pub mod Room

@@ -1,7 +1,8 @@
 -- What a session knows of itself between two calls of its store, and what a call tells.
-use Rattle.std.specs.Prelude.{◌≡◌, ℕ, true, List, [], ◌∷◌, ◌++◌, Option}
+use Rattle.std.specs.Prelude.{◌≡◌, ⊤, ℕ, true, List, [], ◌∷◌, ◌++◌, Option, Some}
 use Rattle.event_spec.specs.declared.own.OwnTransaction.{OwnTransaction}
 use Rattle.event_spec.specs.Effects.{CoreEvent}
+use Rattle.event_spec.specs.Lawful.{session_of}
 use Rattle.event_spec.specs.Parts.{Parts, Shape}
 use Rattle.event_spec.specs.Replay.{reply_after}
 use Rattle.event_spec.specs.Replay as core
@@ -15,13 +16,22 @@ use Rattle.run_spec.specs.Occurrences.{Logged, Occurrence}
 use Rattle.run_spec.specs.Opened.{own_after}
 use Rattle.store_laws.specs.Logs.{log_of, made_in, store_meaning}
 
--- A session's pass has its hand alone, and no other pass makes events under the session. What the
--- session has open is what its own events told, and is open in the state that the log leaves.
+-- each event of a session in a log stands under it
+abbrev pub StandsUnder : ℕ → List Logged → Type 0
+StandsUnder session [] = ⊤
+StandsUnder session (entry ∷ log) =
+    (session_of entry.made.event ≡ Some session → entry.session ≡ session)
+    × StandsUnder session log
+
+-- A session's pass has its hand alone, and no other pass makes events of the session or under it.
+-- What the session has open is what its own events told, and is open in the state that the log
+-- leaves.
 pub record KnowsOwn
     (shape : Shape) (session : ℕ) (view : View CoreEvent) (own : Option OwnTransaction)
     : Type 0 where
   pub sessions : view.sessions ≡ session ∷ []
   pub sole : has session view.sole ≡ true
+  pub under : StandsUnder session (log_of view.log)
   pub own_is : own ≡ own_after (own_in shape session (log_of view.log))
   pub opened : HasOpened shape (replay (store_meaning shape) view.log) session own
 

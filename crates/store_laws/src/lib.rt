@@ -7,6 +7,7 @@ pub mod own_laws;
 
 ghost use Rattle.store_laws.specs.Laws.{EventsGoOn, JoinsGoOn, LooksGoOn, LogsAreRuns};
 ghost use Rattle.store_laws.specs.Laws.{SingleEventsAreCalls, StampsAreFew};
+ghost use Rattle.store_laws.specs.Machines.{CommitsGoOn, LogsFollowTheMachine};
 ghost use Rattle.store_laws.specs.Room.{FullIsFull, FullIsSpent, OpensEmpty, RoomIsCounted};
 
 /// The log of a store's hall is a lawful log of a run, and leaves the same parts.
@@ -43,4 +44,11 @@ pub fn room_is_counted()
     ensures next { RoomIsCounted }
     ensures full { FullIsFull }
     ensures spent { FullIsSpent }
+{}
+
+/// What a lawful log leaves follows the snapshot-isolation machine behind it, whose commits never
+/// become fewer.
+pub fn the_machine_goes_with_the_log()
+    ensures follows { LogsFollowTheMachine }
+    ensures commits { CommitsGoOn }
 {}

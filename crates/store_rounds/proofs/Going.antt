@@ -4,11 +4,12 @@ use mathlib.Core.Logic.{inl, inr}
 use Rattle.std.specs.Prelude.{IfErr, Result}
 use Rattle.workload_spec.specs.declared.script.Line.{Line}
 use Rattle.workload_spec.specs.declared.script.Script.{Script}
-use Rattle.store_rounds.specs.Workloads.{GoesPart, GoesTo}
+use Rattle.run_spec.specs.Ran.{RoundRun}
+use Rattle.store_rounds.specs.Workloads.{GoesPart, GoesTo, OfRounds}
 use Rattle.store_rounds.specs.declared.fault.RunFault.{RunFault}
 use Rattle.store_rounds.specs.declared.fault.RunFault.TheVariants as fault
 
-module _ (Goes Other : List (List Line) → List ℕ → Type 0) (told : (asked : List (List Line)) (text : List ℕ) → Goes asked text → Other asked text)
+module _ (Goes Other : OfRounds) (told : (asked : List (List Line)) (ran : List RoundRun) (text : List ℕ) → Goes asked ran text → Other asked ran text)
     (script : Script) (before now : Option (List ℕ)) where
   -- A run that stopped at a round, told without the store.
   abbrev to_told : (lines : List Line) → GoesTo Goes script lines before now → GoesTo Other script lines before now
@@ -18,12 +19,13 @@ module _ (Goes Other : List (List Line) → List ℕ → Type 0) (told : (asked 
     rest = to.rest;
     rounds = to.rounds;
     first = to.first;
+    ran = to.ran;
+    last = to.last;
     shown = to.shown;
     hidden = to.hidden;
-    shares = to.shares;
     of_round = to.of_round;
     explained_shown = to.explained_shown;
-    went = told _ _ to.went;
+    went = told _ _ _ to.went;
     printed = to.printed;
   }
 
@@ -33,8 +35,9 @@ module _ (Goes Other : List (List Line) → List ℕ → Type 0) (told : (asked 
     whole = goes.whole;
     rest = goes.rest;
     rounds = goes.rounds;
+    ran = goes.ran;
     text = goes.text;
-    went = told goes.whole goes.text goes.went;
+    went = told goes.whole goes.ran goes.text goes.went;
     printed = goes.printed;
   }
   part_told fault.Export goes = record {
@@ -50,8 +53,9 @@ module _ (Goes Other : List (List Line) → List ℕ → Type 0) (told : (asked 
     round = goes.round;
     rest = goes.rest;
     rounds = goes.rounds;
+    ran = goes.ran;
     text = goes.text;
-    went = told goes.whole goes.text goes.went;
+    went = told goes.whole goes.ran goes.text goes.went;
     printed = goes.printed;
   })
   part_told fault.Memory (inr goes) = inr (record { lines = goes.lines; to = to_told goes.lines goes.to; whole = goes.whole })

@@ -20,3 +20,4 @@ mod Running
 mod Stopping
 mod Nothing
 mod Going
+mod Counting

@@ -299,6 +299,7 @@ module _ (script : Script) (store : StoreView) (old new : List Session) (asked :
         whole = asked ++ lines ∷ [];
         rest = rest;
         rounds = parted;
+        ran = both script store old new asked before now exported exported_now exported_later number running lines done;
         text = rounds_text script.tables 1 (both script store old new asked before now exported exported_now exported_later number running lines done);
         went = record {
           went = went_so_far script
@@ -321,8 +322,9 @@ pub running_ends : (script : Script) (store : StoreView) (row : List Session) (a
     → is_valid script ≡ true → Running script store row asked before now exported exported_now number → asked ≡ script.rounds
     → GoesWhole (RunsIn script store row exported exported_now) script before now
 running_ends script store row asked before now exported exported_now number valid running all = record {
+  ran = running.rounds;
   text = rounds_text script.tables 1 running.rounds;
-  went = subst (λ (rounds : List (List Line)). RunsIn script store row exported exported_now rounds (rounds_text script.tables 1 running.rounds)) all
+  went = subst (λ (rounds : List (List Line)). RunsIn script store row exported exported_now rounds running.rounds (rounds_text script.tables 1 running.rounds)) all
       (record {
         went = went_so_far script running.rounds running.finished exported exported_now running.counted running.sent asked []
             (sym all ∙ sym (append-nil asked)) valid running.ran;

@@ -120,10 +120,10 @@ sends_by_tables shape table made told bytes sends =
     (subst (λ (blocks : ℕ). SendsAs (columns_in shape table) blocks made told bytes) (sym (blocks_same shape.tables shape.passes table)) sends)
 
 -- an export that was made is a command that was answered
-pub export_answered : (store : StoreView) (old new : Session) (table : ℕ) (told : Result Summary ExportFault) (exported now : Option (List ℕ)) (steps : ℕ)
-    → Exports store old new table (exported_told told) exported now 0 steps
+pub export_answered : (store : StoreView) (old new : Session) (table : ℕ) (told : Result Summary ExportFault) (exported now : Option (List ℕ))
+    → Exports store old new table (exported_told told) exported now
     → Answered store old new (command.Export table) (exported_told told) exported now
-export_answered store old new table told exported now steps exports = record {
+export_answered store old new table told exported now exports = record {
   session = exports.session;
   same = exports.same;
   answers = exports.answers;

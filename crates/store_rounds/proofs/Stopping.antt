@@ -30,7 +30,7 @@ use Rattle.store_rounds.specs.declared.fault.RunFault.{RunFault}
 use Rattle.store_rounds.specs.declared.fault.RunFault.TheVariants as fault
 use Rattle.store_rounds.proofs.Duties.{two_counted}
 use Rattle.store_rounds.proofs.WholeRounds.{ends_exports}
-use Rattle.store_rounds.proofs.Running.{RoundDone, Running, both, counted_further, more, ran_further, round_once, round_within, sent_further, stands_further, text_further}
+use Rattle.store_rounds.proofs.Running.{RoundDone, Running, both, counted_further, more, ran_further, round, round_once, round_within, sent_further, stands_further, text_further}
 use Rattle.store_rounds.proofs.Went.{explained_so_far, went, went_so_far}
 
 -- ---- the lines that were carried out
@@ -163,6 +163,7 @@ module _ (script : Script) (store : StoreView) (old new : List Session) (asked r
 
     goes_to : AreFirstLines kept lines
         → RunsIn script store new exported exported_later (asked ++ kept ∷ [])
+        (both script store old new asked before now exported exported_now exported_later number running kept done)
         (rounds_text script.tables 1 (both script store old new asked before now exported exported_now exported_later number running kept done))
         → GoesTo (RunsIn script store new exported exported_later) script kept before now
     goes_to first went = record {
@@ -171,13 +172,15 @@ module _ (script : Script) (store : StoreView) (old new : List Session) (asked r
       rest = rest;
       rounds = sym split;
       first = first;
+      ran = running.rounds;
+      last = round script store old new asked before now exported exported_now exported_later number running kept done;
       shown = rounds_text script.tables 1 running.rounds;
       hidden = round_text script.tables (number + 1) these;
-      shares = these;
       of_round = ap (λ n. round_text script.tables (n + 1) these) running.asked_count;
       explained_shown = explained_so_far script running.rounds running.finished exported exported_now running.counted running.sent
           asked (lines ∷ rest) (sym split) valid running.ran;
-      went = subst (RunsIn script store new exported exported_later (asked ++ kept ∷ []))
+      went = subst (RunsIn script store new exported exported_later (asked ++ kept ∷ [])
+          (both script store old new asked before now exported exported_now exported_later number running kept done))
           (text_further script store old new asked before now exported exported_now exported_later number running kept done) went;
       printed = running.printed;
     }
@@ -291,6 +294,7 @@ module _ (script : Script) (store : StoreView) (old new : List Session) (asked r
         round = lines;
         rest = rest;
         rounds = sym split;
+        ran = running.rounds;
         text = rounds_text script.tables 1 running.rounds;
         went = record {
           went = went_so_far script running.rounds running.finished exported exported_now running.counted running.sent asked (lines ∷ rest) (sym split) valid running.ran;

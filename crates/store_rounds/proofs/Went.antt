@@ -33,10 +33,11 @@ module _ (script : Script) (rounds : List RoundRun) (finished : List Logged) (ex
         (subst (λ (rounds : List RoundRun). CallsSend script.tables (calls_in rounds) sent.bytes) (sym run.rounds_are) sent.by_calls)
 
     -- the rounds ran, are explained, and say what was sent
-    abbrev pub went : Went (with_rounds asked script) (rounds_text script.tables 1 rounds) exported now
+    abbrev pub went : Went (with_rounds asked script) rounds (rounds_text script.tables 1 rounds) exported now
     went = record {
       log = finished;
       ran = (rounds_ran script asked rounds finished ran).ran;
+      rounds_are = (rounds_ran script asked rounds finished ran).rounds_are;
       explained = rounds_are_explained script asked rounds finished valid ran counted;
       bytes = sent.bytes;
       sent = sent.sent;
@@ -74,10 +75,11 @@ module _ (script : Script) (rounds : List RoundRun) (finished : List Logged) (ex
 
   -- the first rounds of a script ran, are explained, and say what was sent
   abbrev pub went_so_far : (asked rest : List (List Line)) → script.rounds ≡ asked ++ rest → is_valid script ≡ true → RanSoFar script asked rounds finished
-      → Went (with_rounds asked script) (rounds_text script.tables 1 rounds) exported now
+      → Went (with_rounds asked script) rounds (rounds_text script.tables 1 rounds) exported now
   went_so_far asked rest split valid ran = record {
     log = finished;
     ran = (rounds_ran script asked rounds finished ran).ran;
+    rounds_are = (rounds_ran script asked rounds finished ran).rounds_are;
     explained = explained_so_far asked rest split valid ran;
     bytes = sent.bytes;
     sent = sent.sent;

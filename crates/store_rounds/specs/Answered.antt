@@ -1,6 +1,7 @@
 -- Which commands a session may be asked, what it is told, and what is sent meanwhile.
 use Rattle.std.specs.Prelude.{◌≡◌, ℕ, true, List, Option, Some, Result, Ok, Err}
 use Rattle.std.specs.Io.KnownBytes.{Appends}
+use Rattle.byte_ports.specs.Calls.{Rose}
 use Rattle.byte_ports.specs.declared.ports.Failed.{Failed}
 use Rattle.cell_model.specs.declared.table.TableDecl.{TableDecl}
 use Rattle.export_spec.specs.Calls.{CallSends, CallsSend}
@@ -8,6 +9,8 @@ use Rattle.outcome_spec.specs.Forms.{is_upkeep}
 use Rattle.run_spec.specs.Calls.{Call}
 use Rattle.shared_store.specs.Store.{Answers, IsSession, MakesAtMost, StoreView, shape_in}
 use Rattle.shared_store.specs.declared.session.Session.{Session}
+use Rattle.store_export.specs.declared.exporting.ExportFault.{ExportFault}
+use Rattle.store_export.specs.declared.exporting.ExportFault.TheVariants as fault
 use Rattle.store_rounds.specs.Keeping.{Counts, most_upkeep}
 use Rattle.workload_spec.specs.Valid.{is_command}
 use Rattle.workload_spec.specs.declared.command.Command.{Command}
@@ -34,6 +37,14 @@ pub record SentBy
 abbrev pub told_in : Result Said Failed → Said
 told_in (Ok told) = told
 told_in (Err failed) = said.Memory
+
+-- An outlet's count of faults rose in an export by a writer of its own just where the outlet's
+-- fault is told.
+abbrev pub CountsFaults : {T : Type 0} → Result T ExportFault → ℕ → ℕ → Type 0
+CountsFaults (Ok summary) before now = now ≡ before
+CountsFaults (Err (fault.Dirty key)) before now = now ≡ before
+CountsFaults (Err (fault.Sink failed)) before now = Rose before now
+CountsFaults (Err fault.Memory) before now = now ≡ before
 
 -- The session carried out the command and was told this line, and an export sent what the line
 -- says.

@@ -3,7 +3,7 @@ use Rattle.std.specs.Prelude.{◌≡◌, ℕ, ◌+◌, ◌<◌, List, Option, ge
 use Rattle.workload_spec.specs.declared.script.Line.{Line}
 use Rattle.workload_spec.specs.declared.script.Script.{Script}
 use Rattle.run_spec.specs.Occurrences.{Logged}
-use Rattle.run_spec.specs.Ran.{shape_of}
+use Rattle.run_spec.specs.Ran.{RoundRun, shape_of}
 use Rattle.run_laws.specs.Rounds.Fronts.{with_rounds}
 use Rattle.run_laws.specs.Rounds.Working.{StandsBehind}
 use Rattle.shared_store.specs.Store.{StoreView, seen, shape_in}
@@ -25,12 +25,13 @@ pub record IsRowOf (script : Script) (store : StoreView) (row : List Session) : 
   pub shape : shape_in store ≡ shape_of script
   pub size : length row ≡ script.sessions + script.workers
 
--- Rounds of these lines ran on the store and ended with the log in which all of the row met last.
--- They stand behind the rounds: the log of each goes on from this one, and has no more events of
--- its own.
+-- Rounds of these lines ran on the store, as these rounds, and ended with the log in which all of
+-- the row met last. They stand behind the rounds: the log of each goes on from this one, and has no
+-- more events of its own.
 pub record RunsIn
     (script : Script) (store : StoreView) (row : List Session)
-    (exported exported_now : Option (List ℕ)) (asked : List (List Line)) (text : List ℕ)
+    (exported exported_now : Option (List ℕ)) (asked : List (List Line)) (ran : List RoundRun)
+    (text : List ℕ)
     : Type 0 where
-  pub went : Went (with_rounds asked script) text exported exported_now
+  pub went : Went (with_rounds asked script) ran text exported exported_now
   pub stands : Standing store went.log row

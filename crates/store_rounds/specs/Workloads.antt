@@ -9,7 +9,7 @@ use Rattle.workload_spec.specs.Valid.{is_export}
 use Rattle.workload_spec.specs.declared.script.Line.{Line}
 use Rattle.workload_spec.specs.declared.script.Script.{Script}
 use Rattle.run_spec.specs.Occurrences.{Logged}
-use Rattle.run_spec.specs.Ran.{Ran, Share}
+use Rattle.run_spec.specs.Ran.{Ran, RoundRun, Share}
 use Rattle.run_laws.specs.Rounds.Fronts.{AreFirstLines, lines_of, with_rounds}
 use Rattle.run_laws.specs.Rounds.Lines.{round_text}
 use Rattle.store_rounds.specs.Worked.{EndsAtExport}
@@ -17,58 +17,63 @@ use Rattle.workload_spec.specs.declared.reply.Who.TheVariants.{Session as TheSes
 use Rattle.store_rounds.specs.declared.fault.RunFault.{RunFault}
 use Rattle.store_rounds.specs.declared.fault.RunFault.TheVariants as fault
 
--- The script ran with some log of events and had this text, which snapshot isolation explains; the
--- outlet grew by what the text's lines say.
+-- The script ran with some log of events, with these rounds, and had this text, which snapshot
+-- isolation explains; the outlet grew by what the text's lines say.
 pub record Went
-    (script : Script) (text : List ℕ) (exported exported_now : Option (List ℕ))
+    (script : Script) (rounds : List RoundRun) (text : List ℕ)
+    (exported exported_now : Option (List ℕ))
     : Type 0 where
   pub log : List Logged
   pub ran : Ran script log text
+  pub rounds_are : ran.rounds ≡ rounds
   pub explained : Explained script text
   pub bytes : List ℕ
   pub sent : Appends exported exported_now bytes
   pub says : SaysAllSent script text bytes
 
--- Below `Goes asked text` says that rounds of these lines ran and had this text.
+-- What is told of a run: below `Goes asked ran text` says that rounds of these lines ran, that these
+-- are the rounds as they ran, and that they had this text.
+abbrev pub OfRounds : Type 1
+OfRounds = List (List Line) → List RoundRun → List ℕ → Type 0
 
 -- All rounds ran, and their text was printed.
-pub record GoesWhole
-    (Goes : List (List Line) → List ℕ → Type 0) (script : Script) (before now : Option (List ℕ))
-    : Type 0 where
+pub record GoesWhole (Goes : OfRounds) (script : Script) (before now : Option (List ℕ)) : Type 0 where
+  pub ran : List RoundRun
   pub text : List ℕ
-  pub went : Goes script.rounds text
+  pub went : Goes script.rounds ran text
   pub printed : Appends before now text
 
 -- The output failed: some first rounds of the script ran, and only a front of their text was
 -- printed.
 pub record GoesCutOff
-    (Goes : List (List Line) → List ℕ → Type 0) (script : Script) (before now : Option (List ℕ))
+    (Goes : OfRounds) (script : Script) (before now : Option (List ℕ))
     : Type 0 where
   pub whole : List (List Line)
   pub rest : List (List Line)
   pub rounds : script.rounds ≡ whole ++ rest
+  pub ran : List RoundRun
   pub text : List ℕ
-  pub went : Goes whole text
+  pub went : Goes whole ran text
   pub printed : AppendsFront before now text
 
 -- The run stopped at a round: the rounds before it ran, and their text alone was printed. Of the
--- round these first lines of each session ran, and each worker made its turns; the text of this
--- round's lines alone was not printed.
+-- round these first lines of each session ran, and each worker made its turns, which is the last
+-- round of the run; the text of this round's lines alone was not printed.
 pub record GoesTo
-    (Goes : List (List Line) → List ℕ → Type 0) (script : Script) (lines : List Line)
-    (before now : Option (List ℕ))
+    (Goes : OfRounds) (script : Script) (lines : List Line) (before now : Option (List ℕ))
     : Type 0 where
   pub whole : List (List Line)
   pub round : List Line
   pub rest : List (List Line)
   pub rounds : script.rounds ≡ whole ++ round ∷ rest
   pub first : AreFirstLines lines round
+  pub ran : List RoundRun
+  pub last : RoundRun
   pub shown : List ℕ
   pub hidden : List ℕ
-  pub shares : List Share
-  pub of_round : hidden ≡ round_text script.tables (length whole + 1) shares
+  pub of_round : hidden ≡ round_text script.tables (length whole + 1) last.shares
   pub explained_shown : Explained (with_rounds whole script) shown
-  pub went : Goes (whole ++ lines ∷ []) (shown ++ hidden)
+  pub went : Goes (whole ++ lines ∷ []) (ran ++ last ∷ []) (shown ++ hidden)
   pub printed : Appends before now shown
 
 -- A session's lines end at an export.
@@ -89,7 +94,7 @@ pub record ToldMemory (shares : List Share) (session : ℕ) : Type 0 where
 
 -- It stopped behind a round that ran whole, whose text found no memory and was not printed.
 pub record GoesUnshown
-    (Goes : List (List Line) → List ℕ → Type 0) (script : Script) (before now : Option (List ℕ))
+    (Goes : OfRounds) (script : Script) (before now : Option (List ℕ))
     : Type 0 where
   pub lines : List Line
   pub to : GoesTo Goes script lines before now
@@ -98,46 +103,45 @@ pub record GoesUnshown
 -- It stopped before a round, of which nothing ran: the rounds before it ran, and their text was
 -- printed.
 pub record GoesBefore
-    (Goes : List (List Line) → List ℕ → Type 0) (script : Script) (before now : Option (List ℕ))
+    (Goes : OfRounds) (script : Script) (before now : Option (List ℕ))
     : Type 0 where
   pub whole : List (List Line)
   pub round : List Line
   pub rest : List (List Line)
   pub rounds : script.rounds ≡ whole ++ round ∷ rest
+  pub ran : List RoundRun
   pub text : List ℕ
-  pub went : Goes whole text
+  pub went : Goes whole ran text
   pub printed : Appends before now text
 
 -- It stopped for want of memory.
-abbrev pub GoesStopped
-    : (List (List Line) → List ℕ → Type 0) → Script → Option (List ℕ) → Option (List ℕ) → Type 0
+abbrev pub GoesStopped : OfRounds → Script → Option (List ℕ) → Option (List ℕ) → Type 0
 GoesStopped Goes script before now =
     GoesBefore Goes script before now ⊎ GoesUnshown Goes script before now
 
 -- It stopped behind a round in which the outlet failed at an export, which counts as answered
--- `memory`: its session stopped there, and the others ended their lines.
+-- `memory`: its session stopped there, its calls of the run's last round end with this export, and
+-- the others ended their lines.
 pub record GoesToExport
-    (Goes : List (List Line) → List ℕ → Type 0) (script : Script) (before now : Option (List ℕ))
+    (Goes : OfRounds) (script : Script) (before now : Option (List ℕ))
     : Type 0 where
   pub lines : List Line
   pub to : GoesTo Goes script lines before now
   pub session : ℕ
   pub last : LinesEndAtExport lines session
-  pub told : ToldMemory to.shares session
+  pub told : ToldMemory to.last.shares session
   pub others : (other : ℕ) → other ≢ session → lines_of other lines ≡ lines_of other to.round
 
 -- how a run ends that does not come to its last round
-abbrev pub GoesPart
-    : (List (List Line) → List ℕ → Type 0) → Script → RunFault → Option (List ℕ)
-    → Option (List ℕ) → Type 0
+abbrev pub GoesPart : OfRounds → Script → RunFault → Option (List ℕ) → Option (List ℕ) → Type 0
 GoesPart Goes script fault.Out before now = GoesCutOff Goes script before now
 GoesPart Goes script fault.Export before now = GoesToExport Goes script before now
 GoesPart Goes script fault.Memory before now = GoesStopped Goes script before now
 
 -- Rounds of these lines of the script went so, for an outlet that had and now has these bytes.
-abbrev pub WentBy : Script → Option (List ℕ) → Option (List ℕ) → List (List Line) → List ℕ → Type 0
-WentBy script exported exported_now asked text =
-    Went (with_rounds asked script) text exported exported_now
+abbrev pub WentBy : Script → Option (List ℕ) → Option (List ℕ) → OfRounds
+WentBy script exported exported_now asked ran text =
+    Went (with_rounds asked script) ran text exported exported_now
 
 -- a count of the output's faults: it rises where the output failed
 abbrev pub CountsOutFault : {T : Type 0} → ℕ → ℕ → Result T RunFault → Type 0

@@ -1,5 +1,8 @@
-//! Trials of the store in blocks: tests alone, of the turns of a worker over a block's life.
+//! Trials of the store in blocks: tests alone, of the turns of a worker over a block's life, and of
+//! an export that breaks off.
 #![tactic(auto)]
 
+#[cfg(test)]
+mod exports;
 #[cfg(test)]
 mod turns;

@@ -4,6 +4,7 @@ ghost use Rattle.engine_core.specs.Core.{MayOpen};
 ghost use Rattle.shared_store.specs.Store.{HasRoomFor, IsSession, MakesAtMost, shape_in};
 ghost use Rattle.workload_spec.specs.Valid.{fits_table};
 
+use crate::exports::break_off;
 use cell_model::{Bytes, Cell, Column, Kind, Row, Schema, TableDecl};
 use shared_store::{Built, Session, Store, StoreFault};
 use std::alloc::Global;
@@ -15,7 +16,7 @@ use store_rounds::turn;
 
 /// A write of a key.
 #[derive(Clone, Copy)]
-enum Change {
+pub(crate) enum Change {
     Insert(i64),
     Update(i64),
     Delete(i64),
@@ -134,7 +135,7 @@ fn accepted(answer: Result<(), StoreFault>) -> Result<(), Fail> {
 }
 
 /// Carries out a write in the open transaction.
-fn write<R: Wait>(
+pub(crate) fn write<R: Wait>(
     rt: &R,
     alloc: Global,
     store: &Store,
@@ -204,6 +205,8 @@ fn live<R: Abort + Wait + Threads + Sync>(
     requires room { HasRoomFor (2 ^ 40) session.old }
     requires room_to_work { HasRoomFor (2 ^ 40) worker.old }
     requires table { 1 ≤ length (shape_in store.now).tables }
+    ensures session { OnOk result (IsSession store.now session.new) }
+    ensures few { OnOk result (MakesAtMost (2 ^ 14) session.old session.new) }
 {
     for case in &CASES {
         write_all(rt, alloc, store, session, case.writes)?;
@@ -213,6 +216,7 @@ fn live<R: Abort + Wait + Threads + Sync>(
     Ok(())
 }
 
+/// The last image of the block is then exported to a sink that fails in its bytes.
 #[test]
 fn a_block_lives_turn_by_turn(rt: HostRuntime) -> Result<(), Fail> {
     let alloc = rt.alloc();
@@ -221,5 +225,6 @@ fn a_block_lives_turn_by_turn(rt: HostRuntime) -> Result<(), Fail> {
         mut sessions,
     } = Store::build(alloc, tables(alloc)?, 2)?;
     let (front, back) = sessions.split_at_mut(1);
-    live(&rt, alloc, &store, &mut front[0], &mut back[0])
+    live(&rt, alloc, &store, &mut front[0], &mut back[0])?;
+    break_off(&rt, alloc, &store, &mut front[0])
 }

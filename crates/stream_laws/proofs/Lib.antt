@@ -15,3 +15,4 @@ pub mod Rows
 pub mod BodySizes
 pub mod BatchMessages
 pub mod Streams
+pub mod Wholes

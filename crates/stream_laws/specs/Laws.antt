@@ -1,6 +1,7 @@
 -- What the canonical bytes of a schema, a batch and a stream read as.
-use Rattle.std.specs.Prelude.{◌≡◌, ℕ, ◌^◌, ◌<◌, ◌≤◌, List, ◌++◌, length, true, Some, Ok}
+use Rattle.std.specs.Prelude.{◌≡◌, ℕ, ◌^◌, ◌<◌, ◌≤◌, List, ◌++◌, length, drop, true, Some, Ok}
 use Rattle.std.specs.List.{All}
+use Rattle.cell_model.specs.Kinds.{Values}
 use Rattle.cell_model.specs.Rows.{Fits}
 use Rattle.cell_model.specs.Schemas.{AreNamed, IsSchema}
 use Rattle.cell_model.specs.declared.cell.Cell.{Cell}
@@ -8,7 +9,10 @@ use Rattle.cell_model.specs.declared.column.Column.{Column}
 use Rattle.cell_model.specs.declared.kind.Kind.TheVariants as kind
 use Rattle.arrow_spec.specs.Examples.{key_and, nine_rows}
 use Rattle.arrow_spec.specs.Streams.{schema_message, batch_message, stream_of}
-use Rattle.stream_spec.specs.Streams.{Reads, first_schema, next_batch}
+use Rattle.stream_spec.specs.Columns.{data_count, data_needs, lies_in, rows_of}
+use Rattle.stream_spec.specs.Metadata.{BatchTable}
+use Rattle.stream_spec.specs.Streams.{Reads, SchemaRead, batches_from, first_schema, next_batch}
+use Rattle.stream_spec.specs.Streams.{reading_of}
 
 -- Columns that a stream can tell: there is one, there are at most 2^14, and each name is a text.
 -- The metadata of 2^15 columns with the longest names would have 2^31 bytes and more, which no size
@@ -66,3 +70,25 @@ abbrev pub OneReading : Type 0
 OneReading =
     (bytes : List ℕ) (columns others : List Column) (batches more : List (List (List Cell)))
     → Reads bytes columns batches → Reads bytes others more → (columns ≡ others) × (batches ≡ more)
+
+-- However many messages are looked for, if they are more than the bytes, the bytes read as the
+-- same: nothing is read as a whole stream because the search for its batches was at its end.
+abbrev pub SearchIsLongEnough : Type 0
+SearchIsLongEnough = (bytes : List ℕ) (schema : SchemaRead) (more : ℕ)
+    → first_schema bytes ≡ Ok schema → length bytes < more
+    → reading_of bytes ≡ batches_from more schema.columns schema.size (drop schema.size bytes)
+
+-- A batch that is read has a cell of each column in each row: none was left out for want of a node
+-- or of a buffer. And each buffer that it names lies in its body: none was left unseen.
+pub record IsWhole (columns : List Column) (batch : BatchTable) (body : List ℕ) (rows : List (List Cell)) : Type 0 where
+  pub cells : All (λ row. length row ≡ length columns) rows
+  pub buffers : All (λ buffer. lies_in body buffer ≡ true) batch.buffers
+
+abbrev pub BatchesAreWhole : Type 0
+BatchesAreWhole =
+    (columns : List Column) (batch : BatchTable) (body : List ℕ) (rows : List (List Cell))
+    → rows_of columns batch body ≡ Ok rows → IsWhole columns batch body rows
+
+-- Behind its validity a column has as many buffers as needs, so none of the two is left over.
+abbrev pub NeedsAreCounted : Type 0
+NeedsAreCounted = (values : Values) (rows : ℕ) → length (data_needs values rows) ≡ data_count values

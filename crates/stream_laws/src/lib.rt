@@ -4,6 +4,7 @@
 #![tactic(auto)]
 
 ghost use Rattle.stream_laws.specs.Laws.{BatchIsRead, NineRowsAreTold, OneReading, SchemaIsRead};
+ghost use Rattle.stream_laws.specs.Laws.{BatchesAreWhole, NeedsAreCounted, SearchIsLongEnough};
 ghost use Rattle.stream_laws.specs.Laws.{StreamEnds, StreamIsRead, TablesAreTold};
 
 /// A schema's message, whatever follows it, reads as its columns.
@@ -39,4 +40,16 @@ pub fn nine_rows_are_told()
 /// Bytes are a stream of one schema with one list of batches at most.
 pub fn bytes_are_one_stream_at_most()
     ensures { OneReading }
+{}
+
+/// Bytes read as the same however many messages are looked for, if they are more than the bytes.
+pub fn the_search_for_batches_is_long_enough()
+    ensures { SearchIsLongEnough }
+{}
+
+/// A batch that is read has a cell of each column in each row, and each buffer that it names was
+/// looked at, and lies in its body.
+pub fn a_batch_that_is_read_is_whole()
+    ensures whole { BatchesAreWhole }
+    ensures needs { NeedsAreCounted }
 {}

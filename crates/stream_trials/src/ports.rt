@@ -2,7 +2,8 @@
 //! and failed writes, and an outlet that is a file.
 use byte_ports::{
     Failed, FileOutlet, Gate, InputFault, ListOutlet, ListSink, ListSource, OpenGate, Outlet,
-    PureOutlet, PureSink, PureSource, Sink, Source, StdSink, StdSource, read_to_end, write_all,
+    PureOutlet, PureSink, PureSource, Sink, Source, StdSink, StdSource, SystemFiles, read_to_end,
+    write_all,
 };
 use std::alloc::Global;
 use std::fs::{self, File};
@@ -77,6 +78,10 @@ fn read_two<S: Source>(source: &mut S) -> Option<usize> {
 
 fn write_once<S: Sink>(sink: &mut S, piece: &[u8]) -> Option<usize> {
     sink.write(piece).ok()
+}
+
+fn flush_once<S: Sink>(sink: &mut S) -> Result<(), Failed> {
+    sink.flush()
 }
 
 fn is_started<X: Outlet>(outlet: &mut X, name: &str) -> bool {
@@ -162,7 +167,8 @@ fn std_source_reads_what_its_reader_reads(rt: HostRuntime) -> Result<(), Fail> {
     Ok(())
 }
 
-/// A writer that takes two bytes a call, and of whose calls, counted from 1, this one fails.
+/// A writer that takes two bytes a call, and of whose calls, writes and flushes, counted from 1, this
+/// one fails.
 #[derive(Drop)]
 struct Slow {
     taken: [u8; 8],
@@ -172,12 +178,19 @@ struct Slow {
     kind: ErrorKind,
 }
 
-impl Write for Slow {
-    fn write(&mut self, buf: &[u8]) -> io::Result<usize> {
+impl Slow {
+    fn count_call(&mut self) -> io::Result<()> {
         self.calls = self.calls.saturating_add(1);
         if self.calls == self.failing {
             return Err(io::Error::from(self.kind));
         }
+        Ok(())
+    }
+}
+
+impl Write for Slow {
+    fn write(&mut self, buf: &[u8]) -> io::Result<usize> {
+        self.count_call()?;
         let count = buf.len().min(2);
         for byte in buf.iter().take(count) {
             if let Some(place) = self.taken.get_mut(self.count) {
@@ -189,7 +202,7 @@ impl Write for Slow {
     }
 
     fn flush(&mut self) -> io::Result<()> {
-        Ok(())
+        self.count_call()
     }
 }
 
@@ -214,26 +227,45 @@ struct SlowCase {
     failing: u32,
     kind: ErrorKind,
     written: Result<(), Failed>,
+    flushed: Result<(), Failed>,
     taken: &'static [u8],
 }
 
-static SLOW_CASES: [SlowCase; 3] = [
+/// Five bytes take three writes, and the flush is the fourth call.
+static SLOW_CASES: [SlowCase; 5] = [
     SlowCase {
         failing: 0,
         kind: ErrorKind::Other,
         written: Ok(()),
+        flushed: Ok(()),
         taken: b"abcde",
     },
     SlowCase {
         failing: 2,
         kind: ErrorKind::Other,
         written: Err(Failed),
+        flushed: Ok(()),
         taken: b"ab",
     },
     SlowCase {
         failing: 2,
         kind: ErrorKind::Interrupted,
         written: Ok(()),
+        flushed: Ok(()),
+        taken: b"abcde",
+    },
+    SlowCase {
+        failing: 4,
+        kind: ErrorKind::Other,
+        written: Ok(()),
+        flushed: Err(Failed),
+        taken: b"abcde",
+    },
+    SlowCase {
+        failing: 4,
+        kind: ErrorKind::Interrupted,
+        written: Ok(()),
+        flushed: Ok(()),
         taken: b"abcde",
     },
 ];
@@ -252,6 +284,7 @@ fn std_sink_writes_on_after_a_short_or_interrupted_write_and_stops_at_a_failed_o
         };
         let mut sink = StdSink::new(&mut writer);
         assert_eq!(rt; write_all(&mut sink, b"abcde"), case.written);
+        assert_eq!(rt; flush_once(&mut &mut sink), case.flushed);
         drop(sink);
         assert_eq!(rt; writer.taken.get(..writer.count), Some(case.taken));
     }
@@ -267,18 +300,26 @@ fn std_source_reads_on_after_an_interrupted_read(rt: HostRuntime) {
 
 #[test]
 fn file_outlet_writes_to_the_file_of_its_name(rt: HostRuntime) -> Result<(), Fail> {
-    let path = "file_outlet_test";
-    let mut outlet = sent(FileOutlet::new(rt));
+    let paths = ["file_outlet_first", "file_outlet_second"];
+    let mut outlet = sent(FileOutlet::new(SystemFiles::new(rt)));
     assert_eq!(rt; write_once(&mut outlet, b"a"), None);
+    assert_eq!(rt; flush_once(&mut outlet), Ok(()));
     assert_eq!(rt; is_started(&mut outlet, "no/such/folder"), false);
-    assert_eq!(rt; is_started(&mut outlet, path), true);
-    assert_eq!(rt; write_all(&mut outlet, b"abcde"), Ok(()));
-    let bytes = fs::read(&rt, path)?;
-    fs::remove_file(&rt, path)?;
-    assert_eq!(rt; bytes.as_slice(), b"abcde".as_slice());
+    for path in paths {
+        assert_eq!(rt; is_started(&mut outlet, path), true);
+        assert_eq!(rt; write_all(&mut outlet, path.as_bytes()), Ok(()));
+        assert_eq!(rt; flush_once(&mut outlet), Ok(()));
+    }
+    for path in paths {
+        let bytes = fs::read(&rt, path)?;
+        fs::remove_file(&rt, path)?;
+        assert_eq!(rt; bytes.as_slice(), path.as_bytes());
+    }
 
     let mut pure = sent(PureOutlet);
-    assert_eq!(rt; is_started(&mut pure, path), true);
+    assert_eq!(rt; is_started(&mut pure, "e"), true);
+    assert_eq!(rt; flush_once(&mut pure), Ok(()));
+    assert_eq!(rt; flush_once(&mut PureSink), Ok(()));
     passed(&rt, &OpenGate);
     Ok(())
 }

@@ -148,7 +148,13 @@ fn raise_often<R: Wait, L: Ledger>(
 }
 
 /// Raises a mark by 1, so many times, and counts no steps.
-fn raise_all<R: Wait>(rt: &R, hall: &Hall<Marks>, pass: &mut Pass<Marks>, part: u32, times: u32)
+pub(super) fn raise_all<R: Wait>(
+    rt: &R,
+    hall: &Hall<Marks>,
+    pass: &mut Pass<Marks>,
+    part: u32,
+    times: u32,
+)
     requires pass_pass { IsPass (means ⟦<Marks as Parts>⟧ hall.now) hall.now.id pass.old.seat
         pass.old.hands }
     requires empty_pass { IsEmpty (first_of pass.old.hands) }
@@ -261,7 +267,7 @@ fn hold<R: Wait>(
 }
 
 /// Whether the flag is set within 2^28 turns.
-fn wait_for(flag: &AtomicCell<bool>) -> bool {
+pub(super) fn wait_for(flag: &AtomicCell<bool>) -> bool {
     for _ in 0..1u32 << 28 {
         if flag.load() {
             return true;

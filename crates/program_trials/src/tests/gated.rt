@@ -109,6 +109,8 @@ pub(super) struct NotingSink<'a> {
 impl<'a> Sink for NotingSink<'a> {
     ghost written = { λ o. Some o.sink.written };
 
+    ghost flushed = { λ o. Some o.sink.written };
+
     ghost faults = { λ o. o.sink.plan.faults };
 
     fn write(&mut self, piece: &[u8]) -> Result<usize, Failed> {
@@ -117,6 +119,10 @@ impl<'a> Sink for NotingSink<'a> {
             .printed
             .fetch_add(count as u64, Ordering::Relaxed);
         Ok(count)
+    }
+
+    fn flush(&mut self) -> Result<(), Failed> {
+        self.sink.flush()
     }
 }
 
@@ -146,6 +152,8 @@ impl<'a> Sink for NotingOutlet<'a> {
 
     ghost started = { λ o. Some o.outlet.started };
 
+    ghost flushed = { λ o. Some o.outlet.written };
+
     ghost faults = { λ o. o.outlet.plan.faults };
 
     fn write(&mut self, piece: &[u8]) -> Result<usize, Failed> {
@@ -153,6 +161,10 @@ impl<'a> Sink for NotingOutlet<'a> {
             self.at_write = Some(self.noted.passed.load(Ordering::Relaxed));
         }
         self.outlet.write(piece)
+    }
+
+    fn flush(&mut self) -> Result<(), Failed> {
+        self.outlet.flush()
     }
 }
 

@@ -64,8 +64,8 @@ module _ (shape : Shape) (parts : Parts) (e : CoreEvent) (is_shape : IsShape sha
   next_ok : Sound shape (effect shape parts e)
   next_ok = keeps shape parts e is_shape ok lawful
 
-  -- After another session's event a transaction owns what it did.
-  owns_still : (own : OwnTransaction) → session_of e ≢ Some own.session → OwnsAll shape own parts → OwnsAll shape own (effect shape parts e)
+  -- after another session's event a transaction owns what it did
+  pub owns_still : (own : OwnTransaction) → session_of e ≢ Some own.session → OwnsAll shape own parts → OwnsAll shape own (effect shape parts e)
   owns_still own other owns = (
     owns.0,
     subst (λ o. Rattle.std.specs.Prelude.IsSomeAnd o (IsOwn shape (effect shape parts e) own)) (sym (leaves shape e parts own.session is_shape ok lawful other)) (again (transaction shape parts own.session) owns.1),
@@ -82,8 +82,8 @@ module _ (shape : Shape) (parts : Parts) (e : CoreEvent) (is_shape : IsShape sha
       (Rattle.std.specs.Prelude.option_and_then (λ row. cond (Rattle.event_spec.specs.Replies.is_elsewhere (Rattle.isolation_spec.specs.Contents.at_place own.writes (Rattle.isolation_spec.specs.Contents.place_at table (Rattle.isolation_spec.specs.Contents.key_of row))) place) None (Some row)))
       (seen_stays shape parts e own.session own.snapshot is_shape ok lawful (all_open shape parts ok own owns) other table place)
 
-  -- After another session's event a transaction reads the same rows of a block.
-  rows_still : (own : OwnTransaction) (table block : ℕ) → session_of e ≢ Some own.session → OwnsAll shape own parts → HasBlock shape table block
+  -- after another session's event a transaction reads the same rows of a block
+  pub rows_still : (own : OwnTransaction) (table block : ℕ) → session_of e ≢ Some own.session → OwnsAll shape own parts → HasBlock shape table block
       → rows_read shape (effect shape parts e) own table block ≡ rows_read shape parts own table block
   rows_still own table block other owns has =
       let count : length (body_at shape (effect shape parts e) table block).slots ≡ length (body_at shape parts table block).slots =
@@ -114,8 +114,8 @@ imaged_loose (Sealed g) e = absurd (true_false (sym e))
 imaged_loose (Imaged g) e = refl
 
 module _ (shape : Shape) (parts : Parts) (is_shape : IsShape shape) (ok : Sound shape parts) where
-  -- The rows that a transaction reads of an imaged block are its rows.
-  shared_is : (own : OwnTransaction) (table block : ℕ) → OwnsAll shape own parts → HasBlock shape table block → is_imaged (body_at shape parts table block).phase ≡ true
+  -- the rows that a transaction reads of an imaged block are its rows
+  pub shared_is : (own : OwnTransaction) (table block : ℕ) → OwnsAll shape own parts → HasBlock shape table block → is_imaged (body_at shape parts table block).phase ≡ true
       → rows_read shape parts own table block ≡ rows_of (body_at shape parts table block)
   shared_is own table block owns has imaged =
       let f = follows_machine shape parts ok in
@@ -242,8 +242,8 @@ all_front (x ∷ xs) ys e =
     let rest = all_front xs ys (and_second (is_read x) (list_all is_read (xs ++ ys)) e) in
     (and_from (is_read x) (list_all is_read xs) (and_first (is_read x) (list_all is_read (xs ++ ys)) e) rest.0, rest.1)
 
--- Two numbers are equal, or they are not.
-same_number : (a b : ℕ) → (a ≡ b) ⊎ (a ≢ b)
+-- two numbers are equal, or they are not
+pub same_number : (a b : ℕ) → (a ≡ b) ⊎ (a ≢ b)
 same_number a b = go (a == b) refl
   where
     go : (t : Bool) → (a == b) ≡ t → (a ≡ b) ⊎ (a ≢ b)

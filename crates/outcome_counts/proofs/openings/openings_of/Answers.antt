@@ -97,22 +97,22 @@ loop-place-preserved c =
           let dropped : drop place es ≡ entry ∷ at.rest = ap (drop place) at.whole ∙ drop_at at.front (entry ∷ at.rest) place at.far in
           let left : drop (place + 1) es ≡ at.rest = ap (drop (place + 1)) (at.whole ∙ sym (append_assoc at.front (entry ∷ []) at.rest)) ∙ drop_at (at.front ++ entry ∷ []) at.rest (place + 1) far in
           ap (λ (os : List (Option ℕ)). os ++ openings_from (place + 1) (open_of c.enter.new.self) (drop (place + 1) es)) c.in_ok-push.ensures.items
-          ∙ append_assoc c.loop-place.openings.items (c.in_ok-opening.opening ∷ []) (openings_from (place + 1) (open_of c.enter.new.self) (drop (place + 1) es))
-          ∙ ap (λ (o : Option ℕ). c.loop-place.openings.items ++ o ∷ openings_from (place + 1) (open_of c.enter.new.self) (drop (place + 1) es)) c.in_ok-opening.ensures
+          ∙ append_assoc c.loop-place.openings.items (c.opening_at-opening.result ∷ []) (openings_from (place + 1) (open_of c.enter.new.self) (drop (place + 1) es))
+          ∙ ap (λ (o : Option ℕ). c.loop-place.openings.items ++ o ∷ openings_from (place + 1) (open_of c.enter.new.self) (drop (place + 1) es)) c.opening_at-opening.ensures
           ∙ ap (λ (os : List (Option ℕ)). c.loop-place.openings.items ++ opening_next entry place held ∷ os)
           (ap (openings_from (place + 1) (open_of c.enter.new.self)) left ∙ from-same at.rest (place + 1) (open_of c.enter.new.self) (open_next entry place held) c.in_ok-enter.ensures)
           ∙ ap (λ (xs : List Entry). c.loop-place.openings.items ++ openings_from place held xs) (sym dropped)
           ∙ c.loop-place.invariant.each;
       openings = subst (AreOpeningsUpTo es (place + 1)) (sym c.in_ok-push.ensures.items)
-          (own-next es place c.loop-place.openings.items c.in_ok-opening.opening c.loop-place.invariant.openings (λ front e rest whole n.
+          (own-next es place c.loop-place.openings.items c.opening_at-opening.result c.loop-place.invariant.openings (λ front e rest whole n.
           let one : entry ≡ e = one-cut es at.front entry at.rest front e rest at.whole whole (at.far ∙ sym n) in
           let here : take place es ≡ front = ap (take place) whole ∙ take_at front (e ∷ rest) place n in
           let stands : Standing e.reply.who front (held e.reply.who) = subst (λ (xs : List Entry). Standing e.reply.who xs (held e.reply.who)) here (c.loop-place.invariant.standing e.reply.who) in
           belongs es front e rest whole c.requires.rises c.requires.outside held stands
           ∙ ap (option_and_then (λ place. opened_at place es))
-          (ap (λ (k : ℕ). opening_next e k held) n ∙ ap (λ (x : Entry). opening_next x place held) (sym one) ∙ sym c.in_ok-opening.ensures))
+          (ap (λ (k : ℕ). opening_next e k held) n ∙ ap (λ (x : Entry). opening_next x place held) (sym one) ∙ sym c.opening_at-opening.ensures))
           (λ s is.
           let stands : Standing entry.reply.who at.front (held entry.reply.who) = standing entry.reply.who in
           there es at.front entry at.rest at.whole (held entry.reply.who) (snapshot_in entry.reply.said) refl stands s
-          (ap (λ (n : ℕ). opening_next entry n held) at.far ∙ sym c.in_ok-opening.ensures ∙ is)));
+          (ap (λ (n : ℕ). opening_next entry n held) at.far ∙ sym c.opening_at-opening.ensures ∙ is)));
     }

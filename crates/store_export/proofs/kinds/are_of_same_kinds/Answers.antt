@@ -1,7 +1,7 @@
 use Rattle.std.proofs.Common.{◌≡◌, ◌∙◌, true, false, get_or, length, refl, sym, ap, arith}
 use denote.Enum.Bare.{differs_false, differs_true}
 use Rattle.std.proofs.lemmas.List.{length-map, take_more_same}
-use Rattle.std.proofs.lemmas.Option.{slice_get_read}
+use Rattle.std.proofs.lemmas.Option.{get_or_from_slice_get, slice_get_read}
 use Rattle.cell_model.specs.contracts.kind.Kind.{the_type}
 use Rattle.cell_model.specs.declared.column.Column.{Column}
 use Rattle.core_parts.proofs.SameKinds.{kind_at}
@@ -12,8 +12,7 @@ pub returns-then-ne : goal.returns-then-ne
 returns-then-ne c = (
   λ never. absurd (true_is never),
   λ same. absurd (differs_true the_type c.kind.result (get_or c.args.other.now c.loop-at.at c.index-other-at.result).kind (sym c.if-ne.ensures)
-      (c.kind.ensures
-      ∙ sym (kind_at c.args.one.now.columns c.loop-at.at c.column.result.now.column c.kind.result c.column.ensures.column)
+      (sym (get_or_from_slice_get (kinds_of c.args.one.now.columns) c.loop-at.at c.kind.result c.kind.result c.kind.ensures)
       ∙ ap (λ kinds. get_or kinds c.loop-at.at c.kind.result) same
       ∙ kind_at c.args.other.now c.loop-at.at c.index-other-at.result c.kind.result
       (slice_get_read c.args.other.now (length c.args.other.now) c.loop-at.at c.index-other-at.result refl c.loop-at-test.true c.index-other-at.is)
@@ -32,7 +31,7 @@ loop-at-preserved c =
     (omega (arith, c.loop-at-test.true, one, c.if-width-other.false, c.width.ensures))
     (omega (arith, c.loop-at-test.true, other))
     c.loop-at.invariant
-    (kind_at c.args.one.now.columns c.loop-at.at c.column.result.now.column c.kind.result c.column.ensures.column
-    ∙ sym c.kind.ensures ∙ alike ∙ ap (λ (column : Column). column.kind) (sym c.index-other-at.is)
+    (get_or_from_slice_get (kinds_of c.args.one.now.columns) c.loop-at.at c.kind.result c.kind.result c.kind.ensures
+    ∙ alike ∙ ap (λ (column : Column). column.kind) (sym c.index-other-at.is)
     ∙ sym (kind_at c.args.other.now c.loop-at.at c.index-other-at.result c.kind.result
     (slice_get_read c.args.other.now (length c.args.other.now) c.loop-at.at c.index-other-at.result refl c.loop-at-test.true c.index-other-at.is)))

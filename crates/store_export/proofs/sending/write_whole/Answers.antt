@@ -9,7 +9,7 @@ use Rattle.store_export.proofs.sending.write_whole.Goals as goal
 pub returns-in-Ok-clause-answer : goal.returns-in-Ok-clause-answer
 returns-in-Ok-clause-answer g c =
     let kinds : kinds_of c.args.image.now.columns ≡ kinds_of c.args.schema.now =
-    ap kinds_of (sym c.columns.ensures.columns) ∙ c.are_of_same_kinds.ensures.0 c.if-not-are_of_same_kinds.false ∙ ap kinds_of c.columns-2.ensures.columns in
+    c.are_of_same_kinds.ensures.0 c.if-not-are_of_same_kinds.false ∙ ap kinds_of c.columns.ensures.columns in
     subst (WroteAll g.W.Sink.written g.W.Sink.faults c.args.writer.now c.image.new.self)
     (image_message c.args.image.now c.args.schema.now (rows_of c.args.image.now) c.requires.whole refl kinds
     (λ none. omega (arith, none, c.rows.ensures, c.if-rows-eq0.false)))
@@ -22,7 +22,7 @@ returns-in-Ok-clause-rows g c =
 pub returns-in-Err-clause-answer : goal.returns-in-Err-clause-answer
 returns-in-Err-clause-answer g c =
     let kinds : kinds_of c.args.image.now.columns ≡ kinds_of c.args.schema.now =
-    ap kinds_of (sym c.columns.ensures.columns) ∙ c.are_of_same_kinds.ensures.0 c.if-not-are_of_same_kinds.false ∙ ap kinds_of c.columns-2.ensures.columns in
+    c.are_of_same_kinds.ensures.0 c.if-not-are_of_same_kinds.false ∙ ap kinds_of c.columns.ensures.columns in
     subst (λ (piece : List ℕ). MakesPiece {T = ℕ} g.W.Sink.written g.W.Sink.faults c.args.writer.now c.image.new.self piece (Err c.in-Err.fault))
     (image_message c.args.image.now c.args.schema.now (rows_of c.args.image.now) c.requires.whole refl kinds
     (λ none. omega (arith, none, c.rows.ensures, c.if-rows-eq0.false)))

@@ -1,15 +1,16 @@
-use Rattle.std.proofs.Common.{◌≡◌, ◌<◌, ℕ, List, Option, Err, is_some, refl, ap, subst, ◌∙◌, arith}
+use Rattle.std.proofs.Common.{◌≡◌, ◌<◌, ℕ, true, List, Option, Err, is_some, refl, ap, subst, ◌∙◌, arith}
 use Rattle.std.specs.Io.KnownBytes.{Appends}
-use Rattle.arrow_spec.specs.Streams.{schema_message}
+use Rattle.arrow_spec.specs.Streams.{end_word, schema_message}
 use Rattle.cell_model.specs.declared.column.Column.{Column}
 use Rattle.event_spec.specs.declared.own.OwnTransaction.{OwnTransaction}
 use Rattle.event_spec.specs.Parts.{Shape, blocks_of}
 use Rattle.event_spec.specs.Replay.{columns_in}
 use Rattle.ipc_write.specs.Calls.{MakesPiece}
+use Rattle.ipc_write.specs.declared.faults.PieceFault.TheVariants.{Sink}
 use Rattle.run_spec.specs.Told.{rows_told}
 use Rattle.shared_store.specs.Store.{shape_in}
 use Rattle.shared_store.proofs.Calls.{own_open}
-use Rattle.store_export.proofs.Course.{Sending, block_broke, end_broke, ended, more_few, piece_counts, schema_broke, sending_count, sending_more, sending_starts}
+use Rattle.store_export.proofs.Course.{Sending, block_broke, end_broke, ended, first_leaves, end_leaves, more_few, piece_is_now, piece_leaves, same_fault, schema_broke, sending_count, sending_more, sending_starts}
 use Rattle.store_export.specs.Groups.{group_message}
 use Rattle.store_export.specs.declared.sent.Sent.{Sent}
 use Rattle.store_export.proofs.table.send_table.Goals as goal
@@ -18,7 +19,7 @@ pub returns-in-Err-clause-exports : goal.returns-in-Err-clause-exports
 returns-in-Err-clause-exports g c own is clean =
     let st = c.args.store.now in
     let columns : c.schema.result.now ≡ columns_in (shape_in st) c.args.table = c.schema.ensures.columns ∙ ap (λ (sh : Shape). columns_in sh c.args.table) c.shape-shape.ensures in
-    schema_broke st own c.args.table c.args.session.now c.requires.session is clean (Unit {0}) g.W.Sink.written g.W.Sink.faults c.args.writer.now c.schema-2.new.self c.args.steps.now c.in-Err.fault c.requires.fresh
+    schema_broke st own c.args.table c.args.session.now c.requires.session is clean (Unit {0}) g.W.Sink.written g.W.Sink.faults c.args.writer.now c.schema-2.new.self c.args.steps.now c.in-Err.fault
     (subst (λ (cs : List Column). MakesPiece {T = Unit {0}} g.W.Sink.written g.W.Sink.faults c.args.writer.now c.schema-2.new.self (schema_message cs) (Err c.in-Err.fault)) columns c.in-Err.ensures.answer)
 
 pub loop-block-init : goal.loop-block-init
@@ -29,6 +30,7 @@ loop-block-init g c =
       sending = λ own is. sending_starts st own c.args.table c.args.session.now (g.W.Sink.written c.args.writer.now.sink) (g.W.Sink.written c.schema-2.new.self.sink)
           (record { rows = 0; batches = 0; frozen = 0 }) c.args.steps.now c.requires.session refl refl refl
           (subst (λ (cs : List Column). Appends (g.W.Sink.written c.args.writer.now.sink) (g.W.Sink.written c.schema-2.new.self.sink) (schema_message cs)) columns c.in_default.ensures.answer.bytes);
+      first = c.in_default.ensures.answer.before;
       fresh = c.in_default.ensures.answer.after;
       started = c.schema-2.ensures.started;
       loan = c.schema-2.ensures.loan;
@@ -110,13 +112,56 @@ returns-in-Err-send_block-clause-exports g c own is clean =
     (g.W.Sink.written c.args.writer.now.sink) c.loop-block.writer c.send_block.new.writer c.loop-block.sent c.args.steps.now c.loop-block.steps c.send_block.new.steps c.in-Err-send_block.fault s
     c.loop-block.invariant.fresh (omega (arith, blocks, below, end')) b
 
-pub returns-in-Err-send_block-clause-faults : goal.returns-in-Err-send_block-clause-faults
-returns-in-Err-send_block-clause-faults g c =
+pub returns-in-Err-send_block-clause-writer : goal.returns-in-Err-send_block-clause-writer
+returns-in-Err-send_block-clause-writer g c =
+    let inv = c.loop-block.invariant in
     let o = own_open c.args.session.now c.requires.busy in
-    let s = c.loop-block.invariant.sending o.0 o.1 in
+    let s = inv.sending o.0 o.1 in
     let b = c.in-Err-send_block.ensures.sends o.0 (s.went.opened ∙ o.1) in
-    piece_counts Sent Sent g.W.Sink.written g.W.Sink.faults c.args.writer.now c.loop-block.writer c.send_block.new.writer
-    (group_message (columns_in (shape_in c.args.store.now) c.args.table) (rows_told b.told)) c.in-Err-send_block.fault c.loop-block.invariant.fresh c.loop-block.invariant.kept b.writes
+    piece_leaves g.W.Sink.written g.W.Sink.faults c.args.writer.now c.loop-block.writer c.send_block.new.writer
+    (group_message (columns_in (shape_in c.args.store.now) c.args.table) (rows_told b.told)) inv.first inv.fresh inv.kept Sent Sent c.in-Err-send_block.fault b.writes
+
+pub returns-in-Err-send_block-clause-at_once : goal.returns-in-Err-send_block-clause-at_once
+returns-in-Err-send_block-clause-at_once g c is =
+    let inv = c.loop-block.invariant in
+    let o = own_open c.args.session.now c.requires.busy in
+    let s = inv.sending o.0 o.1 in
+    let b = c.in-Err-send_block.ensures.sends o.0 (s.went.opened ∙ o.1) in
+    absurd (piece_is_now g.W.Sink.written g.W.Sink.faults c.args.writer.now c.loop-block.writer c.send_block.new.writer
+    (group_message (columns_in (shape_in c.args.store.now) c.args.table) (rows_told b.told)) inv.first inv.fresh inv.kept Sent c.in-Err-send_block.fault b.writes (same_fault c.in-Err-send_block.fault (Sink (record { earlier = true })) is))
+
+pub returns-in-Err-send_block-clause-unread : goal.returns-in-Err-send_block-clause-unread
+returns-in-Err-send_block-clause-unread g c is =
+    let inv = c.loop-block.invariant in
+    let o = own_open c.args.session.now c.requires.busy in
+    let s = inv.sending o.0 o.1 in
+    let b = c.in-Err-send_block.ensures.sends o.0 (s.went.opened ∙ o.1) in
+    absurd (piece_is_now g.W.Sink.written g.W.Sink.faults c.args.writer.now c.loop-block.writer c.send_block.new.writer
+    (group_message (columns_in (shape_in c.args.store.now) c.args.table) (rows_told b.told)) inv.first inv.fresh inv.kept Sent c.in-Err-send_block.fault b.writes (same_fault c.in-Err-send_block.fault (Sink (record { earlier = true })) is))
+
+pub returns-in-Err-clause-writer : goal.returns-in-Err-clause-writer
+returns-in-Err-clause-writer g c =
+    first_leaves (Unit {0}) Sent g.W.Sink.written g.W.Sink.faults c.args.writer.now c.schema-2.new.self (schema_message c.schema.result.now) c.in-Err.fault c.in-Err.ensures.answer
+
+pub returns-in-Err-finish-clause-writer : goal.returns-in-Err-finish-clause-writer
+returns-in-Err-finish-clause-writer g c =
+    let inv = c.loop-block.invariant in
+    end_leaves g.W.Sink.written g.W.Sink.faults c.args.writer.now c.loop-block.writer c.finish.new.self end_word inv.first inv.fresh inv.kept (Unit {0}) Sent c.in-Err-finish.fault c.in-Err-finish.ensures.answer
+
+pub returns-in-Err-finish-clause-at_once : goal.returns-in-Err-finish-clause-at_once
+returns-in-Err-finish-clause-at_once g c is =
+    let inv = c.loop-block.invariant in
+    absurd (piece_is_now g.W.Sink.written g.W.Sink.faults c.args.writer.now c.loop-block.writer c.finish.new.self end_word inv.first inv.fresh inv.kept (Unit {0}) (Sink c.in-Err-finish.fault) c.in-Err-finish.ensures.answer (same_fault (Sink c.in-Err-finish.fault) (Sink (record { earlier = true })) is))
+
+pub returns-in-Err-finish-clause-unread : goal.returns-in-Err-finish-clause-unread
+returns-in-Err-finish-clause-unread g c is =
+    let inv = c.loop-block.invariant in
+    absurd (piece_is_now g.W.Sink.written g.W.Sink.faults c.args.writer.now c.loop-block.writer c.finish.new.self end_word inv.first inv.fresh inv.kept (Unit {0}) (Sink c.in-Err-finish.fault) c.in-Err-finish.ensures.answer (same_fault (Sink c.in-Err-finish.fault) (Sink (record { earlier = true })) is))
+
+pub returns-in-Ok-finish-clause-writer : goal.returns-in-Ok-finish-clause-writer
+returns-in-Ok-finish-clause-writer g c =
+    let inv = c.loop-block.invariant in
+    record { before = inv.first; after = c.in-Ok-finish.ensures.answer.after; kept = c.in-Ok-finish.ensures.answer.kept ∙ inv.kept }
 
 pub loop-block-preserved : goal.loop-block-preserved
 loop-block-preserved g c =
@@ -135,6 +180,7 @@ loop-block-preserved g c =
           sending_more st own c.args.table c.args.session.now c.loop-block.session c.send_block.new.session c.loop-block.block (g.W.Sink.written c.args.writer.now.sink) (g.W.Sink.written c.loop-block.writer.sink)
           c.loop-block.sent c.args.steps.now c.loop-block.steps b.told s b.reads within (g.W.Sink.written c.send_block.new.writer.sink) c.in-Ok.more c.add.new.self c.send_block.new.steps b.granted b.slots
           b.writes.bytes b.counts b.few c.add.ensures.rows c.add.ensures.batches c.add.ensures.frozen;
+      first = inv.first;
       fresh = first.writes.after;
       started = c.send_block.ensures.started ∙ inv.started;
       loan = c.send_block.ensures.loan ∙ inv.loan;

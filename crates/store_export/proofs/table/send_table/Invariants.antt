@@ -8,6 +8,7 @@ abbrev pub invariant-loop-block : goal.invariant-loop-block
 invariant-loop-block g l = record {
   sending : (own : OwnTransaction) → own_of l.fn.session ≡ Some own → Sending l.store l.fn.session l.session own l.table l.block
       (g.W.Sink.written l.fn.writer.sink) (g.W.Sink.written l.writer.sink) l.sent l.fn.steps l.steps;
+  first : l.fn.writer.failed ≡ false;
   fresh : l.writer.failed ≡ false;
   started : g.W.Sink.started l.writer.sink ≡ g.W.Sink.started l.fn.writer.sink;
   loan : g.W.Sink.loan l.writer.sink ≡ g.W.Sink.loan l.fn.writer.sink;

@@ -39,4 +39,4 @@ returns-clause-part g c =
     c.of-whole.ensures
     (on_part (RunsIn whole c.in-Ok.field-0.store c.run_rounds.new.row (g.X.Sink.written c.args.outlet.now) (g.X.Sink.written c.run_rounds.new.outlet))
     (WentBy whole (g.X.Sink.written c.args.outlet.now) (g.X.Sink.written c.run_rounds.new.outlet))
-    (λ asked text runs. runs.went) whole (g.O.Sink.written c.args.out.now) (g.O.Sink.written c.run_rounds.new.out) c.run_rounds.result c.run_rounds.ensures.part)
+    (λ asked ran text runs. runs.went) whole (g.O.Sink.written c.args.out.now) (g.O.Sink.written c.run_rounds.new.out) c.run_rounds.result c.run_rounds.ensures.part)

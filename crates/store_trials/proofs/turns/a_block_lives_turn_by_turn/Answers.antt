@@ -1,8 +1,8 @@
-use Rattle.std.proofs.Common.{◌≡◌, List, get_or, take, drop, sym, ap, subst, ◌∙◌, arith}
+use Rattle.std.proofs.Common.{rules, ◌≡◌, ◌+◌, ◌<◌, ◌^◌, List, get_or, take, drop, slice_index_or, slice_set, sym, ap, subst, ◌∙◌, arith}
 use Rattle.std.proofs.lemmas.List.{get_or-drop, get_or-take}
 use Rattle.std.proofs.lemmas.Option.{slice_get-get_or}
 use Rattle.shared_store.specs.Building.{IsNewRow, IsNewSession}
-use Rattle.shared_store.specs.Store.{StoreView}
+use Rattle.shared_store.specs.Store.{HasRoomFor, StoreView, events_made}
 use Rattle.shared_store.specs.declared.session.Session.{Session}
 use Rattle.store_trials.proofs.turns.a_block_lives_turn_by_turn.Goals as goal
 
@@ -44,3 +44,13 @@ live-requires-clause-room_to_work g c κs =
     let made = (second_new c.in_ok-store.field-0.store c.deref_mut.result.now c.split_at_mut-front.result.1.now c.index-back-0.result
     (subst (IsNewRow c.in_ok-store.field-0.store 2) row c.in_ok-store.ensures.row) c.split_at_mut-front.ensures.back).made in
     omega (arith, made)
+
+pub break_off-requires-clause-room : goal.break_off-requires-clause-room
+break_off-requires-clause-room g c =
+    let row : c.in_ok-store.field-0.sessions.items ≡ c.deref_mut.result.now = cc in
+    let made = (first_new c.in_ok-store.field-0.store c.deref_mut.result.now c.split_at_mut-front.result.0.now c.index-front-0.result
+    (subst (IsNewRow c.in_ok-store.field-0.store 2) row c.in_ok-store.ensures.row) c.split_at_mut-front.ensures.front).made in
+    let few = c.in_ok-live.ensures.few in
+    let front = c.split_at_mut-front.ensures.front_len in
+    let same : slice_index_or (slice_set c.split_at_mut-front.result.0.now 0 c.live.new.session) 0 c.index-front-0-2.result ≡ c.live.new.session = search rules in
+    subst (HasRoomFor (2 ^ 13)) (sym same) (let all : events_made c.live.new.session + 2 ^ 13 < 2 ^ 56 = omega (arith, made, few) in all)

@@ -1,12 +1,10 @@
-use Rattle.std.proofs.Common.{◌≡◌, ◌∙◌, ℕ, List, Option, length, take, ap, sym, subst}
-use Rattle.std.specs.Prelude.{IfSome, flat_map, option_to_list}
+use Rattle.std.proofs.Common.{◌≡◌, ◌∙◌, ℕ, List, Option, length, sym, subst}
+use Rattle.std.specs.Prelude.{IfSome}
 use Rattle.arrow_spec.specs.Batches.{Array, arrays_of, batch_of_arrays}
 use Rattle.arrow_spec.specs.Streams.{batch_message, message_of_batch}
 use Rattle.arrow_array.proofs.ArrayLemmas.{arrays-few}
-use Rattle.cell_model.specs.declared.column.Column.{Column}
 use Rattle.block_columns.specs.Images.{rows_of}
 use Rattle.block_columns.proofs.Whole.{held_count}
-use Rattle.block_spec.specs.Slots.{Row}
 use Rattle.ipc_write.specs.Calls.{MakesPiece}
 use Rattle.ipc_write.proofs.writer.Writer.image.Goals as goal
 
@@ -20,25 +18,17 @@ returns-in-Some-clause-answer g c =
 pub arrays-requires-clause-few : goal.arrays-requires-clause-few
 arrays-requires-clause-few g c =
     let image = c.args.image.now in
-    let slots_are = ap (λ (slots : List (Option Row)). flat_map (λ slot. option_to_list slot) (take c.rows.result slots)) c.columns.ensures.rows in
-    let rows_are = ap (λ (n : ℕ). flat_map (λ slot. option_to_list slot) (take n image.slots)) c.rows.ensures in
     arrays-few image.columns (rows_of image) c.as_slice.result.now c.requires.few
-    (c.as_slice.ensures.value ∙ c.in_ok-arrays.ensures
-    ∙ ap (λ (cs : List Column). arrays_of cs (flat_map (λ slot. option_to_list slot) (take c.rows.result c.columns.result.now.rows))) c.columns.ensures.columns
-    ∙ ap (λ (rows : List Row). arrays_of image.columns rows) (slots_are ∙ rows_are))
+    (c.as_slice.ensures.value ∙ c.in_ok-arrays.ensures)
 
 pub returns-clause-answer : goal.returns-clause-answer
 returns-clause-answer g c =
     let image = c.args.image.now in
     let makes : ℕ → List Array → Type 0 = λ rows arrays.
     MakesPiece g.W.Sink.written g.W.Sink.faults c.args.self.now c.arrays.new.self (message_of_batch (batch_of_arrays rows arrays)) c.arrays.result in
-    let slots_are = ap (λ (slots : List (Option Row)). flat_map (λ slot. option_to_list slot) (take c.rows.result slots)) c.columns.ensures.rows in
-    let rows_are = ap (λ (n : ℕ). flat_map (λ slot. option_to_list slot) (take n image.slots)) c.rows.ensures in
     let lent : c.as_slice.result.now ≡ arrays_of image.columns (rows_of image) =
-    c.as_slice.ensures.value ∙ c.in_ok-arrays.ensures
-    ∙ ap (λ (cs : List Column). arrays_of cs (flat_map (λ slot. option_to_list slot) (take c.rows.result c.columns.result.now.rows))) c.columns.ensures.columns
-    ∙ ap (λ (rows : List Row). arrays_of image.columns rows) (slots_are ∙ rows_are) in
-    let count : c.rows-2.result ≡ length (rows_of image) =
-    c.rows-2.ensures ∙ sym (held_count image.rows image.slots c.requires.whole.held) in
+    c.as_slice.ensures.value ∙ c.in_ok-arrays.ensures in
+    let count : c.rows.result ≡ length (rows_of image) =
+    c.rows.ensures ∙ sym (held_count image.rows image.slots c.requires.whole.held) in
     subst (λ (arrays : List Array). makes (length (rows_of image)) arrays) lent
     (subst (λ (rows : ℕ). makes rows c.as_slice.result.now) count c.arrays.ensures.answer)

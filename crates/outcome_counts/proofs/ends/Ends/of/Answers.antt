@@ -50,7 +50,6 @@ loop-back-preserved c =
           let there : Known es f (e ∷ r) (ended_of c.enter.new.self) =
           subst (λ (xs : List Entry). Known es xs (e ∷ r) (ended_of c.enter.new.self)) f_is (subst (λ (xs : List Entry). Known es at.front xs (ended_of c.enter.new.self)) r_is known) in
           c.unwrap_or.ensures
-          ∙ ap (unwrap_or c.next_of.result) c.in_ok-count.ensures
           ∙ ap (λ (o : Option ℕ). unwrap_or o n) (c.next_of.ensures ∙ ap (λ (x : Entry). ended_of c.enter.new.self x.reply.who) one)
           ∙ ap (unwrap_or (ended_of c.enter.new.self e.reply.who)) (sym long)
           ∙ own-end es f e r (ended_of c.enter.new.self) session there));

@@ -8,7 +8,7 @@ use Rattle.output_read.specs.Kept.{is_told}
 use Rattle.output_read.specs.Readers.{lines_left}
 use Rattle.output_read.specs.Threads.{ThreadGoes}
 use Rattle.output_read.proofs.RowLines.{above-short}
-use Rattle.output_read.proofs.SessionReplies.{scan-goes, scan-lacks, columns-is, columns-some, table-there, count-of, rows-most, taken-said, taken-told, taken-text}
+use Rattle.output_read.proofs.SessionReplies.{heading-low, scan-goes, scan-lacks, columns-is, columns-some, table-there, count-of, rows-most, taken-said, taken-told, taken-text}
 use Rattle.output_read.proofs.reader.Reader.scan_reply.Goals as goal
 
 pub rows_above-requires : goal.rows_above-requires
@@ -41,13 +41,23 @@ overflow_add-count c =
     let e = c.if-rows-count.false in
     omega (arith, a, b, d, e)
 
+pub overflow_cast-told : goal.overflow_cast-told
+overflow_cast-told c =
+    let a = above-short _ c.in-Some.count c.in-Some.lines.now c.in_ok-rows.rows c.in_ok-rows.behind.now c.in_ok-rows.ensures in
+    let b = c.in-Some.ensures.shorter in
+    let d = c.requires.reading.room in
+    let e = c.if-rows-count.false in
+    omega (arith, a, b, d, e)
+
 pub keep-requires : goal.keep-requires
 keep-requires c =
     let a = above-short _ c.in-Some.count c.in-Some.lines.now c.in_ok-rows.rows c.in_ok-rows.behind.now c.in_ok-rows.ensures in
     let b = c.in-Some.ensures.shorter in
     let d = c.requires.reading.room in
     let e = c.if-rows-count.false in
-    record { room = omega (arith, a, b, d, e) }
+    let f = heading-low c.args.self.now c.args.thread c.args.command.now c.requires.tables c.requires.reading c.requires.thread c.requires.command in
+    let g = ap (λ (h : Heading). h.index) c.next_heading-heading.ensures in
+    record { room = omega (arith, a, b, d, e); number = omega (arith, a, b, d, e); index = omega (arith, a, b, d, e, f, g) }
 
 pub returns-clause-read : goal.returns-clause-read
 returns-clause-read c =
@@ -71,6 +81,6 @@ returns-clause-read c =
     let goes = scan-goes old c.args.thread c.args.command.now c.requires.tables c.requires.reading c.requires.thread c.requires.command c.args.table c.requires.scan _ columns_are
     c.in-Some.count l.line l.behind l.is l.counts c.in-Some.lines.now c.in_ok-rows.behind.now c.in_ok-rows.rows c.in_ok-rows.ensures lines_is full
     c.keep.new.self _ _ c.keep.ensures.tables c.in_ok-keep.ensures.kept c.in_ok-keep.ensures.line c.in_ok-keep.ensures.rest c.in-Some.ensures.shorter
-    (ap (λ (x : Heading). record { number = old.line; command = Some c.args.command; round = x.round; who = x.who; index = x.index; told = told.Scanned c.in_ok-many.many c.split_at.result.0 }) h) refl said_is
-    (subst (λ (n : ℕ). is_told (told.Scanned n c.split_at.result.0) ≡ true) (sym c.in_ok-many.ensures) told_is) in
+    (ap (λ (x : Heading). record { number = old.line; command = Some c.args.command; round = x.round; who = x.who; index = x.index; told = told.Scanned c.in-Some.count c.split_at.result.0 }) h) refl said_is
+    told_is in
     subst (λ (x : Heading). ThreadGoes old c.keep.new.self c.args.thread (record { round = c.args.thread.round; session = c.args.thread.session; index = x.index; within = c.args.thread.within }) c.args.command.now) (sym h) goes

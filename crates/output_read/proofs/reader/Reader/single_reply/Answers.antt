@@ -6,7 +6,7 @@ use Rattle.output_read.specs.Fronts.{said_first}
 use Rattle.outcome_spec.specs.Lines.{lines_of}
 use Rattle.output_read.specs.Readers.{lines_left}
 use Rattle.output_read.specs.Threads.{ThreadGoes}
-use Rattle.output_read.proofs.SessionReplies.{nothing-fails, other-fails, single-goes}
+use Rattle.output_read.proofs.SessionReplies.{heading-low, nothing-fails, other-fails, single-goes}
 use Rattle.output_read.proofs.reader.Reader.single_reply.Goals as goal
 
 pub returns-in_default-clause-failed : goal.returns-in_default-clause-failed
@@ -20,6 +20,14 @@ returns-then-not-answers-clause-failed c =
     other-fails c.args.self.now c.args.thread c.args.command.now c.requires.tables c.requires.reading c.requires.thread c.requires.command c.in-Some.front.said
     (sym (ap (λ (f : Option Front). option_map (λ x. x.said) f) c.in-Some.is) ∙ c.in_ok-front.ensures.said ∙ ap (λ (h : Heading). said_first c.args.self.now.tables.now h.round h.who h.index (lines_left c.args.self.now)) c.next_heading-heading.ensures)
     c.requires.count (sym c.if-not-answers.ensures)
+
+pub keep-requires : goal.keep-requires
+keep-requires c =
+    let a = c.requires.reading.room in
+    let b = rw c.in-Some.is at c.in_ok-front.ensures.shorter in
+    let d = heading-low c.args.self.now c.args.thread c.args.command.now c.requires.tables c.requires.reading c.requires.thread c.requires.command in
+    let e = ap (λ (h : Heading). h.index) c.next_heading-heading.ensures in
+    record { room = omega (arith, a, b); number = omega (arith, a, b); index = omega (arith, a, b, d, e) }
 
 pub returns-clause-read : goal.returns-clause-read
 returns-clause-read c =

@@ -1,4 +1,4 @@
-use Rattle.std.proofs.Common.{Option, None, Some, refl, sym, ap, subst, ◌∙◌}
+use Rattle.std.proofs.Common.{arith, Option, None, Some, refl, sym, ap, subst, ◌∙◌}
 use mathlib.Core.Logic.{inl}
 use Rattle.event_spec.specs.declared.event.Event.TheVariants as event
 use Rattle.event_spec.specs.declared.own.OwnTransaction.{OwnTransaction}
@@ -8,12 +8,14 @@ use Rattle.event_spec.specs.Replies.{CoreReply}
 use Rattle.run_spec.specs.Asked.{events_of}
 use Rattle.run_spec.specs.Told.{refusal_of}
 use Rattle.store_laws.specs.Laws.{IsOfSession, TellsLine}
+use Rattle.store_laws.specs.Own.{MakesOne}
 use Rattle.workload_spec.specs.declared.command.Command.TheVariants as command
 use Rattle.workload_spec.specs.declared.reply.Said.TheVariants as said
 use Rattle.shared_store.specs.Making.{Makes}
-use Rattle.shared_store.specs.Store.{own_of, shape_in}
+use Rattle.shared_store.specs.Store.{own_of, seen, shape_in}
 use Rattle.shared_store.specs.declared.session.Session.{Session}
 use Rattle.shared_store.proofs.Calls.{one_event, own_stands, told_always}
+use Rattle.shared_store.proofs.Open.{commits_own}
 use Rattle.shared_store.proofs.store.Store.commit.Goals as goal
 
 pub unreachable-requires : goal.unreachable-requires
@@ -51,3 +53,29 @@ returns-clause-answers g c =
     (one_event c.args.self.now s new command.Commit (event.Commit t) c.make_at_desk.result (said.Committed c.in-Committed.number) c.requires.session m refl refl
     (ap (refusal_of command.Commit) c.own_all-own.ensures) (λ made. ap (λ (o : Option OwnTransaction). events_of (shape_in c.args.self.now) o s.session command.Commit made) c.own_all-own.ensures)
     (subst (λ (r : CoreReply). TellsLine (own_of s) command.Commit r (said.Committed c.in-Committed.number)) (sym c.in-Committed.is) refl)).1
+
+pub returns-clause-commits : goal.returns-clause-commits
+returns-clause-commits g c =
+    let s = c.args.session.now in
+    let t = c.own_all-own.result in
+    let owns = own_stands c.args.self.now s t c.requires.session c.own_all-own.ensures in
+    let mine : IsOfSession s.session c.ending-event.result = inl (ap session_of c.ending-event.ensures ∙ ap Some owns.0) in
+    let m = subst (λ (e : CoreEvent). Makes c.args.self.now s.session s.pass.seat c.make_at_desk.new.pass.seat c.make_at_desk.new.pass.hands (own_of s) e c.make_at_desk.result) c.ending-event.ensures
+    (c.make_at_desk.ensures s.session (own_of s) c.requires.session.stands mine) in
+    let new : Session = record { pass = c.make_at_desk.new.pass; session = s.session; snapshot = None; writes = s.writes } in
+    let is = (one_event c.args.self.now s new command.Commit (event.Commit t) c.make_at_desk.result (said.Committed c.in-Committed.number) c.requires.session m refl refl
+    (ap (refusal_of command.Commit) c.own_all-own.ensures) (λ made. ap (λ (o : Option OwnTransaction). events_of (shape_in c.args.self.now) o s.session command.Commit made) c.own_all-own.ensures)
+    (subst (λ (r : CoreReply). TellsLine (own_of s) command.Commit r (said.Committed c.in-Committed.number)) (sym c.in-Committed.is) refl)).0 in
+    commits_own c.args.self.now s new t c.in-Committed.number c.requires.session is refl owns.0
+    (subst (λ (r : CoreReply). MakesOne (shape_in c.args.self.now) s.session (seen s) (seen new) (event.Commit t) r) c.in-Committed.is m.makes)
+
+pub returns-clause-few : goal.returns-clause-few
+returns-clause-few g c =
+    let s = c.args.session.now in
+    let t = c.own_all-own.result in
+    let owns = own_stands c.args.self.now s t c.requires.session c.own_all-own.ensures in
+    let mine : IsOfSession s.session c.ending-event.result = inl (ap session_of c.ending-event.ensures ∙ ap Some owns.0) in
+    let m = subst (λ (e : CoreEvent). Makes c.args.self.now s.session s.pass.seat c.make_at_desk.new.pass.seat c.make_at_desk.new.pass.hands (own_of s) e c.make_at_desk.result) c.ending-event.ensures
+    (c.make_at_desk.ensures s.session (own_of s) c.requires.session.stands mine) in
+    let count = m.count in
+    omega (arith, count)

@@ -3,8 +3,9 @@ use Rattle.event_spec.specs.Effects.{CoreEvent}
 use Rattle.hall_rule.specs.declared.view.View.{View}
 use Rattle.run_spec.specs.Handed.{GoesOn}
 use Rattle.store_laws.specs.Logs.{log_of}
+use Rattle.store_laws.proofs.Machines.{more_commits}
 use Rattle.shared_store.specs.Meeting.{Sees}
-use Rattle.shared_store.specs.Store.{own_of, seen}
+use Rattle.shared_store.specs.Store.{own_of, seen, shape_in}
 use Rattle.shared_store.specs.declared.session.Session.{Session}
 use Rattle.shared_store.proofs.Shown.{meets, saw_and_stays}
 use Rattle.shared_store.proofs.store.Store.meet.Goals as goal
@@ -51,3 +52,13 @@ returns-clause-shows_a c =
 pub returns-clause-shows_b : goal.returns-clause-shows_b
 returns-clause-shows_b c =
     subst (λ (v : View CoreEvent). GoesOn (log_of v.log) (log_of c.show-2.new.to.seat.me.0.log)) (sym c.show-2.ensures.same) c.show-2.ensures.shows
+
+pub returns-clause-commits_a : goal.returns-clause-commits_a
+returns-clause-commits_a c =
+    more_commits (shape_in c.args.self.now) (seen c.args.a.now) (log_of c.show-2.new.from.seat.me.0.log)
+    (subst (λ (v : View CoreEvent). GoesOn (seen c.args.a.now) (log_of v.log)) (sym c.show-2.ensures.same) c.show.ensures.shows)
+
+pub returns-clause-commits_b : goal.returns-clause-commits_b
+returns-clause-commits_b c =
+    more_commits (shape_in c.args.self.now) (log_of c.show-2.new.from.seat.me.0.log) (log_of c.show-2.new.to.seat.me.0.log)
+    (subst (λ (v : View CoreEvent). GoesOn (log_of v.log) (log_of c.show-2.new.to.seat.me.0.log)) (sym c.show-2.ensures.same) c.show-2.ensures.shows)

@@ -1,7 +1,9 @@
-use Rattle.std.proofs.Common.{◌≡◌, Some, refl, sym, ap, subst, ◌∙◌}
+use Rattle.std.proofs.Common.{◌≡◌, List, Some, refl, sym, ap, subst, ◌∙◌}
 use mathlib.Core.Logic.{inl}
+use Rattle.block_spec.specs.Slots.{Row}
 use Rattle.event_spec.specs.declared.event.Event.TheVariants as event
 use Rattle.event_spec.specs.declared.own.OwnTransaction.{OwnTransaction}
+use Rattle.event_spec.specs.declared.reply.Reply.TheVariants as reply
 use Rattle.event_spec.specs.Effects.{CoreEvent}
 use Rattle.event_spec.specs.Replies.{CoreReply}
 use Rattle.store_laws.specs.Laws.{IsOfSession}
@@ -40,7 +42,7 @@ returns-in-Shared-clause-reads g c own is =
     let mine : IsOfSession s.session e = inl (ap Some (own_stands st s own c.requires.session is).0) in
     let m = subst (λ (e : CoreEvent). Makes st s.session s.pass.seat c.make_counted.new.pass.seat c.make_counted.new.pass.hands (own_of s) e c.make_counted.result) is_event
     (c.make_counted.ensures.made s.session (own_of s) c.requires.session.stands (subst (IsOfSession s.session) (sym is_event) mine)) in
-    subst (λ (r : CoreReply). ReadsBlock st s new own c.args.table c.args.block r) c.in-Shared.is
+    subst (λ (r : CoreReply). ReadsBlock st s new own c.args.table c.args.block r) (c.in-Shared.is ∙ ap (λ (rows : List Row). reply.Shared rows) (sym c.new.ensures))
     (read_done st s new own c.args.table c.args.block c.make_counted.result c.requires.session c.requires.block m refl refl)
 
 pub returns-in-Memory-clause-reads : goal.returns-in-Memory-clause-reads

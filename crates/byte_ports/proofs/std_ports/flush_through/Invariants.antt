@@ -1,0 +1,6 @@
+-- An interrupted flush leaves what the writer holds.
+use Rattle.std.specs.Io.KnownBytes.{Keeps}
+use Rattle.byte_ports.proofs.std_ports.flush_through.Given as goal
+
+abbrev pub invariant-loop : goal.invariant-loop
+invariant-loop g l = Keeps (g.W.Write.contents l.initial.writer) (g.W.Write.contents l.writer)

@@ -1,0 +1,70 @@
+-- What a session's reads of all blocks of a table tell, each made at a moment of its own.
+use Rattle.std.specs.Prelude.{◌≡◌, ℕ, Bool, true, false, List, ◌++◌, Some, All, fold, length, take}
+use Rattle.std.specs.List.{flat_map}
+use Rattle.block_spec.specs.Slots.{Row}
+use Rattle.core_laws.specs.Events.Named.{FollowsMachine}
+use Rattle.event_spec.specs.declared.event.Event.TheVariants as event
+use Rattle.event_spec.specs.declared.own.OwnTransaction.{OwnTransaction}
+use Rattle.event_spec.specs.Effects.{CoreEvent}
+use Rattle.event_spec.specs.Lawful.{OwnsAll, session_of}
+use Rattle.event_spec.specs.Parts.{Parts, Shape, below, blocks_of}
+use Rattle.event_spec.specs.Replay.{IsLawfulLog, Made, after, replay}
+use Rattle.event_spec.specs.Replies.{reply_to}
+use Rattle.event_spec.specs.Sound.{IsShape}
+use Rattle.isolation_spec.specs.Contents.{contents_of}
+use Rattle.isolation_spec.specs.Machine.{IsolationMachine, Transaction, seen_rows, transaction_of}
+use Rattle.run_spec.specs.Told.{in_key_order, rows_told}
+
+-- a get or a read, which changes nothing
+abbrev pub is_look : CoreEvent → Bool
+is_look (event.Begin session) = false
+is_look (event.Get own table key) = true
+is_look (event.Insert own table row) = false
+is_look (event.Update own table row) = false
+is_look (event.Delete own table key) = false
+is_look (event.Read own table block) = true
+is_look (event.Commit own) = false
+is_look (event.Abort own) = false
+is_look event.Oldest = false
+is_look (event.Observe table block) = false
+is_look (event.Prune table block oldest) = false
+is_look (event.Look table block) = false
+is_look (event.Move table moves) = false
+is_look (event.Seal table block) = false
+is_look (event.Image table block image) = false
+is_look (event.Thaw table block) = false
+
+-- The session's own events among these are gets and reads; those of others may be any.
+abbrev pub LooksAlone : ℕ → List Made → Type 0
+LooksAlone session log =
+    All (λ (made : Made). session_of made.event ≡ Some session → is_look made.event ≡ true) log
+
+-- the parts behind so many of these events
+abbrev pub behind : Shape → Parts → List Made → ℕ → Parts
+behind shape parts log count = fold (after shape) parts (take count log)
+
+-- the rows that reads of all blocks of a table tell, the read of each block made behind as many of
+-- these events as its moment says
+abbrev pub told_throughout : Shape → Parts → List Made → (ℕ → ℕ) → OwnTransaction → ℕ → List Row
+told_throughout shape parts log moment own table =
+    flat_map (λ block. rows_told
+    (reply_to shape (behind shape parts log (moment block)) (event.Read own table block)))
+    (below (blocks_of shape table))
+
+-- In the order of their keys they are the rows of the table that the machine's transaction sees,
+-- and each of these is told once.
+pub record AreTheScan (rows : List Row) (table : ℕ) (machine : IsolationMachine) (open' : Transaction) : Type 0 where
+  pub ordered : in_key_order table rows ≡ contents_of table (seen_rows machine open')
+  pub count : length rows ≡ length (contents_of table (seen_rows machine open'))
+
+-- So it is of an open session's reads of all blocks, whenever each was made between two of the
+-- session's writes.
+abbrev pub ReadsAreTheScanThroughout : Type 0
+ReadsAreTheScanThroughout = (shape : Shape) (front log : List Made) (moment : ℕ → ℕ)
+    (own : OwnTransaction) (table : ℕ) (machine : IsolationMachine) (open' : Transaction)
+    → IsShape shape → IsLawfulLog shape (front ++ log)
+    → OwnsAll shape own (replay shape front) → LooksAlone own.session log
+    → FollowsMachine shape (replay shape front) machine
+    → transaction_of own.session machine ≡ Some open'
+    → AreTheScan (told_throughout shape (replay shape front) log moment own table) table machine
+    open'

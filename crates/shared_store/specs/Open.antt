@@ -1,0 +1,85 @@
+-- What a session has open, to one who embeds the store: the commits that its transaction sees, and
+-- what it wrote itself.
+use Rattle.std.specs.Prelude.{◌≡◌, ℕ, ℤ, true, [], Option, None, Some, Result, Ok, Err, IfOk}
+use Rattle.std.specs.Prelude.{is_some, length}
+use Rattle.std.specs.BTreeMap.{insert_entry}
+use Rattle.block_spec.specs.Slots.{Row}
+use Rattle.isolation_spec.specs.Contents.{History, WriteSet, at_place, place_at, place_cmp}
+use Rattle.isolation_spec.specs.declared.place.Place.{Place}
+use Rattle.isolation_spec.specs.Machine.{IsolationMachine}
+use Rattle.store_laws.specs.Machines.{AddsCommit, HasMore, HasOpenIn, commits_in, machine_after}
+use Rattle.store_laws.specs.Machines.{rows_seen}
+use Rattle.shared_store.specs.Store.{StoreView, own_of, seen, shape_in}
+use Rattle.shared_store.specs.declared.session.Session.{Session}
+
+-- the snapshot-isolation machine behind all that the session has seen of the log
+abbrev pub machine_of : StoreView → Session → IsolationMachine
+machine_of store s = machine_after (shape_in store) (seen s)
+
+-- the write sets of all commits that it has seen, the first commit first
+abbrev pub commits_seen : StoreView → Session → History
+commits_seen store s = commits_in (shape_in store) (seen s)
+
+-- The session has a transaction open that sees these commits, and wrote this itself.
+pub record IsOpen (store : StoreView) (s : Session) (commits : History) (own : WriteSet)
+    : Type 0 where
+  pub busy : is_some (own_of s) ≡ true
+  pub has : HasOpenIn s.session (machine_of store s) commits own
+
+-- The session has nothing open.
+abbrev pub IsAtRest : Session → Type 0
+IsAtRest s = own_of s ≡ None
+
+-- What is open stays so.
+abbrev pub StaysOpen : StoreView → Session → Session → Type 0
+StaysOpen store old new = (commits : History) (own : WriteSet)
+    → IsOpen store old commits own → IsOpen store new commits own
+
+-- A transaction was opened that sees all commits which its session has seen by then. It tells how
+-- many they are.
+pub record Opens (store : StoreView) (old new : Session) (number : ℕ) : Type 0 where
+  pub began : IsAtRest old
+  pub is_open : IsOpen store new (commits_seen store new) []
+  pub counts : number ≡ length (commits_seen store new)
+  pub goes_on : HasMore (commits_seen store old) (commits_seen store new)
+
+-- One was open already, and nothing happened.
+pub record IsRefused (old new : Session) : Type 0 where
+  pub busy : is_some (own_of old) ≡ true
+  pub stays : new ≡ old
+
+abbrev pub Begins : {E : Type 0} → StoreView → Session → Session → Result ℕ E → Type 0
+Begins store old new (Ok number) = Opens store old new number
+Begins store old new (Err busy) = IsRefused old new
+
+-- The row of a place was found, as the transaction sees it, and what is open stays so.
+pub record Finds
+    {E : Type 0} (store : StoreView) (new : Session) (commits : History) (own : WriteSet)
+    (place : Place) (found : Result (Option Row) E)
+    : Type 0 where
+  pub is_open : IsOpen store new commits own
+  pub row : IfOk found (λ row. row ≡ at_place (rows_seen commits own) place)
+
+abbrev pub FindsRow
+    : {E : Type 0} → StoreView → Session → Session → ℕ → ℤ → Result (Option Row) E → Type 0
+FindsRow store old new table key found = (commits : History) (own : WriteSet)
+    → IsOpen store old commits own → Finds store new commits own (place_at table key) found
+
+-- A write that was accepted is the transaction's own from then on; a refused one changes nothing.
+abbrev pub WritesRow
+    : {X E : Type 0} → StoreView → Session → Session → Place → Option Row → Result X E → Type 0
+WritesRow store old new place change (Ok done) = (commits : History) (own : WriteSet)
+    → IsOpen store old commits own
+    → IsOpen store new commits (insert_entry place_cmp own place change)
+WritesRow store old new place change (Err refused) = StaysOpen store old new
+
+-- What the transaction wrote stands behind all commits before it, at the number that is told.
+pub record Adds (store : StoreView) (old new : Session) (own : WriteSet) (number : Option ℕ)
+    : Type 0 where
+  pub before : History
+  pub goes_on : HasMore (commits_seen store old) before
+  pub adds : AddsCommit before (commits_seen store new) own number
+
+abbrev pub Commits : StoreView → Session → Session → Option ℕ → Type 0
+Commits store old new number = (commits : History) (own : WriteSet)
+    → IsOpen store old commits own → Adds store old new own number

@@ -1,0 +1,78 @@
+-- The snapshot-isolation machine along a store's log: which write sets were committed, and what a
+-- session has open.
+use Rattle.std.specs.Prelude.{◌≡◌, ℕ, List, [], ◌∷◌, ◌++◌, Option, None, Some, fold, length}
+use Rattle.std.specs.Option.{option_map_or}
+use Rattle.core_laws.specs.Events.Laws.{command_in, outcome_of}
+use Rattle.core_laws.specs.Events.Named.{FollowsMachine}
+use Rattle.event_spec.specs.Parts.{Shape}
+use Rattle.event_spec.specs.Replay.{IsLawfulLog}
+use Rattle.event_spec.specs.Sound.{IsShape}
+use Rattle.isolation_spec.specs.Contents.{History, State, WriteSet, laid_over, state_at}
+use Rattle.isolation_spec.specs.declared.command.Command.{Command}
+use Rattle.isolation_spec.specs.Machine.{IsolationMachine, step, transaction_of}
+use Rattle.isolation_spec.specs.Machine as machine
+use Rattle.isolation_spec.specs.Store.{Outcome}
+use Rattle.isolation_spec.specs.Store as store
+use Rattle.run_spec.specs.Handed.{GoesOn}
+use Rattle.run_spec.specs.Occurrences.{Logged, Occurrence, occurrences_in}
+use Rattle.store_laws.specs.Logs.{made_in}
+use Rattle.store_laws.specs.Own.{parts_after}
+
+-- A command that the machine answers moves it on; one that the store refuses leaves it.
+abbrev pub left_by : IsolationMachine → Command → Outcome → IsolationMachine
+left_by before command (store.Answered said) = (step before command).1
+left_by before command store.Freezing = before
+left_by before command store.Full = before
+left_by before command store.Memory = before
+
+-- The machine behind one more event. An event that is no command leaves it.
+abbrev pub moved_on : IsolationMachine → Occurrence → IsolationMachine
+moved_on before occurrence =
+    option_map_or
+    (λ command. option_map_or (left_by before command) (outcome_of occurrence.reply) before)
+    (command_in occurrence.event)
+    before
+
+-- The machine behind a log.
+abbrev pub machine_after : Shape → List Logged → IsolationMachine
+machine_after shape log = fold moved_on machine.opening (occurrences_in shape log)
+
+-- The write sets of the commits in a log, the first commit first.
+abbrev pub commits_in : Shape → List Logged → History
+commits_in shape log = (machine_after shape log).history
+
+-- commits, and maybe more behind them
+abbrev pub HasMore : History → History → Type 0
+HasMore earlier later = (more : History) × (later ≡ earlier ++ more)
+
+-- A session has a transaction open that sees these commits, and wrote this itself.
+pub record HasOpenIn
+    (session : ℕ) (behind : IsolationMachine) (commits : History) (own : WriteSet)
+    : Type 0 where
+  pub sees : HasMore commits behind.history
+  pub opened : transaction_of session behind
+      ≡ Some (record { session = session; snapshot = length commits; own = own })
+
+-- the rows that it sees: those of the commits, with its own writes laid over them
+abbrev pub rows_seen : History → WriteSet → State
+rows_seen commits own = laid_over (state_at commits (length commits)) own
+
+-- A commit stands behind all commits before it, at the number that it is told; one that wrote
+-- nothing is told none.
+abbrev pub AddsCommit : History → History → WriteSet → Option ℕ → Type 0
+AddsCommit before later [] number = (later ≡ before) × (number ≡ None)
+AddsCommit before later (first ∷ rest) number =
+    (later ≡ before ++ (first ∷ rest) ∷ []) × (number ≡ Some (length later))
+
+-- ---- laws
+
+-- What a lawful log leaves follows the machine behind it.
+abbrev pub LogsFollowTheMachine : Type 0
+LogsFollowTheMachine = (shape : Shape) (log : List Logged)
+    → IsShape shape → IsLawfulLog shape (made_in log)
+    → FollowsMachine shape (parts_after shape log) (machine_after shape log)
+
+-- A log that goes on has the same commits, and maybe more.
+abbrev pub CommitsGoOn : Type 0
+CommitsGoOn = (shape : Shape) (earlier later : List Logged) → GoesOn earlier later
+    → HasMore (commits_in shape earlier) (commits_in shape later)
