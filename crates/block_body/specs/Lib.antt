@@ -7,3 +7,4 @@ pub mod Bodies
 pub mod Changes
 pub mod Keys
 pub mod Presence
+pub mod Ages

@@ -15,6 +15,7 @@ ghost use Rattle.block_spec.specs.Bodies.{committed_in, rolled_back_in, pruned_i
 ghost use Rattle.block_spec.specs.Bodies.{observed, turns, seal_fault, sealed, imaged, thawed};
 ghost use Rattle.block_spec.specs.Bodies.{taken_back_in};
 ghost use Rattle.block_columns.specs.Images.{IsWhole};
+ghost use Rattle.block_body.specs.Ages.{is_settled};
 ghost use Rattle.block_body.specs.Bodies.{wants_row};
 ghost use Rattle.block_body.specs.Changes.{IsNextVersioned, changed, key_left};
 ghost use Rattle.block_body.specs.Frozen.{IsImageOf, image_of};
@@ -126,6 +127,20 @@ impl Body {
         match chains::chain_of(&self.chains, slot) {
             Some(chain) => chain.newer(stamp, session),
             None => Newer::Nothing,
+        }
+    }
+
+    /// Whether a slot has an entry, the oldest of which was committed, or made by a move, with a
+    /// stamp at most `stamp`.
+    pub fn is_settled(&self, slot: u32, stamp: u64) -> bool
+        ensures { result ≡ is_settled (slot_in self.now slot) stamp }
+    {
+        let Some(chain) = chains::chain_of(&self.chains, slot) else {
+            return false;
+        };
+        match chain.entries().first() {
+            Some(oldest) => oldest.is_stamped_by(stamp),
+            None => false,
         }
     }
 

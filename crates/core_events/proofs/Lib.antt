@@ -1,6 +1,7 @@
 pub mod Taking
 pub mod Patching
 pub mod Places
+pub mod Decided
 pub mod Keys
 pub mod PatchFits
 pub mod Takes

@@ -8,7 +8,7 @@ ghost use Rattle.event_spec.specs.Replies.{reply_to_write};
 ghost use Rattle.hall_rule.specs.Hands.{Agrees};
 ghost use Rattle.core_events.specs.Slots.{HasSlot};
 
-use crate::keyed::candidates;
+use crate::keyed::{candidates, deciding};
 use crate::patches::patch_at;
 use crate::verdicts::judge_change;
 use crate::writes::install;
@@ -61,7 +61,7 @@ pub fn update<L: Ledger>(
     // The row fits the table's columns, which begin with the key.
     let _schema = shape.schema(table).columns();
     let key = key_of(&row);
-    let places = candidates(shape, held, table, key);
+    let places = deciding(shape, held, own, table, candidates(shape, held, table, key));
     let place = match judge_change(shape, held, own, table, places) {
         Ok(place) => place,
         Err(fault) => return Ok(Err(fault)),
@@ -84,7 +84,7 @@ pub fn delete(
         held.new (reply_to_write judged)) }
     ensures err { OnErr result (held.new ≡ held.old) }
 {
-    let places = candidates(shape, held, table, key);
+    let places = deciding(shape, held, own, table, candidates(shape, held, table, key));
     let place = match judge_change(shape, held, own, table, places) {
         Ok(place) => place,
         Err(fault) => return Ok(Err(fault)),

@@ -11,7 +11,7 @@ ghost use Rattle.isolation_spec.specs.Contents.{key_of};
 ghost use Rattle.core_events.specs.Puts.{put_changes, row_changes};
 ghost use Rattle.core_events.specs.Writes.{TakesAt};
 
-use crate::keyed::candidates;
+use crate::keyed::{candidates, deciding};
 use crate::verdicts::judge_insert;
 use crate::writes::{add_candidate, drop_candidate, install, take_slot};
 use block_body::key_of;
@@ -137,7 +137,7 @@ pub fn insert(
     // The row fits the table's columns, which begin with the key.
     let _schema = shape.schema(table).columns();
     let key = key_of(&row);
-    let places = candidates(shape, held, table, key);
+    let places = deciding(shape, held, own, table, candidates(shape, held, table, key));
     let place = match judge_insert(shape, held, own, table, places) {
         Ok(place) => place,
         Err(fault) => return Ok(Err(fault)),

@@ -23,7 +23,7 @@ pub use changes::{delete, update};
 pub use finds::{current, found};
 pub use freezing::image;
 pub use inserts::insert;
-pub use keyed::candidates;
+pub use keyed::{candidates, deciding};
 pub use looking::look;
 pub use patches::patch_at;
 pub use reading::{BlockRows, read};

@@ -7,7 +7,7 @@ ghost use Rattle.event_spec.specs.Parts.{Parts, places_at};
 ghost use Rattle.hall_rule.specs.Hands.{Agrees};
 
 use crate::finds::found;
-use crate::keyed::candidates;
+use crate::keyed::{candidates, deciding};
 use cell_model::Row;
 use core_parts::{CorePart, Shape};
 use event_spec::OwnKey;
@@ -31,6 +31,6 @@ pub fn get<L: Ledger>(
     ensures steps { (s : Parts) → Agrees held.now s
         → steps.new ≤ steps.old + (length (places_at shape.now s table key) + 1) }
 {
-    let places = candidates(shape, held, table, key);
+    let places = deciding(shape, held, own, table, candidates(shape, held, table, key));
     found(shape, held, own, table, places, steps)
 }

@@ -4,6 +4,7 @@ pub mod Endings
 pub mod Kept
 pub mod Written
 pub mod Prunings
+pub mod Ages
 pub mod Halves
 pub mod Others
 pub mod Patches

@@ -1,7 +1,7 @@
 -- What holds between the slots, the index and the desk on one side, and the snapshot-isolation
 -- machine on the other.
 use Rattle.std.specs.Prelude.{◌≡◌, ◌⊎◌, ℕ, ◌≤◌, ℤ, Bool, true, false, ◌||◌, List, [], ◌∷◌, Option}
-use Rattle.std.specs.Prelude.{None, Some, is_some, length, All, find, ◌==◌}
+use Rattle.std.specs.Prelude.{None, Some, is_some, length, All, find, ◌==◌, IfSome}
 use Rattle.std.specs.List.{last_or}
 use Rattle.std.specs.Map.{keys_of}
 use Rattle.std.specs.declared.cmp.Ordering.TheVariants.{Less}
@@ -15,6 +15,7 @@ use Rattle.isolation_spec.specs.Machine.{later_writers}
 use Rattle.txn_desk.specs.declared.Snapshot.{Snapshot}
 use Rattle.txn_desk.specs.Desk.{DeskState}
 use Rattle.txn_desk.specs.Oldest.{snapshot_of}
+use Rattle.undo_chain.specs.Lawful.{NoneStampedAbove}
 use Rattle.undo_chain.specs.Conflict.{numbers_above}
 
 -- A snapshot that somebody may read at: the newest, or that of an open transaction.
@@ -27,6 +28,18 @@ IsLive desk stamp number =
 -- a slot has a row, or an uncommitted entry
 abbrev pub is_current : Slot → Bool
 is_current slot = is_some slot.row || is_some (writer_of slot.entries)
+
+-- A slot is older than another of its key: it has no row and no uncommitted entry, and none of its
+-- stamps is above one of the other's.
+pub record IsOlder (one other : Slot) : Type 0 where
+  pub settled : is_current one ≡ false
+  pub stamps : All (λ undo. IfSome undo.stamp (NoneStampedAbove one.entries)) other.entries
+
+-- one place stands in front of another in a list
+abbrev pub StandsBefore : ℕ → ℕ → List ℕ → Type 0
+StandsBefore one other [] = ⊥
+StandsBefore one other (place ∷ places) = ((one ≡ place) × Among other places)
+    ⊎ StandsBefore one other places
 
 -- the entries of a map stand in the order of their places
 abbrev pub InOrder : {X : Type 0} → PlaceMap X → Type 0
@@ -121,3 +134,6 @@ pub record Follows (slot : ℕ → ℕ → Slot) (places : ℕ → ℤ → List 
       → Among other (places table key)
       → is_current (slot table one) ≡ true → is_current (slot table other) ≡ true → one ≡ other
   pub own : Own slot places machine
+  -- a key's candidates stand in the order of their age
+  pub aged : (table : ℕ) (key : ℤ) (one other : ℕ) → StandsBefore one other (places table key)
+      → IsOlder (slot table one) (slot table other)

@@ -26,6 +26,7 @@ use Rattle.event_spec.specs.declared.reply.WriteFault.{WriteFault}
 use Rattle.event_spec.specs.declared.reply.WriteFault.TheVariants.{Exists, Full, Missing}
 use Rattle.event_spec.specs.Effects.{CoreEvent, after_change, after_insert, at_both, change_judged, changes_of, closed, effect, found, insert_judged, is_some_write, numbered}
 use Rattle.event_spec.specs.Judged.{current_place, differences, fault_of, freezing_of, newer_by, next_place}
+use Rattle.event_spec.specs.Follows.{StandsBefore}
 use Rattle.event_spec.specs.Lawful.{Among, IsLawful, IsOwn, IsOwnKey, IsSession, IsThawed, Opened, OwnsAll, OwnsKey, session_of, transaction, writes_of}
 use Rattle.event_spec.specs.Parts.{Changes, Parts, Shape, BodyOf, ShardOf, names, nothing, each_changed, body_at, desk_at, head_at, part_named, places_at, shard_of, slot_at, slots_of}
 use Rattle.event_spec.specs.Replies.{CoreReply, reply_to, reply_to_write}
@@ -200,6 +201,7 @@ module _ (sh : Shape) (s : Parts) (holds : CoreHolds sh s) where
         added = subst (Among p) (sym (same_places p t key)) a;
         kept = λ u r k b. subst (Among r) (sym (same_places p u k)) b;
         more = λ u r k b. inl (subst (Among r) (same_places p u k) b);
+        behind = λ u r r' k b. inl (subst (StandsBefore r r') (same_places p u k) b);
       }
 
       go : (r : Result ℕ WriteFault) → change_judged sh s me t key ≡ r

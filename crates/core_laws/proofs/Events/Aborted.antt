@@ -22,6 +22,8 @@ use Rattle.block_spec.specs.Bodies.{Body, slot_in, rolled_back_in, is_written_by
 use Rattle.event_spec.specs.Effects.{effect, changes_of, kept_places, closed}
 use Rattle.event_spec.specs.SlotSound.{IsSoundSlot}
 use Rattle.event_spec.specs.Lawful.{Among}
+use Rattle.event_spec.specs.Follows.{StandsBefore}
+use Rattle.core_laws.proofs.Slots.Ages.{before_filter}
 use Rattle.core_laws.proofs.Slots.Endings.{rolled_back_other}
 use Rattle.core_laws.proofs.Following.Aborts.{abort_keeps}
 use Rattle.core_laws.proofs.Events.States.{named_changed, kinds_after, shards_after, desk_after, desk_at_after, slot_after, carried, slot_map}
@@ -165,7 +167,7 @@ abort_serves sh s me has m f = (
     desk = (closed me.session f.desk.0, desk_after sh s c f.desk.0 f.desk.1);
     shards = shards_after sh s c f.shards;
     follows = carried (without me.session m) slots (λ t key. refl) (desk_at_after sh s c f.desk.0 f.desk.1)
-        (abort_keeps (slot_at sh s) (places_at sh s) (places_at sh (effect sh s (event.Abort me))) (desk_at sh s) m f.follows me.session (has_pass (desk_at sh s) me.session me.snapshot has) kept stays);
+        (abort_keeps (slot_at sh s) (places_at sh s) (places_at sh (effect sh s (event.Abort me))) (desk_at sh s) m f.follows me.session (has_pass (desk_at sh s) me.session me.snapshot has) kept stays order);
   },
 )
   where
@@ -212,3 +214,8 @@ abort_serves sh s me has m f = (
     stays t p key a is =
         subst (Among p) (sym (places t key))
         (filter_among (λ p. not (is_bare (slot_in (rolled_back_in me.session (body_at sh s t (block_of p))) (slot_of p)))) p (places_at sh s t key) a (keep_is t p ∙ ap not is))
+
+    order : (t a b : ℕ) (key : ℤ) → StandsBefore a b (places_at sh (effect sh s (event.Abort me)) t key) → StandsBefore a b (places_at sh s t key)
+    order t a b key x =
+        before_filter (λ p. not (is_bare (slot_in (rolled_back_in me.session (body_at sh s t (block_of p))) (slot_of p)))) a b (places_at sh s t key)
+        (subst (StandsBefore a b) (places t key) x)

@@ -1,12 +1,13 @@
 -- A candidate that a change of the parts adds to a key.
 use Rattle.std.proofs.Common.{◌≡◌, ◌⊎◌, ℕ, ◌<◌, ℤ, Bool, true, false, cond, ◌&&◌, ◌==◌, Option, None, Some, option_map, refl, sym, ap, ◌∙◌, subst}
 use mathlib.Core.Logic.{inl, inr}
-use Rattle.core_laws.proofs.Events.Places.{shard_small, placed}
+use Rattle.core_laws.proofs.Events.Places.{shard_small, placed, placed_behind}
 use Rattle.core_laws.proofs.Events.Slots.{num, num_refl}
 use Rattle.core_laws.proofs.Events.States.{named_changed}
 use Rattle.core_laws.specs.Events.Named.{KindIf, shard_at}
 use Rattle.event_spec.specs.declared.part.Part.TheVariants as part
 use Rattle.event_spec.specs.Effects.{at_both, with_place}
+use Rattle.event_spec.specs.Follows.{StandsBefore}
 use Rattle.event_spec.specs.Lawful.{Among, HasTable}
 use Rattle.event_spec.specs.Parts.{CorePart, Parts, Shape, Name, ShardOf, names, part_named, Changes, changed, each_changed, places_at, shard_from, shard_of}
 use Rattle.core_laws.specs.Following.Steps.{IsAdded}
@@ -107,6 +108,24 @@ module _ (sh : Shape) (s : Parts) (kinds : (name : Name) → KindIf name (part_n
       go (inl x) = at x.0 x.2 (new.2 k r (subst (Among r) x.1 a))
       go (inr x) = inl (subst (Among r) x.0 a)
 
+  -- A place that stands behind another did so before, or is the one that is added.
+  behind : (u a b : ℕ) (k : ℤ) → StandsBefore a b (places_at sh parts u k)
+      → StandsBefore a b (places_at sh s u k) ⊎ (Among a (places_at sh s u k) × (Among b (places_at sh s u k) → ⊥) × (u ≡ t) × (b ≡ p) × (k ≡ key))
+  behind u a b k x = go (candidates u k)
+    where
+      at : (u ≡ t) → (places_at sh s u k ≡ candidates_of (shard_at sh s t (shard_of key)) k)
+          → StandsBefore a b (candidates_of (shard_at sh s t (shard_of key)) k)
+          ⊎ (Among a (candidates_of (shard_at sh s t (shard_of key)) k) × (Among b (candidates_of (shard_at sh s t (shard_of key)) k) → ⊥) × (b ≡ p) × (k ≡ key))
+          → StandsBefore a b (places_at sh s u k) ⊎ (Among a (places_at sh s u k) × (Among b (places_at sh s u k) → ⊥) × (u ≡ t) × (b ≡ p) × (k ≡ key))
+      at ut is (inl y) = inl (subst (StandsBefore a b) (sym is) y)
+      at ut is (inr n) = inr (subst (Among a) (sym is) n.0, (λ y. n.1 (subst (Among b) is y)), ut, n.2, n.3)
+
+      go : ((u ≡ t) × (places_at sh parts u k ≡ candidates_of (with_place key p (shard_at sh s t (shard_of key))) k) × (places_at sh s u k ≡ candidates_of (shard_at sh s t (shard_of key)) k))
+          ⊎ ((places_at sh parts u k ≡ places_at sh s u k) × ((u ≡ t) → k ≡ key → ⊥))
+          → StandsBefore a b (places_at sh s u k) ⊎ (Among a (places_at sh s u k) × (Among b (places_at sh s u k) → ⊥) × (u ≡ t) × (b ≡ p) × (k ≡ key))
+      go (inl y) = at y.0 y.2 (placed_behind (shard_at sh s t (shard_of key)) key p k a b (subst (StandsBefore a b) y.1 x))
+      go (inr y) = inl (subst (StandsBefore a b) y.0 x)
+
   -- the place is a candidate of the key, and all other candidates are as before
   pub place_added : IsAdded (places_at sh s) (places_at sh parts) t p key
-  place_added = record { added = added; kept = kept; more = more }
+  place_added = record { added = added; kept = kept; more = more; behind = behind }

@@ -7,7 +7,7 @@ use Rattle.core_laws.proofs.Events.Still.{all_stay}
 use Rattle.core_laws.specs.Events.Laws.{IsTold, Serves, outcome_of_fault}
 use Rattle.event_spec.specs.declared.reply.WriteFault.{WriteFault}
 use Rattle.event_spec.specs.declared.reply.WriteFault.TheVariants.{ConflictSession, ConflictCommit, Missing, Freezing}
-use Rattle.block_spec.specs.Slots.{written, Row, row_after, image_before, laid_back, patched, columns_before}
+use Rattle.block_spec.specs.Slots.{written, writer_of, Row, row_after, image_before, laid_back, patched, columns_before}
 use Rattle.event_spec.specs.Effects.{CoreEvent, change_judged, effect, changes_of, found, after_change, after_write}
 use Rattle.event_spec.specs.Judged.{first_at, judged, newer_by, current_place, fault_of, differences, freezing_of}
 use Rattle.event_spec.specs.declared.own.OwnKey.{OwnKey}
@@ -21,7 +21,7 @@ use Rattle.core_laws.specs.Events.Named.{FollowsMachine}
 use Rattle.std.proofs.Common.{◌≡◌, ℕ, ◌<◌, ℤ, cond, [], Option, None, Some, unwrap_or, is_some, is_none, length, refl, sym, ap, ◌∙◌, subst}
 use mathlib.Core.Logic.{inl}
 use Rattle.std.specs.Option.{option_or}
-use Rattle.std.proofs.lemmas.Bool.{or_right}
+use Rattle.std.proofs.lemmas.Bool.{or_left, or_right}
 use Rattle.block_layout.specs.Place.{block_of, slot_of}
 use Rattle.isolation_spec.specs.Contents.{at_place, place_at, key_of}
 use Rattle.isolation_spec.specs.Machine.{IsolationMachine, Transaction, step, step_of, step_within, write, with_own, seen_rows, conflict_of, refusal_of_change}
@@ -36,6 +36,7 @@ use Rattle.block_spec.specs.Bodies.{Body}
 use Rattle.block_spec.specs.declared.phase.Phase.{Phase}
 use Rattle.block_spec.specs.declared.phase.Phase.TheVariants.{Loose, Sealed, Imaged}
 use Rattle.event_spec.specs.Lawful.{Among}
+use Rattle.event_spec.specs.Follows.{StandsBefore}
 use Rattle.core_laws.proofs.Following.Finds.{found_is}
 use Rattle.core_laws.proofs.Following.Accepts.{no_rival, current_is, alone_with}
 use Rattle.core_laws.proofs.Following.Writes.{write_keeps}
@@ -157,12 +158,14 @@ module _ (sh : Shape) (s : Parts) (me : OwnKey) (t : ℕ) (key : ℤ)
           (λ k x. f.follows.index.one_key t p k key x at.2)
           (λ w is. no_rival (slot_at sh s) (places_at sh s) (desk_at sh s) m f.follows me.session me.snapshot has_open t key me.written slots clear p w at.2 is)
           (alone_with (slot_at sh s) (places_at sh s) (desk_at sh s) m f.follows me.session me.snapshot has_open t key me.written slots clear p row at.2 at.3)
+          (λ x. or_left (is_some (slot_at sh s t p).row) (is_some (writer_of (slot_at sh s t p).entries)) (ap is_some at.3))
           (slot_at sh parts) (places_at sh parts)
           (write_here sh s d (written me.session (choice row)) t p body.0 f.kinds body.1 body.2 (λ u b x. refl))
           (write_else sh s d (written me.session (choice row)) t p body.0 f.kinds body.1 body.2 (λ u b x. refl))
           (subst (Among p) (sym (places t key)) at.2)
           (λ u r k x. subst (Among r) (sym (places u k)) x)
-          (λ u r k x. inl (subst (Among r) (places u k) x)));
+          (λ u r k x. inl (subst (Among r) (places u k) x))
+          (λ u r r' k x. inl (subst (StandsBefore r r') (places u k) x)));
     })
 
     accepted : change_judged sh s me t key ≡ Ok p → Goal

@@ -137,6 +137,7 @@ module _ (sh : Shape) (s : Parts) (me : OwnKey) (t : ℕ) (row : Row) (inside : 
         × ((k : ℤ) → Among p (places_at sh s t k) → k ≡ key)
         × ((w : ℕ) → writer_of (slot_at sh s t p).entries ≡ Some w → w ≡ me.session)
         × ((p' : ℕ) → Among p' (places_at sh s t key) → is_current (slot_at sh s t p') ≡ true → p' ≡ p)
+        × (Among p (places_at sh s t key) → is_current (slot_at sh s t p) ≡ true)
 
     fit : Fit
     fit = go where_is
@@ -154,6 +155,7 @@ module _ (sh : Shape) (s : Parts) (me : OwnKey) (t : ℕ) (row : Row) (inside : 
               (λ k a. f.follows.index.one_key t p k key a here.0),
               (λ w is. same_Some w me.session (sym is ∙ here.1)),
               (λ p' a is. f.follows.current t key p' p a here.0 is (writer_current (slot_at sh s t p) me.session here.1)),
+              (λ a. writer_current (slot_at sh s t p) me.session here.1),
             )
         go (inr fresh) =
             let b = next p fresh.1 in
@@ -166,6 +168,7 @@ module _ (sh : Shape) (s : Parts) (me : OwnKey) (t : ℕ) (row : Row) (inside : 
               (λ k a. absurd (true_false (sym b.3 ∙ f.follows.index.filled t p k a))),
               (λ w x. absurd (none_not (writer_of (slot_at sh s t p).entries) w (ap (λ (y : Slot). writer_of y.entries) is) x)),
               (λ p' a x. absurd (none_current (slot_at sh s) (places_at sh s) (desk_at sh s) m f.follows me.session me.snapshot has t key me.written slots clear fresh.0 missing p' a x)),
+              (λ a. absurd (true_false (sym b.3 ∙ f.follows.index.filled t p key a))),
             )
           where
             true_false : true ≡ false → ⊥
@@ -185,11 +188,11 @@ module _ (sh : Shape) (s : Parts) (me : OwnKey) (t : ℕ) (row : Row) (inside : 
       follows = carried (with_own me.session (place_of t row) (Some row) m) (λ u r. refl) (λ u k. refl) (desk_at_after sh s d f.desk.0 f.desk.1)
           (write_keeps (slot_at sh s) (places_at sh s) (desk_at sh s) m f.follows me.session has.counted the (sessions.mine (slot_at sh s) (places_at sh s) (desk_at sh s) m f.follows me.session me.snapshot has)
           t p key (Put row)
-          (ap (λ r. laid_back (Some row) (image_before r (Put row))) fit.3 ∙ sym fit.3) refl refl fit.4 fit.5 fit.6 fit.7
+          (ap (λ r. laid_back (Some row) (image_before r (Put row))) fit.3 ∙ sym fit.3) refl refl fit.4 fit.5 fit.6 fit.7 fit.8
           (slot_at sh parts) (places_at sh parts)
           (write_here sh s d (written me.session (Put row)) t p fit.0 f.kinds fit.1 fit.2 (λ u b x. refl))
           (write_else sh s d (written me.session (Put row)) t p fit.0 f.kinds fit.1 fit.2 (λ u b x. refl))
-          more.added more.kept more.more);
+          more.added more.kept more.more more.behind);
     }
 
     refusal_none : refusal_of_insert m the (place_of t row) ≡ None

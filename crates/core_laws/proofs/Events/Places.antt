@@ -15,6 +15,8 @@ use Rattle.block_spec.specs.Slots.{Slot, bare, is_bare}
 use Rattle.block_spec.specs.Bodies.{Body, slot_in, with_slot}
 use Rattle.event_spec.specs.Effects.{with_place}
 use Rattle.event_spec.specs.Lawful.{Among}
+use Rattle.event_spec.specs.Follows.{StandsBefore}
+use Rattle.core_laws.proofs.Slots.Ages.{before_push}
 use Rattle.std.specs.List.{list_any}
 use Rattle.std.specs.FinMap as finite
 
@@ -167,3 +169,47 @@ placed ix key p = go (has_place p (candidates_of ix key)) refl
             at (inl b) = inl (subst (λ k. Among r (candidates_of ix k)) (sym x.1) b)
             at (inr e) = inr (e, x.1)
         back k r a (inr x) = inl (subst (Among r) (more_is ix key k (candidates_of ix key) p ∙ ap (λ b. cond b (candidates_of ix key ++ p ∷ []) (candidates_of ix k)) x.0) a)
+
+-- a place that is not found is none of the places
+not_among : (p : ℕ) (ps : List ℕ) → has_place p ps ≡ false → Among p ps → ⊥
+not_among p [] is a = a
+not_among p (x ∷ ps) is a = go (x == p) refl is a (not_among p ps)
+  where
+    true_false : true ≡ false → ⊥
+    true_false e = cc
+
+    go : (b : Bool) → (x == p) ≡ b → (b || has_place p ps) ≡ false → Among p (x ∷ ps) → (has_place p ps ≡ false → Among p ps → ⊥) → ⊥
+    go true e is a rest = true_false is
+    go false e is (inl s) rest = absurd (grind (arith, nat_tests))
+    go false e is (inr a) rest = rest is a
+
+-- a candidate that is added stands behind those of its key, and all others stand as before
+pub placed_behind : (ix : Places) (key : ℤ) (p : ℕ) (k : ℤ) (a b : ℕ) → StandsBefore a b (candidates_of (with_place key p ix) k)
+    → StandsBefore a b (candidates_of ix k) ⊎ (Among a (candidates_of ix k) × (Among b (candidates_of ix k) → ⊥) × (b ≡ p) × (k ≡ key))
+placed_behind ix key p k a b x = go (has_place p (candidates_of ix key)) refl
+  where
+    go : (y : Bool) → has_place p (candidates_of ix key) ≡ y → StandsBefore a b (candidates_of ix k) ⊎ (Among a (candidates_of ix k) × (Among b (candidates_of ix k) → ⊥) × (b ≡ p) × (k ≡ key))
+    go true e =
+        let same : with_place key p ix ≡ ix = ap (λ y. cond y ix (with_candidates ix key (candidates_of ix key ++ p ∷ []))) e in
+        inl (subst (λ iy. StandsBefore a b (candidates_of iy k)) same x)
+    go false e = at (key_cases k key)
+      where
+        same : with_place key p ix ≡ with_candidates ix key (candidates_of ix key ++ p ∷ [])
+        same = ap (λ y. cond y ix (with_candidates ix key (candidates_of ix key ++ p ∷ []))) e
+
+        now : (y : Bool) → eq_by_cmp int_cmp k key ≡ y → StandsBefore a b (cond y (candidates_of ix key ++ p ∷ []) (candidates_of ix k))
+        now y is = subst (StandsBefore a b)
+            (ap (λ iy. candidates_of iy k) same ∙ more_is ix key k (candidates_of ix key) p ∙ ap (λ z. cond z (candidates_of ix key ++ p ∷ []) (candidates_of ix k)) is) x
+
+        behind : (k ≡ key) → StandsBefore a b (candidates_of ix key) ⊎ (Among a (candidates_of ix key) × (b ≡ p)) → StandsBefore a b (candidates_of ix k) ⊎ (Among a (candidates_of ix k) × (Among b (candidates_of ix k) → ⊥) × (b ≡ p) × (k ≡ key))
+        behind s (inl z) = inl (subst (λ k. StandsBefore a b (candidates_of ix k)) (sym s) z)
+        behind s (inr z) = inr (
+          subst (λ k. Among a (candidates_of ix k)) (sym s) z.0,
+          (λ w. not_among p (candidates_of ix key) e (subst (λ r. Among r (candidates_of ix key)) z.1 (subst (λ k. Among b (candidates_of ix k)) s w))),
+          z.1,
+          s,
+        )
+
+        at : ((eq_by_cmp int_cmp k key ≡ true) × (k ≡ key)) ⊎ ((eq_by_cmp int_cmp k key ≡ false) × (k ≢ key)) → StandsBefore a b (candidates_of ix k) ⊎ (Among a (candidates_of ix k) × (Among b (candidates_of ix k) → ⊥) × (b ≡ p) × (k ≡ key))
+        at (inl y) = behind y.1 (before_push a b p (candidates_of ix key) (now true y.0))
+        at (inr y) = inl (now false y.0)

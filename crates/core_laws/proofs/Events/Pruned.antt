@@ -13,7 +13,8 @@ use Rattle.key_index.specs.Candidates.{candidates_of}
 use Rattle.block_spec.specs.Slots.{bare, is_bare, pruned}
 use Rattle.block_spec.specs.Bodies.{Body, slot_in, pruned_in}
 use Rattle.event_spec.specs.Lawful.{Among}
-use Rattle.event_spec.specs.Follows.{IsLive}
+use Rattle.event_spec.specs.Follows.{IsLive, StandsBefore}
+use Rattle.core_laws.proofs.Slots.Ages.{before_filter}
 use Rattle.core_laws.proofs.Following.Prunes.{prune_keeps}
 use Rattle.core_laws.proofs.Events.States.{named_changed, kinds_after, shards_after, desk_after, desk_at_after, body_cases, carried, slot_map}
 use Rattle.core_laws.proofs.Events.Aborted.{kept_is, among_filter, filter_among}
@@ -144,6 +145,15 @@ module _ (sh : Shape) (s : Parts) (t b oldest : ℕ) (m : IsolationMachine) (liv
       go (inl x) = subst (Among p) (sym x.1) (filter_among (keep u) p (places_at sh s u key) a (ap not (sym (seen_swept u p x.0) ∙ is)))
       go (inr x) = subst (Among p) (sym x.1) a
 
+  -- The candidates after the pruning stand as they did before it.
+  order : (u a b : ℕ) (key : ℤ) → StandsBefore a b (places_at sh after u key) → StandsBefore a b (places_at sh s u key)
+  order u a b key x = go (places u key)
+    where
+      go : (((u == t) ≡ true) × (places_at sh after u key ≡ filter (keep u) (places_at sh s u key))) ⊎ (((u == t) ≡ false) × (places_at sh after u key ≡ places_at sh s u key))
+          → StandsBefore a b (places_at sh s u key)
+      go (inl y) = before_filter (keep u) a b (places_at sh s u key) (subst (StandsBefore a b) y.1 x)
+      go (inr y) = subst (StandsBefore a b) y.1 x
+
   -- After a pruning the parts still follow the machine.
   pub prune_followed : FollowsMachine sh after m
   prune_followed = record {
@@ -151,5 +161,5 @@ module _ (sh : Shape) (s : Parts) (t b oldest : ℕ) (m : IsolationMachine) (liv
     desk = (f.desk.0, desk_after sh s c f.desk.0 f.desk.1);
     shards = shards_after sh s c f.shards;
     follows = carried m (λ u p. refl) (λ u key. refl) (desk_at_after sh s c f.desk.0 f.desk.1)
-        (prune_keeps (slot_at sh s) (places_at sh s) (places_at sh after) (desk_at sh s) m f.follows oldest live (slot_at sh after) each kept stays);
+        (prune_keeps (slot_at sh s) (places_at sh s) (places_at sh after) (desk_at sh s) m f.follows oldest live (slot_at sh after) each kept stays order);
   }

@@ -202,7 +202,8 @@ module _ (sh : Shape) (s : Parts) (me : OwnTransaction) (has : HasOpen (desk_at 
           (λ t p. slot_when false is t p ∙ sym (rolled_back_other q (slot_at sh s t p) (f.follows.slots t p).lawful (no_entry is t p))) places_same (desk_when false is)
           (abort_keeps (slot_at sh s) (places_at sh s) (places_at sh s) (desk_at sh s) m f.follows q pass
           (λ t p key a. (a, ap is_bare (rolled_back_other q (slot_at sh s t p) (f.follows.slots t p).lawful (no_entry is t p)) ∙ f.follows.index.filled t p key a))
-          (λ t p key a x. a));
+          (λ t p key a x. a)
+          (λ t a b key x. x));
     },
   )
 

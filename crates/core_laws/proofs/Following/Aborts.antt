@@ -11,7 +11,8 @@ use Rattle.block_spec.specs.Slots.{Slot, writer_of, rolled_back, seen, is_bare}
 use Rattle.event_spec.specs.SlotSound.{IsSoundSlot}
 use Rattle.event_spec.specs.Effects.{closed}
 use Rattle.event_spec.specs.Lawful.{Among}
-use Rattle.event_spec.specs.Follows.{Shows, Numbers, Index, Own, Desked, Follows, is_current}
+use Rattle.event_spec.specs.Follows.{Shows, StandsBefore, Numbers, Index, Own, Desked, Follows, is_current}
+use Rattle.core_laws.proofs.Slots.Ages.{older_rolled}
 use Rattle.core_laws.proofs.Slots.Endings.{rolled_back_other, seen_rolled, rolled_keyed, rest_of}
 use Rattle.core_laws.proofs.Slots.Kept.{same_option, bare_is, shown_filled, number_filled, writer_filled, writer_current, rolled_writer, numbers_rolled, sound_rolled}
 use Rattle.core_laws.proofs.Following.Machines.{of-without, of-without-own, one-without}
@@ -46,7 +47,8 @@ rolled_filled q slot is = go (cases_Bool (is_bare slot))
 module _ (slot : ℕ → ℕ → Slot) (places left : ℕ → ℤ → List ℕ) (desk : DeskState) (m : IsolationMachine) (f : Follows slot places desk m)
     (q : ℕ) (pass : HasPass desk q)
     (kept : (t p : ℕ) (key : ℤ) → Among p (left t key) → Among p (places t key) × (is_bare (rolled_back q (slot t p)) ≡ false))
-    (stays : (t p : ℕ) (key : ℤ) → Among p (places t key) → is_bare (rolled_back q (slot t p)) ≡ false → Among p (left t key)) where
+    (stays : (t p : ℕ) (key : ℤ) → Among p (places t key) → is_bare (rolled_back q (slot t p)) ≡ false → Among p (left t key))
+    (order : (t a b : ℕ) (key : ℤ) → StandsBefore a b (left t key) → StandsBefore a b (places t key)) where
   -- A slot with the session's entries rolled back.
   abbrev rolled : ℕ → ℕ → Slot
   rolled t p = rolled_back q (slot t p)
@@ -148,4 +150,5 @@ module _ (slot : ℕ → ℕ → Slot) (places left : ℕ → ℤ → List ℕ) 
     current = λ t key p p' a a' is is'. f.current t key p p' (kept t p key a).0 (kept t p' key a').0
         (rolled_current q desk.newest desk.commits (slot t p) (f.slots t p) is) (rolled_current q desk.newest desk.commits (slot t p') (f.slots t p') is');
     own = keeps_own;
+    aged = λ t key a b x. older_rolled q desk.newest desk.commits (slot t a) (slot t b) (f.slots t a) (f.aged t key a b (order t a b key x));
   }

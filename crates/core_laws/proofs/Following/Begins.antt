@@ -100,4 +100,5 @@ module _ (slot : ℕ → ℕ → Slot) (places : ℕ → ℤ → List ℕ) (desk
     numbers = λ stamp number live. f.numbers stamp number (live_opened q desk stamp number pass live);
     current = f.current;
     own = keeps_own;
+    aged = f.aged;
   }

@@ -20,6 +20,7 @@ use Rattle.event_spec.specs.SlotSound.{IsSoundSlot}
 use Rattle.event_spec.specs.Effects.{closed, numbered}
 use Rattle.event_spec.specs.Lawful.{Among}
 use Rattle.event_spec.specs.Follows.{InOrder, Shows, Numbers, Index, Own, Desked, Follows, is_current}
+use Rattle.core_laws.proofs.Slots.Ages.{older_committed}
 use Rattle.core_laws.proofs.Following.Overlays.{at-laid_over, over}
 use Rattle.core_laws.proofs.Slots.Endings.{committed_other, committed_writer, seen_committed, seen_after_commit, committed_keyed, seen_keyed, keyed_row}
 use Rattle.core_laws.proofs.Slots.Kept.{same_option, shown_filled, shown_current, seen_later, writer_current, numbers_of_commit, numbers_stay, number_there, numbers_settled, sound_committed, small_number}
@@ -350,6 +351,7 @@ module _ (slot : ℕ → ℕ → Slot) (places : ℕ → ℤ → List ℕ) (desk
     current = λ t key p p' a a' is is'. f.current t key p p' a a'
         (committed_current q desk.newest desk.commits (slot t p) (f.slots t p) is) (committed_current q desk.newest desk.commits (slot t p') (f.slots t p') is');
     own = keeps_own;
+    aged = λ t key a b x. older_committed q desk.newest desk.commits (slot t a) (slot t b) (f.slots t a) (f.aged t key a b x);
   }
     where
       shows' : (stamp number : ℕ) → ((stamp ≡ S) × (number ≡ N)) ⊎ ((r : ℕ) × (1 ≤ r) × (r ≢ q) × (snapshot_of desk r ≡ Some (record { stamp = stamp; number = number })))

@@ -16,7 +16,10 @@ use Rattle.block_spec.specs.Slots.{Slot, Row, writer_of, moved_out, moved_in, se
 use Rattle.core_laws.proofs.Slots.Keys.{HasKey}
 use Rattle.event_spec.specs.SlotSound.{Keyed, IsSoundSlot}
 use Rattle.event_spec.specs.Lawful.{Among}
-use Rattle.event_spec.specs.Follows.{IsLive, Shows, Numbers, Index, Own, Desked, Follows, is_current}
+use Rattle.event_spec.specs.Follows.{IsLive, IsOlder, Shows, StandsBefore, Numbers, Index, Own, Desked, Follows, is_current}
+use Rattle.core_laws.proofs.Slots.Ages.{above_later, before_among, older_single}
+use Rattle.std.proofs.lemmas.Bool.{cases_Bool}
+use Rattle.undo_chain.specs.Lawful.{NoneStampedAbove}
 use Rattle.core_laws.proofs.Slots.Endings.{keyed_row}
 use Rattle.core_laws.proofs.Slots.Kept.{shown_filled, shown_current, seen_later, number_filled, numbers_step, numbers_settled}
 use Rattle.core_laws.proofs.Following.Desks.{none_not}
@@ -32,7 +35,9 @@ module _ (slot : ℕ → ℕ → Slot) (places : ℕ → ℤ → List ℕ) (desk
     (others : (u p : ℕ) → ((u ≡ t) → (p ≡ a) → ⊥) → ((u ≡ t) → (p ≡ b) → ⊥) → slot' u p ≡ slot u p)
     (added : Among b (places' t key))
     (kept : (u p : ℕ) (k : ℤ) → Among p (places u k) → Among p (places' u k))
-    (more : (u p : ℕ) (k : ℤ) → Among p (places' u k) → Among p (places u k) ⊎ ((u ≡ t) × (p ≡ b) × (k ≡ key))) where
+    (more : (u p : ℕ) (k : ℤ) → Among p (places' u k) → Among p (places u k) ⊎ ((u ≡ t) × (p ≡ b) × (k ≡ key)))
+    (behind : (u p p' : ℕ) (k : ℤ) → StandsBefore p p' (places' u k)
+    → StandsBefore p p' (places u k) ⊎ (Among p (places u k) × (Among p' (places u k) → ⊥) × (u ≡ t) × (p' ≡ b) × (k ≡ key))) where
   -- The desk with the stamp of the move as its newest.
   abbrev desk' : DeskState
   desk' = record desk { newest = S }
@@ -142,6 +147,47 @@ module _ (slot : ℕ → ℕ → Slot) (places : ℕ → ℤ → List ℕ) (desk
       go (inl e) (inr n) = absurd (never p p' e x n x' is')
       go (inr n) (inl e) = absurd (never p' p e x' n x is)
       go (inr n) (inr n') = f.current u k p p' (old p x n) (old p' x' n') (was_current u p n is) (was_current u p' n' is')
+
+  -- a key's candidates stand in the order of their age as before, and the target behind them
+  keeps_aged : (u : ℕ) (k : ℤ) (p p' : ℕ) → StandsBefore p p' (places' u k) → IsOlder (slot' u p) (slot' u p')
+  keeps_aged u k p p' x = go (behind u p p' k x)
+    where
+      true_false : true ≡ false → ⊥
+      true_false e = cc
+
+      up : NoneStampedAbove (slot u p).entries S
+      up = above_later (slot u p).entries desk.newest S newest (f.slots u p).stamps
+
+      not_target : Among p (places u k) → (u ≡ t) → (p ≡ b) → ⊥
+      not_target y e e' = true_false (sym (ap (λ u. is_bare (slot u p)) e ∙ ap (λ p. is_bare (slot t p)) e' ∙ ap is_bare to) ∙ f.index.filled u p k y)
+
+      stays : StandsBefore p p' (places u k) → IsOlder (slot' u p) (slot' u p')
+      stays y = subst (λ s. IsOlder s (slot' u p')) (sym (others u p not_source (not_target (before_among p p' (places u k) y))))
+          (at_slot (λ s v w. IsOlder (slot u p) (slot v w) → IsOlder (slot u p) s)
+          (λ z. older_single (slot u p) None (out_entry S row) S refl z.settled up)
+          (λ z. older_single (slot u p) (Some row) (in_entry S) S refl z.settled up)
+          (λ v w n n' z. z) u p' (f.aged u k p p' y))
+        where
+          not_source : (u ≡ t) → (p ≡ a) → ⊥
+          not_source e e' = true_false (sym (ap (λ u. is_current (slot u p)) e ∙ ap (λ p. is_current (slot t p)) e' ∙ ap is_current from) ∙ (f.aged u k p p' y).settled)
+
+      fresh : Among p (places u k) → (u ≡ t) → (p' ≡ b) → (k ≡ key) → IsOlder (slot' u p) (slot' u p')
+      fresh y e e' e'' = subst (IsOlder (slot' u p)) (sym (ap (λ u. slot' u p') e ∙ ap (slot' t) e' ∙ into)) (at (apart u t p a))
+        where
+          settled : ((u ≡ t) → (p ≡ a) → ⊥) → (is_current (slot u p) ≡ true) ⊎ (is_current (slot u p) ≡ false) → is_current (slot u p) ≡ false
+          settled n (inl now) = absurd (n e (f.current t key p a (subst (λ k. Among p (places t k)) e'' (subst (λ u. Among p (places u k)) e y)) listed
+              (sym (ap (λ u. is_current (slot u p)) e) ∙ now) (ap is_current from)))
+          settled n (inr is) = is
+
+          at : ((u ≡ t) × (p ≡ a)) ⊎ ((u ≡ t) → (p ≡ a) → ⊥) → IsOlder (slot' u p) (moved_in S row bare)
+          at (inl both) = subst (λ s. IsOlder s (moved_in S row bare)) (sym (ap (λ u. slot' u p) both.0 ∙ ap (slot' t) both.1 ∙ out))
+              (older_single (moved_out S row (plain row)) (Some row) (in_entry S) S refl refl (sound_one S desk.commits None (out_entry S row) refl refl).stamps)
+          at (inr n) = subst (λ s. IsOlder s (moved_in S row bare)) (sym (others u p n (not_target y)))
+              (older_single (slot u p) (Some row) (in_entry S) S refl (settled n (cases_Bool (is_current (slot u p)))) up)
+
+      go : StandsBefore p p' (places u k) ⊎ (Among p (places u k) × (Among p' (places u k) → ⊥) × (u ≡ t) × (p' ≡ b) × (k ≡ key)) → IsOlder (slot' u p) (slot' u p')
+      go (inl y) = stays y
+      go (inr n) = fresh n.0 n.2 n.3 n.4
 
   -- The index is right for the slots after the move.
   keeps_index : Index slot' places'
@@ -287,6 +333,7 @@ module _ (slot : ℕ → ℕ → Slot) (places : ℕ → ℤ → List ℕ) (desk
     shows = λ s n live. shows' s n live;
     numbers = λ s n live. numbers' s n live;
     current = keeps_current;
+    aged = keeps_aged;
     own = keeps_own;
   }
     where

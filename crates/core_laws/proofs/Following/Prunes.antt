@@ -12,7 +12,8 @@ use Rattle.core_laws.proofs.Slots.Prunings.{rest, pruned_writer, numbers_pruned,
 use Rattle.block_spec.specs.Slots.{Slot, writer_of, pruned, seen, is_bare, laid_back}
 use Rattle.event_spec.specs.SlotSound.{Keyed, IsSoundSlot}
 use Rattle.event_spec.specs.Lawful.{Among}
-use Rattle.event_spec.specs.Follows.{IsLive, Shows, Numbers, Follows, is_current}
+use Rattle.event_spec.specs.Follows.{IsLive, IsOlder, Shows, StandsBefore, Numbers, Follows, is_current}
+use Rattle.core_laws.proofs.Slots.Ages.{older_pruned, older_than_pruned}
 use Rattle.core_laws.proofs.Slots.Kept.{bare_is, shown_filled, number_filled, writer_filled}
 
 module _ (slot : ℕ → ℕ → Slot) (places left : ℕ → ℤ → List ℕ) (desk : DeskState) (m : IsolationMachine) (f : Follows slot places desk m)
@@ -20,7 +21,8 @@ module _ (slot : ℕ → ℕ → Slot) (places left : ℕ → ℤ → List ℕ) 
     -- each slot is pruned or left as it was
     (slot' : ℕ → ℕ → Slot) (each : (t p : ℕ) → (slot' t p ≡ pruned o (slot t p)) ⊎ (slot' t p ≡ slot t p))
     (kept : (t p : ℕ) (key : ℤ) → Among p (left t key) → Among p (places t key) × (is_bare (slot' t p) ≡ false))
-    (stays : (t p : ℕ) (key : ℤ) → Among p (places t key) → is_bare (slot' t p) ≡ false → Among p (left t key)) where
+    (stays : (t p : ℕ) (key : ℤ) → Among p (places t key) → is_bare (slot' t p) ≡ false → Among p (left t key))
+    (order : (t a b : ℕ) (key : ℤ) → StandsBefore a b (left t key) → StandsBefore a b (places t key)) where
   -- what a pruning leaves of a slot's property
   at_slot : (P : Slot → ℕ → ℕ → Type 0) → ((t p : ℕ) → P (pruned o (slot t p)) t p) → ((t p : ℕ) → P (slot t p) t p) → (t p : ℕ) → P (slot' t p) t p
   at_slot P a b t p = go (each t p)
@@ -83,8 +85,14 @@ module _ (slot : ℕ → ℕ → Slot) (places left : ℕ → ℤ → List ℕ) 
           let w = same_writer t b.0 ∙ b.2 in
           (b.0, stays t b.0 key b.1 (writer_filled (slot' t b.0) q w), w);
     };
+    aged = λ t key a b x. aged' t a b (f.aged t key a b (order t a b key x));
   }
     where
+      aged' : (t a b : ℕ) → IsOlder (slot t a) (slot t b) → IsOlder (slot' t a) (slot' t b)
+      aged' t a b old =
+          at_slot (λ y u p. IsOlder (slot' t a) (slot u p) → IsOlder (slot' t a) y) (λ u p. older_than_pruned o (slot' t a) (slot u p)) (λ u p z. z) t b
+          (at_slot (λ y u p. IsOlder (slot u p) (slot t b) → IsOlder y (slot t b)) (λ u p. older_pruned o (slot u p) (slot t b) (f.slots u p).lawful) (λ u p z. z) t a old)
+
       shows' : (s n : ℕ) → o ≤ s → Shows slot places s (state_at m.history n) → Shows slot' left s (state_at m.history n)
       shows' s n le b = record {
         there = λ t p row is. b.there t p row (sym (prune_view s 0 t p le) ∙ is);

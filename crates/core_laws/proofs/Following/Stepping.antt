@@ -72,8 +72,8 @@ write_follows slot after places added desk machine session snapshot table place 
     write_keeps slot places desk machine follows session has.counted
     (sessions.tr slot places desk machine follows session snapshot has)
     (sessions.mine slot places desk machine follows session snapshot has)
-    table place key change may.undone may.leaves may.row_there may.keyed may.one_key may.free may.alone
-    after added is.here is.others more.added more.kept more.more
+    table place key change may.undone may.leaves may.row_there may.keyed may.one_key may.free may.alone may.current
+    after added is.here is.others more.added more.kept more.more more.behind
 
 -- ---- ends
 
@@ -113,7 +113,8 @@ empty_commit_follows slot places desk machine session snapshot open' follows has
     (subst (λ (s : SlotMap). Follows s places (closed session desk) (without session machine)) (λ i table place. stays table place i)
     (abort_keeps slot places places desk machine follows session (has_pass desk session snapshot has)
     (λ table place key a. (a, ap is_bare (stays table place) ∙ follows.index.filled table place key a))
-    (λ table place key a x. a)))
+    (λ table place key a x. a)
+    (λ table one other key x. x)))
 
 -- an abort follows the machine's
 pub abort_follows : AbortFollows
@@ -123,14 +124,14 @@ abort_follows slot places swept desk machine session snapshot follows has is =
     subst (λ (x : Answer × IsolationMachine). Follows (λ table place. rolled_back session (slot table place)) swept (closed session desk) x.1)
     (sym (ap (step_of machine (command_of session act.Abort)) mine
     ∙ ap (λ n. (answer.Aborted, without n machine)) (found_session session machine.open_transactions open' mine)))
-    (abort_keeps slot places swept desk machine follows session (has_pass desk session snapshot has) is.kept is.stays)
+    (abort_keeps slot places swept desk machine follows session (has_pass desk session snapshot has) is.kept is.stays is.order)
 
 -- ---- upkeep
 
 -- a pruning changes nothing of the machine
 pub prune_follows : PruneFollows
 prune_follows slot after places swept desk machine oldest follows old is sweep =
-    prune_keeps slot places swept desk machine follows oldest old after is sweep.kept sweep.stays
+    prune_keeps slot places swept desk machine follows oldest old after is sweep.kept sweep.stays sweep.order
 
 -- a move changes nothing of the machine
 pub move_follows : MoveFollows
@@ -138,4 +139,4 @@ move_follows slot after places added desk machine stamp table source target key 
     move_keeps slot places desk machine follows stamp newest
     (λ session snapshot some has. later session snapshot (record { counted = some; is_open = has }))
     table source target key row is.source_before listed is.target_before
-    after added is.source_after is.target_after is.others more.added more.kept more.more
+    after added is.source_after is.target_after is.others more.added more.kept more.more more.behind

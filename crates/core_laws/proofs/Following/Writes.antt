@@ -12,17 +12,18 @@ use Rattle.isolation_spec.specs.declared.place.Place.{Place}
 use Rattle.isolation_laws.proofs.Rows.{place_cmp-total}
 use Rattle.txn_desk.specs.Desk.{DeskState}
 use Rattle.undo_chain.specs.Conflict.{numbers_above}
-use Rattle.block_spec.specs.Slots.{Slot, Row, writer_of, written, seen, is_bare, row_after, image_before, laid_back}
+use Rattle.block_spec.specs.Slots.{Slot, Row, bare, writer_of, written, seen, is_bare, row_after, image_before, laid_back}
 use Rattle.block_spec.specs.declared.change.Change.{Change}
 use Rattle.core_laws.proofs.Slots.Keys.{HasKey}
 use Rattle.event_spec.specs.SlotSound.{Keyed, IsSoundSlot}
 use Rattle.event_spec.specs.Lawful.{Among}
-use Rattle.event_spec.specs.Follows.{InOrder, Shows, Numbers, Index, Own, Desked, Follows, is_current}
+use Rattle.event_spec.specs.Follows.{InOrder, IsOlder, Shows, StandsBefore, Numbers, Index, Own, Desked, Follows, is_current}
+use Rattle.core_laws.proofs.Slots.Ages.{before_among, older_bare, older_written}
 use Rattle.core_laws.proofs.Following.Overlays.{at-insert, order-insert}
 use Rattle.core_laws.proofs.Slots.Written.{sound_written}
 use Rattle.core_laws.proofs.Slots.Views.{seen_written}
 use Rattle.core_laws.proofs.Slots.Endings.{written_keyed}
-use Rattle.core_laws.proofs.Slots.Kept.{writer_filled, writer_current, shown_filled, number_filled}
+use Rattle.core_laws.proofs.Slots.Kept.{bare_is, writer_filled, writer_current, shown_filled, number_filled}
 use Rattle.core_laws.proofs.Following.Machines.{of-with_own, of-with_own-other, one-with_own}
 use Rattle.core_laws.proofs.Following.Desks.{same_number, none_not}
 
@@ -61,18 +62,21 @@ module _ (slot : ℕ → ℕ → Slot) (places : ℕ → ℤ → List ℕ) (desk
     (leaves : HasKey key (row_after (slot t p).row change))
     (row_there : (is_some (row_after (slot t p).row change) || is_some (slot t p).row) ≡ true)
     (keyed : Keyed key (slot t p).row (slot t p).entries)
-    -- the slot is the key's or nobody's, no other session has written it, and no other slot of the
-    -- key is current
+    -- the slot is the key's or nobody's, no other session has written it, no other slot of the key
+    -- is current, and it is itself where it is a candidate
     (one_key : (k : ℤ) → Among p (places t k) → k ≡ key)
     (free : (w : ℕ) → writer_of (slot t p).entries ≡ Some w → w ≡ q)
     (alone : (p' : ℕ) → Among p' (places t key) → is_current (slot t p') ≡ true → p' ≡ p)
+    (listed_current : Among p (places t key) → is_current (slot t p) ≡ true)
     -- the slots and the index after it
     (slot' : ℕ → ℕ → Slot) (places' : ℕ → ℤ → List ℕ)
     (here : slot' t p ≡ written q change (slot t p))
     (others : (u r : ℕ) → ((u ≡ t) → (r ≡ p) → ⊥) → slot' u r ≡ slot u r)
     (added : Among p (places' t key))
     (kept : (u r : ℕ) (k : ℤ) → Among r (places u k) → Among r (places' u k))
-    (more : (u r : ℕ) (k : ℤ) → Among r (places' u k) → Among r (places u k) ⊎ ((u ≡ t) × (r ≡ p) × (k ≡ key))) where
+    (more : (u r : ℕ) (k : ℤ) → Among r (places' u k) → Among r (places u k) ⊎ ((u ≡ t) × (r ≡ p) × (k ≡ key)))
+    (behind : (u r r' : ℕ) (k : ℤ) → StandsBefore r r' (places' u k)
+    → StandsBefore r r' (places u k) ⊎ (Among r (places u k) × (Among r' (places u k) → ⊥) × (u ≡ t) × (r' ≡ p) × (k ≡ key))) where
   -- The row that the slot has after the write, if it has one.
   abbrev value : Option Row
   value = row_after (slot t p).row change
@@ -200,6 +204,43 @@ module _ (slot : ℕ → ℕ → Slot) (places : ℕ → ℤ → List ℕ) (desk
       go (inr x) (inl y) = one r' r y a' x a is
       go (inr x) (inr y) = f.current u k r r' (old r a x) (old r' a' y) (sym (ap is_current (others u r x)) ∙ is) (sym (ap is_current (others u r' y)) ∙ is')
 
+  -- a key's candidates stand in the order of their age as before, and the one written behind them
+  keeps_aged : (u : ℕ) (k : ℤ) (r r' : ℕ) → StandsBefore r r' (places' u k) → IsOlder (slot' u r) (slot' u r')
+  keeps_aged u k r r' x = go (behind u r r' k x)
+    where
+      true_false : true ≡ false → ⊥
+      true_false e = cc
+
+      after : ((u ≡ t) → (r ≡ p) → ⊥) → IsOlder (slot u r) (slot u r') → IsOlder (slot' u r) (slot' u r')
+      after no' old = subst (λ s. IsOlder s (slot' u r')) (sym (others u r no'))
+          (at_slot (λ y v w. IsOlder (slot u r) (slot v w) → IsOlder (slot u r) y) (older_written q change (slot u r) (slot t p)) (λ v w z. z) u r' old)
+
+      not_here : StandsBefore r r' (places u k) → (u ≡ t) → (r ≡ p) → ⊥
+      not_here b e e' =
+          let a : Among p (places t k) = subst (λ u. Among p (places u k)) e (subst (λ r. Among r (places u k)) e' (before_among r r' (places u k) b)) in
+          let now : is_current (slot t p) ≡ true = listed_current (subst (λ k. Among p (places t k)) (one_key k a) a) in
+          true_false (sym now ∙ ap (λ r. is_current (slot t r)) (sym e') ∙ ap (λ u. is_current (slot u r)) (sym e) ∙ (f.aged u k r r' b).settled)
+
+      fresh : Among r (places u k) → (Among r' (places u k) → ⊥) → (u ≡ t) → (r' ≡ p) → (k ≡ key) → IsOlder (slot' u r) (slot' u r')
+      fresh a no' e e' e'' = after not_p (older_bare (slot u r) (slot u r') (settled (cases_Bool (is_current (slot u r)))) (ap (λ u. slot u r') e ∙ ap (slot t) e' ∙ empty (cases_Bool (is_bare (slot t p)))))
+        where
+          not_p : (u ≡ t) → (r ≡ p) → ⊥
+          not_p y z = no' (subst (λ r. Among r (places u k)) (z ∙ sym e') a)
+
+          settled : (is_current (slot u r) ≡ true) ⊎ (is_current (slot u r) ≡ false) → is_current (slot u r) ≡ false
+          settled (inl now) = absurd (not_p e (alone r (subst (λ k. Among r (places t k)) e'' (subst (λ u. Among r (places u k)) e a)) (sym (ap (λ u. is_current (slot u r)) e) ∙ now)))
+          settled (inr is) = is
+
+          empty : (is_bare (slot t p) ≡ true) ⊎ (is_bare (slot t p) ≡ false) → slot t p ≡ bare
+          empty (inl is) = bare_is (slot t p) is
+          empty (inr filled) =
+              let listed = f.index.listed t p filled in
+              absurd (no' (subst (λ u. Among r' (places u k)) (sym e) (subst (λ r. Among r (places t k)) (sym e') (subst (λ k. Among p (places t k)) (one_key listed.0 listed.1 ∙ sym e'') listed.1))))
+
+      go : StandsBefore r r' (places u k) ⊎ (Among r (places u k) × (Among r' (places u k) → ⊥) × (u ≡ t) × (r' ≡ p) × (k ≡ key)) → IsOlder (slot' u r) (slot' u r')
+      go (inl b) = after (not_here b) (f.aged u k r r' b)
+      go (inr n) = fresh n.0 n.1 n.2 n.3 n.4
+
   -- After the write the session's transaction is the old one with the write entered.
   now_own : transaction_of q wrote ≡ Some (entered place value tr)
   now_own = of-with_own q place value m.open_transactions tr mine
@@ -318,5 +359,6 @@ module _ (slot : ℕ → ℕ → Slot) (places : ℕ → ℤ → List ℕ) (desk
     shows = λ s n live. keeps_shows s (state_at m.history n) (f.shows s n live);
     numbers = λ s n live. keeps_numbers s n (f.numbers s n live);
     current = keeps_current;
+    aged = keeps_aged;
     own = keeps_own;
   }

@@ -181,6 +181,7 @@ module _ (sh : Shape) (shape : IsShape sh) where
       writers = λ t p q is. absurd (none-some q is);
       written = λ q open' t key value is at. absurd (none-some open' is);
     };
+    aged = λ t key one other x. absurd x;
   }
 
   -- The slots, candidates and desk of the opening core follow the opening machine.

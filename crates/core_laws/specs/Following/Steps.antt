@@ -3,7 +3,7 @@ use Rattle.std.specs.Prelude.{◌≡◌, ◌⊎◌, ℕ, ℤ, true, false, ◌||
 use Rattle.block_spec.specs.declared.change.Change.{Change}
 use Rattle.block_spec.specs.Slots.{Slot, Row, bare, is_bare, writer_of, row_after, written, pruned}
 use Rattle.block_spec.specs.Slots.{moved_out, moved_in}
-use Rattle.event_spec.specs.Follows.{is_current}
+use Rattle.event_spec.specs.Follows.{StandsBefore, is_current}
 use Rattle.event_spec.specs.Lawful.{Among}
 use Rattle.event_spec.specs.SlotSound.{Keyed}
 use Rattle.isolation_spec.specs.Contents.{key_of}
@@ -21,24 +21,32 @@ CandidateMap = ℕ → ℤ → List ℕ
 abbrev pub IsOther : ℕ → ℕ → ℕ → ℕ → Type 0
 IsOther table place other another = (other ≡ table) → (another ≡ place) → ⊥
 
--- The candidates after a change are those before it, and a place of one key.
+-- The candidates after a change are those before it, and a place of one key, which stands behind
+-- those of its key where it is new.
 pub record IsAdded (before after : CandidateMap) (table place : ℕ) (key : ℤ) : Type 0 where
   pub added : Among place (after table key)
   pub kept : (other another : ℕ) (word : ℤ) → Among another (before other word)
       → Among another (after other word)
   pub more : (other another : ℕ) (word : ℤ) → Among another (after other word)
       → Among another (before other word) ⊎ ((other ≡ table) × (another ≡ place) × (word ≡ key))
+  pub behind : (other one another : ℕ) (word : ℤ) → StandsBefore one another (after other word)
+      → StandsBefore one another (before other word)
+      ⊎ (Among one (before other word) × (Among another (before other word) → ⊥)
+      × (other ≡ table) × (another ≡ place) × (word ≡ key))
 
--- The candidates after a change are those before it whose slot is not bare then.
+-- The candidates after a change are those before it whose slot is not bare then, in their order.
 pub record IsSwept (slot : SlotMap) (before after : CandidateMap) : Type 0 where
   pub kept : (table place : ℕ) (key : ℤ) → Among place (after table key)
       → Among place (before table key) × (is_bare (slot table place) ≡ false)
   pub stays : (table place : ℕ) (key : ℤ) → Among place (before table key)
       → is_bare (slot table place) ≡ false
       → Among place (after table key)
+  pub order : (table one other : ℕ) (key : ℤ) → StandsBefore one other (after table key)
+      → StandsBefore one other (before table key)
 
 -- A session may write a slot: the write is undone by its before-image and leaves the key, nobody
--- else's entry stands there, and no other slot of the key is current.
+-- else's entry stands there, no other slot of the key is current, and it is itself where it is a
+-- candidate.
 pub record MayWrite (slot : SlotMap) (places : CandidateMap) (session table place : ℕ) (key : ℤ)
     (change : Change)
     : Type 0 where
@@ -51,6 +59,7 @@ pub record MayWrite (slot : SlotMap) (places : CandidateMap) (session table plac
   pub free : (writer : ℕ) → writer_of (slot table place).entries ≡ Some writer → writer ≡ session
   pub alone : (another : ℕ) → Among another (places table key) → is_current (slot table another)
       ≡ true → another ≡ place
+  pub current : Among place (places table key) → is_current (slot table place) ≡ true
 
 -- The slots after a write are those before it, but for the one written.
 pub record IsWritten (before after : SlotMap) (session table place : ℕ) (change : Change) : Type 0 where

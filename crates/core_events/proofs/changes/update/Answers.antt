@@ -16,7 +16,8 @@ use Rattle.isolation_spec.specs.Contents.{key_of}
 use Rattle.core_events.proofs.Changing.{refused, written_once}
 use Rattle.core_events.proofs.Takes.{change_takes, changed_place, changes, patch_fits, takes_at}
 use Rattle.core_events.proofs.Touched.{update_own, update_same, update_shard, update_slots}
-use Rattle.core_events.specs.Candidates.{candidates_in}
+use Rattle.core_events.proofs.Decided.{change_few}
+use Rattle.core_events.specs.Candidates.{candidates_in, deciding}
 use Rattle.core_events.specs.Slots.{HasSlots}
 use Rattle.core_laws.proofs.Events.Fitting.{fits_columns}
 use Rattle.block_spec.specs.Fitting.{ChangeFits}
@@ -26,36 +27,41 @@ use Rattle.block_spec.specs.Bodies.{with_slot}
 use Rattle.core_events.specs.Writes.{of_body}
 use Rattle.core_events.proofs.changes.update.Goals as goal
 
-pub candidates-places-requires : goal.candidates-places-requires
-candidates-places-requires g c =
+pub candidates-requires : goal.candidates-requires
+candidates-requires g c =
     let key : to_z w64 (of_z w64 c.key_of-key.result) ≡ key_of c.args.row = to_z-of_z {w = w64} (search rules) ∙ c.key_of-key.ensures in
     subst (λ (k : ℤ). Has c.args.shape.now c.args.held.now (ShardOf c.args.table (shard_of k))) (sym key) (update_shard c.args.shape.now c.args.held.now c.args.own.now c.args.table c.args.row c.requires)
 
-pub judge_change-requires-clause-places : goal.judge_change-requires-clause-places
-judge_change-requires-clause-places g c =
+pub deciding-places-requires : goal.deciding-places-requires
+deciding-places-requires g c =
     let key : to_z w64 (of_z w64 c.key_of-key.result) ≡ key_of c.args.row = to_z-of_z {w = w64} (search rules) ∙ c.key_of-key.ensures in
-    subst (HasSlots c.args.shape.now c.args.held.now c.args.table) (sym (c.candidates-places.ensures ∙ ap (candidates_in c.args.shape.now c.args.held.now c.args.table) key)) (update_slots c.args.shape.now c.args.held.now c.args.own.now c.args.table c.args.row c.requires)
+    subst (HasSlots c.args.shape.now c.args.held.now c.args.table) (sym (c.candidates.ensures ∙ ap (candidates_in c.args.shape.now c.args.held.now c.args.table) key)) (update_slots c.args.shape.now c.args.held.now c.args.own.now c.args.table c.args.row c.requires)
+
+pub judge_change-requires-clause-places : goal.judge_change-requires-clause-places
+judge_change-requires-clause-places g c = c.deciding-places.ensures.slots
 
 pub judge_change-requires-clause-own : goal.judge_change-requires-clause-own
 judge_change-requires-clause-own g c = update_own c.args.shape.now c.args.held.now c.args.own.now c.args.table c.args.row c.requires
 
 -- what is judged is what is judged in the core
 judged_is : (sh : Shape) (hand : Held) (own : OwnKey) (t : ℕ) (row : Row) (m : MayRun sh (event.Update own t row) hand) (places : List ℕ) (said : Result ℕ WriteFault)
-    → said ≡ judged_change (slot_at sh m.parts t) places (λ block. (body_at sh m.parts t block).phase) own → places ≡ candidates_in sh hand t (key_of row) → change_judged sh m.parts own t (key_of row) ≡ said
+    → said ≡ judged_change (slot_at sh m.parts t) places (λ block. (body_at sh m.parts t block).phase) own → places ≡ deciding (slot_at sh m.parts t) own.snapshot.stamp (candidates_in sh hand t (key_of row)) → change_judged sh m.parts own t (key_of row) ≡ said
 judged_is sh hand own t row m places said is at =
-    ap (λ (ps : List ℕ). judged_change (slot_at sh m.parts t) ps (λ block. (body_at sh m.parts t block).phase) own) (update_same sh hand own t row m m.parts m.agrees ∙ sym at) ∙ sym is
+    sym (change_few sh m.parts m.holds.sound own t (key_of row) (λ block. (body_at sh m.parts t block).phase))
+    ∙ ap (λ (ps : List ℕ). judged_change (slot_at sh m.parts t) ps (λ block. (body_at sh m.parts t block).phase) own)
+    (ap (λ (ps : List ℕ). deciding (slot_at sh m.parts t) own.snapshot.stamp ps) (update_same sh hand own t row m m.parts m.agrees) ∙ sym at) ∙ sym is
 
 pub returns-in-Err-clause-ok : goal.returns-in-Err-clause-ok
 returns-in-Err-clause-ok g c =
     let key : to_z w64 (of_z w64 c.key_of-key.result) ≡ key_of c.args.row = to_z-of_z {w = w64} (search rules) ∙ c.key_of-key.ensures in
-    let is = judged_is c.args.shape.now c.args.held.now c.args.own.now c.args.table c.args.row c.requires c.candidates-places.result.now c.judge_change.result (c.judge_change.ensures c.requires.parts c.requires.agrees) (c.candidates-places.ensures ∙ ap (candidates_in c.args.shape.now c.args.held.now c.args.table) key) ∙ c.in-Err.is in
+    let is = judged_is c.args.shape.now c.args.held.now c.args.own.now c.args.table c.args.row c.requires c.deciding-places.result.now c.judge_change.result (c.judge_change.ensures c.requires.parts c.requires.agrees) (c.deciding-places.ensures.deciding c.requires.parts c.requires.agrees ∙ ap (λ (ps : List ℕ). deciding (slot_at c.args.shape.now c.requires.parts c.args.table) c.args.own.now.snapshot.stamp ps) (c.candidates.ensures ∙ ap (candidates_in c.args.shape.now c.args.held.now c.args.table) key)) ∙ c.in-Err.is in
     refused c.args.shape.now (event.Update c.args.own.now c.args.table c.args.row) c.args.held.now c.requires (change_judged c.args.shape.now c.requires.parts c.args.own.now c.args.table (key_of c.args.row)) c.in-Err.fault
     (after_change c.args.shape.now c.requires.parts c.args.own.now c.args.table (λ old. change.Patch (differences 0 old c.args.row))) is refl refl refl
 
 pub changed_at-requires-clause-slot : goal.changed_at-requires-clause-slot
 changed_at-requires-clause-slot g c =
     let key : to_z w64 (of_z w64 c.key_of-key.result) ≡ key_of c.args.row = to_z-of_z {w = w64} (search rules) ∙ c.key_of-key.ensures in
-    let is = judged_is c.args.shape.now c.args.held.now c.args.own.now c.args.table c.args.row c.requires c.candidates-places.result.now c.judge_change.result (c.judge_change.ensures c.requires.parts c.requires.agrees) (c.candidates-places.ensures ∙ ap (candidates_in c.args.shape.now c.args.held.now c.args.table) key) ∙ c.in-Ok.is in
+    let is = judged_is c.args.shape.now c.args.held.now c.args.own.now c.args.table c.args.row c.requires c.deciding-places.result.now c.judge_change.result (c.judge_change.ensures c.requires.parts c.requires.agrees) (c.deciding-places.ensures.deciding c.requires.parts c.requires.agrees ∙ ap (λ (ps : List ℕ). deciding (slot_at c.args.shape.now c.requires.parts c.args.table) c.args.own.now.snapshot.stamp ps) (c.candidates.ensures ∙ ap (candidates_in c.args.shape.now c.args.held.now c.args.table) key)) ∙ c.in-Ok.is in
     let a = changed_place c.args.shape.now c.requires.parts c.requires.holds.sound c.args.own.now c.args.table (key_of c.args.row) c.requires.lawful.1.2 c.in-Ok.place is in
     update_slots c.args.shape.now c.args.held.now c.args.own.now c.args.table c.args.row c.requires c.in-Ok.place (subst (Among c.in-Ok.place) (update_same c.args.shape.now c.args.held.now c.args.own.now c.args.table c.args.row c.requires c.requires.parts c.requires.agrees) a)
 
@@ -63,7 +69,7 @@ pub install-requires-clause-takes : goal.install-requires-clause-takes
 install-requires-clause-takes g c =
     let key : to_z w64 (of_z w64 c.key_of-key.result) ≡ key_of c.args.row = to_z-of_z {w = w64} (search rules) ∙ c.key_of-key.ensures in
     let s = c.requires.parts in let own = c.args.own.now in let sh = c.args.shape.now in
-    let is = judged_is c.args.shape.now c.args.held.now c.args.own.now c.args.table c.args.row c.requires c.candidates-places.result.now c.judge_change.result (c.judge_change.ensures c.requires.parts c.requires.agrees) (c.candidates-places.ensures ∙ ap (candidates_in c.args.shape.now c.args.held.now c.args.table) key) ∙ c.in-Ok.is in
+    let is = judged_is c.args.shape.now c.args.held.now c.args.own.now c.args.table c.args.row c.requires c.deciding-places.result.now c.judge_change.result (c.judge_change.ensures c.requires.parts c.requires.agrees) (c.deciding-places.ensures.deciding c.requires.parts c.requires.agrees ∙ ap (λ (ps : List ℕ). deciding (slot_at c.args.shape.now c.requires.parts c.args.table) c.args.own.now.snapshot.stamp ps) (c.candidates.ensures ∙ ap (candidates_in c.args.shape.now c.args.held.now c.args.table) key)) ∙ c.in-Ok.is in
     let thawed = c.requires.lawful.1.2 in
     let a = changed_place sh s c.requires.holds.sound own c.args.table (key_of c.args.row) thawed c.in-Ok.place is in
     let row = changes sh s c.requires.holds.sound own c.args.table (key_of c.args.row) thawed c.in-Ok.place is in
@@ -77,7 +83,7 @@ install-requires-clause-takes g c =
 pub returns-clause-ok : goal.returns-clause-ok
 returns-clause-ok g c =
     let key : to_z w64 (of_z w64 c.key_of-key.result) ≡ key_of c.args.row = to_z-of_z {w = w64} (search rules) ∙ c.key_of-key.ensures in
-    let is = judged_is c.args.shape.now c.args.held.now c.args.own.now c.args.table c.args.row c.requires c.candidates-places.result.now c.judge_change.result (c.judge_change.ensures c.requires.parts c.requires.agrees) (c.candidates-places.ensures ∙ ap (candidates_in c.args.shape.now c.args.held.now c.args.table) key) ∙ c.in-Ok.is in
+    let is = judged_is c.args.shape.now c.args.held.now c.args.own.now c.args.table c.args.row c.requires c.deciding-places.result.now c.judge_change.result (c.judge_change.ensures c.requires.parts c.requires.agrees) (c.deciding-places.ensures.deciding c.requires.parts c.requires.agrees ∙ ap (λ (ps : List ℕ). deciding (slot_at c.args.shape.now c.requires.parts c.args.table) c.args.own.now.snapshot.stamp ps) (c.candidates.ensures ∙ ap (candidates_in c.args.shape.now c.args.held.now c.args.table) key)) ∙ c.in-Ok.is in
     written_once c.args.shape.now (event.Update c.args.own.now c.args.table c.args.row) c.args.held.now c.requires (change_judged c.args.shape.now c.requires.parts c.args.own.now c.args.table (key_of c.args.row)) c.in-Ok.place
     (after_change c.args.shape.now c.requires.parts c.args.own.now c.args.table (λ old. change.Patch (differences 0 old c.args.row))) c.install.new.held is refl
     (c.in_ok-install.ensures.ok ∙ ap (λ ds. after c.args.shape.now (of_body c.args.table (block_of c.in-Ok.place) (with_slot (slot_of c.in-Ok.place) (written c.args.own.now.session (change.Patch ds)))) c.args.held.now)

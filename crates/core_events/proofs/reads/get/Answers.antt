@@ -11,7 +11,8 @@ use Rattle.event_spec.specs.Parts.{Parts, Shape, ShardOf, places_at, shard_of, s
 use Rattle.core_laws.proofs.Frames.Fitness.{body_touched, shard_touched}
 use Rattle.hall_rule.specs.Hands.{Agrees}
 use Rattle.core_events.proofs.Keys.{candidates_are, own_slot, the_shard, the_slots}
-use Rattle.core_events.specs.Candidates.{candidates_in}
+use Rattle.core_events.proofs.Decided.{found_few}
+use Rattle.core_events.specs.Candidates.{candidates_in, deciding}
 use Rattle.core_events.proofs.Places.{ok_more}
 use Rattle.core_events.specs.Slots.{HasSlot, HasSlots}
 use Rattle.core_events.proofs.reads.get.Goals as goal
@@ -33,15 +34,18 @@ module _ (sh : Shape) (hand : Held) (own : OwnKey) (t : ℕ) (key : ℤ) (m : Ma
   same = candidates_are sh (event.Get own t key) hand m own t key m.lawful.1 m.lawful.0
       (shard_touched t key (option_to_list own.written ++ candidates_in sh hand t key)) (body_touched t key (option_to_list own.written) (candidates_in sh hand t key))
 
-pub candidates-places-requires : goal.candidates-places-requires
-candidates-places-requires g c =
+pub candidates-requires : goal.candidates-requires
+candidates-requires g c =
     let key : to_z w64 (of_z w64 c.args.key) ≡ c.args.key = to_z-of_z {w = w64} (search rules) in
     subst (λ (k : ℤ). Has c.args.shape.now c.args.held.now (ShardOf c.args.table (shard_of k))) (sym key) (shard_is c.args.shape.now c.args.held.now c.args.own.now c.args.table c.args.key c.requires)
 
-pub found-requires-clause-places : goal.found-requires-clause-places
-found-requires-clause-places g c =
+pub deciding-places-requires : goal.deciding-places-requires
+deciding-places-requires g c =
     let key : to_z w64 (of_z w64 c.args.key) ≡ c.args.key = to_z-of_z {w = w64} (search rules) in
-    subst (HasSlots c.args.shape.now c.args.held.now c.args.table) (sym (c.candidates-places.ensures ∙ ap (candidates_in c.args.shape.now c.args.held.now c.args.table) key)) (slots_are c.args.shape.now c.args.held.now c.args.own.now c.args.table c.args.key c.requires)
+    subst (HasSlots c.args.shape.now c.args.held.now c.args.table) (sym (c.candidates.ensures ∙ ap (candidates_in c.args.shape.now c.args.held.now c.args.table) key)) (slots_are c.args.shape.now c.args.held.now c.args.own.now c.args.table c.args.key c.requires)
+
+pub found-requires-clause-places : goal.found-requires-clause-places
+found-requires-clause-places g c = c.deciding-places.ensures.slots
 
 pub found-requires-clause-own : goal.found-requires-clause-own
 found-requires-clause-own g c = own_is c.args.shape.now c.args.held.now c.args.own.now c.args.table c.args.key c.requires
@@ -53,10 +57,14 @@ returns-clause-reply g c =
     only_told c.args.shape.now (event.Get c.args.own.now c.args.table c.args.key) c.args.held.now (reply.Found row) c.requires refl
     (ap reply.Found (is c.requires.parts c.requires.agrees
     ∙ ap (λ (ps : List ℕ). found_by (slot_at c.args.shape.now c.requires.parts c.args.table) ps c.args.own.now)
-    (c.candidates-places.ensures ∙ ap (candidates_in c.args.shape.now c.args.held.now c.args.table) key ∙ sym (same c.args.shape.now c.args.held.now c.args.own.now c.args.table c.args.key c.requires c.requires.parts c.requires.agrees)))))
+    (c.deciding-places.ensures.deciding c.requires.parts c.requires.agrees
+    ∙ ap (λ (ps : List ℕ). deciding (slot_at c.args.shape.now c.requires.parts c.args.table) c.args.own.now.snapshot.stamp ps)
+    (c.candidates.ensures ∙ ap (candidates_in c.args.shape.now c.args.held.now c.args.table) key ∙ sym (same c.args.shape.now c.args.held.now c.args.own.now c.args.table c.args.key c.requires c.requires.parts c.requires.agrees)))
+    ∙ found_few c.args.shape.now c.requires.parts c.requires.holds.sound c.args.own.now c.args.table c.args.key)))
 
 pub returns-clause-steps : goal.returns-clause-steps
 returns-clause-steps g c = λ s agrees.
     let key : to_z w64 (of_z w64 c.args.key) ≡ c.args.key = to_z-of_z {w = w64} (search rules) in
-    let few = c.found.ensures.steps in
-    let many = ap length (c.candidates-places.ensures ∙ ap (candidates_in c.args.shape.now c.args.held.now c.args.table) key ∙ sym (same c.args.shape.now c.args.held.now c.args.own.now c.args.table c.args.key c.requires s agrees)) in omega (arith, few, many)
+    let steps = c.found.ensures.steps in
+    let few = c.deciding-places.ensures.few in
+    let many = ap length (c.candidates.ensures ∙ ap (candidates_in c.args.shape.now c.args.held.now c.args.table) key ∙ sym (same c.args.shape.now c.args.held.now c.args.own.now c.args.table c.args.key c.requires s agrees)) in omega (arith, steps, few, many)
