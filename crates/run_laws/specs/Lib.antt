@@ -1,7 +1,6 @@
 pub mod Calls
 pub mod Moments
 pub mod Told
-pub mod Scans
 pub mod Counts
 pub mod Explained
 pub mod Rounds

@@ -9,5 +9,4 @@ pub mod export_laws;
 pub mod log_laws;
 pub mod moment_laws;
 pub mod round_laws;
-pub mod scan_laws;
 pub mod told_laws;

@@ -1,6 +1,5 @@
 //! Laws of whole logs: each function does nothing, and its contract is one of them.
 ghost use Rattle.run_laws.specs.Logs.Parts.{PartsAreThere};
-ghost use Rattle.run_laws.specs.Logs.Reads.{ReadsAreTheScanThroughout};
 ghost use Rattle.run_laws.specs.Logs.Stamps.{SealsRise, StampsStandTogether};
 
 /// Behind every lawful log each part is there and of its name's kind.
@@ -13,10 +12,4 @@ pub fn every_part_is_there()
 pub fn moments_of_a_stamp_follow_one_another()
     ensures together { StampsStandTogether }
     ensures once { SealsRise }
-{}
-
-/// An open session's reads of all blocks of a table, whenever each was made between two of its
-/// writes, tell each row that it sees once.
-pub fn reads_at_moments_are_the_scan()
-    ensures { ReadsAreTheScanThroughout }
 {}

@@ -9,3 +9,8 @@ pub mod Room
 pub mod Spent
 pub mod Machines
 pub mod Stepping
+pub mod Maps
+pub mod Scans
+pub mod Sights
+pub mod Looks
+pub mod Scanning

@@ -1,9 +1,7 @@
 -- The machine along a store's log.
-use Rattle.std.proofs.Common.{◌≡◌, ◌≢◌, ◌⊎◌, ℕ, ◌==◌, Bool, true, false, cond, List, [], ◌∷◌, ◌++◌, Option, None, Some, fold, refl, sym, ap, subst, ◌∙◌, append-nil, append_assoc, arith}
-use mathlib.Core.Logic.{inl, inr}
-use Rattle.std.specs.Prelude.{map}
+use Rattle.std.proofs.Common.{◌≡◌, ◌≢◌, ℕ, ◌==◌, Bool, true, false, cond, List, [], ◌∷◌, ◌++◌, None, Some, fold, refl, sym, ap, subst, ◌∙◌, append-nil, arith}
 use Rattle.std.proofs.lemmas.Bool.Decides.{nat_tests}
-use Rattle.std.proofs.lemmas.List.{append_cancel_left, append_cancel_right, map-append}
+use Rattle.std.proofs.lemmas.List.{append_cancel_left}
 use Rattle.std.proofs.lemmas.List.Sums.{fold-append}
 use Rattle.core_laws.proofs.Logs.Logs.{made_keeps, made_step}
 use Rattle.core_laws.proofs.Logs.Opening.{opening_follows, sound}
@@ -13,7 +11,6 @@ use Rattle.event_spec.specs.Lawful.{session_of}
 use Rattle.event_spec.specs.Parts.{Parts, Shape}
 use Rattle.event_spec.specs.Replay.{IsLawfulFrom, IsLawfulLog, after, opening, reply_after}
 use Rattle.event_spec.specs.Sound.{IsShape, Sound}
-use Rattle.isolation_spec.specs.Contents.{History}
 use Rattle.isolation_spec.specs.Machine.{IsolationMachine}
 use Rattle.isolation_spec.specs.Machine as machine
 use Rattle.run_spec.specs.Handed.{GoesOn, own_in}
@@ -78,7 +75,8 @@ module _ (sh : Shape) where
   AreQuiet [] = Unit {0}
   AreQuiet (o ∷ os) = (command_in o.event ≡ None) × AreQuiet os
 
-  under_rest : (q : ℕ) (log more : List Logged) → StandsUnder q (log ++ more) → StandsUnder q more
+  -- a session's events in the rest of a log stand under it
+  pub under_rest : (q : ℕ) (log more : List Logged) → StandsUnder q (log ++ more) → StandsUnder q more
   under_rest q [] more all = all
   under_rest q (entry ∷ log) more all = under_rest q log more all.1
 

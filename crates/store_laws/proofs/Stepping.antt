@@ -7,7 +7,7 @@ use Rattle.std.specs.BTreeMap.{insert_entry}
 use Rattle.std.specs.Option.{option_map_or, option_or}
 use Rattle.std.proofs.lemmas.List.{length_push, take-append-le}
 use Rattle.block_spec.specs.Slots.{Row}
-use Rattle.core_laws.proofs.Following.Machines.{found_session, of-append-new, of-append-other, of-with_own, of-with_own-other, of-without, of-without-own}
+use Rattle.core_laws.proofs.Following.Machines.{found_session, of-append-new, of-append-other, of-with_own, of-with_own-other, of-without}
 use Rattle.core_laws.specs.Events.Laws.{IsStep, IsTold, command_in, outcome_of}
 use Rattle.event_spec.specs.declared.event.Event.TheVariants as event
 use Rattle.event_spec.specs.declared.reply.Reply.TheVariants as reply
@@ -15,7 +15,6 @@ use Rattle.event_spec.specs.declared.reply.WriteFault.{WriteFault}
 use Rattle.event_spec.specs.declared.reply.WriteFault.TheVariants as fault
 use Rattle.event_spec.specs.Effects.{CoreEvent}
 use Rattle.event_spec.specs.Lawful.{session_of}
-use Rattle.event_spec.specs.Replies.{CoreReply}
 use Rattle.isolation_spec.specs.Contents.{History, WriteSet, at_place, laid_over, place_at, place_cmp, place_of, state_at}
 use Rattle.isolation_spec.specs.declared.command.Act.{Act}
 use Rattle.isolation_spec.specs.declared.command.Act.TheVariants as act
@@ -252,7 +251,7 @@ module _ (q : ℕ) (m next : IsolationMachine) (commits : History) (own : WriteS
   opened = record { session = q; snapshot = length commits; own = own }
 
   -- the rows that its transaction sees are those of its commits with its own writes
-  rows_are : seen_rows m opened ≡ rows_seen commits own
+  pub rows_are : seen_rows m opened ≡ rows_seen commits own
   rows_are =
       ap (λ (h : History). laid_over (state_at h (length commits)) own) has.sees.1
       ∙ ap (λ (h : History). laid_over (Rattle.std.specs.Prelude.fold laid_over [] h) own) (take-append-le (length commits) commits has.sees.0 (omega arith))

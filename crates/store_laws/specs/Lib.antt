@@ -4,3 +4,5 @@ pub mod Logs
 pub mod Machines
 pub mod Own
 pub mod Room
+pub mod Reads
+pub mod Scans

@@ -4,6 +4,7 @@
 #![tactic(auto)]
 
 pub mod own_laws;
+pub mod scan_laws;
 
 ghost use Rattle.store_laws.specs.Laws.{EventsGoOn, JoinsGoOn, LooksGoOn, LogsAreRuns};
 ghost use Rattle.store_laws.specs.Laws.{SingleEventsAreCalls, StampsAreFew};

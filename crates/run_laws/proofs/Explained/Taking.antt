@@ -48,7 +48,7 @@ use Rattle.run_laws.specs.Calls.Asking.{asks_nothing}
 use Rattle.run_laws.specs.Calls.Coming.{EndsAt, is_single}
 use Rattle.run_laws.specs.Calls.Open.{OpenAs}
 use Rattle.run_laws.specs.Calls.Upkeep.{AreReplied}
-use Rattle.run_laws.proofs.Scans.Scans.{reads_are_the_scan}
+use Rattle.store_laws.proofs.Scans.{reads_are_the_scan}
 use Rattle.run_laws.proofs.Told.Tells.{calls_go_on_quietly}
 use Rattle.run_laws.specs.Told.Laws.{is_quiet}
 use Rattle.run_laws.specs.Moments.Laws.{IsAsked, command_told}

@@ -11,7 +11,7 @@ use Rattle.core_laws.proofs.Following.Overlays.{at-laid_over, over}
 use Rattle.isolation_spec.specs.Contents.{State, WriteSet, at_place, contents_of, laid_over, place_at}
 use Rattle.isolation_spec.specs.declared.place.Place.{Place}
 use Rattle.isolation_spec.specs.Contents.{least_key}
-use Rattle.run_laws.proofs.Scans.Maps.{same_contents}
+use Rattle.store_laws.proofs.Maps.{same_contents}
 
 -- Numbers that a test tells apart do not compare as equal.
 other_number : (a b : ℕ) → (b == a) ≡ false → is_eq (nat_cmp a b) ≡ false

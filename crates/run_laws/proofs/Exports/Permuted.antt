@@ -10,7 +10,7 @@ use Rattle.std.proofs.lemmas.List.Sorted.{IsPermutation-append_left, IsPermutati
 use Rattle.block_spec.specs.Slots.{Row}
 use Rattle.isolation_spec.specs.Contents.{State, contents_of, place_cmp, place_of}
 use Rattle.isolation_spec.specs.declared.place.Place.{Place}
-use Rattle.run_laws.proofs.Scans.Maps.{put}
+use Rattle.store_laws.proofs.Maps.{put}
 use Rattle.run_laws.specs.Exports.Laws.{OrderedRowsAreTheRows}
 
 -- A number passes the test for equality with itself.

@@ -31,6 +31,7 @@ use Rattle.event_spec.specs.Parts.{Parts, Shape, nothing, body_at, desk_at, is_h
 use Rattle.event_spec.specs.Replay.{IsLawfulFrom, Made, after, opening, replay}
 use Rattle.event_spec.specs.Sound.{IsShape, Sound}
 use Rattle.isolation_spec.specs.Contents.{key_of}
+use Rattle.store_laws.proofs.Looks.{lawful_parts}
 use Rattle.run_laws.specs.Logs.Stamps.{SealsRise, StampsStandTogether, sealing}
 
 -- A number passes the test for equality with itself.
@@ -142,13 +143,6 @@ module _ (sh : Shape) (s : Parts) (t b : ℕ) where
   event_goes (event.Seal u x) y = seal_goes u x y
   event_goes (event.Image u x image) y = at_one u x imaged (λ y. stays y (imaged y) (imaged_stamp y.phase)) t b y
   event_goes (event.Thaw u x) y = at_one u x thawed (λ y. loses y (thawed y) refl) t b y
-
--- a lawful log of two lists is lawful over the first, and over the second behind it
-pub lawful_parts : (sh : Shape) (xs ys : List Made) (s : Parts) → IsLawfulFrom sh s (xs ++ ys) → IsLawfulFrom sh s xs × IsLawfulFrom sh (fold (after sh) s xs) ys
-lawful_parts sh [] ys s lawful = (tt, lawful)
-lawful_parts sh (made ∷ xs) ys s lawful =
-    let rest = lawful_parts sh xs ys (after sh s made) lawful.2 in
-    ((lawful.0, lawful.1, rest.0), rest.1)
 
 module _ (sh : Shape) (t b : ℕ) (shape : IsShape sh) (has : HasBlock sh t b) where
   -- the block's body

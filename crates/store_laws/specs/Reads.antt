@@ -1,6 +1,7 @@
 -- What a session's reads of all blocks of a table tell, each made at a moment of its own.
-use Rattle.std.specs.Prelude.{◌≡◌, ℕ, Bool, true, false, List, ◌++◌, Some, All, fold, length, take}
-use Rattle.std.specs.List.{flat_map}
+use Rattle.std.specs.Prelude.{◌≡◌, ℕ, Bool, true, false, List, ◌++◌, Some, All, fold, length, map}
+use Rattle.std.specs.Prelude.{take}
+use Rattle.std.specs.List.{flat_map, list_any}
 use Rattle.block_spec.specs.Slots.{Row}
 use Rattle.core_laws.specs.Events.Named.{FollowsMachine}
 use Rattle.event_spec.specs.declared.event.Event.TheVariants as event
@@ -11,9 +12,15 @@ use Rattle.event_spec.specs.Parts.{Parts, Shape, below, blocks_of}
 use Rattle.event_spec.specs.Replay.{IsLawfulLog, Made, after, replay}
 use Rattle.event_spec.specs.Replies.{reply_to}
 use Rattle.event_spec.specs.Sound.{IsShape}
-use Rattle.isolation_spec.specs.Contents.{contents_of}
+use Rattle.isolation_spec.specs.Contents.{History, WriteSet, contents_of}
 use Rattle.isolation_spec.specs.Machine.{IsolationMachine, Transaction, seen_rows, transaction_of}
+use Rattle.run_spec.specs.Calls.{is_refused}
+use Rattle.run_spec.specs.Handed.{GoesOn, own_in}
+use Rattle.run_spec.specs.Occurrences.{Logged, Occurrence, events_in, replies_in}
 use Rattle.run_spec.specs.Told.{in_key_order, rows_told}
+use Rattle.store_laws.specs.Logs.{made_in}
+use Rattle.store_laws.specs.Machines.{HasOpenIn, machine_after, rows_seen}
+use Rattle.store_laws.specs.Own.{StandsUnder, parts_after}
 
 -- a get or a read, which changes nothing
 abbrev pub is_look : CoreEvent → Bool
@@ -68,3 +75,17 @@ ReadsAreTheScanThroughout = (shape : Shape) (front log : List Made) (moment : �
     → transaction_of own.session machine ≡ Some open'
     → AreTheScan (told_throughout shape (replay shape front) log moment own table) table machine
     open'
+
+-- So a session that made nothing else from one log to a later one was told the rows that its
+-- transaction sees.
+abbrev pub ReadsTellTheRows : Type 0
+ReadsTellTheRows = (shape : Shape) (earlier later : List Logged) (made : List Occurrence)
+    (own : OwnTransaction) (table : ℕ) (commits : History) (writes : WriteSet)
+    → IsShape shape → IsLawfulLog shape (made_in later) → GoesOn earlier later
+    → StandsUnder own.session later → OwnsAll shape own (parts_after shape earlier)
+    → HasOpenIn own.session (machine_after shape earlier) commits writes
+    → own_in shape own.session later ≡ own_in shape own.session earlier ++ made
+    → events_in made ≡ map (event.Read own table) (below (blocks_of shape table))
+    → list_any is_refused made ≡ false
+    → in_key_order table (flat_map rows_told (replies_in made))
+    ≡ contents_of table (rows_seen commits writes)

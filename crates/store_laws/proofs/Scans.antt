@@ -23,8 +23,8 @@ use Rattle.isolation_spec.specs.Contents.{at_place, is_place, key_of, place_at, 
 use Rattle.isolation_spec.specs.Machine.{IsolationMachine, Transaction, seen_rows, transaction_of}
 use Rattle.core_laws.proofs.Snapshots.BlockReads.{reads_hold_each_row}
 use Rattle.core_laws.specs.Snapshots.Laws.{ReadsEachOnce}
-use Rattle.run_laws.specs.Scans.Laws.{IsTheScan, ReadsAreTheScan, all_read}
-use Rattle.run_laws.proofs.Scans.Maps.{Fresh, order_put, put, put_count, put_has, same_contents}
+use Rattle.store_laws.specs.Scans.{IsTheScan, ReadsAreTheScan, all_read}
+use Rattle.store_laws.proofs.Maps.{Fresh, order_put, put, put_count, put_has, same_contents}
 
 -- Rows of different keys in two lists have different keys in both where none is common.
 fresh_append : (table : ℕ) (xs ys : List Row) → Fresh table xs → Fresh table ys

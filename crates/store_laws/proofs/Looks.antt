@@ -1,11 +1,12 @@
 -- A session's reads of all blocks of a table, each made at a moment of its own.
-use Rattle.std.proofs.Common.{◌≡◌, ◌≢◌, ◌⊎◌, ℕ, zero, suc, ◌+◌, ◌≤◌, Bool, true, false, cond, List, [], ◌∷◌, ◌++◌, Option, None, Some, refl, sym, ap, ◌∙◌, subst, arith}
+use Rattle.std.proofs.Common.{◌≡◌, ◌≢◌, ◌⊎◌, ℕ, zero, suc, ◌+◌, ◌≤◌, Bool, true, false, cond, List, [], ◌∷◌, ◌++◌, Option, None, Some, fold, refl, sym, ap, ◌∙◌, subst, arith}
 use mathlib.Core.Logic.{inl, inr}
 use Rattle.std.specs.List.{flat_map, range_with_len}
 use Rattle.std.proofs.lemmas.Option.{none-some, same_Some}
 use Rattle.block_spec.specs.Bodies.{is_imaged, rows_of}
 use Rattle.block_spec.specs.Slots.{Row}
 use Rattle.core_laws.proofs.Events.Lists.{all_at}
+use Rattle.core_laws.proofs.Following.Desks.{same_number}
 use Rattle.core_laws.proofs.Events.Still.{all_stay}
 use Rattle.core_laws.proofs.Logs.Logs.{made_keeps, reaches_from}
 use Rattle.core_laws.proofs.Logs.Opening.{sound}
@@ -20,11 +21,17 @@ use Rattle.event_spec.specs.Replay.{IsLawfulFrom, Made, after, opening, replay}
 use Rattle.event_spec.specs.Replies.{reply_to, rows_read}
 use Rattle.event_spec.specs.Sound.{IsShape, Sound}
 use Rattle.run_spec.specs.Told.{rows_told}
-use Rattle.run_laws.proofs.Explained.Rereading.{owns_still, rows_still, same_number, shared_is}
-use Rattle.run_laws.proofs.Logs.Stamps.{lawful_parts}
-use Rattle.run_laws.proofs.Scans.Scans.{reads_are_the_scan, within}
-use Rattle.run_laws.specs.Logs.Reads.{AreTheScan, ReadsAreTheScanThroughout, behind, is_look, told_throughout}
-use Rattle.run_laws.specs.Scans.Laws.{all_read}
+use Rattle.store_laws.proofs.Sights.{owns_still, rows_still, shared_is}
+use Rattle.store_laws.proofs.Scans.{reads_are_the_scan, within}
+use Rattle.store_laws.specs.Reads.{AreTheScan, ReadsAreTheScanThroughout, behind, is_look, told_throughout}
+use Rattle.store_laws.specs.Scans.{all_read}
+
+-- a lawful log of two lists is lawful over the first, and over the second behind it
+pub lawful_parts : (sh : Shape) (xs ys : List Made) (s : Parts) → IsLawfulFrom sh s (xs ++ ys) → IsLawfulFrom sh s xs × IsLawfulFrom sh (fold (after sh) s xs) ys
+lawful_parts sh [] ys s lawful = (tt, lawful)
+lawful_parts sh (made ∷ xs) ys s lawful =
+    let rest = lawful_parts sh xs ys (after sh s made) lawful.2 in
+    ((lawful.0, lawful.1, rest.0), rest.1)
 
 -- A get and a read leave the parts.
 look_leaves : (sh : Shape) (s : Parts) (e : CoreEvent) → is_look e ≡ true → effect sh s e ≡ s
@@ -54,15 +61,15 @@ of_session (Some r) q = go (same_number r q)
     go (inl e) = inl (ap Some e)
     go (inr n) = inr (λ e. n (same_Some r q e))
 
--- What stands of the reads of a table from one moment to a later one.
-record Still (sh : Shape) (own : OwnTransaction) (t : ℕ) (s later : Parts) : Type 0 where
-  sound_is : Sound sh later
-  owns : OwnsAll sh own later
-  rows : (b : ℕ) → HasBlock sh t b → rows_read sh later own t b ≡ rows_read sh s own t b
+-- what stands of the reads of a table from one moment to a later one
+pub record Still (sh : Shape) (own : OwnTransaction) (t : ℕ) (s later : Parts) : Type 0 where
+  pub sound_is : Sound sh later
+  pub owns : OwnsAll sh own later
+  pub rows : (b : ℕ) → HasBlock sh t b → rows_read sh later own t b ≡ rows_read sh s own t b
 
 module _ (sh : Shape) (own : OwnTransaction) (t : ℕ) (shape : IsShape sh) where
-  -- An event that was made, of another or of the session's looks, leaves what the session reads.
-  made_still : (s : Parts) (made : Made) → Sound sh s → IsLawful sh made.event s → OwnsAll sh own s
+  -- an event that was made, of another or of the session's looks, leaves what the session reads
+  pub made_still : (s : Parts) (made : Made) → Sound sh s → IsLawful sh made.event s → OwnsAll sh own s
       → (session_of made.event ≡ Some own.session → is_look made.event ≡ true) → Still sh own t s (after sh s made)
   made_still s made ok lawful owns looks = go made.refused (of_session (session_of made.event) own.session)
     where
@@ -89,8 +96,8 @@ module _ (sh : Shape) (own : OwnTransaction) (t : ℕ) (shape : IsShape sh) wher
       let more = log_still log (after sh s made) n one.sound_is lawful.2 one.owns (λ m a. looks m (inr a)) in
       record { sound_is = more.sound_is; owns = more.owns; rows = λ b has. more.rows b has ∙ one.rows b has }
 
-  -- The reply to a read tells the rows read, be the block imaged or not.
-  read_told : (s : Parts) (b : ℕ) → Sound sh s → OwnsAll sh own s → HasBlock sh t b → rows_told (reply_to sh s (event.Read own t b)) ≡ rows_read sh s own t b
+  -- the reply to a read tells the rows read, be the block imaged or not
+  pub read_told : (s : Parts) (b : ℕ) → Sound sh s → OwnsAll sh own s → HasBlock sh t b → rows_told (reply_to sh s (event.Read own t b)) ≡ rows_read sh s own t b
   read_told s b ok owns has = go (is_imaged (body_at sh s t b).phase) refl
     where
       go : (imaged : Bool) → is_imaged (body_at sh s t b).phase ≡ imaged

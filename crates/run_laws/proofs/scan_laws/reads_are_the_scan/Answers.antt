@@ -1,5 +1,0 @@
-use Rattle.run_laws.proofs.Scans.Scans.{reads_are_the_scan}
-use Rattle.run_laws.proofs.scan_laws.reads_are_the_scan.Goals as goal
-
-pub returns : goal.returns
-returns c = reads_are_the_scan
